@@ -20,6 +20,8 @@ mod says;
 mod screen;
 mod shelf;
 mod source;
+#[cfg(test)]
+mod tests;
 
 pub use file::File;
 pub use host::{At, CalmHost, Down, Host, Phase};
