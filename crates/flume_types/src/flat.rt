@@ -1,10 +1,14 @@
-ghost use Rattle.std.specs.Prelude.{◌≡◌, ◌≢◌, ◌++◌, Some, None, IfOk, IfErr, OnOk, codes};
+ghost use Rattle.std.specs.Prelude.{◌≡◌, ◌≢◌, ◌++◌, IsTrue, List, Some, None, IfOk, IfErr, OnOk, codes};
 ghost use Rattle.flume_types.specs.Columns.{joined, columns_of, input_columns_of, cell_kind as kind_of, cell_column, cells_under, field_columns, all_columns};
-ghost use Rattle.flume_types.specs.declared.types.Ty.{out-Ty};
+ghost use Rattle.flume_value.specs.declared.value.Value.{Value as Value_};
+ghost use Rattle.flume_types.specs.Cells.{cells_of, fill};
+ghost use Rattle.flume_types.specs.Typing.{has_type};
+ghost use Rattle.flume_types.specs.declared.types.Ty.{Ty as Ty_, out-Ty};
+ghost use Rattle.flume_types.specs.declared.column.Column.{Column as Column_};
 
 use crate::column::{Column, ColumnFault, ColumnKind, Columns};
 use crate::types::{Field, Ty};
-use flume_value::{Pile, Str};
+use flume_value::{Pile, Str, Value};
 use std::alloc::{AllocError, Global};
 
 /// The columns of a flat type: of int, bool and text the one column `value`, and of a record
@@ -36,6 +40,15 @@ pub fn input_columns(alloc: Global, ty: &Ty) -> Result<Columns, ColumnFault>
     }
     Ok(Pile::from_vec(columns))
 }
+
+/// The cells of a value of a flat type fill the type's columns: as many, and each of its
+/// column's kind. An input's type is flat, with the same columns, and its values are just the
+/// records whose fields fill them.
+pub fn columns_law()
+    ensures cells { (v : Value_) (t : Ty_) (columns : List Column_) → columns_of t ≡ Some columns → IsTrue (has_type v t) → IsTrue (fill columns (cells_of v)) }
+    ensures input { (t : Ty_) (columns : List Column_) → input_columns_of t ≡ Some columns → columns_of t ≡ Some columns }
+    ensures records { (t : Ty_) (columns : List Column_) (cells : List Value_) → input_columns_of t ≡ Some columns → has_type (Value.Rec cells) t ≡ fill columns cells }
+{}
 
 fn add_fields(
     alloc: Global,
