@@ -29,5 +29,5 @@ is_cell kind.Text (Value-F.Text s) = true
 is_cell _ _ = false
 
 -- as many cells as columns, each of its column's kind
-abbrev pub fill : List Column → List Value → Bool
-fill = pointwise (λ column cell. is_cell column.kind (out-Value cell))
+abbrev pub are_filled : List Column → List Value → Bool
+are_filled = pointwise (λ column cell. is_cell column.kind (out-Value cell))

@@ -1,8 +1,8 @@
-use Rattle.flume_types.proofs.CellLemmas.{cells_of-fill, columns_of-input, has_type-input}
+use Rattle.flume_types.proofs.CellLemmas.{cells_of-are_filled, columns_of-input, has_type-input}
 use Rattle.flume_types.proofs.flat.columns_law.Goals as goal
 
 pub returns-clause-cells : goal.returns-clause-cells
-returns-clause-cells c = cells_of-fill
+returns-clause-cells c = cells_of-are_filled
 
 pub returns-clause-input : goal.returns-clause-input
 returns-clause-input c = columns_of-input
