@@ -1,7 +1,7 @@
 ghost use Rattle.std.specs.Prelude.{Some, None, false, ◌≡◌, ◌≤◌, ◌<◌, ◌+◌, ◌⊎◌, ◌↔◌, [], length, take, sum_by, vec_len, vec_capacity, All, is_some, is_ok, if◌then◌else◌, IsTrue, IsErr, IfOk, OnOk, OnErr, slice_get};
 ghost use Rattle.std.specs.Option.{ForSome, option_copied, option_map};
 ghost use Rattle.outside.specs.Calls.{counted, fails_begin, fails_call, with_begin, with_call};
-ghost use Rattle.outside.specs.Cause.{HasStrictCause};
+ghost use Rattle.outside.specs.Cause.{HasStrictCause, raised};
 ghost use Rattle.outside.specs.Files.{bytes_of, with_file, with_piece};
 ghost use Rattle.outside.specs.Slots.{files_of, begun_name_of, name_at, IsPlace, HasRoom, total, file_size};
 
@@ -94,6 +94,15 @@ impl MemShelf {
     {
         self.faults
     }
+
+    // Counts a failure.
+    fn fail(&mut self) -> Failed
+        ensures counted { self.new ≡ record self.old { faults = raised self.old.faults } }
+        ensures later { self.old.faults ≤ self.new.faults }
+    {
+        self.faults = self.faults.saturating_add(1);
+        Failed
+    }
 }
 
 impl Shelf for MemShelf {
@@ -121,8 +130,7 @@ impl Shelf for MemShelf {
     {
         self.begun = None;
         if self.calls.begin() {
-            self.faults = self.faults.saturating_add(1);
-            return Err(Failed);
+            return Err(self.fail());
         }
         match slot_place(&self.slots, name.as_bytes()) {
             Some(k) => {
@@ -131,12 +139,10 @@ impl Shelf for MemShelf {
             }
             None => {
                 if name.len() > self.room - used(&self.slots) {
-                    self.faults = self.faults.saturating_add(1);
-                    return Err(Failed);
+                    return Err(self.fail());
                 }
                 let Some(slot) = self.spare.pop() else {
-                    self.faults = self.faults.saturating_add(1);
-                    return Err(Failed);
+                    return Err(self.fail());
                 };
                 let k = self.slots.len();
                 add_file(&mut self.slots, slot, name.as_bytes(), self.room);
@@ -167,8 +173,7 @@ impl Shelf for MemShelf {
         let Some(k) = self.begun else { unreachable!() };
         let fails = self.calls.call();
         if fails || piece.len() > self.room - used(&self.slots) {
-            self.faults = self.faults.saturating_add(1);
-            return Err(Failed);
+            return Err(self.fail());
         }
         add_piece(&mut self.slots, k, piece, self.room);
         Ok(piece.len())
@@ -187,8 +192,7 @@ impl Shelf for MemShelf {
     {
         self.begun = None;
         if self.calls.call() {
-            self.faults = self.faults.saturating_add(1);
-            return Err(Failed);
+            return Err(self.fail());
         }
         Ok(())
     }
