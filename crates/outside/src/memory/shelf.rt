@@ -127,6 +127,8 @@ impl Shelf for MemShelf {
             × ((vec_len self.old.spare ≡ 0) ⊎ (self.old.room < total self.old.slots.items + length name.now)))) }
         ensures counted { self.new.faults ≡ counted result self.old.faults }
         ensures calls { self.new.calls ≡ with_begin self.old.calls }
+        ensures room { self.new.room ≡ self.old.room }
+        ensures places { vec_len self.new.slots + vec_len self.new.spare ≡ vec_len self.old.slots + vec_len self.old.spare }
     {
         self.begun = None;
         if self.calls.begin() {
@@ -169,6 +171,8 @@ impl Shelf for MemShelf {
             ⊎ (self.old.room < total self.old.slots.items + length piece.now)) }
         ensures counted { self.new.faults ≡ counted result self.old.faults }
         ensures calls { self.new.calls ≡ with_call self.old.calls }
+        ensures room { self.new.room ≡ self.old.room }
+        ensures places { vec_len self.new.slots + vec_len self.new.spare ≡ vec_len self.old.slots + vec_len self.old.spare }
     {
         let Some(k) = self.begun else { unreachable!() };
         let fails = self.calls.call();
@@ -189,6 +193,8 @@ impl Shelf for MemShelf {
         ensures fails { IsErr result ↔ IsTrue (fails_call self.old.calls) }
         ensures counted { self.new.faults ≡ counted result self.old.faults }
         ensures calls { self.new.calls ≡ with_call self.old.calls }
+        ensures room { self.new.room ≡ self.old.room }
+        ensures places { vec_len self.new.slots + vec_len self.new.spare ≡ vec_len self.old.slots + vec_len self.old.spare }
     {
         self.begun = None;
         if self.calls.call() {
