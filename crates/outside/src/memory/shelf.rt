@@ -116,7 +116,8 @@ impl Shelf for MemShelf {
 
     fn begin(&mut self, name: &str) -> Result<(), Failed>
         ensures files { Some (files_of self.new.slots.items) ≡
-            (if is_ok result then Some (with_file (files_of self.old.slots.items) name.now []) else Some (files_of self.old.slots.items)) }
+            (if is_ok result then Some (with_file (files_of self.old.slots.items) name.now [])
+            else Some (files_of self.old.slots.items)) }
         ensures begun { is_some self.new.begun ≡ is_ok result }
         ensures name { OnOk result (begun_name_of (files_of self.new.slots.items) self.new.begun ≡ name.now) }
         ensures cause { HasStrictCause self.old.faults self.new.faults result }
@@ -128,7 +129,8 @@ impl Shelf for MemShelf {
         ensures counted { self.new.faults ≡ counted result self.old.faults }
         ensures calls { self.new.calls ≡ with_begin self.old.calls }
         ensures room { self.new.room ≡ self.old.room }
-        ensures places { vec_len self.new.slots + vec_len self.new.spare ≡ vec_len self.old.slots + vec_len self.old.spare }
+        ensures places { vec_len self.new.slots + vec_len self.new.spare ≡
+            vec_len self.old.slots + vec_len self.old.spare }
     {
         self.begun = None;
         if self.calls.begin() {
@@ -157,10 +159,12 @@ impl Shelf for MemShelf {
     fn write(&mut self, piece: &[u8]) -> Result<usize, Failed>
         requires { IsTrue (is_some self.old.begun) }
         ensures ok { IfOk result (λ n. Some (files_of self.new.slots.items) ≡
-            Some (with_piece (files_of self.old.slots.items) (begun_name_of (files_of self.old.slots.items) self.old.begun) (take n piece.now))) }
+            Some (with_piece (files_of self.old.slots.items)
+            (begun_name_of (files_of self.old.slots.items) self.old.begun) (take n piece.now))) }
         ensures err { OnErr result (Some (files_of self.new.slots.items) ≡ Some (files_of self.old.slots.items)) }
         ensures begun { IsTrue (is_some self.new.begun) }
-        ensures name { begun_name_of (files_of self.new.slots.items) self.new.begun ≡ begun_name_of (files_of self.old.slots.items) self.old.begun }
+        ensures name { begun_name_of (files_of self.new.slots.items) self.new.begun ≡
+            begun_name_of (files_of self.old.slots.items) self.old.begun }
         ensures bound { IfOk result (λ n. n ≤ length piece.now) }
         ensures some { IfOk result (λ n. 0 < length piece.now → 0 < n) }
         ensures cause { HasStrictCause self.old.faults self.new.faults result }
@@ -172,7 +176,8 @@ impl Shelf for MemShelf {
         ensures counted { self.new.faults ≡ counted result self.old.faults }
         ensures calls { self.new.calls ≡ with_call self.old.calls }
         ensures room { self.new.room ≡ self.old.room }
-        ensures places { vec_len self.new.slots + vec_len self.new.spare ≡ vec_len self.old.slots + vec_len self.old.spare }
+        ensures places { vec_len self.new.slots + vec_len self.new.spare ≡
+            vec_len self.old.slots + vec_len self.old.spare }
     {
         let Some(k) = self.begun else { unreachable!() };
         let fails = self.calls.call();
@@ -194,7 +199,8 @@ impl Shelf for MemShelf {
         ensures counted { self.new.faults ≡ counted result self.old.faults }
         ensures calls { self.new.calls ≡ with_call self.old.calls }
         ensures room { self.new.room ≡ self.old.room }
-        ensures places { vec_len self.new.slots + vec_len self.new.spare ≡ vec_len self.old.slots + vec_len self.old.spare }
+        ensures places { vec_len self.new.slots + vec_len self.new.spare ≡
+            vec_len self.old.slots + vec_len self.old.spare }
     {
         self.begun = None;
         if self.calls.call() {
