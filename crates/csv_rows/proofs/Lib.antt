@@ -1,0 +1,2 @@
+pub mod IntFacts
+pub mod RecordFacts
