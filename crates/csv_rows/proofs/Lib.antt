@@ -1,2 +1,3 @@
 pub mod IntFacts
 pub mod RecordFacts
+pub mod RowFacts
