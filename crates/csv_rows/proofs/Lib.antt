@@ -1,3 +1,4 @@
 pub mod IntFacts
 pub mod RecordFacts
 pub mod RowFacts
+pub mod CellFacts

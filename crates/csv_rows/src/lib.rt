@@ -12,7 +12,9 @@ mod fault;
 mod int_cell;
 mod read;
 mod records;
+mod write;
 
 pub use column::{CellKind, Column};
 pub use fault::{RowFault, RowKind};
 pub use read::read_records;
+pub use write::write_table;

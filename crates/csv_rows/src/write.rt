@@ -1,0 +1,94 @@
+// Writing rows.
+
+ghost use Rattle.std.specs.Prelude.{◌≡◌, ◌++◌, ◌∷◌, [], length, map, IfOk, OnOk};
+ghost use Rattle.std.specs.Io.KnownBytes.{Appends};
+ghost use Rattle.std.specs.List.{flat_map};
+ghost use Rattle.csv.specs.Records.{fields_of, partial_of};
+ghost use Rattle.csv.specs.Writing.{row_text, text_written};
+ghost use Rattle.csv_rows.specs.Text.{IsFresh, cells_of, plain_writer, table_text};
+
+use csv::{ByteRecord, Writer, WriterBuilder};
+use flume_value::{Str, Value};
+use itoa::Buffer;
+use std::alloc::{AllocError, Global};
+use std::io::Write;
+
+/// The text of a header and of a row for each value, in this order.
+pub fn write_table(alloc: Global, names: &[Str], values: &[Value]) -> Result<Vec<u8>, AllocError>
+    ensures { IfOk result (λ text. text.items ≡ table_text names.now values.now) }
+{
+    let mut writer = WriterBuilder::new()
+        .has_headers(false)
+        .from_writer(Vec::new(alloc));
+    let mut row = ByteRecord::new(alloc);
+    put_names(&mut row, names)?;
+    write_row(&mut writer, &row)?;
+    'rows: for value in values {
+        row.clear();
+        put_value(&mut row, value)?;
+        write_row(&mut writer, &row)?;
+    }
+    match writer.into_inner() {
+        Ok(text) => Ok(text),
+        Err(_) => Err(AllocError),
+    }
+}
+
+/// Writes a record. With rows of one length, csv refuses only for memory.
+fn write_row<W: Write + Drop>(writer: &mut Writer<W>, row: &ByteRecord) -> Result<(), AllocError>
+    requires { IsFresh writer.old }
+    ensures bytes { OnOk result (Appends (text_written W.contents writer.old) (text_written W.contents writer.new) (row_text plain_writer (fields_of row.now))) }
+    ensures fresh { OnOk result (IsFresh writer.new) }
+{
+    match writer.write_byte_record(row) {
+        Ok(()) => Ok(()),
+        Err(_) => Err(AllocError),
+    }
+}
+
+/// Fills a record with names.
+fn put_names(row: &mut ByteRecord, names: &[Str]) -> Result<(), AllocError>
+    ensures fields { OnOk result (fields_of row.new ≡ names.now) }
+{
+    row.clear();
+    'names: for name in names {
+        row.push_field(name.as_bytes())?;
+    }
+    Ok(())
+}
+
+/// Puts the cells of a value last in a record.
+#[cycle(put)]
+#[tactic(auto, using(crate::proofs::CellFacts::the_cells))]
+fn put_value(row: &mut ByteRecord, value: &Value) -> Result<(), AllocError>
+    requires { partial_of row.old ≡ [] }
+    ensures fields { OnOk result (fields_of row.new ≡ fields_of row.old ++ cells_of value.now) }
+    ensures partial { OnOk result (partial_of row.new ≡ []) }
+{
+    match value {
+        Value::Int(n) => {
+            let mut buffer = Buffer::new();
+            row.push_field(buffer.format(*n).as_bytes())?;
+            Ok(())
+        }
+        Value::Bool(true) => row.push_field(b"true"),
+        Value::Bool(false) => row.push_field(b"false"),
+        Value::Text(text) => row.push_field(text.as_bytes()),
+        Value::Rec(parts) => put_parts(row, parts.as_slice()),
+        // no column holds any other value
+        _ => Ok(()),
+    }
+}
+
+/// Puts the cells of a record's parts last in a record.
+#[cycle(put)]
+fn put_parts(row: &mut ByteRecord, parts: &[Value]) -> Result<(), AllocError>
+    requires { partial_of row.old ≡ [] }
+    ensures fields { OnOk result (fields_of row.new ≡ fields_of row.old ++ flat_map cells_of parts.now) }
+    ensures partial { OnOk result (partial_of row.new ≡ []) }
+{
+    'parts: for part in parts {
+        put_value(row, part)?;
+    }
+    Ok(())
+}
