@@ -1,10 +1,13 @@
 -- The text of a bag of values, as csv writes it.
-use Rattle.std.specs.Prelude.{◌≡◌, false, List, [], ◌∷◌, ◌++◌, ℕ, if◌then◌else◌, codes}
+use Rattle.std.specs.Prelude.{◌≡◌, false, List, [], ◌∷◌, ◌++◌, ℕ, if◌then◌else◌, codes, map, unwrap_or}
 use Rattle.std.specs.Fmt.{signed_decimal}
 use Rattle.std.specs.List.{flat_map}
 use Rattle.csv.specs.Writing.{default_writer, fields_written, has_written, row_text, with_has_headers, writer_setup}
 use Rattle.csv.specs.declared.writer.Writer.{Writer}
 use Rattle.csv.specs.declared.writer.WriterBuilder.{WriterBuilder}
+use Rattle.flume_types.specs.Columns.{columns_of}
+use Rattle.flume_types.specs.declared.column.Column.{Column}
+use Rattle.flume_types.specs.declared.types.Ty.{Ty}
 use Rattle.flume_value.specs.declared.value.Value.{Value, Value-F, fold-Value}
 
 -- one level of a value, whose parts are each written as f says
@@ -27,9 +30,13 @@ plain_writer = with_has_headers default_writer false
 abbrev pub row_of : Value → List ℕ
 row_of value = row_text plain_writer (cells_of value)
 
--- a header, and then a row for each of these values
-abbrev pub table_text : List (List ℕ) → List Value → List ℕ
-table_text names values = row_text plain_writer names ++ flat_map row_of values
+-- the header of columns, and then a row for each of these values
+abbrev pub table_text : List Column → List Value → List ℕ
+table_text columns values = row_text plain_writer (map (λ column. column.name) columns) ++ flat_map row_of values
+
+-- the sorted text of a bag of values of a type, which is given as its ascending list
+abbrev pub text_of : List Value → Ty → List ℕ
+text_of bag ty = table_text (unwrap_or (columns_of ty) []) bag
 
 -- a writer that stands between two records, and writes them as these rows are written
 abbrev pub IsFresh : {W : Type 0} → Writer W → Type 0

@@ -7,14 +7,12 @@
 //! so quotes, line ends, blank lines and a byte-order mark are what `csv` says they are.
 #![tactic(auto)]
 
-mod column;
 mod fault;
 mod int_cell;
 mod read;
 mod records;
 mod write;
 
-pub use column::{CellKind, Column};
 pub use fault::{RowFault, RowKind};
 pub use read::read_records;
 pub use write::write_table;

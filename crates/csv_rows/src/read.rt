@@ -6,11 +6,11 @@ ghost use Rattle.csv.specs.Records.{fields_of};
 ghost use Rattle.csv_rows.specs.Records.{IsPlain, left_of};
 ghost use Rattle.csv_rows.specs.Rows.{cell_at, header_fault, row_at, rows_under};
 
-use crate::column::{CellKind, Column};
 use crate::fault::{RowFault, RowKind};
 use crate::int_cell::int_cell;
 use crate::records::{Next, next_record};
 use csv::{ByteRecord, Reader};
+use flume_types::{Column, ColumnKind};
 use flume_value::{Items, Pile, Str, Value};
 use std::alloc::Global;
 use std::io::Read;
@@ -123,14 +123,14 @@ fn read_cell(
     alloc: Global,
     row: u64,
     column: u32,
-    kind: CellKind,
+    kind: ColumnKind,
     field: &[u8],
 ) -> Result<Value, RowFault>
     ensures value { IfOk result (λ value. cell_at row column kind field.now ≡ Ok value) }
     ensures fault { IfErr result (λ e. e ≢ RowFault.Memory → cell_at row column kind field.now ≡ Err e) }
 {
     match kind {
-        CellKind::Int => match int_cell(field) {
+        ColumnKind::Int => match int_cell(field) {
             Some(n) => Ok(Value::Int(n)),
             None => Err(RowFault::Bad {
                 row,
@@ -138,7 +138,7 @@ fn read_cell(
                 kind: RowKind::NotInt,
             }),
         },
-        CellKind::Bool => {
+        ColumnKind::Bool => {
             if field == b"true".as_slice() {
                 Ok(Value::Bool(true))
             } else if field == b"false".as_slice() {
@@ -151,7 +151,7 @@ fn read_cell(
                 })
             }
         }
-        CellKind::Text => match str::from_utf8(field) {
+        ColumnKind::Text => match str::from_utf8(field) {
             Err(_) => Err(RowFault::Bad {
                 row,
                 column,

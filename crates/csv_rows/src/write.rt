@@ -8,20 +8,21 @@ ghost use Rattle.csv.specs.Writing.{row_text, text_written};
 ghost use Rattle.csv_rows.specs.Text.{IsFresh, cells_of, plain_writer, table_text};
 
 use csv::{ByteRecord, Writer, WriterBuilder};
-use flume_value::{Str, Value};
+use flume_types::Column;
+use flume_value::Value;
 use itoa::Buffer;
 use std::alloc::{AllocError, Global};
 use std::io::Write;
 
 /// The text of a header and of a row for each value, in this order.
-pub fn write_table(alloc: Global, names: &[Str], values: &[Value]) -> Result<Vec<u8>, AllocError>
-    ensures { IfOk result (λ text. text.items ≡ table_text names.now values.now) }
+pub fn write_table(alloc: Global, columns: &[Column], values: &[Value]) -> Result<Vec<u8>, AllocError>
+    ensures { IfOk result (λ text. text.items ≡ table_text columns.now values.now) }
 {
     let mut writer = WriterBuilder::new()
         .has_headers(false)
         .from_writer(Vec::new(alloc));
     let mut row = ByteRecord::new(alloc);
-    put_names(&mut row, names)?;
+    put_names(&mut row, columns)?;
     write_row(&mut writer, &row)?;
     'rows: for value in values {
         row.clear();
@@ -46,13 +47,13 @@ fn write_row<W: Write + Drop>(writer: &mut Writer<W>, row: &ByteRecord) -> Resul
     }
 }
 
-/// Fills a record with names.
-fn put_names(row: &mut ByteRecord, names: &[Str]) -> Result<(), AllocError>
-    ensures fields { OnOk result (fields_of row.new ≡ names.now) }
+/// Fills a record with the names of columns.
+fn put_names(row: &mut ByteRecord, columns: &[Column]) -> Result<(), AllocError>
+    ensures fields { OnOk result (fields_of row.new ≡ map (λ column. column.name) columns.now) }
 {
     row.clear();
-    'names: for name in names {
-        row.push_field(name.as_bytes())?;
+    'names: for column in columns {
+        row.push_field(column.name.as_bytes())?;
     }
     Ok(())
 }

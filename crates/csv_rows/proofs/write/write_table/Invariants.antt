@@ -7,5 +7,5 @@ use Rattle.csv_rows.proofs.write.write_table.Given as goal
 abbrev pub invariant-rows : goal.invariant-rows
 invariant-rows l = record {
   fresh : IsFresh l.writer;
-  so_far : IfSome (text_written (λ v. Some v.items) l.writer) (λ text. text ≡ table_text l.names (take l.value-index l.values));
+  so_far : IfSome (text_written (λ v. Some v.items) l.writer) (λ text. text ≡ table_text l.columns (take l.value-index l.values));
 }
