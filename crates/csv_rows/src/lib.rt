@@ -14,5 +14,5 @@ mod records;
 mod write;
 
 pub use fault::{RowFault, RowKind};
-pub use read::read_records;
-pub use write::write_table;
+pub use read::rows;
+pub use write::text;

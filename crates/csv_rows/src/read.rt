@@ -1,23 +1,62 @@
 // Reading rows.
 
-ghost use Rattle.std.specs.Prelude.{◌≡◌, ◌≢◌, ◌<◌, ◌^◌, length, Ok, Err, None, IfOk, IfErr, IfSome};
+ghost use Rattle.std.specs.Prelude.{◌≡◌, ◌≢◌, ◌<◌, ◌^◌, length, Ok, Err, None, IfOk, IfErr, IfSome, IsSome, IsTrue};
+ghost use Rattle.std.specs.List.{All};
 ghost use Rattle.csv.specs.Reading.{expected_len};
 ghost use Rattle.csv.specs.Records.{fields_of};
+ghost use Rattle.flume_types.specs.Columns.{input_columns_of};
+ghost use Rattle.flume_types.specs.Typing.{has_type};
 ghost use Rattle.csv_rows.specs.Records.{IsPlain, left_of};
-ghost use Rattle.csv_rows.specs.Rows.{cell_at, header_fault, row_at, rows_under};
+ghost use Rattle.csv_rows.specs.Rows.{cell_at, header_fault, row_at, rows_of, rows_under};
 
 use crate::fault::{RowFault, RowKind};
 use crate::int_cell::int_cell;
 use crate::records::{Next, next_record};
-use csv::{ByteRecord, Reader};
-use flume_types::{Column, ColumnKind};
+use csv::{ByteRecord, Reader, ReaderBuilder};
+use flume_types::{Column, ColumnFault, ColumnKind, Ty, input_columns};
 use flume_value::{Items, Pile, Str, Value};
 use std::alloc::Global;
 use std::io::Read;
 use std::str;
 
+/// The rows of a file as values of a type, which is a record of int, bool and text, or the first
+/// fault.
+///
+/// The first record must name the type's fields in order; each other record is a row, and its
+/// value is a record of the values of its fields. The first fault in order of rows, then of
+/// columns, is the answer.
+pub fn rows(alloc: Global, bytes: &[u8], ty: &Ty) -> Result<Items, RowFault>
+    requires { IsSome (input_columns_of ty.now) }
+    ensures rows { IfOk result (λ rows. rows_of bytes.now ty.now ≡ Ok rows) }
+    ensures typed { IfOk result (λ rows. All (λ row. IsTrue (has_type row ty.now)) rows) }
+    ensures fault { IfErr result (λ e. e ≢ RowFault.Memory → rows_of bytes.now ty.now ≡ Err e) }
+{
+    read_rows(alloc, bytes, ty)
+}
+
+/// The rows of all that a source gives. A source that fails has no rows, as where memory runs out.
+fn read_rows<R: Read + Drop>(alloc: Global, source: R, ty: &Ty) -> Result<Items, RowFault>
+    requires { IsSome (input_columns_of ty.now) }
+    ensures rows { IfOk result (λ rows. IfSome (R.remaining source) (λ bytes. rows_of bytes ty.now ≡ Ok rows)) }
+    ensures fault { IfErr result (λ e. e ≢ RowFault.Memory → IfSome (R.remaining source) (λ bytes. rows_of bytes ty.now ≡ Err e)) }
+{
+    let columns = match input_columns(alloc, ty) {
+        Ok(columns) => columns,
+        Err(ColumnFault::Memory) => return Err(RowFault::Memory),
+        Err(ColumnFault::NotFlat) => unreachable!(),
+    };
+    // a fault's column is told in 32 bits
+    if columns.len() > u32::MAX as usize {
+        return Err(RowFault::Memory);
+    }
+    let mut reader = ReaderBuilder::new()
+        .has_headers(false)
+        .from_reader(alloc, source);
+    read_table(alloc, &mut reader, columns.as_slice())
+}
+
 /// The rows of a reader, or the first fault.
-pub fn read_records<R: Read>(
+fn read_table<R: Read>(
     alloc: Global,
     reader: &mut Reader<R>,
     columns: &[Column],

@@ -1,21 +1,51 @@
 // Writing rows.
 
-ghost use Rattle.std.specs.Prelude.{◌≡◌, ◌++◌, ◌∷◌, [], length, map, IfOk, OnOk};
+ghost use Rattle.std.specs.Prelude.{◌≡◌, ◌++◌, ◌∷◌, [], length, map, IfOk, IsSome, IsTrue, OnOk};
 ghost use Rattle.std.specs.Io.KnownBytes.{Appends};
-ghost use Rattle.std.specs.List.{flat_map};
+ghost use Rattle.std.specs.List.{All, flat_map};
+ghost use Rattle.std.specs.List.Sorted.{IsSorted};
 ghost use Rattle.csv.specs.Records.{fields_of, partial_of};
 ghost use Rattle.csv.specs.Writing.{row_text, text_written};
-ghost use Rattle.csv_rows.specs.Text.{IsFresh, cells_of, plain_writer, table_text};
+ghost use Rattle.flume_value.specs.Bag.{bag_of};
+ghost use Rattle.flume_value.specs.Order.{value_cmp};
+ghost use Rattle.flume_types.specs.Columns.{columns_of};
+ghost use Rattle.flume_types.specs.Typing.{has_type};
+ghost use Rattle.csv_rows.specs.Text.{IsFresh, cells_of, plain_writer, table_text, text_of};
 
 use csv::{ByteRecord, Writer, WriterBuilder};
-use flume_types::Column;
-use flume_value::Value;
+use flume_types::{Column, ColumnFault, Ty, columns};
+use flume_value::{Items, Value, sorted};
 use itoa::Buffer;
 use std::alloc::{AllocError, Global};
 use std::io::Write;
 
+/// The sorted text of a bag of values of a flat type.
+///
+/// Its header is the names of the type's columns, and its rows are the values in ascending order,
+/// equal ones repeated, as `csv` writes them. The values are sorted in place and dropped.
+pub fn text(alloc: Global, values: Items, ty: &Ty) -> Result<Vec<u8>, AllocError>
+    requires flat { IsSome (columns_of ty.now) }
+    requires typed { All (λ value. IsTrue (has_type value ty.now)) values }
+    ensures { IfOk result (λ text. text.items ≡ text_of (bag_of values) ty.now) }
+{
+    let bag = sorted(values.into_vec())?;
+    bag_text(alloc, bag.as_slice(), ty)
+}
+
+/// The sorted text of a bag of values of a flat type, which stand in ascending order.
+fn bag_text(alloc: Global, bag: &[Value], ty: &Ty) -> Result<Vec<u8>, AllocError>
+    requires { IsSome (columns_of ty.now) }
+    ensures { IfOk result (λ text. text.items ≡ text_of bag.now ty.now) }
+{
+    match columns(alloc, ty) {
+        Ok(columns) => write_table(alloc, columns.as_slice(), bag),
+        Err(ColumnFault::Memory) => Err(AllocError),
+        Err(ColumnFault::NotFlat) => unreachable!(),
+    }
+}
+
 /// The text of a header and of a row for each value, in this order.
-pub fn write_table(alloc: Global, columns: &[Column], values: &[Value]) -> Result<Vec<u8>, AllocError>
+fn write_table(alloc: Global, columns: &[Column], values: &[Value]) -> Result<Vec<u8>, AllocError>
     ensures { IfOk result (λ text. text.items ≡ table_text columns.now values.now) }
 {
     let mut writer = WriterBuilder::new()

@@ -4,7 +4,7 @@ use Rattle.csv.specs.Reading.{expected_len}
 use Rattle.csv.specs.Records.{fields_of}
 use Rattle.csv_rows.specs.Records.{left_of}
 use Rattle.csv_rows.proofs.RowFacts.{row_fault, row_more, rows_end, wide_fault}
-use Rattle.csv_rows.proofs.read.read_records.Goals as goal
+use Rattle.csv_rows.proofs.read.read_table.Goals as goal
 
 pub returns-in_err-value-in-Record-2-clause-fault : goal.returns-in_err-value-in-Record-2-clause-fault
 returns-in_err-value-in-Record-2-clause-fault g c =
