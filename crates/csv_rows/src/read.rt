@@ -25,6 +25,7 @@ use std::str;
 /// The first record must name the type's fields in order; each other record is a row, and its
 /// value is a record of the values of its fields. The first fault in order of rows, then of
 /// columns, is the answer.
+#[tactic(auto, using(crate::proofs::TypeFacts::rows_typed))]
 pub fn rows(alloc: Global, bytes: &[u8], ty: &Ty) -> Result<Items, RowFault>
     requires { IsSome (input_columns_of ty.now) }
     ensures rows { IfOk result (λ rows. rows_of bytes.now ty.now ≡ Ok rows) }
