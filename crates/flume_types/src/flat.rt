@@ -51,11 +51,7 @@ fn add_fields(
     Ok(())
 }
 
-fn add_field(
-    alloc: Global,
-    field: &Field<Ty>,
-    columns: &mut Vec<Column>,
-) -> Result<(), ColumnFault>
+fn add_field(alloc: Global, field: &Field<Ty>, columns: &mut Vec<Column>) -> Result<(), ColumnFault>
     ensures flat { OnOk result (joined (Some columns.old.items) (field_columns field.now.name (out-Ty field.now.ty)) ≡ Some columns.new.items) }
     ensures not_flat { IfErr result (λ e. e ≢ ColumnFault.Memory → field_columns field.now.name (out-Ty field.now.ty) ≡ None) }
 {
