@@ -16,3 +16,6 @@ mod write;
 pub use fault::{RowFault, RowKind};
 pub use read::rows;
 pub use write::text;
+
+#[cfg(test)]
+mod tests;

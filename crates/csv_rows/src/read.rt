@@ -197,7 +197,7 @@ fn read_cell(
                 column,
                 kind: RowKind::Utf8,
             }),
-            Ok(_) => Ok(Value::Text(Str::from_vec(Vec::from_slice(alloc, field)?))),
+            Ok(_) => Ok(Value::Text(Str::from_slice(alloc, field)?)),
         },
     }
 }
