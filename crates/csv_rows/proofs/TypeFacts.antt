@@ -77,8 +77,8 @@ row-typed : (t : Ty-F Ty) (columns : List Column) (row : ℕ) (fields : List (Li
 row-typed (Ty-F.Rec fs) columns row fields v some e =
     elim (cases_Bool (length fields == length columns)) [
       | inl same ↦
-        let (cells, read, is) = record-of_ok (cells_from row 1 columns fields) v (rw same at e) in
-        rw (is, value.outs-Rec cells) (cells-typed row 1 fs columns fields cells some (eqb-true _ _ same) read)
+          let (cells, read, is) = record-of_ok (cells_from row 1 columns fields) v (rw same at e) in
+          rw (is, value.outs-Rec cells) (cells-typed row 1 fs columns fields cells some (eqb-true _ _ same) read)
       | inr other ↦ let fault : ◌≡◌ {A = Result Value RowFault} (bad row 0 kind.Width) (Ok v) = rw other at e in cc fault
     ]
 row-typed _ columns row fields v some e = cc some

@@ -1,5 +1,7 @@
 // What can be wrong with a file of rows.
 
+ghost use Rattle.std.specs.Prelude.{◌≡◌};
+
 use std::alloc::AllocError;
 use thiserror::Error;
 
@@ -32,6 +34,15 @@ pub enum RowFault {
     /// Memory ran out.
     #[error("want of memory")]
     Memory,
+}
+
+impl RowFault {
+    /// What is wrong at a row and a column.
+    pub(crate) fn bad(row: u64, column: u32, kind: RowKind) -> RowFault
+        ensures { result ≡ RowFault.Bad row column kind }
+    {
+        RowFault::Bad { row, column, kind }
+    }
 }
 
 impl From<AllocError> for RowFault {

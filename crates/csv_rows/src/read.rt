@@ -71,21 +71,12 @@ fn read_table<R: Read>(
     let mut fields = ByteRecord::new(alloc);
     match next_record(reader, &mut fields)? {
         Next::Record => {}
-        Next::OtherLength => return Err(RowFault::Memory),
-        Next::End => {
-            return Err(RowFault::Bad {
-                row: 0,
-                column: 0,
-                kind: RowKind::Header,
-            });
-        }
+        // the first record sets the length
+        Next::OtherLength => unreachable!(),
+        Next::End => return Err(RowFault::bad(0, 0, RowKind::Header)),
     }
     if let Some(column) = read_header(columns, &fields) {
-        return Err(RowFault::Bad {
-            row: 0,
-            column,
-            kind: RowKind::Header,
-        });
+        return Err(RowFault::bad(0, column, RowKind::Header));
     }
     let mut rows = Pile::new(alloc);
     'rows: for row in 1..u64::MAX {
@@ -94,13 +85,7 @@ fn read_table<R: Read>(
                 let value = read_row(alloc, row, columns, &fields)?;
                 rows.push(value)?;
             }
-            Next::OtherLength => {
-                return Err(RowFault::Bad {
-                    row,
-                    column: 0,
-                    kind: RowKind::Width,
-                });
-            }
+            Next::OtherLength => return Err(RowFault::bad(row, 0, RowKind::Width)),
             Next::End => return Ok(rows),
         }
     }
@@ -139,11 +124,7 @@ fn read_row(
     ensures fault { IfErr result (λ e. e ≢ RowFault.Memory → row_at row columns.now (fields_of fields.now) ≡ Err e) }
 {
     if fields.len() != columns.len() {
-        return Err(RowFault::Bad {
-            row,
-            column: 0,
-            kind: RowKind::Width,
-        });
+        return Err(RowFault::bad(row, 0, RowKind::Width));
     }
     let mut cells = Pile::from_vec(Vec::with_capacity(alloc, columns.len())?);
     'cells: for i in 0..columns.len() {
@@ -172,11 +153,7 @@ fn read_cell(
     match kind {
         ColumnKind::Int => match int_cell(field) {
             Some(n) => Ok(Value::Int(n)),
-            None => Err(RowFault::Bad {
-                row,
-                column,
-                kind: RowKind::NotInt,
-            }),
+            None => Err(RowFault::bad(row, column, RowKind::NotInt)),
         },
         ColumnKind::Bool => {
             if field == b"true".as_slice() {
@@ -184,19 +161,11 @@ fn read_cell(
             } else if field == b"false".as_slice() {
                 Ok(Value::Bool(false))
             } else {
-                Err(RowFault::Bad {
-                    row,
-                    column,
-                    kind: RowKind::NotBool,
-                })
+                Err(RowFault::bad(row, column, RowKind::NotBool))
             }
         }
         ColumnKind::Text => match str::from_utf8(field) {
-            Err(_) => Err(RowFault::Bad {
-                row,
-                column,
-                kind: RowKind::Utf8,
-            }),
+            Err(_) => Err(RowFault::bad(row, column, RowKind::Utf8)),
             Ok(_) => Ok(Value::Text(Str::from_slice(alloc, field)?)),
         },
     }

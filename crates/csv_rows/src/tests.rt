@@ -70,48 +70,49 @@ fn back(alloc: Global, bytes: &[u8]) -> Result<Vec<u8>, RowFault> {
     Ok(written(alloc, values, &ty)?)
 }
 
-fn fault(alloc: Global, bytes: &[u8]) -> Option<RowFault> {
-    back(alloc, bytes).err()
-}
-
-fn bad(row: u64, column: u32, kind: RowKind) -> Option<RowFault> {
-    Some(RowFault::Bad { row, column, kind })
-}
-
 #[test]
 fn reads_rows(rt: HostRuntime) -> Result<(), Fail> {
     let a = rt.alloc();
-    assert_eq!(rt; back(a, b"n,b,t")?.as_slice(), b"n,b,t\n".as_slice());
-    // leading zeros, a zero below a minus sign, quoted fields, CRLF, no end of the last line
-    assert_eq!(rt;
-        back(a, b"n,b,\"t\"\r\n-0,true,\"a,\"\"b\r\n\"\"\"\r\n007,false,")?.as_slice(),
-        b"n,b,t\n0,true,\"a,\"\"b\r\n\"\"\"\n7,false,\n".as_slice()
-    );
-    // in order of values, equal ones repeated
-    assert_eq!(rt;
-        back(a, b"n,b,t\n10,true,b\n9,true,b\n9,false,z\n9,true,ab\n-1,true,\n9,true,b\n")?.as_slice(),
-        b"n,b,t\n-1,true,\n9,false,z\n9,true,ab\n9,true,b\n9,true,b\n10,true,b\n".as_slice()
-    );
-    assert_eq!(rt; fault(a, b"n,b,t\n-9223372036854775808,true,\n"), None);
+    let files: [(&[u8], &[u8]); 4] = [
+        (b"n,b,t", b"n,b,t\n"),
+        // blank lines and a byte-order mark, as csv takes them
+        (b"\xef\xbb\xbf\n\nn,b,t\n\n1,true,\n", b"n,b,t\n1,true,\n"),
+        // leading zeros, a zero below a minus sign, quoted fields, CRLF, no end of the last line
+        (
+            b"n,b,\"t\"\r\n-0,true,\"a,\"\"b\r\n\"\"\"\r\n007,false,-",
+            b"n,b,t\n0,true,\"a,\"\"b\r\n\"\"\"\n7,false,-\n",
+        ),
+        // in order of values, equal ones repeated
+        (
+            b"n,b,t\n10,true,b\n9,true,b\n9,false,z\n9,true,ab\n-1,true,\n9,true,b\n",
+            b"n,b,t\n-1,true,\n9,false,z\n9,true,ab\n9,true,b\n9,true,b\n10,true,b\n",
+        ),
+    ];
+    for (bytes, wanted) in files {
+        assert!(rt; back(a, bytes)?.as_slice() == wanted);
+    }
     Ok(())
 }
 
 #[test]
-fn names_the_first_fault(rt: HostRuntime) -> Result<(), Fail> {
-    let a = rt.alloc();
-    assert_eq!(rt; fault(a, b""), bad(0, 0, RowKind::Header));
-    assert_eq!(rt; fault(a, b"n,b\n1,true\n"), bad(0, 0, RowKind::Header));
-    assert_eq!(rt; fault(a, b"n,c,d\n"), bad(0, 2, RowKind::Header));
-    assert_eq!(rt; fault(a, b"n,b,t\n1,true,x\n1\n+1,,\n"), bad(2, 0, RowKind::Width));
-    assert_eq!(rt; fault(a, b"n,b,t\n12x,True,\xff\n1\n"), bad(1, 1, RowKind::NotInt));
-    assert_eq!(rt; fault(a, b"n,b,t\n+1,true,\n"), bad(1, 1, RowKind::NotInt));
-    assert_eq!(rt; fault(a, b"n,b,t\n 1,true,\n"), bad(1, 1, RowKind::NotInt));
-    assert_eq!(rt; fault(a, b"n,b,t\n-,true,\n"), bad(1, 1, RowKind::NotInt));
-    assert_eq!(rt; fault(a, b"n,b,t\n\xff,true,\n"), bad(1, 1, RowKind::NotInt));
-    assert_eq!(rt; fault(a, b"n,b,t\n9223372036854775808,true,\n"), bad(1, 1, RowKind::NotInt));
-    assert_eq!(rt; fault(a, b"n,b,t\n1,True,\n"), bad(1, 2, RowKind::NotBool));
-    assert_eq!(rt; fault(a, b"n,b,t\n1,true,\xff\n"), bad(1, 3, RowKind::Utf8));
-    Ok(())
+fn names_the_first_fault(rt: HostRuntime) {
+    let faults: [(&[u8], u64, u32, RowKind); 12] = [
+        (b"", 0, 0, RowKind::Header),
+        (b"n,b\n1,true\n", 0, 0, RowKind::Header),
+        (b"n,c,d\n", 0, 2, RowKind::Header),
+        (b"n,b,t\n1,true,x\n1\n+1,,\n", 2, 0, RowKind::Width),
+        (b"n,b,t\n12x,True,\xff\n1\n", 1, 1, RowKind::NotInt),
+        (b"n,b,t\n+1,true,\n", 1, 1, RowKind::NotInt),
+        (b"n,b,t\n 1,true,\n", 1, 1, RowKind::NotInt),
+        (b"n,b,t\n-,true,\n", 1, 1, RowKind::NotInt),
+        (b"n,b,t\n\xff,true,\n", 1, 1, RowKind::NotInt),
+        (b"n,b,t\n9223372036854775808,true,\n", 1, 1, RowKind::NotInt),
+        (b"n,b,t\n1,True,\n", 1, 2, RowKind::NotBool),
+        (b"n,b,t\n1,true,\xff\n", 1, 3, RowKind::Utf8),
+    ];
+    for (bytes, row, column, kind) in faults {
+        assert!(rt; back(rt.alloc(), bytes).err() == Some(RowFault::Bad { row, column, kind }));
+    }
 }
 
 #[test]
@@ -135,6 +136,9 @@ fn writes_sorted_text(rt: HostRuntime) -> Result<(), Fail> {
     let mut values = Pile::new(a);
     values.push(Value::Bool(true))?;
     values.push(Value::Bool(false))?;
-    assert_eq!(rt; written(a, values, &Ty::Bool)?.as_slice(), b"value\nfalse\ntrue\n".as_slice());
+    assert_eq!(rt;
+        written(a, values, &Ty::Bool)?.as_slice(),
+        b"value\nfalse\ntrue\n".as_slice()
+    );
     Ok(())
 }

@@ -17,8 +17,8 @@ returns-in_err-value-in-Record-2-clause-fault g c =
 pub returns-in-OtherLength-2-clause-fault : goal.returns-in-OtherLength-2-clause-fault
 returns-in-OtherLength-2-clause-fault g c =
     let t = rw c.in-OtherLength-2.is at c.in_ok-next_record-2.ensures.took in
-    λ other. wide_fault c.args.columns.now (left_of g.R.Read.remaining c.args.reader.now) (left_of g.R.Read.remaining c.rows.reader) c.rows.row c.rows.rows (expected_len c.rows.reader)
-    c.rows.invariant.so_far t c.rows.invariant.width
+    λ other. rw c.bad-in-OtherLength-2.ensures (wide_fault c.args.columns.now (left_of g.R.Read.remaining c.args.reader.now) (left_of g.R.Read.remaining c.rows.reader) c.rows.row c.rows.rows
+    (expected_len c.rows.reader) c.rows.invariant.so_far t c.rows.invariant.width)
 
 pub returns-in-End-2-clause-rows : goal.returns-in-End-2-clause-rows
 returns-in-End-2-clause-rows g c =
