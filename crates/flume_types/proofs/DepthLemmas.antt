@@ -1,5 +1,5 @@
 -- The equations of `depth_of`.
-use Rattle.std.proofs.Common.{◌≡◌, ℕ, ◌+◌, max, List, [], ◌∷◌, map, refl, sym, ap, ◌∙◌}
+use Rattle.std.proofs.Common.{◌≡◌, ℕ, ◌+◌, max, List, [], ◌∷◌, map, refl, ap, ◌∙◌}
 use Rattle.flume_types.specs.declared.types.Ty.{Ty, Ty-F, out-Ty, map-Ty, fold_out-Ty}
 use Rattle.flume_types.specs.declared.types.Ty.TheVariants as variant
 use Rattle.flume_types.specs.declared.types.Field.{Field}

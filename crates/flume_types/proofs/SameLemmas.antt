@@ -1,5 +1,5 @@
 -- The derived `==` of types decides equality.
-use Rattle.std.proofs.Common.{◌≡◌, Decides, ℕ, Bool, true, false, ◌&&◌, nat_eq, List, [], ◌∷◌, map, refl, sym, ap, ◌∙◌, subst}
+use Rattle.std.proofs.Common.{◌≡◌, Decides, Bool, true, false, ◌&&◌, nat_eq, List, [], ◌∷◌, map, refl, sym, ap, ◌∙◌, subst}
 use denote.Hole.Carrier as carrier
 use Rattle.std.specs.Cmp.Lexicographic.{pointwise, same_text}
 use Rattle.flume_types.specs.declared.types.Ty.{Ty, Ty-F, out-Ty, roll-Ty, roll-out-Ty, out-roll-Ty, map-Ty, ind-Ty}
