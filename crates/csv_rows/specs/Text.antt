@@ -5,22 +5,21 @@ use Rattle.std.specs.List.{flat_map}
 use Rattle.csv.specs.Writing.{default_writer, fields_written, has_written, row_text, with_has_headers, writer_setup}
 use Rattle.csv.specs.declared.writer.Writer.{Writer}
 use Rattle.csv.specs.declared.writer.WriterBuilder.{WriterBuilder}
+use Rattle.flume_types.specs.Cells.{cells_of}
 use Rattle.flume_types.specs.Columns.{columns_of}
 use Rattle.flume_types.specs.declared.column.Column.{Column}
 use Rattle.flume_types.specs.declared.types.Ty.{Ty}
-use Rattle.flume_value.specs.declared.value.Value.{Value, Value-F, fold-Value}
+use Rattle.flume_value.specs.declared.value.Value.{Value, Value-F, out-Value}
 
--- one level of a value, whose parts are each written as f says
-abbrev pub layer_cells : {X : Type 0} → (X → List (List ℕ)) → Value-F X → List (List ℕ)
-layer_cells f (Value-F.Int n) = signed_decimal n ∷ []
-layer_cells f (Value-F.Bool b) = (if b then codes "true" else codes "false") ∷ []
-layer_cells f (Value-F.Text text) = text ∷ []
-layer_cells f (Value-F.Rec parts) = flat_map f parts
-layer_cells f x = []
+-- what a cell shows; no other value is a cell
+abbrev pub shown : {X : Type 0} → Value-F X → List ℕ
+shown (Value-F.Int n) = signed_decimal n
+shown (Value-F.Bool b) = if b then codes "true" else codes "false"
+shown (Value-F.Text text) = text
+shown _ = []
 
--- the cells of a value's row: one for each int, bool and text in it, from the left
-abbrev pub cells_of : Value → List (List ℕ)
-cells_of = fold-Value (List (List ℕ)) (layer_cells (λ cells. cells))
+abbrev pub cell_text : Value → List ℕ
+cell_text cell = shown (out-Value cell)
 
 -- how rows are written: by csv's defaults, with no header row of its own
 abbrev pub plain_writer : WriterBuilder
@@ -28,7 +27,7 @@ plain_writer = with_has_headers default_writer false
 
 -- the row of a value
 abbrev pub row_of : Value → List ℕ
-row_of value = row_text plain_writer (cells_of value)
+row_of value = row_text plain_writer (map cell_text (cells_of value))
 
 -- the header of columns, and then a row for each of these values
 abbrev pub table_text : List Column → List Value → List ℕ

@@ -2,15 +2,17 @@
 
 ghost use Rattle.std.specs.Prelude.{◌≡◌, ◌++◌, ◌∷◌, [], length, map, IfOk, IsSome, IsTrue, OnOk};
 ghost use Rattle.std.specs.Io.KnownBytes.{Appends};
-ghost use Rattle.std.specs.List.{All, flat_map};
+ghost use Rattle.std.specs.List.{All};
 ghost use Rattle.std.specs.List.Sorted.{IsSorted};
 ghost use Rattle.csv.specs.Records.{fields_of, partial_of};
 ghost use Rattle.csv.specs.Writing.{row_text, text_written};
 ghost use Rattle.flume_value.specs.Bag.{bag_of};
 ghost use Rattle.flume_value.specs.Order.{value_cmp};
+ghost use Rattle.flume_value.specs.declared.value.Value.{out-Value};
+ghost use Rattle.flume_types.specs.Cells.{cells_of, field_cells};
 ghost use Rattle.flume_types.specs.Columns.{columns_of};
 ghost use Rattle.flume_types.specs.Typing.{has_type};
-ghost use Rattle.csv_rows.specs.Text.{IsFresh, cells_of, plain_writer, table_text, text_of};
+ghost use Rattle.csv_rows.specs.Text.{IsFresh, cell_text, plain_writer, table_text, text_of};
 
 use csv::{ByteRecord, Writer, WriterBuilder};
 use flume_types::{Column, ColumnFault, Ty, columns};
@@ -56,7 +58,7 @@ fn write_table(alloc: Global, columns: &[Column], values: &[Value]) -> Result<Ve
     write_row(&mut writer, &row)?;
     'rows: for value in values {
         row.clear();
-        put_value(&mut row, value)?;
+        put_row(&mut row, value)?;
         write_row(&mut writer, &row)?;
     }
     match writer.into_inner() {
@@ -89,37 +91,54 @@ fn put_names(row: &mut ByteRecord, columns: &[Column]) -> Result<(), AllocError>
 }
 
 /// Puts the cells of a value last in a record.
-#[cycle(put)]
-#[tactic(auto, using(crate::proofs::CellFacts::the_cells))]
-fn put_value(row: &mut ByteRecord, value: &Value) -> Result<(), AllocError>
+fn put_row(row: &mut ByteRecord, value: &Value) -> Result<(), AllocError>
     requires { partial_of row.old ≡ [] }
-    ensures fields { OnOk result (fields_of row.new ≡ fields_of row.old ++ cells_of value.now) }
+    ensures fields { OnOk result (fields_of row.new ≡ fields_of row.old ++ map cell_text (cells_of value.now)) }
     ensures partial { OnOk result (partial_of row.new ≡ []) }
 {
     match value {
+        Value::Rec(parts) => {
+            'parts: for part in parts.as_slice() {
+                put_field(row, part)?;
+            }
+            Ok(())
+        }
+        cell => put_cell(row, cell),
+    }
+}
+
+/// Puts the cells of a record's field last in a record.
+fn put_field(row: &mut ByteRecord, part: &Value) -> Result<(), AllocError>
+    requires { partial_of row.old ≡ [] }
+    ensures fields { OnOk result (fields_of row.new ≡ fields_of row.old ++ map cell_text (field_cells part.now (out-Value part.now))) }
+    ensures partial { OnOk result (partial_of row.new ≡ []) }
+{
+    match part {
+        Value::Rec(cells) => {
+            'cells: for cell in cells.as_slice() {
+                put_cell(row, cell)?;
+            }
+            Ok(())
+        }
+        cell => put_cell(row, cell),
+    }
+}
+
+/// Puts what a cell shows last in a record.
+fn put_cell(row: &mut ByteRecord, cell: &Value) -> Result<(), AllocError>
+    requires { partial_of row.old ≡ [] }
+    ensures fields { OnOk result (fields_of row.new ≡ fields_of row.old ++ cell_text cell.now ∷ []) }
+    ensures partial { OnOk result (partial_of row.new ≡ []) }
+{
+    match cell {
         Value::Int(n) => {
             let mut buffer = Buffer::new();
-            row.push_field(buffer.format(*n).as_bytes())?;
-            Ok(())
+            row.push_field(buffer.format(*n).as_bytes())
         }
         Value::Bool(true) => row.push_field(b"true"),
         Value::Bool(false) => row.push_field(b"false"),
         Value::Text(text) => row.push_field(text.as_bytes()),
-        Value::Rec(parts) => put_parts(row, parts.as_slice()),
-        // no column holds any other value
-        _ => Ok(()),
+        // no cell is any other value
+        _ => row.push_field(b""),
     }
-}
-
-/// Puts the cells of a record's parts last in a record.
-#[cycle(put)]
-fn put_parts(row: &mut ByteRecord, parts: &[Value]) -> Result<(), AllocError>
-    requires { partial_of row.old ≡ [] }
-    ensures fields { OnOk result (fields_of row.new ≡ fields_of row.old ++ flat_map cells_of parts.now) }
-    ensures partial { OnOk result (partial_of row.new ≡ []) }
-{
-    'parts: for part in parts {
-        put_value(row, part)?;
-    }
-    Ok(())
 }
