@@ -1,0 +1,6 @@
+pub mod Ascending
+pub mod Kept
+pub mod Totals
+pub mod Parts
+pub mod Merging
+pub mod Popped

@@ -1,0 +1,13 @@
+//! Combiners.
+#![tactic(auto)]
+
+mod comb;
+mod contents;
+mod laws;
+mod lists;
+mod outcome;
+mod partial;
+
+pub use comb::Comb;
+pub use laws::{merge_law, parts_law};
+pub use partial::{finish, lift, merge, zero};
