@@ -4,3 +4,5 @@ pub mod Totals
 pub mod Parts
 pub mod Merging
 pub mod Popped
+pub mod Ends
+pub mod Refs
