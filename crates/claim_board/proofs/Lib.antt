@@ -1,0 +1,10 @@
+pub mod Totals
+pub mod Keeps
+pub mod Whole
+pub mod Ruling
+pub mod Moves
+pub mod Naming
+pub mod Claimable
+pub mod Closing
+pub mod Seating
+pub mod Stepping
