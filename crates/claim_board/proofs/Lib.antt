@@ -3,6 +3,7 @@ pub mod Keeps
 pub mod Whole
 pub mod Ruling
 pub mod Moves
+pub mod Lending
 pub mod Naming
 pub mod Claimable
 pub mod Closing

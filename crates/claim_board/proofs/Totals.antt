@@ -1,6 +1,7 @@
 -- Totals over lists, and facts of each element.
 use Rattle.std.proofs.Common.{◌≡◌, ◌≢◌, ℕ, zero, suc, ◌+◌, ◌≤◌, true, false, eqb, List, [], ◌∷◌, ◌++◌, set, refl, sym, ap, subst, arith, ⊎_elim}
 use Rattle.std.proofs.lemmas.Bool.Decides.{eqb_tells}
+use Rattle.std.specs.Prelude.{All}
 use mathlib.Core.Option.{some, some-ne-none, some-injective}
 use lib.ListN.{get_elem?}
 use Rattle.claim_board.specs.Counts.{total, Each, one_if, times, times_first}
@@ -81,3 +82,13 @@ times_none d xs h = total_none (λ (x : ℕ). one_if (eqb x d)) xs (each_map (λ
 
 pub times_first_none : (d : ℕ) (xs : List (ℕ × ℕ)) → Each (λ x. x.0 ≢ d) xs → times_first d xs ≡ 0
 times_first_none d xs h = total_none (λ (x : ℕ × ℕ). one_if (eqb x.0 d)) xs (each_map (λ x. x.0 ≢ d) (λ x. one_if (eqb x.0 d) ≡ 0) xs (λ x n. one_if_ne x.0 d n) h)
+
+-- `Each` by recursion, and std's `All` by indexes
+pub all_of_each : {A : Type 0} (P : A → Type 0) (xs : List A) → Each P xs → All P xs
+all_of_each P [] h k d l = absurd (omega arith)
+all_of_each P (x ∷ xs) h zero d l = h.0
+all_of_each P (x ∷ xs) h (suc k) d l = all_of_each P xs h.1 k d (omega arith)
+
+pub each_of_all : {A : Type 0} (P : A → Type 0) (xs : List A) → All P xs → Each P xs
+each_of_all P [] h = tt
+each_of_all P (x ∷ xs) h = (h 0 x (omega arith), each_of_all P xs (λ k d l. h (suc k) d (omega arith)))

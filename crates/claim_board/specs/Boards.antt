@@ -1,5 +1,5 @@
 -- What callers see of a board, of its passes, of a draw and of a tally.
-use Rattle.std.specs.Prelude.{◌≡◌, ℕ, zero, suc, ◌<◌, List, [], ◌∷◌, ◌++◌, map}
+use Rattle.std.specs.Prelude.{◌≡◌, ◌≢◌, ℕ, zero, suc, ◌<◌, List, [], ◌∷◌, ◌++◌, map}
 use Rattle.claim_board.specs.Counts.{Each}
 use Rattle.claim_board.specs.Protocol.{PassState, State, fresh, drawn, limit, task_of, attempt_of, IsOpen}
 
@@ -62,3 +62,11 @@ pub record Drew (b : Board) (old new : PassState) (d : Drawn) : Type 0 where
   pub gained : new ≡ drawn (limit_of b) old d.number
   pub claimable : IsOpenDraw b new d
   pub latest : Each (λ x. x < d.number) old.draws
+
+-- each draw that the pass might claim, it still may
+abbrev pub KeepsClaims : Board → PassState → PassState → Type 0
+KeepsClaims b old new = (d : Drawn) → IsOpenDraw b old d → IsOpenDraw b new d
+
+-- the same but for the draw n
+abbrev pub KeepsOtherClaims : Board → PassState → PassState → ℕ → Type 0
+KeepsOtherClaims b old new n = (d : Drawn) → n ≢ d.number → IsOpenDraw b old d → IsOpenDraw b new d

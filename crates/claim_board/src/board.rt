@@ -1,7 +1,7 @@
 // A board, which its workers share.
 ghost use Rattle.std.specs.Prelude.{◌≡◌, ◌≢◌, ℕ, ◌*◌, ◌^◌, ◌<◌, ◌≤◌, true, false, length, IfOk, IfErr, IfSome, IfNone, IsNone};
 ghost use Rattle.claim_board.specs.Protocol.{IsGood, drawn, looked, winning, losing};
-ghost use Rattle.claim_board.specs.Boards.{limit_of, new_passes, AreOf, IsOpenDraw, Drew};
+ghost use Rattle.claim_board.specs.Boards.{limit_of, new_passes, AreOf, IsOpenDraw, Drew, KeepsClaims, KeepsOtherClaims};
 ghost use Rattle.claim_board.specs.Told.{closing_state, DrawnOnce, WonOnce, SawWinners, LostToWinners, EndedPastLimit};
 
 use crate::draw::{Draw, Lost, Won};
@@ -74,6 +74,7 @@ impl Board {
         ensures again { pass.old.state.ended ≡ true → IsNone result × (pass.new ≡ pass.old) }
         ensures none { pass.old.state.ended ≡ false → IfNone result ((n : ℕ) × (limit_of self.now ≤ n) × (pass.new.state ≡ drawn (limit_of self.now) pass.old.state n)) }
         ensures ended { IfNone result (pass.new.state.ended ≡ true) }
+        ensures claims { KeepsClaims self.now pass.old.state pass.new.state }
         ensures some { IfSome result (λ d. (pass.old.state.ended ≡ false) × Drew self.now pass.old.state pass.new.state d) }
     {
         if pass.ended {
@@ -97,6 +98,7 @@ impl Board {
         requires board { pass.old.board ≡ self.now }
         requires task { task < self.now.tasks }
         ensures same { pass.new.board ≡ pass.old.board }
+        ensures claims { KeepsClaims self.now pass.old.state pass.new.state }
         ensures none { IfNone result (pass.new.state ≡ looked pass.old.state task 0) }
         ensures some { IfSome result (λ a. (a ≢ 0) × (a ≤ self.now.tries) × (pass.new.state ≡ looked pass.old.state task a)) }
     {
@@ -113,6 +115,7 @@ impl Board {
         requires board { pass.old.board ≡ self.now }
         requires claimable { IsOpenDraw self.now pass.old.state draw }
         ensures same { pass.new.board ≡ pass.old.board }
+        ensures claims { KeepsOtherClaims self.now pass.old.state pass.new.state draw.number }
         ensures won { IfOk result (λ _. pass.new.state ≡ winning pass.old.state draw.number) }
         ensures lost { IfErr result (λ a. (a ≢ 0) × (a ≤ self.now.tries) × (pass.new.state ≡ losing pass.old.state draw.number a)) }
     {

@@ -1,6 +1,7 @@
 use Rattle.std.proofs.Common.{sym, ap, ◌∙◌, subst, arith}
 use Rattle.claim_board.specs.Boards.{Board, Pass, Drawn, IsOpenDraw}
 use Rattle.claim_board.specs.Seats.{board_of}
+use Rattle.claim_board.proofs.Claimable.{commit_keeps}
 use Rattle.claim_board.proofs.Moves.{commits_at}
 use Rattle.claim_board.proofs.Naming.{same_table, same_size}
 use Rattle.claim_board.proofs.board.Board.commit.Goals as goal
@@ -19,3 +20,17 @@ compare_exchange-found-requires c =
       omega arith,
       commits_at _ _ _ _ i.0 (same_size _ _ _ _ of) _ _ _ mine.task mine.attempt mine.claimable size.tasks,
     )
+
+pub returns-then-found-eq0-clause-claims : goal.returns-then-found-eq0-clause-claims
+returns-then-found-eq0-clause-claims c =
+    let size = ap (λ (p : Pass). p.board.tasks) c.pass.view_is ∙ ap (λ (x : Board). x.tasks) c.requires.board in
+    let task = ap (λ (d : Drawn). d.task) c.draw.view_is ∙ c.requires.claimable.task in
+    let attempt = ap (λ (d : Drawn). d.attempt) c.draw.view_is ∙ c.requires.claimable.attempt in
+    commit_keeps c.args.self.now c.pass.inside.seat.me c.compare_exchange-found.new.seat.me _ c.compare_exchange-found.result c.draw.inside.task c.draw.inside.attempt _ (ap (λ (p : Pass). p.state) c.pass.view_is) size task attempt c.compare_exchange-found.ensures.2
+
+pub returns-clause-claims : goal.returns-clause-claims
+returns-clause-claims c =
+    let size = ap (λ (p : Pass). p.board.tasks) c.pass.view_is ∙ ap (λ (x : Board). x.tasks) c.requires.board in
+    let task = ap (λ (d : Drawn). d.task) c.draw.view_is ∙ c.requires.claimable.task in
+    let attempt = ap (λ (d : Drawn). d.attempt) c.draw.view_is ∙ c.requires.claimable.attempt in
+    commit_keeps c.args.self.now c.pass.inside.seat.me c.compare_exchange-found.new.seat.me _ c.compare_exchange-found.result c.draw.inside.task c.draw.inside.attempt _ (ap (λ (p : Pass). p.state) c.pass.view_is) size task attempt c.compare_exchange-found.ensures.2
