@@ -132,7 +132,7 @@ fn work_alone(
 ) -> Result<Vec<Found>, AllocError>
     requires board { AreOf board.now passes.old }
     requires tasks { 0 < board.now.tasks }
-    requires some { 0 < length passes.old }
+    requires one { length passes.old ≡ 1 }
     ensures { AreOf board.now passes.new }
 {
     let done = work(alloc, board, &mut passes[0])?;
@@ -169,6 +169,19 @@ fn both_halves<R: Threads + Sync>(
     Ok(all)
 }
 
+// How many of the workers' kept claims are of the task.
+fn keepers_of(all: &[Found], task: u32) -> u32 {
+    let mut keepers = 0u32;
+    for found in all {
+        for &(kept, _) in &found.kept {
+            if kept == task {
+                keepers = keepers.saturating_add(1);
+            }
+        }
+    }
+    keepers
+}
+
 #[test]
 fn sixteen_threads_keep_what_the_tally_says(rt: HostRuntime) -> Result<(), Fail> {
     let (board, mut passes) = Board::new(rt.alloc(), TASKS, TRIES, CREW)?;
@@ -176,20 +189,14 @@ fn sixteen_threads_keep_what_the_tally_says(rt: HostRuntime) -> Result<(), Fail>
     let tally = board.close(passes);
     assert!(rt; tally.draws() == (TASKS * TRIES + CREW) as u64);
     assert!(rt; all.len() == CREW as usize);
-    let mut keepers = vec![in rt.alloc(); 0u32; TASKS as usize]?;
-    for done in &all {
-        for &(task, attempt) in &done.kept {
-            assert!(rt; task < TASKS && attempt > 0);
-            assert!(rt; attempt == tally.winner(task));
-            keepers[task as usize] = keepers[task as usize].saturating_add(1);
-        }
-        for &(task, attempt) in &done.seen {
+    for found in &all {
+        for &(task, attempt) in found.kept.iter().chain(&found.seen) {
             assert!(rt; task < TASKS && attempt > 0);
             assert!(rt; attempt == tally.winner(task));
         }
     }
-    for count in &keepers {
-        assert!(rt; *count == 1);
+    for task in 0..TASKS {
+        assert!(rt; keepers_of(&all, task) == 1);
     }
     Ok(())
 }
