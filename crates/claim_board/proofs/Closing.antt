@@ -1,5 +1,5 @@
 -- What a good state at the end tells of the passes.
-use Rattle.std.proofs.Common.{◌≡◌, ◌≢◌, ℕ, zero, suc, ◌+◌, ◌-◌, ◌*◌, ◌/◌, ◌%◌, ◌<◌, ◌≤◌, true, false, eqb, List, [], ◌∷◌, get_or, refl, sym, ap, ◌∙◌, arith, ⊎_elim, ◌⊎◌, div-add-mod'}
+use Rattle.std.proofs.Common.{◌≡◌, ◌≢◌, ℕ, suc, ◌+◌, ◌-◌, ◌*◌, ◌/◌, ◌%◌, ◌<◌, true, false, eqb, List, [], ◌∷◌, get_or, refl, sym, ap, ◌∙◌, arith, ⊎_elim, ◌⊎◌, div-add-mod'}
 use Rattle.std.proofs.lemmas.Bool.Decides.{eqb_tells}
 use Rattle.std.proofs.lemmas.Nat.{mod-mul-add}
 use mathlib.Core.Option.{some}
@@ -7,7 +7,7 @@ use lib.ListN.{get_elem?}
 use Rattle.claim_board.specs.Counts.{total, Each, one_if, times}
 use Rattle.claim_board.specs.Protocol.{PassState, limit, of_task, IsGoodPass, IsGood}
 use Rattle.claim_board.specs.Boards.{Board, Pass, Tally, states_of}
-use Rattle.claim_board.specs.Told.{closing_state, draw_of, times_won, DrawnOnce, WonOnce, SawWinners, LostToWinners, EndedPastLimit}
+use Rattle.claim_board.specs.Told.{closing_state, draw_of, DrawnOnce, WonOnce, SawWinners, LostToWinners, EndedPastLimit}
 use Rattle.claim_board.proofs.Totals.{each_map, one_if_eq, one_if_ne}
 use Rattle.claim_board.proofs.Whole.{ended_means_used_up}
 

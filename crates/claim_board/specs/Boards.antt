@@ -1,9 +1,9 @@
 -- What callers see of a board, of its passes, of a draw and of a tally.
 use Rattle.std.specs.Prelude.{◌≡◌, ◌≢◌, ℕ, zero, suc, ◌<◌, List, [], ◌∷◌, ◌++◌, map}
 use Rattle.claim_board.specs.Counts.{Each}
-use Rattle.claim_board.specs.Protocol.{PassState, State, fresh, drawn, limit, task_of, attempt_of, IsOpen}
+use Rattle.claim_board.specs.Protocol.{PassState, fresh, drawn, limit, task_of, attempt_of, IsOpen}
 
--- a board: a name that no other board has, and its size
+-- a board: a name, by which its passes know it, and its size
 pub record Board : Type 0 where
   pub name : List ℕ
   pub tasks : ℕ

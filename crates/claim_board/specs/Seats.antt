@@ -1,5 +1,5 @@
 -- The rule of a board's table: its words and the views of its seats are a good state of the protocol.
-use Rattle.std.specs.Prelude.{◌≡◌, ◌≢◌, ℕ, ◌+◌, ◌-◌, ◌*◌, ◌^◌, ◌<◌, ◌≤◌, eqb, List, [], ◌∷◌, ◌++◌, length, slice_index}
+use Rattle.std.specs.Prelude.{◌≡◌, ◌≢◌, ℕ, ◌+◌, ◌-◌, ◌^◌, ◌<◌, ◌≤◌, eqb, List, [], ◌∷◌, ◌++◌, length, slice_index}
 use Rattle.std.specs.Bool.{MatchBool}
 use mathlib.Core.Option.{some}
 use lib.ListN.{get_elem?}
@@ -109,7 +109,7 @@ make_right v = pass_view v.size (fresh v.made)
 abbrev pub take_over : View → View → View
 take_over v w = maker_view v.size v.made (w.passes ++ v.passes)
 
--- the numbers that tell a table from every other
+-- the name of the board over a table: what identifies the table, as numbers
 abbrev pub name_of : TableId → List ℕ
 name_of z = z.words ∷ z.slots ∷ z.views_name ∷ z.atom ∷ z.block ∷ z.offset ∷ z.slot_names
 

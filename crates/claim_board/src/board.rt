@@ -16,7 +16,7 @@ use std::alloc::{AllocError, Global};
 use std::marker::Model;
 
 /// Tasks whose attempts are drawn, and the word of each task, which the first attempt to be committed wins.
-/// Contracts see its name, which no other board has, and its size.
+/// Contracts see the name by which its passes know it, and its size.
 #[derive(Drop)]
 pub struct Board {
     table: BoardTable,
@@ -39,7 +39,7 @@ impl Model for Board {
 }
 
 impl Board {
-    /// A board of so many tasks, each with so many tries, and as many passes as `crew`.
+    /// A board of so many tasks, each with so many tries, and as many passes as `crew`, which have done nothing.
     pub fn new(
         alloc: Global,
         tasks: u32,
@@ -67,11 +67,14 @@ impl Board {
         Ok((board, passes))
     }
 
-    /// Draws the next attempt. There is none where each attempt of each task is drawn, or this pass was told so before; then nothing is done.
+    /// Draws the next attempt, by one step. There is none where each attempt of each task has been drawn. A pass that was
+    /// told so is told so again, by no step.
     pub fn draw(&self, pass: &mut Pass) -> Option<Draw>
         requires { pass.old.board ≡ self.now }
         ensures same { pass.new.board ≡ pass.old.board }
+        // a pass that was told None draws no more
         ensures again { pass.old.state.ended ≡ true → IsNone result × (pass.new ≡ pass.old) }
+        // else None comes of a number past the attempts, which ends the pass
         ensures none { pass.old.state.ended ≡ false → IfNone result ((n : ℕ) × (limit_of self.now ≤ n) × (pass.new.state ≡ drawn (limit_of self.now) pass.old.state n)) }
         ensures ended { IfNone result (pass.new.state.ended ≡ true) }
         ensures claims { KeepsClaims self.now pass.old.state pass.new.state }
@@ -93,7 +96,7 @@ impl Board {
         })
     }
 
-    /// The attempt that has won the task, if one has.
+    /// The attempt that has won the task, if one has. One step, which the pass keeps in mind as seen.
     pub fn look(&self, pass: &mut Pass, task: u32) -> Option<u32>
         requires board { pass.old.board ≡ self.now }
         requires task { task < self.now.tasks }
@@ -110,7 +113,8 @@ impl Board {
         Some(attempt as u32)
     }
 
-    /// Claims the draw's task for its attempt. It is lost where another attempt has won the task.
+    /// Claims the draw's task for its attempt, by one step, and spends the draw. It is lost where another attempt has won
+    /// the task.
     pub fn commit(&self, pass: &mut Pass, draw: Draw) -> Result<Won, Lost>
         requires board { pass.old.board ≡ self.now }
         requires claimable { IsOpenDraw self.now pass.old.state draw }
@@ -131,10 +135,11 @@ impl Board {
         })
     }
 
-    /// Ends the board, with all its passes.
+    /// Ends the board, with all its passes, and tells the winners. It takes no memory.
     pub fn close(self, passes: Passes) -> Tally
         requires board { passes.board ≡ self }
         requires members { AreOf self passes.members × (length passes.members ≡ self.crew) }
+        // what the tally and the passes say together is a good state of the protocol
         ensures good { IsGood self.tasks self.tries (closing_state result passes.members) }
         ensures size { length result.winners ≡ self.tasks }
         ensures draws { DrawnOnce result passes.members }

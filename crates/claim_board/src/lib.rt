@@ -2,12 +2,12 @@
 //!
 //! A board is some words that its workers share. The first counts the draws: the draw `d` is the attempt
 //! `d / tasks + 1` of the task `d % tasks`. Each task has a word too, which is 0 until an attempt wins the task, and
-//! that attempt's number from then on. A worker holds a pass. It draws an attempt, makes it, and commits it, by one
-//! compare-and-exchange of the task's word; what loses is thrown away. `close` takes the passes back and tells the
-//! winners. Every call is one step on one word: no lock, no channel, no call that waits.
+//! that attempt's number from then on. A worker holds a pass. It draws an attempt, makes it, and commits it; what
+//! loses is thrown away. `close` takes the passes back and tells the winners. To draw, to look and to commit are one
+//! atomic step each: there is no lock, no channel and no call that waits.
 //!
 //! `specs/Protocol.antt` has the board as a state machine, and `protocol_laws` what holds along every list of its
-//! events. `specs/Seats.antt` has the rule that the shared words keep at each step, whatever the threads do.
+//! events. `specs/Seats.antt` has the rule that the shared words keep at each step, and `steps` the six kinds of step.
 #![tactic(auto)]
 
 mod board;

@@ -26,7 +26,7 @@ impl Tally {
         self.draws
     }
 
-    /// The attempt that won the task, or 0 where none did.
+    /// The attempt that won a task of the board, or 0 where none did.
     pub fn winner(&self, task: u32) -> u32
         requires { task < length self.now.winners }
         ensures { result ≡ slice_index self.now.winners task }

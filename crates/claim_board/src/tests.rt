@@ -11,7 +11,9 @@ use std::test::Fail;
 use std::thread::{Threads, join_mut};
 
 const TASKS: u32 = 64;
+
 const TRIES: u32 = 8;
+
 const CREW: u32 = 16;
 
 // Four draws of two tasks, a fifth that finds none left, and two claims of the first task.
@@ -125,11 +127,7 @@ fn work_all<R: Threads + Sync>(
     both_halves(rt, alloc, board, first, last)
 }
 
-fn work_alone(
-    alloc: &Global,
-    board: &Board,
-    passes: &mut [Pass],
-) -> Result<Vec<Found>, AllocError>
+fn work_alone(alloc: &Global, board: &Board, passes: &mut [Pass]) -> Result<Vec<Found>, AllocError>
     requires board { AreOf board.now passes.old }
     requires tasks { 0 < board.now.tasks }
     requires one { length passes.old ≡ 1 }

@@ -1,4 +1,4 @@
-use Rattle.std.proofs.Common.{◌≡◌, ◌<◌, ◌≤◌, ℕ, List, get_or, sym, subst, arith}
+use Rattle.std.proofs.Common.{◌<◌, ◌≤◌, ℕ, List, get_or, sym, subst, arith}
 use Rattle.std.specs.Mem.Slots.{slots_items}
 use Rattle.claim_board.specs.Protocol.{IsGood}
 use Rattle.claim_board.specs.Boards.{Board, Tally}
