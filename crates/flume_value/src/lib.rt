@@ -1,9 +1,18 @@
-//! Values as plain trees.
+//! Values, their order, and bags of them: what every crate above speaks of.
+//!
+//! A `Value` is a plain tree. Its lists and boxes are `Pile` and `Held`, which contracts see
+//! as a list and as the value itself, so that `≡` means equal content and a copy equals its
+//! source. Values have one total order, by variant and then by content (`order_law`).
+//!
+//! A bag is seen as the ascending list of its members, `bag_of`. So two bags are equal where
+//! these lists are, whatever the order in which their members came (`bag_law`), bags add up
+//! (`bag_sum_law`), and what a function gives for each member is a bag again (`bag_image_law`).
 #![tactic(auto)]
 
 mod bag;
 mod bytes;
-mod copy;
+mod copies;
+mod fault;
 mod held;
 mod order;
 mod pile;
@@ -12,9 +21,10 @@ mod tests;
 mod text;
 mod value;
 
-pub use bag::{bag_law, ordered, same_bag, sorted};
+pub use bag::{bag_image_law, bag_law, bag_sum_law, sorted};
 pub use bytes::canonical_bytes;
-pub use copy::copy_all;
+pub use copies::{copy, copy_all};
+pub use fault::{CallFault, Kind};
 pub use held::Held;
 pub use order::{compare, equals, order_law};
 pub use pile::Pile;

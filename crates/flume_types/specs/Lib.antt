@@ -1,0 +1,4 @@
+pub mod Columns
+pub mod Depth
+pub mod Tables
+pub mod Typing

@@ -1,0 +1,126 @@
+ghost use Rattle.std.specs.Prelude.{◌≡◌, ◌≢◌, ◌++◌, Some, None, IfOk, IfErr, OnOk, codes};
+ghost use Rattle.flume_types.specs.Columns.{joined, columns_of, input_columns_of, cell_kind as kind_of, cell_column, cells_under, field_columns, all_columns};
+ghost use Rattle.flume_types.specs.declared.types.Ty.{out-Ty};
+
+use crate::column::{Column, ColumnFault, ColumnKind, Columns};
+use crate::types::{Field, Ty};
+use flume_value::{Pile, Str};
+use std::alloc::{AllocError, Global};
+
+/// The columns of a flat type: of int, bool and text the one column `value`, and of a record
+/// those of its fields in order, where a field f that is int, bool or text has the column `f`,
+/// and one that is a record of these has `f.g` for each of its fields g. `NotFlat` comes
+/// exactly where the type is none of this.
+pub fn columns(alloc: Global, ty: &Ty) -> Result<Columns, ColumnFault>
+    ensures flat { IfOk result (λ columns. columns_of ty.now ≡ Some columns) }
+    ensures not_flat { IfErr result (λ e. e ≢ ColumnFault.Memory → columns_of ty.now ≡ None) }
+{
+    let mut columns = Vec::new(alloc);
+    match ty {
+        Ty::Rec(fields) => add_fields(alloc, fields.as_slice(), &mut columns)?,
+        cell => add_cell(Str::from_slice(alloc, b"value")?, cell, &mut columns)?,
+    }
+    Ok(Pile::from_vec(columns))
+}
+
+/// The columns of an input's type, which is a record of int, bool and text: its fields.
+/// `NotFlat` comes exactly where the type is another one.
+pub fn input_columns(alloc: Global, ty: &Ty) -> Result<Columns, ColumnFault>
+    ensures flat { IfOk result (λ columns. input_columns_of ty.now ≡ Some columns) }
+    ensures not_flat { IfErr result (λ e. e ≢ ColumnFault.Memory → input_columns_of ty.now ≡ None) }
+{
+    let mut columns = Vec::new(alloc);
+    match ty {
+        Ty::Rec(fields) => add_cells(alloc, b"", fields.as_slice(), &mut columns)?,
+        _ => return Err(ColumnFault::NotFlat),
+    }
+    Ok(Pile::from_vec(columns))
+}
+
+fn add_fields(
+    alloc: Global,
+    fields: &[Field<Ty>],
+    columns: &mut Vec<Column>,
+) -> Result<(), ColumnFault>
+    ensures flat { OnOk result (joined (Some columns.old.items) (all_columns (λ f. field_columns f.name (out-Ty f.ty)) fields.now) ≡ Some columns.new.items) }
+    ensures not_flat { IfErr result (λ e. e ≢ ColumnFault.Memory → all_columns (λ f. field_columns f.name (out-Ty f.ty)) fields.now ≡ None) }
+{
+    for field in fields {
+        add_field(alloc, field, columns)?;
+    }
+    Ok(())
+}
+
+fn add_field(
+    alloc: Global,
+    field: &Field<Ty>,
+    columns: &mut Vec<Column>,
+) -> Result<(), ColumnFault>
+    ensures flat { OnOk result (joined (Some columns.old.items) (field_columns field.now.name (out-Ty field.now.ty)) ≡ Some columns.new.items) }
+    ensures not_flat { IfErr result (λ e. e ≢ ColumnFault.Memory → field_columns field.now.name (out-Ty field.now.ty) ≡ None) }
+{
+    match &field.ty {
+        Ty::Rec(fields) => {
+            let prefix = dotted(alloc, &field.name)?;
+            add_cells(alloc, prefix.as_slice(), fields.as_slice(), columns)
+        }
+        cell => add_cell(field.name.copy(alloc)?, cell, columns),
+    }
+}
+
+/// Adds the columns of a record of cells, each named by the prefix and then its field.
+fn add_cells(
+    alloc: Global,
+    prefix: &[u8],
+    fields: &[Field<Ty>],
+    columns: &mut Vec<Column>,
+) -> Result<(), ColumnFault>
+    ensures flat { OnOk result (joined (Some columns.old.items) (cells_under prefix.now fields.now) ≡ Some columns.new.items) }
+    ensures not_flat { IfErr result (λ e. e ≢ ColumnFault.Memory → cells_under prefix.now fields.now ≡ None) }
+{
+    for field in fields {
+        let name = prefixed(alloc, prefix, &field.name)?;
+        add_cell(name, &field.ty, columns)?;
+    }
+    Ok(())
+}
+
+fn add_cell(name: Str, ty: &Ty, columns: &mut Vec<Column>) -> Result<(), ColumnFault>
+    ensures flat { OnOk result (joined (Some columns.old.items) (cell_column name (out-Ty ty.now)) ≡ Some columns.new.items) }
+    ensures not_flat { IfErr result (λ e. e ≢ ColumnFault.Memory → cell_column name (out-Ty ty.now) ≡ None) }
+{
+    match cell_kind(ty) {
+        Some(kind) => {
+            columns.push(Column { name, kind })?;
+            Ok(())
+        }
+        None => Err(ColumnFault::NotFlat),
+    }
+}
+
+fn cell_kind(ty: &Ty) -> Option<ColumnKind>
+    ensures { result ≡ kind_of (out-Ty ty.now) }
+{
+    match ty {
+        Ty::Int => Some(ColumnKind::Int),
+        Ty::Bool => Some(ColumnKind::Bool),
+        Ty::Text => Some(ColumnKind::Text),
+        _ => None,
+    }
+}
+
+fn dotted(alloc: Global, name: &Str) -> Result<Vec<u8>, AllocError>
+    ensures { IfOk result (λ bytes. bytes.items ≡ name.now ++ codes ".") }
+{
+    let mut bytes = Vec::from_slice(alloc, name.as_bytes())?;
+    bytes.push(b'.')?;
+    Ok(bytes)
+}
+
+fn prefixed(alloc: Global, prefix: &[u8], name: &Str) -> Result<Str, AllocError>
+    ensures { IfOk result (λ s. s ≡ prefix.now ++ name.now) }
+{
+    let mut bytes = Vec::from_slice(alloc, prefix)?;
+    bytes.extend_from_slice(name.as_bytes())?;
+    Ok(Str::from_vec(bytes))
+}

@@ -1,0 +1,29 @@
+//! The types of values.
+//!
+//! A type is int, bool or text, a list of one type, a record of named fields, or an either of
+//! two types. `has_type` says which values a type has, one level at a time (`typing_law`), and
+//! `depth` how deep a type's parts lie.
+//!
+//! Values of a flat type are written as rows: `columns` are the cells of a row, and a type that
+//! has none is not flat. Inputs are read as records of cells alone: `input_columns`.
+#![tactic(auto)]
+
+mod column;
+mod copies;
+mod deep;
+mod flat;
+mod same;
+mod table;
+#[cfg(test)]
+mod tests;
+mod types;
+mod typing;
+
+pub use column::{Column, ColumnFault, ColumnKind, Columns};
+pub use copies::{copy, copy_fields};
+pub use deep::depth;
+pub use flat::{columns, input_columns};
+pub use same::same_type;
+pub use table::table_type;
+pub use types::{Field, Fields, Ty};
+pub use typing::{has_type, typing_law};
