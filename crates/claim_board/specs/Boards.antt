@@ -1,5 +1,5 @@
 -- What callers see of a board, of its passes, of a draw and of a tally.
-use Rattle.std.specs.Prelude.{◌≡◌, ◌≢◌, ℕ, zero, suc, ◌<◌, List, [], ◌∷◌, ◌++◌, map}
+use Rattle.std.specs.Prelude.{◌≡◌, ◌≢◌, ℕ, zero, suc, ◌<◌, ◌≤◌, List, [], ◌∷◌, ◌++◌, map}
 use Rattle.claim_board.specs.Counts.{Each}
 use Rattle.claim_board.specs.Protocol.{PassState, fresh, drawn, limit, task_of, attempt_of, IsOpen}
 
@@ -62,6 +62,12 @@ pub record Drew (b : Board) (old new : PassState) (d : Drawn) : Type 0 where
   pub gained : new ≡ drawn (limit_of b) old d.number
   pub claimable : IsOpenDraw b new d
   pub latest : Each (λ x. x < d.number) old.draws
+
+-- the pass has gained a number past the attempts, and has ended with it
+pub record DrewNone (b : Board) (old new : PassState) : Type 0 where
+  pub number : ℕ
+  pub past : limit_of b ≤ number
+  pub gained : new ≡ drawn (limit_of b) old number
 
 -- each draw that the pass might claim, it still may
 abbrev pub KeepsClaims : Board → PassState → PassState → Type 0

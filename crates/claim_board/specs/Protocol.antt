@@ -1,12 +1,14 @@
 -- The claim protocol, as a state machine.
--- Draws have the numbers 0, 1, 2 and on. The draw d names the attempt d / tasks + 1 of the task d % tasks, and the draws below tasks * tries name each attempt of each task once.
+-- Draws have the numbers 0, 1, 2 and on. The draw d names the attempt d / tasks + 1 of the task d % tasks,
+-- and the draws below tasks * tries name each attempt of each task once.
 -- A task has a word: 0, or the attempt that won it.
 use Rattle.std.specs.Prelude.{◌≡◌, ◌≢◌, ℕ, zero, suc, ◌+◌, ◌*◌, ◌/◌, ◌%◌, ◌<◌, ◌≤◌, Bool, false, eqb, leb, ◌⊎◌, List, [], ◌∷◌, ◌++◌, length, slice_index, slice_set, replicate}
 use mathlib.Core.Option.{some}
 use lib.ListN.{get_elem?}
 use Rattle.claim_board.specs.Counts.{total, Each, one_if, times, times_first, from_on}
 
--- what one pass has done: its draws in order, each task that it looked at with the word that it saw, the draws that won their tasks, and the draws that lost with the word that stood there
+-- what one pass has done: its draws in order, each task that it looked at with the word that it saw,
+-- the draws that won their tasks, and each draw that lost with the word that stood there
 pub record PassState : Type 0 where
   pub number : ℕ
   pub draws : List ℕ
@@ -46,16 +48,16 @@ fresh number = record { number = number; draws = []; seen = []; won = []; lost =
 
 -- what each event leaves in the pass that makes it: after a draw of the limit or more the pass has ended
 abbrev pub drawn : ℕ → PassState → ℕ → PassState
-drawn most p d = record { number = p.number; draws = p.draws ++ d ∷ []; seen = p.seen; won = p.won; lost = p.lost; ended = leb most d }
+drawn most p d = record p { draws = p.draws ++ d ∷ []; ended = leb most d }
 
 abbrev pub looked : PassState → ℕ → ℕ → PassState
-looked p t x = record { number = p.number; draws = p.draws; seen = p.seen ++ (t, x) ∷ []; won = p.won; lost = p.lost; ended = p.ended }
+looked p t x = record p { seen = p.seen ++ (t, x) ∷ [] }
 
 abbrev pub winning : PassState → ℕ → PassState
-winning p d = record { number = p.number; draws = p.draws; seen = p.seen; won = p.won ++ d ∷ []; lost = p.lost; ended = p.ended }
+winning p d = record p { won = p.won ++ d ∷ [] }
 
 abbrev pub losing : PassState → ℕ → ℕ → PassState
-losing p d x = record { number = p.number; draws = p.draws; seen = p.seen; won = p.won; lost = p.lost ++ (d, x) ∷ []; ended = p.ended }
+losing p d x = record p { lost = p.lost ++ (d, x) ∷ [] }
 
 -- what the i-th pass does: it draws, looks at a task, or claims the task of a draw and wins or loses it
 pub data Event : Type 0 where
@@ -81,16 +83,16 @@ module _ (tasks tries : ℕ) where
   abbrev pub Step : State → Event → State → Type 0
   Step old (Draw i) new =
       (p : PassState) × (get_elem? old.passes i ≡ some p) × (p.ended ≡ false)
-      × (new ≡ record { next = old.next + 1; words = old.words; passes = slice_set old.passes i (drawn (limit tasks tries) p old.next) })
+      × (new ≡ record old { next = old.next + 1; passes = slice_set old.passes i (drawn (limit tasks tries) p old.next) })
   Step old (Look i t) new =
       (p : PassState) × (get_elem? old.passes i ≡ some p) × (t < tasks)
-      × (new ≡ record { next = old.next; words = old.words; passes = slice_set old.passes i (looked p t (word old t)) })
+      × (new ≡ record old { passes = slice_set old.passes i (looked p t (word old t)) })
   Step old (Win i d) new =
       (p : PassState) × (get_elem? old.passes i ≡ some p) × IsOpen p d × (word old (task_of tasks d) ≡ 0)
-      × (new ≡ record { next = old.next; words = slice_set old.words (task_of tasks d) (attempt_of tasks d); passes = slice_set old.passes i (winning p d) })
+      × (new ≡ record old { words = slice_set old.words (task_of tasks d) (attempt_of tasks d); passes = slice_set old.passes i (winning p d) })
   Step old (Lose i d) new =
       (p : PassState) × (get_elem? old.passes i ≡ some p) × IsOpen p d × (word old (task_of tasks d) ≢ 0)
-      × (new ≡ record { next = old.next; words = old.words; passes = slice_set old.passes i (losing p d (word old (task_of tasks d))) })
+      × (new ≡ record old { passes = slice_set old.passes i (losing p d (word old (task_of tasks d))) })
 
   -- the events lead from the old state to the new one
   abbrev pub Runs : State → List Event → State → Type 0

@@ -54,8 +54,11 @@ abbrev pub task_words : List ℕ → List ℕ
 task_words [] = []
 task_words (w ∷ ws) = ws
 
+abbrev pub words_state : List ℕ → List PassState → State
+words_state ws ps = record { next = slice_index ws 0; words = task_words ws; passes = ps }
+
 abbrev pub state_of : List ℕ → List View → State
-state_of ws vs = record { next = slice_index ws 0; words = task_words ws; passes = all_passes vs }
+state_of ws vs = words_state ws (all_passes vs)
 
 pub record Rule (k : Size) (s : TableState (Unit {0}) View) : Type 0 where
   pub size : IsSize k

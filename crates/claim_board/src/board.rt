@@ -1,7 +1,7 @@
 // A board, which its workers share.
-ghost use Rattle.std.specs.Prelude.{◌≡◌, ◌≢◌, ℕ, ◌*◌, ◌^◌, ◌<◌, ◌≤◌, true, false, length, IfOk, IfErr, IfSome, IfNone, IsNone};
-ghost use Rattle.claim_board.specs.Protocol.{IsGood, drawn, looked, winning, losing};
-ghost use Rattle.claim_board.specs.Boards.{limit_of, new_passes, AreOf, IsOpenDraw, Drew, KeepsClaims, KeepsOtherClaims};
+ghost use Rattle.std.specs.Prelude.{◌≡◌, ◌≢◌, ◌*◌, ◌^◌, ◌<◌, ◌≤◌, true, false, length, IfOk, IfErr, IfSome, IfNone, IsNone};
+ghost use Rattle.claim_board.specs.Protocol.{IsGood, looked, winning, losing};
+ghost use Rattle.claim_board.specs.Boards.{new_passes, AreOf, IsOpenDraw, Drew, DrewNone, KeepsClaims, KeepsOtherClaims};
 ghost use Rattle.claim_board.specs.Told.{closing_state, DrawnOnce, WonOnce, SawWinners, LostToWinners, EndedPastLimit};
 
 use crate::draw::{Draw, Lost, Won};
@@ -35,7 +35,9 @@ impl Model for Board {
 
     ghost view = { λ b. board_of b.table.shared.table_id b.table.shared.key };
 
-    ghost invariant = { λ b. (b.tasks ≡ b.table.shared.key.tasks) × (b.tries ≡ b.table.shared.key.tries) × (b.table.shared.table_id.words ≡ b.tasks + 1) × (b.table.shared.table_id.slots ≡ 0) × (vec_len b.room ≡ b.tasks) × IsSize b.table.shared.key };
+    ghost invariant = { λ b. (b.tasks ≡ b.table.shared.key.tasks) × (b.tries ≡ b.table.shared.key.tries)
+        × (b.table.shared.table_id.words ≡ b.tasks + 1) × (b.table.shared.table_id.slots ≡ 0)
+        × (vec_len b.room ≡ b.tasks) × IsSize b.table.shared.key };
 }
 
 impl Board {
@@ -75,10 +77,11 @@ impl Board {
         // a pass that was told None draws no more
         ensures again { pass.old.state.ended ≡ true → IsNone result × (pass.new ≡ pass.old) }
         // else None comes of a number past the attempts, which ends the pass
-        ensures none { pass.old.state.ended ≡ false → IfNone result ((n : ℕ) × (limit_of self.now ≤ n) × (pass.new.state ≡ drawn (limit_of self.now) pass.old.state n)) }
+        ensures none { pass.old.state.ended ≡ false → IfNone result (DrewNone self.now pass.old.state pass.new.state) }
         ensures ended { IfNone result (pass.new.state.ended ≡ true) }
         ensures claims { KeepsClaims self.now pass.old.state pass.new.state }
-        ensures some { IfSome result (λ d. (pass.old.state.ended ≡ false) × Drew self.now pass.old.state pass.new.state d) }
+        ensures some { IfSome result (λ d. (pass.old.state.ended ≡ false)
+            × Drew self.now pass.old.state pass.new.state d) }
     {
         if pass.ended {
             return None;
@@ -103,7 +106,8 @@ impl Board {
         ensures same { pass.new.board ≡ pass.old.board }
         ensures claims { KeepsClaims self.now pass.old.state pass.new.state }
         ensures none { IfNone result (pass.new.state ≡ looked pass.old.state task 0) }
-        ensures some { IfSome result (λ a. (a ≢ 0) × (a ≤ self.now.tries) × (pass.new.state ≡ looked pass.old.state task a)) }
+        ensures some { IfSome result (λ a. (a ≢ 0) × (a ≤ self.now.tries)
+            × (pass.new.state ≡ looked pass.old.state task a)) }
     {
         let word = task as usize + 1;
         let attempt = self.table.shared.load::<Looks>(&mut pass.seat, word);
@@ -121,7 +125,8 @@ impl Board {
         ensures same { pass.new.board ≡ pass.old.board }
         ensures claims { KeepsOtherClaims self.now pass.old.state pass.new.state draw.number }
         ensures won { IfOk result (λ _. pass.new.state ≡ winning pass.old.state draw.number) }
-        ensures lost { IfErr result (λ a. (a ≢ 0) × (a ≤ self.now.tries) × (pass.new.state ≡ losing pass.old.state draw.number a)) }
+        ensures lost { IfErr result (λ a. (a ≢ 0) × (a ≤ self.now.tries)
+            × (pass.new.state ≡ losing pass.old.state draw.number a)) }
     {
         let shared = &self.table.shared;
         let word = draw.task as usize + 1;

@@ -20,5 +20,6 @@ impl Model for Pass {
 
     ghost view = { λ p. seat_pass p.seat.table_id p.seat.me.0 };
 
-    ghost invariant = { λ p. (p.seat.me ≡ (pass_view p.seat.me.0.size (pass_in p.seat.me.0), [])) × (p.ended ≡ (pass_in p.seat.me.0).ended) };
+    ghost invariant = { λ p. (p.seat.me ≡ (pass_view p.seat.me.0.size (pass_in p.seat.me.0), []))
+        × (p.ended ≡ (pass_in p.seat.me.0).ended) };
 }

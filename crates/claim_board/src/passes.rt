@@ -25,7 +25,8 @@ impl Model for Passes {
 
     ghost view = { λ p. maker_passes p.maker.table_id p.maker.me.0 p.members.items };
 
-    ghost invariant = { λ p. (p.maker.id ≡ 0) × (p.maker.me ≡ (maker_view p.maker.me.0.size p.maker.me.0.size.crew [], [])) };
+    ghost invariant = { λ p. (p.maker.id ≡ 0)
+        × (p.maker.me ≡ (maker_view p.maker.me.0.size p.maker.me.0.size.crew [], [])) };
 }
 
 impl Passes {

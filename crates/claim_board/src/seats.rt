@@ -2,7 +2,7 @@
 ghost use Rattle.std.specs.Prelude.{◌≡◌, ℕ, ◌+◌, ◌<◌, ◌≤◌, ◌^◌, [], ◌++◌, length, slice_index, replicate, IfOk, vec_len};
 ghost use Rattle.std.specs.Mem.Slots.{slots_items, slots_len, IsFull};
 ghost use Rattle.claim_board.specs.Protocol.{IsGood};
-ghost use Rattle.claim_board.specs.Seats.{maker_view, task_words, board_of};
+ghost use Rattle.claim_board.specs.Seats.{maker_view, task_words, words_state, board_of};
 ghost use Rattle.claim_board.specs.Boards.{new_passes, states_of, AreOf};
 
 use crate::pass::Pass;
@@ -43,7 +43,8 @@ fn gather(
     mut members: Vec<Pass>,
 ) -> Seat<(), Knowledge>
     requires table { (maker.table_id ≡ words.now.table_id) × (maker.id ≡ 0) × (0 < words.now.table_id.words) }
-    requires view { (maker.me ≡ (maker_view maker.me.0.size maker.me.0.made [], [])) × (maker.me.0.size ≡ words.now.key) }
+    requires view { (maker.me ≡ (maker_view maker.me.0.size maker.me.0.made [], []))
+        × (maker.me.0.size ≡ words.now.key) }
     requires members { AreOf (board_of words.now.table_id words.now.key) members.items }
     ensures table { (result.table_id ≡ words.now.table_id) × (result.id ≡ 0) }
     ensures view { result.me ≡ (maker_view words.now.key maker.me.0.made (states_of members.items), []) }
@@ -57,11 +58,14 @@ fn gather(
 
 // Ends the table, with the passes of its board.
 pub(crate) fn take_back(table: BoardTable, passes: Passes) -> Closed<(), Global>
-    requires board { (passes.board ≡ board_of table.shared.table_id table.shared.key) × (0 < table.shared.table_id.words) }
+    requires board { (passes.board ≡ board_of table.shared.table_id table.shared.key)
+        × (0 < table.shared.table_id.words) }
     requires members { AreOf passes.board passes.members × (length passes.members ≡ passes.board.crew) }
-    ensures full { IsFull result.words × (slots_len result.words ≡ length (slots_items result.words)) × (length (slots_items result.words) ≡ table.shared.key.tasks + 1) }
+    ensures full { IsFull result.words × (slots_len result.words ≡ length (slots_items result.words))
+        × (length (slots_items result.words) ≡ table.shared.key.tasks + 1) }
     ensures slots { slots_len result.slots ≡ table.shared.table_id.slots }
-    ensures good { IsGood table.shared.key.tasks table.shared.key.tries (record { next = slice_index (slots_items result.words) 0; words = task_words (slots_items result.words); passes = states_of passes.members }) }
+    ensures good { IsGood table.shared.key.tasks table.shared.key.tries
+        (words_state (slots_items result.words) (states_of passes.members)) }
 {
     let Passes { members, maker } = passes;
     let maker = gather(&table.shared, maker, members);
@@ -74,7 +78,9 @@ pub(crate) fn read_winners(
     mut winners: Vec<u32>,
     tasks: u32,
 ) -> Vec<u32>
-    requires full { IsFull closed.now.words × (slots_len closed.now.words ≡ length (slots_items closed.now.words)) × (length (slots_items closed.now.words) ≡ tasks + 1) }
+    requires full { IsFull closed.now.words
+        × (slots_len closed.now.words ≡ length (slots_items closed.now.words))
+        × (length (slots_items closed.now.words) ≡ tasks + 1) }
     requires low { (t : ℕ) → t < tasks → slice_index (task_words (slots_items closed.now.words)) t < 2 ^ 32 }
     requires room { vec_len winners ≡ tasks }
     ensures { result.items ≡ task_words (slots_items closed.now.words) }
