@@ -10,7 +10,7 @@ use Rattle.flume_types.specs.declared.column.Column.{Column}
 use Rattle.flume_types.specs.declared.column.ColumnKind.{ColumnKind}
 use Rattle.flume_types.specs.declared.column.ColumnKind.TheVariants as kind
 use Rattle.flume_types.specs.Typing.{each_has, layer_has, has_type}
-use Rattle.flume_types.specs.Columns.{cell_kind, cell_column, joined, all_columns, cells_under, field_columns, record_columns, flat_columns, columns_of, input_at, input_columns_of}
+use Rattle.flume_types.specs.Columns.{cell_kind, cell_column, joined, cells_under, field_columns, record_columns, flat_columns, columns_of, input_at, input_columns_of}
 use Rattle.flume_types.specs.Cells.{field_cells, row_cells, cells_of, is_cell, are_filled}
 use Rattle.flume_types.proofs.TypingLemmas.{has_type-step}
 
