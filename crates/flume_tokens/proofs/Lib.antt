@@ -1,0 +1,2 @@
+pub mod NextPieces
+pub mod Whole

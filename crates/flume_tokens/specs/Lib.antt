@@ -1,0 +1,5 @@
+pub mod Keywords
+pub mod Pieces
+pub mod Signs
+pub mod Texts
+pub mod Tokens

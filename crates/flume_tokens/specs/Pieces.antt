@@ -1,0 +1,76 @@
+-- What a script begins with: a token, bytes that part tokens, or a fault.
+use Rattle.std.specs.Prelude.{ℕ, ◌+◌, ◌≤◌, length, nat_lt, List, drop, Bool, not, ◌==◌, ◌||◌, if◌then◌else◌, slice_index, take_while, Option, Some, None}
+use Rattle.std.specs.Prelude.{false}
+use Rattle.std.specs.Char.{is_ascii_digit, is_ascii_alphabetic, is_ascii_alphanumeric}
+use Rattle.flume_tokens.specs.declared.fault.Refusal.TheVariants as refusal
+use Rattle.flume_tokens.specs.declared.keyword.Keyword.{Keyword}
+use Rattle.flume_tokens.specs.declared.sign.Sign.{Sign}
+use Rattle.flume_tokens.specs.declared.token.TokenKind.{TokenKind}
+use Rattle.flume_tokens.specs.declared.token.TokenKind.TheVariants as kind
+use Rattle.flume_tokens.specs.declared.piece.Class.{Class}
+use Rattle.flume_tokens.specs.declared.piece.Class.TheVariants as class
+use Rattle.flume_tokens.specs.declared.piece.Piece.{Piece}
+use Rattle.flume_tokens.specs.declared.piece.Piece.TheVariants as piece
+use Rattle.flume_tokens.specs.Keywords.{keyword_of}
+use Rattle.flume_tokens.specs.Signs.{sign_of, spelling}
+use Rattle.flume_tokens.specs.Texts.{Closed, closed_text}
+
+-- space, tab and CR
+abbrev pub is_blank : ℕ → Bool
+is_blank b = b == 32 || b == 9 || b == 13
+
+-- a word has letters, digits and `_`; a comment goes up to the end of its line
+abbrev pub is_in : Class → ℕ → Bool
+is_in class.Word b = is_ascii_alphanumeric b || b == 95
+is_in class.Digit b = is_ascii_digit b
+is_in class.Comment b = not (b == 10)
+
+-- a reserved word is a keyword, any other a name
+abbrev pub word_kind : List ℕ → Option Keyword → TokenKind
+word_kind spelling (Some keyword) = kind.Keyword keyword
+word_kind spelling None = kind.Name spelling
+
+-- the longest word, of at most 32 bytes
+abbrev pub word : List ℕ → Piece
+word bs =
+    let spelling = take_while (is_in class.Word) bs in
+    if nat_lt 32 (length spelling) then piece.Fault refusal.TooLong else piece.Token (word_kind spelling (keyword_of spelling)) (length spelling)
+
+-- all digits that follow
+abbrev pub number : List ℕ → Piece
+number bs = let digits = take_while (is_in class.Digit) bs in piece.Token (kind.Number digits) (length digits)
+
+abbrev pub text_piece : Closed → Piece
+text_piece (Some (content, taken)) = piece.Token (kind.Text content) (taken + 1)
+text_piece None = piece.Fault refusal.Token
+
+-- a text that is closed on its line
+abbrev pub text : List ℕ → Piece
+text bs = text_piece (closed_text false (drop 1 bs))
+
+abbrev pub sign_piece : Option Sign → Piece
+sign_piece (Some s) = piece.Token (kind.Sign s) (length (spelling s))
+sign_piece None = piece.Fault refusal.Token
+
+-- the longest sign
+abbrev pub sign : List ℕ → Piece
+sign bs = sign_piece (sign_of bs)
+
+-- a piece takes at least a byte, and no more than there are
+abbrev pub IsWithin : Piece → ℕ → Type 0
+IsWithin piece.LineEnd n = Unit {0}
+IsWithin (piece.Gap k) n = (1 ≤ k) × (k ≤ n)
+IsWithin (piece.Token kind k) n = (1 ≤ k) × (k ≤ n)
+IsWithin (piece.Fault fault) n = Unit {0}
+
+-- what bytes begin with, which are at least one
+unfoldable pub piece_of : List ℕ → Piece
+piece_of bs =
+    let b = slice_index bs 0 in
+    if b == 10 then piece.LineEnd
+    else if is_blank b then piece.Gap 1
+    else if b == 35 then piece.Gap (length (take_while (is_in class.Comment) bs))
+    else if b == 34 then text bs
+    else if is_ascii_alphabetic b then word bs
+    else if is_ascii_digit b then number bs
+    else sign bs

@@ -1,0 +1,14 @@
+use Rattle.std.proofs.Common.{◌≡◌, ◌-◌, ◌≤◌, ◌++◌, length, take}
+use Rattle.std.specs.Option.{option_map}
+use Rattle.outside.proofs.says.say.Given as goal
+
+-- the screen has the text as far as it is done
+abbrev pub invariant-loop-done : goal.invariant-loop-done
+invariant-loop-done g l = record {
+  within : l.done ≤ length l.text;
+  text : g.P.Screen.text l.screen ≡ option_map (λ old. old ++ take l.done l.text) (g.P.Screen.text l.fn.screen);
+  faults : g.P.Screen.faults l.screen ≡ g.P.Screen.faults l.fn.screen;
+}
+
+abbrev pub decreases-loop-done : goal.decreases-loop-done
+decreases-loop-done g l = length l.text - l.done

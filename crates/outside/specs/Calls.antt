@@ -1,0 +1,34 @@
+-- The calls of a form in memory, and which of them are to fail.
+use Rattle.std.specs.Prelude.{ℕ, List, Bool, ◌==◌, ◌&&◌, ◌-◌, Result, is_ok, if◌then◌else◌}
+use Rattle.std.specs.List.{list_any}
+use Rattle.outside.specs.declared.memory.calls.Fail.{Fail}
+use Rattle.outside.specs.declared.memory.calls.Calls.{Calls}
+use Rattle.outside.specs.Cause.{raised}
+
+-- the list names this call
+abbrev pub is_named : List Fail → ℕ → ℕ → Bool
+is_named fails begun call = list_any (λ fail. (fail.begun == begun) && (fail.call == call)) fails
+
+-- the list names the next begin
+abbrev pub fails_begin : Calls → Bool
+fails_begin calls = is_named calls.fails calls.begins 0
+
+-- the list names the next call that belongs to the last begin
+abbrev pub fails_call : Calls → Bool
+fails_call calls = is_named calls.fails (calls.begins - 1) calls.calls
+
+-- after a begin
+abbrev pub with_begin : Calls → Calls
+with_begin calls = record { fails = calls.fails; begins = raised calls.begins; calls = 1 }
+
+-- after another call
+abbrev pub with_call : Calls → Calls
+with_call calls = record { fails = calls.fails; begins = calls.begins; calls = raised calls.calls }
+
+-- the list names this call, where calls have one number
+abbrev pub is_numbered : List ℕ → ℕ → Bool
+is_numbered fails call = list_any (λ fail. fail == call) fails
+
+-- the count after a call: one more where it was refused
+abbrev pub counted : {T E : Type 0} → Result T E → ℕ → ℕ
+counted result count = if is_ok result then count else raised count

@@ -1,0 +1,9 @@
+pub mod Cause
+pub mod Told
+pub mod Files
+pub mod Notes
+pub mod Load
+pub mod Save
+pub mod Calls
+pub mod Slots
+pub mod Memory

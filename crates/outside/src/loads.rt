@@ -1,0 +1,152 @@
+ghost use Rattle.std.specs.Prelude.{◌≡◌, ◌≤◌, ◌<◌, ◌+◌, ◌↔◌, ◌++◌, ◌∷◌, [], None, ℕ, Some, length, IsTrue, IfOk, OnOk, OnErr, IfSome, IsErrOf, IsSomeAnd};
+ghost use Rattle.outside.specs.Cause.{Rose, RoseBy};
+ghost use Rattle.outside.specs.Files.{bytes_of};
+ghost use Rattle.outside.specs.Load.{fault_of};
+ghost use Rattle.outside.specs.declared.loads.LoadFault.TheVariants.{Missing, Failed as LoadFailed, Memory};
+
+use crate::{BeginFault, Failed, Source};
+use std::alloc::{AllocError, Global};
+
+// Bytes that are asked for at once.
+const PIECE: u64 = 4096;
+
+/// Why a load gave no bytes.
+#[derive(Clone, Copy, Debug, PartialEq, Eq)]
+pub enum LoadFault {
+    /// The source has no file of that name.
+    Missing,
+    /// The source failed, and counted the failure.
+    Failed,
+    /// The file has more bytes than the limit.
+    TooLong,
+    /// There was no memory for the bytes.
+    Memory,
+}
+
+impl From<BeginFault> for LoadFault {
+    ghost from_gives = { λ fault e. e ≡ fault_of fault };
+
+    fn from(fault: BeginFault) -> Self {
+        match fault {
+            BeginFault::Missing => LoadFault::Missing,
+            BeginFault::Failed => LoadFault::Failed,
+        }
+    }
+}
+
+impl From<Failed> for LoadFault {
+    ghost from_gives = { λ _ e. e ≡ LoadFailed };
+
+    fn from(_: Failed) -> Self {
+        LoadFault::Failed
+    }
+}
+
+impl From<AllocError> for LoadFault {
+    ghost from_gives = { λ _ e. e ≡ Memory };
+
+    fn from(_: AllocError) -> Self {
+        LoadFault::Memory
+    }
+}
+
+/// Loads a file, at most `tries` times: again where the source failed.
+///
+/// Missing and TooLong come as from `load`, and Failed only where the source's count rose by `tries` at
+/// least.
+pub fn load_tried<S: Source>(
+    alloc: Global,
+    source: &mut S,
+    name: &str,
+    limit: u64,
+    tries: u32,
+) -> Result<Vec<u8>, LoadFault>
+    requires tries { 0 < tries }
+    ensures files { S.files source.new ≡ S.files source.old }
+    ensures within { IfOk result (λ bytes. length bytes.items ≤ limit) }
+    ensures bytes { IfSome (S.files source.old) (λ files.
+        IfOk result (λ bytes. bytes_of files name.now ≡ Some bytes.items)) }
+    ensures missing { IfSome (S.files source.old) (λ files.
+        IsErrOf result LoadFault.Missing ↔ (bytes_of files name.now ≡ None)) }
+    ensures too_long { IfSome (S.files source.old) (λ files.
+        IsErrOf result LoadFault.TooLong →
+        IsSomeAnd (bytes_of files name.now) (λ bytes. limit < length bytes)) }
+    ensures later { S.faults source.old ≤ S.faults source.new }
+    ensures failed { IsErrOf result LoadFault.Failed →
+        RoseBy tries (S.faults source.old) (S.faults source.new) }
+{
+    for _turn in 0..tries {
+        match load(alloc, source, name, limit) {
+            Err(LoadFault::Failed) => {}
+            answer => return answer,
+        }
+    }
+    Err(LoadFault::Failed)
+}
+
+/// Loads a file: to its end, or to one byte more than the limit.
+///
+/// Where files are told, a load that goes through gives the bytes of the file of that name. Missing comes
+/// exactly where there is none, and TooLong where it has more bytes than the limit, which no load of it
+/// gives then. Failed comes only where the source's count rose.
+pub fn load<S: Source>(
+    alloc: Global,
+    source: &mut S,
+    name: &str,
+    limit: u64,
+) -> Result<Vec<u8>, LoadFault>
+    ensures files { S.files source.new ≡ S.files source.old }
+    ensures within { IfOk result (λ bytes. length bytes.items ≤ limit) }
+    ensures bytes { IfSome (S.files source.old) (λ files.
+        IfOk result (λ bytes. bytes_of files name.now ≡ Some bytes.items)) }
+    ensures missing { IfSome (S.files source.old) (λ files.
+        IsErrOf result LoadFault.Missing ↔ (bytes_of files name.now ≡ None)) }
+    ensures too_long { IfSome (S.files source.old) (λ files.
+        IsErrOf result LoadFault.TooLong →
+        IsSomeAnd (bytes_of files name.now) (λ bytes. limit < length bytes)) }
+    ensures later { S.faults source.old ≤ S.faults source.new }
+    ensures failed { IsErrOf result LoadFault.Failed →
+        Rose (S.faults source.old) (S.faults source.new) }
+{
+    source.begin(name)?;
+    let mut buf = [0u8; PIECE as usize];
+    let mut bytes = Vec::new(alloc);
+    while bytes.len() as u64 <= limit {
+        let left = limit - bytes.len() as u64;
+        let room = if left < PIECE {
+            left as usize + 1
+        } else {
+            PIECE as usize
+        };
+        if read_piece(source, &mut buf[..room], &mut bytes)? == 0 {
+            return Ok(bytes);
+        }
+    }
+    Err(LoadFault::TooLong)
+}
+
+// Reads a piece into the buffer, and adds it to the bytes.
+fn read_piece<S: Source>(
+    source: &mut S,
+    buf: &mut [u8],
+    bytes: &mut Vec<u8>,
+) -> Result<usize, LoadFault>
+    requires begun { IsTrue (S.begun source.old) }
+    requires room { 0 < length buf.old }
+    ensures files { S.files source.new ≡ S.files source.old }
+    ensures begun { IsTrue (S.begun source.new) }
+    ensures bound { IfOk result (λ n. n ≤ length buf.old) }
+    ensures more { IfOk result (λ n. length bytes.new.items ≡ length bytes.old.items + n) }
+    ensures end { IfSome (S.files source.old) (λ _. IfOk result (λ n. n ≡ 0 → S.rest source.old ≡ [])) }
+    ensures bytes { IfSome (S.files source.old) (λ _. OnOk result
+        (bytes.old.items ++ S.rest source.old ≡ bytes.new.items ++ S.rest source.new)) }
+    ensures later { S.faults source.old ≤ S.faults source.new }
+    ensures failed { IsErrOf result LoadFault.Failed →
+        Rose (S.faults source.old) (S.faults source.new) }
+    ensures not_missing { IsErrOf result LoadFault.Missing → ⊥ }
+    ensures not_long { IsErrOf result LoadFault.TooLong → ⊥ }
+{
+    let n = source.read(buf)?;
+    bytes.extend_from_slice(&buf[..n])?;
+    Ok(n)
+}

@@ -1,0 +1,12 @@
+mod calls;
+mod host;
+mod screen;
+mod shelf;
+mod slots;
+mod source;
+
+pub use calls::Fail;
+pub use host::MemHost;
+pub use screen::MemScreen;
+pub use shelf::MemShelf;
+pub use source::MemSource;

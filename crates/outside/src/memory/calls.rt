@@ -1,0 +1,61 @@
+ghost use Rattle.std.specs.Prelude.{◌≡◌};
+ghost use Rattle.outside.specs.Calls.{fails_begin, fails_call, is_named, with_begin, with_call};
+
+use flume_value::Pile;
+
+/// A call that is to fail: the number of the `begin` that it belongs to, counted from 0, and its own number
+/// since then, that `begin` being call 0.
+#[derive(Clone, Copy, Debug, PartialEq, Eq)]
+pub struct Fail {
+    /// The number of the `begin`.
+    pub begun: u32,
+    /// The number of the call since that `begin`.
+    pub call: u32,
+}
+
+/// The calls that are to fail, and how many there were: of `begin`, and of all since the last one.
+#[derive(Debug, Drop)]
+pub struct Calls {
+    fails: Pile<Fail>,
+    begins: u64,
+    calls: u64,
+}
+
+impl Calls {
+    pub fn new(fails: Pile<Fail>) -> Self
+        ensures { result ≡ record { fails = fails; begins = 0; calls = 0 } }
+    {
+        Calls {
+            fails,
+            begins: 0,
+            calls: 0,
+        }
+    }
+
+    /// Counts a `begin`, and says whether it is to fail.
+    pub fn begin(&mut self) -> bool
+        ensures named { result ≡ fails_begin self.old }
+        ensures counted { self.new ≡ with_begin self.old }
+    {
+        let begun = self.begins;
+        self.begins = begun.saturating_add(1);
+        self.calls = 1;
+        is_named(self.fails.as_slice(), begun, 0)
+    }
+
+    /// Counts another call, and says whether it is to fail.
+    pub fn call(&mut self) -> bool
+        ensures named { result ≡ fails_call self.old }
+        ensures counted { self.new ≡ with_call self.old }
+    {
+        let call = self.calls;
+        self.calls = call.saturating_add(1);
+        is_named(self.fails.as_slice(), self.begins.saturating_sub(1), call)
+    }
+}
+
+fn is_named(fails: &[Fail], begun: u64, call: u64) -> bool
+    ensures { result ≡ is_named fails.now begun call }
+{
+    fails.iter().any(|fail| u64::from(fail.begun) == begun && u64::from(fail.call) == call)
+}

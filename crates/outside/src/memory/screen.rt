@@ -1,0 +1,94 @@
+ghost use Rattle.std.specs.Prelude.{Some, [], ◌≡◌, ◌≤◌, ◌<◌, ◌+◌, ◌++◌, ◌⊎◌, ◌↔◌, length, take, vec_len, vec_capacity, IsTrue, IsErr, IfOk, OnErr};
+ghost use Rattle.outside.specs.Calls.{counted, is_numbered};
+ghost use Rattle.outside.specs.Cause.{HasStrictCause, raised};
+
+use crate::{Failed, Screen};
+use flume_value::Pile;
+use std::alloc::{AllocError, Global};
+
+/// A text in memory, in room that is taken when it is made. A `write` takes its whole piece, or fails
+/// exactly where the list names its number, counted from 0, or the piece doesn't fit.
+#[derive(Debug, Drop)]
+pub struct MemScreen {
+    text: Vec<u8>,
+    room: usize,
+    fails: Pile<u32>,
+    calls: u64,
+    faults: u64,
+    ghost has_room: { room ≤ vec_capacity text },
+}
+
+impl MemScreen {
+    /// An empty screen with room for that many bytes, whose named calls are to fail.
+    pub fn new(alloc: Global, fails: Pile<u32>, max_bytes: u64) -> Result<Self, AllocError>
+        ensures text { IfOk result (λ screen. screen.text.items ≡ []) }
+        ensures room { IfOk result (λ screen. screen.room ≡ max_bytes) }
+        ensures fails { IfOk result (λ screen. screen.fails ≡ fails) }
+        ensures calls { IfOk result (λ screen. screen.calls ≡ 0) }
+        ensures faults { IfOk result (λ screen. screen.faults ≡ 0) }
+    {
+        let room = max_bytes as usize;
+        Ok(MemScreen {
+            text: Vec::with_capacity(alloc, room)?,
+            room,
+            fails,
+            calls: 0,
+            faults: 0,
+        })
+    }
+
+    /// The bytes written.
+    pub fn text(&self) -> &[u8]
+        ensures { result.now ≡ self.now.text.items }
+    {
+        &self.text
+    }
+
+    /// How many calls have failed.
+    pub fn faults(&self) -> u64
+        ensures { result ≡ self.now.faults }
+    {
+        self.faults
+    }
+}
+
+impl Screen for MemScreen {
+    ghost text = { λ s. Some s.text.items };
+
+    ghost faults = { λ s. s.faults };
+
+    fn write(&mut self, piece: &[u8]) -> Result<usize, Failed>
+        ensures ok { IfOk result (λ n.
+            Some self.new.text.items ≡ Some (self.old.text.items ++ take n piece.now)) }
+        ensures err { OnErr result (Some self.new.text.items ≡ Some self.old.text.items) }
+        ensures bound { IfOk result (λ n. n ≤ length piece.now) }
+        ensures some { IfOk result (λ n. 0 < length piece.now → 0 < n) }
+        ensures cause { HasStrictCause self.old.faults self.new.faults result }
+
+        // It takes the whole piece, or fails exactly where its list names the call or the piece doesn't fit.
+        ensures whole { IfOk result (λ n. n ≡ length piece.now) }
+        ensures fails { IsErr result ↔ (IsTrue (is_numbered self.old.fails self.old.calls)
+            ⊎ (self.old.room < vec_len self.old.text + length piece.now)) }
+        ensures counted { self.new.faults ≡ counted result self.old.faults }
+        ensures calls { self.new.calls ≡ raised self.old.calls }
+        ensures kept { (self.new.fails ≡ self.old.fails) × (self.new.room ≡ self.old.room) }
+    {
+        let call = self.calls;
+        self.calls = call.saturating_add(1);
+        let fits = self.text.len() <= self.room && piece.len() <= self.room - self.text.len();
+        if !fits
+            || is_numbered(self.fails.as_slice(), call)
+            || self.text.extend_from_slice(piece).is_err()
+        {
+            self.faults = self.faults.saturating_add(1);
+            return Err(Failed);
+        }
+        Ok(piece.len())
+    }
+}
+
+fn is_numbered(fails: &[u32], call: u64) -> bool
+    ensures { result ≡ is_numbered fails.now call }
+{
+    fails.iter().any(|fail| u64::from(*fail) == call)
+}

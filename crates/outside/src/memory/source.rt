@@ -1,0 +1,151 @@
+ghost use Rattle.std.specs.Prelude.{Some, None, true, ◌≡◌, ◌≢◌, ◌≤◌, ◌<◌, ◌↔◌, ◌++◌, [], is_ok, is_some, IsTrue, IsOk, IsErr, IsErrOf, IfSome, IfOk, OnOk, drop, take, length, MatchOption};
+ghost use Rattle.outside.specs.Calls.{counted, fails_begin, fails_call, with_begin, with_call};
+ghost use Rattle.outside.specs.Cause.{HasCause, HasBeginCause, raised};
+ghost use Rattle.outside.specs.Files.{bytes_of};
+ghost use Rattle.outside.specs.Memory.{bytes_at, rest_of};
+
+use super::calls::Calls;
+use crate::{BeginFault, Fail, Failed, File, Source};
+use flume_value::Pile;
+use std::alloc::AllocError;
+
+/// Files in memory, to read. Its calls fail exactly where its list names them, but for the `begin` of a
+/// name that it lacks, which is missing.
+#[derive(Debug, Drop)]
+pub struct MemSource {
+    files: Pile<File>,
+    calls: Calls,
+    begun: Option<usize>,
+    at: usize,
+    faults: u64,
+}
+
+impl MemSource {
+    /// A source of these files, whose named calls are to fail. It takes no memory.
+    pub fn new(files: Pile<File>, fails: Pile<Fail>) -> Result<Self, AllocError>
+        ensures made { IsOk result }
+        ensures files { IfOk result (λ source. source.files ≡ files) }
+        ensures calls { IfOk result (λ source. source.calls ≡ record { fails = fails; begins = 0; calls = 0 }) }
+        ensures faults { IfOk result (λ source. source.faults ≡ 0) }
+    {
+        Ok(MemSource {
+            files,
+            calls: Calls::new(fails),
+            begun: None,
+            at: 0,
+            faults: 0,
+        })
+    }
+
+    /// The files.
+    pub fn files(&self) -> &[File]
+        ensures { result.now ≡ self.now.files }
+    {
+        self.files.as_slice()
+    }
+
+    /// How many calls have failed.
+    pub fn faults(&self) -> u64
+        ensures { result ≡ self.now.faults }
+    {
+        self.faults
+    }
+}
+
+impl Source for MemSource {
+    ghost files = { λ s. Some s.files };
+
+    ghost begun = { λ s. is_some s.begun };
+
+    ghost rest = { λ s. rest_of s.files s.begun s.at };
+
+    ghost faults = { λ s. s.faults };
+
+    fn begin(&mut self, name: &str) -> Result<(), BeginFault>
+        ensures files { Some self.new.files ≡ Some self.old.files }
+        ensures begun { is_some self.new.begun ≡ is_ok result }
+        ensures missing { IsErrOf result BeginFault.Missing ↔ (bytes_of self.old.files name.now ≡ None) }
+        ensures rest { OnOk result (bytes_of self.old.files name.now ≡
+            Some (rest_of self.new.files self.new.begun self.new.at)) }
+        ensures cause { HasBeginCause self.old.faults self.new.faults result }
+
+        // It fails exactly where its list names the call and the file is there.
+        ensures fails { IsErrOf result BeginFault.Failed ↔
+            (IsTrue (fails_begin self.old.calls) × (bytes_of self.old.files name.now ≢ None)) }
+        ensures raised { IsErrOf result BeginFault.Failed → self.new.faults ≡ raised self.old.faults }
+        ensures calls { self.new.calls ≡ with_begin self.old.calls }
+    {
+        let fails = self.calls.begin();
+        self.begun = None;
+        self.at = 0;
+        let Some(place) = file_place(self.files.as_slice(), name.as_bytes()) else {
+            return Err(BeginFault::Missing);
+        };
+        if fails {
+            self.faults = self.faults.saturating_add(1);
+            return Err(BeginFault::Failed);
+        }
+        self.begun = Some(place);
+        Ok(())
+    }
+
+    fn read(&mut self, buf: &mut [u8]) -> Result<usize, Failed>
+        requires begun { IsTrue (is_some self.old.begun) }
+        requires room { 0 < length buf.old }
+        ensures files { Some self.new.files ≡ Some self.old.files }
+        ensures begun { IsTrue (is_some self.new.begun) }
+        ensures bound { IfOk result (λ n. n ≤ length buf.new) }
+        ensures end { IfOk result (λ n. (n ≡ 0) ↔ (rest_of self.old.files self.old.begun self.old.at ≡ [])) }
+        ensures bytes { IfOk result (λ n. rest_of self.old.files self.old.begun self.old.at ≡
+            take n buf.new ++ rest_of self.new.files self.new.begun self.new.at) }
+        ensures cause { HasCause self.old.faults self.new.faults result }
+
+        // It fails exactly where its list names the call.
+        ensures fails { IsErr result ↔ IsTrue (fails_call self.old.calls) }
+        ensures counted { self.new.faults ≡ counted result self.old.faults }
+        ensures calls { self.new.calls ≡ with_call self.old.calls }
+    {
+        if self.calls.call() {
+            self.faults = self.faults.saturating_add(1);
+            return Err(Failed);
+        }
+        let Some(place) = self.begun else {
+            return Ok(0)
+        };
+        let Some(file) = self.files.as_slice().get(place) else {
+            return Ok(0);
+        };
+        let bytes = file.bytes.as_bytes();
+        if self.at >= bytes.len() {
+            return Ok(0);
+        }
+        let n = copy_front(&bytes[self.at..], buf);
+        self.at += n;
+        Ok(n)
+    }
+}
+
+// The place of the first file of that name.
+fn file_place(files: &[File], name: &[u8]) -> Option<usize>
+    ensures { MatchOption result (bytes_of files.now name.now ≡ None)
+        (λ k. bytes_of files.now name.now ≡ Some (bytes_at files.now k)) }
+{
+    for (k, file) in files.iter().enumerate() {
+        if file.name.as_bytes() == name {
+            return Some(k);
+        }
+    }
+    None
+}
+
+// Copies the front of the bytes that are left to the buffer, as far as it goes.
+fn copy_front(rest: &[u8], buf: &mut [u8]) -> usize
+    ensures front { take result buf.new ≡ take result rest.now }
+    ensures bound { result ≤ length buf.old }
+    ensures bytes { result ≤ length rest.now }
+    ensures some { 0 < length buf.old → 0 < length rest.now → 0 < result }
+{
+    let n = buf.len().min(rest.len());
+    buf[..n].copy_from_slice(&rest[..n]);
+    n
+}
