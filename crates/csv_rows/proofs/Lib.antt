@@ -2,3 +2,5 @@ pub mod IntFacts
 pub mod RecordFacts
 pub mod RowFacts
 pub mod TypeFacts
+pub mod LawFacts
+pub mod Literals

@@ -22,7 +22,7 @@ use Rattle.csv_rows.specs.declared.fault.RowKind.{RowKind}
 use Rattle.csv_rows.specs.declared.fault.RowKind.TheVariants as kind
 
 -- the parts of values that are all right
-first_ok : (r : Result Value RowFault) (rest : Result (List Value) RowFault) (all : List Value) → first_then r rest ≡ Ok all
+pub first_ok : (r : Result Value RowFault) (rest : Result (List Value) RowFault) (all : List Value) → first_then r rest ≡ Ok all
     → (x : Value) × (xs : List Value) × (r ≡ Ok x) × (rest ≡ Ok xs) × (all ≡ x ∷ xs)
 first_ok (Ok x) (Ok xs) all e = (x, xs, refl, refl, cc)
 first_ok (Ok x) (Err f) all e = cc e

@@ -1,5 +1,5 @@
 -- The text of a bag of values, as csv writes it.
-use Rattle.std.specs.Prelude.{◌≡◌, false, List, [], ◌∷◌, ◌++◌, ℕ, if◌then◌else◌, codes, map, unwrap_or}
+use Rattle.std.specs.Prelude.{◌≡◌, false, List, [], ◌++◌, ℕ, if◌then◌else◌, codes, map, unwrap_or}
 use Rattle.std.specs.Fmt.{signed_decimal}
 use Rattle.std.specs.List.{flat_map}
 use Rattle.csv.specs.Writing.{default_writer, fields_written, has_written, row_text, with_has_headers, writer_setup}

@@ -9,11 +9,13 @@
 
 mod fault;
 mod int_cell;
+mod laws;
 mod read;
 mod records;
 mod write;
 
 pub use fault::{RowFault, RowKind};
+pub use laws::{csv_law, rows_law};
 pub use read::rows;
 pub use write::text;
 

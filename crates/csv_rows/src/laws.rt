@@ -1,0 +1,31 @@
+// Laws of rows and texts.
+
+ghost use Rattle.std.specs.Prelude.{◌≡◌, ◌+◌, ◌∷◌, [], List, Ok, codes, length, ℕ};
+ghost use Rattle.csv.specs.Writing.{row_text};
+ghost use Rattle.flume_types.specs.declared.types.Ty.{Ty};
+ghost use Rattle.flume_value.specs.declared.value.Value.{Value};
+ghost use Rattle.csv_rows.specs.Records.{records_of};
+ghost use Rattle.csv_rows.specs.Rows.{rows_of};
+ghost use Rattle.csv_rows.specs.Text.{plain_writer};
+
+/// A file has one row for each record after its header.
+pub fn rows_law()
+    ensures { (bytes : List ℕ) (ty : Ty) (rows : List Value) →
+        rows_of bytes ty ≡ Ok rows → length (records_of bytes) ≡ length rows + 1 }
+{}
+
+/// What `csv` makes of texts of which the rule of rows says nothing itself.
+pub fn csv_law()
+    // an empty file has no record, not even a header
+    ensures empty { records_of [] ≡ [] }
+    // blank lines give no record, and the end of the file needs no line's end
+    ensures blank { records_of (codes "\n\r\nk,v\n\n1,2") ≡
+        (codes "k" ∷ codes "v" ∷ []) ∷ (codes "1" ∷ codes "2" ∷ []) ∷ [] }
+    // a byte-order mark at the start is dropped
+    ensures mark { records_of (0xef ∷ 0xbb ∷ 0xbf ∷ codes "k\n") ≡ (codes "k" ∷ []) ∷ [] }
+    // quotes, doubled quotes, and line ends inside quotes
+    ensures quotes { records_of (codes "\"a,\"\"b\"\"\n\",c\r\n") ≡
+        (codes "a,\"b\"\n" ∷ codes "c" ∷ []) ∷ [] }
+    // a row that is one empty field
+    ensures one_empty { row_text plain_writer ([] ∷ []) ≡ codes "\"\"\n" }
+{}
