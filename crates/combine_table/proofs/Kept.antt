@@ -6,9 +6,9 @@ use Rattle.std.proofs.lemmas.List.Sorted.{length_permutation}
 use Rattle.flume_value.specs.declared.value.Value.{Value}
 use Rattle.flume_value.specs.Order.{value_cmp}
 use Rattle.flume_value.specs.Bag.{put, bag_of}
-use Rattle.flume_value.proofs.BagLemmas.{NotBelow, Rises, Rises-bag_of, sorted_from, bag_of-settled, bag_of-either_order, put-IsPermutation, Each-weaker, NotBelow-trans}
+use Rattle.flume_value.proofs.EachLemmas.{Rises-take, Rises-drop}
+use Rattle.flume_value.proofs.BagLemmas.{Each, NotBelow, Rises, Rises-bag_of, sorted_from, bag_of-settled, bag_of-either_order, put-IsPermutation, Each-weaker, NotBelow-trans}
 use Rattle.combine_table.specs.Combinations.{least, greatest}
-use Rattle.combine_table.proofs.Ascending.{put-first, Rises-drop, Rises-take}
 
 -- ---- whatever is kept of a bag
 
@@ -58,6 +58,11 @@ pub least-IsKept : IsKept (least 1)
 least-IsKept = record { put = λ v b r. least-put v b; rises = Rises-take 1; twice = least-twice }
 
 -- ---- the n greatest
+
+-- a value that no member is below is put first
+put-first : (v : Value) (b : List Value) → Each (NotBelow v) b → put v b ≡ v ∷ b
+put-first v [] e = refl
+put-first v (x ∷ xs) e = ap (λ t. cond t (x ∷ put v xs) (v ∷ x ∷ xs)) e.0
 
 pub greatest-cons : (n : ℕ) (x : Value) (xs : List Value) → n ≤ length xs → greatest n (x ∷ xs) ≡ greatest n xs
 greatest-cons n x xs h = let e : length (x ∷ xs) - n ≡ suc (length xs - n) = omega arith in ap (λ k. drop k (x ∷ xs)) e
