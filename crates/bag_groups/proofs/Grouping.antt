@@ -84,7 +84,7 @@ module _ (left run : List Value) (k : Value) (pairs : Each IsPair (left ++ run))
       ap (map (group_in (left ++ run))) keys_of-run
       ∙ map-append (group_in (left ++ run)) (keys_of left) (k ∷ [])
       ∙ ap (λ l. l ++ group_in (left ++ run) k ∷ []) (map_same (group_in (left ++ run)) (group_in left) (keys_of left)
-          (Each-both (λ j. j ≡ k → ⊥) (λ j. j ≡ k → ⊥) (λ j. group_in (left ++ run) j ≡ group_in left j) (λ j h _. ap (λ vs. pair j (value.List vs)) (values_of-left j h)) (keys_of left) other_keys other_keys))
+      (Each-both (λ j. j ≡ k → ⊥) (λ j. j ≡ k → ⊥) (λ j. group_in (left ++ run) j ≡ group_in left j) (λ j h _. ap (λ vs. pair j (value.List vs)) (values_of-left j h)) (keys_of left) other_keys other_keys))
       ∙ ap (λ vs. grouped left ++ pair k (value.List vs) ∷ []) values_of-run
 
 -- ---- the groups rise
@@ -109,7 +109,7 @@ Strict-distinct : (xs : List Value) → Rises xs → Strict (distinct xs)
 Strict-distinct [] r = tt
 Strict-distinct (x ∷ xs) r = (
   Each-both (NotBelow x) (λ y. others x y ≡ true) (λ y. value_cmp y x ≡ Greater) (λ y up h. less_from x y up (not_true (value_eq y x) h))
-    (filter (others x) (distinct xs)) (Each-filter (NotBelow x) (others x) (distinct xs) (Each-distinct (NotBelow x) xs r.0)) (Each-filter_passes (others x) (distinct xs)),
+      (filter (others x) (distinct xs)) (Each-filter (NotBelow x) (others x) (distinct xs) (Each-distinct (NotBelow x) xs r.0)) (Each-filter_passes (others x) (distinct xs)),
   Strict-filter (others x) (distinct xs) (Strict-distinct xs r.1),
 )
 
@@ -117,7 +117,7 @@ Rises-groups : (F : Value → Value) (ks : List Value) → Strict ks → Rises (
 Rises-groups F [] s = tt
 Rises-groups F (x ∷ xs) s = (
   Each-map (NotBelow (pair x (F x))) (λ k. pair k (F k)) xs
-    (Each-both (λ y. value_cmp y x ≡ Greater) (λ y. value_cmp y x ≡ Greater) (λ y. NotBelow (pair x (F x)) (pair y (F y))) (λ y h _. pairs-NotBelow x (F x) y (F y) h) xs s.0 s.0),
+      (Each-both (λ y. value_cmp y x ≡ Greater) (λ y. value_cmp y x ≡ Greater) (λ y. NotBelow (pair x (F x)) (pair y (F y))) (λ y h _. pairs-NotBelow x (F x) y (F y) h) xs s.0 s.0),
   Rises-groups F xs s.1,
 )
 

@@ -54,7 +54,7 @@ pub Rises-values : (k : Value) (ps : List Value) → Each IsPair ps → Each (λ
 Rises-values k [] e f r = tt
 Rises-values k (p ∷ ps) e f r = (
   Each-map (NotBelow (value_of p)) value_of ps
-    (Each-both (λ q. key_of q ≡ k) (λ q. IsPair q × NotBelow p q) (λ q. NotBelow (value_of p) (value_of q))
+      (Each-both (λ q. key_of q ≡ k) (λ q. IsPair q × NotBelow p q) (λ q. NotBelow (value_of p) (value_of q))
       (λ q same h. values_rise p q e.0 h.0 (f.0 ∙ sym same) h.1)
       ps f.1 (Each-both IsPair (NotBelow p) (λ q. IsPair q × NotBelow p q) (λ q h up. (h, up)) ps e.1 r.0)),
   Rises-values k ps e.1 f.1 r.1,
@@ -90,6 +90,6 @@ less_from a b up apart =
 pub pairs-NotBelow : (k v j w : Value) → value_cmp j k ≡ Greater → NotBelow (pair k v) (pair j w)
 pairs-NotBelow k v j w h =
     ap is_lt (value_cmp-pairs (pair j w) (pair k v) (IsPair-pair j w) (IsPair-pair k v)
-      ∙ ap (λ a. ordering_then (value_cmp a (key_of (pair k v))) (ordering_then (value_cmp (value_of (pair j w)) (value_of (pair k v))) Equal)) (key_of-pair j w)
-      ∙ ap (λ a. ordering_then (value_cmp j a) (ordering_then (value_cmp (value_of (pair j w)) (value_of (pair k v))) Equal)) (key_of-pair k v)
-      ∙ ap (λ o. ordering_then o (ordering_then (value_cmp (value_of (pair j w)) (value_of (pair k v))) Equal)) h)
+    ∙ ap (λ a. ordering_then (value_cmp a (key_of (pair k v))) (ordering_then (value_cmp (value_of (pair j w)) (value_of (pair k v))) Equal)) (key_of-pair j w)
+    ∙ ap (λ a. ordering_then (value_cmp j a) (ordering_then (value_cmp (value_of (pair j w)) (value_of (pair k v))) Equal)) (key_of-pair k v)
+    ∙ ap (λ o. ordering_then o (ordering_then (value_cmp (value_of (pair j w)) (value_of (pair k v))) Equal)) h)

@@ -86,13 +86,13 @@ greatest-put n v (x ∷ xs) r =
     ⊎_elim
     (λ few. greatest-put_few n v (x ∷ xs) (omega arith))
     (λ (many : n ≤ length xs).
-      let ahead : (t : Bool) → is_lt (value_cmp x v) ≡ t → greatest n (cond t (x ∷ put v xs) (v ∷ x ∷ xs)) ≡ greatest n (put v xs) = λ t e. elim t as (λ t. is_lt (value_cmp x v) ≡ t → greatest n (cond t (x ∷ put v xs) (v ∷ x ∷ xs)) ≡ greatest n (put v xs)) [
-        | true ↦ λ e. greatest-cons n x (put v xs) (omega (arith, length_permutation (v ∷ xs) (put v xs) (put-IsPermutation v xs)))
-        | false ↦ λ e.
-            greatest-cons n v (x ∷ xs) (omega arith) ∙ greatest-cons n x xs many
-            ∙ sym (ap (greatest n) (put-first v xs (Each-weaker (NotBelow x) (NotBelow v) (λ y h. NotBelow-trans v x y e h) xs r.0)) ∙ greatest-cons n v xs many)
-      ] e in
-      ahead (is_lt (value_cmp x v)) refl ∙ greatest-put n v xs r.1 ∙ sym (ap (λ b. greatest n (put v b)) (greatest-cons n x xs many)))
+    let ahead : (t : Bool) → is_lt (value_cmp x v) ≡ t → greatest n (cond t (x ∷ put v xs) (v ∷ x ∷ xs)) ≡ greatest n (put v xs) = λ t e. elim t as (λ t. is_lt (value_cmp x v) ≡ t → greatest n (cond t (x ∷ put v xs) (v ∷ x ∷ xs)) ≡ greatest n (put v xs)) [
+      | true ↦ λ e. greatest-cons n x (put v xs) (omega (arith, length_permutation (v ∷ xs) (put v xs) (put-IsPermutation v xs)))
+      | false ↦ λ e.
+          greatest-cons n v (x ∷ xs) (omega arith) ∙ greatest-cons n x xs many
+          ∙ sym (ap (greatest n) (put-first v xs (Each-weaker (NotBelow x) (NotBelow v) (λ y h. NotBelow-trans v x y e h) xs r.0)) ∙ greatest-cons n v xs many)
+    ] e in
+    ahead (is_lt (value_cmp x v)) refl ∙ greatest-put n v xs r.1 ∙ sym (ap (λ b. greatest n (put v b)) (greatest-cons n x xs many)))
     (cases_lt (length xs) n)
 
 pub greatest-IsKept : (n : ℕ) → IsKept (greatest n)

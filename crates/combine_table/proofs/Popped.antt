@@ -1,5 +1,5 @@
 -- The last of two ascending lists' members.
-use Rattle.std.proofs.Common.{◌≡◌, ℕ, ◌+◌, ◌-◌, ◌<◌, ◌≤◌, true, false, List, [], ◌∷◌, ◌++◌, length, Option, None, Some, IsSome, ◌↔◌, refl, sym, ap, ◌∙◌, subst, zero, suc, arith, append_assoc, get_or}
+use Rattle.std.proofs.Common.{◌≡◌, ℕ, ◌-◌, ◌<◌, true, List, [], ◌∷◌, ◌++◌, length, Option, None, Some, IsSome, ◌↔◌, refl, sym, ap, ◌∙◌, subst, suc, arith, append_assoc}
 use Rattle.std.specs.Prelude.{slice_get}
 use Rattle.std.specs.Option.{option_to_list}
 use Rattle.std.specs.Ordering.{is_lt}
@@ -7,7 +7,7 @@ use Rattle.std.specs.List.Sorted.{IsSorted}
 use Rattle.std.proofs.lemmas.List.Sorted.{IsPermutation-append_left}
 use Rattle.flume_value.specs.declared.value.Value.{Value}
 use Rattle.flume_value.specs.Order.{value_cmp}
-use Rattle.flume_value.specs.Bag.{put, bag_of}
+use Rattle.flume_value.specs.Bag.{bag_of}
 use Rattle.flume_value.proofs.OrderLemmas.{value_cmp-same}
 use Rattle.flume_value.proofs.EachLemmas.{Each-append, Each-at, Each-left, Rises-left}
 use Rattle.flume_value.proofs.BagLemmas.{Each, NotBelow, Rises, Each-put, Each-weaker, NotBelow-trans, ranks, rises_from, sorted_from, Rises-bag_of, bag_of-settled, bag_of-sorted, bag_of-either_order, IsPermutation-bag_of}
@@ -40,8 +40,8 @@ UpTo-last (x ∷ xs) y r = (Each-last (NotBelow x) xs y r.0, UpTo-last xs y r.1)
 pub bag_of-push_greatest : (xs : List Value) (y : Value) → UpTo y xs → bag_of (xs ++ y ∷ []) ≡ bag_of xs ++ y ∷ []
 bag_of-push_greatest xs y u =
     sym (bag_of-sorted (xs ++ y ∷ []) (bag_of xs ++ y ∷ [])
-      (IsPermutation-append_left (y ∷ []) xs (bag_of xs) (IsPermutation-bag_of xs))
-      (sorted_from (bag_of xs ++ y ∷ []) (Rises-push (bag_of xs) y (Rises-bag_of xs) (Each-bag_of (λ x. NotBelow x y) xs u))))
+    (IsPermutation-append_left (y ∷ []) xs (bag_of xs) (IsPermutation-bag_of xs))
+    (sorted_from (bag_of xs ++ y ∷ []) (Rises-push (bag_of xs) y (Rises-bag_of xs) (Each-bag_of (λ x. NotBelow x y) xs u))))
 
 UpTo-higher : (x y : Value) (xs : List Value) → NotBelow x y → UpTo x xs → UpTo y xs
 UpTo-higher x y xs h u = Each-weaker (λ z. NotBelow z x) (λ z. NotBelow z y) (λ z k. NotBelow-trans z x y k h) xs u

@@ -47,7 +47,10 @@ fn sums_past_64_bits_and_back_in_any_order(rt: HostRuntime) -> Result<(), Fail> 
         assert_eq!(rt; finish(Comb::Sum, three), Ok(Value::Int(big)));
     }
     let above = merge_sums(alloc, lift_sum(alloc, big)?, lift_sum(alloc, 1)?)?;
-    assert_eq!(rt; finish(Comb::Sum, above), Err(CallFault::Trap(Kind::Overflow)));
+    assert_eq!(rt;
+        finish(Comb::Sum, above),
+        Err(CallFault::Trap(Kind::Overflow))
+    );
     Ok(())
 }
 
@@ -58,12 +61,18 @@ fn combines_bags(rt: HostRuntime) -> Result<(), Fail> {
     let top_two = Value::List(list(alloc, 3, 3)?);
     assert_eq!(rt; combine(alloc, Comb::Top(2), &bag), Ok(top_two));
     let all = vec![in alloc; Value::Int(1), Value::Int(3), Value::Int(3)]?;
-    assert_eq!(rt; combine(alloc, Comb::Top(5), &bag), Ok(Value::List(Pile::from_vec(all))));
+    assert_eq!(rt;
+        combine(alloc, Comb::Top(5), &bag),
+        Ok(Value::List(Pile::from_vec(all)))
+    );
     assert_eq!(rt; combine(alloc, Comb::Count, &bag), Ok(Value::Int(3)));
     assert_eq!(rt; combine(alloc, Comb::Min, &bag), Ok(Value::Int(1)));
     assert_eq!(rt; combine(alloc, Comb::Max, &bag), Ok(Value::Int(3)));
     let large = list(alloc, i64::MAX, 1)?;
-    assert_eq!(rt; combine(alloc, Comb::Sum, &large), Err(CallFault::Trap(Kind::Overflow)));
+    assert_eq!(rt;
+        combine(alloc, Comb::Sum, &large),
+        Err(CallFault::Trap(Kind::Overflow))
+    );
     Ok(())
 }
 
@@ -71,7 +80,10 @@ fn combines_bags(rt: HostRuntime) -> Result<(), Fail> {
 fn combines_none(rt: HostRuntime) -> Result<(), Fail> {
     let alloc = rt.alloc();
     let none: Items = Pile::new(alloc);
-    assert_eq!(rt; combine(alloc, Comb::Min, &none), Err(CallFault::Trap(Kind::BadIndex)));
+    assert_eq!(rt;
+        combine(alloc, Comb::Min, &none),
+        Err(CallFault::Trap(Kind::BadIndex))
+    );
     assert_eq!(rt; combine(alloc, Comb::Sum, &none), Ok(Value::Int(0)));
     assert_eq!(rt; combine(alloc, Comb::All, &none), Ok(Value::Bool(true)));
     assert_eq!(rt; combine(alloc, Comb::Any, &none), Ok(Value::Bool(false)));
