@@ -1,5 +1,5 @@
 -- The cells of a value of a flat type are_filled the type's columns.
-use Rattle.std.proofs.Common.{◌≡◌, ℕ, Bool, true, false, ◌&&◌, List, [], ◌∷◌, ◌++◌, Option, Some, None, option_map, unwrap_or, refl, sym, ap, ◌∙◌, subst}
+use Rattle.std.proofs.Common.{◌≡◌, ℕ, true, ◌&&◌, List, [], ◌∷◌, ◌++◌, Option, Some, None, option_map, unwrap_or, refl, sym, ap, ◌∙◌, subst}
 use Rattle.std.specs.List.{flat_map}
 use Rattle.std.proofs.lemmas.List.Concat.{flat_map-cons}
 use Rattle.flume_value.specs.declared.value.Value.{Value, Value-F, out-Value}
@@ -10,8 +10,9 @@ use Rattle.flume_types.specs.declared.column.Column.{Column}
 use Rattle.flume_types.specs.declared.column.ColumnKind.{ColumnKind}
 use Rattle.flume_types.specs.declared.column.ColumnKind.TheVariants as kind
 use Rattle.flume_types.specs.Typing.{each_has, layer_has, has_type}
-use Rattle.flume_types.specs.Columns.{cell_kind, cell_column, joined, all_columns, cells_under, field_columns, record_columns, flat_columns, columns_of, input_at, input_columns_of}
+use Rattle.flume_types.specs.Columns.{cell_kind, cell_column, joined, cells_under, field_columns, record_columns, flat_columns, columns_of, input_at, input_columns_of}
 use Rattle.flume_types.specs.Cells.{field_cells, row_cells, cells_of, is_cell, are_filled}
+use Rattle.flume_types.proofs.SameLemmas.{both_true}
 use Rattle.flume_types.proofs.TypingLemmas.{has_type-step}
 
 some_is : {A : Type 0} (x y : A) → Some x ≡ Some y → x ≡ y
@@ -103,11 +104,6 @@ pub columns_of-input : (t : Ty) (columns : List Column) → input_columns_of t �
 columns_of-input t columns e = flat_input (out-Ty t) columns e
 
 -- ---- flat types
-
-both_true : (a b : Bool) → a && b ≡ true → (a ≡ true) × (b ≡ true)
-both_true true true e = (refl, refl)
-both_true true false e = cc
-both_true false b e = cc
 
 are_filled-append : (own more : List Column) (xs ys : List Value) → are_filled own xs ≡ true → are_filled more ys ≡ true → are_filled (own ++ more) (xs ++ ys) ≡ true
 are_filled-append [] more [] ys e f = f
