@@ -1,13 +1,13 @@
 -- The order of pairs: by key, then by value.
-use Rattle.std.proofs.Common.{◌≡◌, Bool, true, false, List, [], ◌∷◌, map, refl, sym, ap, ◌∙◌, subst}
+use Rattle.std.proofs.Common.{◌≡◌, true, false, List, [], ◌∷◌, map, refl, sym, ap, ◌∙◌, subst}
 use Rattle.std.specs.declared.cmp.Ordering.{Ordering}
 use Rattle.std.specs.declared.cmp.Ordering.TheVariants.{Less, Equal, Greater}
-use Rattle.std.specs.Ordering.{is_lt, is_eq, ordering_then, ordering_reverse}
+use Rattle.std.specs.Ordering.{is_lt, is_eq, ordering_then}
 use Rattle.flume_value.specs.declared.value.Value.{Value, Value-F, out-Value}
 use Rattle.flume_value.specs.declared.value.Value.TheVariants as value
 use Rattle.flume_value.specs.Order.{value_cmp, layer_cmp}
 use Rattle.flume_value.specs.Equality.{value_eq}
-use Rattle.flume_value.proofs.OrderLemmas.{value_cmp-step, value_cmp-same, value_cmp-total, value_cmp-IsAntisymmetric}
+use Rattle.flume_value.proofs.OrderLemmas.{value_cmp-step, value_cmp-same, value_cmp-IsAntisymmetric}
 use Rattle.flume_value.proofs.BagLemmas.{Each, NotBelow, Rises}
 use Rattle.bag_groups.specs.Pairs.{pair, IsPairAt, IsPair, key_at, key_of, value_at, value_of}
 use Rattle.bag_groups.proofs.Each.{Each-map, Each-both}

@@ -1,5 +1,5 @@
 -- The groups of a bag of pairs: for each key the bag of its values.
-use Rattle.std.specs.Prelude.{Bool, List, [], ◌∷◌, map, filter, not}
+use Rattle.std.specs.Prelude.{List, [], ◌∷◌, map, filter, not}
 use Rattle.flume_value.specs.declared.value.Value.{Value}
 use Rattle.flume_value.specs.declared.value.Value.TheVariants as value
 use Rattle.flume_value.specs.Bag.{bag_of}
