@@ -1,5 +1,5 @@
 -- The least and the greatest of a list's values are the ends of its bag.
-use Rattle.std.proofs.Common.{◌≡◌, ℕ, ◌+◌, ◌<◌, ◌≤◌, true, false, List, [], ◌∷◌, length, get_or, Option, None, Some, refl, sym, ap, ◌∙◌, subst, zero, suc, arith}
+use Rattle.std.proofs.Common.{◌≡◌, ℕ, ◌<◌, false, List, [], ◌∷◌, length, get_or, Option, None, Some, refl, sym, ap, ◌∙◌, subst, zero, suc, arith}
 use Rattle.std.specs.Prelude.{MatchOption, All, Contains}
 use Rattle.std.specs.Option.{option_copied, option_to_list}
 use Rattle.std.specs.Ordering.{is_lt, is_gt, ordering_reverse}

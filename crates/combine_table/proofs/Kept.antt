@@ -6,9 +6,9 @@ use Rattle.std.proofs.lemmas.List.Sorted.{length_permutation}
 use Rattle.flume_value.specs.declared.value.Value.{Value}
 use Rattle.flume_value.specs.Order.{value_cmp}
 use Rattle.flume_value.specs.Bag.{put, bag_of}
-use Rattle.flume_value.proofs.BagLemmas.{NotBelow, Rises, Rises-bag_of, sorted_from, bag_of-settled, bag_of-either_order, put-IsPermutation, Each-weaker, NotBelow-trans}
+use Rattle.flume_value.proofs.EachLemmas.{Rises-take, Rises-drop}
+use Rattle.flume_value.proofs.BagLemmas.{Each, NotBelow, Rises, Rises-bag_of, sorted_from, bag_of-settled, bag_of-either_order, put-IsPermutation, Each-weaker, NotBelow-trans}
 use Rattle.combine_table.specs.Combinations.{least, greatest}
-use Rattle.combine_table.proofs.Ascending.{put-first, Rises-drop, Rises-take}
 
 -- ---- whatever is kept of a bag
 
@@ -59,6 +59,11 @@ least-IsKept = record { put = λ v b r. least-put v b; rises = Rises-take 1; twi
 
 -- ---- the n greatest
 
+-- a value that no member is below is put first
+put-first : (v : Value) (b : List Value) → Each (NotBelow v) b → put v b ≡ v ∷ b
+put-first v [] e = refl
+put-first v (x ∷ xs) e = ap (λ t. cond t (x ∷ put v xs) (v ∷ x ∷ xs)) e.0
+
 pub greatest-cons : (n : ℕ) (x : Value) (xs : List Value) → n ≤ length xs → greatest n (x ∷ xs) ≡ greatest n xs
 greatest-cons n x xs h = let e : length (x ∷ xs) - n ≡ suc (length xs - n) = omega arith in ap (λ k. drop k (x ∷ xs)) e
 
@@ -81,13 +86,13 @@ greatest-put n v (x ∷ xs) r =
     ⊎_elim
     (λ few. greatest-put_few n v (x ∷ xs) (omega arith))
     (λ (many : n ≤ length xs).
-      let ahead : (t : Bool) → is_lt (value_cmp x v) ≡ t → greatest n (cond t (x ∷ put v xs) (v ∷ x ∷ xs)) ≡ greatest n (put v xs) = λ t e. elim t as (λ t. is_lt (value_cmp x v) ≡ t → greatest n (cond t (x ∷ put v xs) (v ∷ x ∷ xs)) ≡ greatest n (put v xs)) [
-        | true ↦ λ e. greatest-cons n x (put v xs) (omega (arith, length_permutation (v ∷ xs) (put v xs) (put-IsPermutation v xs)))
-        | false ↦ λ e.
-            greatest-cons n v (x ∷ xs) (omega arith) ∙ greatest-cons n x xs many
-            ∙ sym (ap (greatest n) (put-first v xs (Each-weaker (NotBelow x) (NotBelow v) (λ y h. NotBelow-trans v x y e h) xs r.0)) ∙ greatest-cons n v xs many)
-      ] e in
-      ahead (is_lt (value_cmp x v)) refl ∙ greatest-put n v xs r.1 ∙ sym (ap (λ b. greatest n (put v b)) (greatest-cons n x xs many)))
+    let ahead : (t : Bool) → is_lt (value_cmp x v) ≡ t → greatest n (cond t (x ∷ put v xs) (v ∷ x ∷ xs)) ≡ greatest n (put v xs) = λ t e. elim t as (λ t. is_lt (value_cmp x v) ≡ t → greatest n (cond t (x ∷ put v xs) (v ∷ x ∷ xs)) ≡ greatest n (put v xs)) [
+      | true ↦ λ e. greatest-cons n x (put v xs) (omega (arith, length_permutation (v ∷ xs) (put v xs) (put-IsPermutation v xs)))
+      | false ↦ λ e.
+          greatest-cons n v (x ∷ xs) (omega arith) ∙ greatest-cons n x xs many
+          ∙ sym (ap (greatest n) (put-first v xs (Each-weaker (NotBelow x) (NotBelow v) (λ y h. NotBelow-trans v x y e h) xs r.0)) ∙ greatest-cons n v xs many)
+    ] e in
+    ahead (is_lt (value_cmp x v)) refl ∙ greatest-put n v xs r.1 ∙ sym (ap (λ b. greatest n (put v b)) (greatest-cons n x xs many)))
     (cases_lt (length xs) n)
 
 pub greatest-IsKept : (n : ℕ) → IsKept (greatest n)

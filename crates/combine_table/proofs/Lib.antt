@@ -1,4 +1,3 @@
-pub mod Ascending
 pub mod Kept
 pub mod Totals
 pub mod Parts

@@ -1,13 +1,10 @@
 -- Accumulators of parts, merged and finished.
-use Rattle.std.proofs.Common.{◌≡◌, ℕ, ◌+◌, ◌≤◌, ℤ, pos, ◌+ℤ◌, Bool, true, false, ◌&&◌, ◌||◌, List, [], ◌∷◌, ◌++◌, length, refl, sym, ap, ◌∙◌, subst, take, arith, append_assoc, length-append}
-use Rattle.std.specs.Int.{int_wrap, w128}
-use Rattle.std.specs.Int.RustNames.{FitsSigned}
+use Rattle.std.proofs.Common.{◌≡◌, ℤ, pos, ◌+ℤ◌, Bool, ◌&&◌, ◌||◌, List, ◌++◌, length, refl, sym, ap, ◌∙◌, arith, length-append}
+use Rattle.std.specs.Int.{w128}
 use Rattle.std.specs.List.{list_all, list_any}
-use Rattle.std.proofs.Math.Bool.{and_comm}
-use Rattle.std.proofs.Math.IntN.{+ℤ_assoc, +ℤ_comm, +ℤ_idl}
-use Rattle.std.proofs.lemmas.Int.{int_wrap-add_left, int_wrap-add_right, SFits-int_wrap, int_wrap_fits}
+use Rattle.std.proofs.lemmas.Int.{int_wrap-add_left, int_wrap-add_right}
 use Rattle.std.proofs.lemmas.List.Folds.{list_all-append, list_any-append}
-use Rattle.flume_value.specs.declared.value.Value.{Value, Value-F, out-Value}
+use Rattle.flume_value.specs.declared.value.Value.{Value}
 use Rattle.flume_value.specs.declared.value.Value.TheVariants as value
 use Rattle.flume_value.specs.Bag.{bag_of}
 use Rattle.flume_value.proofs.BagLemmas.{length-bag_of}
@@ -15,7 +12,7 @@ use Rattle.combine_table.specs.declared.comb.Comb.{Comb}
 use Rattle.combine_table.specs.declared.comb.Comb.TheVariants as by
 use Rattle.combine_table.specs.Contents.{int_at, bool_at, wide_at, list_at, int_of, bool_of, wide_of, list_of}
 use Rattle.combine_table.specs.Combinations.{total, wrapped, least, greatest, combined, int_or_overflow, first_or_bad_index}
-use Rattle.combine_table.specs.Accumulators.{accumulator, HasShapeAt, HasShape, merged, finished}
+use Rattle.combine_table.specs.Accumulators.{accumulator, merged, finished}
 use Rattle.combine_table.proofs.Kept.{IsKept, kept-append, least-IsKept, greatest-IsKept}
 use Rattle.combine_table.proofs.Totals.{total-bag_of, list_all-bag_of, list_any-bag_of, total-append}
 

@@ -1,5 +1,5 @@
 -- The last of two ascending lists' members.
-use Rattle.std.proofs.Common.{◌≡◌, ℕ, ◌+◌, ◌-◌, ◌<◌, ◌≤◌, true, false, List, [], ◌∷◌, ◌++◌, length, Option, None, Some, IsSome, ◌↔◌, refl, sym, ap, ◌∙◌, subst, zero, suc, arith, append_assoc, get_or}
+use Rattle.std.proofs.Common.{◌≡◌, ℕ, ◌-◌, ◌<◌, true, List, [], ◌∷◌, ◌++◌, length, Option, None, Some, IsSome, ◌↔◌, refl, sym, ap, ◌∙◌, subst, suc, arith, append_assoc}
 use Rattle.std.specs.Prelude.{slice_get}
 use Rattle.std.specs.Option.{option_to_list}
 use Rattle.std.specs.Ordering.{is_lt}
@@ -7,21 +7,14 @@ use Rattle.std.specs.List.Sorted.{IsSorted}
 use Rattle.std.proofs.lemmas.List.Sorted.{IsPermutation-append_left}
 use Rattle.flume_value.specs.declared.value.Value.{Value}
 use Rattle.flume_value.specs.Order.{value_cmp}
-use Rattle.flume_value.specs.Bag.{put, bag_of}
+use Rattle.flume_value.specs.Bag.{bag_of}
 use Rattle.flume_value.proofs.OrderLemmas.{value_cmp-same}
+use Rattle.flume_value.proofs.EachLemmas.{Each-append, Each-at, Each-left, Rises-left}
 use Rattle.flume_value.proofs.BagLemmas.{Each, NotBelow, Rises, Each-put, Each-weaker, NotBelow-trans, ranks, rises_from, sorted_from, Rises-bag_of, bag_of-settled, bag_of-sorted, bag_of-either_order, IsPermutation-bag_of}
 
 -- no member is above y
 abbrev pub UpTo : Value → List Value → Type 0
 UpTo y = Each (λ x. NotBelow x y)
-
-Each-append : (P : Value → Type 0) (xs ys : List Value) → Each P xs → Each P ys → Each P (xs ++ ys)
-Each-append P [] ys e f = f
-Each-append P (x ∷ xs) ys e f = (e.0, Each-append P xs ys e.1 f)
-
-Each-left : (P : Value → Type 0) (xs ys : List Value) → Each P (xs ++ ys) → Each P xs
-Each-left P [] ys e = tt
-Each-left P (x ∷ xs) ys e = (e.0, Each-left P xs ys e.1)
 
 Each-last : (P : Value → Type 0) (xs : List Value) (y : Value) → Each P (xs ++ y ∷ []) → P y
 Each-last P [] y e = e.0
@@ -30,10 +23,6 @@ Each-last P (x ∷ xs) y e = Each-last P xs y e.1
 Each-bag_of : (P : Value → Type 0) (xs : List Value) → Each P xs → Each P (bag_of xs)
 Each-bag_of P [] e = tt
 Each-bag_of P (x ∷ xs) e = Each-put P x (bag_of xs) e.0 (Each-bag_of P xs e.1)
-
-Rises-left : (xs ys : List Value) → Rises (xs ++ ys) → Rises xs
-Rises-left [] ys r = tt
-Rises-left (x ∷ xs) ys r = (Each-left (NotBelow x) xs ys r.0, Rises-left xs ys r.1)
 
 Rises-push : (xs : List Value) (y : Value) → Rises xs → UpTo y xs → Rises (xs ++ y ∷ [])
 Rises-push [] y r u = (tt, tt)
@@ -51,8 +40,8 @@ UpTo-last (x ∷ xs) y r = (Each-last (NotBelow x) xs y r.0, UpTo-last xs y r.1)
 pub bag_of-push_greatest : (xs : List Value) (y : Value) → UpTo y xs → bag_of (xs ++ y ∷ []) ≡ bag_of xs ++ y ∷ []
 bag_of-push_greatest xs y u =
     sym (bag_of-sorted (xs ++ y ∷ []) (bag_of xs ++ y ∷ [])
-      (IsPermutation-append_left (y ∷ []) xs (bag_of xs) (IsPermutation-bag_of xs))
-      (sorted_from (bag_of xs ++ y ∷ []) (Rises-push (bag_of xs) y (Rises-bag_of xs) (Each-bag_of (λ x. NotBelow x y) xs u))))
+    (IsPermutation-append_left (y ∷ []) xs (bag_of xs) (IsPermutation-bag_of xs))
+    (sorted_from (bag_of xs ++ y ∷ []) (Rises-push (bag_of xs) y (Rises-bag_of xs) (Each-bag_of (λ x. NotBelow x y) xs u))))
 
 UpTo-higher : (x y : Value) (xs : List Value) → NotBelow x y → UpTo x xs → UpTo y xs
 UpTo-higher x y xs h u = Each-weaker (λ z. NotBelow z x) (λ z. NotBelow z y) (λ z k. NotBelow-trans z x y k h) xs u
@@ -68,11 +57,6 @@ popped_left xs ys x y u r h =
     bag_of-either_order ys (xs ++ x ∷ []) ∙ popped_right ys xs y x u r h ∙ ap (λ b. b ++ x ∷ []) (bag_of-either_order xs ys)
 
 -- ---- as the calls of `last` and `pop` tell it: d is what `last` saw of xs, ys and r what `pop` left and gave
-
-Each-at : (P : Value → Type 0) (xs : List Value) (k : ℕ) (x : Value) → Each P xs → Some x ≡ slice_get xs k → P x
-Each-at P [] k x e h = cc
-Each-at P (y ∷ ys) zero x e h = let same : y ≡ x = cc in subst P same e.0
-Each-at P (y ∷ ys) (suc k) x e h = Each-at P ys k x e.1 h
 
 UpTo-at_last : (xs : List Value) (x : Value) → Rises xs → Some x ≡ slice_get xs (length xs - 1) → UpTo x xs
 UpTo-at_last [] x r h = tt

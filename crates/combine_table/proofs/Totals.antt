@@ -1,5 +1,5 @@
 -- What is computed of a bag's members one by one, in any order.
-use Rattle.std.proofs.Common.{◌≡◌, ◌<◌, ◌+◌, ◌%◌, ◌^◌, take, get_or, ℕ, ℤ, pos, ◌+ℤ◌, Bool, true, false, cond, ◌&&◌, ◌||◌, List, [], ◌∷◌, ◌++◌, length, refl, sym, ap, ◌∙◌}
+use Rattle.std.proofs.Common.{◌≡◌, ◌<◌, ◌+◌, ◌%◌, ◌^◌, take, get_or, ℕ, ℤ, ◌+ℤ◌, Bool, true, false, cond, ◌&&◌, ◌||◌, List, [], ◌∷◌, ◌++◌, length, refl, sym, ap, ◌∙◌}
 use Rattle.std.specs.Ordering.{is_lt}
 use Rattle.std.specs.List.{list_all, list_any}
 use Rattle.std.proofs.Math.IntN.{+ℤ_assoc, +ℤ_comm, +ℤ_idl, +ℤ_idr}
@@ -12,7 +12,7 @@ use Rattle.flume_value.specs.declared.value.Value.{Value}
 use Rattle.flume_value.specs.Order.{value_cmp}
 use Rattle.flume_value.specs.Bag.{put, bag_of}
 use Rattle.flume_value.proofs.BagLemmas.{length-bag_of}
-use Rattle.combine_table.specs.Contents.{int_of, bool_of}
+use Rattle.combine_table.specs.Contents.{int_of}
 use Rattle.combine_table.specs.Combinations.{total, wrapped}
 
 -- F takes in one member after the other, in any order

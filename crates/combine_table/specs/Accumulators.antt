@@ -1,5 +1,5 @@
 -- The value that stands for a bag while it is combined in parts.
-use Rattle.std.specs.Prelude.{ℕ, ◌≤◌, pos, ◌+ℤ◌, ◌≡◌, ◌&&◌, ◌||◌, List, ◌++◌, length, Result, Ok}
+use Rattle.std.specs.Prelude.{◌≤◌, pos, ◌+ℤ◌, ◌&&◌, ◌||◌, List, ◌++◌, length, Result, Ok}
 use Rattle.std.specs.List.{list_all, list_any}
 use Rattle.std.specs.List.Sorted.{IsSorted}
 use Rattle.std.specs.Int.{w128}
@@ -24,6 +24,7 @@ accumulator by.All b = value.Bool (list_all bool_of b)
 accumulator by.Any b = value.Bool (list_any bool_of b)
 accumulator (by.Top n) b = value.List (greatest n b)
 
+-- wide numbers, lists of at most one, bools, or ascending lists of at most n
 abbrev pub HasShapeAt : Comb → Value-F Value → Type 0
 HasShapeAt by.Sum (Value-F.Wide n) = FitsSigned w128 n
 HasShapeAt by.Count (Value-F.Wide n) = FitsSigned w128 n
@@ -34,7 +35,7 @@ HasShapeAt by.Any (Value-F.Bool b) = Unit {0}
 HasShapeAt (by.Top n) (Value-F.List vs) = IsSorted value_cmp vs × (length vs ≤ n)
 HasShapeAt _ _ = ⊥
 
--- the values that can stand for a bag
+-- whether the value can stand for a bag
 abbrev pub HasShape : Comb → Value → Type 0
 HasShape c a = HasShapeAt c (out-Value a)
 

@@ -19,7 +19,7 @@ Suits by.All v = IsBool v
 Suits by.Any v = IsBool v
 Suits _ v = Unit {0}
 
--- the sum of the bag's ints
+-- the sum of a bag's ints
 abbrev pub total : List Value → ℤ
 total [] = pos 0
 total (v ∷ vs) = int_of v +ℤ total vs
@@ -28,6 +28,7 @@ total (v ∷ vs) = int_of v +ℤ total vs
 abbrev pub wrapped : ℤ → ℤ
 wrapped n = int_wrap w128 n
 
+-- whether 64 bits with a sign hold the number
 abbrev pub is_int : ℤ → Bool
 is_int (pos n) = nat_lt n (2 ^ 63)
 is_int (negsuc n) = nat_lt n (2 ^ 63)
@@ -36,11 +37,11 @@ is_int (negsuc n) = nat_lt n (2 ^ 63)
 abbrev pub int_or_overflow : ℤ → Result Value Kind
 int_or_overflow n = if is_int n then Ok (value.Int n) else Err Overflow
 
--- the first n members of the bag, or all where there are fewer
+-- the first n members of a bag, all where there are fewer
 abbrev pub least : ℕ → List Value → List Value
 least n b = take n b
 
--- the last n members of the bag, or all where there are fewer
+-- the last n members of a bag, all where there are fewer
 abbrev pub greatest : ℕ → List Value → List Value
 greatest n b = drop (length b - n) b
 
@@ -49,6 +50,7 @@ abbrev pub first_or_bad_index : List Value → Result Value Kind
 first_or_bad_index [] = Err BadIndex
 first_or_bad_index (v ∷ vs) = Ok v
 
+-- what the values come to, or why they trap
 abbrev pub combined : Comb → List Value → Result Value Kind
 combined by.Sum b = int_or_overflow (wrapped (total b))
 combined by.Count b = int_or_overflow (wrapped (pos (length b)))

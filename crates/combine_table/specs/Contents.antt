@@ -1,4 +1,4 @@
--- What a value holds, where it is of one variant; a default where it is not.
+-- What a value holds, where it is of the variant that is asked for.
 use Rattle.std.specs.Prelude.{ℤ, pos, Bool, false, List, []}
 use Rattle.flume_value.specs.declared.value.Value.{Value, Value-F, out-Value}
 
@@ -6,6 +6,7 @@ abbrev pub IsIntAt : Value-F Value → Type 0
 IsIntAt (Value-F.Int n) = Unit {0}
 IsIntAt _ = ⊥
 
+-- the value is an int
 abbrev pub IsInt : Value → Type 0
 IsInt v = IsIntAt (out-Value v)
 
@@ -13,6 +14,7 @@ abbrev pub IsBoolAt : Value-F Value → Type 0
 IsBoolAt (Value-F.Bool b) = Unit {0}
 IsBoolAt _ = ⊥
 
+-- the value is a bool
 abbrev pub IsBool : Value → Type 0
 IsBool v = IsBoolAt (out-Value v)
 
@@ -20,6 +22,7 @@ abbrev pub IsWideAt : Value-F Value → Type 0
 IsWideAt (Value-F.Wide n) = Unit {0}
 IsWideAt _ = ⊥
 
+-- the value is a wide number
 abbrev pub IsWide : Value → Type 0
 IsWide v = IsWideAt (out-Value v)
 
@@ -27,6 +30,7 @@ abbrev pub IsListAt : Value-F Value → Type 0
 IsListAt (Value-F.List vs) = Unit {0}
 IsListAt _ = ⊥
 
+-- the value is a list
 abbrev pub IsList : Value → Type 0
 IsList v = IsListAt (out-Value v)
 
@@ -34,6 +38,7 @@ abbrev pub int_at : Value-F Value → ℤ
 int_at (Value-F.Int n) = n
 int_at _ = pos 0
 
+-- the number of an int, or 0
 abbrev pub int_of : Value → ℤ
 int_of v = int_at (out-Value v)
 
@@ -41,6 +46,7 @@ abbrev pub bool_at : Value-F Value → Bool
 bool_at (Value-F.Bool b) = b
 bool_at _ = false
 
+-- the truth of a bool, or false
 abbrev pub bool_of : Value → Bool
 bool_of v = bool_at (out-Value v)
 
@@ -48,6 +54,7 @@ abbrev pub wide_at : Value-F Value → ℤ
 wide_at (Value-F.Wide n) = n
 wide_at _ = pos 0
 
+-- the number of a wide number, or 0
 abbrev pub wide_of : Value → ℤ
 wide_of v = wide_at (out-Value v)
 
@@ -55,5 +62,6 @@ abbrev pub list_at : Value-F Value → List Value
 list_at (Value-F.List vs) = vs
 list_at _ = []
 
+-- the members of a list, or none
 abbrev pub list_of : Value → List Value
 list_of v = list_at (out-Value v)

@@ -1,18 +1,20 @@
 /// How the values of a group are combined.
+///
+/// The values are a bag: their order does not count, and each counts as often as it occurs.
 #[derive(Clone, Copy, PartialEq, Eq, Debug)]
 pub enum Comb {
-    /// The sum of ints.
+    /// The sum of ints, wrapped to 128 bits with a sign; it overflows where that is not an int.
     Sum,
-    /// How many values there are.
+    /// How many values there are, by the same rule.
     Count,
-    /// The least value.
+    /// The least value; where there is none the index is bad.
     Min,
-    /// The greatest value.
+    /// The greatest value; where there is none the index is bad.
     Max,
-    /// Whether all bools are true.
+    /// Whether all bools are true, as where there is none.
     All,
-    /// Whether some bool is true.
+    /// Whether some bool is true, as it is not where there is none.
     Any,
-    /// So many of the greatest values.
+    /// The list of so many of the greatest values, ascending; of all where there are fewer.
     Top(u32),
 }

@@ -4,6 +4,7 @@ ghost use Rattle.combine_table.specs.Combinations.{wrapped};
 
 use flume_value::{Pile, Value};
 
+/// The number of an int.
 pub(crate) fn int(value: &Value) -> i64
     requires { IsInt value.now }
     ensures { result ≡ int_of value.now }
@@ -14,6 +15,7 @@ pub(crate) fn int(value: &Value) -> i64
     }
 }
 
+/// Whether a bool is true.
 pub(crate) fn truth(value: &Value) -> bool
     requires { IsBool value.now }
     ensures { result ≡ bool_of value.now }
@@ -24,6 +26,7 @@ pub(crate) fn truth(value: &Value) -> bool
     }
 }
 
+/// The number of a wide number.
 pub(crate) fn wide(value: &Value) -> i128
     requires { IsWide value.now }
     ensures { result ≡ wide_of value.now }
@@ -44,6 +47,7 @@ pub(crate) fn wide_sum(left: &Value, right: &Value) -> i128
     wide(left).wrapping_add(wide(right))
 }
 
+/// The members of a list.
 pub(crate) fn into_list(value: Value) -> Vec<Value>
     requires { IsList value }
     ensures { result.items ≡ list_of value }
@@ -54,6 +58,7 @@ pub(crate) fn into_list(value: Value) -> Vec<Value>
     }
 }
 
+/// The list of these members.
 pub(crate) fn list(values: Vec<Value>) -> Value
     ensures { result ≡ Value.List values.items }
 {

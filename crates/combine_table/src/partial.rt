@@ -9,7 +9,8 @@ use crate::outcome::{first_or_bad_index, int_or_overflow};
 use flume_value::{CallFault, Pile, Value};
 use std::alloc::{AllocError, Global};
 
-/// The accumulator that stands for the empty bag.
+/// The accumulator that stands for the empty bag. The one error is want of memory, here and in
+/// `lift` and `merge`.
 pub fn zero(alloc: Global, comb: Comb) -> Result<Value, AllocError>
     ensures { IfOk result (λ v. v ≡ accumulator comb []) }
 {
@@ -39,7 +40,8 @@ pub fn lift(alloc: Global, comb: Comb, value: &Value) -> Result<Value, AllocErro
     }
 }
 
-/// The accumulator that stands for the sum of the bags that the two stand for.
+/// The accumulator that stands for the sum of the bags that the two stand for. It moves their
+/// members, and goes once over those that it keeps.
 pub fn merge(alloc: Global, comb: Comb, left: Value, right: Value) -> Result<Value, AllocError>
     requires left { HasShape comb left }
     requires right { HasShape comb right }
@@ -51,16 +53,12 @@ pub fn merge(alloc: Global, comb: Comb, left: Value, right: Value) -> Result<Val
         Comb::Max => Ok(list(greater(into_list(left), into_list(right)))),
         Comb::All => Ok(Value::Bool(truth(&left) && truth(&right))),
         Comb::Any => Ok(Value::Bool(truth(&left) || truth(&right))),
-        Comb::Top(n) => Ok(list(greatest_of_both(
-            alloc,
-            n,
-            into_list(left),
-            into_list(right),
-        )?)),
+        Comb::Top(n) => Ok(list(greatest_of_both(alloc, n, into_list(left), into_list(right))?)),
     }
 }
 
-/// What the bag combines to that the accumulator stands for.
+/// What the bag comes to that the accumulator stands for: a value, or a trap where the bag's
+/// combination traps. It takes no memory.
 pub fn finish(comb: Comb, accumulator: Value) -> Result<Value, CallFault>
     requires { HasShape comb accumulator }
     ensures { result ≡ answer (finished comb accumulator) }

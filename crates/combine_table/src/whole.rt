@@ -11,7 +11,8 @@ use crate::outcome::int_or_overflow;
 use flume_value::{CallFault, Items, Kind, Pile, Value};
 use std::alloc::{AllocError, Global};
 
-/// What the combiner makes of these values as a bag.
+/// What the combiner makes of these values as a bag: a value, or a trap exactly where their
+/// combination traps; want of memory is the other fault.
 #[tactic(auto, using(crate::proofs::Totals::bags))]
 pub fn combine(alloc: Global, comb: Comb, values: &Items) -> Result<Value, CallFault>
     requires { All (Suits comb) values.now }
@@ -84,7 +85,7 @@ fn copy_or_bad_index(alloc: Global, value: Option<&Value>) -> Result<Value, Call
     }
 }
 
-/// The n greatest, ascending.
+/// The n greatest, ascending. It sorts references, and copies no value but those.
 fn top(alloc: Global, n: u32, values: &[Value]) -> Result<Vec<Value>, AllocError>
     ensures { IfOk result (λ kept. kept.items ≡ greatest_of n (bag_of values.now)) }
 {

@@ -1,0 +1,24 @@
+-- The groups of a bag of pairs: for each key the bag of its values.
+use Rattle.std.specs.Prelude.{List, [], ◌∷◌, map, filter, not}
+use Rattle.flume_value.specs.declared.value.Value.{Value}
+use Rattle.flume_value.specs.declared.value.Value.TheVariants as value
+use Rattle.flume_value.specs.Bag.{bag_of}
+use Rattle.flume_value.specs.Equality.{value_eq}
+use Rattle.bag_groups.specs.Pairs.{pair, key_of, value_of}
+
+-- each member once, where it stands first
+abbrev pub distinct : List Value → List Value
+distinct [] = []
+distinct (v ∷ vs) = v ∷ filter (λ w. not (value_eq w v)) (distinct vs)
+
+-- the keys of the pairs, each once, ascending
+abbrev pub keys_of : List Value → List Value
+keys_of pairs = distinct (bag_of (map key_of pairs))
+
+-- the values of a key, ascending, as often as the pairs have them
+abbrev pub values_of : Value → List Value → List Value
+values_of k pairs = bag_of (map value_of (filter (λ p. value_eq (key_of p) k) pairs))
+
+-- one pair for each key: the key and the list of its values
+abbrev pub grouped : List Value → List Value
+grouped pairs = map (λ k. pair k (value.List (values_of k pairs))) (keys_of pairs)

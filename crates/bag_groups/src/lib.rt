@@ -1,0 +1,19 @@
+//! Groups of a bag of pairs.
+//!
+//! A pair is the record of a key and a value, a member of a table. `grouped` says what its
+//! groups are: for each key one pair of it and the list of its values, as often as the bag
+//! has them. Keys rise, and so do the values of a key, so the groups are a bag's members in
+//! order, and depend on nothing but the bag of the pairs (`groups_law`).
+//!
+//! `group` sorts the pairs once, by key and then by value, as their order is, and moves each
+//! value into its list.
+#![tactic(auto)]
+
+mod groups;
+mod laws;
+mod pairs;
+#[cfg(test)]
+mod tests;
+
+pub use groups::group;
+pub use laws::groups_law;
