@@ -15,7 +15,8 @@ use atomic_table::Table;
 use std::alloc::{AllocError, Global};
 use std::marker::Model;
 
-/// Tasks whose attempts are drawn, and the word of each task, which the first attempt to be committed wins.
+/// Tasks whose attempts are drawn, and the word of each task, which the first attempt to be
+/// committed wins.
 /// Contracts see the name by which its passes know it, and its size.
 #[derive(Drop)]
 pub struct Board {
@@ -41,7 +42,8 @@ impl Model for Board {
 }
 
 impl Board {
-    /// A board of so many tasks, each with so many tries, and as many passes as `crew`, which have done nothing.
+    /// A board of so many tasks, each with so many tries, and as many passes as `crew`, which have
+    /// done nothing.
     pub fn new(
         alloc: Global,
         tasks: u32,
@@ -69,8 +71,8 @@ impl Board {
         Ok((board, passes))
     }
 
-    /// Draws the next attempt, by one step. There is none where each attempt of each task has been drawn. A pass that was
-    /// told so is told so again, by no step.
+    /// Draws the next attempt, by one step. There is none where each attempt of each task has been
+    /// drawn. A pass that was told so is told so again, by no step.
     pub fn draw(&self, pass: &mut Pass) -> Option<Draw>
         requires { pass.old.board ≡ self.now }
         ensures same { pass.new.board ≡ pass.old.board }
@@ -117,8 +119,8 @@ impl Board {
         Some(attempt as u32)
     }
 
-    /// Claims the draw's task for its attempt, by one step, and spends the draw. It is lost where another attempt has won
-    /// the task.
+    /// Claims the draw's task for its attempt, by one step, and spends the draw. It is lost where
+    /// another attempt has won the task.
     pub fn commit(&self, pass: &mut Pass, draw: Draw) -> Result<Won, Lost>
         requires board { pass.old.board ≡ self.now }
         requires claimable { IsOpenDraw self.now pass.old.state draw }
