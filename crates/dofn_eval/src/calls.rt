@@ -1,4 +1,4 @@
-ghost use Rattle.std.specs.Prelude.{◌≡◌, [], ◌∷◌, IfOk, IfErr};
+ghost use Rattle.std.specs.Prelude.{◌≡◌, IfOk, IfErr};
 ghost use Rattle.dofn_eval.specs.Typed.{Has, EachHas};
 ghost use Rattle.dofn_eval.specs.Outcome.{Gives, IsFault};
 ghost use Rattle.dofn_eval.specs.Run.{means};

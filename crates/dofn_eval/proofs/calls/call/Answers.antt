@@ -1,4 +1,4 @@
-use Rattle.std.proofs.Common.{◌≡◌, [], ◌∷◌, sym, ap, ◌∙◌}
+use Rattle.std.proofs.Common.{[], ◌∷◌, sym, ap, ◌∙◌}
 use Rattle.dofn_eval.specs.Outcome.{Gives}
 use Rattle.dofn_eval.specs.Run.{run}
 use Rattle.dofn_eval.proofs.Sound.{typed_call}
