@@ -4,7 +4,6 @@ use Rattle.std.proofs.lemmas.List.{drop-drop}
 use Rattle.std.proofs.Common.{length-drop}
 use Rattle.flume_tokens.specs.declared.fault.Refusal.{Refusal}
 use Rattle.flume_tokens.specs.declared.fault.TokenFault.TheVariants.{Refused}
-use Rattle.flume_tokens.specs.declared.piece.Piece.{Piece}
 use Rattle.flume_tokens.specs.declared.piece.Piece.TheVariants as piece
 use Rattle.flume_tokens.specs.declared.token.Token.{Token}
 use Rattle.flume_tokens.specs.declared.token.TokenKind.{TokenKind}

@@ -1,8 +1,7 @@
 -- What a script begins with: a token, bytes that part tokens, or a fault.
-use Rattle.std.specs.Prelude.{ℕ, ◌+◌, ◌≤◌, length, nat_lt, List, [], drop, Bool, not, ◌==◌, ◌||◌, if◌then◌else◌, slice_index, take_while, Option, Some, None}
+use Rattle.std.specs.Prelude.{ℕ, ◌+◌, ◌≤◌, length, nat_lt, List, drop, Bool, not, ◌==◌, ◌||◌, if◌then◌else◌, slice_index, take_while, Option, Some, None}
 use Rattle.std.specs.Prelude.{false}
 use Rattle.std.specs.Char.{is_ascii_digit, is_ascii_alphabetic, is_ascii_alphanumeric}
-use Rattle.std.specs.List.{prefix_len}
 use Rattle.flume_tokens.specs.declared.fault.Refusal.TheVariants as refusal
 use Rattle.flume_tokens.specs.declared.keyword.Keyword.{Keyword}
 use Rattle.flume_tokens.specs.declared.sign.Sign.{Sign}

@@ -22,6 +22,5 @@ mod token;
 pub use cutting::tokens;
 pub use fault::{Refusal, TokenFault};
 pub use keyword::{Keyword, keyword_law, keyword_of};
-pub use piece::{Piece, piece_of};
-pub use sign::{Sign, sign_of};
+pub use sign::Sign;
 pub use token::{Token, TokenKind, TokenList};

@@ -1,3 +1,5 @@
+ghost use Rattle.std.specs.Prelude.{◌≡◌, ◌↔◌, IsTrue};
+
 use crate::keyword::Keyword;
 use crate::sign::Sign;
 use flume_value::{Pile, Str};
@@ -13,6 +15,20 @@ pub enum TokenKind {
     /// a text's content, its escapes replaced
     Text(Str),
     Sign(Sign),
+}
+
+impl TokenKind {
+    pub fn is_keyword(&self, keyword: Keyword) -> bool
+        ensures { IsTrue result ↔ (self.now ≡ TokenKind.Keyword keyword) }
+    {
+        matches!(self, TokenKind::Keyword(k) if *k == keyword)
+    }
+
+    pub fn is_sign(&self, sign: Sign) -> bool
+        ensures { IsTrue result ↔ (self.now ≡ TokenKind.Sign sign) }
+    {
+        matches!(self, TokenKind::Sign(s) if *s == sign)
+    }
 }
 
 /// A token, and the line on which it begins: 1 plus the number of line ends before it.

@@ -1,1 +1,4 @@
+pub mod CellLemmas
+pub mod DepthLemmas
+pub mod SameLemmas
 pub mod TypingLemmas

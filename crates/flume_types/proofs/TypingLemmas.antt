@@ -1,5 +1,5 @@
 -- The equations of `has_type`.
-use Rattle.std.proofs.Common.{◌≡◌, ◌≢◌, ℕ, Bool, true, false, ◌&&◌, List, [], ◌∷◌, length, map, arith, refl, sym, ap, ◌∙◌}
+use Rattle.std.proofs.Common.{◌≡◌, ◌≢◌, Bool, true, false, ◌&&◌, List, [], ◌∷◌, length, map, arith, refl, ap, ◌∙◌}
 use Rattle.std.specs.List.{list_all}
 use Rattle.flume_value.specs.declared.value.Value.{Value, Value-F, out-Value, fold_out-Value, map-Value}
 use Rattle.flume_value.specs.declared.value.Value.TheVariants as variant

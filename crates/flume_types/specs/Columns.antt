@@ -37,9 +37,13 @@ abbrev pub field_columns : List ℕ → Ty-F Ty → Option (List Column)
 field_columns name (Ty-F.Rec fields) = cells_under (name ++ codes ".") fields
 field_columns name t = cell_column name t
 
--- the columns of a record of such fields, or the column `value` of a type that has cells
+-- the columns of a record of such fields
+abbrev pub record_columns : List (Field Ty) → Option (List Column)
+record_columns fields = all_columns (λ field. field_columns field.name (out-Ty field.ty)) fields
+
+-- the columns of such a record, or the column `value` of a type that has cells
 abbrev pub flat_columns : Ty-F Ty → Option (List Column)
-flat_columns (Ty-F.Rec fields) = all_columns (λ field. field_columns field.name (out-Ty field.ty)) fields
+flat_columns (Ty-F.Rec fields) = record_columns fields
 flat_columns t = cell_column (codes "value") t
 
 -- the columns of a flat type; no other type has any

@@ -1,5 +1,6 @@
 ghost use Rattle.std.specs.Prelude.{◌≡◌, ◌+◌, ◌-◌, ◌^◌, min};
-ghost use Rattle.flume_types.specs.Depth.{depth_of, deepest as deepest_of};
+ghost use Rattle.flume_types.specs.Depth.{depth_of, layer_depth, deepest as deepest_of};
+ghost use Rattle.flume_types.specs.declared.types.Ty.{Ty as Ty_, out-Ty};
 
 use crate::types::{Field, Ty};
 
@@ -35,3 +36,8 @@ fn one_more(depth: u32) -> u32
 {
     depth.saturating_add(1)
 }
+
+/// The depth of a type, from that of its parts.
+pub fn depth_law()
+    ensures one_level { (t : Ty_) → depth_of t ≡ layer_depth depth_of (out-Ty t) }
+{}

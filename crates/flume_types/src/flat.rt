@@ -1,10 +1,14 @@
-ghost use Rattle.std.specs.Prelude.{◌≡◌, ◌≢◌, ◌++◌, Some, None, IfOk, IfErr, OnOk, codes};
-ghost use Rattle.flume_types.specs.Columns.{joined, columns_of, input_columns_of, cell_kind as kind_of, cell_column, cells_under, field_columns, all_columns};
-ghost use Rattle.flume_types.specs.declared.types.Ty.{out-Ty};
+ghost use Rattle.std.specs.Prelude.{◌≡◌, ◌≢◌, ◌++◌, IsTrue, List, Some, None, IfOk, IfErr, OnOk, codes};
+ghost use Rattle.flume_types.specs.Columns.{joined, columns_of, input_columns_of, cell_kind as kind_of, cell_column, cells_under, field_columns, record_columns};
+ghost use Rattle.flume_value.specs.declared.value.Value.{Value as Value_};
+ghost use Rattle.flume_types.specs.Cells.{cells_of, are_filled};
+ghost use Rattle.flume_types.specs.Typing.{has_type};
+ghost use Rattle.flume_types.specs.declared.types.Ty.{Ty as Ty_, out-Ty};
+ghost use Rattle.flume_types.specs.declared.column.Column.{Column as Column_};
 
 use crate::column::{Column, ColumnFault, ColumnKind, Columns};
 use crate::types::{Field, Ty};
-use flume_value::{Pile, Str};
+use flume_value::{Pile, Str, Value};
 use std::alloc::{AllocError, Global};
 
 /// The columns of a flat type: of int, bool and text the one column `value`, and of a record
@@ -13,7 +17,8 @@ use std::alloc::{AllocError, Global};
 /// exactly where the type is none of this.
 pub fn columns(alloc: Global, ty: &Ty) -> Result<Columns, ColumnFault>
     ensures flat { IfOk result (λ columns. columns_of ty.now ≡ Some columns) }
-    ensures not_flat { IfErr result (λ e. e ≢ ColumnFault.Memory → columns_of ty.now ≡ None) }
+    ensures not_flat { IfErr result (λ e. e ≢ ColumnFault.Memory →
+        columns_of ty.now ≡ None) }
 {
     let mut columns = Vec::new(alloc);
     match ty {
@@ -27,7 +32,8 @@ pub fn columns(alloc: Global, ty: &Ty) -> Result<Columns, ColumnFault>
 /// `NotFlat` comes exactly where the type is another one.
 pub fn input_columns(alloc: Global, ty: &Ty) -> Result<Columns, ColumnFault>
     ensures flat { IfOk result (λ columns. input_columns_of ty.now ≡ Some columns) }
-    ensures not_flat { IfErr result (λ e. e ≢ ColumnFault.Memory → input_columns_of ty.now ≡ None) }
+    ensures not_flat { IfErr result (λ e. e ≢ ColumnFault.Memory →
+        input_columns_of ty.now ≡ None) }
 {
     let mut columns = Vec::new(alloc);
     match ty {
@@ -37,13 +43,29 @@ pub fn input_columns(alloc: Global, ty: &Ty) -> Result<Columns, ColumnFault>
     Ok(Pile::from_vec(columns))
 }
 
+/// The cells of a value of a flat type fill the type's columns: as many, and each of its
+/// column's kind. An input's type is flat, with the same columns, and its values are just the
+/// records whose fields fill them.
+pub fn columns_law()
+    ensures cells { (v : Value_) (t : Ty_) (columns : List Column_) →
+        columns_of t ≡ Some columns → IsTrue (has_type v t) →
+        IsTrue (are_filled columns (cells_of v)) }
+    ensures input { (t : Ty_) (columns : List Column_) →
+        input_columns_of t ≡ Some columns → columns_of t ≡ Some columns }
+    ensures records { (t : Ty_) (columns : List Column_) (cells : List Value_) →
+        input_columns_of t ≡ Some columns →
+        has_type (Value.Rec cells) t ≡ are_filled columns cells }
+{}
+
 fn add_fields(
     alloc: Global,
     fields: &[Field<Ty>],
     columns: &mut Vec<Column>,
 ) -> Result<(), ColumnFault>
-    ensures flat { OnOk result (joined (Some columns.old.items) (all_columns (λ f. field_columns f.name (out-Ty f.ty)) fields.now) ≡ Some columns.new.items) }
-    ensures not_flat { IfErr result (λ e. e ≢ ColumnFault.Memory → all_columns (λ f. field_columns f.name (out-Ty f.ty)) fields.now ≡ None) }
+    ensures flat { OnOk result (
+        joined (Some columns.old.items) (record_columns fields.now) ≡ Some columns.new.items) }
+    ensures not_flat { IfErr result (λ e. e ≢ ColumnFault.Memory →
+        record_columns fields.now ≡ None) }
 {
     for field in fields {
         add_field(alloc, field, columns)?;
@@ -51,13 +73,11 @@ fn add_fields(
     Ok(())
 }
 
-fn add_field(
-    alloc: Global,
-    field: &Field<Ty>,
-    columns: &mut Vec<Column>,
-) -> Result<(), ColumnFault>
-    ensures flat { OnOk result (joined (Some columns.old.items) (field_columns field.now.name (out-Ty field.now.ty)) ≡ Some columns.new.items) }
-    ensures not_flat { IfErr result (λ e. e ≢ ColumnFault.Memory → field_columns field.now.name (out-Ty field.now.ty) ≡ None) }
+fn add_field(alloc: Global, field: &Field<Ty>, columns: &mut Vec<Column>) -> Result<(), ColumnFault>
+    ensures flat { OnOk result (
+        joined (Some columns.old.items) (field_columns field.now.name (out-Ty field.now.ty)) ≡ Some columns.new.items) }
+    ensures not_flat { IfErr result (λ e. e ≢ ColumnFault.Memory →
+        field_columns field.now.name (out-Ty field.now.ty) ≡ None) }
 {
     match &field.ty {
         Ty::Rec(fields) => {
@@ -75,8 +95,10 @@ fn add_cells(
     fields: &[Field<Ty>],
     columns: &mut Vec<Column>,
 ) -> Result<(), ColumnFault>
-    ensures flat { OnOk result (joined (Some columns.old.items) (cells_under prefix.now fields.now) ≡ Some columns.new.items) }
-    ensures not_flat { IfErr result (λ e. e ≢ ColumnFault.Memory → cells_under prefix.now fields.now ≡ None) }
+    ensures flat { OnOk result (
+        joined (Some columns.old.items) (cells_under prefix.now fields.now) ≡ Some columns.new.items) }
+    ensures not_flat { IfErr result (λ e. e ≢ ColumnFault.Memory →
+        cells_under prefix.now fields.now ≡ None) }
 {
     for field in fields {
         let name = prefixed(alloc, prefix, &field.name)?;
@@ -86,8 +108,10 @@ fn add_cells(
 }
 
 fn add_cell(name: Str, ty: &Ty, columns: &mut Vec<Column>) -> Result<(), ColumnFault>
-    ensures flat { OnOk result (joined (Some columns.old.items) (cell_column name (out-Ty ty.now)) ≡ Some columns.new.items) }
-    ensures not_flat { IfErr result (λ e. e ≢ ColumnFault.Memory → cell_column name (out-Ty ty.now) ≡ None) }
+    ensures flat { OnOk result (
+        joined (Some columns.old.items) (cell_column name (out-Ty ty.now)) ≡ Some columns.new.items) }
+    ensures not_flat { IfErr result (λ e. e ≢ ColumnFault.Memory →
+        cell_column name (out-Ty ty.now) ≡ None) }
 {
     match cell_kind(ty) {
         Some(kind) => {

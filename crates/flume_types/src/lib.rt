@@ -21,8 +21,8 @@ mod typing;
 
 pub use column::{Column, ColumnFault, ColumnKind, Columns};
 pub use copies::{copy, copy_fields};
-pub use deep::depth;
-pub use flat::{columns, input_columns};
+pub use deep::{depth, depth_law};
+pub use flat::{columns, columns_law, input_columns};
 pub use same::same_type;
 pub use table::table_type;
 pub use types::{Field, Fields, Ty};

@@ -1,3 +1,5 @@
+#![tactic(auto, using(crate::proofs::SameLemmas::same_rules))]
+
 ghost use Rattle.std.specs.Prelude.{◌≡◌, ◌↔◌, IsTrue};
 
 use crate::types::Ty;

@@ -1,4 +1,4 @@
--- Counts of failures, which never fall and stand still at the last number of 64 bits, and the causes of refusals.
+-- Counts of failures, which never fall and stand still at their last value, and the causes of refusals.
 use Rattle.std.specs.Prelude.{◌≡◌, ℕ, ◌+◌, ◌-◌, ◌^◌, ◌≤◌, min, Result, OnOk, OnErr, IsErrOf}
 use Rattle.outside.specs.declared.source.BeginFault.{BeginFault}
 use Rattle.outside.specs.declared.source.BeginFault.TheVariants.{Failed}

@@ -12,7 +12,8 @@ bytes_of (file ∷ files) name = if bytes_eq file.name name then Some file.bytes
 abbrev pub with_file : List File → List ℕ → List ℕ → List File
 with_file [] name bytes = record { name = name; bytes = bytes } ∷ []
 with_file (file ∷ files) name bytes =
-    if bytes_eq file.name name then record { name = name; bytes = bytes } ∷ files else file ∷ with_file files name bytes
+    if bytes_eq file.name name then record { name = name; bytes = bytes } ∷ files
+    else file ∷ with_file files name bytes
 
 -- the files with a piece added to the one of this name
 abbrev pub with_piece : List File → List ℕ → List ℕ → List File

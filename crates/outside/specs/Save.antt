@@ -6,7 +6,8 @@ use Rattle.outside.specs.Files.{with_file}
 
 -- The files are as they were, or with one of this name that has a front of the text.
 abbrev pub IsCutShort : List ℕ → List ℕ → List File → List File → Type 0
-IsCutShort name text old new = (new ≡ old) ⊎ ((n : ℕ) × (n ≤ length text) × (new ≡ with_file old name (take n text)))
+IsCutShort name text old new =
+    (new ≡ old) ⊎ ((n : ℕ) × (n ≤ length text) × (new ≡ with_file old name (take n text)))
 
 -- A front of the text stands behind what was there.
 abbrev pub HasFront : List ℕ → List ℕ → List ℕ → Type 0
@@ -15,4 +16,5 @@ HasFront text old new = (n : ℕ) × (n ≤ length text) × (new ≡ old ++ take
 -- the files with these outputs, written one after the other
 abbrev pub with_outputs : List File → List Output → List File
 with_outputs files [] = files
-with_outputs files (output ∷ outputs) = with_outputs (with_file files (string_bytes output.name) output.text.items) outputs
+with_outputs files (output ∷ outputs) =
+    with_outputs (with_file files (string_bytes output.name) output.text.items) outputs

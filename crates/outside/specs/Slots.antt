@@ -16,7 +16,8 @@ files_of slots = map file_of slots
 -- the place of the first file of this name
 abbrev pub place_of : List File → List ℕ → Option ℕ
 place_of [] name = None
-place_of (file ∷ files) name = if bytes_eq file.name name then Some 0 else option_map (λ k. k + 1) (place_of files name)
+place_of (file ∷ files) name =
+    if bytes_eq file.name name then Some 0 else option_map (λ k. k + 1) (place_of files name)
 
 -- the name of the k-th file, or none
 abbrev pub name_at : List File → ℕ → List ℕ

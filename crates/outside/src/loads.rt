@@ -69,9 +69,11 @@ pub fn load_tried<S: Source>(
     ensures missing { IfSome (S.files source.old) (λ files.
         IsErrOf result LoadFault.Missing ↔ (bytes_of files name.now ≡ None)) }
     ensures too_long { IfSome (S.files source.old) (λ files.
-        IsErrOf result LoadFault.TooLong → IsSomeAnd (bytes_of files name.now) (λ bytes. limit < length bytes)) }
+        IsErrOf result LoadFault.TooLong →
+        IsSomeAnd (bytes_of files name.now) (λ bytes. limit < length bytes)) }
     ensures later { S.faults source.old ≤ S.faults source.new }
-    ensures failed { IsErrOf result LoadFault.Failed → RoseBy tries (S.faults source.old) (S.faults source.new) }
+    ensures failed { IsErrOf result LoadFault.Failed →
+        RoseBy tries (S.faults source.old) (S.faults source.new) }
 {
     for _turn in 0..tries {
         match load(alloc, source, name, limit) {
@@ -100,9 +102,11 @@ pub fn load<S: Source>(
     ensures missing { IfSome (S.files source.old) (λ files.
         IsErrOf result LoadFault.Missing ↔ (bytes_of files name.now ≡ None)) }
     ensures too_long { IfSome (S.files source.old) (λ files.
-        IsErrOf result LoadFault.TooLong → IsSomeAnd (bytes_of files name.now) (λ bytes. limit < length bytes)) }
+        IsErrOf result LoadFault.TooLong →
+        IsSomeAnd (bytes_of files name.now) (λ bytes. limit < length bytes)) }
     ensures later { S.faults source.old ≤ S.faults source.new }
-    ensures failed { IsErrOf result LoadFault.Failed → Rose (S.faults source.old) (S.faults source.new) }
+    ensures failed { IsErrOf result LoadFault.Failed →
+        Rose (S.faults source.old) (S.faults source.new) }
 {
     source.begin(name)?;
     let mut buf = [0u8; PIECE as usize];
@@ -137,7 +141,8 @@ fn read_piece<S: Source>(
     ensures bytes { IfSome (S.files source.old) (λ _. OnOk result
         (bytes.old.items ++ S.rest source.old ≡ bytes.new.items ++ S.rest source.new)) }
     ensures later { S.faults source.old ≤ S.faults source.new }
-    ensures failed { IsErrOf result LoadFault.Failed → Rose (S.faults source.old) (S.faults source.new) }
+    ensures failed { IsErrOf result LoadFault.Failed →
+        Rose (S.faults source.old) (S.faults source.new) }
     ensures not_missing { IsErrOf result LoadFault.Missing → ⊥ }
     ensures not_long { IsErrOf result LoadFault.TooLong → ⊥ }
 {

@@ -21,7 +21,8 @@ pub struct Output {
 /// At `Err(k)` the k-th output failed, counted from 0, and the shelf's count rose: the outputs before it are
 /// whole, this one is cut short or as it was, and those behind it are as they were.
 pub fn save_all<K: Shelf>(shelf: &mut K, outputs: &[Output]) -> Result<(), usize>
-    ensures ok { OnOk result (K.files shelf.new ≡ option_map (λ files. with_outputs files outputs.now) (K.files shelf.old)) }
+    ensures ok { OnOk result (K.files shelf.new ≡
+        option_map (λ files. with_outputs files outputs.now) (K.files shelf.old)) }
     ensures err { IfErr result (λ k. IfSome (slice_get outputs.now k) (λ output.
         WhereTold (K.files shelf.old) (K.files shelf.new) (λ old new.
         IsCutShort (string_bytes output.name) output.text.items (with_outputs old (take k outputs.now)) new))) }
@@ -41,8 +42,10 @@ pub fn save_all<K: Shelf>(shelf: &mut K, outputs: &[Output]) -> Result<(), usize
 /// Failed comes only where the shelf's count rose; then the file has a front of the text, or all files are
 /// as they were.
 pub fn save<K: Shelf>(shelf: &mut K, name: &str, text: &[u8]) -> Result<(), Failed>
-    ensures ok { OnOk result (K.files shelf.new ≡ option_map (λ files. with_file files name.now text.now) (K.files shelf.old)) }
-    ensures err { OnErr result (WhereTold (K.files shelf.old) (K.files shelf.new) (IsCutShort name.now text.now)) }
+    ensures ok { OnOk result (K.files shelf.new ≡
+        option_map (λ files. with_file files name.now text.now) (K.files shelf.old)) }
+    ensures err { OnErr result (WhereTold (K.files shelf.old) (K.files shelf.new)
+        (IsCutShort name.now text.now)) }
     ensures cause { HasStrictCause (K.faults shelf.old) (K.faults shelf.new) result }
 {
     shelf.begin(name)?;

@@ -16,7 +16,8 @@ pub trait Screen {
     ///
     /// Failed comes only where the count rose; the text is as before then.
     fn write(&mut self, piece: &[u8]) -> Result<usize, Failed>
-        ensures ok { IfOk result (λ n. text self.new ≡ option_map (λ text. text ++ take n piece.now) (text self.old)) }
+        ensures ok { IfOk result (λ n. text self.new ≡
+            option_map (λ text. text ++ take n piece.now) (text self.old)) }
         ensures err { OnErr result (text self.new ≡ text self.old) }
         ensures bound { IfOk result (λ n. n ≤ length piece.now) }
         ensures some { IfOk result (λ n. 0 < length piece.now → 0 < n) }

@@ -27,7 +27,8 @@ pub trait Shelf {
     /// Failed comes only where the count rose; then no file is begun.
     fn begin(&mut self, name: &str) -> Result<(), Failed>
         ensures files { files self.new ≡
-            (if is_ok result then option_map (λ files. with_file files name.now []) (files self.old) else files self.old) }
+            (if is_ok result then option_map (λ files. with_file files name.now []) (files self.old)
+            else files self.old) }
         ensures begun { begun self.new ≡ is_ok result }
         ensures name { IfSome (files self.old) (λ _. OnOk result (begun_name self.new ≡ name.now)) }
         ensures cause { HasStrictCause (faults self.old) (faults self.new) result };

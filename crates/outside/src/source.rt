@@ -38,8 +38,10 @@ pub trait Source {
     fn begin(&mut self, name: &str) -> Result<(), BeginFault>
         ensures files { files self.new ≡ files self.old }
         ensures begun { begun self.new ≡ is_ok result }
-        ensures missing { IfSome (files self.old) (λ files. IsErrOf result BeginFault.Missing ↔ (bytes_of files name.now ≡ None)) }
-        ensures rest { IfSome (files self.old) (λ files. OnOk result (bytes_of files name.now ≡ Some (rest self.new))) }
+        ensures missing { IfSome (files self.old) (λ files.
+            IsErrOf result BeginFault.Missing ↔ (bytes_of files name.now ≡ None)) }
+        ensures rest { IfSome (files self.old) (λ files.
+            OnOk result (bytes_of files name.now ≡ Some (rest self.new))) }
         ensures cause { HasBeginCause (faults self.old) (faults self.new) result };
 
     /// Reads the next bytes of the begun file into the front of the buffer, and says how many: 0 exactly at the end.
@@ -51,7 +53,9 @@ pub trait Source {
         ensures files { files self.new ≡ files self.old }
         ensures begun { IsTrue (begun self.new) }
         ensures bound { IfOk result (λ n. n ≤ length buf.new) }
-        ensures end { IfSome (files self.old) (λ _. IfOk result (λ n. (n ≡ 0) ↔ (rest self.old ≡ []))) }
-        ensures bytes { IfSome (files self.old) (λ _. IfOk result (λ n. rest self.old ≡ take n buf.new ++ rest self.new)) }
+        ensures end { IfSome (files self.old) (λ _.
+            IfOk result (λ n. (n ≡ 0) ↔ (rest self.old ≡ []))) }
+        ensures bytes { IfSome (files self.old) (λ _.
+            IfOk result (λ n. rest self.old ≡ take n buf.new ++ rest self.new)) }
         ensures cause { HasCause (faults self.old) (faults self.new) result };
 }

@@ -71,7 +71,8 @@ impl Host for MemHost {
 
     fn pass(&mut self, at: At) -> Result<(), Down>
         ensures notes { IfSome (notes_of self.new.tells self.new.passed.items self.new.downs.items) (λ new.
-            IsSomeAnd (notes_of self.old.tells self.old.passed.items self.old.downs.items) (λ old. new ≡ noted old at (is_ok result))) }
+            IsSomeAnd (notes_of self.old.tells self.old.passed.items self.old.downs.items) (λ old.
+            new ≡ noted old at (is_ok result))) }
         ensures cause { HasCause self.old.losses self.new.losses result }
 
         // It is down exactly where its list says.
@@ -79,7 +80,8 @@ impl Host for MemHost {
         ensures counted { self.new.losses ≡ counted result self.old.losses }
 
         // It tells after the call exactly where it told before it and had room for a note.
-        ensures tells { IsTrue self.new.tells ↔ (IsTrue self.old.tells × (vec_len self.old.passed + vec_len self.old.downs < self.old.room)) }
+        ensures tells { IsTrue self.new.tells ↔
+            (IsTrue self.old.tells × (vec_len self.old.passed + vec_len self.old.downs < self.old.room)) }
         ensures full { self.old.room ≤ vec_len self.old.passed + vec_len self.old.downs →
             (self.new.passed.items ≡ self.old.passed.items) × (self.new.downs.items ≡ self.old.downs.items) }
         ensures kept { (self.new.down_at ≡ self.old.down_at) × (self.new.room ≡ self.old.room) }

@@ -58,7 +58,8 @@ impl Screen for MemScreen {
     ghost faults = { λ s. s.faults };
 
     fn write(&mut self, piece: &[u8]) -> Result<usize, Failed>
-        ensures ok { IfOk result (λ n. Some self.new.text.items ≡ Some (self.old.text.items ++ take n piece.now)) }
+        ensures ok { IfOk result (λ n.
+            Some self.new.text.items ≡ Some (self.old.text.items ++ take n piece.now)) }
         ensures err { OnErr result (Some self.new.text.items ≡ Some self.old.text.items) }
         ensures bound { IfOk result (λ n. n ≤ length piece.now) }
         ensures some { IfOk result (λ n. 0 < length piece.now → 0 < n) }

@@ -1,7 +1,7 @@
 ghost use Rattle.std.specs.Prelude.{Some, None, false, ◌≡◌, ◌≤◌, ◌<◌, ◌+◌, ◌⊎◌, ◌↔◌, [], length, take, sum_by, vec_len, vec_capacity, All, is_some, is_ok, if◌then◌else◌, IsTrue, IsErr, IfOk, OnOk, OnErr, slice_get};
 ghost use Rattle.std.specs.Option.{ForSome, option_copied, option_map};
 ghost use Rattle.outside.specs.Calls.{counted, fails_begin, fails_call, with_begin, with_call};
-ghost use Rattle.outside.specs.Cause.{HasStrictCause};
+ghost use Rattle.outside.specs.Cause.{HasStrictCause, raised};
 ghost use Rattle.outside.specs.Files.{bytes_of, with_file, with_piece};
 ghost use Rattle.outside.specs.Slots.{files_of, begun_name_of, name_at, IsPlace, HasRoom, total, file_size};
 
@@ -94,6 +94,15 @@ impl MemShelf {
     {
         self.faults
     }
+
+    // Counts a failure.
+    fn fail(&mut self) -> Failed
+        ensures counted { self.new ≡ record self.old { faults = raised self.old.faults } }
+        ensures later { self.old.faults ≤ self.new.faults }
+    {
+        self.faults = self.faults.saturating_add(1);
+        Failed
+    }
 }
 
 impl Shelf for MemShelf {
@@ -107,7 +116,8 @@ impl Shelf for MemShelf {
 
     fn begin(&mut self, name: &str) -> Result<(), Failed>
         ensures files { Some (files_of self.new.slots.items) ≡
-            (if is_ok result then Some (with_file (files_of self.old.slots.items) name.now []) else Some (files_of self.old.slots.items)) }
+            (if is_ok result then Some (with_file (files_of self.old.slots.items) name.now [])
+            else Some (files_of self.old.slots.items)) }
         ensures begun { is_some self.new.begun ≡ is_ok result }
         ensures name { OnOk result (begun_name_of (files_of self.new.slots.items) self.new.begun ≡ name.now) }
         ensures cause { HasStrictCause self.old.faults self.new.faults result }
@@ -118,11 +128,13 @@ impl Shelf for MemShelf {
             × ((vec_len self.old.spare ≡ 0) ⊎ (self.old.room < total self.old.slots.items + length name.now)))) }
         ensures counted { self.new.faults ≡ counted result self.old.faults }
         ensures calls { self.new.calls ≡ with_begin self.old.calls }
+        ensures room { self.new.room ≡ self.old.room }
+        ensures places { vec_len self.new.slots + vec_len self.new.spare ≡
+            vec_len self.old.slots + vec_len self.old.spare }
     {
         self.begun = None;
         if self.calls.begin() {
-            self.faults = self.faults.saturating_add(1);
-            return Err(Failed);
+            return Err(self.fail());
         }
         match slot_place(&self.slots, name.as_bytes()) {
             Some(k) => {
@@ -131,12 +143,10 @@ impl Shelf for MemShelf {
             }
             None => {
                 if name.len() > self.room - used(&self.slots) {
-                    self.faults = self.faults.saturating_add(1);
-                    return Err(Failed);
+                    return Err(self.fail());
                 }
                 let Some(slot) = self.spare.pop() else {
-                    self.faults = self.faults.saturating_add(1);
-                    return Err(Failed);
+                    return Err(self.fail());
                 };
                 let k = self.slots.len();
                 add_file(&mut self.slots, slot, name.as_bytes(), self.room);
@@ -149,10 +159,12 @@ impl Shelf for MemShelf {
     fn write(&mut self, piece: &[u8]) -> Result<usize, Failed>
         requires { IsTrue (is_some self.old.begun) }
         ensures ok { IfOk result (λ n. Some (files_of self.new.slots.items) ≡
-            Some (with_piece (files_of self.old.slots.items) (begun_name_of (files_of self.old.slots.items) self.old.begun) (take n piece.now))) }
+            Some (with_piece (files_of self.old.slots.items)
+            (begun_name_of (files_of self.old.slots.items) self.old.begun) (take n piece.now))) }
         ensures err { OnErr result (Some (files_of self.new.slots.items) ≡ Some (files_of self.old.slots.items)) }
         ensures begun { IsTrue (is_some self.new.begun) }
-        ensures name { begun_name_of (files_of self.new.slots.items) self.new.begun ≡ begun_name_of (files_of self.old.slots.items) self.old.begun }
+        ensures name { begun_name_of (files_of self.new.slots.items) self.new.begun ≡
+            begun_name_of (files_of self.old.slots.items) self.old.begun }
         ensures bound { IfOk result (λ n. n ≤ length piece.now) }
         ensures some { IfOk result (λ n. 0 < length piece.now → 0 < n) }
         ensures cause { HasStrictCause self.old.faults self.new.faults result }
@@ -163,12 +175,14 @@ impl Shelf for MemShelf {
             ⊎ (self.old.room < total self.old.slots.items + length piece.now)) }
         ensures counted { self.new.faults ≡ counted result self.old.faults }
         ensures calls { self.new.calls ≡ with_call self.old.calls }
+        ensures room { self.new.room ≡ self.old.room }
+        ensures places { vec_len self.new.slots + vec_len self.new.spare ≡
+            vec_len self.old.slots + vec_len self.old.spare }
     {
         let Some(k) = self.begun else { unreachable!() };
         let fails = self.calls.call();
         if fails || piece.len() > self.room - used(&self.slots) {
-            self.faults = self.faults.saturating_add(1);
-            return Err(Failed);
+            return Err(self.fail());
         }
         add_piece(&mut self.slots, k, piece, self.room);
         Ok(piece.len())
@@ -184,11 +198,13 @@ impl Shelf for MemShelf {
         ensures fails { IsErr result ↔ IsTrue (fails_call self.old.calls) }
         ensures counted { self.new.faults ≡ counted result self.old.faults }
         ensures calls { self.new.calls ≡ with_call self.old.calls }
+        ensures room { self.new.room ≡ self.old.room }
+        ensures places { vec_len self.new.slots + vec_len self.new.spare ≡
+            vec_len self.old.slots + vec_len self.old.spare }
     {
         self.begun = None;
         if self.calls.call() {
-            self.faults = self.faults.saturating_add(1);
-            return Err(Failed);
+            return Err(self.fail());
         }
         Ok(())
     }

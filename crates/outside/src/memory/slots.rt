@@ -57,7 +57,10 @@ pub fn add_piece(slots: &mut Vec<Slot>, k: usize, piece: &[u8], room: usize)
     requires rooms { All (HasRoom room) slots.old.items }
     requires fits { total slots.old.items + length piece.now ≤ room }
     ensures files { files_of slots.new.items ≡ set (files_of slots.old.items) k
-        (record { name = name_at (files_of slots.old.items) k; bytes = bytes_at (files_of slots.old.items) k ++ piece.now }) }
+        (record {
+          name = name_at (files_of slots.old.items) k;
+          bytes = bytes_at (files_of slots.old.items) k ++ piece.now;
+        }) }
     ensures rooms { All (HasRoom room) slots.new.items }
     ensures total { total slots.new.items ≡ total slots.old.items + length piece.now }
     ensures len { vec_len slots.new ≡ vec_len slots.old }
@@ -72,7 +75,8 @@ pub fn add_file(slots: &mut Vec<Slot>, mut slot: Slot, name: &[u8], room: usize)
     requires name { length name.now ≤ room }
     requires free { vec_len slots.old < vec_capacity slots.old }
     requires rooms { All (HasRoom room) slots.old.items }
-    ensures files { files_of slots.new.items ≡ files_of slots.old.items ++ record { name = name.now; bytes = [] } ∷ [] }
+    ensures files { files_of slots.new.items ≡
+        files_of slots.old.items ++ record { name = name.now; bytes = [] } ∷ [] }
     ensures rooms { All (HasRoom room) slots.new.items }
     ensures total { total slots.new.items ≡ total slots.old.items + length name.now }
     ensures len { vec_len slots.new ≡ vec_len slots.old + 1 }

@@ -65,11 +65,13 @@ impl Source for MemSource {
         ensures files { Some self.new.files ≡ Some self.old.files }
         ensures begun { is_some self.new.begun ≡ is_ok result }
         ensures missing { IsErrOf result BeginFault.Missing ↔ (bytes_of self.old.files name.now ≡ None) }
-        ensures rest { OnOk result (bytes_of self.old.files name.now ≡ Some (rest_of self.new.files self.new.begun self.new.at)) }
+        ensures rest { OnOk result (bytes_of self.old.files name.now ≡
+            Some (rest_of self.new.files self.new.begun self.new.at)) }
         ensures cause { HasBeginCause self.old.faults self.new.faults result }
 
         // It fails exactly where its list names the call and the file is there.
-        ensures fails { IsErrOf result BeginFault.Failed ↔ (IsTrue (fails_begin self.old.calls) × (bytes_of self.old.files name.now ≢ None)) }
+        ensures fails { IsErrOf result BeginFault.Failed ↔
+            (IsTrue (fails_begin self.old.calls) × (bytes_of self.old.files name.now ≢ None)) }
         ensures raised { IsErrOf result BeginFault.Failed → self.new.faults ≡ raised self.old.faults }
         ensures calls { self.new.calls ≡ with_begin self.old.calls }
     {
@@ -125,7 +127,8 @@ impl Source for MemSource {
 
 // The place of the first file of that name.
 fn file_place(files: &[File], name: &[u8]) -> Option<usize>
-    ensures { MatchOption result (bytes_of files.now name.now ≡ None) (λ k. bytes_of files.now name.now ≡ Some (bytes_at files.now k)) }
+    ensures { MatchOption result (bytes_of files.now name.now ≡ None)
+        (λ k. bytes_of files.now name.now ≡ Some (bytes_at files.now k)) }
 {
     for (k, file) in files.iter().enumerate() {
         if file.name.as_bytes() == name {

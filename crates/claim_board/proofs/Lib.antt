@@ -1,0 +1,11 @@
+pub mod Totals
+pub mod Keeps
+pub mod Whole
+pub mod Ruling
+pub mod Moves
+pub mod Lending
+pub mod Naming
+pub mod Claimable
+pub mod Closing
+pub mod Seating
+pub mod Stepping

@@ -1,0 +1,122 @@
+-- The claim protocol, as a state machine.
+-- Draws have the numbers 0, 1, 2 and on. The draw d names the attempt d / tasks + 1 of the task d % tasks,
+-- and the draws below tasks * tries name each attempt of each task once.
+-- A task has a word: 0, or the attempt that won it.
+use Rattle.std.specs.Prelude.{◌≡◌, ◌≢◌, ℕ, zero, suc, ◌+◌, ◌*◌, ◌/◌, ◌%◌, ◌<◌, ◌≤◌, Bool, false, eqb, leb, ◌⊎◌, List, [], ◌∷◌, ◌++◌, length, slice_index, slice_set, replicate}
+use mathlib.Core.Option.{some}
+use lib.ListN.{get_elem?}
+use Rattle.claim_board.specs.Counts.{total, Each, one_if, times, times_first, from_on}
+
+-- what one pass has done: its draws in order, each task that it looked at with the word that it saw,
+-- the draws that won their tasks, and each draw that lost with the word that stood there
+pub record PassState : Type 0 where
+  pub number : ℕ
+  pub draws : List ℕ
+  pub seen : List (ℕ × ℕ)
+  pub won : List ℕ
+  pub lost : List (ℕ × ℕ)
+  pub ended : Bool
+
+-- the number of the next draw, the word of each task, and the passes
+pub record State : Type 0 where
+  pub next : ℕ
+  pub words : List ℕ
+  pub passes : List PassState
+
+abbrev pub word : State → ℕ → ℕ
+word s t = slice_index s.words t
+
+-- the task of a draw
+abbrev pub task_of : ℕ → ℕ → ℕ
+task_of tasks d = d % tasks
+
+-- the attempt of a draw, from 1 on
+abbrev pub attempt_of : ℕ → ℕ → ℕ
+attempt_of tasks d = d / tasks + 1
+
+-- the draws below it name the attempts of the tasks
+abbrev pub limit : ℕ → ℕ → ℕ
+limit tasks tries = tasks * tries
+
+-- how many draws of the task t are in the list
+abbrev pub of_task : ℕ → ℕ → List ℕ → ℕ
+of_task tasks t xs = total (λ d. one_if (eqb (task_of tasks d) t)) xs
+
+-- a pass that has done nothing
+abbrev pub fresh : ℕ → PassState
+fresh number = record { number = number; draws = []; seen = []; won = []; lost = []; ended = false }
+
+-- what each event leaves in the pass that makes it: after a draw of the limit or more the pass has ended
+abbrev pub drawn : ℕ → PassState → ℕ → PassState
+drawn most p d = record p { draws = p.draws ++ d ∷ []; ended = leb most d }
+
+abbrev pub looked : PassState → ℕ → ℕ → PassState
+looked p t x = record p { seen = p.seen ++ (t, x) ∷ [] }
+
+abbrev pub winning : PassState → ℕ → PassState
+winning p d = record p { won = p.won ++ d ∷ [] }
+
+abbrev pub losing : PassState → ℕ → ℕ → PassState
+losing p d x = record p { lost = p.lost ++ (d, x) ∷ [] }
+
+-- what the i-th pass does: it draws, looks at a task, or claims the task of a draw and wins or loses it
+pub data Event : Type 0 where
+  Draw : ℕ → Event
+  Look : ℕ → ℕ → Event
+  Win : ℕ → ℕ → Event
+  Lose : ℕ → ℕ → Event
+
+-- the passes k, k + 1, .., as many as n, that have done nothing
+abbrev pub fresh_from : ℕ → ℕ → List PassState
+fresh_from k zero = []
+fresh_from k (suc n) = fresh k ∷ fresh_from (k + 1) n
+
+abbrev pub start : ℕ → ℕ → State
+start tasks crew = record { next = 0; words = replicate tasks 0; passes = fresh_from 0 crew }
+
+module _ (tasks tries : ℕ) where
+  -- d is a draw of the pass below the limit, neither won nor lost: it may claim its task
+  abbrev pub IsOpen : PassState → ℕ → Type 0
+  IsOpen p d = (0 < times d p.draws) × (d < limit tasks tries) × (times d p.won ≡ 0) × (times_first d p.lost ≡ 0)
+
+  -- the event leads from the old state to the new one
+  abbrev pub Step : State → Event → State → Type 0
+  Step old (Draw i) new =
+      (p : PassState) × (get_elem? old.passes i ≡ some p) × (p.ended ≡ false)
+      × (new ≡ record old { next = old.next + 1; passes = slice_set old.passes i (drawn (limit tasks tries) p old.next) })
+  Step old (Look i t) new =
+      (p : PassState) × (get_elem? old.passes i ≡ some p) × (t < tasks)
+      × (new ≡ record old { passes = slice_set old.passes i (looked p t (word old t)) })
+  Step old (Win i d) new =
+      (p : PassState) × (get_elem? old.passes i ≡ some p) × IsOpen p d × (word old (task_of tasks d) ≡ 0)
+      × (new ≡ record old { words = slice_set old.words (task_of tasks d) (attempt_of tasks d); passes = slice_set old.passes i (winning p d) })
+  Step old (Lose i d) new =
+      (p : PassState) × (get_elem? old.passes i ≡ some p) × IsOpen p d × (word old (task_of tasks d) ≢ 0)
+      × (new ≡ record old { passes = slice_set old.passes i (losing p d (word old (task_of tasks d))) })
+
+  -- the events lead from the old state to the new one
+  abbrev pub Runs : State → List Event → State → Type 0
+  Runs old [] new = new ≡ old
+  Runs old (e ∷ es) new = (mid : State) × Step old e mid × Runs mid es new
+
+  -- what is good of one pass
+  pub record IsGoodPass (words : List ℕ) (p : PassState) : Type 0 where
+    -- it has at most one draw of the limit or more, and has ended exactly where it has one
+    pub ends : from_on (limit tasks tries) p.draws ≡ one_if p.ended
+    -- the attempt of each draw that it won is its task's word
+    pub won : Each (λ d. (d < limit tasks tries) × (slice_index words (task_of tasks d) ≡ attempt_of tasks d)) p.won
+    -- each draw that it lost was lost to the word that stands, which is not 0
+    pub lost : Each (λ x. (x.0 < limit tasks tries) × (slice_index words (task_of tasks x.0) ≡ x.1) × (x.1 ≢ 0)) p.lost
+    -- each word that it saw is 0 or the word that stands
+    pub seen : Each (λ x. (x.0 < tasks) × ((x.1 ≡ 0) ⊎ (slice_index words x.0 ≡ x.1))) p.seen
+    -- what it won or lost are draws of its own, each in one of the two lists at most, and once
+    pub own : (d : ℕ) → times d p.won + times_first d p.lost ≤ times d p.draws
+
+  pub record IsGood (s : State) : Type 0 where
+    pub sized : length s.words ≡ tasks
+    -- the draws of all passes together are the numbers below `next`, each once
+    pub each_once : (d : ℕ) → (d < s.next → total (λ p. times d p.draws) s.passes ≡ 1) × (s.next ≤ d → total (λ p. times d p.draws) s.passes ≡ 0)
+    -- of each task just one draw is in the won lists of all passes where its word is not 0, and none where it is 0
+    pub one_winner : (t : ℕ) → t < tasks
+        → (word s t ≡ 0 → total (λ p. of_task tasks t p.won) s.passes ≡ 0) × (word s t ≢ 0 → total (λ p. of_task tasks t p.won) s.passes ≡ 1)
+    pub passes : Each (IsGoodPass s.words) s.passes

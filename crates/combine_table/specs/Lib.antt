@@ -1,0 +1,3 @@
+pub mod Accumulators
+pub mod Combinations
+pub mod Contents

@@ -1,0 +1,4 @@
+pub mod IntFacts
+pub mod RecordFacts
+pub mod RowFacts
+pub mod TypeFacts

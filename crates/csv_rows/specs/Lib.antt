@@ -1,0 +1,4 @@
+pub mod Ints
+pub mod Records
+pub mod Rows
+pub mod Text

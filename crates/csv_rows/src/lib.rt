@@ -1,0 +1,21 @@
+//! Typed rows of CSV.
+//!
+//! `rows` reads the bytes of a file as values of a record type: its first record must name the
+//! type's fields in order, each other record is one row, and the first fault in order of rows, then
+//! of columns, is the answer. `text` writes a bag of values: a header, then the elements in
+//! ascending order. Both go through `csv` with its default settings and no header row of its own,
+//! so quotes, line ends, blank lines and a byte-order mark are what `csv` says they are.
+#![tactic(auto)]
+
+mod fault;
+mod int_cell;
+mod read;
+mod records;
+mod write;
+
+pub use fault::{RowFault, RowKind};
+pub use read::rows;
+pub use write::text;
+
+#[cfg(test)]
+mod tests;
