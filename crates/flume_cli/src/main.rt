@@ -1,0 +1,56 @@
+//! The program `flume`: the top call over the files of the system and the standard output.
+//!
+//! `FileSource`, `FileShelf` and `OutputScreen` are the real source, shelf and screen. They tell
+//! nothing of what they hold, and count their failures. The hosts are sixteen calm ones.
+#![tactic(auto)]
+
+mod faults;
+mod screen;
+mod shelf;
+mod source;
+#[cfg(test)]
+mod tests;
+
+use flume_run::{Status, flume};
+use outside::{CalmHost, say};
+use screen::OutputScreen;
+use shelf::FileShelf;
+use source::FileSource;
+use std::env::Env;
+use std::io::ErrorKind;
+use std::process::ExitCode;
+use std::{env, fs, io};
+
+// The words of the command line. One that is not UTF-8 makes them no command of `flume`, as none are.
+fn words<X: Env + AllocGlobal>(rt: &X) -> io::Result<Vec<String>> {
+    match env::args(rt) {
+        Ok(words) => Ok(words.collect(rt.alloc())?),
+        Err(error) if error.kind() == ErrorKind::OutOfMemory => Err(error),
+        Err(_) => Ok(Vec::new(rt.alloc())),
+    }
+}
+
+fn main(rt: HostRuntime) -> ExitCode {
+    // Where standard input and output are closed, these stand in their places, and can't be written
+    // to: so no file that is opened later is taken for the screen.
+    let _places = [fs::open(&rt, "/dev/null"), fs::open(&rt, "/dev/null")];
+    let alloc = rt.alloc();
+    let mut screen = OutputScreen::new(io::writer(&rt));
+    let Ok(words) = words(&rt) else {
+        let _ = say(&mut screen, b"want of memory\n");
+        return ExitCode::from(Status::WantOfMemory.code());
+    };
+    let mut source = FileSource::new(&rt);
+    let mut shelf = FileShelf::new(&rt);
+    let mut hosts = [CalmHost; 16];
+    let status = flume(
+        &rt,
+        alloc,
+        &words,
+        &mut source,
+        &mut hosts,
+        &mut shelf,
+        &mut screen,
+    );
+    ExitCode::from(status.code())
+}
