@@ -1,0 +1,9 @@
+pub mod CallLemmas
+pub mod CauseLemmas
+pub mod CompleteLemmas
+pub mod FormLemmas
+pub mod KindLemmas
+pub mod RunLemmas
+pub mod SaidLemmas
+pub mod SplitLemmas
+pub mod TextLemmas

@@ -1,0 +1,45 @@
+-- The line that the screen gets for each refusal.
+use Rattle.std.specs.Prelude.{ℕ, List, [], ◌∷◌, ◌++◌, codes, decimal}
+use Rattle.csv_rows.specs.declared.fault.RowKind.{RowKind}
+use Rattle.csv_rows.specs.declared.fault.RowKind.TheVariants as row
+use Rattle.flume_run.specs.declared.status.ScriptKind.{ScriptKind}
+use Rattle.flume_run.specs.declared.status.ScriptKind.TheVariants as script
+use Rattle.flume_run.specs.declared.status.Place.{Place}
+use Rattle.flume_run.specs.declared.status.Place.TheVariants.{File, Screen}
+use Rattle.flume_run.specs.declared.status.Status.{Status}
+use Rattle.flume_run.specs.declared.status.Status.TheVariants.{Done, Usage, ScriptRefused, InputRefused, ReadFault, WriteFault, WantOfMemory, TooLong, NoFile}
+use Rattle.flume_run.specs.Printed.{quoted}
+
+-- the name of each kind of fault of an input
+abbrev pub row_kind_name : RowKind → List ℕ
+row_kind_name row.Header = codes "Header"
+row_kind_name row.Width = codes "Width"
+row_kind_name row.NotInt = codes "NotInt"
+row_kind_name row.NotBool = codes "NotBool"
+row_kind_name row.Utf8 = codes "Utf8"
+
+-- the name of each kind of fault of a script
+abbrev pub script_kind_name : ScriptKind → List ℕ
+script_kind_name script.Syntax = codes "Syntax"
+
+-- the commands, for one who asks for none of them
+abbrev pub usage_line : List ℕ
+usage_line = codes "usage: flume check S | plan S [--json] | direct S | run S [options] | make START ROWS\n"
+
+abbrev pub place_line : Place → List ℕ
+place_line (File name) = codes "write fault: " ++ (quoted name ++ codes "\n")
+place_line Screen = []
+
+-- the line of a refusal; a screen that failed gets none, nor does a call that is done
+abbrev pub line_of : Status → List ℕ
+line_of Done = []
+line_of Usage = usage_line
+line_of (ScriptRefused line kind) =
+    codes "script refused at line " ++ (decimal line ++ (codes ": " ++ (script_kind_name kind ++ codes "\n")))
+line_of (InputRefused name row column kind) =
+    codes "input refused: " ++ (quoted name ++ (codes " row " ++ (decimal row ++ (codes " column " ++ (decimal column ++ (codes ": " ++ (row_kind_name kind ++ codes "\n")))))))
+line_of (ReadFault name) = codes "read fault: " ++ (quoted name ++ codes "\n")
+line_of (WriteFault place) = place_line place
+line_of WantOfMemory = codes "want of memory\n"
+line_of (TooLong name limit) = codes "too long: " ++ (quoted name ++ (codes " above " ++ (decimal limit ++ codes " bytes\n")))
+line_of (NoFile name) = codes "no file: " ++ (quoted name ++ codes "\n")
