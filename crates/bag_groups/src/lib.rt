@@ -5,6 +5,9 @@
 //! has them. Keys rise, and so do the values of a key, so the groups are a bag's members in
 //! order, and depend on nothing but the bag of the pairs (`groups_law`).
 //!
+//! `combined_each` says what pairs of a key and a list come to where each list is combined, by
+//! a function of bags that may trap; `traps_of_each` names the keys where it traps.
+//!
 //! `group` sorts the pairs once, by key and then by value, as their order is, and moves each
 //! value into its list.
 #![tactic(auto)]
@@ -16,4 +19,4 @@ mod pairs;
 mod tests;
 
 pub use groups::group;
-pub use laws::groups_law;
+pub use laws::{combining_law, groups_law};
