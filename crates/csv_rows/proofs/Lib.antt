@@ -1,4 +1,3 @@
-pub mod IntFacts
 pub mod RecordFacts
 pub mod RowFacts
 pub mod TypeFacts

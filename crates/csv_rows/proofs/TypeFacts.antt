@@ -14,7 +14,7 @@ use Rattle.flume_types.specs.declared.column.ColumnKind.{ColumnKind}
 use Rattle.flume_types.specs.declared.column.ColumnKind.TheVariants as cell
 use Rattle.flume_types.specs.declared.types.Ty.{Ty}
 use Rattle.flume_types.proofs.CellLemmas.{has_type-input}
-use Rattle.csv_rows.specs.Ints.{int_of}
+use Rattle.int_text.specs.Ints.{int_of}
 use Rattle.csv_rows.specs.Records.{records_of}
 use Rattle.csv_rows.specs.Rows.{bad, bool_of, cell_at, cells_from, first_then, header_fault, record_of, row_at, rows_from, rows_of, rows_under, text_in, under_header, value_or}
 use Rattle.csv_rows.specs.declared.fault.RowFault.{RowFault}

@@ -1,4 +1,3 @@
-pub mod Ints
 pub mod Records
 pub mod Rows
 pub mod Text

@@ -8,7 +8,7 @@ use Rattle.flume_types.specs.declared.column.Column.{Column}
 use Rattle.flume_types.specs.declared.column.ColumnKind.{ColumnKind}
 use Rattle.flume_types.specs.declared.column.ColumnKind.TheVariants as cell
 use Rattle.flume_types.specs.declared.types.Ty.{Ty}
-use Rattle.csv_rows.specs.Ints.{int_of}
+use Rattle.int_text.specs.Ints.{int_of}
 use Rattle.csv_rows.specs.Records.{records_of}
 use Rattle.csv_rows.specs.declared.fault.RowFault.{RowFault}
 use Rattle.csv_rows.specs.declared.fault.RowFault.TheVariants as fault

@@ -8,7 +8,6 @@
 #![tactic(auto)]
 
 mod fault;
-mod int_cell;
 mod laws;
 mod read;
 mod records;

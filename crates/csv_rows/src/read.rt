@@ -10,11 +10,11 @@ ghost use Rattle.csv_rows.specs.Records.{IsPlain, left_of};
 ghost use Rattle.csv_rows.specs.Rows.{cell_at, header_fault, row_at, rows_of, rows_under};
 
 use crate::fault::{RowFault, RowKind};
-use crate::int_cell::int_cell;
 use crate::records::{Next, next_record};
 use csv::{ByteRecord, Reader, ReaderBuilder};
 use flume_types::{Column, ColumnFault, ColumnKind, Ty, input_columns};
 use flume_value::{Items, Pile, Str, Value};
+use int_text::int_of;
 use std::alloc::Global;
 use std::io::Read;
 use std::str;
@@ -151,7 +151,7 @@ fn read_cell(
     ensures fault { IfErr result (λ e. e ≢ RowFault.Memory → cell_at row column kind field.now ≡ Err e) }
 {
     match kind {
-        ColumnKind::Int => match int_cell(field) {
+        ColumnKind::Int => match int_of(field) {
             Some(n) => Ok(Value::Int(n)),
             None => Err(RowFault::bad(row, column, RowKind::NotInt)),
         },

@@ -3,23 +3,31 @@ use Rattle.std.proofs.Common.{◌≡◌, ℕ, ◌+◌, ◌-◌, ◌^◌, ◌≤�
 use Rattle.std.specs.Option.{option_map}
 use Rattle.csv_rows.specs.Rows.{rows_of}
 use Rattle.flume_value.specs.declared.value.Value.{Value}
-use Rattle.outside.specs.Cause.{Rose}
+use Rattle.outside.specs.Cause.{Rose, RoseBy}
 use Rattle.outside.specs.Save.{IsCutShort, HasFront}
 use Rattle.outside.specs.Told.{WhereTold}
 use Rattle.outside.specs.declared.file.File.{File as NamedBytes}
-use Rattle.flume_run.specs.Accepted.{Accepted, program_of}
-use Rattle.flume_run.specs.Answers.{Answers, AllHaveRows, FailsAt, HasFiles, HasLine, HasRows, IsAskedFor, IsCause, IsMissing, IsAbove, IsRefused, IsTurnOf, Loads, Reads, Runs, Seen, World}
-use Rattle.flume_run.specs.Course.{Delivers, IsInputCause, IsLoadCause, IsPrepared, IsScriptCause, ReadsForm, Results, input_of}
-use Rattle.flume_run.specs.FormTokens.{IsScript}
-use Rattle.flume_run.specs.Script.{Program, Wanted, inputs_of}
+use Rattle.dofn_check.specs.Call.{Function}
+use Rattle.flume_program.specs.Accepted.{IsProgram}
+use Rattle.flume_program.specs.Script.{Script}
+use Rattle.flume_program.specs.declared.program.Program.{Program}
+use Rattle.flume_value.specs.declared.fault.Kind.{Kind}
+use Rattle.flume_run.specs.Accepted.{Accepted}
+use Rattle.flume_run.specs.Answers.{Answers, AllHaveRows, FailsAt, HasFiles, HasLine, HasRows, IsAskedFor, IsCause, IsMissing, IsAbove, IsRefused, IsTurnOf, Loads, Reads, Runs, RunsThrough, World}
+use Rattle.printing.specs.Said.{Seen}
+use Rattle.flume_run.specs.Course.{Delivers, IsInputCause, IsLoadCause, IsPrepared, IsScriptCause, IsStop, IsStopped, IsTrapped, ReadsProgram, Results, Traps, input_of}
+use Rattle.flume_run.specs.Inputs.{Wanted, inputs_of}
+use Rattle.flume_run.specs.Lines.{trap_line}
 use Rattle.flume_run.specs.Texts.{Written, files_of, screen_text}
 use Rattle.flume_run.specs.Words.{script_asked}
-use Rattle.flume_run.specs.declared.form.Form.{Form}
-use Rattle.flume_run.specs.declared.limits.TheConstants.{SCRIPT_LIMIT, INPUT_LIMIT}
+use Rattle.flume_run.specs.declared.trapped.Stop.{Stop}
+use Rattle.flume_run.specs.declared.trapped.Stop.TheVariants as stop
+use Rattle.flume_run.specs.declared.trapped.Trapped.{Trapped}
+use Rattle.flume_run.specs.declared.limits.TheConstants.{SCRIPT_LIMIT, INPUT_LIMIT, TRIES}
 use Rattle.flume_run.specs.declared.status.Place.{Place}
 use Rattle.flume_run.specs.declared.status.Place.TheVariants.{File, Screen}
 use Rattle.flume_run.specs.declared.status.Status.{Status}
-use Rattle.flume_run.specs.declared.status.Status.TheVariants.{Done, Usage, ScriptRefused, InputRefused, ReadFault, WriteFault, WantOfMemory, TooLong, NoFile}
+use Rattle.flume_run.specs.declared.status.Status.TheVariants.{Done, Usage, ScriptRefused, InputRefused, Trap, ReadFault, WriteFault, WantOfMemory, TooLong, NoFile}
 
 -- the script's turn, under another name of the same file
 script_asked_for : (words : List (List ℕ)) (told : Option (List NamedBytes)) (name other : List ℕ) → script_asked words ≡ Some name → other ≡ name → IsAskedFor words told other SCRIPT_LIMIT
@@ -34,7 +42,7 @@ above_as told name other limit most same equal above = subst (λ (n : List ℕ).
 pub script_cause : (words : List (List ℕ)) (before after : Seen (List NamedBytes)) (status : Status) → IsScriptCause words before after status → IsCause words before after status
 script_cause words before after Usage cause = cause
 script_cause words before after (ScriptRefused line kind) cause =
-    (cause.0, cause.1, cause.2, cause.3, (λ program accepted. cause.4 accepted.0 accepted.1), cause.5, cause.6)
+    cause
 script_cause words before after (NoFile other) cause =
     (SCRIPT_LIMIT, script_asked_for words before.told cause.0 other cause.1 cause.2.0, missing_as before.told cause.0 other cause.2.0 cause.2.1)
 script_cause words before after (ReadFault other) cause = (SCRIPT_LIMIT, script_asked_for words before.told cause.0 other cause.1 cause.2.0, cause.2.1)
@@ -46,45 +54,62 @@ script_cause words before after WantOfMemory cause = tt
 script_cause words before after Done cause = cause.2
 script_cause words before after (InputRefused name row column kind) cause = absurd cause.2
 script_cause words before after (WriteFault place) cause = cause.2
+script_cause words before after (Trap origin kind element) cause = absurd cause.2
 
--- the program that the form is was read
-pub form_read : (words : List (List ℕ)) (before : Seen (List NamedBytes)) (form : Form) → ReadsForm words before form → Reads words before.told (program_of form)
-form_read words before form read = (read.0, read.1, read.2, read.3, (form, read.4, refl))
+-- the inputs of the script that a program stands for
+program_inputs : (program : Program) (function : Function) (script : Script) → IsProgram program function script → inputs_of script.nodes ≡ input_of program ∷ []
+program_inputs program function script is = ap (λ (s : Script). inputs_of s.nodes) is.is
 
--- it is the turn of the form's input
-input_turn : (words : List (List ℕ)) (before : Seen (List NamedBytes)) (form : Form) → ReadsForm words before form → IsTurnOf words before.told (input_of form)
-input_turn words before form read = (program_of form, [], [], [], form_read words before form read, refl, tt)
+-- it is the turn of the program's input
+input_turn : (words : List (List ℕ)) (before : Seen (List NamedBytes)) (program : Program) → ReadsProgram words before program → IsTurnOf words before.told (input_of program)
+input_turn words before program read = (read.1, [], [], [], read.2, program_inputs program read.0 read.1 read.3, tt)
 
-input_asked_for : (words : List (List ℕ)) (before : Seen (List NamedBytes)) (form : Form) (other : List ℕ) → ReadsForm words before form → other ≡ form.input_file → IsAskedFor words before.told other INPUT_LIMIT
-input_asked_for words before form other read same = inr (input_of form, input_turn words before form read, same, refl)
+input_asked_for : (words : List (List ℕ)) (before : Seen (List NamedBytes)) (program : Program) (other : List ℕ) → ReadsProgram words before program → other ≡ program.input.file → IsAskedFor words before.told other INPUT_LIMIT
+input_asked_for words before program other read same = inr (input_of program, input_turn words before program read, same, refl)
 
 -- a count that rose after a later moment rose
-rose_since : (before middle after : ℕ) → before ≤ middle → Rose middle after → Rose before after
+rose_since : (before middle after : ℕ) → before ≤ middle → RoseBy TRIES middle after → RoseBy TRIES before after
 rose_since before middle after later rose = omega arith
 
-pub input_cause : (words : List (List ℕ)) (before middle after : Seen (List NamedBytes)) (form : Form) (status : Status) → ReadsForm words before form
-    → middle.told ≡ before.told → before.faults ≤ middle.faults → IsInputCause middle after (input_of form) status → IsCause words before after status
-input_cause words before middle after form (InputRefused name row column kind) read told later cause =
-    (input_of form, cause.1, input_turn words before form read, cause.0, subst (λ (t : Option (List NamedBytes)). Loads t form.input_file INPUT_LIMIT cause.1) told cause.2, cause.3)
-input_cause words before middle after form (NoFile other) read told later cause =
-    (INPUT_LIMIT, input_asked_for words before form other read cause.0, missing_as before.told form.input_file other cause.0 (subst (λ (t : Option (List NamedBytes)). IsMissing t form.input_file) told cause.1))
-input_cause words before middle after form (ReadFault other) read told later cause =
-    (INPUT_LIMIT, input_asked_for words before form other read cause.0, rose_since before.faults middle.faults after.faults later cause.1)
-input_cause words before middle after form (TooLong other most) read told later cause = (
-  subst (λ (m : ℕ). IsAskedFor words before.told other m) (sym cause.1) (input_asked_for words before form other read cause.0),
-  above_as before.told form.input_file other INPUT_LIMIT most cause.0 cause.1 (subst (λ (t : Option (List NamedBytes)). IsAbove t form.input_file INPUT_LIMIT) told cause.2),
+pub input_cause : (words : List (List ℕ)) (before middle after : Seen (List NamedBytes)) (program : Program) (status : Status) → ReadsProgram words before program
+    → middle.told ≡ before.told → before.faults ≤ middle.faults → IsInputCause middle after (input_of program) status → IsCause words before after status
+input_cause words before middle after program (InputRefused name row column kind) read told later cause =
+    (input_of program, cause.1, input_turn words before program read, cause.0, subst (λ (t : Option (List NamedBytes)). Loads t program.input.file INPUT_LIMIT cause.1) told cause.2, cause.3)
+input_cause words before middle after program (NoFile other) read told later cause =
+    (INPUT_LIMIT, input_asked_for words before program other read cause.0, missing_as before.told program.input.file other cause.0 (subst (λ (t : Option (List NamedBytes)). IsMissing t program.input.file) told cause.1))
+input_cause words before middle after program (ReadFault other) read told later cause =
+    (INPUT_LIMIT, input_asked_for words before program other read cause.0, rose_since before.faults middle.faults after.faults later cause.1)
+input_cause words before middle after program (TooLong other most) read told later cause = (
+  subst (λ (m : ℕ). IsAskedFor words before.told other m) (sym cause.1) (input_asked_for words before program other read cause.0),
+  above_as before.told program.input.file other INPUT_LIMIT most cause.0 cause.1 (subst (λ (t : Option (List NamedBytes)). IsAbove t program.input.file INPUT_LIMIT) told cause.2),
 )
-input_cause words before middle after form WantOfMemory read told later cause = tt
-input_cause words before middle after form Usage read told later cause = absurd cause
-input_cause words before middle after form Done read told later cause = cause
-input_cause words before middle after form (ScriptRefused line kind) read told later cause = absurd cause
-input_cause words before middle after form (WriteFault place) read told later cause = cause
+input_cause words before middle after program WantOfMemory read told later cause = tt
+input_cause words before middle after program Usage read told later cause = absurd cause
+input_cause words before middle after program Done read told later cause = cause
+input_cause words before middle after program (ScriptRefused line kind) read told later cause = absurd cause
+input_cause words before middle after program (WriteFault place) read told later cause = cause
+input_cause words before middle after program (Trap origin kind element) read told later cause = absurd cause
 
--- the run of the form over the rows of its input
-pub form_runs : (words : List (List ℕ)) (before : Seen (List NamedBytes)) (form : Form) (rows : List Value) (name text screen : List ℕ) → ReadsForm words before form
-    → HasRows before.told (input_of form) rows → Results form rows name text screen → IsPrepared words before.told (record { name = name; text = text }) screen
-form_runs words before form rows name text screen read has results =
-    (program_of form, rows ∷ [], (form_read words before form read, (has, tt)), results.files, results.shown)
+-- the run of a program over the rows of its input
+program_runs : (words : List (List ℕ)) (before : Seen (List NamedBytes)) (program : Program) (rows : List Value) (read : ReadsProgram words before program)
+    → HasRows before.told (input_of program) rows → Runs words before.told read.1 (rows ∷ [])
+program_runs words before program rows read has =
+    (read.2, subst (λ (inputs : List Wanted). AllHaveRows before.told inputs (rows ∷ [])) (sym (program_inputs program read.0 read.1 read.3)) (has, tt))
+
+pub prepared : (words : List (List ℕ)) (before : Seen (List NamedBytes)) (program : Program) (rows : List Value) (name text screen : List ℕ) → ReadsProgram words before program
+    → HasRows before.told (input_of program) rows → Results program rows name text screen → IsPrepared words before.told (record { name = name; text = text }) screen
+prepared words before program rows name text screen read has results = (
+  read.1,
+  rows ∷ [],
+  (program_runs words before program rows read has, results.through read.0 read.1 read.3),
+  results.files read.0 read.1 read.3,
+  results.shown read.0 read.1 read.3,
+)
+
+pub trapped_run : (words : List (List ℕ)) (before : Seen (List NamedBytes)) (program : Program) (rows : List Value) (trapped : Trapped) → ReadsProgram words before program
+    → HasRows before.told (input_of program) rows → Traps program rows trapped → IsTrapped words before.told trapped
+trapped_run words before program rows trapped read has traps =
+    (read.1, rows ∷ [], program_runs words before program rows read has, traps read.0 read.1 read.3)
 
 -- what is said of a refusal, where there is one
 pub from_err : {T E P : Type 0} (r : Result T E) → is_err r ≡ true → OnErr r P → P
@@ -129,6 +154,7 @@ delivered words before after file screen (ReadFault name) prepared left = absurd
 delivered words before after file screen (ScriptRefused line kind) prepared left = absurd left
 delivered words before after file screen (InputRefused name row column kind) prepared left = absurd left
 delivered words before after file screen WantOfMemory prepared left = absurd left
+delivered words before after file screen (Trap origin kind element) prepared left = absurd left
 
 -- what a run that was refused answers
 pub refusal : (words : List (List ℕ)) (before after : World) (status : Status) → IsCause words before.source after.source status → IsRefused status before after → Answers words before after status
@@ -141,3 +167,21 @@ refusal words before after (InputRefused name row column kind) cause left = (cau
 refusal words before after WantOfMemory cause left = (cause, left)
 refusal words before after Done cause left = absurd cause
 refusal words before after (WriteFault place) cause left = absurd cause
+refusal words before after (Trap origin kind element) cause left = absurd cause
+
+-- what a run answers whose first trap is this one
+pub trapped : (words : List (List ℕ)) (before after : World) (first : Trapped) → IsTrapped words before.source.told first → after.shelf ≡ before.shelf
+    → HasLine (trap_line first.name first.kind first.element) before.screen after.screen → Answers words before after (Trap first.origin first.kind first.element)
+trapped words before after first run left line = (
+  run.0,
+  run.1,
+  run.2,
+  run.3.0,
+  left,
+  subst (λ (name : List ℕ). HasLine (trap_line name first.kind first.element) before.screen after.screen) run.3.1 line,
+)
+
+pub stopped_run : (words : List (List ℕ)) (before after : Seen (List NamedBytes)) (program : Program) (rows : List Value) (why : Stop) → ReadsProgram words before program
+    → HasRows before.told (input_of program) rows → IsStop program rows why → IsStopped words before after why
+stopped_run words before after program rows (stop.Refused status) read has memory = subst (λ (s : Status). IsCause words before after s) (sym memory) tt
+stopped_run words before after program rows (stop.Trapped trapped) read has traps = trapped_run words before program rows trapped read has traps

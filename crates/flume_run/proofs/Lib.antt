@@ -1,9 +1,5 @@
-pub mod CallLemmas
 pub mod CauseLemmas
 pub mod CompleteLemmas
-pub mod FormLemmas
-pub mod KindLemmas
+pub mod EvaluatorLemmas
 pub mod RunLemmas
-pub mod SaidLemmas
-pub mod SplitLemmas
 pub mod TextLemmas

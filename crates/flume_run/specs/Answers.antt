@@ -6,31 +6,26 @@ use Rattle.csv_rows.specs.declared.fault.RowFault.TheVariants.{Bad}
 use Rattle.csv_rows.specs.declared.fault.RowKind.{RowKind}
 use Rattle.flume_run.specs.declared.status.ScriptKind.{ScriptKind}
 use Rattle.flume_run.specs.declared.status.ScriptKind.TheVariants.{Syntax}
+use Rattle.flume_value.specs.declared.fault.Kind.{Kind}
 use Rattle.flume_value.specs.declared.value.Value.{Value}
-use Rattle.outside.specs.Cause.{Rose}
+use Rattle.outside.specs.Cause.{Rose, RoseBy}
 use Rattle.outside.specs.Files.{bytes_of, with_file}
 use Rattle.outside.specs.Save.{IsCutShort, HasFront}
 use Rattle.outside.specs.Told.{WhereTold}
 use Rattle.outside.specs.declared.file.File.{File as NamedBytes}
+use Rattle.printing.specs.Said.{Seen, seen}
 use Rattle.flume_run.specs.Accepted.{Accepted}
-use Rattle.flume_run.specs.Lines.{line_of}
-use Rattle.flume_run.specs.Script.{Program, Wanted, inputs_of}
-use Rattle.flume_run.specs.Texts.{Written, files_of, screen_text}
+use Rattle.flume_run.specs.Direct.{traps_of}
+use Rattle.flume_run.specs.Lines.{line_of, trap_line}
+use Rattle.flume_program.specs.Script.{Script}
+use Rattle.flume_run.specs.Inputs.{Wanted, inputs_of}
+use Rattle.flume_run.specs.Texts.{Written, files_of, name_at, screen_text}
 use Rattle.flume_run.specs.Words.{script_asked}
-use Rattle.flume_run.specs.declared.limits.TheConstants.{SCRIPT_LIMIT, INPUT_LIMIT}
+use Rattle.flume_run.specs.declared.limits.TheConstants.{SCRIPT_LIMIT, INPUT_LIMIT, TRIES}
 use Rattle.flume_run.specs.declared.status.Place.{Place}
 use Rattle.flume_run.specs.declared.status.Place.TheVariants.{File, Screen}
 use Rattle.flume_run.specs.declared.status.Status.{Status}
-use Rattle.flume_run.specs.declared.status.Status.TheVariants.{Done, Usage, ScriptRefused, InputRefused, ReadFault, WriteFault, WantOfMemory, TooLong, NoFile}
-
--- what a source, a shelf or a screen tells, and how often it has failed
-pub record Seen (A : Type 0) : Type 0 where
-  pub told : Option A
-  pub faults : ℕ
-
--- how one stands at a moment, by its ghost members
-abbrev pub seen : {D A : Type 0} → (D → Option A) → (D → ℕ) → D → Seen A
-seen told faults outside = record { told = told outside; faults = faults outside }
+use Rattle.flume_run.specs.declared.status.Status.TheVariants.{Done, Usage, ScriptRefused, InputRefused, Trap, ReadFault, WriteFault, WantOfMemory, TooLong, NoFile}
 
 -- all of the outside, at one moment
 pub record World : Type 0 where
@@ -58,10 +53,10 @@ IsAbove told name limit = IfSome told (λ files. IsSomeAnd (bytes_of files name)
 abbrev pub IsMissing : Option (List NamedBytes) → List ℕ → Type 0
 IsMissing told name = IfSome told (λ files. bytes_of files name ≡ None)
 
--- the words ask for a script whose bytes are accepted as this program
-abbrev pub Reads : List (List ℕ) → Option (List NamedBytes) → Program → Type 0
-Reads words told program =
-    (name : List ℕ) × (bytes : List ℕ) × (script_asked words ≡ Some name) × Loads told name SCRIPT_LIMIT bytes × Accepted bytes program
+-- the words ask for a script whose bytes are accepted as this script
+abbrev pub Reads : List (List ℕ) → Option (List NamedBytes) → Script → Type 0
+Reads words told script =
+    (name : List ℕ) × (bytes : List ℕ) × (script_asked words ≡ Some name) × Loads told name SCRIPT_LIMIT bytes × Accepted bytes script
 
 -- the file of an input has these rows
 abbrev pub HasRows : Option (List NamedBytes) → Wanted → List Value → Type 0
@@ -74,15 +69,19 @@ AllHaveRows told [] (rows ∷ others) = ⊥
 AllHaveRows told (wanted ∷ inputs) [] = ⊥
 AllHaveRows told (wanted ∷ inputs) (rows ∷ others) = HasRows told wanted rows × AllHaveRows told inputs others
 
--- the script is accepted as this program, and its inputs have these rows
-abbrev pub Runs : List (List ℕ) → Option (List NamedBytes) → Program → List (List Value) → Type 0
-Runs words told program rows = Reads words told program × AllHaveRows told (inputs_of program.nodes) rows
+-- the script is accepted as this script, and its inputs have these rows
+abbrev pub Runs : List (List ℕ) → Option (List NamedBytes) → Script → List (List Value) → Type 0
+Runs words told script rows = Reads words told script × AllHaveRows told (inputs_of script.nodes) rows
 
--- it is the turn of an input: the script is accepted as this program, and the inputs before this one have rows
+-- the same, and no call traps
+abbrev pub RunsThrough : List (List ℕ) → Option (List NamedBytes) → Script → List (List Value) → Type 0
+RunsThrough words told script rows = Runs words told script rows × (traps_of script rows ≡ [])
+
+-- it is the turn of an input: the script is accepted as this script, and the inputs before this one have rows
 abbrev pub IsTurnOf : List (List ℕ) → Option (List NamedBytes) → Wanted → Type 0
 IsTurnOf words told wanted =
-    (program : Program) × (before : List Wanted) × (behind : List Wanted) × (rows : List (List Value))
-    × Reads words told program × (inputs_of program.nodes ≡ before ++ wanted ∷ behind) × AllHaveRows told before rows
+    (script : Script) × (before : List Wanted) × (behind : List Wanted) × (rows : List (List Value))
+    × Reads words told script × (inputs_of script.nodes ≡ before ++ wanted ∷ behind) × AllHaveRows told before rows
 
 -- it is the turn of a file to be loaded, with that limit: the script's, or an input's
 abbrev pub IsAskedFor : List (List ℕ) → Option (List NamedBytes) → List ℕ → ℕ → Type 0
@@ -103,6 +102,7 @@ IsRefused status before after = (after.shelf ≡ before.shelf) × HasLine (line_
 abbrev pub IsRefusal : Status → World → World → Type 0
 IsRefusal Done before after = ⊤
 IsRefusal (WriteFault place) before after = ⊤
+IsRefusal (Trap origin kind element) before after = ⊤
 IsRefusal status before after = IsRefused status before after
 
 -- the files with these written, one after the other: each in place of the file of its name, or behind the others
@@ -126,25 +126,33 @@ FailsAt name written before after =
 -- meaning, and the screen has got the graph, the plan, the sizes and `done`
 abbrev pub IsDone : List (List ℕ) → World → World → Type 0
 IsDone words before after =
-    (program : Program) × (rows : List (List Value)) × Runs words before.source.told program rows
-    × HasFiles (files_of program rows) before.shelf after.shelf
-    × (after.screen.told ≡ option_map (λ text. text ++ screen_text program rows) before.screen.told)
+    (script : Script) × (rows : List (List Value)) × RunsThrough words before.source.told script rows
+    × HasFiles (files_of script rows) before.shelf after.shelf
+    × (after.screen.told ≡ option_map (λ text. text ++ screen_text script rows) before.screen.told)
     × (after.screen.faults ≡ before.screen.faults)
 
 -- WriteFault of a file: the run came to its writing, and the shelf failed there
 abbrev pub IsFileFault : List ℕ → List (List ℕ) → World → World → Type 0
 IsFileFault name words before after =
-    (program : Program) × (rows : List (List Value)) × Runs words before.source.told program rows
-    × FailsAt name (files_of program rows) before.shelf after.shelf
+    (script : Script) × (rows : List (List Value)) × RunsThrough words before.source.told script rows
+    × FailsAt name (files_of script rows) before.shelf after.shelf
     × HasLine (line_of (WriteFault (File name))) before.screen after.screen
 
 -- WriteFault of the screen: every output file is whole, and the screen has a front of its text
 abbrev pub IsScreenFault : List (List ℕ) → World → World → Type 0
 IsScreenFault words before after =
-    (program : Program) × (rows : List (List Value)) × Runs words before.source.told program rows
-    × HasFiles (files_of program rows) before.shelf after.shelf
+    (script : Script) × (rows : List (List Value)) × RunsThrough words before.source.told script rows
+    × HasFiles (files_of script rows) before.shelf after.shelf
     × Rose before.screen.faults after.screen.faults
-    × WhereTold before.screen.told after.screen.told (HasFront (screen_text program rows))
+    × WhereTold before.screen.told after.screen.told (HasFront (screen_text script rows))
+
+-- Trap: the inputs were decoded, and this is the first trap of the script, by the place of its node in the script, then
+-- by element; the shelf is untouched
+abbrev pub IsTrap : ℕ → Kind → Value → List (List ℕ) → World → World → Type 0
+IsTrap origin kind element words before after =
+    (script : Script) × (rows : List (List Value)) × Runs words before.source.told script rows
+    × (slice_get (traps_of script rows) 0 ≡ Some (record { origin = origin; kind = kind; element = element }))
+    × (after.shelf ≡ before.shelf) × HasLine (trap_line (name_at script.nodes origin) kind element) before.screen after.screen
 
 -- Usage: the words ask for no script
 abbrev pub IsUsage : List (List ℕ) → Type 0
@@ -158,15 +166,15 @@ IsNoFile name words source = (limit : ℕ) × IsAskedFor words source.told name 
 abbrev pub IsTooLong : List ℕ → ℕ → List (List ℕ) → Seen (List NamedBytes) → Type 0
 IsTooLong name limit words source = IsAskedFor words source.told name limit × IsAbove source.told name limit
 
--- ReadFault: it is the file's turn, and the source failed
+-- ReadFault: it is the file's turn, and the source failed in both of its loads
 abbrev pub IsReadFault : List ℕ → List (List ℕ) → Seen (List NamedBytes) → Seen (List NamedBytes) → Type 0
-IsReadFault name words source after = (limit : ℕ) × IsAskedFor words source.told name limit × Rose source.faults after.faults
+IsReadFault name words source after = (limit : ℕ) × IsAskedFor words source.told name limit × RoseBy TRIES source.faults after.faults
 
--- ScriptRefused: the script was loaded, and no program is accepted as its bytes
+-- ScriptRefused: the script was loaded, and no script is accepted as its bytes
 abbrev pub IsScriptRefused : ℕ → ScriptKind → List (List ℕ) → Seen (List NamedBytes) → Type 0
 IsScriptRefused line kind words source =
     (name : List ℕ) × (bytes : List ℕ) × (script_asked words ≡ Some name) × Loads source.told name SCRIPT_LIMIT bytes
-    × ((program : Program) → Accepted bytes program → ⊥) × (line ≡ 0) × (kind ≡ Syntax)
+    × ((script : Script) → Accepted bytes script → ⊥) × (line ≡ 0) × (kind ≡ Syntax)
 
 -- InputRefused: it is the input's turn, its file was loaded, and this is the first fault of its rows
 abbrev pub IsInputRefused : List ℕ → ℕ → ℕ → RowKind → List (List ℕ) → Seen (List NamedBytes) → Type 0
@@ -193,13 +201,21 @@ IsWritten words before after Screen = IsScreenFault words before after
 -- what each answer says of the words, of what stood before the call and of what stands after it
 abbrev pub Answers : List (List ℕ) → World → World → Status → Type 0
 Answers words before after Done = IsDone words before after
+Answers words before after (Trap origin kind element) = IsTrap origin kind element words before after
 Answers words before after (WriteFault place) = IsWritten words before after place
 Answers words before after status = IsCause words before.source after.source status × IsRefused status before after
 
--- All that a run needs is there, and no count of faults rises.
+-- All that a run needs is there, the source fails less often than each file may be tried, and no other count of faults rises.
 pub record CanRun (words : List (List ℕ)) (before after : World) : Type 0 where
   pub told : IsSome before.source.told
-  pub runs : (program : Program) × (rows : List (List Value)) × Runs words before.source.told program rows
-  pub source : Rose before.source.faults after.source.faults → ⊥
+  pub runs : (script : Script) × (rows : List (List Value)) × Runs words before.source.told script rows
+  pub source : RoseBy TRIES before.source.faults after.source.faults → ⊥
   pub shelf : Rose before.shelf.faults after.shelf.faults → ⊥
   pub screen : Rose before.screen.faults after.screen.faults → ⊥
+
+-- the call came to its end: it is done, or a call of a function traps; or it found no memory
+abbrev pub IsEnd : Status → Type 0
+IsEnd Done = ⊤
+IsEnd (Trap origin kind element) = ⊤
+IsEnd WantOfMemory = ⊤
+IsEnd status = ⊥

@@ -1,7 +1,7 @@
 -- Exit statuses.
 use Rattle.std.specs.Prelude.{ℕ}
 use Rattle.flume_run.specs.declared.status.Status.{Status}
-use Rattle.flume_run.specs.declared.status.Status.TheVariants.{Done, Usage, ScriptRefused, InputRefused, ReadFault, WriteFault, WantOfMemory, TooLong, NoFile}
+use Rattle.flume_run.specs.declared.status.Status.TheVariants.{Done, Usage, ScriptRefused, InputRefused, Trap, ReadFault, WriteFault, WantOfMemory, TooLong, NoFile}
 
 -- the exit status of the program for each answer
 abbrev pub code_of : Status → ℕ
@@ -9,6 +9,7 @@ code_of Done = 0
 code_of Usage = 2
 code_of (ScriptRefused line kind) = 3
 code_of (InputRefused name row column kind) = 4
+code_of (Trap origin kind element) = 5
 code_of (ReadFault name) = 6
 code_of (WriteFault place) = 7
 code_of WantOfMemory = 9

@@ -4,8 +4,9 @@ use Rattle.std.specs.List.{flat_map}
 use Rattle.flume_value.specs.Bag.{bag_of}
 use Rattle.flume_value.specs.declared.value.Value.{Value}
 use Rattle.flume_value.specs.declared.fault.Kind.{Kind}
-use Rattle.flume_run.specs.Call.{Function, Outcome, Gives, Traps, Stuck, means}
-use Rattle.flume_run.specs.Script.{Operation, Input, Do, Node, Program}
+use Rattle.dofn_check.specs.Call.{Function, means}
+use Rattle.dofn_eval.specs.Outcome.{Outcome, Gives, Traps, Stuck}
+use Rattle.flume_program.specs.Script.{Operation, Input, Do, Node, Output, Script}
 
 -- a call that traps: the number of the collection that its statement makes, why, and on which element
 pub record Trap : Type 0 where
@@ -62,9 +63,14 @@ collections (node ∷ nodes) inputs made =
     collections nodes (inputs_behind node.operation inputs) (made ++ made_by (length made) node.operation inputs made ∷ [])
 
 -- the direct meaning of a script over the rows of its inputs, in their order: a collection for each statement
-abbrev pub meaning : Program → List (List Value) → List Collection
-meaning program inputs = collections program.nodes inputs []
+abbrev pub meaning : Script → List (List Value) → List Collection
+meaning script inputs = collections script.nodes inputs []
 
 -- how many members a collection has, as far as 64 bits count
 abbrev pub size_of : Collection → ℕ
 size_of collection = min (length collection.bag) (2 ^ 64 - 1)
+
+-- the traps of a script: those of the collections that its outputs read, with all that stand behind these, in order of
+-- their nodes and then of their elements
+abbrev pub traps_of : Script → List (List Value) → List Trap
+traps_of script inputs = flat_map (λ output. (collection_at (meaning script inputs) output.reads).traps) script.outputs

@@ -1,15 +1,9 @@
 pub mod Accepted
 pub mod Answers
-pub mod Call
 pub mod Codes
 pub mod Course
 pub mod Direct
-pub mod Expected
-pub mod FormTokens
+pub mod Inputs
 pub mod Lines
-pub mod Printed
-pub mod Said
-pub mod Script
-pub mod Split
 pub mod Texts
 pub mod Words

@@ -7,8 +7,11 @@ use Rattle.flume_run.specs.declared.status.ScriptKind.TheVariants as script
 use Rattle.flume_run.specs.declared.status.Place.{Place}
 use Rattle.flume_run.specs.declared.status.Place.TheVariants.{File, Screen}
 use Rattle.flume_run.specs.declared.status.Status.{Status}
-use Rattle.flume_run.specs.declared.status.Status.TheVariants.{Done, Usage, ScriptRefused, InputRefused, ReadFault, WriteFault, WantOfMemory, TooLong, NoFile}
-use Rattle.flume_run.specs.Printed.{quoted}
+use Rattle.flume_run.specs.declared.status.Status.TheVariants.{Done, Usage, ScriptRefused, InputRefused, Trap, ReadFault, WriteFault, WantOfMemory, TooLong, NoFile}
+use Rattle.flume_value.specs.declared.fault.Kind.{Kind}
+use Rattle.flume_value.specs.declared.fault.Kind.TheVariants as trap
+use Rattle.flume_value.specs.declared.value.Value.{Value}
+use Rattle.printing.specs.Printed.{quoted, printed}
 
 -- the name of each kind of fault of an input
 abbrev pub row_kind_name : RowKind → List ℕ
@@ -22,6 +25,17 @@ row_kind_name row.Utf8 = codes "Utf8"
 abbrev pub script_kind_name : ScriptKind → List ℕ
 script_kind_name script.Syntax = codes "Syntax"
 
+-- the name of each kind of trap
+abbrev pub trap_kind_name : Kind → List ℕ
+trap_kind_name trap.Overflow = codes "Overflow"
+trap_kind_name trap.DivideByZero = codes "DivideByZero"
+trap_kind_name trap.BadIndex = codes "BadIndex"
+trap_kind_name trap.BadNumber = codes "BadNumber"
+
+-- the line of a trap, whose node has that name
+abbrev pub trap_line : List ℕ → Kind → Value → List ℕ
+trap_line name kind element = codes "trap at " ++ (name ++ (codes ": " ++ (trap_kind_name kind ++ (codes " on " ++ (printed element ++ codes "\n")))))
+
 -- the commands, for one who asks for none of them
 abbrev pub usage_line : List ℕ
 usage_line = codes "usage: flume check S | plan S [--json] | direct S | run S [options] | make START ROWS\n"
@@ -30,10 +44,11 @@ abbrev pub place_line : Place → List ℕ
 place_line (File name) = codes "write fault: " ++ (quoted name ++ codes "\n")
 place_line Screen = []
 
--- the line of a refusal; a screen that failed gets none, nor does a call that is done
+-- the line of a refusal; a screen that failed gets none, nor does a call that is done, and a trap's line names its node
 abbrev pub line_of : Status → List ℕ
 line_of Done = []
 line_of Usage = usage_line
+line_of (Trap origin kind element) = []
 line_of (ScriptRefused line kind) =
     codes "script refused at line " ++ (decimal line ++ (codes ": " ++ (script_kind_name kind ++ codes "\n")))
 line_of (InputRefused name row column kind) =

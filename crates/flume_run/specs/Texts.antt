@@ -6,10 +6,10 @@ use Rattle.csv_rows.specs.Text.{text_of}
 use Rattle.flume_types.specs.declared.types.Ty.{Ty}
 use Rattle.flume_types.specs.declared.types.Ty.TheVariants as ty
 use Rattle.flume_value.specs.declared.value.Value.{Value}
-use Rattle.flume_run.specs.Call.{Function}
+use Rattle.dofn_check.specs.Call.{Function}
 use Rattle.flume_run.specs.Direct.{Collection, collection_at, meaning, size_of}
-use Rattle.flume_run.specs.Printed.{quoted}
-use Rattle.flume_run.specs.Script.{Operation, Input, Do, Node, Output, Program, element_type}
+use Rattle.printing.specs.Printed.{quoted}
+use Rattle.flume_program.specs.Script.{Operation, Input, Do, Node, Output, Script, element_type}
 
 -- a step of a `do` statement: the collection that it makes, and the function that it calls
 abbrev pub step_text : List ℕ → Function → List ℕ
@@ -31,9 +31,9 @@ output_line output collection =
     codes "output " ++ (output.name ++ (codes " reads " ++ (collection ++ (codes " to " ++ (quoted output.file ++ codes "\n")))))
 
 -- the execution graph of a script: a line for each node, and for each output
-abbrev pub graph_text : Program → List ℕ
-graph_text program =
-    codes "graph\n" ++ (node_lines 0 program.nodes ++ flat_map (λ output. output_line output (decimal output.reads)) program.outputs)
+abbrev pub graph_text : Script → List ℕ
+graph_text script =
+    codes "graph\n" ++ (node_lines 0 script.nodes ++ flat_map (λ output. output_line output (decimal output.reads)) script.outputs)
 
 -- the plan of one `do` over one input: a single stage, whose mapper passes its emissions on
 abbrev pub one_do_plan : List ℕ → Operation → List Output → List ℕ
@@ -47,8 +47,8 @@ abbrev pub plan_of : List Node → List Output → List ℕ
 plan_of (input ∷ node ∷ []) outputs = one_do_plan node.name node.operation outputs
 plan_of nodes outputs = []
 
-abbrev pub plan_text : Program → List ℕ
-plan_text program = plan_of program.nodes program.outputs
+abbrev pub plan_text : Script → List ℕ
+plan_text script = plan_of script.nodes script.outputs
 
 -- the line of a collection's size
 abbrev pub size_line : List ℕ → ℕ → List ℕ
@@ -60,26 +60,30 @@ size_lines (node ∷ nodes) [] = []
 size_lines (node ∷ nodes) (collection ∷ collections) = size_line node.name (size_of collection) ++ size_lines nodes collections
 
 -- what the screen gets of a run over these rows: the graph, the plan, the sizes, and `done`
-abbrev pub screen_text : Program → List (List Value) → List ℕ
-screen_text program rows =
-    graph_text program ++ (plan_text program ++ (size_lines program.nodes (meaning program rows) ++ codes "done\n"))
+abbrev pub screen_text : Script → List (List Value) → List ℕ
+screen_text script rows =
+    graph_text script ++ (plan_text script ++ (size_lines script.nodes (meaning script rows) ++ codes "done\n"))
 
 -- a file to be written, whole
 pub record Written : Type 0 where
   pub name : List ℕ
   pub text : List ℕ
 
+-- the name of the collection of a number
+abbrev pub name_at : List Node → ℕ → List ℕ
+name_at nodes number = option_map_or (λ node. node.name) (slice_get nodes number) []
+
 -- the type of the members of the collection of a number
 abbrev pub type_at : List Node → ℕ → Ty
 type_at nodes number = option_map_or (λ node. element_type node.operation) (slice_get nodes number) ty.Int
 
 -- an output's file: the sorted text of the bag of its collection
-abbrev pub file_of : Program → List Collection → Output → Written
-file_of program made output = record {
+abbrev pub file_of : Script → List Collection → Output → Written
+file_of script made output = record {
   name = output.file;
-  text = text_of (collection_at made output.reads).bag (type_at program.nodes output.reads);
+  text = text_of (collection_at made output.reads).bag (type_at script.nodes output.reads);
 }
 
 -- the files that a run over these rows writes
-abbrev pub files_of : Program → List (List Value) → List Written
-files_of program rows = map (file_of program (meaning program rows)) program.outputs
+abbrev pub files_of : Script → List (List Value) → List Written
+files_of script rows = map (file_of script (meaning script rows)) script.outputs

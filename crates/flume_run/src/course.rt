@@ -1,21 +1,27 @@
 // The course of a call: every growth comes first, then the output file, then the screen.
-ghost use Rattle.std.specs.Prelude.{◌≡◌, ◌≤◌, ◌⊎◌, IfErr, IfOk, IsUtf8, map, string_bytes};
-ghost use Rattle.flume_run.specs.Accepted.{row_type as type_of_rows};
-ghost use Rattle.flume_run.specs.Answers.{Answers, HasRows, IsCause, Loads, seen, world};
-ghost use Rattle.flume_run.specs.Course.{Delivers, IsInputCause, IsLoadCause, IsPrepared, IsScriptCause, ReadsForm, Results, fault_status, input_of, status_of};
+ghost use Rattle.std.specs.Prelude.{◌≡◌, ◌≢◌, ◌<◌, ◌≤◌, ◌^◌, ◌⊎◌, [], All, Err, IfErr, IfOk, IsSome, IsTrue, IsUtf8, length, map, string_bytes};
+ghost use Rattle.flume_types.specs.Columns.{columns_of, input_columns_of};
+ghost use Rattle.flume_types.specs.Typing.{has_type};
+ghost use Rattle.csv_rows.specs.Text.{text_of};
+ghost use Rattle.flume_value.specs.Bag.{bag_of};
+ghost use Rattle.flume_program.specs.Script.{Script};
+ghost use Rattle.flume_run.specs.Accepted.{Accepted};
+ghost use Rattle.flume_run.specs.Answers.{Answers, HasRows, IsCause, Loads, world};
+ghost use Rattle.printing.specs.Said.{seen};
+ghost use Rattle.flume_run.specs.Course.{Delivers, IsFit, IsInputCause, IsLoadCause, IsPrepared, IsProgramOf, IsRunText, IsScriptCause, IsStop, IsStopped, ReadsProgram, Results, Traps, all_traps, fault_status, input_of, status_of};
 
-use crate::evaluator::emit_all;
-use crate::form::Form;
-use crate::limits::{INPUT_LIMIT, SCRIPT_LIMIT};
-use crate::lines::tell;
-use crate::reader::{FormFault, read_script};
+use crate::evaluator::{emit_all, first_trap};
+use crate::limits::{INPUT_LIMIT, SCRIPT_LIMIT, TRIES};
+use crate::lines::{tell, tell_trap};
 use crate::status::{Place, ScriptKind, Status};
 use crate::texts::run_text;
+use crate::trapped::{Stop, Trapped};
 use crate::words::script_asked;
 use csv_rows::{RowFault, rows, text};
-use flume_types::{Field, Ty};
-use flume_value::{Items, Pile, Str};
-use outside::{LoadFault, Screen, Shelf, Source, load, save, say};
+use flume_program::{Program, Refusal, check};
+use flume_syntax::{ScriptFault, parse};
+use flume_value::{CallFault, Items, Pile, Str, Value, sorted};
+use outside::{LoadFault, Screen, Shelf, Source, load_tried, save, say};
 use std::alloc::{AllocError, Global};
 use std::str;
 
@@ -42,7 +48,7 @@ fn refused(alloc: Global, name: &str, limit: u64, fault: LoadFault) -> Status
     }
 }
 
-// Loads a file, once.
+// Loads a file; where the source fails, once more.
 fn loaded<R: Source>(
     alloc: Global,
     source: &mut R,
@@ -54,16 +60,30 @@ fn loaded<R: Source>(
     ensures err { IfErr result (IsLoadCause (seen R.files R.faults source.old) (seen R.files R.faults source.new) name.now limit) }
     ensures later { R.faults source.old ≤ R.faults source.new }
 {
-    match load(alloc, source, name, limit) {
+    match load_tried(alloc, source, name, limit, TRIES) {
         Ok(bytes) => Ok(bytes),
         Err(fault) => Err(refused(alloc, name, limit, fault)),
     }
 }
 
-// Loads and reads the script that the words ask for.
-fn script_of<R: Source>(alloc: Global, words: &[String], source: &mut R) -> Result<Form, Status>
+// The program of the bytes of a script.
+fn program_of(alloc: Global, bytes: &[u8]) -> Result<Program, Refusal>
+    ensures accepted { IfOk result (λ program. IsProgramOf bytes.now program) }
+    ensures refused { (result ≡ Err Refusal.NotAccepted) → (script : Script) → Accepted bytes.now script → ⊥ }
+    ensures fit { IfOk result IsFit }
+{
+    match parse(alloc, bytes) {
+        Ok(ast) => check(alloc, &ast),
+        Err(ScriptFault::Refused { .. }) => Err(Refusal::NotAccepted),
+        Err(ScriptFault::Memory) => Err(Refusal::Memory),
+    }
+}
+
+// Loads and checks the script that the words ask for.
+fn script_of<R: Source>(alloc: Global, words: &[String], source: &mut R) -> Result<Program, Status>
     ensures files { R.files source.new ≡ R.files source.old }
-    ensures ok { IfOk result (λ form. ReadsForm (map string_bytes words.now) (seen R.files R.faults source.old) form) }
+    ensures ok { IfOk result (λ program. ReadsProgram (map string_bytes words.now) (seen R.files R.faults source.old) program) }
+    ensures fit { IfOk result IsFit }
     ensures err { IfErr result (IsScriptCause (map string_bytes words.now)
         (seen R.files R.faults source.old) (seen R.files R.faults source.new)) }
     ensures later { R.faults source.old ≤ R.faults source.new }
@@ -72,26 +92,14 @@ fn script_of<R: Source>(alloc: Global, words: &[String], source: &mut R) -> Resu
         return Err(Status::Usage);
     };
     let bytes = loaded(alloc, source, name, SCRIPT_LIMIT)?;
-    match read_script(alloc, &bytes) {
-        Ok(form) => Ok(form),
-        Err(FormFault::NotTheForm) => Err(Status::ScriptRefused {
+    match program_of(alloc, &bytes) {
+        Ok(program) => Ok(program),
+        Err(Refusal::NotAccepted) => Err(Status::ScriptRefused {
             line: 0,
             kind: ScriptKind::Syntax,
         }),
-        Err(FormFault::Memory) => Err(Status::WantOfMemory),
+        Err(Refusal::Memory) => Err(Status::WantOfMemory),
     }
-}
-
-// The type of the form's rows: a record of one field, a text.
-fn row_type(alloc: Global, form: &Form) -> Result<Ty, AllocError>
-    ensures { IfOk result (λ ty. ty ≡ type_of_rows form.now) }
-{
-    let mut fields = Pile::new(alloc);
-    fields.push(Field {
-        name: form.field.copy(alloc)?,
-        ty: Ty::Text,
-    })?;
-    Ok(Ty::Rec(fields))
 }
 
 // What a refused input is answered with.
@@ -112,57 +120,92 @@ fn input_refused(alloc: Global, name: &str, fault: RowFault) -> Status
     }
 }
 
-// Loads and decodes the form's input.
-fn rows_of_input<R: Source>(alloc: Global, form: &Form, source: &mut R) -> Result<Items, Status>
-    requires { IsUtf8 form.now.input_file }
+// Loads and decodes the input of a program.
+fn rows_of_input<R: Source>(alloc: Global, program: &Program, source: &mut R) -> Result<Items, Status>
+    requires fit { IsFit program.now }
     ensures files { R.files source.new ≡ R.files source.old }
-    ensures ok { IfOk result (λ rows. HasRows (R.files source.old) (input_of form.now) rows) }
-    ensures err { IfErr result (IsInputCause (seen R.files R.faults source.old) (seen R.files R.faults source.new) (input_of form.now)) }
+    ensures ok { IfOk result (λ rows. HasRows (R.files source.old) (input_of program.now) rows) }
+    ensures typed { IfOk result (λ rows. All (λ row. IsTrue (has_type row program.now.input.ty)) rows) }
+    ensures err { IfErr result (IsInputCause (seen R.files R.faults source.old) (seen R.files R.faults source.new) (input_of program.now)) }
     ensures later { R.faults source.old ≤ R.faults source.new }
 {
-    let Ok(name) = str::from_utf8(form.input_file.as_bytes()) else {
+    let Ok(name) = str::from_utf8(program.input.file.as_bytes()) else {
         unreachable!();
     };
     let bytes = loaded(alloc, source, name, INPUT_LIMIT)?;
-    let Ok(ty) = row_type(alloc, form) else {
-        return Err(Status::WantOfMemory);
-    };
-    match rows(alloc, &bytes, &ty) {
+    match rows(alloc, &bytes, &program.input.ty) {
         Ok(rows) => Ok(rows),
         Err(fault) => Err(input_refused(alloc, name, fault)),
     }
 }
 
-// What a run of the form over these rows writes.
-fn results(alloc: Global, form: Form, rows: Items) -> Result<Written, AllocError>
-    ensures results { IfOk result (λ written. Results form rows written.name written.text.items written.screen.items) }
-    ensures file { IfOk result (λ written. written.name ≡ form.output_file) }
+// What a run of a program over these rows writes, where the calls emit these values.
+fn results(
+    alloc: Global,
+    program: Program,
+    row_count: usize,
+    values: Vec<Value>,
+) -> Result<Written, AllocError>
+    requires flat { IsSome (columns_of program.fun.gives) }
+    requires typed { All (λ value. IsTrue (has_type value program.fun.gives)) values.items }
+    ensures file { IfOk result (λ written. written.name ≡ program.output_file) }
+    ensures text { IfOk result (λ written. written.text.items ≡ text_of (bag_of values.items) program.fun.gives) }
+    ensures small { IfOk result (λ written. length values.items < 2 ^ 64) }
+    ensures screen { IfOk result (λ written. IsRunText program row_count (length values.items) written.screen.items) }
 {
-    let row_count = rows.len();
-    let words = emit_all(alloc, rows.as_slice())?;
-    let screen = run_text(alloc, &form, row_count, words.len())?;
-    let text = text(alloc, Pile::from_vec(words), &Ty::Text)?;
+    let screen = run_text(alloc, &program, row_count, values.len())?;
+    let text = text(alloc, Pile::from_vec(values), program.fun.gives())?;
     Ok(Written {
-        name: form.output_file,
+        name: program.output_file,
         text,
         screen,
     })
 }
 
+// The first trap of a program's run over these rows.
+fn trapped(alloc: Global, program: Program, rows: Items) -> Result<Trapped, AllocError>
+    requires takes { program.fun.takes ≡ program.input.ty }
+    requires typed { All (λ row. IsTrue (has_type row program.input.ty)) rows }
+    requires traps { all_traps 1 program.fun rows ≢ [] }
+    ensures { IfOk result (Traps program rows) }
+{
+    let bag = sorted(rows.into_vec())?;
+    let first = first_trap(alloc, &program.fun, &bag)?;
+    Ok(Trapped {
+        origin: 1,
+        name: program.collection,
+        kind: first.kind,
+        element: first.element,
+    })
+}
+
+// Runs a program over the rows of its input.
+fn run_program(alloc: Global, program: Program, rows: Items) -> Result<Written, Stop>
+    requires fit { IsFit program }
+    requires typed { All (λ row. IsTrue (has_type row program.input.ty)) rows }
+    ensures results { IfOk result (λ written. Results program rows written.name written.text.items written.screen.items) }
+    ensures named { IfOk result (λ written. IsUtf8 written.name) }
+    ensures stop { IfErr result (IsStop program rows) }
+{
+    let row_count = rows.len();
+    match emit_all(alloc, &program.fun, rows.as_slice()) {
+        Ok(values) => Ok(results(alloc, program, row_count, values)?),
+        Err(CallFault::Trap(_)) => Err(Stop::Trapped(trapped(alloc, program, rows)?)),
+        Err(CallFault::Memory) => Err(Stop::Refused(Status::WantOfMemory)),
+    }
+}
+
 // Does all that a run does but its writing. Every growth of a call is here.
-fn prepare<R: Source>(alloc: Global, words: &[String], source: &mut R) -> Result<Written, Status>
+fn prepare<R: Source>(alloc: Global, words: &[String], source: &mut R) -> Result<Written, Stop>
     ensures ok { IfOk result (λ written. IsPrepared (map string_bytes words.now) (R.files source.old)
         (record { name = written.name; text = written.text.items }) written.screen.items) }
     ensures named { IfOk result (λ written. IsUtf8 written.name) }
-    ensures err { IfErr result (IsCause (map string_bytes words.now)
+    ensures err { IfErr result (IsStopped (map string_bytes words.now)
         (seen R.files R.faults source.old) (seen R.files R.faults source.new)) }
 {
-    let form = script_of(alloc, words, source)?;
-    let rows = rows_of_input(alloc, &form, source)?;
-    match results(alloc, form, rows) {
-        Ok(written) => Ok(written),
-        Err(_) => Err(Status::WantOfMemory),
-    }
+    let program = script_of(alloc, words, source)?;
+    let rows = rows_of_input(alloc, &program, source)?;
+    run_program(alloc, program, rows)
 }
 
 // Writes the file, and then the text of the screen.
@@ -204,9 +247,17 @@ pub fn run<R: Source, K: Shelf, P: Screen>(
 {
     match prepare(alloc, words, source) {
         Ok(written) => deliver(written, shelf, screen),
-        Err(status) => {
+        Err(Stop::Refused(status)) => {
             tell(screen, &status);
             status
+        }
+        Err(Stop::Trapped(trapped)) => {
+            tell_trap(screen, &trapped);
+            Status::Trap {
+                origin: trapped.origin,
+                kind: trapped.kind,
+                element: trapped.element,
+            }
         }
     }
 }

@@ -1,73 +1,51 @@
-// Runs the function of the form: it emits the words of the one text of each row.
-ghost use Rattle.std.specs.Prelude.{◌≡◌, ◌++◌, [], All, IfOk, IsTrue, OnOk, map};
-ghost use Rattle.std.specs.List.{flat_map};
-ghost use Rattle.std.specs.Option.{option_copied};
+// Calls a function on each row.
+ghost use Rattle.std.specs.Prelude.{◌≡◌, ◌≢◌, ◌++◌, [], Some, All, IfOk, IfErr, IsTrue, OnOk, slice_get};
 ghost use Rattle.flume_types.specs.Typing.{has_type};
-ghost use Rattle.flume_types.specs.declared.types.Ty.TheVariants as ty;
-ghost use Rattle.flume_value.specs.declared.value.Value.TheVariants as value;
-ghost use Rattle.flume_run.specs.Accepted.{function_of};
-ghost use Rattle.flume_run.specs.Call.{means};
-ghost use Rattle.flume_run.specs.Direct.{emissions};
-ghost use Rattle.flume_run.specs.Split.{ended, row_text as text_at, words_in, words_of};
-ghost use Rattle.flume_run.specs.declared.form.Form.{Form as FormNames};
+ghost use Rattle.flume_run.specs.Course.{IsTrapping, all_emissions, all_traps};
 
-use flume_value::{Str, Value};
+use dofn_eval::{Fun, call};
+use flume_value::{CallFault, Kind, Value, copy};
 use std::alloc::{AllocError, Global};
 
-/// What the function of the form emits for all rows, in order, whatever the form's names are.
-pub fn emit_all(alloc: Global, rows: &[Value]) -> Result<Vec<Value>, AllocError>
-    ensures emitted { IfOk result (λ words. (form : FormNames) →
-        words.items ≡ flat_map (λ row. emissions (means (function_of form) row)) rows.now) }
-    ensures typed { IfOk result (λ words. All (λ word. IsTrue (has_type word ty.Text)) words.items) }
-{
-    let mut words = Vec::new(alloc);
-    for row in rows {
-        emit(alloc, &mut words, row)?;
-    }
-    Ok(words)
+/// Why a call traps, and what it was called with.
+#[derive(Debug, Drop)]
+pub struct ElementTrap {
+    pub kind: Kind,
+    pub element: Value,
 }
 
-fn emit(alloc: Global, words: &mut Vec<Value>, row: &Value) -> Result<(), AllocError>
-    ensures { OnOk result (words.new.items ≡ words.old.items ++ words_in (text_at row.now)) }
+/// What the calls emit, one after another; or the fault of a call.
+pub fn emit_all(alloc: Global, fun: &Fun, elements: &[Value]) -> Result<Vec<Value>, CallFault>
+    requires { All (λ element. IsTrue (has_type element fun.now.takes)) elements.now }
+    ensures emitted { IfOk result (λ values. values.items ≡ all_emissions fun.now elements.now) }
+    ensures through { IfOk result (λ values. all_traps 1 fun.now elements.now ≡ []) }
+    ensures typed { IfOk result (λ values. All (λ value. IsTrue (has_type value fun.now.gives)) values.items) }
+    ensures trapping { IfErr result (λ fault. IsTrapping fault (all_traps 1 fun.now elements.now)) }
 {
-    match row_text(row) {
-        Some(text) => split_words(alloc, words, text),
-        None => Ok(()),
+    let mut values = Vec::new(alloc);
+    for element in elements {
+        let emissions = call(alloc, fun, element)?;
+        values.append(&mut emissions.into_vec())?;
     }
+    Ok(values)
 }
 
-fn row_text(row: &Value) -> Option<&[u8]>
-    ensures { option_copied result ≡ text_at row.now }
+/// The first call that traps.
+pub fn first_trap(alloc: Global, fun: &Fun, elements: &[Value]) -> Result<ElementTrap, AllocError>
+    requires typed { All (λ element. IsTrue (has_type element fun.now.takes)) elements.now }
+    requires traps { all_traps 1 fun.now elements.now ≢ [] }
+    ensures { IfOk result (λ trap. slice_get (all_traps 1 fun.now elements.now) 0
+        ≡ Some (record { origin = 1; kind = trap.kind; element = trap.element })) }
 {
-    let Value::Rec(parts) = row else {
-        return None;
-    };
-    match parts.as_slice() {
-        [Value::Text(text), ..] => Some(text.as_bytes()),
-        _ => None,
-    }
-}
-
-// Ends a word: where it has bytes it is a value.
-fn push_word(alloc: Global, words: &mut Vec<Value>, word: &[u8]) -> Result<(), AllocError>
-    ensures { OnOk result (words.new.items ≡ words.old.items ++ map value.Text (ended word.now [])) }
-{
-    if !word.is_empty() {
-        words.push(Value::Text(Str::from_slice(alloc, word)?))?;
-    }
-    Ok(())
-}
-
-// Adds the words of a text: its longest runs of bytes other than space.
-fn split_words(alloc: Global, words: &mut Vec<Value>, text: &[u8]) -> Result<(), AllocError>
-    ensures { OnOk result (words.new.items ≡ words.old.items ++ map value.Text (words_of text.now)) }
-{
-    let mut start = 0;
-    for at in 0..text.len() {
-        if text[at] == b' ' {
-            push_word(alloc, words, &text[start..at])?;
-            start = at + 1;
+    for element in elements {
+        match call(alloc, fun, element) {
+            Ok(_) => (),
+            Err(CallFault::Trap(kind)) => {
+                let element = copy(alloc, element)?;
+                return Ok(ElementTrap { kind, element });
+            }
+            Err(CallFault::Memory) => return Err(AllocError),
         }
     }
-    push_word(alloc, words, &text[start..])
+    unreachable!()
 }

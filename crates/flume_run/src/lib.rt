@@ -14,16 +14,16 @@
 
 mod course;
 mod evaluator;
-mod form;
 mod limits;
 mod lines;
-mod printed;
-mod reader;
 mod status;
+#[cfg(test)]
+mod row_tests;
 #[cfg(test)]
 mod tests;
 mod texts;
 mod top;
+mod trapped;
 mod words;
 
 pub use limits::{INPUT_LIMIT, SCRIPT_LIMIT};

@@ -1,17 +1,16 @@
 // The line of a refusal, which is written piece by piece and takes no memory.
-ghost use Rattle.std.specs.Prelude.{◌≡◌, ◌++◌, codes, decimal};
-ghost use Rattle.std.specs.List.{flat_map};
-ghost use Rattle.flume_run.specs.Answers.{HasLine, seen};
-ghost use Rattle.flume_run.specs.Lines.{line_of, place_line, row_kind_name, script_kind_name};
-ghost use Rattle.flume_run.specs.Printed.{escaped, quoted};
-ghost use Rattle.flume_run.specs.Said.{Says};
+ghost use Rattle.std.specs.Prelude.{◌≡◌};
+ghost use Rattle.flume_run.specs.Answers.{HasLine};
+ghost use Rattle.flume_run.specs.Lines.{line_of, place_line, row_kind_name, script_kind_name, trap_kind_name, trap_line};
+ghost use Rattle.printing.specs.Said.{Says, seen};
 
-use crate::printed::escape_of;
 use crate::status::{Place, ScriptKind, Status};
+use crate::trapped::Trapped;
 use csv_rows::RowKind;
 use itoa::Buffer;
-use outside::{Failed, Screen, say, say_all};
-use std::slice;
+use flume_value::Kind;
+use outside::{Failed, Screen};
+use printing::{say_named, say_plain, say_text, say_value};
 
 /// Writes the line of a refusal as far as the screen takes it.
 pub fn tell<P: Screen>(screen: &mut P, status: &Status)
@@ -20,11 +19,18 @@ pub fn tell<P: Screen>(screen: &mut P, status: &Status)
     let _ = say_line(screen, status);
 }
 
+/// Writes the line of a trap as far as the screen takes it.
+pub fn tell_trap<P: Screen>(screen: &mut P, trapped: &Trapped)
+    ensures { HasLine (trap_line trapped.now.name trapped.now.kind trapped.now.element) (seen P.text P.faults screen.old) (seen P.text P.faults screen.new) }
+{
+    let _ = say_trap(screen, trapped);
+}
+
 fn say_line<P: Screen>(screen: &mut P, status: &Status) -> Result<(), Failed>
     ensures { Says (line_of status.now) (seen P.text P.faults screen.old) (seen P.text P.faults screen.new) result }
 {
     match status {
-        Status::Done => say_plain(screen, &[]),
+        Status::Done | Status::Trap { .. } => say_plain(screen, &[]),
         Status::Usage => say_plain(
             screen,
             &[
@@ -44,6 +50,16 @@ fn say_line<P: Screen>(screen: &mut P, status: &Status) -> Result<(), Failed>
         Status::TooLong { name, limit } => say_too_long(screen, name.as_bytes(), *limit),
         Status::NoFile { name } => say_named(screen, b"no file: ", name.as_bytes(), &[b"\n"]),
     }
+}
+
+fn say_trap<P: Screen>(screen: &mut P, trapped: &Trapped) -> Result<(), Failed>
+    ensures { Says (trap_line trapped.now.name trapped.now.kind trapped.now.element) (seen P.text P.faults screen.old) (seen P.text P.faults screen.new) result }
+{
+    say_text(screen, b"trap at ")?;
+    say_text(screen, trapped.name.as_bytes())?;
+    say_plain(screen, &[b": ", trap_kind(trapped.kind), b" on "])?;
+    say_value(screen, &trapped.element)?;
+    say_text(screen, b"\n")
 }
 
 fn say_script_refused<P: Screen>(screen: &mut P, line: u32, kind: ScriptKind) -> Result<(), Failed>
@@ -109,6 +125,17 @@ fn say_place<P: Screen>(screen: &mut P, place: &Place) -> Result<(), Failed>
     }
 }
 
+fn trap_kind(kind: Kind) -> &'static [u8]
+    ensures { result.now ≡ trap_kind_name kind }
+{
+    match kind {
+        Kind::Overflow => b"Overflow",
+        Kind::DivideByZero => b"DivideByZero",
+        Kind::BadIndex => b"BadIndex",
+        Kind::BadNumber => b"BadNumber",
+    }
+}
+
 fn script_kind(kind: ScriptKind) -> &'static [u8]
     ensures { result.now ≡ script_kind_name kind }
 {
@@ -127,57 +154,4 @@ fn row_kind(kind: RowKind) -> &'static [u8]
         RowKind::NotBool => b"NotBool",
         RowKind::Utf8 => b"Utf8",
     }
-}
-
-// A name in quotes, behind a text and before others.
-fn say_named<P: Screen>(
-    screen: &mut P,
-    before: &[u8],
-    name: &[u8],
-    behind: &[&[u8]],
-) -> Result<(), Failed>
-    ensures { Says (before.now ++ (quoted name.now ++ flat_map (λ piece. piece.now) behind.now))
-        (seen P.text P.faults screen.old) (seen P.text P.faults screen.new) result }
-{
-    say_text(screen, before)?;
-    say_quoted(screen, name)?;
-    say_plain(screen, behind)
-}
-
-fn say_quoted<P: Screen>(screen: &mut P, name: &[u8]) -> Result<(), Failed>
-    ensures { Says (quoted name.now) (seen P.text P.faults screen.old) (seen P.text P.faults screen.new) result }
-{
-    say_text(screen, b"\"")?;
-    say_escaped(screen, name)?;
-    say_text(screen, b"\"")
-}
-
-fn say_escaped<P: Screen>(screen: &mut P, name: &[u8]) -> Result<(), Failed>
-    ensures { Says (flat_map escaped name.now) (seen P.text P.faults screen.old) (seen P.text P.faults screen.new) result }
-{
-    for byte in name {
-        say_byte(screen, byte)?;
-    }
-    Ok(())
-}
-
-fn say_byte<P: Screen>(screen: &mut P, byte: &u8) -> Result<(), Failed>
-    ensures { Says (escaped byte.now) (seen P.text P.faults screen.old) (seen P.text P.faults screen.new) result }
-{
-    match escape_of(*byte) {
-        Some(escape) => say_text(screen, escape),
-        None => say_text(screen, slice::from_ref(byte)),
-    }
-}
-
-fn say_plain<P: Screen>(screen: &mut P, pieces: &[&[u8]]) -> Result<(), Failed>
-    ensures { Says (flat_map (λ piece. piece.now) pieces.now) (seen P.text P.faults screen.old) (seen P.text P.faults screen.new) result }
-{
-    say_all(screen, pieces)
-}
-
-fn say_text<P: Screen>(screen: &mut P, text: &[u8]) -> Result<(), Failed>
-    ensures { Says text.now (seen P.text P.faults screen.old) (seen P.text P.faults screen.new) result }
-{
-    say(screen, text)
 }

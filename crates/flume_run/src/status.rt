@@ -2,7 +2,7 @@ ghost use Rattle.std.specs.Prelude.{◌≡◌};
 ghost use Rattle.flume_run.specs.Codes.{code_of};
 
 use csv_rows::RowKind;
-use flume_value::Str;
+use flume_value::{Kind, Str, Value};
 
 /// Why a script is refused.
 #[derive(Clone, Copy, PartialEq, Eq, Debug)]
@@ -38,6 +38,13 @@ pub enum Status {
         column: u32,
         kind: RowKind,
     },
+    /// A call of a function traps, and nothing is written: the number of the collection that it was
+    /// to make a part of, in order of the script, and the element that it was called with.
+    Trap {
+        origin: u32,
+        kind: Kind,
+        element: Value,
+    },
     /// The source failed while it gave this file.
     ReadFault {
         name: Str,
@@ -69,6 +76,7 @@ impl Status {
             Status::Usage => 2,
             Status::ScriptRefused { .. } => 3,
             Status::InputRefused { .. } => 4,
+            Status::Trap { .. } => 5,
             Status::ReadFault { .. } => 6,
             Status::WriteFault { .. } => 7,
             Status::WantOfMemory => 9,

@@ -13,28 +13,30 @@ const SCRIPT: &[u8] =
 const PLAN: &[u8] =
     b"graph\n0 source lines\n1 do 0 ws:split\noutput ws reads 1 to \"out.csv\"\nplan\nstage 1 mscr\nin 0 reads s0 does ws:split>0\npass 0 takes 0.0 gives 1.0\noutput ws reads 1.0 to \"out.csv\"\n";
 
-const RUN: [&str; 3] = ["flume", "run", "s"];
+pub const RUN: [&str; 3] = ["flume", "run", "s"];
 
-// The calls that are to fail, one of each part at most.
+// The calls that are to fail: two of the source and one of each other part at most.
 #[derive(Clone, Copy)]
-struct Failing {
+pub struct Failing {
     source: Option<Fail>,
+    again: Option<Fail>,
     shelf: Option<Fail>,
     screen: Option<u32>,
 }
 
-const NONE: Failing = Failing {
+pub const NONE: Failing = Failing {
     source: None,
+    again: None,
     shelf: None,
     screen: None,
 };
 
 // What a call left: its exit status, the bytes of out.csv, and all that the screen got.
 #[derive(Clone, Copy)]
-struct Left<'a> {
-    code: u8,
-    file: Option<&'a [u8]>,
-    screen: &'a [u8],
+pub struct Left<'a> {
+    pub code: u8,
+    pub file: Option<&'a [u8]>,
+    pub screen: &'a [u8],
 }
 
 fn file(alloc: Global, name: &[u8], bytes: &[u8]) -> Result<File, AllocError> {
@@ -44,9 +46,16 @@ fn file(alloc: Global, name: &[u8], bytes: &[u8]) -> Result<File, AllocError> {
     })
 }
 
-fn listed<T: Drop>(alloc: Global, fail: Option<T>) -> Result<Pile<T>, AllocError> {
+fn listed<T: Drop>(
+    alloc: Global,
+    fail: Option<T>,
+    again: Option<T>,
+) -> Result<Pile<T>, AllocError> {
     let mut fails = Pile::new(alloc);
     if let Some(fail) = fail {
+        fails.push(fail)?;
+    }
+    if let Some(fail) = again {
         fails.push(fail)?;
     }
     Ok(fails)
@@ -60,8 +69,8 @@ fn strings(alloc: Global, words: &[&str]) -> Result<Vec<String>, AllocError> {
     Ok(all)
 }
 
-// Makes the call over a source of these files, and compares what it leaves.
-fn check<X: Threads + Sync + Abort>(
+/// Makes the call over a source of these files, and compares what it leaves.
+pub fn check<X: Threads + Sync + Abort>(
     rt: &X,
     alloc: Global,
     words: &[&str],
@@ -69,15 +78,15 @@ fn check<X: Threads + Sync + Abort>(
     failing: Failing,
     want: &Left,
 ) -> Result<(), TestFail> {
-    let mut source = MemSource::new(files, listed(alloc, failing.source)?)?;
+    let mut source = MemSource::new(files, listed(alloc, failing.source, failing.again)?)?;
     let mut shelf = MemShelf::new(
         alloc,
         Pile::new(alloc),
-        listed(alloc, failing.shelf)?,
+        listed(alloc, failing.shelf, None)?,
         4,
         10_000,
     )?;
-    let mut screen = MemScreen::new(alloc, listed(alloc, failing.screen)?, 10_000)?;
+    let mut screen = MemScreen::new(alloc, listed(alloc, failing.screen, None)?, 10_000)?;
     let mut hosts = [CalmHost; 16];
     let words = strings(alloc, words)?;
     let status = flume(
@@ -95,7 +104,7 @@ fn check<X: Threads + Sync + Abort>(
     Ok(())
 }
 
-fn script_and_input(alloc: Global, script: &[u8], input: &[u8]) -> Result<Pile<File>, AllocError> {
+pub fn script_and_input(alloc: Global, script: &[u8], input: &[u8]) -> Result<Pile<File>, AllocError> {
     let mut files = Pile::new(alloc);
     files.push(file(alloc, b"s", script)?)?;
     files.push(file(alloc, b"in.csv", input)?)?;
@@ -189,7 +198,7 @@ fn splits_a_thousand_rows(rt: HostRuntime) -> Result<(), TestFail> {
     )
 }
 
-fn refusal<X: Threads + Sync + Abort>(
+pub fn refusal<X: Threads + Sync + Abort>(
     rt: &X,
     alloc: Global,
     words: &[&str],
@@ -358,26 +367,30 @@ fn one_fails<X: Threads + Sync + Abort>(
 #[test]
 fn each_call_fails_once(rt: HostRuntime) -> Result<(), TestFail> {
     let alloc = rt.alloc();
-    // a script and an input are each a begin, a read and a read of the end
+    // a script and an input are each a begin, a read and a read of the end; each is tried once more
+    let screen = shown(alloc, b"size lines 1\nsize ws 3\ndone\n")?;
+    let whole: &[u8] = b"value\na\na\nb\n";
     for call in 0..3 {
-        let source = Some(Fail { begun: 0, call });
-        one_fails(
-            &rt,
-            alloc,
-            Failing { source, ..NONE },
-            6,
-            None,
-            b"read fault: \"s\"\n",
-        )?;
-        let source = Some(Fail { begun: 1, call });
-        one_fails(
-            &rt,
-            alloc,
-            Failing { source, ..NONE },
-            6,
-            None,
-            b"read fault: \"in.csv\"\n",
-        )?;
+        for begun in 0..2 {
+            let source = Some(Fail { begun, call });
+            let once = Failing { source, ..NONE };
+            one_fails(&rt, alloc, once, 0, Some(whole), &screen)?;
+        }
+    }
+    // where both loads fail, the source is answered for
+    for call in 0..3 {
+        let both = Failing {
+            source: Some(Fail { begun: 0, call }),
+            again: Some(Fail { begun: 1, call }),
+            ..NONE
+        };
+        one_fails(&rt, alloc, both, 6, None, b"read fault: \"s\"\n")?;
+        let both = Failing {
+            source: Some(Fail { begun: 1, call }),
+            again: Some(Fail { begun: 2, call }),
+            ..NONE
+        };
+        one_fails(&rt, alloc, both, 6, None, b"read fault: \"in.csv\"\n")?;
     }
     // the file is a begin, a write and an end
     let line = b"write fault: \"out.csv\"\n";
@@ -427,7 +440,6 @@ fn each_call_fails_once(rt: HostRuntime) -> Result<(), TestFail> {
         b"",
     )?;
     // a call that is not made fails nothing
-    let screen = shown(alloc, b"size lines 1\nsize ws 3\ndone\n")?;
     one_fails(
         &rt,
         alloc,

@@ -1,55 +1,56 @@
 // The texts of a run: its graph, its plan and its sizes.
-ghost use Rattle.std.specs.Prelude.{◌≡◌, ◌++◌, codes, IfOk};
-ghost use Rattle.flume_run.specs.Accepted.{program_of};
-ghost use Rattle.flume_run.specs.Printed.{quoted};
+ghost use Rattle.std.specs.Prelude.{◌≡◌, ◌++◌, IfOk};
+ghost use Rattle.dofn_check.specs.Call.{Function};
+ghost use Rattle.flume_program.specs.Accepted.{IsProgram};
+ghost use Rattle.flume_program.specs.Script.{Script};
+ghost use Rattle.flume_run.specs.Course.{IsRunText};
+ghost use Rattle.printing.specs.Printed.{quoted};
 ghost use Rattle.flume_run.specs.Texts.{graph_text as graph_of, plan_text as plan_of, size_line as line_of_size};
 
-use crate::form::Form;
-use crate::printed::{joined, push_quoted};
+use flume_program::Program;
 use itoa::Buffer;
+use printing::{joined, push_quoted};
 use std::alloc::{AllocError, Global};
 
 /// What the screen gets of a run: the graph, the plan, a size for each collection, and `done`.
 pub fn run_text(
     alloc: Global,
-    form: &Form,
+    program: &Program,
     rows: usize,
-    words: usize,
+    values: usize,
 ) -> Result<Vec<u8>, AllocError>
-    ensures { IfOk result (λ text. text.items ≡
-        graph_of (program_of form.now) ++ (plan_of (program_of form.now)
-        ++ (line_of_size form.now.input rows ++ (line_of_size form.now.collection words ++ codes "done\n")))) }
+    ensures { IfOk result (λ text. IsRunText program.now rows values text.items) }
 {
-    let graph = graph_text(alloc, form)?;
-    let plan = plan_text(alloc, form)?;
-    let rows = size_line(alloc, form.input.as_bytes(), rows)?;
-    let words = size_line(alloc, form.collection.as_bytes(), words)?;
+    let graph = graph_text(alloc, program)?;
+    let plan = plan_text(alloc, program)?;
+    let rows = size_line(alloc, program.input.name.as_bytes(), rows)?;
+    let values = size_line(alloc, program.collection.as_bytes(), values)?;
     joined(
         alloc,
         &[
             graph.as_slice(),
             plan.as_slice(),
             rows.as_slice(),
-            words.as_slice(),
+            values.as_slice(),
             b"done\n",
         ],
     )
 }
 
-fn graph_text(alloc: Global, form: &Form) -> Result<Vec<u8>, AllocError>
-    ensures { IfOk result (λ text. text.items ≡ graph_of (program_of form.now)) }
+fn graph_text(alloc: Global, program: &Program) -> Result<Vec<u8>, AllocError>
+    ensures { IfOk result (λ text. (function : Function) (script : Script) → IsProgram program.now function script → text.items ≡ graph_of script) }
 {
-    let name = form.collection.as_bytes();
-    let file = quoted_name(alloc, form.output_file.as_bytes())?;
+    let name = program.collection.as_bytes();
+    let file = quoted_name(alloc, program.output_file.as_bytes())?;
     joined(
         alloc,
         &[
             b"graph\n0 source ",
-            form.input.as_bytes(),
+            program.input.name.as_bytes(),
             b"\n1 do 0 ",
             name,
             b":",
-            form.function.as_bytes(),
+            program.function.as_bytes(),
             b"\noutput ",
             name,
             b" reads 1 to ",
@@ -59,18 +60,18 @@ fn graph_text(alloc: Global, form: &Form) -> Result<Vec<u8>, AllocError>
     )
 }
 
-fn plan_text(alloc: Global, form: &Form) -> Result<Vec<u8>, AllocError>
-    ensures { IfOk result (λ text. text.items ≡ plan_of (program_of form.now)) }
+fn plan_text(alloc: Global, program: &Program) -> Result<Vec<u8>, AllocError>
+    ensures { IfOk result (λ text. (function : Function) (script : Script) → IsProgram program.now function script → text.items ≡ plan_of script) }
 {
-    let name = form.collection.as_bytes();
-    let file = quoted_name(alloc, form.output_file.as_bytes())?;
+    let name = program.collection.as_bytes();
+    let file = quoted_name(alloc, program.output_file.as_bytes())?;
     joined(
         alloc,
         &[
             b"plan\nstage 1 mscr\nin 0 reads s0 does ",
             name,
             b":",
-            form.function.as_bytes(),
+            program.function.as_bytes(),
             b">0\npass 0 takes 0.0 gives 1.0\noutput ",
             name,
             b" reads 1.0 to ",

@@ -1,7 +1,10 @@
 // The top call.
-ghost use Rattle.std.specs.Prelude.{◌≡◌, ◌⊎◌, List, ℕ, length, map, string_bytes};
+ghost use Rattle.std.specs.Prelude.{◌≡◌, List, ℕ, length, map, string_bytes};
 ghost use Rattle.csv_rows.specs.declared.fault.RowKind.{RowKind};
-ghost use Rattle.flume_run.specs.Answers.{CanRun, IsDone, IsFileFault, IsInputRefused, IsNoFile, IsReadFault, IsRefusal, IsRefused, IsScreenFault, IsScriptRefused, IsTooLong, IsUsage, seen, world};
+ghost use Rattle.flume_value.specs.declared.fault.Kind.{Kind as TrapKind};
+ghost use Rattle.flume_value.specs.declared.value.Value.{Value};
+ghost use Rattle.flume_run.specs.Answers.{CanRun, IsDone, IsEnd, IsFileFault, IsInputRefused, IsNoFile, IsReadFault, IsRefusal, IsRefused, IsScreenFault, IsScriptRefused, IsTooLong, IsTrap, IsUsage, world};
+ghost use Rattle.printing.specs.Said.{seen};
 ghost use Rattle.flume_run.specs.declared.status.ScriptKind.{ScriptKind};
 
 use crate::course::run;
@@ -35,6 +38,11 @@ pub fn flume<X: Threads + Sync, R: Source, H: Host, K: Shelf, P: Screen>(
         (world R.files R.faults source.old K.files K.faults shelf.old P.text P.faults screen.old)
         (world R.files R.faults source.new K.files K.faults shelf.new P.text P.faults screen.new) }
 
+    // Trap: the first call that traps, of those that an output needs; nothing is written.
+    ensures trap { (origin : ℕ) (kind : TrapKind) (element : Value) → result ≡ Status.Trap origin kind element → IsTrap origin kind element (map string_bytes words.now)
+        (world R.files R.faults source.old K.files K.faults shelf.old P.text P.faults screen.old)
+        (world R.files R.faults source.new K.files K.faults shelf.new P.text P.faults screen.new) }
+
     // The cause of each refusal that comes before anything is written.
     ensures usage { result ≡ Status.Usage → IsUsage (map string_bytes words.now) }
     ensures no_file { (name : List ℕ) → result ≡ Status.NoFile name →
@@ -61,11 +69,11 @@ pub fn flume<X: Threads + Sync, R: Source, H: Host, K: Shelf, P: Screen>(
         (world R.files R.faults source.old K.files K.faults shelf.old P.text P.faults screen.old)
         (world R.files R.faults source.new K.files K.faults shelf.new P.text P.faults screen.new) }
 
-    // Where all is there that a run needs, it is done, or found no memory.
+    // Where all is there that a run needs, it is done, or a call traps; or no memory was found.
     ensures complete { CanRun (map string_bytes words.now)
         (world R.files R.faults source.old K.files K.faults shelf.old P.text P.faults screen.old)
         (world R.files R.faults source.new K.files K.faults shelf.new P.text P.faults screen.new)
-        → (result ≡ Status.Done) ⊎ (result ≡ Status.WantOfMemory) }
+        → IsEnd result }
     ensures hosts { hosts.new ≡ hosts.old }
 {
     let _ = hosts;

@@ -1,7 +1,7 @@
 use Rattle.std.proofs.Common.{◌≡◌, ℕ, List, sym, ◌∙◌, subst}
 use Rattle.outside.specs.Save.{IsCutShort}
 use Rattle.outside.specs.Told.{WhereTold}
-use Rattle.flume_run.specs.Answers.{seen}
+use Rattle.printing.specs.Said.{seen}
 use Rattle.flume_run.proofs.CauseLemmas.{file_failed, from_err}
 use Rattle.flume_run.proofs.course.deliver.Goals as goal
 

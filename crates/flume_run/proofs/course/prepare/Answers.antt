@@ -1,27 +1,35 @@
 use Rattle.std.proofs.Common.{◌≡◌, List, Option, map, string_bytes, subst}
-use Rattle.std.proofs.lemmas.Result.{err_from_is_err_and}
+use Rattle.std.proofs.lemmas.Result.{IfErr-weaker, IfOk-weaker, err_from_is_err_and}
 use Rattle.outside.specs.declared.file.File.{File}
-use Rattle.flume_run.specs.Answers.{HasRows, seen}
+use Rattle.printing.specs.Said.{seen}
+use Rattle.flume_run.specs.Answers.{HasRows}
 use Rattle.flume_run.specs.Course.{input_of}
-use Rattle.flume_run.proofs.CauseLemmas.{form_runs, input_cause, script_cause}
+use Rattle.flume_run.proofs.CauseLemmas.{input_cause, prepared, script_cause, stopped_run}
 use Rattle.flume_run.proofs.course.prepare.Goals as goal
 
-pub returns-in_err-form-clause-err : goal.returns-in_err-form-clause-err
-returns-in_err-form-clause-err g c =
+pub returns-in_err-program-clause-err : goal.returns-in_err-program-clause-err
+returns-in_err-program-clause-err g c =
     let p = err_from_is_err_and c.from_residual.result c.from_residual.ensures.1 in
     rw (p.1, p.2) (script_cause (map string_bytes c.args.words.now) (seen g.R.Source.files g.R.Source.faults c.args.source.now)
-    (seen g.R.Source.files g.R.Source.faults c.script_of.new.source) _ c.in_err-form.ensures.err)
+    (seen g.R.Source.files g.R.Source.faults c.script_of.new.source) _ c.in_err-program.ensures.err)
 
 pub returns-in_err-rows-clause-err : goal.returns-in_err-rows-clause-err
 returns-in_err-rows-clause-err g c =
     let p = err_from_is_err_and c.from_residual-in_err-rows.result c.from_residual-in_err-rows.ensures.1 in
     rw (p.1, p.2) (input_cause (map string_bytes c.args.words.now) (seen g.R.Source.files g.R.Source.faults c.args.source.now)
-    (seen g.R.Source.files g.R.Source.faults c.script_of.new.source) (seen g.R.Source.files g.R.Source.faults c.rows_of_input.new.source) c.in_ok-form.form _
-    c.in_ok-form.ensures.ok c.in_ok-form.ensures.files c.in_ok-form.ensures.later c.in_err-rows.ensures.err)
+    (seen g.R.Source.files g.R.Source.faults c.script_of.new.source) (seen g.R.Source.files g.R.Source.faults c.rows_of_input.new.source) c.in_ok-program.program _
+    c.in_ok-program.ensures.ok c.in_ok-program.ensures.files c.in_ok-program.ensures.later c.in_err-rows.ensures.err)
 
-pub returns-in-Ok-clause-ok : goal.returns-in-Ok-clause-ok
-returns-in-Ok-clause-ok g c =
-    form_runs (map string_bytes c.args.words.now) (seen g.R.Source.files g.R.Source.faults c.args.source.now) c.in_ok-form.form c.in_ok-rows.rows _ _ _
-    c.in_ok-form.ensures.ok
-    (subst (λ (told : Option (List File)). HasRows told (input_of c.in_ok-form.form) c.in_ok-rows.rows) c.in_ok-form.ensures.files c.in_ok-rows.ensures.ok)
-    c.in-Ok.ensures.results
+pub returns-clause-ok : goal.returns-clause-ok
+returns-clause-ok g c =
+    let has = subst (λ (told : Option (List File)). HasRows told (input_of c.in_ok-program.program) c.in_ok-rows.rows) c.in_ok-program.ensures.files c.in_ok-rows.ensures.ok in
+    IfOk-weaker c.run_program.result _ _ (λ written results.
+        prepared (map string_bytes c.args.words.now) (seen g.R.Source.files g.R.Source.faults c.args.source.now) c.in_ok-program.program c.in_ok-rows.rows written.name written.text.items written.screen.items
+        c.in_ok-program.ensures.ok has results) c.run_program.ensures.results
+
+pub returns-clause-err : goal.returns-clause-err
+returns-clause-err g c =
+    let has = subst (λ (told : Option (List File)). HasRows told (input_of c.in_ok-program.program) c.in_ok-rows.rows) c.in_ok-program.ensures.files c.in_ok-rows.ensures.ok in
+    IfErr-weaker c.run_program.result _ _ (λ why stops.
+        stopped_run (map string_bytes c.args.words.now) (seen g.R.Source.files g.R.Source.faults c.args.source.now) (seen g.R.Source.files g.R.Source.faults c.rows_of_input.new.source)
+        c.in_ok-program.program c.in_ok-rows.rows why c.in_ok-program.ensures.ok has stops) c.run_program.ensures.stop

@@ -1,15 +1,13 @@
-use Rattle.std.proofs.Common.{◌≡◌, List, ap, ◌∙◌, arith, rules}
-use Rattle.csv_rows.specs.Text.{text_of}
-use Rattle.flume_types.specs.declared.types.Ty.TheVariants as ty
-use Rattle.flume_value.specs.Bag.{bag_of}
-use Rattle.flume_value.specs.declared.value.Value.{Value}
-use Rattle.flume_run.proofs.RunLemmas.{emitted, the_results}
+use Rattle.std.proofs.Common.{◌≡◌, ◌<◌, ◌^◌, ℕ, length, ◌∙◌, subst, arith, rules}
+use Rattle.flume_run.specs.Course.{IsRunText}
 use Rattle.flume_run.proofs.course.results.Goals as goal
 
-pub returns-clause-results : goal.returns-clause-results
-returns-clause-results c =
-    the_results c.args.form c.args.rows c.in_ok-words.words.items c.len-row_count.result c.len.result _ _
-    (c.in_ok-words.ensures.emitted c.args.form ∙ ap (emitted c.args.form) c.as_slice.ensures)
-    c.len-row_count.ensures (omega arith) (c.len.ensures ∙ search rules) (omega arith)
-    (c.in_ok-text.ensures ∙ ap (λ (xs : List Value). text_of (bag_of xs) ty.Text) c.from_vec.ensures)
-    c.in_ok-screen.ensures
+pub returns-clause-screen : goal.returns-clause-screen
+returns-clause-screen c =
+    let count : c.len.result ≡ length c.args.values.items = c.len.ensures ∙ search rules in
+    subst (λ (n : ℕ). IsRunText c.args.program c.args.row_count n c.in_ok-screen.screen.items) count c.in_ok-screen.ensures
+
+pub returns-clause-small : goal.returns-clause-small
+returns-clause-small c =
+    let count : c.len.result ≡ length c.args.values.items = c.len.ensures ∙ search rules in
+    omega (arith, count)

@@ -1,7 +1,7 @@
 use Rattle.flume_run.proofs.lines.say_line.Goals as goal
 
 pub returns-in-Usage : goal.returns-in-Usage
-returns-in-Usage g c = rw c.in-Usage.is c.say_plain-in-Usage.ensures
+returns-in-Usage g c = rw c.in-Usage.is c.say_plain.ensures
 
 pub returns-in-ScriptRefused : goal.returns-in-ScriptRefused
 returns-in-ScriptRefused g c = rw c.in-ScriptRefused.is c.say_script_refused.ensures

@@ -1,0 +1,32 @@
+-- The fields of record types.
+use Rattle.std.specs.Prelude.{ℕ, List, [], ◌∷◌, Option, Some, None, if◌then◌else◌}
+use Rattle.std.specs.Str.{bytes_eq}
+use Rattle.flume_types.specs.declared.types.Ty.{Ty, Ty-F, out-Ty}
+use Rattle.flume_types.specs.declared.types.Field.{Field}
+
+-- fields of these names and types, in order
+abbrev pub fields_of : List (List ℕ) → List Ty → List (Field Ty)
+fields_of [] types = []
+fields_of (name ∷ names) [] = []
+fields_of (name ∷ names) (type ∷ types) = record { name = name; ty = type } ∷ fields_of names types
+
+-- the type of the field of that name
+abbrev pub type_under : List ℕ → List (Field Ty) → Option Ty
+type_under name [] = None
+type_under name (field ∷ fields) = if bytes_eq name field.name then Some field.ty else type_under name fields
+
+-- the fields of a record type
+abbrev pub record_layer : {X : Type 0} → Ty-F X → Option (List (Field X))
+record_layer (Ty-F.Rec fields) = Some fields
+record_layer _ = None
+
+-- the type of a list's members
+abbrev pub member_layer : {X : Type 0} → Ty-F X → Option X
+member_layer (Ty-F.List type) = Some type
+member_layer _ = None
+
+abbrev pub record_fields : Ty → Option (List (Field Ty))
+record_fields type = record_layer (out-Ty type)
+
+abbrev pub member_type : Ty → Option Ty
+member_type type = member_layer (out-Ty type)

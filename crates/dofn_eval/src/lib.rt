@@ -1,0 +1,30 @@
+//! Typed functions of the script language, and what a call of one gives.
+//!
+//! A function's body is a `Block` of `Stmt`s over `Expr`s, in which every name is a slot: a
+//! variable is its place among the values in scope, the newest first, and a field is its place
+//! in its record. `means` says what a body emits on an argument, form by form, or why it traps.
+//! `Fun` keeps in its type that its body is well typed. So a call of one on a value of its
+//! argument's type meets no operand of another type, and what it emits has its result's type;
+//! `call` gives exactly those emissions, in order, or that trap.
+#![tactic(auto)]
+
+mod arithmetic;
+mod calls;
+mod evaluate;
+mod expr;
+mod fun;
+mod laws;
+mod parts;
+mod scope;
+mod seen;
+mod statements;
+mod stmt;
+#[cfg(test)]
+mod tests;
+mod words;
+
+pub use calls::call;
+pub use expr::{Arithmetic, Binary, Comparison, Expr, Unary};
+pub use fun::Fun;
+pub use laws::{expression_law, statement_law, words_law};
+pub use stmt::{Block, Stmt};

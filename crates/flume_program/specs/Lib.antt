@@ -1,0 +1,5 @@
+pub mod Written
+pub mod Script
+pub mod Checked
+pub mod Accepted
+pub mod Parts

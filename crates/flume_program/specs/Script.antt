@@ -1,0 +1,29 @@
+-- A script as contracts see it: its statements that make collections, in order, and its outputs.
+use Rattle.std.specs.Prelude.{ℕ, List}
+use Rattle.flume_types.specs.declared.types.Ty.{Ty}
+use Rattle.dofn_check.specs.Call.{Function}
+
+-- how a collection is made: from the rows of a file, or by a function from each member of an earlier collection
+pub data Operation : Type 0 where
+  Input : List ℕ → Ty → Operation
+  Do : ℕ → Function → Operation
+
+-- a statement that makes a collection
+pub record Node : Type 0 where
+  pub name : List ℕ
+  pub operation : Operation
+
+-- an output statement: the number of the collection that it reads, that collection's name, and the file
+pub record Output : Type 0 where
+  pub reads : ℕ
+  pub name : List ℕ
+  pub file : List ℕ
+
+pub record Script : Type 0 where
+  pub nodes : List Node
+  pub outputs : List Output
+
+-- the type of a collection's members
+abbrev pub element_type : Operation → Ty
+element_type (Input file type) = type
+element_type (Do source function) = function.gives

@@ -1,0 +1,22 @@
+//! The checker of scripts: from the tree of a script to a well-typed program.
+//!
+//! `check` answers the program of a script exactly where it is accepted: its types mean something,
+//! its names are defined once and before they are used, its function is well typed, and its
+//! statements are of a form that runs. `specs/Checked.antt` says which script statements are, and
+//! `specs/Script.antt` what a script is to those who run it.
+#![tactic(auto)]
+
+mod checks;
+mod files;
+mod names;
+mod program;
+mod rows;
+mod statements;
+#[cfg(test)]
+mod tests;
+mod types;
+mod written;
+
+pub use checks::check;
+pub use dofn_check::Refusal;
+pub use program::{Input, Program};

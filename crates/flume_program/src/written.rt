@@ -1,0 +1,135 @@
+ghost use Rattle.std.specs.Prelude.{◌≡◌, ◌≢◌, Some, None, IfOk, IfErr};
+ghost use Rattle.std.specs.List.{list_any};
+ghost use Rattle.std.specs.Str.{bytes_eq};
+ghost use Rattle.dofn_check.specs.Names.{look, are_different as differ};
+ghost use Rattle.dofn_check.specs.Fields.{fields_of as fields};
+ghost use Rattle.flume_program.specs.Written as spec;
+
+use crate::names::Names;
+use dofn_check::Refusal;
+use flume_syntax::Type;
+use flume_types::{Field, Fields, Ty, depth, table_type};
+use flume_value::{Pile, Str};
+use std::alloc::{AllocError, Global};
+
+/// The type that is written, where it is at most 8 deep once names are replaced.
+pub fn whole_type(alloc: Global, ty: &Type, names: &Names) -> Result<Ty, Refusal>
+    ensures ok { IfOk result (λ t. spec.whole_type ty.now names.now ≡ Some t) }
+    ensures err { IfErr result (λ e. e ≢ Refusal.Memory → spec.whole_type ty.now names.now ≡ None) }
+{
+    let ty = written(alloc, ty, names)?;
+    if depth(&ty) <= 8 {
+        Ok(ty)
+    } else {
+        Err(Refusal::NotAccepted)
+    }
+}
+
+/// The type that is written.
+#[cycle(written)]
+#[tactic(auto, using(crate::proofs::WrittenLemmas::written_rules))]
+fn written(alloc: Global, ty: &Type, names: &Names) -> Result<Ty, Refusal>
+    ensures ok { IfOk result (λ t. spec.written ty.now names.now ≡ Some t) }
+    ensures err { IfErr result (λ e. e ≢ Refusal.Memory → spec.written ty.now names.now ≡ None) }
+{
+    match ty {
+        Type::Int => Ok(Ty::Int),
+        Type::Bool => Ok(Ty::Bool),
+        Type::Text => Ok(Ty::Text),
+        Type::Named(name) => named(alloc, name, names),
+        Type::Table(key, value) => {
+            let key = written(alloc, key.get(), names)?;
+            let value = written(alloc, value.get(), names)?;
+            let table = table_type(alloc, key, value)?;
+            Ok(table)
+        }
+        Type::Record(fields, types) => {
+            let types = all_written(alloc, types.as_slice(), names)?;
+            record(alloc, fields.as_slice(), types)
+        }
+        Type::List(_) => Err(Refusal::NotAccepted),
+        Type::Either(_, _) => Err(Refusal::NotAccepted),
+    }
+}
+
+/// The types that are written, in order.
+#[cycle(written)]
+fn all_written(alloc: Global, types: &[Type], names: &Names) -> Result<Pile<Ty>, Refusal>
+    ensures ok { IfOk result (λ all. spec.all_written spec.written types.now names.now ≡ Some all) }
+    ensures err { IfErr result (λ e. e ≢ Refusal.Memory → spec.all_written spec.written types.now names.now ≡ None) }
+{
+    let mut all = Pile::new(alloc);
+    for part in types {
+        let ty = written(alloc, part, names)?;
+        all.push(ty)?;
+    }
+    Ok(all)
+}
+
+/// The type that a name stands for.
+fn named(alloc: Global, name: &Str, names: &Names) -> Result<Ty, Refusal>
+    ensures ok { IfOk result (λ t. look name.now names.now ≡ Some t) }
+    ensures err { IfErr result (λ e. e ≢ Refusal.Memory → look name.now names.now ≡ None) }
+{
+    match names.get(name) {
+        Some(ty) => {
+            let ty = ty.copy(alloc)?;
+            Ok(ty)
+        }
+        None => Err(Refusal::NotAccepted),
+    }
+}
+
+/// The record of these types under these names, each another.
+fn record(alloc: Global, names: &[Str], types: Pile<Ty>) -> Result<Ty, Refusal>
+    ensures ok { IfOk result (λ t. spec.record_of names.now types ≡ Some t) }
+    ensures err { IfErr result (λ e. e ≢ Refusal.Memory → spec.record_of names.now types ≡ None) }
+{
+    if are_different(names) {
+        let fields = fields_of(alloc, names, types)?;
+        Ok(Ty::Rec(fields))
+    } else {
+        Err(Refusal::NotAccepted)
+    }
+}
+
+/// Fields of these names and types, in order.
+fn fields_of(alloc: Global, names: &[Str], types: Pile<Ty>) -> Result<Fields, AllocError>
+    ensures { IfOk result (λ all. all ≡ fields names.now types) }
+{
+    let mut all = Vec::with_capacity(alloc, names.len())?;
+    let mut types = types.into_vec().into_iter();
+    for name in names {
+        let Some(ty) = types.next() else {
+            return Ok(Pile::from_vec(all));
+        };
+        let name = name.copy(alloc)?;
+        all.push(Field { name, ty })?;
+    }
+    Ok(Pile::from_vec(all))
+}
+
+/// Whether no name stands twice.
+fn are_different(names: &[Str]) -> bool
+    ensures { result ≡ differ names.now }
+{
+    let mut at = 0;
+    for name in names {
+        at += 1;
+        if contains(&names[at..], name) {
+            return false;
+        }
+    }
+    true
+}
+
+fn contains(names: &[Str], name: &Str) -> bool
+    ensures { result ≡ list_any (bytes_eq name.now) names.now }
+{
+    for other in names {
+        if name.is(other.as_bytes()) {
+            return true;
+        }
+    }
+    false
+}

@@ -1,8 +1,0 @@
-use Rattle.std.proofs.Common.{◌≡◌, ◌++◌, drop, codes}
-use Rattle.std.specs.List.{flat_map}
-use Rattle.flume_run.specs.Printed.{escaped}
-use Rattle.flume_run.proofs.printed.push_quoted.Given as goal
-
-abbrev pub invariant-loop-byte : goal.invariant-loop-byte
-invariant-loop-byte l =
-    l.text.items ++ flat_map escaped (drop l.byte-index l.name) ≡ l.fn.text.items ++ (codes "\"" ++ flat_map escaped l.name)

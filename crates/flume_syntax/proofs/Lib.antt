@@ -1,0 +1,15 @@
+pub mod Complete
+pub mod CompleteExpr
+pub mod CompleteScript
+pub mod Local
+pub mod LocalExpr
+pub mod LocalScript
+pub mod LocalTypes
+pub mod Loops
+pub mod Operands
+pub mod Parsed
+pub mod Refused
+pub mod Sound
+pub mod SoundExpr
+pub mod SoundScript
+pub mod Steps

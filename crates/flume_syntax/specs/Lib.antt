@@ -1,0 +1,9 @@
+pub mod Answer
+pub mod Bodies
+pub mod Expressions
+pub mod Grammar
+pub mod Out
+pub mod Reading
+pub mod Refusal
+pub mod Statements
+pub mod Types

@@ -1,0 +1,29 @@
+-- The types that a combiner takes and gives.
+use Rattle.std.specs.Prelude.{◌≡◌, All, IsTrue, List}
+use Rattle.flume_value.specs.declared.value.Value.{Value}
+use Rattle.flume_types.specs.declared.types.Ty.{Ty}
+use Rattle.flume_types.specs.declared.types.Ty.TheVariants as ty
+use Rattle.flume_types.specs.Typing.{has_type}
+use Rattle.combine_table.specs.declared.comb.Comb.{Comb}
+use Rattle.combine_table.specs.declared.comb.Comb.TheVariants as by
+
+-- the values all have the type
+abbrev pub AllHave : Ty → List Value → Type 0
+AllHave t vs = All (λ v. IsTrue (has_type v t)) vs
+
+-- the combiner takes values of the type
+abbrev pub TakesType : Comb → Ty → Type 0
+TakesType by.Sum t = t ≡ ty.Int
+TakesType by.All t = t ≡ ty.Bool
+TakesType by.Any t = t ≡ ty.Bool
+TakesType _ t = Unit {0}
+
+-- the type of what the combiner makes of values of the type
+abbrev pub gives_type : Comb → Ty → Ty
+gives_type by.Sum t = ty.Int
+gives_type by.Count t = ty.Int
+gives_type by.Min t = t
+gives_type by.Max t = t
+gives_type by.All t = ty.Bool
+gives_type by.Any t = ty.Bool
+gives_type (by.Top n) t = ty.List t
