@@ -1,20 +1,27 @@
--- Which scripts are accepted, and what they are: first types, then an input, a function, a `do` and an output.
-use Rattle.std.specs.Prelude.{ℕ, ◌&&◌, not, is_some, List, [], ◌∷◌, Option, Some, None, option_map, option_and_then, if◌then◌else◌}
+-- Which scripts are accepted, and what they are: first types, then an input, a function and a `do`, maybe groups and
+-- their sums, and an output of the last collection.
+use Rattle.std.specs.Prelude.{ℕ, Bool, true, false, ◌&&◌, not, is_some, List, [], ◌∷◌, Option, Some, None, option_map, option_and_then, if◌then◌else◌}
 use Rattle.std.specs.Str.{bytes_eq}
-use Rattle.flume_types.specs.declared.types.Ty.{Ty}
+use Rattle.flume_types.specs.declared.types.Ty.{Ty, Ty-F, out-Ty}
+use Rattle.flume_types.specs.declared.types.Ty.TheVariants as ty
+use Rattle.flume_types.specs.declared.types.Field.{Field}
 use Rattle.flume_types.specs.Columns.{columns_of, input_columns_of}
+use Rattle.flume_types.specs.Tables.{table_of}
 use Rattle.flume_syntax.specs.declared.tree.Type as tree
 use Rattle.flume_syntax.specs.declared.tree.Form.{Form}
 use Rattle.flume_syntax.specs.declared.tree.Form.TheVariants as form
 use Rattle.flume_syntax.specs.declared.tree.Function.{Function as Written}
 use Rattle.flume_syntax.specs.declared.tree.Operation.{Operation as Made}
 use Rattle.flume_syntax.specs.declared.tree.Operation.TheVariants as operation
+use Rattle.flume_syntax.specs.declared.tree.Combiner.{Combiner}
+use Rattle.flume_syntax.specs.declared.tree.Combiner.TheVariants as combiner
 use Rattle.flume_syntax.specs.declared.tree.Statement.{Statement}
+use Rattle.combine_table.specs.declared.comb.Comb.TheVariants as comb
 use Rattle.dofn_check.specs.Names.{look}
 use Rattle.dofn_check.specs.Typing.{Scope, is_same, are_typed}
 use Rattle.dofn_check.specs.Call.{Function}
 use Rattle.flume_program.specs.Written.{whole_type}
-use Rattle.flume_program.specs.Script.{Input, Do, Script}
+use Rattle.flume_program.specs.Script.{Input, Do, Group, Combine, Script}
 
 -- ---- types
 
@@ -95,7 +102,64 @@ abbrev pub output_at : Form → List ℕ → Ty → Option (List ℕ)
 output_at (form.Output name file) collection type = if bytes_eq name collection && is_some (columns_of type) then Some file else None
 output_at _ collection type = None
 
+-- ---- groups and sums
+
+-- a `let` of the groups of this collection: its name, which no earlier collection has
+abbrev pub group_by : List ℕ → Made → List ℕ → List ℕ → Option (List ℕ)
+group_by name (operation.Group source) input collection =
+    if bytes_eq source collection && not (bytes_eq name input) && not (bytes_eq name collection) then Some name else None
+group_by name _ input collection = None
+
+abbrev pub group_at : Form → List ℕ → List ℕ → Option (List ℕ)
+group_at (form.Let name made) input collection = group_by name made input collection
+group_at _ input collection = None
+
+-- whether a combiner is the sum
+abbrev pub is_sum : Combiner → Bool
+is_sum combiner.Sum = true
+is_sum _ = false
+
+-- a `let` of these groups' sums: its name, which no earlier collection has
+abbrev pub sum_by : List ℕ → Made → List ℕ → List ℕ → List ℕ → Option (List ℕ)
+sum_by name (operation.Combine source by) input collection group =
+    if bytes_eq source group && is_sum by && not (bytes_eq name input) && not (bytes_eq name collection) && not (bytes_eq name group) then Some name else None
+sum_by name _ input collection group = None
+
+abbrev pub sum_at : Form → List ℕ → List ℕ → List ℕ → Option (List ℕ)
+sum_at (form.Let name made) input collection group = sum_by name made input collection group
+sum_at _ input collection group = None
+
+-- the type of the first of these fields
+abbrev pub type_of_first : List (Field Ty) → Option Ty
+type_of_first [] = None
+type_of_first (field ∷ fields) = Some field.ty
+
+-- the type of a record's first field
+abbrev pub first_type : Ty-F Ty → Option Ty
+first_type (Ty-F.Rec fields) = type_of_first fields
+first_type _ = None
+
+-- the key, where the type is the table of that key and of ints
+abbrev pub key_of_ints : Ty → Ty → Option Ty
+key_of_ints type key = if is_same type (table_of key ty.Int) then Some key else None
+
+-- the key of a table of ints
+abbrev pub sum_key : Ty → Option Ty
+sum_key type = option_and_then (key_of_ints type) (first_type (out-Ty type))
+
 -- ---- scripts
+
+-- a collection that a `do` makes: over which rows, by which function, under which name
+pub record Done : Type 0 where
+  pub rows : Rows
+  pub function : Function
+  pub collection : List ℕ
+
+-- the collection that an input, a function and a `do` make, where names stand for these types
+abbrev pub done_at : Form → Form → Form → Scope → Option Done
+done_at input function made names =
+    option_and_then (λ rows. option_and_then (λ called. option_map (λ collection. record { rows = rows; function = called; collection = collection })
+    (do_at made rows called)) (function_at function names)) (rows_at input names)
 
 -- the script of one `do`
 abbrev pub one_do : Rows → Function → List ℕ → List ℕ → Script
@@ -104,15 +168,34 @@ one_do rows function collection file = record {
   outputs = record { reads = 1; name = collection; file = file } ∷ [];
 }
 
--- the script of an input, a function, a `do` and an output, where names stand for these types
-abbrev pub do_script : Form → Form → Form → Form → Scope → Option Script
-do_script input function made output names =
-    option_and_then (λ rows. option_and_then (λ called. option_and_then (λ collection. option_map (λ file. one_do rows called collection file)
-    (output_at output collection called.gives)) (do_at made rows called)) (function_at function names)) (rows_at input names)
+-- the script of one `do`, the groups of what it makes, and the sum of each
+abbrev pub group_and_sum : Rows → Function → List ℕ → Ty → List ℕ → List ℕ → List ℕ → Script
+group_and_sum rows function collection key group sum file = record {
+  nodes =
+      record { name = rows.name; operation = Input rows.file rows.type }
+      ∷ record { name = collection; operation = Do 0 function }
+      ∷ record { name = group; operation = Group 1 (table_of key (ty.List ty.Int)) }
+      ∷ record { name = sum; operation = Combine 2 comb.Sum (table_of key ty.Int) }
+      ∷ [];
+  outputs = record { reads = 3; name = sum; file = file } ∷ [];
+}
+
+-- the script of a `do` and an output
+abbrev pub do_script : Rows → Function → List ℕ → Form → Option Script
+do_script rows function collection output = option_map (λ file. one_do rows function collection file) (output_at output collection function.gives)
+
+-- the script of a `do`, groups, their sums and an output
+abbrev pub sum_script : Rows → Function → List ℕ → Form → Form → Form → Option Script
+sum_script rows function collection grouped summed output =
+    option_and_then (λ key. option_and_then (λ group. option_and_then (λ sum. option_map (λ file. group_and_sum rows function collection key group sum file)
+    (output_at output sum function.gives)) (sum_at summed rows.name collection group)) (group_at grouped rows.name collection)) (sum_key function.gives)
 
 -- the script that statements behind the types are
 abbrev pub script_behind : List Statement → Scope → Option Script
-script_behind (input ∷ function ∷ made ∷ output ∷ []) names = do_script input.form function.form made.form output.form names
+script_behind (input ∷ function ∷ made ∷ output ∷ []) names =
+    option_and_then (λ done. do_script done.rows done.function done.collection output.form) (done_at input.form function.form made.form names)
+script_behind (input ∷ function ∷ made ∷ grouped ∷ summed ∷ output ∷ []) names =
+    option_and_then (λ done. sum_script done.rows done.function done.collection grouped.form summed.form output.form) (done_at input.form function.form made.form names)
 script_behind _ names = None
 
 -- the script that statements are; none where they are of no form that runs, or break a rule

@@ -5,6 +5,7 @@ use Rattle.flume_types.specs.Columns.{columns_of, input_columns_of}
 use Rattle.dofn_eval.specs.Function.{Function as Slots}
 use Rattle.dofn_check.specs.Call.{Function}
 use Rattle.flume_program.specs.Script.{Script}
+use Rattle.flume_program.specs.Checked.{Rows, Done}
 use Rattle.flume_program.specs.Accepted.{IsFileNamed, Does, IsProgram}
 use Rattle.flume_program.specs.declared.program.Program.{Program}
 
@@ -16,6 +17,11 @@ pub record IsCalled (name : List ℕ) (slots : Slots) (function : Function) : Ty
 -- a function is meant, and is the one that was found
 abbrev pub Finds : Option Function → List ℕ → Slots → Type 0
 Finds meant name slots = (function : Function) × (meant ≡ Some function) × IsCalled name slots function
+
+-- a `do` is meant: over these rows, by the function that was found
+abbrev pub FindsDo : Option Done → Rows → List ℕ → List ℕ → Slots → Type 0
+FindsDo meant rows collection name slots =
+    (function : Function) × (meant ≡ Some (record { rows = rows; function = function; collection = collection })) × IsCalled name slots function
 
 -- a script is meant, and is the program that was made
 abbrev pub Makes : Option Script → Program → Type 0

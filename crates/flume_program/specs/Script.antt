@@ -1,12 +1,17 @@
 -- A script as contracts see it: its statements that make collections, in order, and its outputs.
 use Rattle.std.specs.Prelude.{ℕ, List}
 use Rattle.flume_types.specs.declared.types.Ty.{Ty}
+use Rattle.combine_table.specs.declared.comb.Comb.{Comb}
 use Rattle.dofn_check.specs.Call.{Function}
 
--- how a collection is made: from the rows of a file, or by a function from each member of an earlier collection
+-- How a collection is made: from the rows of a file; by a function from each member of an earlier collection; as the
+-- groups of an earlier collection by key; by combining the list of each group of an earlier collection. The last
+-- two are given the type of their members.
 pub data Operation : Type 0 where
   Input : List ℕ → Ty → Operation
   Do : ℕ → Function → Operation
+  Group : ℕ → Ty → Operation
+  Combine : ℕ → Comb → Ty → Operation
 
 -- a statement that makes a collection
 pub record Node : Type 0 where
@@ -27,3 +32,5 @@ pub record Script : Type 0 where
 abbrev pub element_type : Operation → Ty
 element_type (Input file type) = type
 element_type (Do source function) = function.gives
+element_type (Group source type) = type
+element_type (Combine source combiner type) = type

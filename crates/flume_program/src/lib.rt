@@ -13,10 +13,13 @@ mod program;
 mod rows;
 mod statements;
 #[cfg(test)]
+mod sum_tests;
+mod sums;
+#[cfg(test)]
 mod tests;
 mod types;
 mod written;
 
 pub use checks::check;
 pub use dofn_check::Refusal;
-pub use program::{Input, Program};
+pub use program::{Input, Program, Sum};

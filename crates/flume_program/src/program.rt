@@ -10,7 +10,17 @@ pub struct Input {
     pub ty: Ty,
 }
 
-/// A script that is accepted: an input, one `do` over it, and an output of what it makes.
+/// The groups of what a `do` makes, by key, and the sum of each.
+#[derive(Debug, Drop)]
+pub struct Sum {
+    /// The name of the groups.
+    pub group: Str,
+    /// The name of their sums.
+    pub name: Str,
+}
+
+/// A script that is accepted: an input, one `do` over it, maybe the sums of what it makes, and an
+/// output of the last of these.
 #[derive(Debug, Drop)]
 pub struct Program {
     pub input: Input,
@@ -20,5 +30,6 @@ pub struct Program {
     pub fun: Fun,
     /// The name of the collection that the `do` makes.
     pub collection: Str,
+    pub sum: Option<Sum>,
     pub output_file: Str,
 }

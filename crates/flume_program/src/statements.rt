@@ -138,7 +138,8 @@ fn is_do(name: &Str, collection: &Str, caller: &Str, input: &Input, called: &Cal
         && is_one_type(&input.ty, called.fun.takes())
 }
 
-fn is_one_type(ty: &Ty, other: &Ty) -> bool
+/// Whether they are one type.
+pub fn is_one_type(ty: &Ty, other: &Ty) -> bool
     ensures { result ≡ is_same ty.now other.now }
 {
     ty == other

@@ -5,7 +5,7 @@ use std::test::Fail;
 
 /// What comes of a script.
 #[derive(Clone, Copy, PartialEq, Eq, Debug)]
-enum Outcome {
+pub enum Outcome {
     Accepted,
     NotAccepted,
     NotParsed,
@@ -20,7 +20,7 @@ fn answer(checked: Result<Program, Refusal>) -> Outcome {
     }
 }
 
-fn told(alloc: Global, script: &[u8]) -> Outcome {
+pub fn told(alloc: Global, script: &[u8]) -> Outcome {
     match parse(alloc, script) {
         Ok(ast) => answer(check(alloc, &ast)),
         Err(_) => Outcome::NotParsed,

@@ -1,30 +1,27 @@
 -- The cause of each answer, from the causes of its parts.
-use Rattle.std.proofs.Common.{◌≡◌, ℕ, ◌+◌, ◌-◌, ◌^◌, ◌≤◌, ◌⊎◌, inl, inr, min, List, [], ◌∷◌, ◌++◌, Option, Some, None, Result, Ok, Err, ap, sym, ◌∙◌, refl, subst, arith, true, is_err, OnErr}
+use Rattle.std.proofs.Common.{◌≡◌, ℕ, ◌≤◌, inl, inr, List, [], ◌∷◌, ◌++◌, Option, Some, None, Result, Ok, Err, ap, sym, ◌∙◌, refl, subst, arith, true, is_err, OnErr}
 use Rattle.std.specs.Option.{option_map}
-use Rattle.csv_rows.specs.Rows.{rows_of}
 use Rattle.flume_value.specs.declared.value.Value.{Value}
 use Rattle.outside.specs.Cause.{Rose, RoseBy}
 use Rattle.outside.specs.Save.{IsCutShort, HasFront}
 use Rattle.outside.specs.Told.{WhereTold}
 use Rattle.outside.specs.declared.file.File.{File as NamedBytes}
 use Rattle.dofn_check.specs.Call.{Function}
-use Rattle.flume_program.specs.Accepted.{IsProgram}
+use Rattle.flume_program.specs.Accepted.{IsProgram, IsScriptOf}
 use Rattle.flume_program.specs.Script.{Script}
 use Rattle.flume_program.specs.declared.program.Program.{Program}
-use Rattle.flume_value.specs.declared.fault.Kind.{Kind}
-use Rattle.flume_run.specs.Accepted.{Accepted}
-use Rattle.flume_run.specs.Answers.{Answers, AllHaveRows, FailsAt, HasFiles, HasLine, HasRows, IsAskedFor, IsCause, IsMissing, IsAbove, IsRefused, IsTurnOf, Loads, Reads, Runs, RunsThrough, World}
+use Rattle.flume_program.specs.declared.program.Sum.{Sum}
+use Rattle.flume_run.specs.Answers.{Answers, AllHaveRows, FailsAt, HasFiles, HasLine, HasRows, IsAskedFor, IsCause, IsMissing, IsAbove, IsRefused, IsTurnOf, Loads, Runs, World}
 use Rattle.printing.specs.Said.{Seen}
-use Rattle.flume_run.specs.Course.{Delivers, IsInputCause, IsLoadCause, IsPrepared, IsScriptCause, IsStop, IsStopped, IsTrapped, ReadsProgram, Results, Traps, input_of}
+use Rattle.flume_run.specs.Course.{Delivers, IsInputCause, IsPrepared, IsScriptCause, IsStop, IsStopped, IsTrapped, ReadsProgram, Results, Traps, input_of}
 use Rattle.flume_run.specs.Inputs.{Wanted, inputs_of}
 use Rattle.flume_run.specs.Lines.{trap_line}
-use Rattle.flume_run.specs.Texts.{Written, files_of, screen_text}
+use Rattle.flume_run.specs.Texts.{Written}
 use Rattle.flume_run.specs.Words.{script_asked}
 use Rattle.flume_run.specs.declared.trapped.Stop.{Stop}
 use Rattle.flume_run.specs.declared.trapped.Stop.TheVariants as stop
 use Rattle.flume_run.specs.declared.trapped.Trapped.{Trapped}
 use Rattle.flume_run.specs.declared.limits.TheConstants.{SCRIPT_LIMIT, INPUT_LIMIT, TRIES}
-use Rattle.flume_run.specs.declared.status.Place.{Place}
 use Rattle.flume_run.specs.declared.status.Place.TheVariants.{File, Screen}
 use Rattle.flume_run.specs.declared.status.Status.{Status}
 use Rattle.flume_run.specs.declared.status.Status.TheVariants.{Done, Usage, ScriptRefused, InputRefused, Trap, ReadFault, WriteFault, WantOfMemory, TooLong, NoFile}
@@ -56,9 +53,13 @@ script_cause words before after (InputRefused name row column kind) cause = absu
 script_cause words before after (WriteFault place) cause = cause.2
 script_cause words before after (Trap origin kind element) cause = absurd cause.2
 
+inputs_by : (sum : Option Sum) (program : Program) (function : Function) (script : Script) → IsScriptOf sum program function script → inputs_of script.nodes ≡ input_of program ∷ []
+inputs_by None program function script is = ap (λ (s : Script). inputs_of s.nodes) is
+inputs_by (Some sum) program function script is = ap (λ (s : Script). inputs_of s.nodes) is.2
+
 -- the inputs of the script that a program stands for
 program_inputs : (program : Program) (function : Function) (script : Script) → IsProgram program function script → inputs_of script.nodes ≡ input_of program ∷ []
-program_inputs program function script is = ap (λ (s : Script). inputs_of s.nodes) is.is
+program_inputs program function script is = inputs_by program.sum program function script is.is
 
 -- it is the turn of the program's input
 input_turn : (words : List (List ℕ)) (before : Seen (List NamedBytes)) (program : Program) → ReadsProgram words before program → IsTurnOf words before.told (input_of program)

@@ -1,24 +1,19 @@
 -- Where all is there that a run needs, no refusal has a cause.
-use Rattle.std.proofs.Common.{◌≡◌, ℕ, ◌<◌, ◌≤◌, ◌⊎◌, inl, inr, List, [], ◌∷◌, ◌++◌, length, Option, Some, None, Result, Ok, Err, ap, sym, ◌∙◌, refl, subst, arith}
-use Rattle.std.specs.Prelude.{IfSome, IsSome, IsSomeAnd, ⊤}
+use Rattle.std.proofs.Common.{◌≡◌, ℕ, ◌<◌, inl, inr, List, [], ◌∷◌, ◌++◌, length, Option, Some, None, Result, Ok, ap, sym, ◌∙◌, subst, arith}
+use Rattle.std.specs.Prelude.{IsSome, IsSomeAnd}
 use Rattle.csv_rows.specs.Rows.{rows_of}
-use Rattle.csv_rows.specs.declared.fault.RowFault.{RowFault}
 use Rattle.flume_tokens.specs.Tokens.{tokens_of}
 use Rattle.flume_tokens.specs.declared.fault.TokenFault.{TokenFault}
 use Rattle.flume_tokens.specs.declared.token.TokenList.{TokenList}
 use Rattle.flume_value.specs.declared.value.Value.{Value}
-use Rattle.outside.specs.Files.{bytes_of}
 use Rattle.outside.specs.declared.file.File.{File as NamedBytes}
 use Rattle.flume_program.specs.Checked.{script_of}
 use Rattle.flume_program.specs.Script.{Script}
 use Rattle.flume_syntax.proofs.Parsed.{one_tree}
 use Rattle.flume_syntax.specs.Grammar.{IsScript}
-use Rattle.flume_syntax.specs.declared.tree.Statement.{Statement}
 use Rattle.flume_run.specs.Accepted.{Accepted}
 use Rattle.flume_run.specs.Answers.{AllHaveRows, Answers, CanRun, HasRows, IsEnd, IsAbove, IsAskedFor, IsMissing, IsTurnOf, Loads, Reads, Runs, World}
-use Rattle.printing.specs.Said.{Seen}
 use Rattle.flume_run.specs.Inputs.{Wanted, inputs_of}
-use Rattle.flume_run.specs.Words.{script_asked}
 use Rattle.flume_run.specs.declared.status.Place.TheVariants.{File, Screen}
 use Rattle.flume_run.specs.declared.status.Status.{Status}
 use Rattle.flume_run.specs.declared.status.Status.TheVariants.{Done, Usage, ScriptRefused, InputRefused, Trap, ReadFault, WriteFault, WantOfMemory, TooLong, NoFile}

@@ -1,6 +1,7 @@
 -- The parts of the course of a call.
-use Rattle.std.specs.Prelude.{◌≡◌, ◌≢◌, ℕ, List, [], ◌∷◌, ◌++◌, Option, Some, Err, IsSome, IsUtf8, codes, slice_get, ⊤}
-use Rattle.std.specs.List.{flat_map}
+use Rattle.std.specs.Prelude.{◌≡◌, ◌≢◌, ℕ, List, [], ◌∷◌, ◌++◌, Option, Some, None, Err, IsSome, IsUtf8, codes, slice_get, ⊤}
+use Rattle.std.specs.Bool.{IsTrue}
+use Rattle.std.specs.List.{All, flat_map}
 use Rattle.std.specs.Option.{option_map}
 use Rattle.csv_rows.specs.Rows.{rows_of}
 use Rattle.csv_rows.specs.declared.fault.RowFault.{RowFault}
@@ -12,7 +13,12 @@ use Rattle.dofn_eval.specs.Run.{means as slots_mean}
 use Rattle.flume_program.specs.Accepted.{IsProgram}
 use Rattle.flume_program.specs.Script.{Script}
 use Rattle.flume_program.specs.declared.program.Program.{Program}
+use Rattle.flume_program.specs.declared.program.Sum.{Sum}
 use Rattle.flume_types.specs.Columns.{columns_of, input_columns_of}
+use Rattle.flume_types.specs.Tables.{table_of}
+use Rattle.flume_types.specs.Typing.{has_type}
+use Rattle.flume_types.specs.declared.types.Ty.{Ty}
+use Rattle.flume_types.specs.declared.types.Ty.TheVariants as ty
 use Rattle.flume_value.specs.declared.fault.CallFault.{CallFault}
 use Rattle.flume_value.specs.declared.fault.CallFault.TheVariants as called
 use Rattle.flume_value.specs.declared.value.Value.{Value}
@@ -35,6 +41,7 @@ use Rattle.flume_run.specs.declared.status.Place.TheVariants.{File, Screen}
 use Rattle.flume_run.specs.declared.status.ScriptKind.TheVariants.{Syntax}
 use Rattle.flume_run.specs.declared.status.Status.{Status}
 use Rattle.flume_run.specs.declared.status.Status.TheVariants.{Done, Usage, WriteFault, ScriptRefused, InputRefused, ReadFault, WantOfMemory, TooLong, NoFile}
+use Rattle.flume_run.specs.declared.texts.Sizes.{Sizes}
 use Rattle.flume_run.specs.declared.trapped.Trapped.{Trapped}
 use Rattle.flume_run.specs.declared.trapped.Stop.{Stop}
 use Rattle.flume_run.specs.declared.trapped.Stop.TheVariants as stop
@@ -90,10 +97,16 @@ ReadsProgram words before program = (function : Function) × (script : Script) �
 abbrev pub IsProgramOf : List ℕ → Program → Type 0
 IsProgramOf bytes program = (function : Function) × (script : Script) × Accepted bytes script × IsProgram program function script
 
+-- sums are those of a table of ints
+abbrev pub SumsInts : Option Sum → Ty → Type 0
+SumsInts None type = ⊤
+SumsInts (Some sum) type = (key : Ty) × (type ≡ table_of key ty.Int)
+
 -- What a program is fit for: its input can be read, its function called on the rows, and its output written.
 pub record IsFit (program : Program) : Type 0 where
   pub rows : IsSome (input_columns_of program.input.ty)
   pub flat : IsSome (columns_of program.fun.gives)
+  pub sums : SumsInts program.sum program.fun.gives
   pub takes : program.fun.takes ≡ program.input.ty
   pub reads : IsUtf8 program.input.file
   pub writes : IsUtf8 program.output_file
@@ -112,6 +125,12 @@ pub record Results (program : Program) (rows : List Value) (name text screen : L
   pub files : (function : Function) (script : Script) → IsProgram program function script → files_of script (rows ∷ []) ≡ record { name = name; text = text } ∷ []
   pub shown : (function : Function) (script : Script) → IsProgram program function script → screen ≡ screen_text script (rows ∷ [])
   pub through : (function : Function) (script : Script) → IsProgram program function script → traps_of script (rows ∷ []) ≡ []
+
+-- what a program's function emits for rows of its input, where no call traps
+pub record Emits (program : Program) (rows values : List Value) : Type 0 where
+  pub typed : All (λ row. IsTrue (has_type row program.input.ty)) rows
+  pub emitted : values ≡ all_emissions program.fun rows
+  pub through : all_traps 1 program.fun rows ≡ []
 
 -- the first trap of a script, and the name of its node
 abbrev pub IsFirst : Trapped → Script → List (List Value) → Type 0
@@ -143,10 +162,19 @@ abbrev pub IsStopped : List (List ℕ) → Seen (List NamedBytes) → Seen (List
 IsStopped words before after (stop.Refused status) = IsCause words before after status
 IsStopped words before after (stop.Trapped trapped) = IsTrapped words before.told trapped
 
--- the text of a run whose two collections have these sizes, whatever the script is that its program stands for
-abbrev pub IsRunText : Program → ℕ → ℕ → List ℕ → Type 0
-IsRunText program rows values text = (function : Function) (script : Script) → IsProgram program function script →
-    text ≡ graph_text script ++ (plan_text script ++ (size_line program.input.name rows ++ (size_line program.collection values ++ codes "done\n")))
+-- the size lines of the groups and their sums, where there are some
+abbrev pub sum_sizes : Option Sum → ℕ → List ℕ
+sum_sizes None groups = []
+sum_sizes (Some sum) groups = size_line sum.group groups ++ (size_line sum.name groups ++ [])
+
+-- the size lines of a program's run
+abbrev pub sizes_of : Program → Sizes → List ℕ
+sizes_of program sizes = size_line program.input.name sizes.rows ++ (size_line program.collection sizes.values ++ sum_sizes program.sum sizes.groups)
+
+-- the text of a run whose collections have these sizes, whatever the script is that its program stands for
+abbrev pub IsRunText : Program → Sizes → List ℕ → Type 0
+IsRunText program sizes text = (function : Function) (script : Script) → IsProgram program function script →
+    text ≡ graph_text script ++ (plan_text script ++ (sizes_of program sizes ++ codes "done\n"))
 
 -- what is left where a run came to the writing of this file and this text
 abbrev pub Delivers : Written → List ℕ → Seen (List NamedBytes) → Seen (List NamedBytes) → Seen (List ℕ) → Seen (List ℕ) → Status → Type 0

@@ -1,12 +1,16 @@
 -- The direct meaning of a script: for each statement that makes a collection, the bag of its members and its traps.
-use Rattle.std.specs.Prelude.{ℕ, ◌^◌, ◌-◌, List, [], ◌∷◌, ◌++◌, length, min, drop, slice_get, unwrap_or}
+use Rattle.std.specs.Prelude.{ℕ, ◌^◌, ◌-◌, List, [], ◌∷◌, ◌++◌, length, map, min, drop, slice_get, unwrap_or}
 use Rattle.std.specs.List.{flat_map}
+use Rattle.bag_groups.specs.Combining.{combined_each, traps_of_each}
+use Rattle.bag_groups.specs.Groups.{grouped}
+use Rattle.combine_table.specs.Combinations.{combined}
+use Rattle.combine_table.specs.declared.comb.Comb.{Comb}
 use Rattle.flume_value.specs.Bag.{bag_of}
 use Rattle.flume_value.specs.declared.value.Value.{Value}
 use Rattle.flume_value.specs.declared.fault.Kind.{Kind}
 use Rattle.dofn_check.specs.Call.{Function, means}
 use Rattle.dofn_eval.specs.Outcome.{Outcome, Gives, Traps, Stuck}
-use Rattle.flume_program.specs.Script.{Operation, Input, Do, Node, Output, Script}
+use Rattle.flume_program.specs.Script.{Operation, Input, Do, Group, Combine, Node, Script}
 
 -- a call that traps: the number of the collection that its statement makes, why, and on which element
 pub record Trap : Type 0 where
@@ -38,6 +42,27 @@ done_by number function source = record {
   traps = source.traps ++ flat_map (λ element. trap_of number element (means function element)) source.bag;
 }
 
+-- the groups of a bag of pairs; nothing where a trap stands behind it
+abbrev pub groups_of : List Trap → List Value → List Value
+groups_of [] bag = grouped bag
+groups_of (trap ∷ traps) bag = []
+
+-- what `group` makes: one member for each key, with the ascending list of its values
+abbrev pub grouped_by : Collection → Collection
+grouped_by source = record { bag = groups_of source.traps source.bag; traps = source.traps }
+
+-- the trap of a key
+abbrev pub key_trap : ℕ → Kind × Value → Trap
+key_trap origin pair = record { origin = origin; kind = pair.0; element = pair.1 }
+
+-- what `combine` makes: each member with its list combined, but those that trap, whose traps stand by their keys behind
+-- the source's
+abbrev pub combined_by : ℕ → Comb → Collection → Collection
+combined_by number combiner source = record {
+  bag = combined_each (combined combiner) source.bag;
+  traps = source.traps ++ map (key_trap number) (traps_of_each (combined combiner) source.bag);
+}
+
 -- the collection of that number among those made
 abbrev pub collection_at : List Collection → ℕ → Collection
 collection_at made number = unwrap_or (slice_get made number) (record { bag = []; traps = [] })
@@ -50,11 +75,15 @@ next_rows inputs = unwrap_or (slice_get inputs 0) []
 abbrev pub made_by : ℕ → Operation → List (List Value) → List Collection → Collection
 made_by number (Input file type) inputs made = record { bag = bag_of (next_rows inputs); traps = [] }
 made_by number (Do source function) inputs made = done_by number function (collection_at made source)
+made_by number (Group source type) inputs made = grouped_by (collection_at made source)
+made_by number (Combine source combiner type) inputs made = combined_by number combiner (collection_at made source)
 
 -- the inputs to come behind a statement
 abbrev pub inputs_behind : Operation → List (List Value) → List (List Value)
 inputs_behind (Input file type) inputs = drop 1 inputs
 inputs_behind (Do source function) inputs = inputs
+inputs_behind (Group source type) inputs = inputs
+inputs_behind (Combine source combiner type) inputs = inputs
 
 -- the collections of statements, in order, behind those made before them
 abbrev pub collections : List Node → List (List Value) → List Collection → List Collection

@@ -5,5 +5,6 @@ pub mod Course
 pub mod Direct
 pub mod Inputs
 pub mod Lines
+pub mod Pieces
 pub mod Texts
 pub mod Words

@@ -1,5 +1,5 @@
 -- The line that the screen gets for each refusal.
-use Rattle.std.specs.Prelude.{ℕ, List, [], ◌∷◌, ◌++◌, codes, decimal}
+use Rattle.std.specs.Prelude.{ℕ, List, [], ◌++◌, codes, decimal}
 use Rattle.csv_rows.specs.declared.fault.RowKind.{RowKind}
 use Rattle.csv_rows.specs.declared.fault.RowKind.TheVariants as row
 use Rattle.flume_run.specs.declared.status.ScriptKind.{ScriptKind}

@@ -6,19 +6,37 @@ use Rattle.csv_rows.specs.Text.{text_of}
 use Rattle.flume_types.specs.declared.types.Ty.{Ty}
 use Rattle.flume_types.specs.declared.types.Ty.TheVariants as ty
 use Rattle.flume_value.specs.declared.value.Value.{Value}
+use Rattle.combine_table.specs.declared.comb.Comb.{Comb}
+use Rattle.combine_table.specs.declared.comb.Comb.TheVariants as by
 use Rattle.dofn_check.specs.Call.{Function}
 use Rattle.flume_run.specs.Direct.{Collection, collection_at, meaning, size_of}
 use Rattle.printing.specs.Printed.{quoted}
-use Rattle.flume_program.specs.Script.{Operation, Input, Do, Node, Output, Script, element_type}
+use Rattle.flume_program.specs.Script.{Operation, Input, Do, Group, Combine, Node, Output, Script, element_type}
 
 -- a step of a `do` statement: the collection that it makes, and the function that it calls
 abbrev pub step_text : List ℕ → Function → List ℕ
 step_text name function = name ++ (codes ":" ++ function.name)
 
+-- the name of a combiner
+abbrev pub combiner_text : Comb → List ℕ
+combiner_text by.Sum = codes "sum"
+combiner_text by.Count = codes "count"
+combiner_text by.Min = codes "min"
+combiner_text by.Max = codes "max"
+combiner_text by.All = codes "all"
+combiner_text by.Any = codes "any"
+combiner_text (by.Top n) = codes "top " ++ decimal n
+
+-- a step of a `combine` statement
+abbrev pub combine_text : List ℕ → Comb → List ℕ
+combine_text name combiner = name ++ (codes ":%" ++ combiner_text combiner)
+
 -- a node of the graph, behind its number
 abbrev pub node_text : List ℕ → Operation → List ℕ
 node_text name (Input file type) = codes " source " ++ name
 node_text name (Do source function) = codes " do " ++ (decimal source ++ (codes " " ++ step_text name function))
+node_text name (Group source type) = codes " group " ++ (decimal source ++ (codes " " ++ name))
+node_text name (Combine source combiner type) = codes " do " ++ (decimal source ++ (codes " " ++ combine_text name combiner))
 
 -- the nodes of the graph, from a number on
 abbrev pub node_lines : ℕ → List Node → List ℕ
@@ -37,14 +55,23 @@ graph_text script =
 
 -- the plan of one `do` over one input: a single stage, whose mapper passes its emissions on
 abbrev pub one_do_plan : List ℕ → Operation → List Output → List ℕ
-one_do_plan name (Input file type) outputs = []
 one_do_plan name (Do source function) outputs =
     codes "plan\nstage 1 mscr\nin 0 reads s0 does " ++ (step_text name function
     ++ (codes ">0\npass 0 takes 0.0 gives 1.0\n" ++ flat_map (λ output. output_line output (codes "1.0")) outputs))
+one_do_plan name _ outputs = []
 
--- the optimised plan of a script of the form that runs: an input, and a `do` over it
+-- the plan of a `do`, its groups and their combination: a single stage, whose group is lifted, so that the mapper
+-- combines in part what the reducer finishes
+abbrev pub combine_plan : List ℕ → Operation → List ℕ → List ℕ → Operation → List Output → List ℕ
+combine_plan made (Do source function) group name (Combine groups combiner type) outputs =
+    codes "plan\nstage 1 mscr\nin 0 reads s0 does " ++ (step_text made function ++ (codes ">0\ngroup 0 " ++ (group ++ (codes " lift " ++ (combiner_text combiner
+    ++ (codes " takes 0.0 does " ++ (combine_text name combiner ++ (codes ">0 gives 1.0\n" ++ flat_map (λ output. output_line output (codes "1.0")) outputs))))))))
+combine_plan made _ group name _ outputs = []
+
+-- the optimised plan of a script of a form that runs
 abbrev pub plan_of : List Node → List Output → List ℕ
-plan_of (input ∷ node ∷ []) outputs = one_do_plan node.name node.operation outputs
+plan_of (input ∷ made ∷ []) outputs = one_do_plan made.name made.operation outputs
+plan_of (input ∷ made ∷ group ∷ combined ∷ []) outputs = combine_plan made.name made.operation group.name combined.name combined.operation outputs
 plan_of nodes outputs = []
 
 abbrev pub plan_text : Script → List ℕ

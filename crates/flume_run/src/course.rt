@@ -1,26 +1,29 @@
 // The course of a call: every growth comes first, then the output file, then the screen.
-ghost use Rattle.std.specs.Prelude.{◌≡◌, ◌≢◌, ◌<◌, ◌≤◌, ◌^◌, ◌⊎◌, [], All, Err, IfErr, IfOk, IsSome, IsTrue, IsUtf8, length, map, string_bytes};
+ghost use Rattle.std.specs.Prelude.{◌≡◌, ◌≢◌, ◌≤◌, ◌⊎◌, [], All, Err, IfErr, IfOk, IfSome, IsSome, IsTrue, IsUtf8, List, None, length, map, string_bytes};
 ghost use Rattle.flume_types.specs.Columns.{columns_of, input_columns_of};
 ghost use Rattle.flume_types.specs.Typing.{has_type};
+ghost use Rattle.flume_value.specs.declared.value.Value.{Value as Value_};
 ghost use Rattle.csv_rows.specs.Text.{text_of};
 ghost use Rattle.flume_value.specs.Bag.{bag_of};
 ghost use Rattle.flume_program.specs.Script.{Script};
 ghost use Rattle.flume_run.specs.Accepted.{Accepted};
 ghost use Rattle.flume_run.specs.Answers.{Answers, HasRows, IsCause, Loads, world};
 ghost use Rattle.printing.specs.Said.{seen};
-ghost use Rattle.flume_run.specs.Course.{Delivers, IsFit, IsInputCause, IsLoadCause, IsPrepared, IsProgramOf, IsRunText, IsScriptCause, IsStop, IsStopped, ReadsProgram, Results, Traps, all_traps, fault_status, input_of, status_of};
+ghost use Rattle.flume_run.specs.Course.{Delivers, Emits, IsFit, IsInputCause, IsLoadCause, IsPrepared, IsProgramOf, IsRunText, IsScriptCause, IsStop, IsStopped, SumsInts, ReadsProgram, Results, Traps, all_traps, fault_status, input_of, status_of};
 
 use crate::evaluator::{emit_all, first_trap};
 use crate::limits::{INPUT_LIMIT, SCRIPT_LIMIT, TRIES};
 use crate::lines::{tell, tell_trap};
 use crate::status::{Place, ScriptKind, Status};
-use crate::texts::run_text;
+use crate::sums::group_sums;
+use crate::texts::{Sizes, run_text};
 use crate::trapped::{Stop, Trapped};
 use crate::words::script_asked;
 use csv_rows::{RowFault, rows, text};
 use flume_program::{Program, Refusal, check};
 use flume_syntax::{ScriptFault, parse};
 use flume_value::{CallFault, Items, Pile, Str, Value, sorted};
+use keyed_steps::KeyFault;
 use outside::{LoadFault, Screen, Shelf, Source, load_tried, save, say};
 use std::alloc::{AllocError, Global};
 use std::str;
@@ -121,7 +124,11 @@ fn input_refused(alloc: Global, name: &str, fault: RowFault) -> Status
 }
 
 // Loads and decodes the input of a program.
-fn rows_of_input<R: Source>(alloc: Global, program: &Program, source: &mut R) -> Result<Items, Status>
+fn rows_of_input<R: Source>(
+    alloc: Global,
+    program: &Program,
+    source: &mut R,
+) -> Result<Items, Status>
     requires fit { IsFit program.now }
     ensures files { R.files source.new ≡ R.files source.old }
     ensures ok { IfOk result (λ rows. HasRows (R.files source.old) (input_of program.now) rows) }
@@ -139,27 +146,97 @@ fn rows_of_input<R: Source>(alloc: Global, program: &Program, source: &mut R) ->
     }
 }
 
-// What a run of a program over these rows writes, where the calls emit these values.
-fn results(
+// What a run writes whose last collection has these members.
+fn write_out(
     alloc: Global,
     program: Program,
-    row_count: usize,
-    values: Vec<Value>,
+    sizes: Sizes,
+    members: Vec<Value>,
 ) -> Result<Written, AllocError>
     requires flat { IsSome (columns_of program.fun.gives) }
-    requires typed { All (λ value. IsTrue (has_type value program.fun.gives)) values.items }
+    requires typed { All (λ member. IsTrue (has_type member program.fun.gives)) members.items }
     ensures file { IfOk result (λ written. written.name ≡ program.output_file) }
-    ensures text { IfOk result (λ written. written.text.items ≡ text_of (bag_of values.items) program.fun.gives) }
-    ensures small { IfOk result (λ written. length values.items < 2 ^ 64) }
-    ensures screen { IfOk result (λ written. IsRunText program row_count (length values.items) written.screen.items) }
+    ensures text { IfOk result (λ written. written.text.items ≡ text_of (bag_of members.items) program.fun.gives) }
+    ensures screen { IfOk result (λ written. IsRunText program sizes written.screen.items) }
 {
-    let screen = run_text(alloc, &program, row_count, values.len())?;
-    let text = text(alloc, Pile::from_vec(values), program.fun.gives())?;
+    let screen = run_text(alloc, &program, sizes)?;
+    let text = text(alloc, Pile::from_vec(members), program.fun.gives())?;
     Ok(Written {
         name: program.output_file,
         text,
         screen,
     })
+}
+
+// What a run writes that ends with what its function emits.
+fn write_values(
+    alloc: Global,
+    program: Program,
+    rows: usize,
+    values: Vec<Value>,
+) -> Result<Written, Stop>
+    requires none { program.sum ≡ None }
+    requires flat { IsSome (columns_of program.fun.gives) }
+    requires typed { All (λ value. IsTrue (has_type value program.fun.gives)) values.items }
+    ensures results { (all : List Value_) → Emits program all values.items → rows ≡ length all →
+        IfOk result (λ written. Results program all written.name written.text.items written.screen.items) }
+    ensures file { IfOk result (λ written. written.name ≡ program.output_file) }
+    ensures stop { (all : List Value_) → IfErr result (IsStop program all) }
+{
+    let sizes = Sizes {
+        rows,
+        values: values.len(),
+        groups: 0,
+    };
+    Ok(write_out(alloc, program, sizes, values)?)
+}
+
+// What a run writes that ends with the sums of what its function emits.
+fn write_sums(
+    alloc: Global,
+    program: Program,
+    rows: usize,
+    values: Vec<Value>,
+) -> Result<Written, Stop>
+    requires some { IsSome program.sum }
+    requires sums { SumsInts program.sum program.fun.gives }
+    requires flat { IsSome (columns_of program.fun.gives) }
+    requires typed { All (λ value. IsTrue (has_type value program.fun.gives)) values.items }
+    ensures results { (all : List Value_) → Emits program all values.items → rows ≡ length all →
+        IfOk result (λ written. Results program all written.name written.text.items written.screen.items) }
+    ensures file { IfOk result (λ written. written.name ≡ program.output_file) }
+    ensures stop { (all : List Value_) → Emits program all values.items → IfErr result (IsStop program all) }
+{
+    let count = values.len();
+    match group_sums(alloc, values) {
+        Ok(sums) => {
+            let sizes = Sizes {
+                rows,
+                values: count,
+                groups: sums.groups,
+            };
+            Ok(write_out(alloc, program, sizes, sums.values)?)
+        }
+        Err(KeyFault::Trap { kind, key }) => Err(Stop::Trapped(Trapped {
+            origin: 3,
+            name: sum_name(program),
+            kind,
+            element: key,
+        })),
+        Err(KeyFault::Memory) => Err(Stop::Refused(Status::WantOfMemory)),
+    }
+}
+
+// The name of the sums.
+fn sum_name(program: Program) -> Str
+    requires { IsSome program.sum }
+    ensures { IfSome program.sum (λ sum. result ≡ sum.name) }
+{
+    let Program { sum, .. } = program;
+    match sum {
+        Some(sum) => sum.name,
+        None => unreachable!(),
+    }
 }
 
 // The first trap of a program's run over these rows.
@@ -189,7 +266,10 @@ fn run_program(alloc: Global, program: Program, rows: Items) -> Result<Written, 
 {
     let row_count = rows.len();
     match emit_all(alloc, &program.fun, rows.as_slice()) {
-        Ok(values) => Ok(results(alloc, program, row_count, values)?),
+        Ok(values) => match &program.sum {
+            None => write_values(alloc, program, row_count, values),
+            Some(_) => write_sums(alloc, program, row_count, values),
+        },
         Err(CallFault::Trap(_)) => Err(Stop::Trapped(trapped(alloc, program, rows)?)),
         Err(CallFault::Memory) => Err(Stop::Refused(Status::WantOfMemory)),
     }

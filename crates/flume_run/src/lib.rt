@@ -16,9 +16,12 @@ mod course;
 mod evaluator;
 mod limits;
 mod lines;
-mod status;
 #[cfg(test)]
 mod row_tests;
+mod status;
+#[cfg(test)]
+mod sum_tests;
+mod sums;
 #[cfg(test)]
 mod tests;
 mod texts;

@@ -7,8 +7,8 @@ ghost use Rattle.printing.specs.Said.{Says, seen};
 use crate::status::{Place, ScriptKind, Status};
 use crate::trapped::Trapped;
 use csv_rows::RowKind;
-use itoa::Buffer;
 use flume_value::Kind;
+use itoa::Buffer;
 use outside::{Failed, Screen};
 use printing::{say_named, say_plain, say_text, say_value};
 

@@ -5,9 +5,10 @@ use std::process::Abort;
 use std::test::Fail;
 use std::thread::Threads;
 
-
 const HEAD: &[u8] = b"input a: r from \"in.csv\"\n";
+
 const TAIL: &[u8] = b"let b = do a f\noutput b to \"out.csv\"\n";
+
 const SHOWN: &[u8] =
     b"graph\n0 source a\n1 do 0 b:f\noutput b reads 1 to \"out.csv\"\nplan\nstage 1 mscr\nin 0 reads s0 does b:f>0\npass 0 takes 0.0 gives 1.0\noutput b reads 1.0 to \"out.csv\"\n";
 
@@ -138,10 +139,18 @@ fn refuses_rows_at_their_first_fault(rt: HostRuntime) -> Result<(), Fail> {
         (&ints, b"k,v\n1,+1\n", b"row 1 column 2: NotInt\n"),
         (&ints, b"k,v\n1,2\n 1,2\n", b"row 2 column 1: NotInt\n"),
         (&ints, b"k,v\n-,2\n", b"row 1 column 1: NotInt\n"),
-        (&ints, b"k,v\n9223372036854775808,2\n", b"row 1 column 1: NotInt\n"),
+        (
+            &ints,
+            b"k,v\n9223372036854775808,2\n",
+            b"row 1 column 1: NotInt\n",
+        ),
         (&ints, b"k,v\n\xFF,2\n", b"row 1 column 1: NotInt\n"),
         (&mixed, b"n,ok,t\n1,True,a\n", b"row 1 column 2: NotBool\n"),
-        (&mixed, b"n,ok,t\n1,true,a\n1,true,\xFF\n", b"row 2 column 3: Utf8\n"),
+        (
+            &mixed,
+            b"n,ok,t\n1,true,a\n1,true,\xFF\n",
+            b"row 2 column 3: Utf8\n",
+        ),
         (&mixed, b"n,ok,t\nx,x,\xFF\n", b"row 1 column 1: NotInt\n"),
     ];
     for (script, input, fault) in table {
@@ -164,15 +173,31 @@ fn refuses_scripts_of_no_form_that_runs(rt: HostRuntime) -> Result<(), Fail> {
         (ty, b"fn f(x: r) -> int { emit x.m }\n"),
         (ty, b"fn f(x: r) -> int scale 10 { emit x.n }\n"),
         (ty, b"fn f(x: text) -> int { emit 1 }\n"),
-        (ty, b"fn f(x: r) -> text { for x in words(x.t) { emit x } }\n"),
-        (ty, b"fn f(x: r) -> {a: {b: {c: int}}} { emit {a: {b: {c: 1}}} }\n"),
-        (b"type r = {n: list<int>}\n", b"fn f(x: r) -> int { emit 1 }\n"),
+        (
+            ty,
+            b"fn f(x: r) -> text { for x in words(x.t) { emit x } }\n",
+        ),
+        (
+            ty,
+            b"fn f(x: r) -> {a: {b: {c: int}}} { emit {a: {b: {c: 1}}} }\n",
+        ),
+        (
+            b"type r = {n: list<int>}\n",
+            b"fn f(x: r) -> int { emit 1 }\n",
+        ),
         (b"type r = int\n", b"fn f(x: r) -> int { emit x }\n"),
     ];
     for (ty, function) in table {
         let script = script(alloc, ty, function)?;
         let files = script_and_input(alloc, &script, b"n,t\n1,a\n")?;
-        refusal(&rt, alloc, &RUN, files, 3, b"script refused at line 0: Syntax\n")?;
+        refusal(
+            &rt,
+            alloc,
+            &RUN,
+            files,
+            3,
+            b"script refused at line 0: Syntax\n",
+        )?;
     }
     Ok(())
 }

@@ -18,10 +18,10 @@ pub const RUN: [&str; 3] = ["flume", "run", "s"];
 // The calls that are to fail: two of the source and one of each other part at most.
 #[derive(Clone, Copy)]
 pub struct Failing {
-    source: Option<Fail>,
-    again: Option<Fail>,
-    shelf: Option<Fail>,
-    screen: Option<u32>,
+    pub source: Option<Fail>,
+    pub again: Option<Fail>,
+    pub shelf: Option<Fail>,
+    pub screen: Option<u32>,
 }
 
 pub const NONE: Failing = Failing {
@@ -104,7 +104,11 @@ pub fn check<X: Threads + Sync + Abort>(
     Ok(())
 }
 
-pub fn script_and_input(alloc: Global, script: &[u8], input: &[u8]) -> Result<Pile<File>, AllocError> {
+pub fn script_and_input(
+    alloc: Global,
+    script: &[u8],
+    input: &[u8],
+) -> Result<Pile<File>, AllocError> {
     let mut files = Pile::new(alloc);
     files.push(file(alloc, b"s", script)?)?;
     files.push(file(alloc, b"in.csv", input)?)?;

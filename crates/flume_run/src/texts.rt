@@ -1,37 +1,41 @@
 // The texts of a run: its graph, its plan and its sizes.
-ghost use Rattle.std.specs.Prelude.{◌≡◌, ◌++◌, IfOk};
+ghost use Rattle.std.specs.Prelude.{◌≡◌, IfOk, Some};
 ghost use Rattle.dofn_check.specs.Call.{Function};
 ghost use Rattle.flume_program.specs.Accepted.{IsProgram};
 ghost use Rattle.flume_program.specs.Script.{Script};
-ghost use Rattle.flume_run.specs.Course.{IsRunText};
+ghost use Rattle.flume_run.specs.Course.{IsRunText, sizes_of, sum_sizes as sizes_of_sum};
+ghost use Rattle.flume_run.specs.Pieces.{do_graph_of, do_plan_of, sum_graph_of, sum_plan_of};
 ghost use Rattle.printing.specs.Printed.{quoted};
 ghost use Rattle.flume_run.specs.Texts.{graph_text as graph_of, plan_text as plan_of, size_line as line_of_size};
 
-use flume_program::Program;
+use flume_program::{Program, Sum};
 use itoa::Buffer;
 use printing::{joined, push_quoted};
 use std::alloc::{AllocError, Global};
 
+/// How many members the collections of a run have.
+#[derive(Clone, Copy, Debug)]
+pub struct Sizes {
+    pub rows: usize,
+    /// What the function emits.
+    pub values: usize,
+    /// The groups, and so their sums, where there are some.
+    pub groups: usize,
+}
+
 /// What the screen gets of a run: the graph, the plan, a size for each collection, and `done`.
-pub fn run_text(
-    alloc: Global,
-    program: &Program,
-    rows: usize,
-    values: usize,
-) -> Result<Vec<u8>, AllocError>
-    ensures { IfOk result (λ text. IsRunText program.now rows values text.items) }
+pub fn run_text(alloc: Global, program: &Program, sizes: Sizes) -> Result<Vec<u8>, AllocError>
+    ensures { IfOk result (λ text. IsRunText program.now sizes text.items) }
 {
     let graph = graph_text(alloc, program)?;
     let plan = plan_text(alloc, program)?;
-    let rows = size_line(alloc, program.input.name.as_bytes(), rows)?;
-    let values = size_line(alloc, program.collection.as_bytes(), values)?;
+    let sizes = size_lines(alloc, program, sizes)?;
     joined(
         alloc,
         &[
             graph.as_slice(),
             plan.as_slice(),
-            rows.as_slice(),
-            values.as_slice(),
+            sizes.as_slice(),
             b"done\n",
         ],
     )
@@ -39,6 +43,47 @@ pub fn run_text(
 
 fn graph_text(alloc: Global, program: &Program) -> Result<Vec<u8>, AllocError>
     ensures { IfOk result (λ text. (function : Function) (script : Script) → IsProgram program.now function script → text.items ≡ graph_of script) }
+{
+    match &program.sum {
+        None => do_graph(alloc, program),
+        Some(sum) => sum_graph(alloc, program, sum),
+    }
+}
+
+fn plan_text(alloc: Global, program: &Program) -> Result<Vec<u8>, AllocError>
+    ensures { IfOk result (λ text. (function : Function) (script : Script) → IsProgram program.now function script → text.items ≡ plan_of script) }
+{
+    match &program.sum {
+        None => do_plan(alloc, program),
+        Some(sum) => sum_plan(alloc, program, sum),
+    }
+}
+
+fn size_lines(alloc: Global, program: &Program, sizes: Sizes) -> Result<Vec<u8>, AllocError>
+    ensures { IfOk result (λ text. text.items ≡ sizes_of program.now sizes) }
+{
+    let rows = size_line(alloc, program.input.name.as_bytes(), sizes.rows)?;
+    let values = size_line(alloc, program.collection.as_bytes(), sizes.values)?;
+    let sums = match &program.sum {
+        None => Vec::new(alloc),
+        Some(sum) => sum_sizes(alloc, sum, sizes.groups)?,
+    };
+    joined(
+        alloc,
+        &[rows.as_slice(), values.as_slice(), sums.as_slice()],
+    )
+}
+
+fn sum_sizes(alloc: Global, sum: &Sum, groups: usize) -> Result<Vec<u8>, AllocError>
+    ensures { IfOk result (λ text. text.items ≡ sizes_of_sum (Some sum.now) groups) }
+{
+    let group = size_line(alloc, sum.group.as_bytes(), groups)?;
+    let sums = size_line(alloc, sum.name.as_bytes(), groups)?;
+    joined(alloc, &[group.as_slice(), sums.as_slice()])
+}
+
+fn do_graph(alloc: Global, program: &Program) -> Result<Vec<u8>, AllocError>
+    ensures { IfOk result (λ text. text.items ≡ do_graph_of program.now) }
 {
     let name = program.collection.as_bytes();
     let file = quoted_name(alloc, program.output_file.as_bytes())?;
@@ -60,8 +105,8 @@ fn graph_text(alloc: Global, program: &Program) -> Result<Vec<u8>, AllocError>
     )
 }
 
-fn plan_text(alloc: Global, program: &Program) -> Result<Vec<u8>, AllocError>
-    ensures { IfOk result (λ text. (function : Function) (script : Script) → IsProgram program.now function script → text.items ≡ plan_of script) }
+fn do_plan(alloc: Global, program: &Program) -> Result<Vec<u8>, AllocError>
+    ensures { IfOk result (λ text. text.items ≡ do_plan_of program.now) }
 {
     let name = program.collection.as_bytes();
     let file = quoted_name(alloc, program.output_file.as_bytes())?;
@@ -74,6 +119,56 @@ fn plan_text(alloc: Global, program: &Program) -> Result<Vec<u8>, AllocError>
             program.function.as_bytes(),
             b">0\npass 0 takes 0.0 gives 1.0\noutput ",
             name,
+            b" reads 1.0 to ",
+            file.as_slice(),
+            b"\n",
+        ],
+    )
+}
+
+fn sum_graph(alloc: Global, program: &Program, sum: &Sum) -> Result<Vec<u8>, AllocError>
+    ensures { IfOk result (λ text. text.items ≡ sum_graph_of program.now sum.now) }
+{
+    let file = quoted_name(alloc, program.output_file.as_bytes())?;
+    joined(
+        alloc,
+        &[
+            b"graph\n0 source ",
+            program.input.name.as_bytes(),
+            b"\n1 do 0 ",
+            program.collection.as_bytes(),
+            b":",
+            program.function.as_bytes(),
+            b"\n2 group 1 ",
+            sum.group.as_bytes(),
+            b"\n3 do 2 ",
+            sum.name.as_bytes(),
+            b":%sum\noutput ",
+            sum.name.as_bytes(),
+            b" reads 3 to ",
+            file.as_slice(),
+            b"\n",
+        ],
+    )
+}
+
+fn sum_plan(alloc: Global, program: &Program, sum: &Sum) -> Result<Vec<u8>, AllocError>
+    ensures { IfOk result (λ text. text.items ≡ sum_plan_of program.now sum.now) }
+{
+    let file = quoted_name(alloc, program.output_file.as_bytes())?;
+    joined(
+        alloc,
+        &[
+            b"plan\nstage 1 mscr\nin 0 reads s0 does ",
+            program.collection.as_bytes(),
+            b":",
+            program.function.as_bytes(),
+            b">0\ngroup 0 ",
+            sum.group.as_bytes(),
+            b" lift sum takes 0.0 does ",
+            sum.name.as_bytes(),
+            b":%sum>0 gives 1.0\noutput ",
+            sum.name.as_bytes(),
             b" reads 1.0 to ",
             file.as_slice(),
             b"\n",

@@ -1,4 +1,4 @@
-use Rattle.std.proofs.Common.{◌≡◌, ℕ, List, sym, ◌∙◌, subst}
+use Rattle.std.proofs.Common.{ℕ, List, sym, ◌∙◌, subst}
 use Rattle.outside.specs.Save.{IsCutShort}
 use Rattle.outside.specs.Told.{WhereTold}
 use Rattle.printing.specs.Said.{seen}

@@ -1,4 +1,4 @@
-use Rattle.std.proofs.Common.{◌≡◌, List, Option, map, string_bytes, subst}
+use Rattle.std.proofs.Common.{List, Option, map, string_bytes, subst}
 use Rattle.std.proofs.lemmas.Result.{IfErr-weaker, IfOk-weaker, err_from_is_err_and}
 use Rattle.outside.specs.declared.file.File.{File}
 use Rattle.printing.specs.Said.{seen}
@@ -24,12 +24,12 @@ pub returns-clause-ok : goal.returns-clause-ok
 returns-clause-ok g c =
     let has = subst (λ (told : Option (List File)). HasRows told (input_of c.in_ok-program.program) c.in_ok-rows.rows) c.in_ok-program.ensures.files c.in_ok-rows.ensures.ok in
     IfOk-weaker c.run_program.result _ _ (λ written results.
-        prepared (map string_bytes c.args.words.now) (seen g.R.Source.files g.R.Source.faults c.args.source.now) c.in_ok-program.program c.in_ok-rows.rows written.name written.text.items written.screen.items
-        c.in_ok-program.ensures.ok has results) c.run_program.ensures.results
+    prepared (map string_bytes c.args.words.now) (seen g.R.Source.files g.R.Source.faults c.args.source.now) c.in_ok-program.program c.in_ok-rows.rows written.name written.text.items written.screen.items
+    c.in_ok-program.ensures.ok has results) c.run_program.ensures.results
 
 pub returns-clause-err : goal.returns-clause-err
 returns-clause-err g c =
     let has = subst (λ (told : Option (List File)). HasRows told (input_of c.in_ok-program.program) c.in_ok-rows.rows) c.in_ok-program.ensures.files c.in_ok-rows.ensures.ok in
     IfErr-weaker c.run_program.result _ _ (λ why stops.
-        stopped_run (map string_bytes c.args.words.now) (seen g.R.Source.files g.R.Source.faults c.args.source.now) (seen g.R.Source.files g.R.Source.faults c.rows_of_input.new.source)
-        c.in_ok-program.program c.in_ok-rows.rows why c.in_ok-program.ensures.ok has stops) c.run_program.ensures.stop
+    stopped_run (map string_bytes c.args.words.now) (seen g.R.Source.files g.R.Source.faults c.args.source.now) (seen g.R.Source.files g.R.Source.faults c.rows_of_input.new.source)
+    c.in_ok-program.program c.in_ok-rows.rows why c.in_ok-program.ensures.ok has stops) c.run_program.ensures.stop

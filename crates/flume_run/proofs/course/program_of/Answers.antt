@@ -1,4 +1,4 @@
-use Rattle.std.proofs.Common.{◌≡◌, List, ap, sym, subst}
+use Rattle.std.proofs.Common.{◌≡◌, sym, subst}
 use Rattle.std.proofs.lemmas.Result.{IfOk-weaker}
 use Rattle.flume_syntax.specs.declared.tree.Ast.{Ast}
 use Rattle.flume_program.specs.Accepted.{IsAccepted}

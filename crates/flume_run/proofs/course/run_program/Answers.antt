@@ -1,14 +1,14 @@
-use Rattle.std.proofs.Common.{◌≡◌, ℕ, List, [], ap, sym, ◌∙◌, arith, subst}
-use Rattle.flume_value.specs.declared.value.Value.{Value}
-use Rattle.flume_run.specs.Course.{Results, all_emissions, all_traps}
-use Rattle.flume_run.proofs.RunLemmas.{the_results}
+use Rattle.std.proofs.Common.{ap, sym, ◌∙◌}
+use Rattle.flume_run.specs.Course.{all_emissions, all_traps}
 use Rattle.flume_run.proofs.course.run_program.Goals as goal
 
-pub returns-in_ok-results-in-Ok-clause-results : goal.returns-in_ok-results-in-Ok-clause-results
-returns-in_ok-results-in-Ok-clause-results c =
-    let written = c.in_ok-results-in-Ok.field-0 in
-    subst (λ (name : List ℕ). Results c.args.program c.args.rows name written.text.items written.screen.items) (sym c.in_ok-results-in-Ok.ensures.file)
-    (the_results c.args.program c.args.rows c.in-Ok.values.items c.len-row_count.result _ _ c.requires.typed
-    (c.in-Ok.ensures.emitted ∙ ap (all_emissions c.args.program.fun) c.as_slice.ensures)
-    (ap (all_traps 1 c.args.program.fun) (sym c.as_slice.ensures) ∙ c.in-Ok.ensures.through)
-    c.len-row_count.ensures (omega arith) c.in_ok-results-in-Ok.ensures.small c.in_ok-results-in-Ok.ensures.text c.in_ok-results-in-Ok.ensures.screen)
+pub returns-in-None-clause-stop : goal.returns-in-None-clause-stop
+returns-in-None-clause-stop c = c.write_values.ensures.stop c.args.rows
+
+pub returns-in-Ok-clause-stop : goal.returns-in-Ok-clause-stop
+returns-in-Ok-clause-stop c =
+    c.write_sums.ensures.stop c.args.rows (record {
+      typed = c.requires.typed;
+      emitted = c.in-Ok.ensures.emitted ∙ ap (all_emissions c.args.program.fun) c.as_slice.ensures;
+      through = ap (all_traps 1 c.args.program.fun) (sym c.as_slice.ensures) ∙ c.in-Ok.ensures.through;
+    })

@@ -1,5 +1,4 @@
-use Rattle.std.proofs.Common.{◌≡◌, ℕ, List, Err, ap, sym, subst, refl}
-use Rattle.std.specs.Prelude.{string_bytes, map}
+use Rattle.std.proofs.Common.{ℕ, List, Err, ap, sym, subst, refl}
 use Rattle.flume_run.specs.Accepted.{Accepted}
 use Rattle.flume_run.proofs.course.script_of.Goals as goal
 

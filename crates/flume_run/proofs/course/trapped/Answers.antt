@@ -1,4 +1,4 @@
-use Rattle.std.proofs.Common.{◌≡◌, ◌≢◌, ℕ, List, [], Option, Some, ap, sym, ◌∙◌, refl, subst, slice_get}
+use Rattle.std.proofs.Common.{◌≢◌, List, [], ap, sym, ◌∙◌, refl, subst, slice_get}
 use Rattle.std.specs.Bool.{IsTrue}
 use Rattle.std.specs.List.{All}
 use Rattle.flume_types.specs.Typing.{has_type}

@@ -1,12 +1,10 @@
-use Rattle.std.proofs.Common.{◌≡◌, ℕ, ◌+◌, List, [], ◌++◌, length, arith, ap, sym, ◌∙◌, refl, take}
+use Rattle.std.proofs.Common.{◌≡◌, ◌++◌, length, arith, sym, ◌∙◌, refl, take}
 use Rattle.std.specs.Bool.{IsTrue}
-use Rattle.std.specs.List.{All}
 use Rattle.std.proofs.lemmas.List.{append-nil}
 use Rattle.std.proofs.lemmas.List.Elements.{All-append, All-nil}
 use Rattle.std.proofs.lemmas.Result.{err_from_is_err_and}
 use Rattle.dofn_eval.specs.Run.{means as slots_mean}
 use Rattle.flume_types.specs.Typing.{has_type}
-use Rattle.flume_value.specs.declared.value.Value.{Value}
 use Rattle.flume_run.specs.Course.{all_traps}
 use Rattle.flume_run.specs.Direct.{emissions, trap_of}
 use Rattle.flume_run.proofs.EvaluatorLemmas.{all_done, all_from_each, given_emissions, given_no_trap, one_more, trapping}

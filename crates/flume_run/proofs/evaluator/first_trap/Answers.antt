@@ -1,12 +1,10 @@
-use Rattle.std.proofs.Common.{◌≡◌, ℕ, ◌+◌, List, [], length, arith, ap, sym, ◌∙◌, refl, subst, take, Some, Option}
+use Rattle.std.proofs.Common.{◌≡◌, length, arith, sym, ◌∙◌, refl, subst, take, Some}
 use Rattle.std.proofs.lemmas.List.{append-nil}
 use Rattle.dofn_eval.specs.Outcome.{Traps, IsFault}
 use Rattle.dofn_eval.specs.Run.{means as slots_mean}
 use Rattle.flume_value.specs.declared.fault.CallFault.{CallFault}
-use Rattle.flume_value.specs.declared.fault.Kind.{Kind}
-use Rattle.flume_value.specs.declared.value.Value.{Value}
 use Rattle.flume_run.specs.Course.{all_traps}
-use Rattle.flume_run.specs.Direct.{Trap, trap_of}
+use Rattle.flume_run.specs.Direct.{trap_of}
 use Rattle.flume_run.proofs.EvaluatorLemmas.{all_done, first_at, given_no_trap, one_more}
 use Rattle.flume_run.proofs.evaluator.first_trap.Goals as goal
 

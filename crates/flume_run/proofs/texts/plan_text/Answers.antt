@@ -1,12 +1,12 @@
-use Rattle.std.proofs.Common.{◌≡◌, List, ℕ, ap, ◌∙◌}
+use Rattle.std.proofs.Common.{◌∙◌}
 use Rattle.std.proofs.lemmas.Result.{IfOk-weaker}
-use Rattle.printing.specs.Printed.{quoted}
-use Rattle.flume_run.proofs.TextLemmas.{plan_of_program}
+use Rattle.flume_run.proofs.TextLemmas.{do_plan_text, sum_plan_text}
 use Rattle.flume_run.proofs.texts.plan_text.Goals as goal
 
-pub returns : goal.returns
-returns c =
-    let file : c.as_slice.result.now ≡ quoted c.args.program.now.output_file
-    = c.as_slice.ensures.value ∙ (c.in_ok-file.ensures ∙ ap quoted c.as_bytes.ensures) in
-    let pieces = rw (c.as_bytes-name.ensures, c.as_bytes-2.ensures, file) at c.joined.ensures in
-    IfOk-weaker c.joined.result _ _ (λ text is function script stands. is ∙ plan_of_program c.args.program.now function script stands) pieces
+pub returns-in-None : goal.returns-in-None
+returns-in-None c =
+    IfOk-weaker c.do_plan.result _ _ (λ text is function script stands. is ∙ do_plan_text c.args.program.now function script c.in-None.is stands) c.do_plan.ensures
+
+pub returns-in-Some : goal.returns-in-Some
+returns-in-Some c =
+    IfOk-weaker c.sum_plan.result _ _ (λ text is function script stands. is ∙ sum_plan_text c.args.program.now c.in-Some.sum function script c.in-Some.is stands) c.sum_plan.ensures
