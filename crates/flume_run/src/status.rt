@@ -7,7 +7,7 @@ use flume_value::{Kind, Str, Value};
 /// Why a script is refused.
 #[derive(Clone, Copy, PartialEq, Eq, Debug)]
 pub enum ScriptKind {
-    /// It is not of the form that runs.
+    /// It is of no form that runs, or breaks a rule of the language.
     Syntax,
 }
 

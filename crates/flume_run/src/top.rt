@@ -16,10 +16,11 @@ use std::thread::Threads;
 /// Runs the command that the words of a command line ask for, and answers how that ended.
 ///
 /// The words are the program's name, `run` and the name of a script. The script is loaded from
-/// the source and read, then its input is loaded and decoded, and its function is called for each
-/// row. Only then is the output file written to the shelf, and then the text of the screen: the
-/// execution graph, the plan, the size of each collection, and `done`. The first refusal met is the
-/// answer, and the screen gets its line. Every growth comes before the shelf's first `begin`.
+/// the source, parsed and checked, then its input is loaded and decoded, its function is called for
+/// each row, and what it emits is grouped and summed where the script says so. Only then the output
+/// file is written to the shelf, and then the text of the screen: the execution graph, the plan, the
+/// size of each collection, and `done`. A call that traps, or the first refusal met, is the answer,
+/// and the screen gets its line. Every growth comes before the shelf's first `begin`.
 ///
 /// No host is called and no thread is started yet.
 pub fn flume<X: Threads + Sync, R: Source, H: Host, K: Shelf, P: Screen>(
