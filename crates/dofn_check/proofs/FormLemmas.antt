@@ -28,7 +28,7 @@ then_same Stuck f g h = refl
 
 -- ---- the types of expressions
 
-types_mapped : {X : Type 0} (f : X → Scope → Option Ty) (xs : List X) (scope : Scope) → all_types (λ m. m) (map f xs) scope ≡ all_types f xs scope
+pub types_mapped : {X : Type 0} (f : X → Scope → Option Ty) (xs : List X) (scope : Scope) → all_types (λ m. m) (map f xs) scope ≡ all_types f xs scope
 types_mapped f [] scope = refl
 types_mapped f (x ∷ xs) scope = ap (λ o. option_and_then (λ type. option_map (λ types. type ∷ types) o) (f x scope)) (types_mapped f xs scope)
 

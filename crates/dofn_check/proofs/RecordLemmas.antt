@@ -1,6 +1,9 @@
 -- The slots of a record literal.
-use Rattle.std.proofs.Common.{◌≡◌, ◌<◌, ℕ, true, false, cond, Option, Some, None, List, [], ◌∷◌, ◌++◌, map, arith, refl, sym, ap, ◌∙◌, subst, append-nil, append_assoc}
+use Rattle.std.proofs.Common.{◌≡◌, ◌≢◌, ◌<◌, ℕ, suc, true, false, ◌&&◌, eqb, cond, Option, Some, None, List, [], ◌∷◌, ◌++◌, length, map, arith, refl, sym, ap, ◌∙◌, subst, append-nil, append_assoc}
 use Rattle.std.specs.Prelude.{option_map, option_and_then}
+use Rattle.std.proofs.Math.Bool.{and-false}
+use Rattle.std.proofs.lemmas.Bool.{eq-eqb, ne_eqb}
+use Rattle.std.proofs.lemmas.Option.{none-some, same_Some, option_and_then_some}
 use Rattle.flume_value.specs.declared.value.Value.{Value}
 use Rattle.flume_value.specs.declared.value.Value.TheVariants as value
 use Rattle.flume_types.specs.declared.types.Ty.{Ty}
@@ -18,7 +21,7 @@ use Rattle.dofn_eval.specs.Typed.{AllHave, AllTyped, all_end, all_more, types_of
 use Rattle.dofn_eval.specs.Typed as typing
 use Rattle.dofn_eval.proofs.MeaningLemmas.{value_of-Record}
 use Rattle.dofn_check.specs.Names.{are_different}
-use Rattle.dofn_check.specs.Fields.{fields_of}
+use Rattle.dofn_check.specs.Fields.{fields_of, record_of}
 use Rattle.dofn_check.specs.Typing.{Scope, shallow, record_type, all_types, type_of}
 use Rattle.dofn_check.specs.Call.{Thing, recorded, all_given, given}
 use Rattle.dofn_check.specs.Resolves.{types, bound, tagged, Resolves, EachResolves, PartsResolve}
@@ -73,12 +76,29 @@ types_are (e ∷ es) scope (k ∷ ks) (t ∷ ts) r = λ i. option_and_then (λ t
 
 -- ---- the record
 
-pub resolves_record : (names : List (List ℕ)) (parts : List Expr) (scope : Scope) (ks : List Slots) (fields : List (Field Ty)) (t : Ty) → are_different names ≡ true → PartsResolve names parts scope ks fields → t ≡ ty.Rec fields → shallow (ty.Rec fields) ≡ Some (ty.Rec fields) → Resolves (parsed.Record names parts) scope (expr.Record ks) t
-resolves_record names parts scope ks fields t different r is flat = subst (Resolves (parsed.Record names parts) scope (expr.Record ks)) (sym is) (record {
-  type =
-      type_of-Record names parts scope ∙ ap (option_and_then (record_type names)) (types_are parts scope ks (types_of fields) r.each)
-      ∙ ap (λ b. cond b (shallow (ty.Rec (fields_of names (types_of fields)))) None) different
-      ∙ ap (λ fs. shallow (ty.Rec fs)) r.named ∙ flat;
+each_counts : (es : List Expr) (scope : Scope) (ks : List Slots) (ts : List Ty) → EachResolves es scope ks ts → length ts ≡ length es
+each_counts [] scope [] [] r = refl
+each_counts [] scope [] (t ∷ ts) r = absurd r
+each_counts [] scope (k ∷ ks) ts r = absurd r
+each_counts (e ∷ es) scope [] ts r = absurd r
+each_counts (e ∷ es) scope (k ∷ ks) [] r = absurd r
+each_counts (e ∷ es) scope (k ∷ ks) (t ∷ ts) r = ap suc (each_counts es scope ks ts r.1)
+
+made_record : (names : List (List ℕ)) (types : List Ty) → length names ≡ length types → are_different names ≡ true → record_of names types ≡ Some (ty.Rec (fields_of names types))
+made_record names types paired different =
+    ap (λ b. cond (b && are_different names) (Some (ty.Rec (fields_of names types))) None) (eq-eqb (length names) (length types) paired)
+    ∙ ap (λ b. cond b (Some (ty.Rec (fields_of names types))) None) different
+
+-- the type of a record whose parts are resolved
+record_is : (names : List (List ℕ)) (parts : List Expr) (scope : Scope) (ks : List Slots) (fields : List (Field Ty)) → length names ≡ length parts → are_different names ≡ true → PartsResolve names parts scope ks fields → type_of (parsed.Record names parts) scope ≡ shallow (ty.Rec fields)
+record_is names parts scope ks fields paired different r =
+    type_of-Record names parts scope ∙ ap (option_and_then (record_type names)) (types_are parts scope ks (types_of fields) r.each)
+    ∙ ap (option_and_then shallow) (made_record names (types_of fields) (paired ∙ sym (each_counts parts scope ks (types_of fields) r.each)) different)
+    ∙ ap (λ fs. shallow (ty.Rec fs)) r.named
+
+pub resolves_record : (names : List (List ℕ)) (parts : List Expr) (scope : Scope) (ks : List Slots) (fields : List (Field Ty)) (t : Ty) → length names ≡ length parts → are_different names ≡ true → PartsResolve names parts scope ks fields → t ≡ ty.Rec fields → shallow (ty.Rec fields) ≡ Some (ty.Rec fields) → Resolves (parsed.Record names parts) scope (expr.Record ks) t
+resolves_record names parts scope ks fields t paired different r is flat = subst (Resolves (parsed.Record names parts) scope (expr.Record ks)) (sym is) (record {
+  type = record_is names parts scope ks fields paired different r ∙ flat;
   typed = typing.fields fields (all_typed parts scope ks (types_of fields) r.each);
   same = λ vs h.
       given-Record names parts (bound scope vs)
@@ -90,24 +110,43 @@ resolves_record names parts scope ks fields t different r is flat = subst (Resol
 pub untyped_parts : (names : List (List ℕ)) (parts : List Expr) (scope : Scope) → all_types type_of parts scope ≡ None → type_of (parsed.Record names parts) scope ≡ None
 untyped_parts names parts scope none = type_of-Record names parts scope ∙ ap (option_and_then (record_type names)) none
 
+-- names that are no record's: one stands twice
 named_twice : (names : List (List ℕ)) (o : Option (List Ty)) → are_different names ≡ false → option_and_then (record_type names) o ≡ None
 named_twice names None e = refl
-named_twice names (Some ts) e = ap (λ b. cond b (shallow (ty.Rec (fields_of names ts))) None) e
+named_twice names (Some ts) e =
+    ap (λ b. option_and_then shallow (cond (eqb (length names) (length ts) && b) (Some (ty.Rec (fields_of names ts))) None)) e
+    ∙ ap (λ b. option_and_then shallow (cond b (Some (ty.Rec (fields_of names ts))) None)) (and-false (eqb (length names) (length ts)))
 
 pub untyped_names : (names : List (List ℕ)) (parts : List Expr) (scope : Scope) → are_different names ≡ false → type_of (parsed.Record names parts) scope ≡ None
 untyped_names names parts scope e = type_of-Record names parts scope ∙ named_twice names (all_types type_of parts scope) e
 
-pub too_deep : (names : List (List ℕ)) (parts : List Expr) (scope : Scope) (ks : List Slots) (fields : List (Field Ty)) → are_different names ≡ true → PartsResolve names parts scope ks fields → shallow (ty.Rec fields) ≡ None → type_of (parsed.Record names parts) scope ≡ None
-too_deep names parts scope ks fields different r deep =
-    type_of-Record names parts scope ∙ ap (option_and_then (record_type names)) (types_are parts scope ks (types_of fields) r.each)
-    ∙ ap (λ b. cond b (shallow (ty.Rec (fields_of names (types_of fields)))) None) different
-    ∙ ap (λ fs. shallow (ty.Rec fs)) r.named ∙ deep
+-- or there are not as many as parts
+not_paired : (n : ℕ) (names : List (List ℕ)) (o : Option (List Ty)) → length names ≢ n → ((ts : List Ty) → o ≡ Some ts → length ts ≡ n) → option_and_then (record_type names) o ≡ None
+not_paired n names None e h = refl
+not_paired n names (Some ts) e h =
+    ap (λ b. option_and_then shallow (cond (b && are_different names) (Some (ty.Rec (fields_of names ts))) None)) (ne_eqb (length names) (length ts) (λ is. e (is ∙ h ts refl)))
+
+count_behind : (n : ℕ) (t : Ty) (o : Option (List Ty)) (ts : List Ty) → ((us : List Ty) → o ≡ Some us → length us ≡ n) → option_map (λ us. t ∷ us) o ≡ Some ts → length ts ≡ suc n
+count_behind n t None ts h is = absurd (none-some ts is)
+count_behind n t (Some us) ts h is = sym (ap length (same_Some (t ∷ us) ts is)) ∙ ap suc (h us refl)
+
+types_count : (es : List Expr) (scope : Scope) (ts : List Ty) → all_types type_of es scope ≡ Some ts → length ts ≡ length es
+types_count [] scope ts is = sym (ap length (same_Some [] ts is))
+types_count (e ∷ es) scope ts is =
+    option_and_then_some (λ type. option_map (λ types. type ∷ types) (all_types type_of es scope)) (type_of e scope) ts is
+    (λ t _ more. count_behind (length es) t (all_types type_of es scope) ts (types_count es scope) more)
+
+pub untyped_counts : (names : List (List ℕ)) (parts : List Expr) (scope : Scope) → length names ≢ length parts → type_of (parsed.Record names parts) scope ≡ None
+untyped_counts names parts scope e = type_of-Record names parts scope ∙ not_paired (length parts) names (all_types type_of parts scope) e (types_count parts scope)
+
+pub too_deep : (names : List (List ℕ)) (parts : List Expr) (scope : Scope) (ks : List Slots) (fields : List (Field Ty)) → length names ≡ length parts → are_different names ≡ true → PartsResolve names parts scope ks fields → shallow (ty.Rec fields) ≡ None → type_of (parsed.Record names parts) scope ≡ None
+too_deep names parts scope ks fields paired different r deep = record_is names parts scope ks fields paired different r ∙ deep
 
 -- the parts are less deep
 pub falls_record : (e : Expr) (names : List (List ℕ)) (parts left : List Expr) → e ≡ parsed.Record names parts → left ≡ parts → most (λ x. size-Expr x) left < size-Expr e
 falls_record e names parts left is same = omega (arith, sized-Record names parts, ap (λ x. size-Expr x) is, ap (λ es. most (λ x. size-Expr x) es) same)
 
-pub ruleset record_rules = (resolves_record, untyped_parts, untyped_names, too_deep)
+pub ruleset record_rules = (resolves_record, untyped_parts, untyped_names, untyped_counts, too_deep)
 
 -- ---- the parts one after another
 

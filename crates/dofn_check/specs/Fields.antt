@@ -1,14 +1,20 @@
 -- The fields of record types.
-use Rattle.std.specs.Prelude.{ℕ, List, [], ◌∷◌, Option, Some, None, if◌then◌else◌}
+use Rattle.std.specs.Prelude.{ℕ, List, [], ◌∷◌, length, nat_eq, ◌&&◌, Option, Some, None, if◌then◌else◌}
 use Rattle.std.specs.Str.{bytes_eq}
 use Rattle.flume_types.specs.declared.types.Ty.{Ty, Ty-F, out-Ty}
+use Rattle.flume_types.specs.declared.types.Ty.TheVariants as ty
 use Rattle.flume_types.specs.declared.types.Field.{Field}
+use Rattle.dofn_check.specs.Names.{are_different}
 
 -- fields of these names and types, in order
 abbrev pub fields_of : List (List ℕ) → List Ty → List (Field Ty)
 fields_of [] types = []
 fields_of (name ∷ names) [] = []
 fields_of (name ∷ names) (type ∷ types) = record { name = name; ty = type } ∷ fields_of names types
+
+-- the record of these types under as many names, each another
+abbrev pub record_of : List (List ℕ) → List Ty → Option Ty
+record_of names types = if nat_eq (length names) (length types) && are_different names then Some (ty.Rec (fields_of names types)) else None
 
 -- the type of the field of that name
 abbrev pub type_under : List ℕ → List (Field Ty) → Option Ty

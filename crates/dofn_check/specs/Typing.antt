@@ -10,8 +10,8 @@ use Rattle.flume_syntax.specs.declared.tree.Unary.TheVariants as unary
 use Rattle.flume_syntax.specs.declared.tree.Expr.{Expr, Expr-F, fold-Expr}
 use Rattle.flume_syntax.specs.declared.tree.Body.{Body, Body-F, fold-Body}
 use Rattle.int_text.specs.Ints.{int_of}
-use Rattle.dofn_check.specs.Names.{look, are_different}
-use Rattle.dofn_check.specs.Fields.{fields_of, type_under, record_fields, member_type}
+use Rattle.dofn_check.specs.Names.{look}
+use Rattle.dofn_check.specs.Fields.{record_of, type_under, record_fields, member_type}
 
 -- names with their types, the newest first
 abbrev pub Scope : Type 0
@@ -25,9 +25,9 @@ is_same = (ghosts).eq
 abbrev pub shallow : Ty → Option Ty
 shallow type = if nat_le (depth_of type) 8 then Some type else None
 
--- the type of a record of parts of these types under these names, each another
+-- the type of a record of parts of these types under these names
 abbrev pub record_type : List (List ℕ) → List Ty → Option Ty
-record_type names types = if are_different names then shallow (ty.Rec (fields_of names types)) else None
+record_type names types = option_and_then shallow (record_of names types)
 
 -- the type of `words(e)`, of the other operations none yet
 abbrev pub unary_type : Unary → Ty → Option Ty

@@ -1,4 +1,4 @@
-ghost use Rattle.std.specs.Prelude.{◌≡◌, ◌≢◌, Some, None, option_map, IfOk, IfErr};
+ghost use Rattle.std.specs.Prelude.{◌≡◌, ◌≢◌, Some, None, length, option_map, IfOk, IfErr};
 ghost use Rattle.int_text.specs.Ints.{int_of as int_in};
 ghost use Rattle.flume_syntax.specs.declared.tree.Expr.TheVariants as parsed;
 ghost use Rattle.flume_syntax.specs.declared.tree.Unary.TheVariants as unary;
@@ -6,7 +6,8 @@ ghost use Rattle.dofn_eval.specs.declared.expr.Expr.TheVariants as slots;
 ghost use Rattle.dofn_check.specs.Typing.{type_of, all_types};
 ghost use Rattle.dofn_check.specs.Resolves.{Resolves, PartsResolve, names_of};
 
-use crate::record::{are_different, fields_of, find_field, shallow};
+use crate::names::are_different;
+use crate::record::{fields_of, find_field, shallow};
 use crate::refusal::Refusal;
 use crate::scope::Scope;
 use dofn_eval::{Expr as Slots, Unary as Operation};
@@ -132,7 +133,7 @@ fn record<'a>(
     ensures resolved { IfOk result (λ r. Resolves (parsed.Record names.now parts.now) (names_of scope.now) r.expr r.ty) }
     ensures untyped { IfErr result (λ f. f ≢ Refusal.Memory → type_of (parsed.Record names.now parts.now) (names_of scope.now) ≡ None) }
 {
-    if !are_different(names) {
+    if names.len() != parts.len() || !are_different(names) {
         return Err(Refusal::NotAccepted);
     }
     let parts = resolve_parts(alloc, names, parts, scope)?;
@@ -156,13 +157,10 @@ fn resolve_parts<'a>(
     parts: &'a [Expr],
     scope: &'a Scope<'a>,
 ) -> Result<Parts, Refusal>
+    requires paired { length names.now ≡ length parts.now }
     ensures resolved { IfOk result (λ p. PartsResolve names.now parts.now (names_of scope.now) p.exprs p.fields) }
     ensures untyped { IfErr result (λ f. f ≢ Refusal.Memory → all_types type_of parts.now (names_of scope.now) ≡ None) }
 {
-    // the parser reads a name with each part
-    if names.len() < parts.len() {
-        return Err(Refusal::Memory);
-    }
     let mut exprs = Pile::new(alloc);
     let mut fields = Pile::new(alloc);
     for i in 0..parts.len() {

@@ -10,6 +10,7 @@
 mod body;
 mod expression;
 mod function;
+mod names;
 mod record;
 mod refusal;
 mod scope;
@@ -17,4 +18,5 @@ mod scope;
 mod tests;
 
 pub use function::check_function;
+pub use names::are_different;
 pub use refusal::Refusal;

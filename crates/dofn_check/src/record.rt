@@ -1,8 +1,5 @@
 ghost use Rattle.std.specs.Prelude.{◌≡◌, ◌≢◌, Some, None, IfOk, IfErr};
-ghost use Rattle.std.specs.List.{list_any};
-ghost use Rattle.std.specs.Str.{bytes_eq};
 ghost use Rattle.flume_types.specs.declared.types.Ty.TheVariants as ty_;
-ghost use Rattle.dofn_check.specs.Names.{are_different as are_all_different};
 ghost use Rattle.dofn_check.specs.Fields.{record_fields, member_type, type_under};
 ghost use Rattle.dofn_check.specs.Typing.{shallow as shallow_type};
 ghost use Rattle.dofn_check.specs.Resolves.{field_at};
@@ -49,29 +46,6 @@ pub fn find_field<'a>(name: &Str, fields: &'a [Field<Ty>]) -> Result<Found<'a>, 
         }
     }
     Err(Refusal::NotAccepted)
-}
-
-/// Whether no name stands twice.
-pub fn are_different(names: &[Str]) -> bool
-    ensures { result ≡ are_all_different names.now }
-{
-    for i in 0..names.len() {
-        if is_among(&names[i], &names[i + 1..]) {
-            return false;
-        }
-    }
-    true
-}
-
-fn is_among(name: &Str, names: &[Str]) -> bool
-    ensures { result ≡ list_any (bytes_eq name.now) names.now }
-{
-    for other in names {
-        if name.is(other.as_bytes()) {
-            return true;
-        }
-    }
-    false
 }
 
 /// The type, where it is at most 8 deep. `NotAccepted` comes where it is deeper.

@@ -1,20 +1,18 @@
 -- The equations of `written`, one a form.
-use Rattle.std.proofs.Common.{◌≡◌, ℕ, List, [], ◌∷◌, map, Option, Some, None, refl, ap, sym, ◌∙◌}
-use Rattle.std.specs.Option.{option_map, option_and_then}
+use Rattle.std.proofs.Common.{◌≡◌, ℕ, List, Option, Some, None, refl, ap, sym, ◌∙◌}
+use Rattle.std.specs.Option.{option_and_then}
 use Rattle.flume_types.specs.declared.types.Ty.{Ty}
 use Rattle.flume_types.specs.declared.types.Ty.TheVariants as ty
 use Rattle.flume_syntax.specs.declared.tree.Type as tree
 use Rattle.flume_syntax.specs.declared.tree.Type.TheVariants as form
 use Rattle.dofn_check.specs.Names.{look}
-use Rattle.dofn_check.specs.Typing.{Scope}
-use Rattle.flume_program.specs.Written.{all_written, record_of, table_written, layer_written, written}
-
-all_mapped : {X : Type 0} (f : X → Scope → Option Ty) (parts : List X) (names : Scope) → all_written (λ m. m) (map f parts) names ≡ all_written f parts names
-all_mapped f [] names = refl
-all_mapped f (part ∷ parts) names = ap (λ rest. option_and_then (λ type. option_map (λ types. type ∷ types) rest) (f part names)) (all_mapped f parts names)
+use Rattle.dofn_check.specs.Fields.{record_of}
+use Rattle.dofn_check.specs.Typing.{Scope, all_types}
+use Rattle.dofn_check.proofs.FormLemmas.{types_mapped}
+use Rattle.flume_program.specs.Written.{table_written, layer_written, written}
 
 layer_mapped : (f : tree.Type → Scope → Option Ty) (x : tree.Type-F tree.Type) (names : Scope) → layer_written (λ m. m) (tree.map-Type tree.Type (Scope → Option Ty) f x) names ≡ layer_written f x names
-layer_mapped f (tree.Type-F.Record fields types) names = ap (option_and_then (record_of fields)) (all_mapped f types names)
+layer_mapped f (tree.Type-F.Record fields types) names = ap (option_and_then (record_of fields)) (types_mapped f types names)
 layer_mapped f _ names = refl
 
 pub written-step : (type : tree.Type) (names : Scope) → written type names ≡ layer_written written (tree.out-Type type) names
@@ -44,13 +42,13 @@ written-Either left right names = at_layer _ _ names (form.outs-Either left righ
 pub written-Table : (key value : tree.Type) (names : Scope) → written (form.Table key value) names ≡ table_written written key value names
 written-Table key value names = at_layer _ _ names (form.outs-Table key value)
 
-pub written-Record : (fields : List (List ℕ)) (types : List tree.Type) (names : Scope) → written (form.Record fields types) names ≡ option_and_then (record_of fields) (all_written written types names)
+pub written-Record : (fields : List (List ℕ)) (types : List tree.Type) (names : Scope) → written (form.Record fields types) names ≡ option_and_then (record_of fields) (all_types written types names)
 written-Record fields types names = at_layer _ _ names (form.outs-Record fields types)
 
 pub ruleset written_rules = (written-Int, written-Bool, written-Text, written-Named, written-List, written-Either, written-Table, written-Record)
 
 -- a record with a part that means no type
 pub record_refused : (type : tree.Type) (fields : List (List ℕ)) (types parts : List tree.Type) (names : Scope) → type ≡ form.Record fields types → parts ≡ types
-    → all_written written parts names ≡ None → written type names ≡ None
+    → all_types written parts names ≡ None → written type names ≡ None
 record_refused type fields types parts names is same none =
-    ap (λ t. written t names) is ∙ written-Record fields types names ∙ ap (option_and_then (record_of fields)) (ap (λ ts. all_written written ts names) (sym same) ∙ none)
+    ap (λ t. written t names) is ∙ written-Record fields types names ∙ ap (option_and_then (record_of fields)) (ap (λ ts. all_types written ts names) (sym same) ∙ none)

@@ -1,21 +1,12 @@
 -- What types are meant where they are written.
-use Rattle.std.specs.Prelude.{ℕ, List, [], ◌∷◌, Option, Some, None, option_map, option_and_then, if◌then◌else◌}
+use Rattle.std.specs.Prelude.{Option, Some, None, option_map, option_and_then}
 use Rattle.flume_types.specs.declared.types.Ty.{Ty}
 use Rattle.flume_types.specs.declared.types.Ty.TheVariants as ty
 use Rattle.flume_types.specs.Tables.{table_of}
 use Rattle.flume_syntax.specs.declared.tree.Type as tree
-use Rattle.dofn_check.specs.Names.{look, are_different}
-use Rattle.dofn_check.specs.Fields.{fields_of}
-use Rattle.dofn_check.specs.Typing.{Scope, shallow}
-
--- the types of parts, where each is one
-abbrev pub all_written : {X : Type 0} → (X → Scope → Option Ty) → List X → Scope → Option (List Ty)
-all_written f [] names = Some []
-all_written f (part ∷ parts) names = option_and_then (λ type. option_map (λ types. type ∷ types) (all_written f parts names)) (f part names)
-
--- the record of these types under these names, each another
-abbrev pub record_of : List (List ℕ) → List Ty → Option Ty
-record_of names types = if are_different names then Some (ty.Rec (fields_of names types)) else None
+use Rattle.dofn_check.specs.Names.{look}
+use Rattle.dofn_check.specs.Fields.{record_of}
+use Rattle.dofn_check.specs.Typing.{Scope, shallow, all_types}
 
 -- the table of a key and a value of these types, where each is one
 abbrev pub table_written : {X : Type 0} → (X → Scope → Option Ty) → X → X → Scope → Option Ty
@@ -28,7 +19,7 @@ layer_written f tree.Type-F.Bool names = Some ty.Bool
 layer_written f tree.Type-F.Text names = Some ty.Text
 layer_written f (tree.Type-F.Named name) names = look name names
 layer_written f (tree.Type-F.Table key value) names = table_written f key value names
-layer_written f (tree.Type-F.Record fields types) names = option_and_then (record_of fields) (all_written f types names)
+layer_written f (tree.Type-F.Record fields types) names = option_and_then (record_of fields) (all_types f types names)
 layer_written f _ names = None
 
 -- the type that is written, where names stand for these types

@@ -1,12 +1,11 @@
 ghost use Rattle.std.specs.Prelude.{◌≡◌, ◌≢◌, Some, None, IfOk, IfErr};
-ghost use Rattle.std.specs.List.{list_any};
-ghost use Rattle.std.specs.Str.{bytes_eq};
-ghost use Rattle.dofn_check.specs.Names.{look, are_different as differ};
-ghost use Rattle.dofn_check.specs.Fields.{fields_of as fields};
+ghost use Rattle.dofn_check.specs.Names.{look};
+ghost use Rattle.dofn_check.specs.Fields.{fields_of as fields, record_of};
+ghost use Rattle.dofn_check.specs.Typing.{all_types};
 ghost use Rattle.flume_program.specs.Written as spec;
 
 use crate::names::Names;
-use dofn_check::Refusal;
+use dofn_check::{Refusal, are_different};
 use flume_syntax::Type;
 use flume_types::{Field, Fields, Ty, depth, table_type};
 use flume_value::{Pile, Str};
@@ -55,8 +54,8 @@ fn written(alloc: Global, ty: &Type, names: &Names) -> Result<Ty, Refusal>
 /// The types that are written, in order.
 #[cycle(written)]
 fn all_written(alloc: Global, types: &[Type], names: &Names) -> Result<Pile<Ty>, Refusal>
-    ensures ok { IfOk result (λ all. spec.all_written spec.written types.now names.now ≡ Some all) }
-    ensures err { IfErr result (λ e. e ≢ Refusal.Memory → spec.all_written spec.written types.now names.now ≡ None) }
+    ensures ok { IfOk result (λ all. all_types spec.written types.now names.now ≡ Some all) }
+    ensures err { IfErr result (λ e. e ≢ Refusal.Memory → all_types spec.written types.now names.now ≡ None) }
 {
     let mut all = Pile::new(alloc);
     for part in types {
@@ -80,17 +79,16 @@ fn named(alloc: Global, name: &Str, names: &Names) -> Result<Ty, Refusal>
     }
 }
 
-/// The record of these types under these names, each another.
+/// The record of these types under as many names, each another.
 fn record(alloc: Global, names: &[Str], types: Pile<Ty>) -> Result<Ty, Refusal>
-    ensures ok { IfOk result (λ t. spec.record_of names.now types ≡ Some t) }
-    ensures err { IfErr result (λ e. e ≢ Refusal.Memory → spec.record_of names.now types ≡ None) }
+    ensures ok { IfOk result (λ t. record_of names.now types ≡ Some t) }
+    ensures err { IfErr result (λ e. e ≢ Refusal.Memory → record_of names.now types ≡ None) }
 {
-    if are_different(names) {
-        let fields = fields_of(alloc, names, types)?;
-        Ok(Ty::Rec(fields))
-    } else {
-        Err(Refusal::NotAccepted)
+    if names.len() != types.len() || !are_different(names) {
+        return Err(Refusal::NotAccepted);
     }
+    let fields = fields_of(alloc, names, types)?;
+    Ok(Ty::Rec(fields))
 }
 
 /// Fields of these names and types, in order.
@@ -107,29 +105,4 @@ fn fields_of(alloc: Global, names: &[Str], types: Pile<Ty>) -> Result<Fields, Al
         all.push(Field { name, ty })?;
     }
     Ok(Pile::from_vec(all))
-}
-
-/// Whether no name stands twice.
-fn are_different(names: &[Str]) -> bool
-    ensures { result ≡ differ names.now }
-{
-    let mut at = 0;
-    for name in names {
-        at += 1;
-        if contains(&names[at..], name) {
-            return false;
-        }
-    }
-    true
-}
-
-fn contains(names: &[Str], name: &Str) -> bool
-    ensures { result ≡ list_any (bytes_eq name.now) names.now }
-{
-    for other in names {
-        if name.is(other.as_bytes()) {
-            return true;
-        }
-    }
-    false
 }

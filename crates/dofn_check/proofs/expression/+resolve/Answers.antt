@@ -1,4 +1,4 @@
-use Rattle.std.proofs.Common.{rules, ◌≡◌, true, drop, arith, subst}
+use Rattle.std.proofs.Common.{rules, ◌≡◌, true, length, drop, arith, subst}
 use Rattle.std.proofs.lemmas.List.{drop_all}
 use Rattle.std.proofs.lemmas.Result.{err_from_is_err_and}
 use Rattle.dofn_check.specs.Names.{are_different}
@@ -31,9 +31,10 @@ record-returns-in_err-parts-clause-untyped t c =
 
 pub record-returns-clause-resolved : goal.record-returns-clause-resolved
 record-returns-clause-resolved t c =
+    let paired : length c.args.names.now ≡ length c.args.parts.now = search rules in
     let different : are_different c.args.names.now ≡ true = search rules in
     resolves_record c.args.names.now c.args.parts.now (names_of c.args.scope.now) c.in_ok-parts.parts.exprs c.in_ok-parts.parts.fields c.in_ok-shallow.field-0
-    different c.in_ok-parts.ensures.resolved c.in_ok-shallow.ensures.is.0 c.in_ok-shallow.ensures.is.1
+    paired different c.in_ok-parts.ensures.resolved c.in_ok-shallow.ensures.is.0 c.in_ok-shallow.ensures.is.1
 
 pub resolve_parts-returns-clause-resolved : goal.resolve_parts-returns-clause-resolved
 resolve_parts-returns-clause-resolved t c =

@@ -1,7 +1,8 @@
 use Rattle.std.proofs.Common.{◌≡◌, ◌++◌, drop}
 use Rattle.std.specs.Option.{option_map}
-use Rattle.flume_program.specs.Written.{all_written, written}
+use Rattle.dofn_check.specs.Typing.{all_types}
+use Rattle.flume_program.specs.Written.{written}
 use Rattle.flume_program.proofs.written.+written.Given as goal
 
 abbrev pub invariant-all_written-loop-part : goal.invariant-all_written-loop-part
-invariant-all_written-loop-part l = option_map (λ types. l.all ++ types) (all_written written (drop l.part-index l.types) l.names) ≡ all_written written l.types l.names
+invariant-all_written-loop-part l = option_map (λ types. l.all ++ types) (all_types written (drop l.part-index l.types) l.names) ≡ all_types written l.types l.names
