@@ -2,7 +2,7 @@
 use Rattle.std.proofs.Common.{◌≡◌, ◌<◌, ◌≤◌, ℕ, take, reverse, length-append, ◌-◌, suc, Some, append_assoc, append-nil, Bool, true, false, cond, List, [], ◌∷◌, ◌++◌, length, map, refl, sym, ap, ◌∙◌, subst, arith}
 use Rattle.std.specs.declared.cmp.Ordering.TheVariants.{Greater}
 use Rattle.std.specs.Prelude.{filter, not, All, slice_get}
-use Rattle.std.specs.List.{flat_map}
+use Rattle.std.specs.List.{AllByRecursion as Each, flat_map}
 use Rattle.std.specs.List.Sorted.{IsSorted}
 use Rattle.std.proofs.lemmas.List.{map-append, length-map, take-append-le, reverse-append}
 use Rattle.std.proofs.Math.Seq.{take-append_seam}
@@ -14,11 +14,12 @@ use Rattle.flume_value.specs.declared.value.Value.TheVariants as value
 use Rattle.flume_value.specs.Order.{value_cmp}
 use Rattle.flume_value.specs.Bag.{bag_of}
 use Rattle.flume_value.specs.Equality.{value_eq}
-use Rattle.flume_value.proofs.BagLemmas.{Each, NotBelow, Rises, apart as same_by_order, each_from, rises_from, Rises-bag_of, sorted_from, bag_of-settled, bag_of-IsPermutation, IsPermutation-bag_of, bag_of-flat_map-bag_of}
-use Rattle.flume_value.proofs.EachLemmas.{Each-left, Each-right, Rises-left, Rises-right, Rises-take}
+use Rattle.flume_value.proofs.BagLemmas.{NotBelow, Rises, apart as same_by_order, rises_from, Rises-bag_of, sorted_from, bag_of-settled, bag_of-IsPermutation, IsPermutation-bag_of, bag_of-flat_map-bag_of}
+use Rattle.flume_value.proofs.EachLemmas.{each_from, Each-both, Each-left, Each-right, Each-map, Each-filter, Each-filter_passes}
+use Rattle.flume_value.proofs.RisesLemmas.{Rises-left, Rises-right, Rises-take}
 use Rattle.bag_groups.specs.Pairs.{pair, IsPair, key_of, value_of}
 use Rattle.bag_groups.specs.Groups.{distinct, keys_of, values_of, grouped}
-use Rattle.bag_groups.proofs.Each.{Each-filter_passes, Each-map, Each-both, Each-filter, Each-distinct, filter_all, filter_none, map_same}
+use Rattle.bag_groups.proofs.MemberLemmas.{Each-distinct, filter_all, filter_none, map_same}
 use Rattle.bag_groups.proofs.PairOrder.{Rises-keys, Rises-values, value_eq-same, value_eq-other, less_from, pairs-NotBelow}
 
 -- ---- distinct members, where the last of them make a run

@@ -1,3 +1,3 @@
-pub mod Each
 pub mod Grouping
+pub mod MemberLemmas
 pub mod PairOrder

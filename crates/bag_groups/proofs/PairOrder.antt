@@ -3,14 +3,15 @@ use Rattle.std.proofs.Common.{◌≡◌, true, false, List, [], ◌∷◌, map, 
 use Rattle.std.specs.declared.cmp.Ordering.{Ordering}
 use Rattle.std.specs.declared.cmp.Ordering.TheVariants.{Less, Equal, Greater}
 use Rattle.std.specs.Ordering.{is_lt, is_eq, ordering_then}
+use Rattle.std.specs.List.{AllByRecursion as Each}
 use Rattle.flume_value.specs.declared.value.Value.{Value, Value-F, out-Value}
 use Rattle.flume_value.specs.declared.value.Value.TheVariants as value
 use Rattle.flume_value.specs.Order.{value_cmp, layer_cmp}
 use Rattle.flume_value.specs.Equality.{value_eq}
 use Rattle.flume_value.proofs.OrderLemmas.{value_cmp-step, value_cmp-same, value_cmp-IsAntisymmetric}
-use Rattle.flume_value.proofs.BagLemmas.{Each, NotBelow, Rises}
+use Rattle.flume_value.proofs.EachLemmas.{Each-map, Each-both}
+use Rattle.flume_value.proofs.BagLemmas.{NotBelow, Rises}
 use Rattle.bag_groups.specs.Pairs.{pair, IsPairAt, IsPair, key_at, key_of, value_at, value_of}
-use Rattle.bag_groups.proofs.Each.{Each-map, Each-both}
 
 pub key_of-pair : (k v : Value) → key_of (pair k v) ≡ k
 key_of-pair k v = ap (key_at (pair k v)) (value.outs-Rec (k ∷ v ∷ []))

@@ -2,21 +2,14 @@
 use Rattle.std.specs.Prelude.{List, [], ◌∷◌, Result, Ok, Err}
 use Rattle.std.specs.List.{flat_map}
 use Rattle.flume_value.specs.declared.fault.Kind.{Kind}
-use Rattle.flume_value.specs.declared.value.Value.{Value, Value-F, out-Value}
+use Rattle.flume_value.specs.declared.value.Value.{Value}
 use Rattle.flume_value.specs.Bag.{bag_of}
+use Rattle.flume_value.specs.Parts.{members_or_none}
 use Rattle.bag_groups.specs.Pairs.{pair, key_of, value_of}
-
-abbrev pub members_at : Value-F Value → List Value
-members_at (Value-F.List vs) = vs
-members_at _ = []
-
--- the members of a list, or none
-abbrev pub members_of : Value → List Value
-members_of v = members_at (out-Value v)
 
 -- what f makes of the list of a pair, as a bag
 abbrev pub combined_list : (List Value → Result Value Kind) → Value → Result Value Kind
-combined_list f p = f (bag_of (members_of (value_of p)))
+combined_list f p = f (bag_of (members_or_none (value_of p)))
 
 -- the pair of the key and what its list came to, if that is a value
 abbrev pub combined_pair : Value → Result Value Kind → List Value

@@ -30,7 +30,8 @@ pub fn group(alloc: Global, pairs: Vec<Value>) -> Result<Vec<Value>, AllocError>
 fn last_group(alloc: Global, last: Value, before: &mut Vec<Value>) -> Result<Value, AllocError>
     requires pairs { All IsPair (before.old.items ++ last ∷ []) }
     requires ascending { IsSorted value_cmp (before.old.items ++ last ∷ []) }
-    ensures group { IfOk result (λ group. grouped (before.old.items ++ last ∷ []) ≡ grouped before.new.items ++ group ∷ []) }
+    ensures group { IfOk result (λ group.
+        grouped (before.old.items ++ last ∷ []) ≡ grouped before.new.items ++ group ∷ []) }
     ensures rest { OnOk result (before.new.items ≡ take (vec_len before.new) before.old.items) }
 {
     let (mut group, value) = split(last);
@@ -49,7 +50,9 @@ fn pop_of_key(wanted: &Value, pairs: &mut Vec<Value>) -> Option<Value>
     requires { All IsPair pairs.old.items }
     ensures popped { pairs.old.items ≡ pairs.new.items ++ option_to_list result }
     ensures key { IfSome result (λ pair. key_of pair ≡ wanted.now) }
-    ensures none { IfNone result ((pair : GhostValue) → slice_get pairs.new.items (length pairs.new.items - 1) ≡ Some pair → key_of pair ≢ wanted.now) }
+    ensures none { IfNone result ((pair : GhostValue) →
+        slice_get pairs.new.items (length pairs.new.items - 1) ≡ Some pair →
+        key_of pair ≢ wanted.now) }
 {
     match pairs.last() {
         None => None,

@@ -16,7 +16,10 @@ pub fn groups_law()
 /// Combining the list of each pair depends on nothing but the bag of the pairs, and goes pair
 /// by pair: what parts of the pairs give, and their traps, add up.
 pub fn combining_law()
-    ensures bag { (f : List Value → Result Value Kind) (pairs : List Value) → combined_each f (bag_of pairs) ≡ combined_each f pairs }
-    ensures sum { (f : List Value → Result Value Kind) (xs ys : List Value) → combined_each f (xs ++ ys) ≡ bag_of (combined_each f xs ++ combined_each f ys) }
-    ensures traps { (f : List Value → Result Value Kind) (xs ys : List Value) → traps_of_each f (xs ++ ys) ≡ traps_of_each f xs ++ traps_of_each f ys }
+    ensures bag { (f : List Value → Result Value Kind) (pairs : List Value) →
+        combined_each f (bag_of pairs) ≡ combined_each f pairs }
+    ensures sum { (f : List Value → Result Value Kind) (xs ys : List Value) →
+        combined_each f (xs ++ ys) ≡ bag_of (combined_each f xs ++ combined_each f ys) }
+    ensures traps { (f : List Value → Result Value Kind) (xs ys : List Value) →
+        traps_of_each f (xs ++ ys) ≡ traps_of_each f xs ++ traps_of_each f ys }
 {}

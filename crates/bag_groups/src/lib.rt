@@ -15,8 +15,7 @@
 mod groups;
 mod laws;
 mod pairs;
-#[cfg(test)]
-mod tests;
 
 pub use groups::group;
 pub use laws::{combining_law, groups_law};
+pub use pairs::{key, pair, value};

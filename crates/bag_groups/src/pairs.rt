@@ -1,14 +1,37 @@
-ghost use Rattle.std.specs.Prelude.{◌≡◌, ◌∷◌, []};
-ghost use Rattle.bag_groups.specs.Pairs.{IsPair, key_of, value_of};
+ghost use Rattle.std.specs.Prelude.{◌≡◌, ◌∷◌, [], IfOk};
+ghost use Rattle.bag_groups.specs.Pairs.{IsPair, key_of, value_of, pair as pair_of};
 
-use flume_value::Value;
+use flume_value::{Pile, Value};
+use std::alloc::{AllocError, Global};
 
-pub(crate) fn key(pair: &Value) -> &Value
+/// The pair of a key and a value.
+pub fn pair(alloc: Global, key: Value, value: Value) -> Result<Value, AllocError>
+    ensures { IfOk result (λ p. p ≡ pair_of key value) }
+{
+    let mut fields = Vec::with_capacity(alloc, 2)?;
+    fields.push(key)?;
+    fields.push(value)?;
+    Ok(Value::Rec(Pile::from_vec(fields)))
+}
+
+/// The key of a pair.
+pub fn key(pair: &Value) -> &Value
     requires { IsPair pair.now }
     ensures { result.now ≡ key_of pair.now }
 {
     match pair {
         Value::Rec(fields) => &fields.as_slice()[0],
+        _ => unreachable!(),
+    }
+}
+
+/// The value of a pair.
+pub fn value(pair: &Value) -> &Value
+    requires { IsPair pair.now }
+    ensures { result.now ≡ value_of pair.now }
+{
+    match pair {
+        Value::Rec(fields) => &fields.as_slice()[1],
         _ => unreachable!(),
     }
 }

@@ -2,26 +2,32 @@
 use Rattle.std.proofs.Common.{◌≡◌, ◌≢◌, ℕ, ◌+◌, ◌-◌, ◌*◌, ◌/◌, ◌%◌, ◌<◌, Bool, true, false, eqb, List, [], ◌∷◌, sym, ap, ◌∙◌, subst, arith, ⊎_elim, div-add-mod'}
 use Rattle.std.specs.Bool.{MatchBool}
 use Rattle.std.proofs.lemmas.Bool.Decides.{eqb_tells}
-use Rattle.claim_board.specs.Counts.{Each, one_if, times}
+use Rattle.std.proofs.lemmas.List.Elements.{All-head, All-tail}
+use Rattle.std.specs.Prelude.{All}
+use Rattle.claim_board.specs.Counts.{one_if, times}
 use Rattle.claim_board.specs.Protocol.{PassState, task_of, attempt_of, drawn, looked, winning, losing}
 use Rattle.claim_board.specs.Boards.{Board, Drawn, IsOpenDraw, KeepsClaims, KeepsOtherClaims}
 use Rattle.claim_board.specs.Told.{draw_of}
-use Rattle.claim_board.specs.Seats.{Seated, Steps, Drawing, Claiming, limit_at, pass_in}
-use Rattle.claim_board.proofs.Totals.{total_push, one_if_ne}
+use Rattle.claim_board.specs.Seats.{limit_at}
+use Rattle.claim_board.specs.inner.Seats.{Seated, Steps, Drawing, Claiming, pass_in}
+use Rattle.std.proofs.lemmas.List.Sums.{sum_by_push}
+use Rattle.claim_board.proofs.Totals.{one_if_ne, times-cons}
 
 -- where all draws are lower, one of them is
-pub below_latest : (n d : ℕ) (xs : List ℕ) → Each (λ x. x < n) xs → 0 < times d xs → d < n
+pub below_latest : (n d : ℕ) (xs : List ℕ) → All (λ x. x < n) xs → 0 < times d xs → d < n
 below_latest n d [] h some_time = absurd (omega arith)
 below_latest n d (x ∷ xs) h some_time = ⊎_elim
-    (λ (y : (eqb x d ≡ true) × (x ≡ d)). subst (λ (k : ℕ). k < n) y.1 h.0)
-    (λ (y : (eqb x d ≡ false) × (x ≢ d)). let none : one_if (eqb x d) ≡ 0 = ap one_if y.0 in below_latest n d xs h.1 (omega arith))
+    (λ (y : (eqb x d ≡ true) × (x ≡ d)). subst (λ (k : ℕ). k < n) y.1 (All-head (λ y. y < n) x xs h))
+    (λ (y : (eqb x d ≡ false) × (x ≢ d)).
+    let none : one_if (eqb x d) ≡ 0 = ap one_if y.0 in
+    below_latest n d xs (All-tail (λ y. y < n) x xs h) (omega (arith, times-cons d x xs)))
     (eqb_tells x d)
 
 module _ (b : Board) (p : PassState) (d : Drawn) (h : IsOpenDraw b p d) where
   pub claimable_after_draw : (most n : ℕ) → IsOpenDraw b (drawn most p n) d
   claimable_after_draw most n =
       let c = h.claimable in
-      let more = total_push (λ (x : ℕ). one_if (eqb x d.number)) p.draws n in
+      let more = sum_by_push (λ (x : ℕ). one_if (eqb x d.number)) p.draws n in
       record { claimable = ((let own = c.0 in omega arith), c.1, c.2, c.3); task = h.task; attempt = h.attempt }
 
   pub claimable_after_look : (t x : ℕ) → IsOpenDraw b (looked p t x) d
@@ -30,14 +36,14 @@ module _ (b : Board) (p : PassState) (d : Drawn) (h : IsOpenDraw b p d) where
   pub claimable_after_win : (n : ℕ) → n ≢ d.number → IsOpenDraw b (winning p n) d
   claimable_after_win n other =
       let c = h.claimable in
-      let more = total_push (λ (x : ℕ). one_if (eqb x d.number)) p.won n in
+      let more = sum_by_push (λ (x : ℕ). one_if (eqb x d.number)) p.won n in
       let none = one_if_ne n d.number other in
       record { claimable = (c.0, c.1, (let won = c.2 in omega arith), c.3); task = h.task; attempt = h.attempt }
 
   pub claimable_after_loss : (n x : ℕ) → n ≢ d.number → IsOpenDraw b (losing p n x) d
   claimable_after_loss n x other =
       let c = h.claimable in
-      let more = total_push (λ (y : ℕ × ℕ). one_if (eqb y.0 d.number)) p.lost (n, x) in
+      let more = sum_by_push (λ (y : ℕ × ℕ). one_if (eqb y.0 d.number)) p.lost (n, x) in
       let none = one_if_ne n d.number other in
       record { claimable = (c.0, c.1, c.2, (let lost = c.3 in omega arith)); task = h.task; attempt = h.attempt }
 

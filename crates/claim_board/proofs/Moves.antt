@@ -1,6 +1,7 @@
 -- What a board's calls ask of its rule.
 use Rattle.std.proofs.Common.{◌≡◌, ◌≢◌, ℕ, ◌+◌, ◌-◌, ◌*◌, ◌/◌, ◌%◌, ◌^◌, ◌<◌, ◌≤◌, Bool, true, false, eqb, leb, List, [], ◌∷◌, set, get_or, length, refl, sym, ap, ◌∙◌, subst, arith, ⊎_elim, length-set}
 use Rattle.std.proofs.lemmas.Bool.Decides.{leb_tells, eqb_tells}
+use Rattle.std.proofs.lemmas.List.Elements.{All-nil, All-cons, All-head, All-tail}
 use Rattle.std.proofs.lemmas.List.{set-get_or}
 use Rattle.std.specs.Bool.{MatchBool}
 use Rattle.std.proofs.Math.Nat.{le_trans, div-lt_iff_lt-mul}
@@ -11,25 +12,32 @@ use native.Mathlib.Decide.{ℕ_discrete}
 use prog.Atomic.{either}
 use Rattle.atomic_table.specs.Table.{step, keeps, stepped, Allows}
 use Rattle.claim_board.specs.declared.size.Size.{Size}
-use Rattle.claim_board.specs.Counts.{total, Each, one_if, times}
+use Rattle.std.specs.Prelude.{sum_by, All}
+use Rattle.claim_board.specs.Counts.{one_if, times}
 use Rattle.claim_board.specs.Protocol.{PassState, State, drawn, looked, winning, losing, of_task, IsOpen, IsGoodPass, IsGood, Draw, Look, Win, Lose}
-use Rattle.claim_board.specs.Seats.{View, limit_at, pass_view, pass_in, all_passes, task_words, Rule, Drawing, Looking, Claiming, Seated, Steps, draw_tells, look_tells, commit_tells}
+use Rattle.claim_board.specs.Seats.{View, limit_at, pass_view, all_passes, task_words, Rule}
+use Rattle.claim_board.specs.inner.Seats.{pass_in, Drawing, Looking, Claiming, Seated, Steps, draw_tells, look_tells, commit_tells}
 use Rattle.claim_board.specs.Told.{draw_of}
-use Rattle.claim_board.proofs.Totals.{total_push, total_at, each_at, each_map, one_if_eq}
+use Rattle.std.proofs.lemmas.List.Sums.{sum_by_push, sum_by-cons}
+use Rattle.claim_board.proofs.Totals.{times-cons, total_at, all_at, all_map, one_if_eq}
 use Rattle.claim_board.proofs.Ruling.{place, total_all, total_ones, total_least, total_same, next_set, rest_set_next, next_set_rest, rest_set, rest_at, pass_step}
 
 -- each number of a list is one that the list has
-each_member : (xs : List ℕ) → Each (λ x. 0 < times x xs) xs
-each_member [] = tt
-each_member (x ∷ xs) = (
-  (let one = one_if_eq x x refl in omega arith),
-  each_map (λ y. 0 < times y xs) (λ y. 0 < times y (x ∷ xs)) xs (λ y h. omega arith) (each_member xs),
-)
+each_member : (xs : List ℕ) → All (λ x. 0 < times x xs) xs
+each_member [] = All-nil (λ (x : ℕ). 0 < times x [])
+each_member (x ∷ xs) =
+    let one = one_if_eq x x refl in
+    All-cons (λ y. 0 < times y (x ∷ xs)) x xs (omega (arith, times-cons x x xs))
+    (all_map (λ y. 0 < times y xs) (λ y. 0 < times y (x ∷ xs)) xs
+    (λ y h. omega (arith, times-cons y x xs)) (each_member xs))
 
 -- a total that is not 0 has a part that is not
-part : {A : Type 0} (P : A → Type 0) (f : A → ℕ) (xs : List A) → Each P xs → 0 < total f xs → (a : A) × P a × (0 < f a)
+part : {A : Type 0} (P : A → Type 0) (f : A → ℕ) (xs : List A) → All P xs → 0 < sum_by f xs → (a : A) × P a × (0 < f a)
 part P f [] h l = absurd (omega arith)
-part P f (x ∷ xs) h l = dite (ℕ_discrete (f x) 0) (λ z. part P f xs h.1 (omega arith)) (λ n. (x, h.0, omega arith))
+part P f (x ∷ xs) h l =
+    dite (ℕ_discrete (f x) 0)
+    (λ z. part P f xs (All-tail P x xs h) (omega (arith, sum_by-cons f x xs)))
+    (λ n. (x, All-head P x xs h, omega arith))
 
 div_lt : (tasks tries d : ℕ) → 0 < tasks → d < tasks * tries → d / tasks < tries
 div_lt tasks tries d some_task l = (div-lt_iff_lt-mul some_task).1 (subst (λ (x : ℕ). d < x) (mul_comm tasks tries) l)
@@ -60,12 +68,12 @@ module _ (k : Size) (p : PassState) (slots id : ℕ) where
       let size = h.size in
       let few = h.few in
       let counted = h.counted in
-      let ended_few : total (λ (v : PassState). one_if v.ended) (all_passes s.views) ≤ total (λ (v : PassState). 1) (all_passes s.views) = total_least (λ (v : PassState). one_if v.ended) (λ _. 1) (λ v. one_if_low v.ended) (all_passes s.views) in
-      let ones : total (λ (v : PassState). 1) (all_passes s.views) ≡ total (λ (v : View). length v.passes) s.views = total_all (λ _. 1) s.views ∙ total_same (λ (v : View). total (λ (_ : PassState). 1) v.passes) (λ (v : View). length v.passes) (λ v. total_ones v.passes) s.views in
+      let ended_few : sum_by (λ (v : PassState). one_if v.ended) (all_passes s.views) ≤ sum_by (λ (v : PassState). 1) (all_passes s.views) = total_least (λ (v : PassState). one_if v.ended) (λ _. 1) (λ v. one_if_low v.ended) (all_passes s.views) in
+      let ones : sum_by (λ (v : PassState). 1) (all_passes s.views) ≡ sum_by (λ (v : View). length v.passes) s.views = total_all (λ _. 1) s.views ∙ total_same (λ (v : View). sum_by (λ (_ : PassState). 1) v.passes) (λ (v : View). length v.passes) (λ v. total_ones v.passes) s.views in
       let sum : (n + 1) % 18446744073709551616 ≡ n + 1 = fits n (limit_at k) _ room (le_trans ended_few (subst (λ (x : ℕ). x ≤ k.crew) (sym (ones ∙ counted)) few)) size.limit size.crew.1 in
       let pl = place s.views id (pass_view k p) p at refl in
       let good = h.good in
-      let mine = each_at (IsGoodPass k.tasks k.tries (task_words s.words)) (all_passes s.views) pl.0 p good.passes pl.1 in
+      let mine = all_at (IsGoodPass k.tasks k.tries (task_words s.words)) (all_passes s.views) pl.0 p good.passes pl.1 in
       let none = (good.each_once n).1 (omega arith) in
       let mine_none : times n p.draws ≡ 0 = let a = total_at (λ (v : PassState). times n v.draws) (all_passes s.views) pl.0 p pl.1 in omega arith in
       let own = mine.own n in (
@@ -79,8 +87,8 @@ module _ (k : Size) (p : PassState) (slots id : ℕ) where
           refl,
           (
             refl,
-            (λ l. ((let one = one_if_eq n n refl in let push = total_push (λ (x : ℕ). one_if (eqb x n)) p.draws n in omega arith), l, omega arith, omega arith)),
-            each_map (λ x. 0 < times x p.draws) (λ x. x < n) p.draws
+            (λ l. ((let one = one_if_eq n n refl in let push = sum_by_push (λ (x : ℕ). one_if (eqb x n)) p.draws n in omega arith), l, omega arith, omega arith)),
+            all_map (λ x. 0 < times x p.draws) (λ x. x < n) p.draws
                 (λ x l. ⊎_elim (λ (y : (leb n x ≡ true) × (n ≤ x)). let z = (good.each_once x).1 y.1 in let a = total_at (λ (v : PassState). times x v.draws) (all_passes s.views) pl.0 p pl.1 in absurd (omega arith)) (λ (y : (leb n x ≡ false) × (x < n)). y.1) (leb_tells n x))
                 (each_member p.draws),
           ),

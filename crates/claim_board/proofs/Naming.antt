@@ -3,7 +3,7 @@ use Rattle.std.proofs.Common.{◌≡◌, ℕ, List, [], ◌∷◌, ap}
 use Rattle.atomic_table.specs.Seated.{TableId}
 use Rattle.claim_board.specs.declared.size.Size.{Size}
 use Rattle.claim_board.specs.Boards.{Board}
-use Rattle.claim_board.specs.Seats.{board_of}
+use Rattle.claim_board.specs.inner.Seats.{board_of}
 
 abbrev first_of : List ℕ → ℕ
 first_of [] = 0

@@ -7,10 +7,13 @@ use lib.ListN.{get_elem?}
 use Rattle.atomic_table.specs.Table.{State as TableState}
 use Rattle.atomic_table.proofs.Lists.{at_set}
 use Rattle.claim_board.specs.declared.size.Size.{Size}
-use Rattle.claim_board.specs.Counts.{total, Each, one_if}
+use Rattle.std.specs.Prelude.{sum_by, All}
+use Rattle.claim_board.specs.Counts.{one_if}
 use Rattle.claim_board.specs.Protocol.{PassState, IsGood, Event, Step}
 use Rattle.claim_board.specs.Seats.{View, limit_at, pass_view, all_passes, task_words, state_of, Rule}
-use Rattle.claim_board.proofs.Totals.{total_set, total_up, total-append, each-append, each_left, each_right}
+use Rattle.std.proofs.lemmas.List.Elements.{All-append, All-nil, All-cons, All-head, All-tail}
+use Rattle.std.proofs.lemmas.List.Sums.{sum_by-append, sum_by-cons}
+use Rattle.claim_board.proofs.Totals.{total_set, total_up, all_left, all_right}
 use Rattle.claim_board.proofs.Keeps.{step_keeps}
 
 abbrev pub Tab : Type 0
@@ -26,17 +29,21 @@ module _ {A : Type 0} where
   set_behind [] ys k a = ap (λ (j : ℕ). set ys j a) (omega arith)
   set_behind (x ∷ xs) ys k a = ap (λ (j : ℕ). set (x ∷ (xs ++ ys)) j a) (let j : suc (length xs) + k ≡ suc (length xs + k) = omega arith in j) ∙ ap (λ zs. x ∷ zs) (set_behind xs ys k a)
 
-  pub total_ones : (xs : List A) → total (λ _. 1) xs ≡ length xs
+  pub total_ones : (xs : List A) → sum_by (λ _. 1) xs ≡ length xs
   total_ones [] = refl
-  total_ones (x ∷ xs) = let r = total_ones xs in omega arith
+  total_ones (x ∷ xs) = let r = total_ones xs in omega (arith, sum_by-cons (λ (_ : A). 1) x xs)
 
-  pub total_least : (f g : A → ℕ) → ((x : A) → f x ≤ g x) → (xs : List A) → total f xs ≤ total g xs
+  pub total_least : (f g : A → ℕ) → ((x : A) → f x ≤ g x) → (xs : List A) → sum_by f xs ≤ sum_by g xs
   total_least f g h [] = omega arith
-  total_least f g h (x ∷ xs) = let a = h x in let r = total_least f g h xs in omega arith
+  total_least f g h (x ∷ xs) =
+      let a = h x in let r = total_least f g h xs in
+      omega (arith, sum_by-cons f x xs, sum_by-cons g x xs)
 
-  pub total_same : (f g : A → ℕ) → ((x : A) → f x ≡ g x) → (xs : List A) → total f xs ≡ total g xs
+  pub total_same : (f g : A → ℕ) → ((x : A) → f x ≡ g x) → (xs : List A) → sum_by f xs ≡ sum_by g xs
   total_same f g h [] = refl
-  total_same f g h (x ∷ xs) = let a = h x in let r = total_same f g h xs in omega arith
+  total_same f g h (x ∷ xs) =
+      let a = h x in let r = total_same f g h xs in
+      omega (arith, sum_by-cons f x xs, sum_by-cons g x xs)
 
 -- the place of a pass among all passes
 pub place : (views : List View) (id : ℕ) (v : View) (p : PassState) → get_elem? views id ≡ some v → v.passes ≡ p ∷ []
@@ -56,17 +63,23 @@ place (x ∷ xs) (suc id) v p e one =
     )
 
 -- totals and facts of all passes, seat by seat
-pub total_all : (f : PassState → ℕ) (views : List View) → total f (all_passes views) ≡ total (λ v. total f v.passes) views
+pub total_all : (f : PassState → ℕ) (views : List View) → sum_by f (all_passes views) ≡ sum_by (λ v. sum_by f v.passes) views
 total_all f [] = refl
-total_all f (v ∷ vs) = let r = total_all f vs in let a = total-append f v.passes (all_passes vs) in omega arith
+total_all f (v ∷ vs) =
+    let r = total_all f vs in let a = sum_by-append f v.passes (all_passes vs) in
+    let c = sum_by-cons (λ (u : View). sum_by f u.passes) v vs in omega arith
 
-pub each_all : (P : PassState → Type 0) (views : List View) → Each P (all_passes views) → Each (λ v. Each P v.passes) views
-each_all P [] h = tt
-each_all P (v ∷ vs) h = (each_left P v.passes (all_passes vs) h, each_all P vs (each_right P v.passes (all_passes vs) h))
+pub each_all : (P : PassState → Type 0) (views : List View) → All P (all_passes views) → All (λ v. All P v.passes) views
+each_all P [] h = All-nil (λ (v : View). All P v.passes)
+each_all P (v ∷ vs) h =
+    All-cons (λ (u : View). All P u.passes) v vs (all_left P v.passes (all_passes vs) h)
+    (each_all P vs (all_right P v.passes (all_passes vs) h))
 
-pub all_each : (P : PassState → Type 0) (views : List View) → Each (λ v. Each P v.passes) views → Each P (all_passes views)
-all_each P [] h = tt
-all_each P (v ∷ vs) h = each-append P v.passes (all_passes vs) h.0 (all_each P vs h.1)
+pub all_each : (P : PassState → Type 0) (views : List View) → All (λ v. All P v.passes) views → All P (all_passes views)
+all_each P [] h = All-nil P
+all_each P (v ∷ vs) h =
+    let Q : View → Type 0 = λ u. All P u.passes in
+    All-append P v.passes (all_passes vs) (All-head Q v vs h) (all_each P vs (All-tail Q v vs h))
 
 pub all_passes-append : (xs ys : List View) → all_passes (xs ++ ys) ≡ all_passes xs ++ all_passes ys
 all_passes-append [] ys = refl
@@ -79,15 +92,18 @@ all_passes_same (x ∷ xs) zero v w e same = ap (λ (ps : List PassState). ps ++
 all_passes_same (x ∷ xs) (suc id) v w e same = ap (λ (ps : List PassState). x.passes ++ ps) (all_passes_same xs id v w e same)
 
 -- the first seat's count is that of all
-pub made_total : (views : List View) (v : View) → get_elem? views 0 ≡ some v → ((j : ℕ) (u : View) → get_elem? views j ≡ some u → j ≢ 0 → u.made ≡ 0) → total (λ u. u.made) views ≡ v.made
+pub made_total : (views : List View) (v : View) → get_elem? views 0 ≡ some v → ((j : ℕ) (u : View) → get_elem? views j ≡ some u → j ≢ 0 → u.made ≡ 0) → sum_by (λ u. u.made) views ≡ v.made
 made_total [] v e none = absurd (some-ne-none v (sym e))
 made_total (x ∷ xs) v e none =
     let same : x.made ≡ v.made = ap (λ (u : View). u.made) (some-injective x v e) in
-    let rest = rest_made xs (λ j u e. none (suc j) u e (λ z. absurd (omega arith))) in omega arith
+    let rest = rest_made xs (λ j u e. none (suc j) u e (λ z. absurd (omega arith))) in
+    let c = sum_by-cons (λ (u : View). u.made) x xs in omega arith
   where
-    rest_made : (ys : List View) → ((j : ℕ) (u : View) → get_elem? ys j ≡ some u → u.made ≡ 0) → total (λ u. u.made) ys ≡ 0
+    rest_made : (ys : List View) → ((j : ℕ) (u : View) → get_elem? ys j ≡ some u → u.made ≡ 0) → sum_by (λ u. u.made) ys ≡ 0
     rest_made [] h = refl
-    rest_made (y ∷ ys) h = let a = h 0 y refl in let r = rest_made ys (λ j u e. h (suc j) u e) in omega arith
+    rest_made (y ∷ ys) h =
+        let a = h 0 y refl in let r = rest_made ys (λ j u e. h (suc j) u e) in
+        let c = sum_by-cons (λ (u : View). u.made) y ys in omega arith
 
 -- the words, where one of them changes
 pub next_set : (ws : List ℕ) (n : ℕ) → 0 < length ws → get_or (set ws 0 n) 0 0 ≡ n
@@ -123,14 +139,14 @@ pass_step k s id p q ws e h at number size goes room =
     let pl = place s.views id (pass_view k p) p at refl in
     let j : ℕ = pl.0 in
     let now : all_passes (set s.views id (pass_view k q)) ≡ set (all_passes s.views) j q = pl.2 (pass_view k q) q refl in
-    let made : total (λ (v : View). v.made) (set s.views id (pass_view k q)) ≡ total (λ (v : View). v.made) s.views = total_up (λ (v : View). v.made) s.views id 0 (pass_view k p) (pass_view k q) at (omega arith) ∙ add-zero _ in
-    let lens : total (λ (v : View). length v.passes) (set s.views id (pass_view k q)) ≡ total (λ (v : View). length v.passes) s.views = total_up (λ (v : View). length v.passes) s.views id 0 (pass_view k p) (pass_view k q) at (omega arith) ∙ add-zero _ in
-    let same_number = λ (x : ℕ). ap (λ (l : List PassState). total (λ (r : PassState). one_if (eqb r.number x)) l) now ∙ (total_up (λ (r : PassState). one_if (eqb r.number x)) (all_passes s.views) j 0 p q pl.1 (ap (λ (n : ℕ). one_if (eqb n x)) number ∙ sym (add-zero _)) ∙ add-zero _) in
+    let made : sum_by (λ (v : View). v.made) (set s.views id (pass_view k q)) ≡ sum_by (λ (v : View). v.made) s.views = total_up (λ (v : View). v.made) s.views id 0 (pass_view k p) (pass_view k q) at (omega arith) ∙ add-zero _ in
+    let lens : sum_by (λ (v : View). length v.passes) (set s.views id (pass_view k q)) ≡ sum_by (λ (v : View). length v.passes) s.views = total_up (λ (v : View). length v.passes) s.views id 0 (pass_view k p) (pass_view k q) at (omega arith) ∙ add-zero _ in
+    let same_number = λ (x : ℕ). ap (λ (l : List PassState). sum_by (λ (r : PassState). one_if (eqb r.number x)) l) now ∙ (total_up (λ (r : PassState). one_if (eqb r.number x)) (all_passes s.views) j 0 p q pl.1 (ap (λ (n : ℕ). one_if (eqb n x)) number ∙ sym (add-zero _)) ∙ add-zero _) in
     record {
       size = h.size;
       wide = size ∙ h.wide;
       good = subst (λ (l : List PassState). IsGood k.tasks k.tries record { next = get_or ws 0 0; words = task_words ws; passes = l }) (sym now) (step_keeps k.tasks k.tries _ _ (e j) h.size.tasks (goes j pl.1) h.good);
-      room = subst (λ (l : List PassState). get_or ws 0 0 ≤ limit_at k + total (λ (r : PassState). one_if r.ended) l) (sym now)
+      room = subst (λ (l : List PassState). get_or ws 0 0 ≤ limit_at k + sum_by (λ (r : PassState). one_if r.ended) l) (sym now)
           (room _ _ h.room (total_set (λ (r : PassState). one_if r.ended) (all_passes s.views) j p q pl.1));
       one_maker = λ i v a n. ⊎_elim (λ (t : (i ≡ id) × (pass_view k q ≡ v)). ap (λ (u : View). u.made) (sym t.1)) (λ (t : (i ≢ id) × (get_elem? s.views i ≡ some v)). h.one_maker i v t.1 n) (at_set s.views id i (pass_view k q) v a);
       few = subst (λ (x : ℕ). x ≤ k.crew) (sym made) h.few;

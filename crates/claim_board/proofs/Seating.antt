@@ -6,13 +6,17 @@ use lib.ListN.{get_elem?}
 use Rattle.atomic_table.specs.Table.{Splits, Joins, Final, Seen, opening}
 use Rattle.atomic_table.proofs.Lists.{at_set, at_snoc}
 use Rattle.claim_board.specs.declared.size.Size.{Size}
-use Rattle.claim_board.specs.Counts.{total, Each, one_if, times}
+use Rattle.std.specs.Prelude.{sum_by, All}
+use Rattle.claim_board.specs.Counts.{one_if, times}
 use Rattle.claim_board.specs.Protocol.{PassState, State, fresh, of_task, IsGoodPass, IsGood}
-use Rattle.claim_board.specs.Seats.{View, IsSize, maker_view, pass_view, all_passes, task_words, state_of, Rule, make_left, make_right, take_over, spent_view}
-use Rattle.claim_board.proofs.Totals.{total_set, total_push, each_push, each_set, each_at, at_test}
+use Rattle.claim_board.specs.Seats.{View, IsSize, maker_view, pass_view, all_passes, task_words, state_of, Rule, spent_view}
+use Rattle.claim_board.specs.inner.Seats.{make_left, make_right, take_over}
+use Rattle.std.proofs.lemmas.List.Elements.{All-push, All-nil, All-cons, All-head}
+use Rattle.std.proofs.lemmas.List.Sums.{sum_by_push, sum_by-cons}
+use Rattle.claim_board.proofs.Totals.{total_set, all_set, all_at, at_test}
 use Rattle.claim_board.specs.Boards.{Pass, states_of}
 use Rattle.claim_board.proofs.Ruling.{Tab, rest_at, total_all, each_all, all_each, all_passes-append, all_passes_same, made_total}
-use Rattle.claim_board.proofs.Whole.{start_good}
+use Rattle.claim_board.proofs.Whole.{start_good, fresh_pass}
 
 pub opens : (k : Size) → IsSize k → Rule k (opening (replicate (k.tasks + 1) 0) [] (maker_view k 0 []))
 opens k size = record {
@@ -34,11 +38,12 @@ opens k size = record {
 fresh_good : (tasks tries : ℕ) (s : State) (m : ℕ) → IsGood tasks tries s → IsGood tasks tries record { next = s.next; words = s.words; passes = s.passes ++ fresh m ∷ [] }
 fresh_good tasks tries s m h = record {
   sized = h.sized;
-  each_once = λ d. let p = total_push (λ (v : PassState). times d v.draws) s.passes (fresh m) in let o = h.each_once d in
+  each_once = λ d. let p = sum_by_push (λ (v : PassState). times d v.draws) s.passes (fresh m) in let o = h.each_once d in
       ((λ l. let a = o.0 l in omega arith), λ l. let a = o.1 l in omega arith);
-  one_winner = λ t small. let p = total_push (λ (v : PassState). of_task tasks t v.won) s.passes (fresh m) in let o = h.one_winner t small in
+  one_winner = λ t small. let p = sum_by_push (λ (v : PassState). of_task tasks t v.won) s.passes (fresh m) in let o = h.one_winner t small in
       ((λ l. let a = o.0 l in omega arith), λ l. let a = o.1 l in omega arith);
-  passes = each_push (IsGoodPass tasks tries s.words) s.passes (fresh m) h.passes record { ends = refl; won = tt; lost = tt; seen = tt; own = λ d. omega arith };
+  passes = All-push (IsGoodPass tasks tries s.words) s.passes (fresh m) h.passes
+      (fresh_pass tasks tries s.words m);
 }
 
 pub makes : (k : Size) (n : ℕ) (ps : List PassState) → n < k.crew → Splits (Rule k) 0 (maker_view k n ps) (maker_view k (n + 1) ps) (pass_view k (fresh n))
@@ -49,12 +54,12 @@ makes k n ps some_left s h at =
     let now : all_passes views ≡ all_passes s.views ++ fresh n ∷ [] =
     all_passes-append (set s.views 0 left) (right ∷ []) ∙ ap (λ (l : List PassState). l ++ fresh n ∷ []) (all_passes_same s.views 0 (maker_view k n ps) left at refl) in
     let count = made_total s.views (maker_view k n ps) at h.one_maker in
-    let made : total (λ (v : View). v.made) views ≡ n + 1 =
-    let a = total_push (λ (v : View). v.made) (set s.views 0 left) right in let b = total_set (λ (v : View). v.made) s.views 0 (maker_view k n ps) left at in omega arith in
-    let lens : total (λ (v : View). length v.passes) views ≡ n + 1 =
-    let a = total_push (λ (v : View). length v.passes) (set s.views 0 left) right in let b = total_set (λ (v : View). length v.passes) s.views 0 (maker_view k n ps) left at in let c = h.counted in omega arith in
-    let ended : total (λ (v : PassState). one_if v.ended) (all_passes views) ≡ total (λ (v : PassState). one_if v.ended) (all_passes s.views) =
-    ap (λ (l : List PassState). total (λ (v : PassState). one_if v.ended) l) now ∙ (total_push (λ (v : PassState). one_if v.ended) (all_passes s.views) (fresh n) ∙ add-zero _) in
+    let made : sum_by (λ (v : View). v.made) views ≡ n + 1 =
+    let a = sum_by_push (λ (v : View). v.made) (set s.views 0 left) right in let b = total_set (λ (v : View). v.made) s.views 0 (maker_view k n ps) left at in omega arith in
+    let lens : sum_by (λ (v : View). length v.passes) views ≡ n + 1 =
+    let a = sum_by_push (λ (v : View). length v.passes) (set s.views 0 left) right in let b = total_set (λ (v : View). length v.passes) s.views 0 (maker_view k n ps) left at in let c = h.counted in omega arith in
+    let ended : sum_by (λ (v : PassState). one_if v.ended) (all_passes views) ≡ sum_by (λ (v : PassState). one_if v.ended) (all_passes s.views) =
+    ap (λ (l : List PassState). sum_by (λ (v : PassState). one_if v.ended) l) now ∙ (sum_by_push (λ (v : PassState). one_if v.ended) (all_passes s.views) (fresh n) ∙ add-zero _) in
     record {
       size = h.size;
       wide = h.wide;
@@ -67,10 +72,10 @@ makes k n ps some_left s h at =
       few = subst (λ (x : ℕ). x ≤ k.crew) (sym made) (omega arith);
       counted = lens ∙ sym made;
       numbers = λ x. let old = h.numbers x in
-          let push : total (λ (v : PassState). one_if (eqb v.number x)) (all_passes views) ≡ total (λ (v : PassState). one_if (eqb v.number x)) (all_passes s.views) + one_if (eqb n x) =
-          ap (λ (l : List PassState). total (λ (v : PassState). one_if (eqb v.number x)) l) now ∙ total_push (λ (v : PassState). one_if (eqb v.number x)) (all_passes s.views) (fresh n) in
-          let T : ℕ = total (λ (v : PassState). one_if (eqb v.number x)) (all_passes s.views) in
-          let M : ℕ = total (λ (v : View). v.made) s.views in
+          let push : sum_by (λ (v : PassState). one_if (eqb v.number x)) (all_passes views) ≡ sum_by (λ (v : PassState). one_if (eqb v.number x)) (all_passes s.views) + one_if (eqb n x) =
+          ap (λ (l : List PassState). sum_by (λ (v : PassState). one_if (eqb v.number x)) l) now ∙ sum_by_push (λ (v : PassState). one_if (eqb v.number x)) (all_passes s.views) (fresh n) in
+          let T : ℕ = sum_by (λ (v : PassState). one_if (eqb v.number x)) (all_passes s.views) in
+          let M : ℕ = sum_by (λ (v : View). v.made) s.views in
           let F : ℕ → Type 0 = λ y. (x < n + 1 → T + y ≡ 1) × (n + 1 ≤ x → T + y ≡ 0) in
           let q : F (one_if (eqb n x)) = at_test n x F
           (λ e. ((λ _. let z = old.1 (omega arith) in omega arith), λ l. absurd (omega arith)))
@@ -79,7 +84,7 @@ makes k n ps some_left s h at =
     }
 
 -- the totals are those of a good state, and each pass is good
-regroup : (tasks tries next : ℕ) (ws : List ℕ) (ps qs : List PassState) → ((f : PassState → ℕ) → total f qs ≡ total f ps) → (((P : PassState → Type 0) → Each P ps → Each P qs))
+regroup : (tasks tries next : ℕ) (ws : List ℕ) (ps qs : List PassState) → ((f : PassState → ℕ) → sum_by f qs ≡ sum_by f ps) → (((P : PassState → Type 0) → All P ps → All P qs))
     → IsGood tasks tries record { next = next; words = ws; passes = ps } → IsGood tasks tries record { next = next; words = ws; passes = qs }
 regroup tasks tries next ws ps qs same each h = record {
   sized = h.sized;
@@ -95,18 +100,22 @@ joins k n ps other p s h at apart there =
     let views : List View = set mid other spent_view in
     let was : get_elem? s.views other ≡ some (pass_view k p) = ⊎_elim (λ (b : (other ≡ 0) × (both ≡ pass_view k p)). absurd (apart b.0)) (λ (b : (other ≢ 0) × (get_elem? s.views other ≡ some (pass_view k p))). b.1) (at_set s.views 0 other both (pass_view k p) there) in
     let same = λ (f : PassState → ℕ).
-    let g : View → ℕ = λ v. total f v.passes in
-    let a : total g mid + g (maker_view k n ps) ≡ total g s.views + g both = total_set g s.views 0 (maker_view k n ps) both at in
-    let b : total g views + g (pass_view k p) ≡ total g mid + g spent_view = total_set g mid other (pass_view k p) spent_view there in
-    let c : total g views ≡ total g s.views = omega arith in
+    let g : View → ℕ = λ v. sum_by f v.passes in
+    let a : sum_by g mid + g (maker_view k n ps) ≡ sum_by g s.views + g both = total_set g s.views 0 (maker_view k n ps) both at in
+    let b : sum_by g views + g (pass_view k p) ≡ sum_by g mid + g spent_view = total_set g mid other (pass_view k p) spent_view there in
+    let one = sum_by-cons f p ps in
+    let c : sum_by g views ≡ sum_by g s.views = omega arith in
     total_all f views ∙ (c ∙ sym (total_all f s.views)) in
-    let each = λ (P : PassState → Type 0) (e : Each P (all_passes s.views)).
-    let Q : View → Type 0 = λ v. Each P v.passes in
+    let each = λ (P : PassState → Type 0) (e : All P (all_passes s.views)).
+    let Q : View → Type 0 = λ v. All P v.passes in
     let l = each_all P s.views e in
-    all_each P views (each_set Q mid other spent_view (each_set Q s.views 0 both l ((each_at Q s.views other (pass_view k p) l was).0, each_at Q s.views 0 (maker_view k n ps) l at)) tt) in
-    let made : total (λ (v : View). v.made) views ≡ total (λ (v : View). v.made) s.views =
+    let here : P p = All-head P p [] (all_at Q s.views other (pass_view k p) l was) in
+    let rest : All P ps = all_at Q s.views 0 (maker_view k n ps) l at in
+    let taken : All Q mid = all_set Q s.views 0 both l (All-cons P p ps here rest) in
+    all_each P views (all_set Q mid other spent_view taken (All-nil P)) in
+    let made : sum_by (λ (v : View). v.made) views ≡ sum_by (λ (v : View). v.made) s.views =
     let a = total_set (λ (v : View). v.made) s.views 0 (maker_view k n ps) both at in let b = total_set (λ (v : View). v.made) mid other (pass_view k p) spent_view there in omega arith in
-    let lens : total (λ (v : View). length v.passes) views ≡ total (λ (v : View). length v.passes) s.views =
+    let lens : sum_by (λ (v : View). length v.passes) views ≡ sum_by (λ (v : View). length v.passes) s.views =
     let a = total_set (λ (v : View). length v.passes) s.views 0 (maker_view k n ps) both at in let b = total_set (λ (v : View). length v.passes) mid other (pass_view k p) spent_view there in omega arith in
     record {
       size = h.size;
@@ -124,21 +133,25 @@ joins k n ps other p s h at apart there =
     }
 
 -- views with no pass
-none_left : (views : List View) → total (λ v. length v.passes) views ≡ 0 → all_passes views ≡ []
+none_left : (views : List View) → sum_by (λ v. length v.passes) views ≡ 0 → all_passes views ≡ []
 none_left [] h = refl
-none_left (v ∷ vs) h = no_passes v.passes (all_passes vs) (omega arith) (none_left vs (omega arith))
+none_left (v ∷ vs) h =
+    let c = sum_by-cons (λ (u : View). length u.passes) v vs in
+    no_passes v.passes (all_passes vs) (omega arith) (none_left vs (omega arith))
   where
     no_passes : (ps qs : List PassState) → length ps ≡ 0 → qs ≡ [] → ps ++ qs ≡ []
     no_passes [] qs l e = e
     no_passes (p ∷ ps) qs l e = absurd (omega arith)
 
 -- where the first seat has taken over as many passes as were made, they are all
-all_of_first : (views : List View) (v : View) → get_elem? views 0 ≡ some v → total (λ u. length u.passes) views ≡ length v.passes → all_passes views ≡ v.passes
+all_of_first : (views : List View) (v : View) → get_elem? views 0 ≡ some v → sum_by (λ u. length u.passes) views ≡ length v.passes → all_passes views ≡ v.passes
 all_of_first [] v e h = absurd (some-ne-none v (sym e))
 all_of_first (x ∷ xs) v e h =
     let is : x.passes ≡ v.passes = ap (λ (u : View). u.passes) (some-injective x v e) in
     let len : length x.passes ≡ length v.passes = ap length is in
-    ap (λ (l : List PassState). x.passes ++ l) (none_left xs (omega arith)) ∙ (append-nil x.passes ∙ is)
+    let c = sum_by-cons (λ (u : View). length u.passes) x xs in
+    ap (λ (l : List PassState). x.passes ++ l) (none_left xs (omega arith))
+    ∙ (append-nil x.passes ∙ is)
 
 pub closes : (k : Size) (n : ℕ) (ps : List PassState) (ws : List ℕ) (xs : List (Unit {0})) → length ps ≡ n → Final (Seen (Rule k) 0 (maker_view k n ps)) ws xs
     → (length ws ≡ k.tasks + 1) × IsGood k.tasks k.tries record { next = get_or ws 0 0; words = task_words ws; passes = ps }

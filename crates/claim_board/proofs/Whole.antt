@@ -1,5 +1,7 @@
 -- What holds along every list of events.
-use Rattle.std.proofs.Common.{◌≡◌, ◌≢◌, ℕ, zero, suc, ◌+◌, ◌*◌, ◌/◌, ◌%◌, ◌<◌, ◌≤◌, true, false, leb, List, [], ◌∷◌, set, get_or, replicate, length, refl, sym, ap, ◌∙◌, subst, arith, ⊎_elim, length-set, get_or-set_same}
+use Rattle.std.proofs.lemmas.List.Elements.{All-nil, All-cons}
+use Rattle.std.proofs.lemmas.List.Sums.{sum_by-cons}
+use Rattle.std.proofs.Common.{◌⊎◌, ◌≡◌, ◌≢◌, ℕ, zero, suc, ◌+◌, ◌*◌, ◌/◌, ◌%◌, ◌<◌, ◌≤◌, true, false, leb, List, [], ◌∷◌, set, get_or, replicate, length, refl, sym, ap, ◌∙◌, subst, arith, ⊎_elim, length-set, get_or-set_same}
 use Rattle.std.proofs.lemmas.List.{get_or-set_other, get_or-replicate, length-replicate}
 use Rattle.std.proofs.lemmas.Nat.{mod-mul-add}
 use Rattle.std.proofs.Common.{suc-mul, mul_comm}
@@ -7,26 +9,40 @@ use Rattle.std.proofs.Math.Nat.{mul-le-mul_right, le_trans, lt_of_lt_of_le, lt_o
 use native.Mathlib.Decide.{ℕ_discrete}
 use Rattle.std.proofs.lemmas.Bool.Decides.{leb_tells}
 use mathlib.Core.Logic.{dite}
-use Rattle.claim_board.specs.Counts.{total, Each, one_if, times, times_first, from_on}
+use Rattle.std.specs.Prelude.{sum_by, All}
+use Rattle.claim_board.specs.Counts.{one_if, times, times_first, from_on}
 use Rattle.claim_board.specs.Protocol.{PassState, State, word, fresh, fresh_from, start, of_task, IsGoodPass, IsGood, Event, Draw, Look, Win, Lose, Step, Runs}
 use Rattle.claim_board.specs.Laws.{EveryStateIsGood, WordsStay, EachTaskIsWonOnce, UndecidedWereDrawn, EndedMeansUsedUp, wins}
-use Rattle.claim_board.proofs.Totals.{total_at, total_none, each_at, each_map, one_if_eq, at_test, times_none, times_first_none}
+use Rattle.claim_board.proofs.Totals.{times-cons, total_at, total_none, all_at, all_map, one_if_eq, at_test, times_none, times_first_none}
 use Rattle.claim_board.proofs.Keeps.{Stay, stay_set, step_keeps}
 
-total_fresh : (f : PassState → ℕ) → ((k : ℕ) → f (fresh k) ≡ 0) → (k n : ℕ) → total f (fresh_from k n) ≡ 0
+total_fresh : (f : PassState → ℕ) → ((k : ℕ) → f (fresh k) ≡ 0) → (k n : ℕ) → sum_by f (fresh_from k n) ≡ 0
 total_fresh f none k zero = refl
-total_fresh f none k (suc n) = let a = none k in let r = total_fresh f none (k + 1) n in omega arith
+total_fresh f none k (suc n) =
+    let a = none k in let r = total_fresh f none (k + 1) n in
+    let c = sum_by-cons f (fresh k) (fresh_from (k + 1) n) in omega arith
 
-each_fresh : (P : PassState → Type 0) → ((k : ℕ) → P (fresh k)) → (k n : ℕ) → Each P (fresh_from k n)
-each_fresh P h k zero = tt
-each_fresh P h k (suc n) = (h k, each_fresh P h (k + 1) n)
+each_fresh : (P : PassState → Type 0) → ((k : ℕ) → P (fresh k)) → (k n : ℕ) → All P (fresh_from k n)
+each_fresh P h k zero = All-nil P
+each_fresh P h k (suc n) =
+    All-cons P (fresh k) (fresh_from (k + 1) n) (h k) (each_fresh P h (k + 1) n)
+
+-- a pass that has done nothing is good
+pub fresh_pass : (tasks tries : ℕ) (words : List ℕ) (k : ℕ) → IsGoodPass tasks tries words (fresh k)
+fresh_pass tasks tries words k = record {
+  ends = refl;
+  won = All-nil (λ d. (d < tasks * tries) × (get_or words (d % tasks) 0 ≡ d / tasks + 1));
+  lost = All-nil (λ (x : ℕ × ℕ). (x.0 < tasks * tries) × (get_or words (x.0 % tasks) 0 ≡ x.1) × (x.1 ≢ 0));
+  seen = All-nil (λ (x : ℕ × ℕ). (x.0 < tasks) × ((x.1 ≡ 0) ⊎ (get_or words x.0 0 ≡ x.1)));
+  own = λ d. omega arith;
+}
 
 pub start_good : (tasks tries crew : ℕ) → IsGood tasks tries (start tasks crew)
 start_good tasks tries crew = record {
   sized = length-replicate tasks 0;
   each_once = λ d. ((λ l. absurd (omega arith)), λ _. total_fresh (λ (v : PassState). times d v.draws) (λ k. refl) 0 crew);
   one_winner = λ t small. ((λ _. total_fresh (λ (v : PassState). of_task tasks t v.won) (λ k. refl) 0 crew), λ n. absurd (n (get_or-replicate tasks t 0 0 small)));
-  passes = each_fresh (IsGoodPass tasks tries (replicate tasks 0)) (λ k. record { ends = refl; won = tt; lost = tt; seen = tt; own = λ d. omega arith }) 0 crew;
+  passes = each_fresh (IsGoodPass tasks tries (replicate tasks 0)) (λ k. fresh_pass tasks tries (replicate tasks 0) k) 0 crew;
 }
 
 pub runs_keep : (tasks tries : ℕ) (old : State) (events : List Event) (new : State) → 0 < tasks → Runs tasks tries old events new → IsGood tasks tries old → IsGood tasks tries new
@@ -91,8 +107,13 @@ each_task_is_won_once tasks tries crew events s t some_task r =
 some_late : (n : ℕ) (xs : List ℕ) → 0 < from_on n xs → (d : ℕ) × (n ≤ d) × (0 < times d xs)
 some_late n [] h = absurd (omega arith)
 some_late n (x ∷ xs) h = ⊎_elim
-    (λ (l : (leb n x ≡ true) × (n ≤ x)). let one = one_if_eq x x refl in (x, l.1, omega arith))
-    (λ (l : (leb n x ≡ false) × (x < n)). let none : one_if (leb n x) ≡ 0 = ap one_if l.0 in let r = some_late n xs (omega arith) in let more = r.2 in (r.0, r.1, omega arith))
+    (λ (l : (leb n x ≡ true) × (n ≤ x)).
+    let one = one_if_eq x x refl in (x, l.1, omega (arith, times-cons x x xs)))
+    (λ (l : (leb n x ≡ false) × (x < n)).
+    let none : one_if (leb n x) ≡ 0 = ap one_if l.0 in
+    let c = sum_by-cons (λ (y : ℕ). one_if (leb n y)) x xs in
+    let r = some_late n xs (omega arith) in
+    let more = r.2 in (r.0, r.1, omega (arith, times-cons r.0 x xs)))
     (leb_tells n x)
 
 within_next : (f next high : ℕ) → (next ≤ high → f ≡ 0) → 0 < f → high < next
@@ -105,13 +126,13 @@ inside_limit tasks tries t k small few =
 
 pub ended_means_used_up : EndedMeansUsedUp
 ended_means_used_up tasks tries s p v h at ended =
-    let mine = each_at (IsGoodPass tasks tries s.words) s.passes p v h.passes at in
+    let mine = all_at (IsGoodPass tasks tries s.words) s.passes p v h.passes at in
     let one : one_if v.ended ≡ 1 = ap one_if ended in
     let ends = mine.ends in
     let late = some_late (tasks * tries) v.draws (omega arith) in
     let all = total_at (λ (u : PassState). times late.0 u.draws) s.passes p v at in
     let some_draw = late.2 in
-    lt_of_le_of_lt late.1 (within_next (total (λ (u : PassState). times late.0 u.draws) s.passes) s.next late.0 (h.each_once late.0).1 (le_trans some_draw all))
+    lt_of_le_of_lt late.1 (within_next (sum_by (λ (u : PassState). times late.0 u.draws) s.passes) s.next late.0 (h.each_once late.0).1 (le_trans some_draw all))
 
 pub undecided_were_drawn : UndecidedWereDrawn
 undecided_were_drawn tasks tries s p v t k h at ended small empty few =
@@ -120,10 +141,10 @@ undecided_were_drawn tasks tries s p v t k h at ended small empty few =
     let blank : get_or s.words (d % tasks) 0 ≡ 0 = ap (λ (u : ℕ). word s u) turn ∙ empty in
     let within : d < s.next = lt_of_lt_of_le (inside_limit tasks tries t k small few) (le_of_lt (ended_means_used_up tasks tries s p v h at ended)) in (
       (h.each_once d).0 within,
-      total_none (λ (u : PassState). times d u.won) s.passes (each_map (IsGoodPass tasks tries s.words) (λ (u : PassState). times d u.won ≡ 0) s.passes
-          (λ u g. times_none d u.won (each_map (λ x. (x < tasks * tries) × (get_or s.words (x % tasks) 0 ≡ x / tasks + 1)) (λ x. x ≢ d) u.won
+      total_none (λ (u : PassState). times d u.won) s.passes (all_map (IsGoodPass tasks tries s.words) (λ (u : PassState). times d u.won ≡ 0) s.passes
+          (λ u g. times_none d u.won (all_map (λ x. (x < tasks * tries) × (get_or s.words (x % tasks) 0 ≡ x / tasks + 1)) (λ x. x ≢ d) u.won
           (λ x w e. let no : get_or s.words (x % tasks) 0 ≡ 0 = ap (λ (y : ℕ). get_or s.words (y % tasks) 0) e ∙ blank in let is = w.1 in absurd (omega arith)) g.won)) h.passes),
-      total_none (λ (u : PassState). times_first d u.lost) s.passes (each_map (IsGoodPass tasks tries s.words) (λ (u : PassState). times_first d u.lost ≡ 0) s.passes
-          (λ u g. times_first_none d u.lost (each_map (λ (x : ℕ × ℕ). (x.0 < tasks * tries) × (get_or s.words (x.0 % tasks) 0 ≡ x.1) × (x.1 ≢ 0)) (λ (x : ℕ × ℕ). x.0 ≢ d) u.lost
+      total_none (λ (u : PassState). times_first d u.lost) s.passes (all_map (IsGoodPass tasks tries s.words) (λ (u : PassState). times_first d u.lost ≡ 0) s.passes
+          (λ u g. times_first_none d u.lost (all_map (λ (x : ℕ × ℕ). (x.0 < tasks * tries) × (get_or s.words (x.0 % tasks) 0 ≡ x.1) × (x.1 ≢ 0)) (λ (x : ℕ × ℕ). x.0 ≢ d) u.lost
           (λ x w e. let no : get_or s.words (x.0 % tasks) 0 ≡ 0 = ap (λ (y : ℕ). get_or s.words (y % tasks) 0) e ∙ blank in absurd (w.2 (sym w.1 ∙ no))) g.lost)) h.passes),
     )

@@ -1,6 +1,5 @@
 -- What callers see of a board, of its passes, of a draw and of a tally.
-use Rattle.std.specs.Prelude.{◌≡◌, ◌≢◌, ℕ, zero, suc, ◌<◌, ◌≤◌, List, [], ◌∷◌, ◌++◌, map}
-use Rattle.claim_board.specs.Counts.{Each}
+use Rattle.std.specs.Prelude.{◌≡◌, ◌≢◌, ℕ, zero, suc, ◌<◌, ◌≤◌, List, [], ◌∷◌, ◌++◌, map, All}
 use Rattle.claim_board.specs.Protocol.{PassState, fresh, drawn, limit, task_of, attempt_of, IsOpen}
 
 -- a board: a name, by which its passes know it, and its size
@@ -46,12 +45,13 @@ new_passes b = record { board = b; members = fresh_passes b b.crew }
 
 -- each pass is the board's
 abbrev pub AreOf : Board → List Pass → Type 0
-AreOf b ps = Each (λ p. p.board ≡ b) ps
+AreOf b ps = All (λ p. p.board ≡ b) ps
 
 abbrev pub states_of : List Pass → List PassState
 states_of ps = map (λ p. p.state) ps
 
--- the draw is one of the pass's, below the limit and neither won nor lost, and names what its number says
+-- the draw is one of the pass's, below the limit and neither won nor lost, and names what its
+-- number says
 pub record IsOpenDraw (b : Board) (p : PassState) (d : Drawn) : Type 0 where
   pub claimable : IsOpen b.tasks b.tries p d.number
   pub task : d.task ≡ task_of b.tasks d.number
@@ -61,7 +61,7 @@ pub record IsOpenDraw (b : Board) (p : PassState) (d : Drawn) : Type 0 where
 pub record Drew (b : Board) (old new : PassState) (d : Drawn) : Type 0 where
   pub gained : new ≡ drawn (limit_of b) old d.number
   pub claimable : IsOpenDraw b new d
-  pub latest : Each (λ x. x < d.number) old.draws
+  pub latest : All (λ x. x < d.number) old.draws
 
 -- the pass has gained a number past the attempts, and has ended with it
 pub record DrewNone (b : Board) (old new : PassState) : Type 0 where

@@ -6,7 +6,8 @@ use Rattle.claim_board.specs.Boards.{Pass, Passes}
 use Rattle.claim_board.specs.contracts.pass.Pass.{the_row as pass_row}
 use Rattle.claim_board.specs.contracts.passes.Passes.{the_row}
 
--- the same passes with the members ms, which are as many as before: others are cut off, or filled up from before
+-- the same passes with the members ms, which are as many as before: others are cut off,
+-- or filled up from before
 abbrev pub with_members : Passes → List Pass → Passes
 with_members ps ms = record { board = ps.board; members = refill (length ps.members) ps.members ms }
 

@@ -6,3 +6,4 @@ pub mod Told
 pub mod Lends
 pub mod Seats
 pub mod Steps
+pub mod inner

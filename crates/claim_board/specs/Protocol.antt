@@ -1,14 +1,14 @@
 -- The claim protocol, as a state machine.
--- Draws have the numbers 0, 1, 2 and on. The draw d names the attempt d / tasks + 1 of the task d % tasks,
--- and the draws below tasks * tries name each attempt of each task once.
+-- Draws have the numbers 0, 1, 2 and on. The draw d names the attempt d / tasks + 1 of the task
+-- d % tasks, and the draws below tasks * tries name each attempt of each task once.
 -- A task has a word: 0, or the attempt that won it.
-use Rattle.std.specs.Prelude.{◌≡◌, ◌≢◌, ℕ, zero, suc, ◌+◌, ◌*◌, ◌/◌, ◌%◌, ◌<◌, ◌≤◌, Bool, false, eqb, leb, ◌⊎◌, List, [], ◌∷◌, ◌++◌, length, slice_index, slice_set, replicate}
+use Rattle.std.specs.Prelude.{◌≡◌, ◌≢◌, ℕ, zero, suc, ◌+◌, ◌*◌, ◌/◌, ◌%◌, ◌<◌, ◌≤◌, Bool, false, eqb, leb, ◌⊎◌, List, [], ◌∷◌, ◌++◌, length, slice_index, slice_set, replicate, All, sum_by, count_by}
 use mathlib.Core.Option.{some}
 use lib.ListN.{get_elem?}
-use Rattle.claim_board.specs.Counts.{total, Each, one_if, times, times_first, from_on}
+use Rattle.claim_board.specs.Counts.{one_if, times, times_first, from_on}
 
--- what one pass has done: its draws in order, each task that it looked at with the word that it saw,
--- the draws that won their tasks, and each draw that lost with the word that stood there
+-- what one pass has done: its draws in order, each task that it looked at with the word that it
+-- saw, the draws that won their tasks, and each draw that lost with the word that stood there
 pub record PassState : Type 0 where
   pub number : ℕ
   pub draws : List ℕ
@@ -40,13 +40,14 @@ limit tasks tries = tasks * tries
 
 -- how many draws of the task t are in the list
 abbrev pub of_task : ℕ → ℕ → List ℕ → ℕ
-of_task tasks t xs = total (λ d. one_if (eqb (task_of tasks d) t)) xs
+of_task tasks t xs = count_by (λ d. eqb (task_of tasks d) t) xs
 
 -- a pass that has done nothing
 abbrev pub fresh : ℕ → PassState
 fresh number = record { number = number; draws = []; seen = []; won = []; lost = []; ended = false }
 
--- what each event leaves in the pass that makes it: after a draw of the limit or more the pass has ended
+-- what each event leaves in the pass that makes it: after a draw of the limit or more the pass
+-- has ended
 abbrev pub drawn : ℕ → PassState → ℕ → PassState
 drawn most p d = record p { draws = p.draws ++ d ∷ []; ended = leb most d }
 
@@ -59,7 +60,8 @@ winning p d = record p { won = p.won ++ d ∷ [] }
 abbrev pub losing : PassState → ℕ → ℕ → PassState
 losing p d x = record p { lost = p.lost ++ (d, x) ∷ [] }
 
--- what the i-th pass does: it draws, looks at a task, or claims the task of a draw and wins or loses it
+-- what the i-th pass does: it draws, looks at a task, or claims the task of a draw and wins or
+-- loses it
 pub data Event : Type 0 where
   Draw : ℕ → Event
   Look : ℕ → ℕ → Event
@@ -77,22 +79,34 @@ start tasks crew = record { next = 0; words = replicate tasks 0; passes = fresh_
 module _ (tasks tries : ℕ) where
   -- d is a draw of the pass below the limit, neither won nor lost: it may claim its task
   abbrev pub IsOpen : PassState → ℕ → Type 0
-  IsOpen p d = (0 < times d p.draws) × (d < limit tasks tries) × (times d p.won ≡ 0) × (times_first d p.lost ≡ 0)
+  IsOpen p d =
+      (0 < times d p.draws) × (d < limit tasks tries) × (times d p.won ≡ 0)
+      × (times_first d p.lost ≡ 0)
 
   -- the event leads from the old state to the new one
   abbrev pub Step : State → Event → State → Type 0
   Step old (Draw i) new =
       (p : PassState) × (get_elem? old.passes i ≡ some p) × (p.ended ≡ false)
-      × (new ≡ record old { next = old.next + 1; passes = slice_set old.passes i (drawn (limit tasks tries) p old.next) })
+      × (new ≡ record old {
+        next = old.next + 1;
+        passes = slice_set old.passes i (drawn (limit tasks tries) p old.next);
+      })
   Step old (Look i t) new =
       (p : PassState) × (get_elem? old.passes i ≡ some p) × (t < tasks)
       × (new ≡ record old { passes = slice_set old.passes i (looked p t (word old t)) })
   Step old (Win i d) new =
-      (p : PassState) × (get_elem? old.passes i ≡ some p) × IsOpen p d × (word old (task_of tasks d) ≡ 0)
-      × (new ≡ record old { words = slice_set old.words (task_of tasks d) (attempt_of tasks d); passes = slice_set old.passes i (winning p d) })
+      (p : PassState) × (get_elem? old.passes i ≡ some p) × IsOpen p d
+      × (word old (task_of tasks d) ≡ 0)
+      × (new ≡ record old {
+        words = slice_set old.words (task_of tasks d) (attempt_of tasks d);
+        passes = slice_set old.passes i (winning p d);
+      })
   Step old (Lose i d) new =
-      (p : PassState) × (get_elem? old.passes i ≡ some p) × IsOpen p d × (word old (task_of tasks d) ≢ 0)
-      × (new ≡ record old { passes = slice_set old.passes i (losing p d (word old (task_of tasks d))) })
+      (p : PassState) × (get_elem? old.passes i ≡ some p) × IsOpen p d
+      × (word old (task_of tasks d) ≢ 0)
+      × (new ≡ record old {
+        passes = slice_set old.passes i (losing p d (word old (task_of tasks d)));
+      })
 
   -- the events lead from the old state to the new one
   abbrev pub Runs : State → List Event → State → Type 0
@@ -104,19 +118,25 @@ module _ (tasks tries : ℕ) where
     -- it has at most one draw of the limit or more, and has ended exactly where it has one
     pub ends : from_on (limit tasks tries) p.draws ≡ one_if p.ended
     -- the attempt of each draw that it won is its task's word
-    pub won : Each (λ d. (d < limit tasks tries) × (slice_index words (task_of tasks d) ≡ attempt_of tasks d)) p.won
+    pub won : All (λ d. (d < limit tasks tries)
+        × (slice_index words (task_of tasks d) ≡ attempt_of tasks d)) p.won
     -- each draw that it lost was lost to the word that stands, which is not 0
-    pub lost : Each (λ x. (x.0 < limit tasks tries) × (slice_index words (task_of tasks x.0) ≡ x.1) × (x.1 ≢ 0)) p.lost
+    pub lost : All (λ x. (x.0 < limit tasks tries)
+        × (slice_index words (task_of tasks x.0) ≡ x.1) × (x.1 ≢ 0)) p.lost
     -- each word that it saw is 0 or the word that stands
-    pub seen : Each (λ x. (x.0 < tasks) × ((x.1 ≡ 0) ⊎ (slice_index words x.0 ≡ x.1))) p.seen
+    pub seen : All (λ x. (x.0 < tasks) × ((x.1 ≡ 0) ⊎ (slice_index words x.0 ≡ x.1))) p.seen
     -- what it won or lost are draws of its own, each in one of the two lists at most, and once
     pub own : (d : ℕ) → times d p.won + times_first d p.lost ≤ times d p.draws
 
   pub record IsGood (s : State) : Type 0 where
     pub sized : length s.words ≡ tasks
     -- the draws of all passes together are the numbers below `next`, each once
-    pub each_once : (d : ℕ) → (d < s.next → total (λ p. times d p.draws) s.passes ≡ 1) × (s.next ≤ d → total (λ p. times d p.draws) s.passes ≡ 0)
-    -- of each task just one draw is in the won lists of all passes where its word is not 0, and none where it is 0
-    pub one_winner : (t : ℕ) → t < tasks
-        → (word s t ≡ 0 → total (λ p. of_task tasks t p.won) s.passes ≡ 0) × (word s t ≢ 0 → total (λ p. of_task tasks t p.won) s.passes ≡ 1)
-    pub passes : Each (IsGoodPass s.words) s.passes
+    pub each_once : (d : ℕ) →
+        (d < s.next → sum_by (λ p. times d p.draws) s.passes ≡ 1)
+        × (s.next ≤ d → sum_by (λ p. times d p.draws) s.passes ≡ 0)
+    -- of each task just one draw is in the won lists of all passes where its word is not 0,
+    -- and none where it is 0
+    pub one_winner : (t : ℕ) → t < tasks →
+        (word s t ≡ 0 → sum_by (λ p. of_task tasks t p.won) s.passes ≡ 0)
+        × (word s t ≢ 0 → sum_by (λ p. of_task tasks t p.won) s.passes ≡ 1)
+    pub passes : All (IsGoodPass s.words) s.passes

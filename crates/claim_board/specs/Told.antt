@@ -1,6 +1,6 @@
 -- What a closed board tells of the passes that it was closed with.
-use Rattle.std.specs.Prelude.{◌≡◌, ◌≢◌, ℕ, ◌+◌, ◌-◌, ◌*◌, ◌<◌, ◌≤◌, true, ◌⊎◌, List, slice_index}
-use Rattle.claim_board.specs.Counts.{total, Each, times}
+use Rattle.std.specs.Prelude.{◌≡◌, ◌≢◌, ℕ, ◌+◌, ◌-◌, ◌*◌, ◌<◌, ◌≤◌, true, ◌⊎◌, List, slice_index, All, sum_by}
+use Rattle.claim_board.specs.Counts.{times}
 use Rattle.claim_board.specs.Protocol.{State, task_of, of_task}
 use Rattle.claim_board.specs.Boards.{Board, Pass, Tally, limit_of, states_of}
 
@@ -10,18 +10,19 @@ closing_state r ps = record { next = r.draws; words = r.winners; passes = states
 
 -- how often the draw d is in the draws, and in the won lists, of all passes
 abbrev pub times_drawn : ℕ → List Pass → ℕ
-times_drawn d ps = total (λ p. times d p.state.draws) ps
+times_drawn d ps = sum_by (λ p. times d p.state.draws) ps
 
 abbrev pub times_won : ℕ → List Pass → ℕ
-times_won d ps = total (λ p. times d p.state.won) ps
+times_won d ps = sum_by (λ p. times d p.state.won) ps
 
 -- how many draws of the task are in the won lists of all passes
 abbrev pub wins_of : ℕ → ℕ → List Pass → ℕ
-wins_of tasks t ps = total (λ p. of_task tasks t p.state.won) ps
+wins_of tasks t ps = sum_by (λ p. of_task tasks t p.state.won) ps
 
 -- the passes have drawn all the numbers below `draws`, each once
 abbrev pub DrawnOnce : Tally → List Pass → Type 0
-DrawnOnce r ps = (d : ℕ) → (d < r.draws → times_drawn d ps ≡ 1) × (r.draws ≤ d → times_drawn d ps ≡ 0)
+DrawnOnce r ps =
+    (d : ℕ) → (d < r.draws → times_drawn d ps ≡ 1) × (r.draws ≤ d → times_drawn d ps ≡ 0)
 
 -- the draw that names the attempt a of the task t
 abbrev pub draw_of : ℕ → ℕ → ℕ → ℕ
@@ -39,12 +40,15 @@ WonOnce b r ps = (t : ℕ) → t < b.tasks → IsWinner b.tasks ps t (slice_inde
 
 -- each word that a pass saw is 0 or the winner of its task
 abbrev pub SawWinners : Tally → List Pass → Type 0
-SawWinners r ps = Each (λ p. Each (λ x. (x.1 ≡ 0) ⊎ (slice_index r.winners x.0 ≡ x.1)) p.state.seen) ps
+SawWinners r ps =
+    All (λ p. All (λ x. (x.1 ≡ 0) ⊎ (slice_index r.winners x.0 ≡ x.1)) p.state.seen) ps
 
 -- each word that a draw was lost to is the winner of its task, and not 0
 abbrev pub LostToWinners : Board → Tally → List Pass → Type 0
-LostToWinners b r ps = Each (λ p. Each (λ x. (slice_index r.winners (task_of b.tasks x.0) ≡ x.1) × (x.1 ≢ 0)) p.state.lost) ps
+LostToWinners b r ps =
+    All (λ p. All (λ x. (slice_index r.winners (task_of b.tasks x.0) ≡ x.1) × (x.1 ≢ 0))
+    p.state.lost) ps
 
 -- where a pass has ended, there were more draws than attempts
 abbrev pub EndedPastLimit : Board → Tally → List Pass → Type 0
-EndedPastLimit b r ps = Each (λ p. p.state.ended ≡ true → limit_of b < r.draws) ps
+EndedPastLimit b r ps = All (λ p. p.state.ended ≡ true → limit_of b < r.draws) ps

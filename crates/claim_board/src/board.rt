@@ -30,13 +30,15 @@ pub struct Board {
 impl Model for Board {
     ghost use Rattle.std.specs.Prelude.{◌≡◌, ◌+◌, vec_len};
     ghost use Rattle.claim_board.specs.Boards as boards;
-    ghost use Rattle.claim_board.specs.Seats.{IsSize, board_of};
+    ghost use Rattle.claim_board.specs.Seats.{IsSize};
+    ghost use Rattle.claim_board.specs.inner.Seats.{board_of};
 
     ghost Value = { boards.Board };
 
     ghost view = { λ b. board_of b.table.shared.table_id b.table.shared.key };
 
-    ghost invariant = { λ b. (b.tasks ≡ b.table.shared.key.tasks) × (b.tries ≡ b.table.shared.key.tries)
+    ghost invariant = { λ b. (b.tasks ≡ b.table.shared.key.tasks)
+        × (b.tries ≡ b.table.shared.key.tries)
         × (b.table.shared.table_id.words ≡ b.tasks + 1) × (b.table.shared.table_id.slots ≡ 0)
         × (vec_len b.room ≡ b.tasks) × IsSize b.table.shared.key };
 }
@@ -54,7 +56,8 @@ impl Board {
         requires tries { (0 < tries) × (tries ≤ 8) }
         requires crew { (0 < crew) × (crew ≤ 16) }
         requires limit { tasks * tries < 2 ^ 31 }
-        ensures size { IfOk result (λ r. (r.0.tasks ≡ tasks) × (r.0.tries ≡ tries) × (r.0.crew ≡ crew)) }
+        ensures size { IfOk result (λ r.
+            (r.0.tasks ≡ tasks) × (r.0.tries ≡ tries) × (r.0.crew ≡ crew)) }
         ensures passes { IfOk result (λ r. r.1 ≡ new_passes r.0) }
     {
         let size = Size { tasks, tries, crew };
@@ -79,7 +82,8 @@ impl Board {
         // a pass that was told None draws no more
         ensures again { pass.old.state.ended ≡ true → IsNone result × (pass.new ≡ pass.old) }
         // else None comes of a number past the attempts, which ends the pass
-        ensures none { pass.old.state.ended ≡ false → IfNone result (DrewNone self.now pass.old.state pass.new.state) }
+        ensures none { pass.old.state.ended ≡ false →
+            IfNone result (DrewNone self.now pass.old.state pass.new.state) }
         ensures ended { IfNone result (pass.new.state.ended ≡ true) }
         ensures claims { KeepsClaims self.now pass.old.state pass.new.state }
         ensures some { IfSome result (λ d. (pass.old.state.ended ≡ false)
@@ -101,7 +105,8 @@ impl Board {
         })
     }
 
-    /// The attempt that has won the task, if one has. One step, which the pass keeps in mind as seen.
+    /// The attempt that has won the task, if one has. One step, which the pass keeps in mind as
+    /// seen.
     pub fn look(&self, pass: &mut Pass, task: u32) -> Option<u32>
         requires board { pass.old.board ≡ self.now }
         requires task { task < self.now.tasks }

@@ -3,7 +3,8 @@ ghost use Rattle.std.specs.Prelude.{◌≡◌};
 
 use std::marker::Model;
 
-/// The draw `number` of a board, which is the attempt `attempt` of the task `task`. A commit spends it.
+/// The draw `number` of a board, which is the attempt `attempt` of the task `task`. A commit spends
+/// it.
 #[derive(Debug, Drop)]
 pub struct Draw {
     pub(crate) number: u64,

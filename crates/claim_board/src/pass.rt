@@ -4,7 +4,8 @@ use atomic_table::Seat;
 use std::marker::Model;
 
 /// A worker's part of a board, with which it draws attempts and claims tasks.
-/// Contracts see whose pass it is, and what it has done. Only `draw`, `look` and `commit` change that.
+/// Contracts see whose pass it is, and what it has done. Only `draw`, `look` and `commit` change
+/// that.
 #[derive(Drop)]
 pub struct Pass {
     pub(crate) seat: Seat<(), Knowledge>,
@@ -14,7 +15,8 @@ pub struct Pass {
 impl Model for Pass {
     ghost use Rattle.std.specs.Prelude.{◌≡◌, []};
     ghost use Rattle.claim_board.specs.Boards as boards;
-    ghost use Rattle.claim_board.specs.Seats.{pass_view, pass_in, seat_pass};
+    ghost use Rattle.claim_board.specs.Seats.{pass_view};
+    ghost use Rattle.claim_board.specs.inner.Seats.{pass_in, seat_pass};
 
     ghost Value = { boards.Pass };
 

@@ -19,7 +19,8 @@ pub struct Passes {
 impl Model for Passes {
     ghost use Rattle.std.specs.Prelude.{◌≡◌, []};
     ghost use Rattle.claim_board.specs.Boards as boards;
-    ghost use Rattle.claim_board.specs.Seats.{maker_view, maker_passes};
+    ghost use Rattle.claim_board.specs.Seats.{maker_view};
+    ghost use Rattle.claim_board.specs.inner.Seats.{maker_passes};
 
     ghost Value = { boards.Passes };
 

@@ -28,7 +28,7 @@ impl TableRule<(), Knowledge, Size> for Claims {
 pub(crate) struct Draws;
 
 impl Play<(), Knowledge> for Draws {
-    ghost use Rattle.claim_board.specs.Seats.{draw_tells};
+    ghost use Rattle.claim_board.specs.inner.Seats.{draw_tells};
 
     ghost then = { draw_tells };
 }
@@ -36,7 +36,7 @@ impl Play<(), Knowledge> for Draws {
 pub(crate) struct Looks;
 
 impl Play<(), Knowledge> for Looks {
-    ghost use Rattle.claim_board.specs.Seats.{look_tells};
+    ghost use Rattle.claim_board.specs.inner.Seats.{look_tells};
 
     ghost then = { look_tells };
 }
@@ -44,7 +44,7 @@ impl Play<(), Knowledge> for Looks {
 pub(crate) struct Commits;
 
 impl Play<(), Knowledge> for Commits {
-    ghost use Rattle.claim_board.specs.Seats.{commit_tells};
+    ghost use Rattle.claim_board.specs.inner.Seats.{commit_tells};
 
     ghost then = { commit_tells };
 }
@@ -52,7 +52,7 @@ impl Play<(), Knowledge> for Commits {
 pub(crate) struct Makes;
 
 impl Split<Knowledge> for Makes {
-    ghost use Rattle.claim_board.specs.Seats.{make_left, make_right};
+    ghost use Rattle.claim_board.specs.inner.Seats.{make_left, make_right};
 
     ghost left = { make_left };
 
@@ -62,7 +62,8 @@ impl Split<Knowledge> for Makes {
 pub(crate) struct TakesOver;
 
 impl Join<Knowledge> for TakesOver {
-    ghost use Rattle.claim_board.specs.Seats.{take_over, spent_view};
+    ghost use Rattle.claim_board.specs.Seats.{spent_view};
+    ghost use Rattle.claim_board.specs.inner.Seats.{take_over};
 
     ghost both = { take_over };
 

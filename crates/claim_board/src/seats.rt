@@ -2,7 +2,8 @@
 ghost use Rattle.std.specs.Prelude.{◌≡◌, ℕ, ◌+◌, ◌<◌, ◌≤◌, ◌^◌, [], ◌++◌, length, slice_index, replicate, IfOk, vec_len};
 ghost use Rattle.std.specs.Mem.Slots.{slots_items, slots_len, IsFull};
 ghost use Rattle.claim_board.specs.Protocol.{IsGood};
-ghost use Rattle.claim_board.specs.Seats.{maker_view, task_words, words_state, board_of};
+ghost use Rattle.claim_board.specs.Seats.{maker_view, task_words, words_state};
+ghost use Rattle.claim_board.specs.inner.Seats.{board_of};
 ghost use Rattle.claim_board.specs.Boards.{new_passes, states_of, AreOf};
 
 use crate::pass::Pass;
@@ -23,7 +24,8 @@ pub(crate) fn make_passes(
     mut maker: Seat<(), Knowledge>,
     crew: u32,
 ) -> Result<Passes, AllocError>
-    requires table { (maker.table_id ≡ words.now.table_id) × (maker.id ≡ 0) × (0 < words.now.table_id.words) }
+    requires table { (maker.table_id ≡ words.now.table_id) × (maker.id ≡ 0)
+        × (0 < words.now.table_id.words) }
     requires view { maker.me ≡ (maker_view words.now.key 0 [], []) }
     requires crew { crew ≡ words.now.key.crew }
     ensures { IfOk result (λ r. r ≡ new_passes (board_of words.now.table_id words.now.key)) }
@@ -42,12 +44,14 @@ fn gather(
     mut maker: Seat<(), Knowledge>,
     mut members: Vec<Pass>,
 ) -> Seat<(), Knowledge>
-    requires table { (maker.table_id ≡ words.now.table_id) × (maker.id ≡ 0) × (0 < words.now.table_id.words) }
+    requires table { (maker.table_id ≡ words.now.table_id) × (maker.id ≡ 0)
+        × (0 < words.now.table_id.words) }
     requires view { (maker.me ≡ (maker_view maker.me.0.size maker.me.0.made [], []))
         × (maker.me.0.size ≡ words.now.key) }
     requires members { AreOf (board_of words.now.table_id words.now.key) members.items }
     ensures table { (result.table_id ≡ words.now.table_id) × (result.id ≡ 0) }
-    ensures view { result.me ≡ (maker_view words.now.key maker.me.0.made (states_of members.items), []) }
+    ensures view { result.me
+        ≡ (maker_view words.now.key maker.me.0.made (states_of members.items), []) }
 {
     while let Some(pass) = members.pop() {
         let Pass { seat, ended: _ } = pass;
@@ -60,8 +64,10 @@ fn gather(
 pub(crate) fn take_back(table: BoardTable, passes: Passes) -> Closed<(), Global>
     requires board { (passes.board ≡ board_of table.shared.table_id table.shared.key)
         × (0 < table.shared.table_id.words) }
-    requires members { AreOf passes.board passes.members × (length passes.members ≡ passes.board.crew) }
-    ensures full { IsFull result.words × (slots_len result.words ≡ length (slots_items result.words))
+    requires members { AreOf passes.board passes.members
+        × (length passes.members ≡ passes.board.crew) }
+    ensures full { IsFull result.words
+        × (slots_len result.words ≡ length (slots_items result.words))
         × (length (slots_items result.words) ≡ table.shared.key.tasks + 1) }
     ensures slots { slots_len result.slots ≡ table.shared.table_id.slots }
     ensures good { IsGood table.shared.key.tasks table.shared.key.tries
@@ -81,7 +87,8 @@ pub(crate) fn read_winners(
     requires full { IsFull closed.now.words
         × (slots_len closed.now.words ≡ length (slots_items closed.now.words))
         × (length (slots_items closed.now.words) ≡ tasks + 1) }
-    requires low { (t : ℕ) → t < tasks → slice_index (task_words (slots_items closed.now.words)) t < 2 ^ 32 }
+    requires low { (t : ℕ) → t < tasks →
+        slice_index (task_words (slots_items closed.now.words)) t < 2 ^ 32 }
     requires room { vec_len winners ≡ tasks }
     ensures { result.items ≡ task_words (slots_items closed.now.words) }
 {

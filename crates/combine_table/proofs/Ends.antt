@@ -7,11 +7,13 @@ use Rattle.std.specs.declared.cmp.Ordering.TheVariants.{Less, Equal, Greater}
 use Rattle.std.specs.Borrow.{Bor}
 use Rattle.std.proofs.lemmas.List.Elements.{All-weaker}
 use Rattle.std.proofs.lemmas.List.Sorted.{All-permutation, Contains-permutation}
+use Rattle.std.specs.List.{AllByRecursion as Each}
 use Rattle.flume_value.specs.declared.value.Value.{Value}
 use Rattle.flume_value.specs.Order.{value_cmp}
 use Rattle.flume_value.specs.Bag.{bag_of}
 use Rattle.flume_value.proofs.OrderLemmas.{value_cmp-total}
-use Rattle.flume_value.proofs.BagLemmas.{Each, NotBelow, Rises, apart, each_from, Rises-bag_of, IsPermutation-bag_of}
+use Rattle.flume_value.proofs.EachLemmas.{each_from}
+use Rattle.flume_value.proofs.BagLemmas.{NotBelow, Rises, apart, Rises-bag_of, IsPermutation-bag_of}
 use Rattle.combine_table.specs.Combinations.{least, greatest}
 use Rattle.combine_table.proofs.Kept.{greatest-cons}
 use Rattle.combine_table.proofs.Popped.{UpTo}

@@ -6,8 +6,10 @@ use Rattle.std.proofs.lemmas.List.Sorted.{length_permutation}
 use Rattle.flume_value.specs.declared.value.Value.{Value}
 use Rattle.flume_value.specs.Order.{value_cmp}
 use Rattle.flume_value.specs.Bag.{put, bag_of}
-use Rattle.flume_value.proofs.EachLemmas.{Rises-take, Rises-drop}
-use Rattle.flume_value.proofs.BagLemmas.{Each, NotBelow, Rises, Rises-bag_of, sorted_from, bag_of-settled, bag_of-either_order, put-IsPermutation, Each-weaker, NotBelow-trans}
+use Rattle.std.specs.List.{AllByRecursion as Each}
+use Rattle.flume_value.proofs.EachLemmas.{Each-weaker}
+use Rattle.flume_value.proofs.RisesLemmas.{Rises-take, Rises-drop}
+use Rattle.flume_value.proofs.BagLemmas.{NotBelow, Rises, Rises-bag_of, sorted_from, bag_of-settled, bag_of-either_order, put-IsPermutation, NotBelow-trans}
 use Rattle.combine_table.specs.Combinations.{least, greatest}
 
 -- ---- whatever is kept of a bag

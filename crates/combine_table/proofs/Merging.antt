@@ -11,46 +11,61 @@ use Rattle.flume_value.specs.declared.value.Value.{Value, Value-F, out-Value, ro
 use Rattle.flume_value.specs.declared.value.Value.TheVariants as value
 use Rattle.flume_value.specs.Order.{value_cmp}
 use Rattle.flume_value.specs.Bag.{bag_of}
+use Rattle.flume_value.specs.Parts.{members_or_none}
 use Rattle.flume_value.proofs.BagLemmas.{IsSorted-bag_of, bag_of-settled, bag_of-either_order}
 use Rattle.combine_table.specs.declared.comb.Comb.{Comb}
 use Rattle.combine_table.specs.declared.comb.Comb.TheVariants as by
-use Rattle.combine_table.specs.Contents.{bool_at, wide_at, list_at, bool_of, wide_of, list_of}
+use Rattle.combine_table.specs.Contents.{truth_of, wide_or_zero}
 use Rattle.combine_table.specs.Combinations.{total, wrapped, least, greatest}
 use Rattle.combine_table.specs.Accumulators.{accumulator, HasShapeAt, HasShape, merged}
 use Rattle.combine_table.proofs.Kept.{IsKept, bag_of-kept, kept-assoc, least-IsKept, greatest-IsKept, length-greatest, greatest-all}
-use Rattle.combine_table.proofs.Parts.{bool_of-Bool, wide_of-Wide, list_of-List}
+use Rattle.combine_table.proofs.Parts.{bool_at, wide_at, list_at, truth_of-Bool, wide_or_zero-Wide, members_or_none-List}
 
 -- ---- shapes
 
-wide_shape : (c : Comb) (n : ℤ) → ((k : ℤ) → FitsSigned w128 k → HasShapeAt c (Value-F.Wide k)) → HasShape c (value.Wide (wrapped n))
-wide_shape c n h = subst (HasShapeAt c) (sym (value.outs-Wide (wrapped n))) (h (wrapped n) (SFits-int_wrap w128 n))
+wide_shape : (c : Comb) (n : ℤ) → ((k : ℤ) → FitsSigned w128 k → HasShapeAt c (Value-F.Wide k))
+    → HasShape c (value.Wide (wrapped n))
+wide_shape c n h =
+    subst (HasShapeAt c) (sym (value.outs-Wide (wrapped n))) (h (wrapped n) (SFits-int_wrap w128 n))
 
-list_shape : (c : Comb) (vs : List Value) → HasShapeAt c (Value-F.List vs) → HasShape c (value.List vs)
+list_shape : (c : Comb) (vs : List Value) → HasShapeAt c (Value-F.List vs)
+    → HasShape c (value.List vs)
 list_shape c vs h = subst (HasShapeAt c) (sym (value.outs-List vs)) h
 
 bool_shape : (c : Comb) (b : Bool) → HasShapeAt c (Value-F.Bool b) → HasShape c (value.Bool b)
 bool_shape c b h = subst (HasShapeAt c) (sym (value.outs-Bool b)) h
 
 top_shape : (n : ℕ) (xs : List Value) → HasShape (by.Top n) (value.List (greatest n (bag_of xs)))
-top_shape n xs = list_shape (by.Top n) (greatest n (bag_of xs)) (subst (IsSorted value_cmp) (bag_of-kept (greatest n) (greatest-IsKept n) xs) (IsSorted-bag_of (greatest n (bag_of xs))), length-greatest n (bag_of xs))
+top_shape n xs =
+    list_shape (by.Top n) (greatest n (bag_of xs)) (
+      subst (IsSorted value_cmp) (bag_of-kept (greatest n) (greatest-IsKept n) xs)
+          (IsSorted-bag_of (greatest n (bag_of xs))),
+      length-greatest n (bag_of xs),
+    )
 
 pub accumulator-HasShape : (c : Comb) (xs : List Value) → HasShape c (accumulator c (bag_of xs))
 accumulator-HasShape by.Sum xs = wide_shape by.Sum (total (bag_of xs)) (λ k h. h)
 accumulator-HasShape by.Count xs = wide_shape by.Count (pos (length (bag_of xs))) (λ k h. h)
-accumulator-HasShape by.Min xs = list_shape by.Min (least 1 (bag_of xs)) (omega (arith, length-take 1 (bag_of xs)))
-accumulator-HasShape by.Max xs = list_shape by.Max (greatest 1 (bag_of xs)) (length-greatest 1 (bag_of xs))
-accumulator-HasShape by.All xs = bool_shape by.All (list_all bool_of (bag_of xs)) tt
-accumulator-HasShape by.Any xs = bool_shape by.Any (list_any bool_of (bag_of xs)) tt
+accumulator-HasShape by.Min xs = list_shape by.Min
+    (least 1 (bag_of xs)) (omega (arith, length-take 1 (bag_of xs)))
+accumulator-HasShape by.Max xs =
+    list_shape by.Max (greatest 1 (bag_of xs)) (length-greatest 1 (bag_of xs))
+accumulator-HasShape by.All xs = bool_shape by.All (list_all truth_of (bag_of xs)) tt
+accumulator-HasShape by.Any xs = bool_shape by.Any (list_any truth_of (bag_of xs)) tt
 accumulator-HasShape (by.Top n) xs = top_shape n xs
 
 pub merged-HasShape : (c : Comb) (a b : Value) → HasShape c (merged c a b)
-merged-HasShape by.Sum a b = wide_shape by.Sum (wide_of a +ℤ wide_of b) (λ k h. h)
-merged-HasShape by.Count a b = wide_shape by.Count (wide_of a +ℤ wide_of b) (λ k h. h)
-merged-HasShape by.Min a b = list_shape by.Min (least 1 (bag_of (list_of a ++ list_of b))) (omega (arith, length-take 1 (bag_of (list_of a ++ list_of b))))
-merged-HasShape by.Max a b = list_shape by.Max (greatest 1 (bag_of (list_of a ++ list_of b))) (length-greatest 1 (bag_of (list_of a ++ list_of b)))
-merged-HasShape by.All a b = bool_shape by.All (bool_of a && bool_of b) tt
-merged-HasShape by.Any a b = bool_shape by.Any (bool_of a || bool_of b) tt
-merged-HasShape (by.Top n) a b = top_shape n (list_of a ++ list_of b)
+merged-HasShape by.Sum a b = wide_shape by.Sum (wide_or_zero a +ℤ wide_or_zero b) (λ k h. h)
+merged-HasShape by.Count a b = wide_shape by.Count (wide_or_zero a +ℤ wide_or_zero b) (λ k h. h)
+merged-HasShape by.Min a b = list_shape by.Min
+    (least 1 (bag_of (members_or_none a ++ members_or_none b)))
+    (omega (arith, length-take 1 (bag_of (members_or_none a ++ members_or_none b))))
+merged-HasShape by.Max a b =
+    list_shape by.Max (greatest 1 (bag_of (members_or_none a ++ members_or_none b)))
+    (length-greatest 1 (bag_of (members_or_none a ++ members_or_none b)))
+merged-HasShape by.All a b = bool_shape by.All (truth_of a && truth_of b) tt
+merged-HasShape by.Any a b = bool_shape by.Any (truth_of a || truth_of b) tt
+merged-HasShape (by.Top n) a b = top_shape n (members_or_none a ++ members_or_none b)
 
 -- ---- in any order
 
@@ -61,26 +76,42 @@ or_comm false true = refl
 or_comm false false = refl
 
 pub merged-comm : (c : Comb) (a b : Value) → merged c a b ≡ merged c b a
-merged-comm by.Sum a b = ap (λ n. value.Wide (wrapped n)) (+ℤ_comm (wide_of a) (wide_of b))
-merged-comm by.Count a b = ap (λ n. value.Wide (wrapped n)) (+ℤ_comm (wide_of a) (wide_of b))
-merged-comm by.Min a b = ap (λ l. value.List (least 1 l)) (bag_of-either_order (list_of b) (list_of a))
-merged-comm by.Max a b = ap (λ l. value.List (greatest 1 l)) (bag_of-either_order (list_of b) (list_of a))
-merged-comm by.All a b = ap value.Bool (and_comm (bool_of a) (bool_of b))
-merged-comm by.Any a b = ap value.Bool (or_comm (bool_of a) (bool_of b))
-merged-comm (by.Top n) a b = ap (λ l. value.List (greatest n l)) (bag_of-either_order (list_of b) (list_of a))
+merged-comm by.Sum a b =
+    ap (λ n. value.Wide (wrapped n)) (+ℤ_comm (wide_or_zero a) (wide_or_zero b))
+merged-comm by.Count a b =
+    ap (λ n. value.Wide (wrapped n)) (+ℤ_comm (wide_or_zero a) (wide_or_zero b))
+merged-comm by.Min a b =
+    ap (λ l. value.List (least 1 l)) (bag_of-either_order (members_or_none b) (members_or_none a))
+merged-comm by.Max a b =
+    ap (λ l. value.List (greatest 1 l))
+    (bag_of-either_order (members_or_none b) (members_or_none a))
+merged-comm by.All a b = ap value.Bool (and_comm (truth_of a) (truth_of b))
+merged-comm by.Any a b = ap value.Bool (or_comm (truth_of a) (truth_of b))
+merged-comm (by.Top n) a b =
+    ap (λ l. value.List (greatest n l))
+    (bag_of-either_order (members_or_none b) (members_or_none a))
 
-wide_assoc : (m n k : ℤ) → value.Wide (wrapped (wide_of (value.Wide (wrapped (m +ℤ n))) +ℤ k)) ≡ value.Wide (wrapped (m +ℤ wide_of (value.Wide (wrapped (n +ℤ k)))))
+wide_assoc : (m n k : ℤ)
+    → value.Wide (wrapped (wide_or_zero (value.Wide (wrapped (m +ℤ n))) +ℤ k)) ≡ value.Wide
+    (wrapped (m +ℤ wide_or_zero (value.Wide (wrapped (n +ℤ k)))))
 wide_assoc m n k =
-    ap (λ (x : ℤ). value.Wide (wrapped (x +ℤ k))) (wide_of-Wide (wrapped (m +ℤ n)))
-    ∙ ap value.Wide (int_wrap-add_left w128 (m +ℤ n) k ∙ ap wrapped (+ℤ_assoc m n k) ∙ sym (int_wrap-add_right w128 m (n +ℤ k)))
-    ∙ sym (ap (λ (x : ℤ). value.Wide (wrapped (m +ℤ x))) (wide_of-Wide (wrapped (n +ℤ k))))
+    ap (λ (x : ℤ). value.Wide (wrapped (x +ℤ k))) (wide_or_zero-Wide (wrapped (m +ℤ n)))
+    ∙ ap value.Wide
+    (int_wrap-add_left w128 (m +ℤ n) k ∙ ap wrapped (+ℤ_assoc m n k)
+    ∙ sym (int_wrap-add_right w128 m (n +ℤ k)))
+    ∙ sym (ap (λ (x : ℤ). value.Wide (wrapped (m +ℤ x))) (wide_or_zero-Wide (wrapped (n +ℤ k))))
 
 module _ (kept : List Value → List Value) (k : IsKept kept) where
-  list_assoc : (xs ys zs : List Value) → value.List (kept (bag_of (list_of (value.List (kept (bag_of (xs ++ ys)))) ++ zs))) ≡ value.List (kept (bag_of (xs ++ list_of (value.List (kept (bag_of (ys ++ zs)))))))
+  list_assoc : (xs ys zs : List Value)
+      → value.List
+      (kept (bag_of (members_or_none (value.List (kept (bag_of (xs ++ ys)))) ++ zs))) ≡ value.List
+      (kept (bag_of (xs ++ members_or_none (value.List (kept (bag_of (ys ++ zs)))))))
   list_assoc xs ys zs =
-      ap (λ (l : List Value). value.List (kept (bag_of (l ++ zs)))) (list_of-List (kept (bag_of (xs ++ ys))))
+      ap (λ (l : List Value). value.List (kept (bag_of (l ++ zs))))
+      (members_or_none-List (kept (bag_of (xs ++ ys))))
       ∙ ap value.List (kept-assoc kept k xs ys zs)
-      ∙ sym (ap (λ (l : List Value). value.List (kept (bag_of (xs ++ l)))) (list_of-List (kept (bag_of (ys ++ zs)))))
+      ∙ sym (ap (λ (l : List Value). value.List (kept (bag_of (xs ++ l))))
+      (members_or_none-List (kept (bag_of (ys ++ zs)))))
 
 and_assoc : (a b c : Bool) → ((a && b) && c) ≡ (a && (b && c))
 and_assoc true b c = refl
@@ -90,20 +121,28 @@ or_assoc : (a b c : Bool) → ((a || b) || c) ≡ (a || (b || c))
 or_assoc true b c = refl
 or_assoc false b c = refl
 
-pub merged-assoc : (c : Comb) (x y z : Value) → merged c (merged c x y) z ≡ merged c x (merged c y z)
-merged-assoc by.Sum x y z = wide_assoc (wide_of x) (wide_of y) (wide_of z)
-merged-assoc by.Count x y z = wide_assoc (wide_of x) (wide_of y) (wide_of z)
-merged-assoc by.Min x y z = list_assoc (least 1) least-IsKept (list_of x) (list_of y) (list_of z)
-merged-assoc by.Max x y z = list_assoc (greatest 1) (greatest-IsKept 1) (list_of x) (list_of y) (list_of z)
+pub merged-assoc : (c : Comb) (x y z : Value)
+    → merged c (merged c x y) z ≡ merged c x (merged c y z)
+merged-assoc by.Sum x y z = wide_assoc (wide_or_zero x) (wide_or_zero y) (wide_or_zero z)
+merged-assoc by.Count x y z = wide_assoc (wide_or_zero x) (wide_or_zero y) (wide_or_zero z)
+merged-assoc by.Min x y z =
+    list_assoc (least 1) least-IsKept (members_or_none x) (members_or_none y) (members_or_none z)
+merged-assoc by.Max x y z =
+    list_assoc (greatest 1) (greatest-IsKept 1) (members_or_none x) (members_or_none y)
+    (members_or_none z)
 merged-assoc by.All x y z =
-    ap (λ (b : Bool). value.Bool (b && bool_of z)) (bool_of-Bool (bool_of x && bool_of y))
-    ∙ ap value.Bool (and_assoc (bool_of x) (bool_of y) (bool_of z))
-    ∙ sym (ap (λ (b : Bool). value.Bool (bool_of x && b)) (bool_of-Bool (bool_of y && bool_of z)))
+    ap (λ (b : Bool). value.Bool (b && truth_of z)) (truth_of-Bool (truth_of x && truth_of y))
+    ∙ ap value.Bool (and_assoc (truth_of x) (truth_of y) (truth_of z))
+    ∙ sym (ap (λ (b : Bool). value.Bool (truth_of x && b))
+    (truth_of-Bool (truth_of y && truth_of z)))
 merged-assoc by.Any x y z =
-    ap (λ (b : Bool). value.Bool (b || bool_of z)) (bool_of-Bool (bool_of x || bool_of y))
-    ∙ ap value.Bool (or_assoc (bool_of x) (bool_of y) (bool_of z))
-    ∙ sym (ap (λ (b : Bool). value.Bool (bool_of x || b)) (bool_of-Bool (bool_of y || bool_of z)))
-merged-assoc (by.Top n) x y z = list_assoc (greatest n) (greatest-IsKept n) (list_of x) (list_of y) (list_of z)
+    ap (λ (b : Bool). value.Bool (b || truth_of z)) (truth_of-Bool (truth_of x || truth_of y))
+    ∙ ap value.Bool (or_assoc (truth_of x) (truth_of y) (truth_of z))
+    ∙ sym (ap (λ (b : Bool). value.Bool (truth_of x || b))
+    (truth_of-Bool (truth_of y || truth_of z)))
+merged-assoc (by.Top n) x y z =
+    list_assoc (greatest n) (greatest-IsKept n) (members_or_none x) (members_or_none y)
+    (members_or_none z)
 
 -- ---- the unit
 
@@ -115,16 +154,21 @@ few_is_bag [] h = refl
 few_is_bag (v ∷ []) h = refl
 few_is_bag (v ∷ w ∷ vs) h = absurd (omega arith)
 
-wide_unit : (a : Value) (n : ℤ) → out-Value a ≡ Value-F.Wide n → FitsSigned w128 n → value.Wide (wrapped (wide_of (value.Wide (wrapped (pos 0))) +ℤ wide_of a)) ≡ a
+wide_unit : (a : Value) (n : ℤ) → out-Value a ≡ Value-F.Wide n → FitsSigned w128 n
+    → value.Wide (wrapped (wide_or_zero (value.Wide (wrapped (pos 0))) +ℤ wide_or_zero a)) ≡ a
 wide_unit a n e h =
-    ap (λ (x : ℤ). value.Wide (wrapped (x +ℤ wide_of a))) (wide_of-Wide (wrapped (pos 0)))
+    ap (λ (x : ℤ). value.Wide (wrapped (x +ℤ wide_or_zero a))) (wide_or_zero-Wide (wrapped (pos 0)))
     ∙ ap (λ (x : ℤ). value.Wide (wrapped (wrapped (pos 0) +ℤ x))) (ap wide_at e)
-    ∙ ap value.Wide (int_wrap-add_left w128 (pos 0) n ∙ ap wrapped (+ℤ_idl n) ∙ int_wrap_fits w128 n h)
+    ∙ ap value.Wide
+    (int_wrap-add_left w128 (pos 0) n ∙ ap wrapped (+ℤ_idl n) ∙ int_wrap_fits w128 n h)
     ∙ same_out (value.Wide n) a (value.outs-Wide n ∙ sym e)
 
-list_unit : (kept : List Value → List Value) (a : Value) (vs : List Value) → kept [] ≡ [] → out-Value a ≡ Value-F.List vs → bag_of vs ≡ vs → kept vs ≡ vs → value.List (kept (bag_of (list_of (value.List (kept [])) ++ list_of a))) ≡ a
+list_unit : (kept : List Value → List Value) (a : Value) (vs : List Value) → kept [] ≡ []
+    → out-Value a ≡ Value-F.List vs → bag_of vs ≡ vs → kept vs ≡ vs
+    → value.List (kept (bag_of (members_or_none (value.List (kept [])) ++ members_or_none a))) ≡ a
 list_unit kept a vs none e is_bag all =
-    ap (λ (l : List Value). value.List (kept (bag_of (l ++ list_of a)))) (list_of-List (kept []) ∙ none)
+    ap (λ (l : List Value). value.List (kept (bag_of (l ++ members_or_none a))))
+    (members_or_none-List (kept []) ∙ none)
     ∙ ap (λ (l : List Value). value.List (kept (bag_of l))) (ap list_at e)
     ∙ ap value.List (ap kept is_bag ∙ all)
     ∙ same_out (value.List vs) a (value.outs-List vs ∙ sym e)
@@ -134,21 +178,28 @@ few_kept [] h = refl
 few_kept (v ∷ []) h = refl
 few_kept (v ∷ w ∷ vs) h = absurd (omega arith)
 
-bool_unit : (op : Bool → Bool → Bool) (u : Bool) (a : Value) (b : Bool) → out-Value a ≡ Value-F.Bool b → op u b ≡ b → value.Bool (op (bool_of (value.Bool u)) (bool_of a)) ≡ a
+bool_unit : (op : Bool → Bool → Bool) (u : Bool) (a : Value) (b : Bool)
+    → out-Value a ≡ Value-F.Bool b → op u b ≡ b
+    → value.Bool (op (truth_of (value.Bool u)) (truth_of a)) ≡ a
 bool_unit op u a b e h =
-    ap (λ (x : Bool). value.Bool (op x (bool_of a))) (bool_of-Bool u)
+    ap (λ (x : Bool). value.Bool (op x (truth_of a))) (truth_of-Bool u)
     ∙ ap (λ (x : Bool). value.Bool (op u x)) (ap bool_at e)
     ∙ ap value.Bool h
     ∙ same_out (value.Bool b) a (value.outs-Bool b ∙ sym e)
 
-unit_at : (c : Comb) (a : Value) (x : Value-F Value) → out-Value a ≡ x → HasShapeAt c x → merged c (accumulator c []) a ≡ a
+unit_at : (c : Comb) (a : Value) (x : Value-F Value) → out-Value a ≡ x → HasShapeAt c x
+    → merged c (accumulator c []) a ≡ a
 unit_at by.Sum a (Value-F.Wide n) e h = wide_unit a n e h
 unit_at by.Count a (Value-F.Wide n) e h = wide_unit a n e h
-unit_at by.Min a (Value-F.List vs) e h = list_unit (least 1) a vs refl e (few_is_bag vs h) (few_kept vs h)
-unit_at by.Max a (Value-F.List vs) e h = list_unit (greatest 1) a vs refl e (few_is_bag vs h) (greatest-all 1 vs h)
+unit_at by.Min a (Value-F.List vs) e h =
+    list_unit (least 1) a vs refl e (few_is_bag vs h) (few_kept vs h)
+unit_at by.Max a (Value-F.List vs) e h =
+    list_unit (greatest 1) a vs refl e (few_is_bag vs h) (greatest-all 1 vs h)
 unit_at by.All a (Value-F.Bool b) e h = bool_unit (λ x y. x && y) true a b e refl
 unit_at by.Any a (Value-F.Bool b) e h = bool_unit (λ x y. x || y) false a b e refl
-unit_at (by.Top n) a (Value-F.List vs) e h = list_unit (greatest n) a vs (greatest-all n [] (omega arith)) e (bag_of-settled vs h.0) (greatest-all n vs h.1)
+unit_at (by.Top n) a (Value-F.List vs) e h =
+    list_unit (greatest n) a vs (greatest-all n [] (omega arith)) e (bag_of-settled vs h.0)
+    (greatest-all n vs h.1)
 unit_at _ a _ e h = absurd h
 
 pub merged-unit_left : (c : Comb) (a : Value) → HasShape c a → merged c (accumulator c []) a ≡ a

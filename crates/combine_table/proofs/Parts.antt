@@ -1,16 +1,17 @@
 -- Accumulators of parts, merged and finished.
-use Rattle.std.proofs.Common.{◌≡◌, ℤ, pos, ◌+ℤ◌, Bool, ◌&&◌, ◌||◌, List, ◌++◌, length, refl, sym, ap, ◌∙◌, arith, length-append}
+use Rattle.std.proofs.Common.{◌≡◌, ℤ, pos, ◌+ℤ◌, Bool, false, ◌&&◌, ◌||◌, List, [], ◌++◌, length, unwrap_or, refl, sym, ap, ◌∙◌, arith, length-append}
 use Rattle.std.specs.Int.{w128}
 use Rattle.std.specs.List.{list_all, list_any}
 use Rattle.std.proofs.lemmas.Int.{int_wrap-add_left, int_wrap-add_right}
 use Rattle.std.proofs.lemmas.List.Folds.{list_all-append, list_any-append}
-use Rattle.flume_value.specs.declared.value.Value.{Value}
+use Rattle.flume_value.specs.declared.value.Value.{Value, Value-F}
 use Rattle.flume_value.specs.declared.value.Value.TheVariants as value
 use Rattle.flume_value.specs.Bag.{bag_of}
+use Rattle.flume_value.specs.Parts.{int_layer, bool_layer, wide_layer, list_layer, members_or_none}
 use Rattle.flume_value.proofs.BagLemmas.{length-bag_of}
 use Rattle.combine_table.specs.declared.comb.Comb.{Comb}
 use Rattle.combine_table.specs.declared.comb.Comb.TheVariants as by
-use Rattle.combine_table.specs.Contents.{int_at, bool_at, wide_at, list_at, int_of, bool_of, wide_of, list_of}
+use Rattle.combine_table.specs.Contents.{int_or_zero, truth_of, wide_or_zero}
 use Rattle.combine_table.specs.Combinations.{total, wrapped, least, greatest, combined, int_or_overflow, first_or_bad_index}
 use Rattle.combine_table.specs.Accumulators.{accumulator, merged, finished}
 use Rattle.combine_table.proofs.Kept.{IsKept, kept-append, least-IsKept, greatest-IsKept}
@@ -18,59 +19,100 @@ use Rattle.combine_table.proofs.Totals.{total-bag_of, list_all-bag_of, list_any-
 
 -- ---- what a value of a variant holds
 
-pub int_of-Int : (n : ℤ) → int_of (value.Int n) ≡ n
-int_of-Int n = ap int_at (value.outs-Int n)
+abbrev pub int_at : Value-F Value → ℤ
+int_at x = unwrap_or (int_layer x) (pos 0)
 
-pub bool_of-Bool : (b : Bool) → bool_of (value.Bool b) ≡ b
-bool_of-Bool b = ap bool_at (value.outs-Bool b)
+abbrev pub bool_at : Value-F Value → Bool
+bool_at x = unwrap_or (bool_layer x) false
 
-pub wide_of-Wide : (n : ℤ) → wide_of (value.Wide n) ≡ n
-wide_of-Wide n = ap wide_at (value.outs-Wide n)
+abbrev pub wide_at : Value-F Value → ℤ
+wide_at x = unwrap_or (wide_layer x) (pos 0)
 
-pub list_of-List : (xs : List Value) → list_of (value.List xs) ≡ xs
-list_of-List xs = ap list_at (value.outs-List xs)
+abbrev pub list_at : Value-F Value → List Value
+list_at x = unwrap_or (list_layer x) []
+
+pub int_or_zero-Int : (n : ℤ) → int_or_zero (value.Int n) ≡ n
+int_or_zero-Int n = ap int_at (value.outs-Int n)
+
+pub truth_of-Bool : (b : Bool) → truth_of (value.Bool b) ≡ b
+truth_of-Bool b = ap bool_at (value.outs-Bool b)
+
+pub wide_or_zero-Wide : (n : ℤ) → wide_or_zero (value.Wide n) ≡ n
+wide_or_zero-Wide n = ap wide_at (value.outs-Wide n)
+
+pub members_or_none-List : (xs : List Value) → members_or_none (value.List xs) ≡ xs
+members_or_none-List xs = ap list_at (value.outs-List xs)
 
 -- ---- finish
 
 pub finished-accumulator : (c : Comb) (b : List Value) → finished c (accumulator c b) ≡ combined c b
-finished-accumulator by.Sum b = ap int_or_overflow (wide_of-Wide (wrapped (total b)))
-finished-accumulator by.Count b = ap int_or_overflow (wide_of-Wide (wrapped (pos (length b))))
-finished-accumulator by.Min b = ap first_or_bad_index (list_of-List (least 1 b))
-finished-accumulator by.Max b = ap first_or_bad_index (list_of-List (greatest 1 b))
+finished-accumulator by.Sum b = ap int_or_overflow (wide_or_zero-Wide (wrapped (total b)))
+finished-accumulator by.Count b = ap int_or_overflow (wide_or_zero-Wide (wrapped (pos (length b))))
+finished-accumulator by.Min b = ap first_or_bad_index (members_or_none-List (least 1 b))
+finished-accumulator by.Max b = ap first_or_bad_index (members_or_none-List (greatest 1 b))
 finished-accumulator by.All b = refl
 finished-accumulator by.Any b = refl
 finished-accumulator (by.Top n) b = refl
 
 -- ---- merge
 
-wide : (m n k : ℤ) → wrapped (m +ℤ n) ≡ k → value.Wide (wrapped (wide_of (value.Wide (wrapped m)) +ℤ wide_of (value.Wide (wrapped n)))) ≡ value.Wide k
+wide : (m n k : ℤ) → wrapped (m +ℤ n) ≡ k
+    → value.Wide
+    (wrapped (wide_or_zero (value.Wide (wrapped m)) +ℤ wide_or_zero (value.Wide (wrapped n))))
+    ≡ value.Wide k
 wide m n k e =
-    ap (λ (x : ℤ). value.Wide (wrapped (x +ℤ wide_of (value.Wide (wrapped n))))) (wide_of-Wide (wrapped m))
-    ∙ ap (λ (x : ℤ). value.Wide (wrapped (wrapped m +ℤ x))) (wide_of-Wide (wrapped n))
+    ap (λ (x : ℤ). value.Wide (wrapped (x +ℤ wide_or_zero (value.Wide (wrapped n)))))
+    (wide_or_zero-Wide (wrapped m))
+    ∙ ap (λ (x : ℤ). value.Wide (wrapped (wrapped m +ℤ x))) (wide_or_zero-Wide (wrapped n))
     ∙ ap value.Wide (int_wrap-add_left w128 m (wrapped n) ∙ int_wrap-add_right w128 m n ∙ e)
 
 module _ (kept : List Value → List Value) (k : IsKept kept) where
-  kept_merged : (xs ys : List Value) → value.List (kept (bag_of (list_of (value.List (kept (bag_of xs))) ++ list_of (value.List (kept (bag_of ys)))))) ≡ value.List (kept (bag_of (xs ++ ys)))
+  kept_merged : (xs ys : List Value)
+      → value.List
+      (kept (bag_of
+      (members_or_none (value.List (kept (bag_of xs))) ++ members_or_none
+      (value.List (kept (bag_of ys)))))) ≡ value.List (kept (bag_of (xs ++ ys)))
   kept_merged xs ys =
-      ap (λ (l : List Value). value.List (kept (bag_of (l ++ list_of (value.List (kept (bag_of ys))))))) (list_of-List (kept (bag_of xs)))
-      ∙ ap (λ (l : List Value). value.List (kept (bag_of (kept (bag_of xs) ++ l)))) (list_of-List (kept (bag_of ys)))
+      ap (λ (l : List Value). value.List
+      (kept (bag_of (l ++ members_or_none (value.List (kept (bag_of ys)))))))
+      (members_or_none-List (kept (bag_of xs)))
+      ∙ ap (λ (l : List Value). value.List (kept (bag_of (kept (bag_of xs) ++ l))))
+      (members_or_none-List (kept (bag_of ys)))
       ∙ ap value.List (kept-append kept k xs ys)
 
-pub merged-accumulator : (c : Comb) (xs ys : List Value) → merged c (accumulator c (bag_of xs)) (accumulator c (bag_of ys)) ≡ accumulator c (bag_of (xs ++ ys))
+pub merged-accumulator : (c : Comb) (xs ys : List Value)
+    → merged c (accumulator c (bag_of xs)) (accumulator c (bag_of ys)) ≡ accumulator c
+    (bag_of (xs ++ ys))
 merged-accumulator by.Sum xs ys =
     wide (total (bag_of xs)) (total (bag_of ys)) (wrapped (total (bag_of (xs ++ ys))))
-    (ap wrapped (ap (λ n. n +ℤ total (bag_of ys)) (total-bag_of xs) ∙ ap (λ n. total xs +ℤ n) (total-bag_of ys) ∙ sym (total-append xs ys) ∙ sym (total-bag_of (xs ++ ys))))
+    (ap wrapped
+    (ap (λ n. n +ℤ total (bag_of ys)) (total-bag_of xs)
+    ∙ ap (λ n. total xs +ℤ n) (total-bag_of ys) ∙ sym (total-append xs ys)
+    ∙ sym (total-bag_of (xs ++ ys))))
 merged-accumulator by.Count xs ys =
-    wide (pos (length (bag_of xs))) (pos (length (bag_of ys))) (wrapped (pos (length (bag_of (xs ++ ys)))))
-    (ap (λ n. wrapped (pos n)) (omega (arith, length-bag_of xs, length-bag_of ys, length-bag_of (xs ++ ys), length-append xs ys)))
+    wide (pos (length (bag_of xs))) (pos (length (bag_of ys)))
+    (wrapped (pos (length (bag_of (xs ++ ys)))))
+    (ap (λ n. wrapped (pos n))
+    (omega (
+      arith,
+      length-bag_of xs,
+      length-bag_of ys,
+      length-bag_of
+          (xs ++ ys),
+      length-append xs ys,
+    )))
 merged-accumulator by.Min xs ys = kept_merged (least 1) least-IsKept xs ys
 merged-accumulator by.Max xs ys = kept_merged (greatest 1) (greatest-IsKept 1) xs ys
 merged-accumulator by.All xs ys =
-    ap (λ (b : Bool). value.Bool (b && bool_of (value.Bool (list_all bool_of (bag_of ys))))) (bool_of-Bool (list_all bool_of (bag_of xs)) ∙ list_all-bag_of bool_of xs)
-    ∙ ap (λ (b : Bool). value.Bool (list_all bool_of xs && b)) (bool_of-Bool (list_all bool_of (bag_of ys)) ∙ list_all-bag_of bool_of ys)
-    ∙ ap value.Bool (sym (list_all-bag_of bool_of (xs ++ ys) ∙ list_all-append bool_of xs ys))
+    ap (λ (b : Bool). value.Bool (b && truth_of (value.Bool (list_all truth_of (bag_of ys)))))
+    (truth_of-Bool (list_all truth_of (bag_of xs)) ∙ list_all-bag_of truth_of xs)
+    ∙ ap (λ (b : Bool). value.Bool (list_all truth_of xs && b))
+    (truth_of-Bool (list_all truth_of (bag_of ys)) ∙ list_all-bag_of truth_of ys)
+    ∙ ap value.Bool (sym (list_all-bag_of truth_of (xs ++ ys) ∙ list_all-append truth_of xs ys))
 merged-accumulator by.Any xs ys =
-    ap (λ (b : Bool). value.Bool (b || bool_of (value.Bool (list_any bool_of (bag_of ys))))) (bool_of-Bool (list_any bool_of (bag_of xs)) ∙ list_any-bag_of bool_of xs)
-    ∙ ap (λ (b : Bool). value.Bool (list_any bool_of xs || b)) (bool_of-Bool (list_any bool_of (bag_of ys)) ∙ list_any-bag_of bool_of ys)
-    ∙ ap value.Bool (sym (list_any-bag_of bool_of (xs ++ ys) ∙ list_any-append bool_of xs ys))
+    ap (λ (b : Bool). value.Bool (b || truth_of (value.Bool (list_any truth_of (bag_of ys)))))
+    (truth_of-Bool (list_any truth_of (bag_of xs)) ∙ list_any-bag_of truth_of xs)
+    ∙ ap (λ (b : Bool). value.Bool (list_any truth_of xs || b))
+    (truth_of-Bool (list_any truth_of (bag_of ys)) ∙ list_any-bag_of truth_of ys)
+    ∙ ap value.Bool (sym (list_any-bag_of truth_of (xs ++ ys) ∙ list_any-append truth_of xs ys))
 merged-accumulator (by.Top n) xs ys = kept_merged (greatest n) (greatest-IsKept n) xs ys

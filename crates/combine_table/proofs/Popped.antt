@@ -9,8 +9,10 @@ use Rattle.flume_value.specs.declared.value.Value.{Value}
 use Rattle.flume_value.specs.Order.{value_cmp}
 use Rattle.flume_value.specs.Bag.{bag_of}
 use Rattle.flume_value.proofs.OrderLemmas.{value_cmp-same}
-use Rattle.flume_value.proofs.EachLemmas.{Each-append, Each-at, Each-left, Rises-left}
-use Rattle.flume_value.proofs.BagLemmas.{Each, NotBelow, Rises, Each-put, Each-weaker, NotBelow-trans, ranks, rises_from, sorted_from, Rises-bag_of, bag_of-settled, bag_of-sorted, bag_of-either_order, IsPermutation-bag_of}
+use Rattle.std.specs.List.{AllByRecursion as Each}
+use Rattle.flume_value.proofs.EachLemmas.{Each-append, Each-at, Each-left, Each-weaker}
+use Rattle.flume_value.proofs.RisesLemmas.{Rises-left}
+use Rattle.flume_value.proofs.BagLemmas.{NotBelow, Rises, Each-bag_of, NotBelow-trans, ranks, rises_from, sorted_from, Rises-bag_of, bag_of-settled, bag_of-sorted, bag_of-either_order, IsPermutation-bag_of}
 
 -- no member is above y
 abbrev pub UpTo : Value → List Value → Type 0
@@ -19,10 +21,6 @@ UpTo y = Each (λ x. NotBelow x y)
 Each-last : (P : Value → Type 0) (xs : List Value) (y : Value) → Each P (xs ++ y ∷ []) → P y
 Each-last P [] y e = e.0
 Each-last P (x ∷ xs) y e = Each-last P xs y e.1
-
-Each-bag_of : (P : Value → Type 0) (xs : List Value) → Each P xs → Each P (bag_of xs)
-Each-bag_of P [] e = tt
-Each-bag_of P (x ∷ xs) e = Each-put P x (bag_of xs) e.0 (Each-bag_of P xs e.1)
 
 Rises-push : (xs : List Value) (y : Value) → Rises xs → UpTo y xs → Rises (xs ++ y ∷ [])
 Rises-push [] y r u = (tt, tt)

@@ -9,9 +9,10 @@ use Rattle.flume_value.specs.declared.value.Value.TheVariants as value
 use Rattle.flume_value.specs.declared.fault.Kind.{Kind}
 use Rattle.flume_value.specs.Order.{value_cmp}
 use Rattle.flume_value.specs.Bag.{bag_of}
+use Rattle.flume_value.specs.Parts.{members_or_none}
 use Rattle.combine_table.specs.declared.comb.Comb.{Comb}
 use Rattle.combine_table.specs.declared.comb.Comb.TheVariants as by
-use Rattle.combine_table.specs.Contents.{bool_of, wide_of, list_of}
+use Rattle.combine_table.specs.Contents.{truth_of, wide_or_zero}
 use Rattle.combine_table.specs.Combinations.{total, wrapped, least, greatest, int_or_overflow, first_or_bad_index}
 
 -- the accumulator that stands for a bag
@@ -20,8 +21,8 @@ accumulator by.Sum b = value.Wide (wrapped (total b))
 accumulator by.Count b = value.Wide (wrapped (pos (length b)))
 accumulator by.Min b = value.List (least 1 b)
 accumulator by.Max b = value.List (greatest 1 b)
-accumulator by.All b = value.Bool (list_all bool_of b)
-accumulator by.Any b = value.Bool (list_any bool_of b)
+accumulator by.All b = value.Bool (list_all truth_of b)
+accumulator by.Any b = value.Bool (list_any truth_of b)
 accumulator (by.Top n) b = value.List (greatest n b)
 
 -- wide numbers, lists of at most one, bools, or ascending lists of at most n
@@ -41,18 +42,18 @@ HasShape c a = HasShapeAt c (out-Value a)
 
 -- the accumulator for the sum of the two bags that a and b stand for
 abbrev pub merged : Comb → Value → Value → Value
-merged by.Sum a b = value.Wide (wrapped (wide_of a +ℤ wide_of b))
-merged by.Count a b = value.Wide (wrapped (wide_of a +ℤ wide_of b))
-merged by.Min a b = value.List (least 1 (bag_of (list_of a ++ list_of b)))
-merged by.Max a b = value.List (greatest 1 (bag_of (list_of a ++ list_of b)))
-merged by.All a b = value.Bool (bool_of a && bool_of b)
-merged by.Any a b = value.Bool (bool_of a || bool_of b)
-merged (by.Top n) a b = value.List (greatest n (bag_of (list_of a ++ list_of b)))
+merged by.Sum a b = value.Wide (wrapped (wide_or_zero a +ℤ wide_or_zero b))
+merged by.Count a b = value.Wide (wrapped (wide_or_zero a +ℤ wide_or_zero b))
+merged by.Min a b = value.List (least 1 (bag_of (members_or_none a ++ members_or_none b)))
+merged by.Max a b = value.List (greatest 1 (bag_of (members_or_none a ++ members_or_none b)))
+merged by.All a b = value.Bool (truth_of a && truth_of b)
+merged by.Any a b = value.Bool (truth_of a || truth_of b)
+merged (by.Top n) a b = value.List (greatest n (bag_of (members_or_none a ++ members_or_none b)))
 
 -- what the bag that a stands for combines to
 abbrev pub finished : Comb → Value → Result Value Kind
-finished by.Sum a = int_or_overflow (wide_of a)
-finished by.Count a = int_or_overflow (wide_of a)
-finished by.Min a = first_or_bad_index (list_of a)
-finished by.Max a = first_or_bad_index (list_of a)
+finished by.Sum a = int_or_overflow (wide_or_zero a)
+finished by.Count a = int_or_overflow (wide_or_zero a)
+finished by.Min a = first_or_bad_index (members_or_none a)
+finished by.Max a = first_or_bad_index (members_or_none a)
 finished _ a = Ok a

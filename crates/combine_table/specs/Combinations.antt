@@ -1,5 +1,5 @@
 -- What a combiner makes of a whole bag: no order, no parts, no accumulator.
-use Rattle.std.specs.Prelude.{◌≡◌, ℕ, ◌-◌, ◌^◌, ℤ, pos, negsuc, ◌+ℤ◌, Bool, nat_lt, if◌then◌else◌, List, [], ◌∷◌, length, take, drop, Result, Ok, Err}
+use Rattle.std.specs.Prelude.{◌≡◌, ℕ, ◌-◌, ℤ, pos, ◌+ℤ◌, if◌then◌else◌, List, [], ◌∷◌, length, take, drop, Result, Ok, Err}
 use Rattle.std.specs.List.{list_all, list_any}
 use Rattle.std.specs.Int.{int_wrap, w128}
 use Rattle.flume_value.specs.declared.value.Value.{Value}
@@ -8,9 +8,10 @@ use Rattle.flume_value.specs.declared.fault.Kind.{Kind}
 use Rattle.flume_value.specs.declared.fault.Kind.TheVariants.{Overflow, BadIndex}
 use Rattle.flume_value.specs.declared.fault.CallFault.{CallFault}
 use Rattle.flume_value.specs.declared.fault.CallFault.TheVariants.{Trap, Memory}
+use Rattle.flume_value.specs.Ranges.{fits_int}
 use Rattle.combine_table.specs.declared.comb.Comb.{Comb}
 use Rattle.combine_table.specs.declared.comb.Comb.TheVariants as by
-use Rattle.combine_table.specs.Contents.{IsInt, IsBool, int_of, bool_of}
+use Rattle.combine_table.specs.Contents.{IsInt, IsBool, int_or_zero, truth_of}
 
 -- the values that the combiner takes
 abbrev pub Suits : Comb → Value → Type 0
@@ -22,20 +23,15 @@ Suits _ v = Unit {0}
 -- the sum of a bag's ints
 abbrev pub total : List Value → ℤ
 total [] = pos 0
-total (v ∷ vs) = int_of v +ℤ total vs
+total (v ∷ vs) = int_or_zero v +ℤ total vs
 
 -- a number as 128 bits with a sign hold it
 abbrev pub wrapped : ℤ → ℤ
 wrapped n = int_wrap w128 n
 
--- whether 64 bits with a sign hold the number
-abbrev pub is_int : ℤ → Bool
-is_int (pos n) = nat_lt n (2 ^ 63)
-is_int (negsuc n) = nat_lt n (2 ^ 63)
-
 -- the number, or the trap where it is not an int
 abbrev pub int_or_overflow : ℤ → Result Value Kind
-int_or_overflow n = if is_int n then Ok (value.Int n) else Err Overflow
+int_or_overflow n = if fits_int n then Ok (value.Int n) else Err Overflow
 
 -- the first n members of a bag, all where there are fewer
 abbrev pub least : ℕ → List Value → List Value
@@ -56,8 +52,8 @@ combined by.Sum b = int_or_overflow (wrapped (total b))
 combined by.Count b = int_or_overflow (wrapped (pos (length b)))
 combined by.Min b = first_or_bad_index (least 1 b)
 combined by.Max b = first_or_bad_index (greatest 1 b)
-combined by.All b = Ok (value.Bool (list_all bool_of b))
-combined by.Any b = Ok (value.Bool (list_any bool_of b))
+combined by.All b = Ok (value.Bool (list_all truth_of b))
+combined by.Any b = Ok (value.Bool (list_any truth_of b))
 combined (by.Top n) b = Ok (value.List (greatest n b))
 
 -- the answer of a call that takes no memory

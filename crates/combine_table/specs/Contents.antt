@@ -1,67 +1,29 @@
--- What a value holds, where it is of the variant that is asked for.
-use Rattle.std.specs.Prelude.{ℤ, pos, Bool, false, List, []}
-use Rattle.flume_value.specs.declared.value.Value.{Value, Value-F, out-Value}
-
-abbrev pub IsIntAt : Value-F Value → Type 0
-IsIntAt (Value-F.Int n) = Unit {0}
-IsIntAt _ = ⊥
+-- What combiners read in the values that they take. The numbers, truths and lists of other values
+-- are never asked for: `Suits` and `HasShape` leave no other value.
+use Rattle.std.specs.Prelude.{ℤ, pos, Bool, false, IsSome, unwrap_or}
+use Rattle.flume_value.specs.declared.value.Value.{Value}
+use Rattle.flume_value.specs.Parts.{int_of, bool_of, wide_of, members_of}
 
 -- the value is an int
 abbrev pub IsInt : Value → Type 0
-IsInt v = IsIntAt (out-Value v)
-
-abbrev pub IsBoolAt : Value-F Value → Type 0
-IsBoolAt (Value-F.Bool b) = Unit {0}
-IsBoolAt _ = ⊥
+IsInt v = IsSome (int_of v)
 
 -- the value is a bool
 abbrev pub IsBool : Value → Type 0
-IsBool v = IsBoolAt (out-Value v)
-
-abbrev pub IsWideAt : Value-F Value → Type 0
-IsWideAt (Value-F.Wide n) = Unit {0}
-IsWideAt _ = ⊥
-
--- the value is a wide number
-abbrev pub IsWide : Value → Type 0
-IsWide v = IsWideAt (out-Value v)
-
-abbrev pub IsListAt : Value-F Value → Type 0
-IsListAt (Value-F.List vs) = Unit {0}
-IsListAt _ = ⊥
+IsBool v = IsSome (bool_of v)
 
 -- the value is a list
 abbrev pub IsList : Value → Type 0
-IsList v = IsListAt (out-Value v)
-
-abbrev pub int_at : Value-F Value → ℤ
-int_at (Value-F.Int n) = n
-int_at _ = pos 0
+IsList v = IsSome (members_of v)
 
 -- the number of an int, or 0
-abbrev pub int_of : Value → ℤ
-int_of v = int_at (out-Value v)
+abbrev pub int_or_zero : Value → ℤ
+int_or_zero v = unwrap_or (int_of v) (pos 0)
 
-abbrev pub bool_at : Value-F Value → Bool
-bool_at (Value-F.Bool b) = b
-bool_at _ = false
-
--- the truth of a bool, or false
-abbrev pub bool_of : Value → Bool
-bool_of v = bool_at (out-Value v)
-
-abbrev pub wide_at : Value-F Value → ℤ
-wide_at (Value-F.Wide n) = n
-wide_at _ = pos 0
+-- whether the value is the bool true
+abbrev pub truth_of : Value → Bool
+truth_of v = unwrap_or (bool_of v) false
 
 -- the number of a wide number, or 0
-abbrev pub wide_of : Value → ℤ
-wide_of v = wide_at (out-Value v)
-
-abbrev pub list_at : Value-F Value → List Value
-list_at (Value-F.List vs) = vs
-list_at _ = []
-
--- the members of a list, or none
-abbrev pub list_of : Value → List Value
-list_of v = list_at (out-Value v)
+abbrev pub wide_or_zero : Value → ℤ
+wide_or_zero v = unwrap_or (wide_of v) (pos 0)

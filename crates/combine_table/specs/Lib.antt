@@ -1,3 +1,4 @@
 pub mod Accumulators
 pub mod Combinations
 pub mod Contents
+pub mod inner

@@ -1,5 +1,7 @@
 ghost use Rattle.std.specs.Prelude.{◌≡◌, ◌+ℤ◌};
-ghost use Rattle.combine_table.specs.Contents.{IsInt, IsBool, IsWide, IsList, int_of, bool_of, wide_of, list_of};
+ghost use Rattle.flume_value.specs.Parts.{members_or_none};
+ghost use Rattle.combine_table.specs.Contents.{IsInt, IsBool, IsList, int_or_zero, truth_of, wide_or_zero};
+ghost use Rattle.combine_table.specs.inner.Wide.{IsWide};
 ghost use Rattle.combine_table.specs.Combinations.{wrapped};
 
 use flume_value::{Pile, Value};
@@ -7,7 +9,7 @@ use flume_value::{Pile, Value};
 /// The number of an int.
 pub(crate) fn int(value: &Value) -> i64
     requires { IsInt value.now }
-    ensures { result ≡ int_of value.now }
+    ensures { result ≡ int_or_zero value.now }
 {
     match value {
         Value::Int(n) => *n,
@@ -18,7 +20,7 @@ pub(crate) fn int(value: &Value) -> i64
 /// Whether a bool is true.
 pub(crate) fn truth(value: &Value) -> bool
     requires { IsBool value.now }
-    ensures { result ≡ bool_of value.now }
+    ensures { result ≡ truth_of value.now }
 {
     match value {
         Value::Bool(b) => *b,
@@ -29,7 +31,7 @@ pub(crate) fn truth(value: &Value) -> bool
 /// The number of a wide number.
 pub(crate) fn wide(value: &Value) -> i128
     requires { IsWide value.now }
-    ensures { result ≡ wide_of value.now }
+    ensures { result ≡ wide_or_zero value.now }
 {
     match value {
         Value::Wide(n) => *n,
@@ -42,7 +44,7 @@ pub(crate) fn wide(value: &Value) -> i128
 pub(crate) fn wide_sum(left: &Value, right: &Value) -> i128
     requires left { IsWide left.now }
     requires right { IsWide right.now }
-    ensures { result ≡ wrapped (wide_of left.now +ℤ wide_of right.now) }
+    ensures { result ≡ wrapped (wide_or_zero left.now +ℤ wide_or_zero right.now) }
 {
     wide(left).wrapping_add(wide(right))
 }
@@ -50,7 +52,7 @@ pub(crate) fn wide_sum(left: &Value, right: &Value) -> i128
 /// The members of a list.
 pub(crate) fn into_list(value: Value) -> Vec<Value>
     requires { IsList value }
-    ensures { result.items ≡ list_of value }
+    ensures { result.items ≡ members_or_none value }
 {
     match value {
         Value::List(items) => items.into_vec(),

@@ -17,8 +17,6 @@ mod laws;
 mod lists;
 mod outcome;
 mod partial;
-#[cfg(test)]
-mod tests;
 mod whole;
 
 pub use comb::Comb;

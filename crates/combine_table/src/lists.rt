@@ -62,7 +62,8 @@ fn pop_greatest(left: &mut Vec<Value>, right: &mut Vec<Value>) -> Option<Value>
     requires right { IsSorted value_cmp right.old.items }
     ensures left { IsSorted value_cmp left.new.items }
     ensures right { IsSorted value_cmp right.new.items }
-    ensures greatest { bag_of (left.old.items ++ right.old.items) ≡ bag_of (left.new.items ++ right.new.items) ++ option_to_list result }
+    ensures greatest { bag_of (left.old.items ++ right.old.items)
+        ≡ bag_of (left.new.items ++ right.new.items) ++ option_to_list result }
     ensures none { IfNone result (left.new.items ++ right.new.items ≡ []) }
 {
     match left.last() {

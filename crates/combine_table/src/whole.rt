@@ -2,7 +2,7 @@ ghost use Rattle.std.specs.Prelude.{◌≡◌, ℤ, pos, map, length, All, IfOk,
 ghost use Rattle.std.specs.List.{list_all, list_any};
 ghost use Rattle.std.specs.Option.{option_copied, option_to_list};
 ghost use Rattle.flume_value.specs.Bag.{bag_of};
-ghost use Rattle.combine_table.specs.Contents.{IsInt, IsBool, bool_of};
+ghost use Rattle.combine_table.specs.Contents.{IsInt, IsBool, truth_of};
 ghost use Rattle.combine_table.specs.Combinations.{Suits, combined, IsFault, total as total_of, wrapped, first_or_bad_index, least as least_of, greatest as greatest_of};
 
 use crate::comb::Comb;
@@ -51,14 +51,14 @@ fn count(values: &[Value]) -> i128
 
 fn all_true(values: &[Value]) -> bool
     requires { All IsBool values.now }
-    ensures { result ≡ list_all bool_of values.now }
+    ensures { result ≡ list_all truth_of values.now }
 {
     values.iter().all(|value| truth(value))
 }
 
 fn any_true(values: &[Value]) -> bool
     requires { All IsBool values.now }
-    ensures { result ≡ list_any bool_of values.now }
+    ensures { result ≡ list_any truth_of values.now }
 {
     values.iter().any(|value| truth(value))
 }
@@ -76,8 +76,10 @@ fn greatest(values: &[Value]) -> Option<&Value>
 }
 
 fn copy_or_bad_index(alloc: Global, value: Option<&Value>) -> Result<Value, CallFault>
-    ensures ok { IfOk result (λ v. first_or_bad_index (option_to_list (option_copied value.entry)) ≡ Ok v) }
-    ensures err { IfErr result (IsFault (first_or_bad_index (option_to_list (option_copied value.entry)))) }
+    ensures ok { IfOk result (λ v.
+        first_or_bad_index (option_to_list (option_copied value.entry)) ≡ Ok v) }
+    ensures err { IfErr result
+        (IsFault (first_or_bad_index (option_to_list (option_copied value.entry)))) }
 {
     match value {
         Some(value) => Ok(value.copy(alloc)?),

@@ -3,3 +3,4 @@ pub mod RowFacts
 pub mod TypeFacts
 pub mod LawFacts
 pub mod Literals
+pub mod OrderFacts

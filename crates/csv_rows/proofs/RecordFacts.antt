@@ -8,7 +8,7 @@ use Rattle.csv.specs.declared.parser.Config.{Config}
 use Rattle.csv.specs.declared.parser.State.{State}
 use Rattle.csv.specs.declared.parser.State.TheVariants as st
 use Rattle.csv.specs.declared.reader.Reader.{Reader}
-use Rattle.csv_rows.specs.Records.{NoneLeft, OtherLengthNext, Takes, left_of, records_at}
+use Rattle.csv_rows.specs.inner.Readers.{NoneLeft, OtherLengthNext, Takes, left_of, records_at}
 
 -- what is left after a record: nothing but the start of a text, or fewer bytes
 abbrev pub Shrinks : List ℕ → Option Read → Type 0

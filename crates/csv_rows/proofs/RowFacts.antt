@@ -8,7 +8,7 @@ use Rattle.std.specs.Str.{bytes_eq, is_utf8}
 use Rattle.csv.specs.Records.{field_at}
 use Rattle.flume_value.specs.declared.value.Value.{Value}
 use Rattle.flume_value.specs.declared.value.Value.TheVariants as value
-use Rattle.csv_rows.specs.Records.{NoneLeft, OtherLengthNext, Takes}
+use Rattle.csv_rows.specs.inner.Readers.{NoneLeft, OtherLengthNext, Takes}
 use Rattle.csv_rows.specs.Rows.{and_more, bad, cell_at, cells_from, first_then, header_fault, other_name, record_of, row_at, rows_from, rows_under}
 use Rattle.flume_types.specs.declared.column.Column.{Column}
 use Rattle.csv_rows.specs.declared.fault.RowFault.{RowFault}

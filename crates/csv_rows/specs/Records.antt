@@ -1,46 +1,7 @@
--- The records of a text of CSV, and those that a reader has left.
-use Rattle.std.specs.Prelude.{◌≡◌, ◌≢◌, ◌+◌, ◌∷◌, ℕ, false, List, [], length, Option, Some, None, IfSome, option_map, ⊤}
-use Rattle.csv.specs.declared.parser.State.{State}
-use Rattle.csv.specs.declared.reader.Reader.{Reader}
-use Rattle.csv.specs.declared.reader.Trim.TheVariants as trim
-use Rattle.csv.specs.Reading.{Ready, default_config, expected_len, is_flexible, reader_config, reader_state, reader_trim, records, records_from, source_of, strip_bom}
-use Rattle.csv_rows.specs.declared.records.Next.{Next}
-use Rattle.csv_rows.specs.declared.records.Next.TheVariants as next
+-- The records of a text of CSV.
+use Rattle.std.specs.Prelude.{ℕ, List}
+use Rattle.csv.specs.Reading.{default_config, records, strip_bom}
 
 -- the records of a text of CSV, as csv reads it by default with no header row of its own
 abbrev pub records_of : List ℕ → List (List (List ℕ))
 records_of bytes = records default_config (strip_bom bytes)
-
--- the records of the bytes that are left, from a state of csv's machine
-abbrev pub records_at : State → List ℕ → List (List (List ℕ))
-records_at state bytes = records_from default_config (length bytes + 1) state bytes
-
--- the records that a reader has left, where its bytes are known
-abbrev pub left_of : {R : Type 0} → (R → Option (List ℕ)) → Reader R → Option (List (List (List ℕ)))
-left_of remaining reader = option_map (records_at (reader_state reader)) (source_of remaining reader)
-
--- a reader as these records are read: by csv's defaults, every record alike
-abbrev pub IsPlain : {R : Type 0} → Reader R → Type 0
-IsPlain reader = Ready reader × (reader_config reader ≡ default_config) × (reader_trim reader ≡ trim.None) × (is_flexible reader ≡ false)
-
--- known records begin with this one, and lose it
-abbrev pub Takes : Option (List (List (List ℕ))) → List (List ℕ) → Option (List (List (List ℕ))) → Type 0
-Takes None fields new = ⊤
-Takes (Some old) fields None = ⊥
-Takes (Some old) fields (Some new) = old ≡ fields ∷ new
-
--- the next record has another number of fields than the first, which is known
-abbrev pub OtherLengthNext : Option (List (List (List ℕ))) → Option ℕ → Type 0
-OtherLengthNext left None = ⊥
-OtherLengthNext left (Some width) = IfSome left (λ records. (fields : List (List ℕ)) × (rest : List (List (List ℕ))) × (records ≡ fields ∷ rest) × (length fields ≢ width))
-
--- no known record is left
-abbrev pub NoneLeft : Option (List (List (List ℕ))) → Type 0
-NoneLeft None = ⊤
-NoneLeft (Some records) = records ≡ []
-
--- what a read of the next record does
-abbrev pub TakesNext : {R : Type 0} → (R → Option (List ℕ)) → Reader R → Reader R → List (List ℕ) → Next → Type 0
-TakesNext rem old new fields next.Record = Takes (left_of rem old) fields (left_of rem new) × IsPlain new × (expected_len new ≡ Some (length fields)) × IfSome (expected_len old) (λ width. length fields ≡ width)
-TakesNext rem old new fields next.OtherLength = OtherLengthNext (left_of rem old) (expected_len old)
-TakesNext rem old new fields next.End = NoneLeft (left_of rem old)

@@ -1,9 +1,8 @@
 -- The text of a bag of values, as csv writes it.
-use Rattle.std.specs.Prelude.{◌≡◌, false, List, [], ◌++◌, ℕ, if◌then◌else◌, codes, map, unwrap_or}
+use Rattle.std.specs.Prelude.{false, List, [], ◌++◌, ℕ, if◌then◌else◌, codes, map, unwrap_or}
 use Rattle.std.specs.Fmt.{signed_decimal}
 use Rattle.std.specs.List.{flat_map}
-use Rattle.csv.specs.Writing.{default_writer, fields_written, has_written, row_text, with_has_headers, writer_setup}
-use Rattle.csv.specs.declared.writer.Writer.{Writer}
+use Rattle.csv.specs.Writing.{default_writer, row_text, with_has_headers}
 use Rattle.csv.specs.declared.writer.WriterBuilder.{WriterBuilder}
 use Rattle.flume_types.specs.Cells.{cells_of}
 use Rattle.flume_types.specs.Columns.{columns_of}
@@ -31,12 +30,9 @@ row_of value = row_text plain_writer (map cell_text (cells_of value))
 
 -- the header of columns, and then a row for each of these values
 abbrev pub table_text : List Column → List Value → List ℕ
-table_text columns values = row_text plain_writer (map (λ column. column.name) columns) ++ flat_map row_of values
+table_text columns values =
+    row_text plain_writer (map (λ column. column.name) columns) ++ flat_map row_of values
 
 -- the sorted text of a bag of values of a type, which is given as its ascending list
 abbrev pub text_of : List Value → Ty → List ℕ
 text_of bag ty = table_text (unwrap_or (columns_of ty) []) bag
-
--- a writer that stands between two records, and writes them as these rows are written
-abbrev pub IsFresh : {W : Type 0} → Writer W → Type 0
-IsFresh writer = (writer_setup writer ≡ plain_writer) × (fields_written writer ≡ 0) × (has_written writer ≡ false)

@@ -17,6 +17,3 @@ pub use fault::{RowFault, RowKind};
 pub use laws::{csv_law, rows_law};
 pub use read::rows;
 pub use write::text;
-
-#[cfg(test)]
-mod tests;

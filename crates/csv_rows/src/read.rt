@@ -6,7 +6,7 @@ ghost use Rattle.csv.specs.Reading.{expected_len};
 ghost use Rattle.csv.specs.Records.{fields_of};
 ghost use Rattle.flume_types.specs.Columns.{input_columns_of};
 ghost use Rattle.flume_types.specs.Typing.{has_type};
-ghost use Rattle.csv_rows.specs.Records.{IsPlain, left_of};
+ghost use Rattle.csv_rows.specs.inner.Readers.{IsPlain, left_of};
 ghost use Rattle.csv_rows.specs.Rows.{cell_at, header_fault, row_at, rows_of, rows_under};
 
 use crate::fault::{RowFault, RowKind};
@@ -38,8 +38,10 @@ pub fn rows(alloc: Global, bytes: &[u8], ty: &Ty) -> Result<Items, RowFault>
 /// The rows of all that a source gives. A source that fails has no rows, as where memory runs out.
 fn read_rows<R: Read + Drop>(alloc: Global, source: R, ty: &Ty) -> Result<Items, RowFault>
     requires { IsSome (input_columns_of ty.now) }
-    ensures rows { IfOk result (λ rows. IfSome (R.remaining source) (λ bytes. rows_of bytes ty.now ≡ Ok rows)) }
-    ensures fault { IfErr result (λ e. e ≢ RowFault.Memory → IfSome (R.remaining source) (λ bytes. rows_of bytes ty.now ≡ Err e)) }
+    ensures rows { IfOk result (λ rows.
+        IfSome (R.remaining source) (λ bytes. rows_of bytes ty.now ≡ Ok rows)) }
+    ensures fault { IfErr result (λ e. e ≢ RowFault.Memory →
+        IfSome (R.remaining source) (λ bytes. rows_of bytes ty.now ≡ Err e)) }
 {
     let columns = match input_columns(alloc, ty) {
         Ok(columns) => columns,
@@ -65,8 +67,11 @@ fn read_table<R: Read>(
     requires plain { IsPlain reader.old }
     requires fresh { expected_len reader.old ≡ None }
     requires few { length columns.now < 2 ^ 32 }
-    ensures rows { IfOk result (λ rows. IfSome (left_of R.remaining reader.old) (λ records. rows_under columns.now records ≡ Ok rows)) }
-    ensures fault { IfErr result (λ e. e ≢ RowFault.Memory → IfSome (left_of R.remaining reader.old) (λ records. rows_under columns.now records ≡ Err e)) }
+    ensures rows { IfOk result (λ rows. IfSome (left_of R.remaining reader.old)
+        (λ records. rows_under columns.now records ≡ Ok rows)) }
+    ensures fault { IfErr result (λ e. e ≢ RowFault.Memory →
+        IfSome (left_of R.remaining reader.old)
+        (λ records. rows_under columns.now records ≡ Err e)) }
 {
     let mut fields = ByteRecord::new(alloc);
     match next_record(reader, &mut fields)? {
@@ -120,8 +125,10 @@ fn read_row(
     fields: &ByteRecord,
 ) -> Result<Value, RowFault>
     requires { length columns.now < 2 ^ 32 }
-    ensures value { IfOk result (λ value. row_at row columns.now (fields_of fields.now) ≡ Ok value) }
-    ensures fault { IfErr result (λ e. e ≢ RowFault.Memory → row_at row columns.now (fields_of fields.now) ≡ Err e) }
+    ensures value { IfOk result (λ value.
+        row_at row columns.now (fields_of fields.now) ≡ Ok value) }
+    ensures fault { IfErr result (λ e. e ≢ RowFault.Memory →
+        row_at row columns.now (fields_of fields.now) ≡ Err e) }
 {
     if fields.len() != columns.len() {
         return Err(RowFault::bad(row, 0, RowKind::Width));
@@ -148,7 +155,8 @@ fn read_cell(
     field: &[u8],
 ) -> Result<Value, RowFault>
     ensures value { IfOk result (λ value. cell_at row column kind field.now ≡ Ok value) }
-    ensures fault { IfErr result (λ e. e ≢ RowFault.Memory → cell_at row column kind field.now ≡ Err e) }
+    ensures fault { IfErr result (λ e. e ≢ RowFault.Memory →
+        cell_at row column kind field.now ≡ Err e) }
 {
     match kind {
         ColumnKind::Int => match int_of(field) {

@@ -2,7 +2,7 @@
 
 ghost use Rattle.std.specs.Prelude.{IfOk, IsOkUnless};
 ghost use Rattle.csv.specs.Records.{fields_of};
-ghost use Rattle.csv_rows.specs.Records.{IsPlain, TakesNext};
+ghost use Rattle.csv_rows.specs.inner.Readers.{IsPlain, TakesNext};
 
 use crate::fault::RowFault;
 use csv::{ByteRecord, ErrorKind, Reader};
@@ -22,7 +22,8 @@ pub enum Next {
 /// The next record of a reader, into `row`.
 pub fn next_record<R: Read>(reader: &mut Reader<R>, row: &mut ByteRecord) -> Result<Next, RowFault>
     requires { IsPlain reader.old }
-    ensures took { IfOk result (λ next. TakesNext R.remaining reader.old reader.new (fields_of row.new) next) }
+    ensures took { IfOk result (λ next.
+        TakesNext R.remaining reader.old reader.new (fields_of row.new) next) }
     ensures memory { IsOkUnless result RowFault.Memory }
 {
     match reader.read_byte_record(row) {

@@ -3,20 +3,19 @@
 ghost use Rattle.std.specs.Prelude.{◌≡◌, ◌++◌, ◌∷◌, [], length, map, IfOk, IsSome, IsTrue, OnOk};
 ghost use Rattle.std.specs.Io.KnownBytes.{Appends};
 ghost use Rattle.std.specs.List.{All};
-ghost use Rattle.std.specs.List.Sorted.{IsSorted};
 ghost use Rattle.csv.specs.Records.{fields_of, partial_of};
 ghost use Rattle.csv.specs.Writing.{row_text, text_written};
 ghost use Rattle.flume_value.specs.Bag.{bag_of};
-ghost use Rattle.flume_value.specs.Order.{value_cmp};
 ghost use Rattle.flume_value.specs.declared.value.Value.{out-Value};
 ghost use Rattle.flume_types.specs.Cells.{cells_of, field_cells};
 ghost use Rattle.flume_types.specs.Columns.{columns_of};
 ghost use Rattle.flume_types.specs.Typing.{has_type};
-ghost use Rattle.csv_rows.specs.Text.{IsFresh, cell_text, plain_writer, table_text, text_of};
+ghost use Rattle.csv_rows.specs.Text.{cell_text, plain_writer, table_text, text_of};
+ghost use Rattle.csv_rows.specs.inner.Writers.{IsFresh};
 
 use csv::{ByteRecord, Writer, WriterBuilder};
 use flume_types::{Column, ColumnFault, Ty, columns};
-use flume_value::{Items, Value, sorted};
+use flume_value::{Items, Value};
 use itoa::Buffer;
 use std::alloc::{AllocError, Global};
 use std::io::Write;
@@ -24,20 +23,29 @@ use std::io::Write;
 /// The sorted text of a bag of values of a flat type.
 ///
 /// Its header is the names of the type's columns, and its rows are the values in ascending order,
-/// equal ones repeated, as `csv` writes them. The values are sorted in place and dropped.
-pub fn text(alloc: Global, values: Items, ty: &Ty) -> Result<Vec<u8>, AllocError>
+/// equal ones repeated, as `csv` writes them. The values stay as they are: references are sorted.
+pub fn text(alloc: Global, values: &Items, ty: &Ty) -> Result<Vec<u8>, AllocError>
     requires flat { IsSome (columns_of ty.now) }
-    requires typed { All (λ value. IsTrue (has_type value ty.now)) values }
-    ensures { IfOk result (λ text. text.items ≡ text_of (bag_of values) ty.now) }
+    requires typed { All (λ value. IsTrue (has_type value ty.now)) values.now }
+    ensures { IfOk result (λ text. text.items ≡ text_of (bag_of values.now) ty.now) }
 {
-    let bag = sorted(values.into_vec())?;
-    bag_text(alloc, bag.as_slice(), ty)
+    let bag = ascending(alloc, values.as_slice())?;
+    bag_text(alloc, &bag, ty)
+}
+
+/// The values in ascending order.
+fn ascending(alloc: Global, values: &[Value]) -> Result<Vec<&Value>, AllocError>
+    ensures { IfOk result (λ bag. map (λ value. value.now) bag.items ≡ bag_of values.now) }
+{
+    let mut bag: Vec<&Value> = values.iter().collect(alloc)?;
+    bag.sort_unstable();
+    Ok(bag)
 }
 
 /// The sorted text of a bag of values of a flat type, which stand in ascending order.
-fn bag_text(alloc: Global, bag: &[Value], ty: &Ty) -> Result<Vec<u8>, AllocError>
+fn bag_text(alloc: Global, bag: &[&Value], ty: &Ty) -> Result<Vec<u8>, AllocError>
     requires { IsSome (columns_of ty.now) }
-    ensures { IfOk result (λ text. text.items ≡ text_of bag.now ty.now) }
+    ensures { IfOk result (λ text. text.items ≡ text_of (map (λ value. value.now) bag.now) ty.now) }
 {
     match columns(alloc, ty) {
         Ok(columns) => write_table(alloc, columns.as_slice(), bag),
@@ -47,8 +55,9 @@ fn bag_text(alloc: Global, bag: &[Value], ty: &Ty) -> Result<Vec<u8>, AllocError
 }
 
 /// The text of a header and of a row for each value, in this order.
-fn write_table(alloc: Global, columns: &[Column], values: &[Value]) -> Result<Vec<u8>, AllocError>
-    ensures { IfOk result (λ text. text.items ≡ table_text columns.now values.now) }
+fn write_table(alloc: Global, columns: &[Column], values: &[&Value]) -> Result<Vec<u8>, AllocError>
+    ensures { IfOk result (λ text.
+        text.items ≡ table_text columns.now (map (λ value. value.now) values.now)) }
 {
     let mut writer = WriterBuilder::new()
         .has_headers(false)
@@ -70,7 +79,8 @@ fn write_table(alloc: Global, columns: &[Column], values: &[Value]) -> Result<Ve
 /// Writes a record. With rows of one length, csv refuses only for memory.
 fn write_row<W: Write + Drop>(writer: &mut Writer<W>, row: &ByteRecord) -> Result<(), AllocError>
     requires { IsFresh writer.old }
-    ensures bytes { OnOk result (Appends (text_written W.contents writer.old) (text_written W.contents writer.new) (row_text plain_writer (fields_of row.now))) }
+    ensures bytes { OnOk result (Appends (text_written W.contents writer.old)
+        (text_written W.contents writer.new) (row_text plain_writer (fields_of row.now))) }
     ensures fresh { OnOk result (IsFresh writer.new) }
 {
     match writer.write_byte_record(row) {
@@ -93,7 +103,8 @@ fn put_names(row: &mut ByteRecord, columns: &[Column]) -> Result<(), AllocError>
 /// Puts the cells of a value last in a record.
 fn put_row(row: &mut ByteRecord, value: &Value) -> Result<(), AllocError>
     requires { partial_of row.old ≡ [] }
-    ensures fields { OnOk result (fields_of row.new ≡ fields_of row.old ++ map cell_text (cells_of value.now)) }
+    ensures fields { OnOk result
+        (fields_of row.new ≡ fields_of row.old ++ map cell_text (cells_of value.now)) }
     ensures partial { OnOk result (partial_of row.new ≡ []) }
 {
     match value {
@@ -110,7 +121,8 @@ fn put_row(row: &mut ByteRecord, value: &Value) -> Result<(), AllocError>
 /// Puts the cells of a record's field last in a record.
 fn put_field(row: &mut ByteRecord, part: &Value) -> Result<(), AllocError>
     requires { partial_of row.old ≡ [] }
-    ensures fields { OnOk result (fields_of row.new ≡ fields_of row.old ++ map cell_text (field_cells part.now (out-Value part.now))) }
+    ensures fields { OnOk result (fields_of row.new ≡
+        fields_of row.old ++ map cell_text (field_cells part.now (out-Value part.now))) }
     ensures partial { OnOk result (partial_of row.new ≡ []) }
 {
     match part {
@@ -127,7 +139,8 @@ fn put_field(row: &mut ByteRecord, part: &Value) -> Result<(), AllocError>
 /// Puts what a cell shows last in a record.
 fn put_cell(row: &mut ByteRecord, cell: &Value) -> Result<(), AllocError>
     requires { partial_of row.old ≡ [] }
-    ensures fields { OnOk result (fields_of row.new ≡ fields_of row.old ++ cell_text cell.now ∷ []) }
+    ensures fields { OnOk result
+        (fields_of row.new ≡ fields_of row.old ++ cell_text cell.now ∷ []) }
     ensures partial { OnOk result (partial_of row.new ≡ []) }
 {
     match cell {

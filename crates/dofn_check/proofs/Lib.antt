@@ -1,6 +1,10 @@
 pub mod FormLemmas
+pub mod WrittenLemmas
+pub mod SlotLemmas
+pub mod SightLemmas
+pub mod NameLemmas
 pub mod PlaceLemmas
-pub mod ValueLemmas
-pub mod ExpressionLemmas
-pub mod RecordLemmas
+pub mod TypeLemmas
+pub mod RightLemmas
 pub mod BodyLemmas
+pub mod FunctionLemmas

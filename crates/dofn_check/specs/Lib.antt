@@ -1,5 +1,9 @@
+pub mod Options
 pub mod Names
+pub mod Types
 pub mod Fields
+pub mod Operators
+pub mod Written
 pub mod Typing
 pub mod Call
-pub mod Resolves
+pub mod inner

@@ -1,92 +1,268 @@
-ghost use Rattle.std.specs.Prelude.{◌≡◌, ◌≢◌, ℕ, false, IfOk, IfErr};
-ghost use Rattle.flume_syntax.specs.declared.tree.Body.TheVariants as parsed;
-ghost use Rattle.dofn_check.specs.Typing.{is_typed, are_typed};
-ghost use Rattle.dofn_check.specs.Resolves.{StatementResolves, BlockResolves, names_of};
+ghost use Rattle.std.specs.Prelude.{◌∷◌, ◌++◌};
+ghost use Rattle.dofn_check.specs.Typing.{unseen as not_seen};
+ghost use Rattle.dofn_check.specs.inner.Sights.{names_of};
+ghost use Rattle.dofn_check.specs.inner.Slots as spec;
+ghost use Rattle.dofn_check.specs.inner.Slots.{Finds, typed, block, placed_of};
 
 use crate::expression::resolve;
-use crate::record::member_of;
+use crate::forms::Typed;
+use crate::names::Names;
+use crate::record::{member_of, sides_of};
 use crate::refusal::Refusal;
 use crate::scope::Scope;
-use dofn_eval::{Block, Stmt};
-use flume_syntax::{Body, Expr};
+use dofn_eval::{Block, Expr as Slots, Stmt};
+use flume_grammar::{Body, Expr};
 use flume_types::{Ty, same_type};
 use flume_value::{Pile, Str};
 use std::alloc::Global;
+
+/// The two blocks of a statement.
+#[derive(Clone, Copy)]
+struct Branches<'a> {
+    first: &'a Pile<Body>,
+    second: &'a Pile<Body>,
+}
+
+/// The names of the contents of an either's sides.
+#[derive(Clone, Copy)]
+struct Sides<'a> {
+    left: &'a Str,
+    right: &'a Str,
+}
 
 /// The block with slots in place of names. `NotAccepted` comes where it is not well typed.
 #[cycle(resolve)]
 pub fn resolve_block<'a>(
     alloc: Global,
-    block: &'a [Body],
+    body: &'a [Body],
+    known: &'a Names,
     scope: &'a Scope<'a>,
     gives: &'a Ty,
 ) -> Result<Block, Refusal>
-    ensures resolved { IfOk result (λ k. BlockResolves block.now (names_of scope.now) k gives.now) }
-    ensures ill_typed { IfErr result (λ f. f ≢ Refusal.Memory → are_typed block.now (names_of scope.now) gives.now ≡ false) }
+    ensures { Finds (λ k. k) result
+        (block (placed_of known.now gives.now) body.now (names_of scope.now)) }
 {
+    let mut names = Names::new(alloc);
     let mut statements = Pile::new(alloc);
-    for statement in block {
-        statements.push(resolve_statement(alloc, statement, scope, gives)?)?;
+    for statement in body {
+        let slots = resolve_statement(alloc, statement, known, &mut names, scope, gives)?;
+        statements.push(slots)?;
     }
     Ok(statements)
 }
 
+// The statement where the block has defined these names; a `let` defines one more.
 #[cycle(resolve)]
-#[tactic(auto, using(crate::proofs::BodyLemmas::statement_rules))]
+#[tactic(auto, using(crate::proofs::SlotLemmas::placed_rules))]
 fn resolve_statement<'a>(
     alloc: Global,
     statement: &'a Body,
-    scope: &'a Scope<'a>,
+    known: &'a Names,
+    names: &mut Names,
+    outer: &'a Scope<'a>,
     gives: &'a Ty,
 ) -> Result<Stmt, Refusal>
-    ensures resolved { IfOk result (λ k. StatementResolves statement.now (names_of scope.now) k gives.now) }
-    ensures ill_typed { IfErr result (λ f. f ≢ Refusal.Memory → is_typed statement.now (names_of scope.now) gives.now ≡ false) }
+    ensures { Finds (λ k. (k, names.new ++ names_of outer.now)) result
+        (placed_of known.now gives.now statement.now (names.old ++ names_of outer.now)) }
 {
     match statement {
-        Body::Emit(_, e) => resolve_emit(alloc, e, scope, gives),
-        Body::For(_, name, list, block) => {
-            resolve_for(alloc, name, list, block.as_slice(), scope, gives)
+        Body::Let(_, name, e) => resolve_let(alloc, name, e, known, names, outer),
+        Body::Emit(_, e) => {
+            let scope = Scope::Block(&*names, &*outer);
+            resolve_emit(alloc, &*e, &*known, &scope, &*gives)
         }
-        _ => Err(Refusal::NotAccepted),
+        Body::If(_, e, a, b) => {
+            let scope = Scope::Block(&*names, &*outer);
+            let blocks = Branches {
+                first: a,
+                second: b,
+            };
+            resolve_if(alloc, &*e, blocks, &*known, &scope, &*gives)
+        }
+        Body::For(_, name, e, body) => {
+            let scope = Scope::Block(&*names, &*outer);
+            resolve_for(alloc, &*name, &*e, &*body, &*known, &scope, &*gives)
+        }
+        Body::Case(_, e, left, a, right, b) => {
+            let scope = Scope::Block(&*names, &*outer);
+            let names = Sides { left, right };
+            let blocks = Branches {
+                first: a,
+                second: b,
+            };
+            resolve_case(alloc, &*e, names, blocks, &*known, &scope, &*gives)
+        }
     }
 }
 
-#[tactic(auto, using(crate::proofs::BodyLemmas::emit_rules))]
+fn resolve_let<'a>(
+    alloc: Global,
+    name: &'a Str,
+    e: &'a Expr,
+    known: &'a Names,
+    names: &mut Names,
+    outer: &'a Scope<'a>,
+) -> Result<Stmt, Refusal>
+    ensures { Finds (λ k. (k, names.new ++ names_of outer.now)) result
+        (spec.let_slots known.now name.now e.now (names.old ++ names_of outer.now)) }
+{
+    let x = new_value(alloc, &*name, &*e, &*known, &Scope::Block(&*names, &*outer))?;
+    let name = name.copy(alloc)?;
+    names.add(name, x.ty)?;
+    Ok(Stmt::Let(x.expr))
+}
+
+// What a name that is not in sight yet is to stand for.
+fn new_value<'a>(
+    alloc: Global,
+    name: &Str,
+    e: &'a Expr,
+    known: &'a Names,
+    scope: &'a Scope<'a>,
+) -> Result<Typed, Refusal>
+    ensures { Finds typed result (spec.new_value known.now name.now e.now (names_of scope.now)) }
+{
+    unseen(name, scope)?;
+    resolve(alloc, e, known, scope)
+}
+
 fn resolve_emit<'a>(
     alloc: Global,
     e: &'a Expr,
+    known: &'a Names,
     scope: &'a Scope<'a>,
     gives: &'a Ty,
 ) -> Result<Stmt, Refusal>
-    ensures resolved { IfOk result (λ k. (line : ℕ) → StatementResolves (parsed.Emit line e.now) (names_of scope.now) k gives.now) }
-    ensures ill_typed { IfErr result (λ f. f ≢ Refusal.Memory → (line : ℕ) → is_typed (parsed.Emit line e.now) (names_of scope.now) gives.now ≡ false) }
+    ensures { Finds (λ k. k) result
+        (spec.emit_slots known.now gives.now e.now (names_of scope.now)) }
 {
-    let e = resolve(alloc, e, scope)?;
-    if same_type(&e.ty, gives) {
-        Ok(Stmt::Emit(e.expr))
-    } else {
-        Err(Refusal::NotAccepted)
-    }
+    let e = of_type(alloc, e, gives, known, scope)?;
+    Ok(Stmt::Emit(e))
+}
+
+#[cycle(resolve)]
+fn resolve_if<'a>(
+    alloc: Global,
+    e: &'a Expr,
+    blocks: Branches<'a>,
+    known: &'a Names,
+    scope: &'a Scope<'a>,
+    gives: &'a Ty,
+) -> Result<Stmt, Refusal>
+    ensures { Finds (λ k. k) result (spec.if_slots known.now e.now
+        (block (placed_of known.now gives.now) blocks.entry.first.now)
+        (block (placed_of known.now gives.now) blocks.entry.second.now) (names_of scope.now)) }
+{
+    let test = of_type(alloc, e, &Ty::Bool, known, scope)?;
+    let a = resolve_block(alloc, blocks.first.as_slice(), &*known, &*scope, &*gives)?;
+    let b = resolve_block(alloc, blocks.second.as_slice(), &*known, &*scope, &*gives)?;
+    Ok(Stmt::If(test, a, b))
 }
 
 #[cycle(resolve)]
 fn resolve_for<'a>(
     alloc: Global,
     name: &'a Str,
-    list: &'a Expr,
-    block: &'a [Body],
+    e: &'a Expr,
+    body: &'a Pile<Body>,
+    known: &'a Names,
     scope: &'a Scope<'a>,
     gives: &'a Ty,
 ) -> Result<Stmt, Refusal>
-    ensures resolved { IfOk result (λ k. (line : ℕ) → StatementResolves (parsed.For line name.now list.now block.now) (names_of scope.now) k gives.now) }
-    ensures ill_typed { IfErr result (λ f. f ≢ Refusal.Memory → (line : ℕ) → is_typed (parsed.For line name.now list.now block.now) (names_of scope.now) gives.now ≡ false) }
+    ensures { Finds (λ k. k) result (spec.for_slots known.now name.now e.now
+        (block (placed_of known.now gives.now) body.now) (names_of scope.now)) }
+{
+    let x = new_value(alloc, &*name, &*e, &*known, &*scope)?;
+    let member = member_of(x.ty)?;
+    let turn = resolve_bound(alloc, &*name, &member, &*body, &*known, &*scope, &*gives)?;
+    Ok(Stmt::For(x.expr, turn))
+}
+
+#[cycle(resolve)]
+fn resolve_case<'a>(
+    alloc: Global,
+    e: &'a Expr,
+    names: Sides<'a>,
+    blocks: Branches<'a>,
+    known: &'a Names,
+    scope: &'a Scope<'a>,
+    gives: &'a Ty,
+) -> Result<Stmt, Refusal>
+    ensures { Finds (λ k. k) result (spec.case_slots known.now e.now
+        names.entry.left.now (block (placed_of known.now gives.now) blocks.entry.first.now)
+        names.entry.right.now (block (placed_of known.now gives.now) blocks.entry.second.now)
+        (names_of scope.now)) }
+{
+    let x = resolve(alloc, e, known, scope)?;
+    let sides = sides_of(x.ty)?;
+    unseen(names.left, scope)?;
+    let (left, right) = (&sides.left, &sides.right);
+    let a = resolve_bound(
+        alloc,
+        names.left,
+        left,
+        blocks.first,
+        &*known,
+        &*scope,
+        &*gives,
+    )?;
+    unseen(names.right, scope)?;
+    let b = resolve_bound(
+        alloc,
+        names.right,
+        right,
+        blocks.second,
+        &*known,
+        &*scope,
+        &*gives,
+    )?;
+    Ok(Stmt::Case(x.expr, a, b))
+}
+
+// A block in which one name more is in sight.
+#[cycle(resolve)]
+fn resolve_bound<'a>(
+    alloc: Global,
+    name: &'a Str,
+    ty: &'a Ty,
+    body: &'a Pile<Body>,
+    known: &'a Names,
+    scope: &'a Scope<'a>,
+    gives: &'a Ty,
+) -> Result<Block, Refusal>
+    ensures { Finds (λ k. k) result (block (placed_of known.now gives.now) body.now
+        ((name.now, ty.now) ∷ names_of scope.now)) }
+{
+    let inner = Scope::Bound(&*name, &*ty, &*scope);
+    resolve_block(alloc, body.as_slice(), &*known, &inner, &*gives)
+}
+
+// The slots of an expression of this type.
+fn of_type<'a>(
+    alloc: Global,
+    e: &'a Expr,
+    wanted: &Ty,
+    known: &'a Names,
+    scope: &'a Scope<'a>,
+) -> Result<Slots, Refusal>
+    ensures { Finds (λ k. k) result
+        (spec.slots_as known.now e.now wanted.now (names_of scope.now)) }
+{
+    let x = resolve(alloc, e, known, scope)?;
+    if same_type(&x.ty, wanted) {
+        Ok(x.expr)
+    } else {
+        Err(Refusal::NotAccepted)
+    }
+}
+
+// A name that is not in sight yet.
+fn unseen(name: &Str, scope: &Scope<'_>) -> Result<(), Refusal>
+    ensures { Finds (λ _. tt) result (not_seen name.now (names_of scope.now)) }
 {
     if scope.has(name) {
-        return Err(Refusal::NotAccepted);
+        Err(Refusal::NotAccepted)
+    } else {
+        Ok(())
     }
-    let list = resolve(alloc, list, scope)?;
-    let member = member_of(list.ty)?;
-    let inner = Scope::Bound(&*name, &member, &*scope);
-    let block = resolve_block(alloc, &*block, &inner, &*gives)?;
-    Ok(Stmt::For(list.expr, block))
 }

@@ -1,173 +1,203 @@
-ghost use Rattle.std.specs.Prelude.{◌≡◌, ◌≢◌, Some, None, length, option_map, IfOk, IfErr};
-ghost use Rattle.int_text.specs.Ints.{int_of as int_in};
-ghost use Rattle.flume_syntax.specs.declared.tree.Expr.TheVariants as parsed;
-ghost use Rattle.flume_syntax.specs.declared.tree.Unary.TheVariants as unary;
-ghost use Rattle.dofn_eval.specs.declared.expr.Expr.TheVariants as slots;
-ghost use Rattle.dofn_check.specs.Typing.{type_of, all_types};
-ghost use Rattle.dofn_check.specs.Resolves.{Resolves, PartsResolve, names_of};
+ghost use Rattle.std.specs.Prelude.{[]};
+ghost use Rattle.dofn_check.specs.inner.Sights.{names_of};
+ghost use Rattle.dofn_check.specs.inner.Slots as spec;
+ghost use Rattle.dofn_check.specs.inner.Slots.{Finds, typed, all_typed, slots_of, all_slots};
 
-use crate::names::are_different;
-use crate::record::{fields_of, find_field, shallow};
+use crate::forms::{
+    AllTyped, Typed, binary, empty, field, index, list, number, pick, record, sided, text, unary,
+    variable,
+};
+use crate::names::Names;
+use crate::operator::{Operator, operator_of};
 use crate::refusal::Refusal;
 use crate::scope::Scope;
-use dofn_eval::{Expr as Slots, Unary as Operation};
-use flume_syntax::{Expr, Unary};
-use flume_types::{Field, Fields, Ty, copy, same_type};
-use flume_value::{Held, Pile, Str, Value};
-use int_text::int_of;
+use crate::written::whole_type;
+use dofn_eval::{Binary, Expr as Slots};
+use flume_grammar::{Expr, Side, Type, Unary};
+use flume_types::Ty;
+use flume_value::{Pile, Str, Value};
 use std::alloc::Global;
 
-/// An expression's slots, and its type.
-#[derive(Debug, Drop)]
-pub struct Resolved {
-    pub expr: Slots,
-    pub ty: Ty,
-}
-
-/// The expression with slots in place of names. `NotAccepted` comes where it has no type.
+/// The expression with slots in place of names, where names of types stand for those of `known`.
+/// `NotAccepted` comes where it has no type.
 #[cycle(resolve)]
-#[tactic(auto, using(crate::proofs::ExpressionLemmas::resolve_rules))]
-pub fn resolve<'a>(alloc: Global, e: &'a Expr, scope: &'a Scope<'a>) -> Result<Resolved, Refusal>
-    ensures resolved { IfOk result (λ r. Resolves e.now (names_of scope.now) r.expr r.ty) }
-    ensures untyped { IfErr result (λ f. f ≢ Refusal.Memory → type_of e.now (names_of scope.now) ≡ None) }
+#[tactic(auto, using(crate::proofs::SlotLemmas::slots_rules))]
+pub fn resolve<'a>(
+    alloc: Global,
+    e: &'a Expr,
+    known: &'a Names,
+    scope: &'a Scope<'a>,
+) -> Result<Typed, Refusal>
+    ensures { Finds typed result (slots_of known.now e.now (names_of scope.now)) }
 {
     match e {
-        Expr::Number(digits) => Ok(Resolved {
-            expr: number(digits)?,
-            ty: Ty::Int,
-        }),
-        Expr::Text(text) => Ok(Resolved {
-            expr: Slots::Literal(Value::Text(text.copy(alloc)?)),
-            ty: Ty::Text,
+        Expr::Number(digits) => number(digits),
+        Expr::Text(bytes) => text(alloc, bytes),
+        Expr::Bool(b) => Ok(Typed {
+            expr: Slots::Literal(Value::Bool(*b)),
+            ty: Ty::Bool,
         }),
         Expr::Name(name) => variable(alloc, name, scope),
-        Expr::Field(part, name) => field(alloc, part.get(), name, scope),
-        Expr::Unary(op, part) => unary(alloc, *op, part.get(), scope),
-        Expr::Record(names, parts) => record(alloc, names.as_slice(), parts.as_slice(), scope),
-        _ => Err(Refusal::NotAccepted),
+        Expr::Empty(written) => empty(alloc, written, known),
+        Expr::Unary(op, part) => operated(alloc, *op, part.get(), known, scope),
+        Expr::Field(part, name) => dotted(alloc, part.get(), name, known, scope),
+        Expr::Binary(op, a, b) => two(alloc, operator_of(*op), a.get(), b.get(), known, scope),
+        Expr::Concat(a, b) => {
+            let concat = Operator::Two(Binary::Concat);
+            two(alloc, concat, a.get(), b.get(), known, scope)
+        }
+        Expr::Index(a, b) => indexed(alloc, a.get(), b.get(), known, scope),
+        Expr::Record(names, parts) => recorded(alloc, names, parts, known, scope),
+        Expr::List(parts) => listed(alloc, parts, known, scope),
+        Expr::Side(s, written, part) => one_side(alloc, *s, written, part.get(), known, scope),
+        Expr::Pick(c, a, b) => picked(alloc, c.get(), a.get(), b.get(), known, scope),
     }
 }
 
-fn number(digits: &Str) -> Result<Slots, Refusal>
-    ensures literal { IfOk result (λ k. option_map (λ n. slots.Literal (Value.Int n)) (int_in digits.now) ≡ Some k) }
-    ensures none { IfErr result (λ e. e ≢ Refusal.Memory → int_in digits.now ≡ None) }
-{
-    match int_of(digits.as_bytes()) {
-        Some(n) => Ok(Slots::Literal(Value::Int(n))),
-        None => Err(Refusal::NotAccepted),
-    }
-}
-
-#[tactic(auto, using(crate::proofs::PlaceLemmas::name_rules))]
-fn variable<'a>(alloc: Global, name: &'a Str, scope: &'a Scope<'a>) -> Result<Resolved, Refusal>
-    ensures resolved { IfOk result (λ r. Resolves (parsed.Name name.now) (names_of scope.now) r.expr r.ty) }
-    ensures untyped { IfErr result (λ f. f ≢ Refusal.Memory → type_of (parsed.Name name.now) (names_of scope.now) ≡ None) }
-{
-    let found = scope.find(name)?;
-    Ok(Resolved {
-        expr: Slots::Variable(found.place),
-        ty: copy(alloc, found.ty)?,
-    })
-}
-
 #[cycle(resolve)]
-fn field<'a>(
-    alloc: Global,
-    part: &'a Expr,
-    name: &'a Str,
-    scope: &'a Scope<'a>,
-) -> Result<Resolved, Refusal>
-    ensures resolved { IfOk result (λ r. Resolves (parsed.Field part.now name.now) (names_of scope.now) r.expr r.ty) }
-    ensures untyped { IfErr result (λ f. f ≢ Refusal.Memory → type_of (parsed.Field part.now name.now) (names_of scope.now) ≡ None) }
-{
-    let part = resolve(alloc, part, scope)?;
-    let fields = fields_of(part.ty)?;
-    let at = find_field(name, fields.as_slice())?;
-    Ok(Resolved {
-        expr: Slots::Field(Held::new(alloc, part.expr)?, at.place),
-        ty: copy(alloc, at.ty)?,
-    })
-}
-
-#[cycle(resolve)]
-#[tactic(auto, using(crate::proofs::ExpressionLemmas::unary_rules))]
-fn unary<'a>(
+fn operated<'a>(
     alloc: Global,
     op: Unary,
     part: &'a Expr,
+    known: &'a Names,
     scope: &'a Scope<'a>,
-) -> Result<Resolved, Refusal>
-    ensures resolved { IfOk result (λ r. Resolves (parsed.Unary op part.now) (names_of scope.now) r.expr r.ty) }
-    ensures untyped { IfErr result (λ f. f ≢ Refusal.Memory → type_of (parsed.Unary op part.now) (names_of scope.now) ≡ None) }
+) -> Result<Typed, Refusal>
+    ensures { Finds typed result
+        (spec.unary_slots (slots_of known.now) op part.now (names_of scope.now)) }
 {
-    match op {
-        Unary::Words => words(alloc, part, scope),
-        _ => Err(Refusal::NotAccepted),
-    }
+    let x = resolve(alloc, part, known, scope)?;
+    unary(alloc, op, x)
 }
 
 #[cycle(resolve)]
-#[tactic(auto, using(crate::proofs::ExpressionLemmas::words_rules))]
-fn words<'a>(alloc: Global, part: &'a Expr, scope: &'a Scope<'a>) -> Result<Resolved, Refusal>
-    ensures resolved { IfOk result (λ r. Resolves (parsed.Unary unary.Words part.now) (names_of scope.now) r.expr r.ty) }
-    ensures untyped { IfErr result (λ f. f ≢ Refusal.Memory → type_of (parsed.Unary unary.Words part.now) (names_of scope.now) ≡ None) }
-{
-    let text = resolve(alloc, part, scope)?;
-    if !same_type(&text.ty, &Ty::Text) {
-        return Err(Refusal::NotAccepted);
-    }
-    Ok(Resolved {
-        expr: Slots::Unary(Operation::Words, Held::new(alloc, text.expr)?),
-        ty: Ty::List(Held::new(alloc, Ty::Text)?),
-    })
-}
-
-#[cycle(resolve)]
-#[tactic(auto, using(crate::proofs::RecordLemmas::record_rules))]
-fn record<'a>(
+fn dotted<'a>(
     alloc: Global,
-    names: &'a [Str],
-    parts: &'a [Expr],
+    part: &'a Expr,
+    name: &'a Str,
+    known: &'a Names,
     scope: &'a Scope<'a>,
-) -> Result<Resolved, Refusal>
-    ensures resolved { IfOk result (λ r. Resolves (parsed.Record names.now parts.now) (names_of scope.now) r.expr r.ty) }
-    ensures untyped { IfErr result (λ f. f ≢ Refusal.Memory → type_of (parsed.Record names.now parts.now) (names_of scope.now) ≡ None) }
+) -> Result<Typed, Refusal>
+    ensures { Finds typed result
+        (spec.field_slots (slots_of known.now) part.now name.now (names_of scope.now)) }
 {
-    if names.len() != parts.len() || !are_different(names) {
-        return Err(Refusal::NotAccepted);
-    }
-    let parts = resolve_parts(alloc, names, parts, scope)?;
-    Ok(Resolved {
-        expr: Slots::Record(parts.exprs),
-        ty: shallow(Ty::Rec(parts.fields))?,
-    })
-}
-
-/// The slots of a record's parts, and the fields of its type.
-#[derive(Debug, Drop)]
-struct Parts {
-    exprs: Pile<Slots>,
-    fields: Fields,
+    let x = resolve(alloc, part, known, scope)?;
+    field(alloc, x, name)
 }
 
 #[cycle(resolve)]
-fn resolve_parts<'a>(
+fn recorded<'a>(
     alloc: Global,
-    names: &'a [Str],
-    parts: &'a [Expr],
+    names: &'a Pile<Str>,
+    parts: &'a Pile<Expr>,
+    known: &'a Names,
     scope: &'a Scope<'a>,
-) -> Result<Parts, Refusal>
-    requires paired { length names.now ≡ length parts.now }
-    ensures resolved { IfOk result (λ p. PartsResolve names.now parts.now (names_of scope.now) p.exprs p.fields) }
-    ensures untyped { IfErr result (λ f. f ≢ Refusal.Memory → all_types type_of parts.now (names_of scope.now) ≡ None) }
+) -> Result<Typed, Refusal>
+    ensures { Finds typed result
+        (spec.record_slots (slots_of known.now) names.now parts.now (names_of scope.now)) }
+{
+    let all = resolve_all(alloc, parts.as_slice(), known, scope)?;
+    record(alloc, names.as_slice(), all)
+}
+
+#[cycle(resolve)]
+fn listed<'a>(
+    alloc: Global,
+    parts: &'a Pile<Expr>,
+    known: &'a Names,
+    scope: &'a Scope<'a>,
+) -> Result<Typed, Refusal>
+    ensures { Finds typed result
+        (spec.list_slots (slots_of known.now) parts.now (names_of scope.now)) }
+{
+    let all = resolve_all(alloc, parts.as_slice(), known, scope)?;
+    list(alloc, all)
+}
+
+#[cycle(resolve)]
+fn two<'a>(
+    alloc: Global,
+    op: Operator,
+    a: &'a Expr,
+    b: &'a Expr,
+    known: &'a Names,
+    scope: &'a Scope<'a>,
+) -> Result<Typed, Refusal>
+    ensures { Finds typed result
+        (spec.two_slots (slots_of known.now) op a.now b.now (names_of scope.now)) }
+{
+    let x = resolve(alloc, a, known, scope)?;
+    let y = resolve(alloc, b, known, scope)?;
+    binary(alloc, op, x, y)
+}
+
+#[cycle(resolve)]
+fn indexed<'a>(
+    alloc: Global,
+    a: &'a Expr,
+    b: &'a Expr,
+    known: &'a Names,
+    scope: &'a Scope<'a>,
+) -> Result<Typed, Refusal>
+    ensures { Finds typed result
+        (spec.index_slots (slots_of known.now) a.now b.now (names_of scope.now)) }
+{
+    let x = resolve(alloc, a, known, scope)?;
+    let y = resolve(alloc, b, known, scope)?;
+    index(alloc, x, y)
+}
+
+#[cycle(resolve)]
+fn one_side<'a>(
+    alloc: Global,
+    s: Side,
+    written: &'a Type,
+    part: &'a Expr,
+    known: &'a Names,
+    scope: &'a Scope<'a>,
+) -> Result<Typed, Refusal>
+    ensures { Finds typed result
+        (spec.side_slots known.now (slots_of known.now) s written.now part.now
+        (names_of scope.now)) }
+{
+    let other = whole_type(alloc, written, known)?;
+    let x = resolve(alloc, part, known, scope)?;
+    sided(alloc, s, other, x)
+}
+
+#[cycle(resolve)]
+fn picked<'a>(
+    alloc: Global,
+    c: &'a Expr,
+    a: &'a Expr,
+    b: &'a Expr,
+    known: &'a Names,
+    scope: &'a Scope<'a>,
+) -> Result<Typed, Refusal>
+    ensures { Finds typed result
+        (spec.pick_slots (slots_of known.now) c.now a.now b.now (names_of scope.now)) }
+{
+    let test = resolve(alloc, c, known, scope)?;
+    let x = resolve(alloc, a, known, scope)?;
+    let y = resolve(alloc, b, known, scope)?;
+    pick(alloc, test, x, y)
+}
+
+#[cycle(resolve)]
+fn resolve_all<'a>(
+    alloc: Global,
+    parts: &'a [Expr],
+    known: &'a Names,
+    scope: &'a Scope<'a>,
+) -> Result<AllTyped, Refusal>
+    ensures { Finds all_typed result
+        (all_slots (slots_of known.now) parts.now (names_of scope.now) [] []) }
 {
     let mut exprs = Pile::new(alloc);
-    let mut fields = Pile::new(alloc);
-    for i in 0..parts.len() {
-        let part = resolve(alloc, &parts[i], scope)?;
-        let name = names[i].copy(alloc)?;
-        exprs.push(part.expr)?;
-        fields.push(Field { name, ty: part.ty })?;
+    let mut types = Pile::new(alloc);
+    for part in parts {
+        let x = resolve(alloc, part, known, scope)?;
+        exprs.push(x.expr)?;
+        types.push(x.ty)?;
     }
-    Ok(Parts { exprs, fields })
+    Ok(AllTyped { exprs, types })
 }

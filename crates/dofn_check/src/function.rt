@@ -4,13 +4,14 @@ ghost use Rattle.dofn_eval.specs.Typed.{Has};
 ghost use Rattle.dofn_eval.specs.Run.{means as slots_mean};
 ghost use Rattle.dofn_check.specs.Typing.{are_typed};
 ghost use Rattle.dofn_check.specs.Call.{means};
-ghost use Rattle.dofn_check.specs.Resolves.{BlockResolves};
+ghost use Rattle.dofn_check.specs.inner.Slots.{Finds, block, placed_of};
 
 use crate::body::resolve_block;
+use crate::names::Names;
 use crate::refusal::Refusal;
 use crate::scope::Scope;
 use dofn_eval::{Block, Fun};
-use flume_syntax::Body;
+use flume_grammar::Body;
 use flume_types::Ty;
 use flume_value::Str;
 use std::alloc::Global;
@@ -27,11 +28,19 @@ pub fn check_function(
 ) -> Result<Fun, Refusal>
     ensures takes { IfOk result (λ f. f.takes ≡ takes) }
     ensures gives { IfOk result (λ f. f.gives ≡ gives) }
-    ensures typed { IfOk result (λ f. are_typed body.now ((argument.now, takes) ∷ []) gives ≡ true) }
-    ensures ill_typed { (result ≡ Err Refusal.NotAccepted) → are_typed body.now ((argument.now, takes) ∷ []) gives ≡ false }
+    ensures typed { IfOk result (λ f.
+        are_typed body.now ((argument.now, takes) ∷ []) gives ≡ true) }
+    ensures ill_typed { (result ≡ Err Refusal.NotAccepted) →
+        are_typed body.now ((argument.now, takes) ∷ []) gives ≡ false }
     // A call of it means what the body means, where names stand for values.
     ensures same { IfOk result (λ f. (name : List ℕ) (x : Value_) → Has takes x →
-        means (record { name = name; argument = argument.now; takes = takes; gives = gives; body = body.now }) x ≡ slots_mean f.body x) }
+        means (record {
+          name = name;
+          argument = argument.now;
+          takes = takes;
+          gives = gives;
+          body = body.now;
+        }) x ≡ slots_mean f.body x) }
 {
     let block = block_of(alloc, argument, &takes, &gives, body)?;
     Ok(Fun::new(takes, gives, block))
@@ -44,10 +53,11 @@ fn block_of<'a>(
     gives: &'a Ty,
     body: &'a [Body],
 ) -> Result<Block, Refusal>
-    ensures resolved { IfOk result (λ k. BlockResolves body.now ((argument.now, takes.now) ∷ []) k gives.now) }
-    ensures ill_typed { IfErr result (λ f. f ≢ Refusal.Memory → are_typed body.now ((argument.now, takes.now) ∷ []) gives.now ≡ false) }
+    ensures { Finds (λ k. k) result
+        (block (placed_of [] gives.now) body.now ((argument.now, takes.now) ∷ [])) }
 {
+    let known = Names::new(alloc);
     let end = Scope::Empty;
     let scope = Scope::Bound(&*argument, &*takes, &end);
-    resolve_block(alloc, &*body, &scope, &*gives)
+    resolve_block(alloc, &*body, &known, &scope, &*gives)
 }

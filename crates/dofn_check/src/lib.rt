@@ -8,15 +8,20 @@
 #![tactic(auto)]
 
 mod body;
+mod different;
 mod expression;
+mod forms;
 mod function;
+mod laws;
 mod names;
+mod operator;
 mod record;
 mod refusal;
 mod scope;
-#[cfg(test)]
-mod tests;
+mod types;
+mod written;
 
+pub use different::are_different;
 pub use function::check_function;
-pub use names::are_different;
+pub use laws::call_law;
 pub use refusal::Refusal;

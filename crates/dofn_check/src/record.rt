@@ -1,40 +1,30 @@
-ghost use Rattle.std.specs.Prelude.{◌≡◌, ◌≢◌, Some, None, IfOk, IfErr};
-ghost use Rattle.flume_types.specs.declared.types.Ty.TheVariants as ty_;
-ghost use Rattle.dofn_check.specs.Fields.{record_fields, member_type, type_under};
-ghost use Rattle.dofn_check.specs.Typing.{shallow as shallow_type};
-ghost use Rattle.dofn_check.specs.Resolves.{field_at};
+ghost use Rattle.std.specs.Prelude.{◌≡◌, ◌≢◌, ℕ, IfOk};
+ghost use Rattle.dofn_check.specs.Fields as spec;
+ghost use Rattle.dofn_check.specs.Fields.{field_at, record_of};
+ghost use Rattle.dofn_check.specs.Types.{shallow as shallow_type};
+ghost use Rattle.dofn_check.specs.inner.Places.{place};
+ghost use Rattle.dofn_check.specs.inner.Slots.{Finds};
 
+use crate::different::are_different;
+use crate::names::Found;
 use crate::refusal::Refusal;
-use crate::scope::Found;
 use flume_types::{Field, Fields, Ty, depth};
-use flume_value::Str;
+use flume_value::{Pile, Str};
+use std::alloc::{AllocError, Global};
 
-/// The fields of a record type. `NotAccepted` comes where it is another type.
-pub fn fields_of(ty: Ty) -> Result<Fields, Refusal>
-    ensures fields { IfOk result (λ fields. ty ≡ ty_.Rec fields) }
-    ensures none { IfErr result (λ e. e ≢ Refusal.Memory → record_fields ty ≡ None) }
+/// Where the field of a name stands in a record. `NotAccepted` comes where the type is no record,
+/// or has no such field.
+pub fn place_under<'a>(name: &Str, ty: &'a Ty) -> Result<Found<'a>, Refusal>
+    ensures { Finds place result (spec.place_under name.now ty.now) }
 {
     match ty {
-        Ty::Rec(fields) => Ok(fields),
+        Ty::Rec(fields) => find_field(name, fields.as_slice()),
         _ => Err(Refusal::NotAccepted),
     }
 }
 
-/// The type of the members of a list type. `NotAccepted` comes where it is another type.
-pub fn member_of(ty: Ty) -> Result<Ty, Refusal>
-    ensures member { IfOk result (λ member. ty ≡ ty_.List member) }
-    ensures none { IfErr result (λ e. e ≢ Refusal.Memory → member_type ty ≡ None) }
-{
-    match ty {
-        Ty::List(member) => Ok(member.into_inner()),
-        _ => Err(Refusal::NotAccepted),
-    }
-}
-
-/// Where the field of a name stands. `NotAccepted` comes where the record has none.
-pub fn find_field<'a>(name: &Str, fields: &'a [Field<Ty>]) -> Result<Found<'a>, Refusal>
-    ensures found { IfOk result (λ f. field_at name.now 0 fields.now ≡ Some (f.place, f.ty.now)) }
-    ensures none { IfErr result (λ e. e ≢ Refusal.Memory → type_under name.now fields.now ≡ None) }
+fn find_field<'a>(name: &Str, fields: &'a [Field<Ty>]) -> Result<Found<'a>, Refusal>
+    ensures { Finds place result (field_at name.now 0 fields.now) }
 {
     for place in 0..fields.len() {
         let field = &fields[place];
@@ -48,14 +38,70 @@ pub fn find_field<'a>(name: &Str, fields: &'a [Field<Ty>]) -> Result<Found<'a>, 
     Err(Refusal::NotAccepted)
 }
 
+/// The type of the members of a list type. `NotAccepted` comes where it is another type.
+pub fn member_of(ty: Ty) -> Result<Ty, Refusal>
+    ensures { Finds (λ member. member) result (spec.member_type ty) }
+{
+    match ty {
+        Ty::List(member) => Ok(member.into_inner()),
+        _ => Err(Refusal::NotAccepted),
+    }
+}
+
+/// The types of an either's sides.
+#[derive(Debug, Drop)]
+pub struct Sides {
+    pub left: Ty,
+    pub right: Ty,
+}
+
+/// The types of the sides of an either. `NotAccepted` comes where it is another type.
+pub fn sides_of(ty: Ty) -> Result<Sides, Refusal>
+    ensures { Finds (λ sides. (sides.left, sides.right)) result (spec.side_types ty) }
+{
+    match ty {
+        Ty::Either(left, right) => Ok(Sides {
+            left: left.into_inner(),
+            right: right.into_inner(),
+        }),
+        _ => Err(Refusal::NotAccepted),
+    }
+}
+
 /// The type, where it is at most 8 deep. `NotAccepted` comes where it is deeper.
 pub fn shallow(ty: Ty) -> Result<Ty, Refusal>
-    ensures is { IfOk result (λ t. (t ≡ ty) × (shallow_type ty ≡ Some ty)) }
-    ensures deep { IfErr result (λ e. e ≢ Refusal.Memory → shallow_type ty ≡ None) }
+    ensures { Finds (λ t. t) result (shallow_type ty) }
 {
     if depth(&ty) <= 8 {
         Ok(ty)
     } else {
         Err(Refusal::NotAccepted)
     }
+}
+
+/// The record of these types under as many names, each another.
+pub fn record(alloc: Global, names: &[Str], types: Pile<Ty>) -> Result<Ty, Refusal>
+    ensures { Finds (λ t. t) result (record_of names.now types) }
+{
+    if names.len() != types.len() || !are_different(names) {
+        return Err(Refusal::NotAccepted);
+    }
+    let fields = fields_of(alloc, names, types)?;
+    Ok(Ty::Rec(fields))
+}
+
+/// Fields of these names and types, in order.
+fn fields_of(alloc: Global, names: &[Str], types: Pile<Ty>) -> Result<Fields, AllocError>
+    ensures { IfOk result (λ all. all ≡ spec.fields_of names.now types) }
+{
+    let mut all = Vec::with_capacity(alloc, names.len())?;
+    let mut types = types.into_vec().into_iter();
+    for name in names {
+        let Some(ty) = types.next() else {
+            return Ok(Pile::from_vec(all));
+        };
+        let name = name.copy(alloc)?;
+        all.push(Field { name, ty })?;
+    }
+    Ok(Pile::from_vec(all))
 }

@@ -1,7 +1,10 @@
-ghost use Rattle.std.specs.Prelude.{◌≡◌, ◌≢◌, Some, None, is_some, IfOk, IfErr};
+ghost use Rattle.std.specs.Prelude.{◌≡◌, Some, is_some};
 ghost use Rattle.dofn_check.specs.Names.{look};
-ghost use Rattle.dofn_check.specs.Resolves.{place_in, names_of};
+ghost use Rattle.dofn_check.specs.inner.Places.{place};
+ghost use Rattle.dofn_check.specs.inner.Sights.{further, place_in, names_of};
+ghost use Rattle.dofn_check.specs.inner.Slots.{Finds};
 
+use crate::names::{Found, Names};
 use crate::refusal::Refusal;
 use flume_types::Ty;
 use flume_value::Str;
@@ -12,21 +15,15 @@ pub enum Scope<'a> {
     Empty,
     /// One name more.
     Bound(&'a Str, &'a Ty, &'a Scope<'a>),
-}
-
-/// Where a name or a field stands, and its type.
-#[derive(Clone, Copy)]
-pub struct Found<'a> {
-    /// How many newer names there are, or fields before it.
-    pub place: usize,
-    pub ty: &'a Ty,
+    /// The names that a block has defined so far.
+    Block(&'a Names, &'a Scope<'a>),
 }
 
 impl<'a> Scope<'a> {
     /// Where the newest of a name stands. `NotAccepted` comes where the name is not in sight.
+    #[tactic(auto, using(crate::proofs::SightLemmas::sight_rules))]
     pub fn find(&'a self, name: &Str) -> Result<Found<'a>, Refusal>
-        ensures found { IfOk result (λ f. place_in name.now (names_of self.now) ≡ Some (f.place, f.ty.now)) }
-        ensures unknown { IfErr result (λ e. e ≢ Refusal.Memory → look name.now (names_of self.now) ≡ None) }
+        ensures { Finds place result (place_in name.now (names_of self.now)) }
     {
         match self {
             Scope::Empty => Err(Refusal::NotAccepted),
@@ -35,23 +32,41 @@ impl<'a> Scope<'a> {
                     Ok(Found { place: 0, ty })
                 } else {
                     let found = rest.find(name)?;
-                    let place = found.place.checked_add(1).ok_or(Refusal::Memory)?;
-                    Ok(Found {
-                        place,
-                        ty: found.ty,
-                    })
+                    behind(1, found)
                 }
             }
+            Scope::Block(newer, rest) => match newer.find(name) {
+                Some(found) => Ok(found),
+                None => {
+                    let found = rest.find(name)?;
+                    behind(newer.len(), found)
+                }
+            },
         }
     }
 
     /// Whether a name is in sight.
+    #[tactic(auto, using(crate::proofs::SightLemmas::sight_rules))]
     pub fn has(&self, name: &Str) -> bool
         ensures { result ≡ is_some (look name.now (names_of self.now)) }
     {
         match self {
             Scope::Empty => false,
             Scope::Bound(other, _, rest) => name.is(other.as_bytes()) || rest.has(name),
+            Scope::Block(newer, rest) => newer.get(name).is_some() || rest.has(name),
         }
+    }
+}
+
+// The same place, so many places further.
+fn behind<'a>(newer: usize, found: Found<'a>) -> Result<Found<'a>, Refusal>
+    ensures { Finds place result (further newer (Some (place found.entry))) }
+{
+    match found.place.checked_add(newer) {
+        Some(place) => Ok(Found {
+            place,
+            ty: found.ty,
+        }),
+        None => Err(Refusal::Memory),
     }
 }

@@ -1,5 +1,5 @@
 ghost use Rattle.std.specs.Prelude.{◌≡◌, IfOk, IfErr};
-ghost use Rattle.dofn_eval.specs.Typed.{Has, EachHas};
+ghost use Rattle.flume_types.specs.Typing.{Has, AllHave};
 ghost use Rattle.dofn_eval.specs.Outcome.{Gives, IsFault};
 ghost use Rattle.dofn_eval.specs.Run.{means};
 
@@ -15,7 +15,7 @@ pub fn call(alloc: Global, f: &Fun, x: &Value) -> Result<Items, CallFault>
     requires { Has f.now.takes x.now }
     ensures ok { IfOk result (λ emissions. means f.now.body x.now ≡ Gives emissions) }
     ensures trap { IfErr result (λ fault. IsFault (means f.now.body x.now) fault) }
-    ensures typed { IfOk result (λ emissions. EachHas f.now.gives emissions) }
+    ensures typed { IfOk result (λ emissions. AllHave f.now.gives emissions) }
 {
     let end = Scope::Empty;
     let scope = Scope::Bound(x, &end);

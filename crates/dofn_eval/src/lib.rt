@@ -14,17 +14,15 @@ mod evaluate;
 mod expr;
 mod fun;
 mod laws;
+mod operand;
 mod parts;
 mod scope;
-mod seen;
 mod statements;
 mod stmt;
-#[cfg(test)]
-mod tests;
 mod words;
 
 pub use calls::call;
 pub use expr::{Arithmetic, Binary, Comparison, Expr, Unary};
 pub use fun::Fun;
-pub use laws::{expression_law, statement_law, words_law};
+pub use laws::{call_law, expression_law, statement_law};
 pub use stmt::{Block, Stmt};

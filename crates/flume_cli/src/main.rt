@@ -1,21 +1,10 @@
-//! The program `flume`: the top call over the files of the system and the standard output.
-//!
-//! `FileSource`, `FileShelf` and `OutputScreen` are the real source, shelf and screen. They tell
-//! nothing of what they hold, and count their failures. The hosts are sixteen calm ones.
+//! The program `flume`: the top call over the files of the system and the standard output. Its
+//! hosts are sixteen calm ones.
 #![tactic(auto)]
-
-mod faults;
-mod screen;
-mod shelf;
-mod source;
-#[cfg(test)]
-mod tests;
 
 use flume_run::{Status, flume};
 use outside::{CalmHost, say};
-use screen::OutputScreen;
-use shelf::FileShelf;
-use source::FileSource;
+use real_outside::{FileShelf, FileSource, OutputScreen};
 use std::env::Env;
 use std::io::ErrorKind;
 use std::process::ExitCode;

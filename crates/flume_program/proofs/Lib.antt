@@ -1,3 +1,10 @@
+pub mod OptionLemmas
 pub mod WrittenLemmas
 pub mod NameLemmas
-pub mod ScriptLemmas
+pub mod FunctionLemmas
+pub mod WellFormedLemmas
+pub mod NeededLemmas
+pub mod DoneLemmas
+pub mod ProgramLemmas
+pub mod FileLemmas
+pub mod AcceptedLemmas

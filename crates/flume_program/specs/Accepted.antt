@@ -1,50 +1,53 @@
 -- What the checker answers: the program that an accepted script is.
-use Rattle.std.specs.Prelude.{◌≡◌, List, Option, Some, None, IsUtf8}
+use Rattle.std.specs.Prelude.{◌≡◌, List, Option, Some, None, IsSome, IsUtf8, ⊤}
 use Rattle.std.specs.List.{All}
 use Rattle.flume_value.specs.declared.value.Value.{Value}
+use Rattle.flume_types.specs.Columns.{columns_of, input_columns_of}
+use Rattle.flume_types.specs.Tables.{table_of}
 use Rattle.flume_types.specs.declared.types.Ty.{Ty}
 use Rattle.flume_types.specs.declared.types.Ty.TheVariants as ty
-use Rattle.flume_types.specs.Tables.{table_of}
 use Rattle.dofn_eval.specs.Typed.{Has}
 use Rattle.dofn_eval.specs.Function.{Function as Slots}
 use Rattle.dofn_eval.specs.Run.{means as slots_mean}
-use Rattle.flume_syntax.specs.declared.tree.Statement.{Statement}
+use Rattle.flume_grammar.specs.Utf8.{IsUtf8Named}
+use Rattle.flume_grammar.specs.declared.tree.Statement.{Statement}
 use Rattle.dofn_check.specs.Call.{Function, means}
-use Rattle.flume_program.specs.Script.{Operation, Input, Do, Group, Combine, Script}
+use Rattle.flume_program.specs.Script.{Script}
 use Rattle.flume_program.specs.Checked.{Rows, one_do, group_and_sum, script_of}
+use Rattle.flume_program.specs.WellFormed.{IsWellTyped}
 use Rattle.flume_program.specs.declared.program.Program.{Program}
 use Rattle.flume_program.specs.declared.program.Sum.{Sum}
 use Rattle.flume_program.specs.declared.program.Input.{Input as Source}
 
--- the file of an input is named in UTF-8, as each text of a script is
-abbrev pub IsFileNamed : Operation → Type 0
-IsFileNamed (Input file type) = IsUtf8 file
-IsFileNamed (Do source function) = Unit {0}
-IsFileNamed (Group source type) = Unit {0}
-IsFileNamed (Combine source combiner type) = Unit {0}
-
 -- the statements are accepted as this script
-pub record IsAccepted (statements : List Statement) (script : Script) : Type 0 where
-  pub checked : script_of statements ≡ Some script
-  pub reads : All (λ node. IsFileNamed node.operation) script.nodes
-  pub writes : All (λ output. IsUtf8 output.file) script.outputs
+abbrev pub IsAccepted : List Statement → Script → Type 0
+IsAccepted statements script = script_of statements ≡ Some script
 
--- The function with slots is the one with names: it has its types, and a call of it means the same.
+-- the statements are accepted as no script
+abbrev pub IsRefused : List Statement → Type 0
+IsRefused statements = (script : Script) → IsAccepted statements script → ⊥
+
+-- The function with slots is the one with names, which is well typed: it has its types, and a call
+-- of it means the same.
 pub record Does (slots : Slots) (function : Function) : Type 0 where
+  pub typed : IsWellTyped function
   pub takes : slots.takes ≡ function.takes
   pub gives : slots.gives ≡ function.gives
   pub means : (x : Value) → Has function.takes x → means function x ≡ slots_mean slots.body x
 
--- the input of a program
-abbrev pub rows_of : Source → Rows
-rows_of input = record { name = input.name; file = input.file; type = input.ty }
+-- the `input` statement of a program's input
+abbrev pub statement_of : Source → Rows
+statement_of input = record { name = input.name; file = input.file; type = input.ty }
 
--- the script is the program's `do` by this function, with the groups and sums of what it makes where it has some
+-- the script is the program's `do` by this function, with the groups and sums of what it makes
+-- where it has some
 abbrev pub IsScriptOf : Option Sum → Program → Function → Script → Type 0
-IsScriptOf None program function script = script ≡ one_do (rows_of program.input) function program.collection program.output_file
+IsScriptOf None program function script =
+    script ≡ one_do (statement_of program.input) function program.collection program.output_file
 IsScriptOf (Some sums) program function script =
     (key : Ty) × (function.gives ≡ table_of key ty.Int)
-    × (script ≡ group_and_sum (rows_of program.input) function program.collection key sums.group sums.name program.output_file)
+    × (script ≡ group_and_sum (statement_of program.input) function program.collection
+    key sums.group sums.name program.output_file)
 
 -- The program is that script, by this function.
 pub record IsProgram (program : Program) (function : Function) (script : Script) : Type 0 where
@@ -52,3 +55,31 @@ pub record IsProgram (program : Program) (function : Function) (script : Script)
   pub named : function.name ≡ program.function
   pub does : Does program.fun function
   pub takes : function.takes ≡ program.input.ty
+
+-- the program is a script as which the statements are accepted
+abbrev pub IsProgramOf : List Statement → Program → Type 0
+IsProgramOf statements program =
+    (function : Function) × (script : Script)
+    × IsAccepted statements script × IsProgram program function script
+
+-- sums, where there are some, are those of a table of ints
+abbrev pub SumsInts : Option Sum → Ty → Type 0
+SumsInts None type = ⊤
+SumsInts (Some sums) type = (key : Ty) × (type ≡ table_of key ty.Int)
+
+-- What a program is ready for: its input can be read, its function called on the rows, what this
+-- makes summed, and its output written.
+pub record IsReady (program : Program) : Type 0 where
+  pub rows : IsSome (input_columns_of program.input.ty)
+  pub takes : program.fun.takes ≡ program.input.ty
+  pub sums : SumsInts program.sum program.fun.gives
+  pub flat : IsSome (columns_of program.fun.gives)
+
+-- each file that the statements name is named in UTF-8, as in each script that is parsed
+abbrev pub AreNamed : List Statement → Type 0
+AreNamed statements = All (λ statement. IsUtf8Named statement.form) statements
+
+-- the files of a program are named in UTF-8
+pub record IsNamed (program : Program) : Type 0 where
+  pub reads : IsUtf8 program.input.file
+  pub writes : IsUtf8 program.output_file

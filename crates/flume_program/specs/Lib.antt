@@ -1,5 +1,9 @@
-pub mod Written
+pub mod Optional
 pub mod Script
+pub mod Combiners
+pub mod WellFormed
+pub mod Needed
+pub mod Written
 pub mod Checked
 pub mod Accepted
-pub mod Parts
+pub mod inner

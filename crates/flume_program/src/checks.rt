@@ -1,12 +1,12 @@
-ghost use Rattle.std.specs.Prelude.{◌≡◌, ◌≢◌, ◌≤◌, length, drop, Some, None, Err, is_some, true, IfOk, IfErr, IsUtf8};
-ghost use Rattle.flume_types.specs.Columns.{columns_of, input_columns_of};
+ghost use Rattle.std.specs.Prelude.{◌≡◌, ◌≤◌, length, drop, IfOk, IsErr, IsErrOf, IsOkUnless};
 ghost use Rattle.dofn_check.specs.Call.{Function as Function_};
 ghost use Rattle.flume_program.specs.Checked as spec;
-ghost use Rattle.flume_program.specs.Script.{Script};
-ghost use Rattle.flume_program.specs.Accepted.{IsAccepted, IsProgram};
 ghost use Rattle.flume_program.specs.Checked.{Done as Done_};
-ghost use Rattle.flume_program.specs.Accepted.{rows_of};
-ghost use Rattle.flume_program.specs.Parts.{IsCalled, FindsDo, Makes, IsNamed, IsReady};
+ghost use Rattle.flume_program.specs.Script.{Script};
+ghost use Rattle.flume_program.specs.WellFormed.{IsWellFormed};
+ghost use Rattle.flume_program.specs.Accepted.{AreNamed, IsAccepted, IsNamed, IsProgram, IsProgramOf, IsReady, IsRefused};
+ghost use Rattle.flume_program.specs.inner.Answers.{Finds};
+ghost use Rattle.flume_program.specs.inner.Parts.{IsAnswer, IsDone, IsMade, do_meant, sums_meant};
 
 use crate::names::Names;
 use crate::program::{Input, Program, Sum};
@@ -18,18 +18,26 @@ use flume_syntax::{Ast, Form, Statement};
 use flume_value::Str;
 use std::alloc::Global;
 
-/// The program that a script is. `NotAccepted` comes exactly where it is none: where it is of no
-/// form that runs, or breaks a rule.
+/// The program that a script is, where it is accepted. `NotAccepted` comes exactly where it is
+/// not: where it is of no form that runs, or breaks a rule.
 pub fn check(alloc: Global, ast: &Ast) -> Result<Program, Refusal>
-    ensures accepted { IfOk result (λ program. (function : Function_) × (script : Script) × IsAccepted ast.now.statements script × IsProgram program function script) }
-    ensures refused { (result ≡ Err Refusal.NotAccepted) → (script : Script) → IsAccepted ast.now.statements script → ⊥ }
-    ensures reads { IfOk result (λ program. IsUtf8 program.input.file) }
-    ensures writes { IfOk result (λ program. IsUtf8 program.output_file) }
-    ensures rows { IfOk result (λ program. is_some (input_columns_of program.input.ty) ≡ true) }
-    ensures columns { IfOk result (λ program. is_some (columns_of program.fun.gives) ≡ true) }
-    ensures takes { IfOk result (λ program. program.fun.takes ≡ program.input.ty) }
+    ensures accepted { IfOk result (IsProgramOf ast.now.statements) }
+    ensures refused { IsErrOf result Refusal.NotAccepted → IsRefused ast.now.statements }
+    ensures always_accepted { (script : Script) →
+        IsAccepted ast.now.statements script → IsOkUnless result Refusal.Memory }
+    ensures always_refused { IsRefused ast.now.statements → IsErr result }
+    ensures well_formed { IfOk result (λ program. (function : Function_) (script : Script) →
+        IsProgram program function script → IsWellFormed script) }
+    ensures ready { IfOk result IsReady }
+    ensures named { AreNamed ast.now.statements → IfOk result IsNamed }
 {
-    let statements = ast.statements.as_slice();
+    program_of(alloc, ast.statements.as_slice())
+}
+
+/// The program that these statements are.
+fn program_of(alloc: Global, statements: &[Statement]) -> Result<Program, Refusal>
+    ensures { IsAnswer statements.now result }
+{
     let start = types_at_start(alloc, statements)?;
     behind_types(alloc, behind(statements, start.count), &start.names)
 }
@@ -44,21 +52,67 @@ fn behind(statements: &[Statement], count: usize) -> &[Statement]
 
 /// The program of the statements behind the types.
 fn behind_types(alloc: Global, statements: &[Statement], names: &Names) -> Result<Program, Refusal>
-    ensures ok { IfOk result (Makes (spec.script_behind statements.now names.now)) }
-    ensures ready { IfOk result IsReady }
-    ensures err { IfErr result (λ e. e ≢ Refusal.Memory → (script : Script) → spec.script_behind statements.now names.now ≡ Some script → IsNamed script → ⊥) }
+    ensures { Finds IsMade result (spec.script_behind statements.now names.now) }
 {
     match statements {
         [input, function, made, output] => {
-            let done = done_at(alloc, &input.form, &function.form, &made.form, names)?;
-            do_program(alloc, done, &output.form)
+            do_behind(
+                alloc,
+                &input.form,
+                &function.form,
+                &made.form,
+                &output.form,
+                names,
+            )
         }
         [input, function, made, grouped, summed, output] => {
-            let done = done_at(alloc, &input.form, &function.form, &made.form, names)?;
-            sum_program(alloc, done, &grouped.form, &summed.form, &output.form)
+            sums_behind(
+                alloc,
+                &input.form,
+                &function.form,
+                &made.form,
+                &grouped.form,
+                &summed.form,
+                &output.form,
+                names,
+            )
         }
         _ => Err(Refusal::NotAccepted),
     }
+}
+
+/// The program of a `do` and its output.
+fn do_behind(
+    alloc: Global,
+    input: &Form,
+    function: &Form,
+    made: &Form,
+    output: &Form,
+    names: &Names,
+) -> Result<Program, Refusal>
+    ensures { Finds IsMade result
+        (do_meant input.now function.now made.now output.now names.now) }
+{
+    let done = done_at(alloc, input, function, made, names)?;
+    do_program(alloc, done, output)
+}
+
+/// The program of a `do`, its groups and their sums.
+fn sums_behind(
+    alloc: Global,
+    input: &Form,
+    function: &Form,
+    made: &Form,
+    grouped: &Form,
+    summed: &Form,
+    output: &Form,
+    names: &Names,
+) -> Result<Program, Refusal>
+    ensures { Finds IsMade result
+        (sums_meant input.now function.now made.now grouped.now summed.now output.now names.now) }
+{
+    let done = done_at(alloc, input, function, made, names)?;
+    sum_program(alloc, done, grouped, summed, output)
 }
 
 /// A collection that a `do` makes: over which input, by which function, under which name.
@@ -77,11 +131,7 @@ fn done_at(
     made: &Form,
     names: &Names,
 ) -> Result<Done, Refusal>
-    ensures ok { IfOk result (λ done. FindsDo (spec.done_at input.now function.now made.now names.now) (rows_of done.input) done.collection done.called.name done.called.fun) }
-    ensures reads { IfOk result (λ done. IsUtf8 done.input.file) }
-    ensures rows { IfOk result (λ done. is_some (input_columns_of done.input.ty) ≡ true) }
-    ensures takes { IfOk result (λ done. done.called.fun.takes ≡ done.input.ty) }
-    ensures err { IfErr result (λ e. e ≢ Refusal.Memory → (done : Done_) → spec.done_at input.now function.now made.now names.now ≡ Some done → IsUtf8 done.rows.file → ⊥) }
+    ensures { Finds IsDone result (spec.done_at input.now function.now made.now names.now) }
 {
     let input = rows_at(alloc, input, names)?;
     let called = function_at(alloc, function, names)?;
@@ -95,12 +145,8 @@ fn done_at(
 
 /// The program of a `do` and an output.
 fn do_program(alloc: Global, done: Done, output: &Form) -> Result<Program, Refusal>
-    requires reads { IsUtf8 done.input.file }
-    requires rows { is_some (input_columns_of done.input.ty) ≡ true }
-    requires takes { done.called.fun.takes ≡ done.input.ty }
-    ensures ok { (function : Function_) → IsCalled done.called.name done.called.fun function → IfOk result (Makes (spec.do_script (rows_of done.input) function done.collection output.now)) }
-    ensures ready { IfOk result IsReady }
-    ensures err { (function : Function_) → IsCalled done.called.name done.called.fun function → IfErr result (λ e. e ≢ Refusal.Memory → (script : Script) → spec.do_script (rows_of done.input) function done.collection output.now ≡ Some script → IsNamed script → ⊥) }
+    ensures { (meant : Done_) → IsDone done meant →
+        Finds IsMade result (spec.do_script meant output.now) }
 {
     let Done {
         input,
@@ -127,12 +173,8 @@ fn sum_program(
     summed: &Form,
     output: &Form,
 ) -> Result<Program, Refusal>
-    requires reads { IsUtf8 done.input.file }
-    requires rows { is_some (input_columns_of done.input.ty) ≡ true }
-    requires takes { done.called.fun.takes ≡ done.input.ty }
-    ensures ok { (function : Function_) → IsCalled done.called.name done.called.fun function → IfOk result (Makes (spec.sum_script (rows_of done.input) function done.collection grouped.now summed.now output.now)) }
-    ensures ready { IfOk result IsReady }
-    ensures err { (function : Function_) → IsCalled done.called.name done.called.fun function → IfErr result (λ e. e ≢ Refusal.Memory → (script : Script) → spec.sum_script (rows_of done.input) function done.collection grouped.now summed.now output.now ≡ Some script → IsNamed script → ⊥) }
+    ensures { (meant : Done_) → IsDone done meant →
+        Finds IsMade result (spec.sum_script meant grouped.now summed.now output.now) }
 {
     let Done {
         input,

@@ -29,7 +29,8 @@ impl Model for Names {
 
     ghost view = { λ names. reverse names.types.entries };
 
-    ghost invariant = { λ names. (name : List ℕ) → get bytes_eq names.types name ≡ look name (reverse names.types.entries) };
+    ghost invariant = { λ names.
+        (name : List ℕ) → get bytes_eq names.types name ≡ look name (reverse names.types.entries) };
 }
 
 impl Names {

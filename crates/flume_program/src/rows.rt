@@ -1,8 +1,9 @@
-ghost use Rattle.std.specs.Prelude.{◌≡◌, ◌≢◌, Some, None, is_some, true, false, IfOk, IfErr};
+ghost use Rattle.std.specs.Prelude.{is_some};
 ghost use Rattle.std.specs.Option.{option_and_then};
 ghost use Rattle.flume_types.specs.Columns.{columns_of, input_columns_of};
 ghost use Rattle.flume_program.specs.Written as types;
 ghost use Rattle.flume_program.specs.Checked as spec;
+ghost use Rattle.flume_program.specs.inner.Answers.{Gives, Tests};
 
 use crate::names::Names;
 use crate::written::whole_type;
@@ -13,9 +14,8 @@ use std::alloc::Global;
 
 /// The type that is written, where it is a record of int, bool and text.
 pub fn row_type(alloc: Global, ty: &Type, names: &Names) -> Result<Ty, Refusal>
-    ensures ok { IfOk result (λ t. option_and_then spec.row_type (types.whole_type ty.now names.now) ≡ Some t) }
-    ensures columns { IfOk result (λ t. is_some (input_columns_of t) ≡ true) }
-    ensures err { IfErr result (λ e. e ≢ Refusal.Memory → option_and_then spec.row_type (types.whole_type ty.now names.now) ≡ None) }
+    ensures { Gives (λ t. t) result
+        (option_and_then spec.row_type (types.whole_type ty.now names.now)) }
 {
     let ty = whole_type(alloc, ty, names)?;
     is_row(alloc, &ty)?;
@@ -24,8 +24,7 @@ pub fn row_type(alloc: Global, ty: &Type, names: &Names) -> Result<Ty, Refusal>
 
 /// Whether the type is a record of int, bool and text.
 fn is_row(alloc: Global, ty: &Ty) -> Result<(), Refusal>
-    ensures ok { IfOk result (λ _. is_some (input_columns_of ty.now) ≡ true) }
-    ensures err { IfErr result (λ e. e ≢ Refusal.Memory → is_some (input_columns_of ty.now) ≡ false) }
+    ensures { Tests result (is_some (input_columns_of ty.now)) }
 {
     match input_columns(alloc, ty) {
         Ok(_) => Ok(()),
@@ -36,8 +35,7 @@ fn is_row(alloc: Global, ty: &Ty) -> Result<(), Refusal>
 
 /// Whether the type has columns.
 pub fn is_flat(alloc: Global, ty: &Ty) -> Result<(), Refusal>
-    ensures ok { IfOk result (λ _. is_some (columns_of ty.now) ≡ true) }
-    ensures err { IfErr result (λ e. e ≢ Refusal.Memory → is_some (columns_of ty.now) ≡ false) }
+    ensures { Tests result (is_some (columns_of ty.now)) }
 {
     match columns(alloc, ty) {
         Ok(_) => Ok(()),

@@ -1,14 +1,12 @@
-ghost use Rattle.std.specs.Prelude.{◌≡◌, ◌≢◌, ◌&&◌, not, ℕ, List, Some, None, is_some, true, IfOk, IfErr, IsUtf8};
+ghost use Rattle.std.specs.Prelude.{◌≡◌, ◌&&◌, not, is_some};
 ghost use Rattle.std.specs.Str.{bytes_eq};
-ghost use Rattle.flume_types.specs.Columns.{columns_of, input_columns_of};
 ghost use Rattle.dofn_check.specs.Typing.{is_same};
 ghost use Rattle.dofn_check.specs.Call.{Function as Function_};
 ghost use Rattle.flume_program.specs.Checked as spec;
-ghost use Rattle.flume_program.specs.Checked.{Rows};
-ghost use Rattle.flume_program.specs.Accepted.{rows_of};
-ghost use Rattle.flume_program.specs.Parts.{IsCalled, Finds};
+ghost use Rattle.flume_program.specs.Accepted.{statement_of};
+ghost use Rattle.flume_program.specs.inner.Answers.{Finds, Gives};
+ghost use Rattle.flume_program.specs.inner.Parts.{IsCalled};
 
-use crate::files::file_named;
 use crate::names::Names;
 use crate::program::Input;
 use crate::rows::{is_flat, row_type};
@@ -29,24 +27,20 @@ pub struct Called {
 
 /// The input that a statement is.
 pub fn rows_at(alloc: Global, form: &Form, names: &Names) -> Result<Input, Refusal>
-    ensures rows { IfOk result (λ input. spec.rows_at form.now names.now ≡ Some (rows_of input)) }
-    ensures file { IfOk result (λ input. IsUtf8 input.file) }
-    ensures columns { IfOk result (λ input. is_some (input_columns_of input.ty) ≡ true) }
-    ensures err { IfErr result (λ e. e ≢ Refusal.Memory → (rows : Rows) → spec.rows_at form.now names.now ≡ Some rows → IsUtf8 rows.file → ⊥) }
+    ensures { Gives statement_of result (spec.rows_at form.now names.now) }
 {
     let Form::Input(name, ty, file) = form else {
         return Err(Refusal::NotAccepted);
     };
     let ty = row_type(alloc, ty, names)?;
-    let file = file_named(alloc, file)?;
+    let file = file.copy(alloc)?;
     let name = name.copy(alloc)?;
     Ok(Input { name, file, ty })
 }
 
 /// The function that a statement is.
 pub fn function_at(alloc: Global, form: &Form, names: &Names) -> Result<Called, Refusal>
-    ensures ok { IfOk result (λ called. Finds (spec.function_at form.now names.now) called.name called.fun) }
-    ensures err { IfErr result (λ e. e ≢ Refusal.Memory → spec.function_at form.now names.now ≡ None) }
+    ensures { Finds IsCalled result (spec.function_at form.now names.now) }
 {
     match form {
         Form::Function(function) => function_of(alloc, function, names),
@@ -56,8 +50,7 @@ pub fn function_at(alloc: Global, form: &Form, names: &Names) -> Result<Called, 
 
 /// The function that is meant, where it has no scale.
 fn function_of(alloc: Global, function: &Function, names: &Names) -> Result<Called, Refusal>
-    ensures ok { IfOk result (λ called. Finds (spec.function_of function.now names.now) called.name called.fun) }
-    ensures err { IfErr result (λ e. e ≢ Refusal.Memory → spec.function_of function.now names.now ≡ None) }
+    ensures { Finds IsCalled result (spec.function_of function.now names.now) }
 {
     if has_scale(function) {
         return Err(Refusal::NotAccepted);
@@ -80,8 +73,8 @@ fn function_with(
     takes: Ty,
     gives: Ty,
 ) -> Result<Called, Refusal>
-    ensures ok { IfOk result (λ called. Finds (spec.typed_function (spec.function_with function.now takes gives)) called.name called.fun) }
-    ensures err { IfErr result (λ e. e ≢ Refusal.Memory → spec.typed_function (spec.function_with function.now takes gives) ≡ None) }
+    ensures { Finds IsCalled result
+        (spec.typed_function (spec.function_with function.now takes gives)) }
 {
     let fun = check_function(
         alloc,
@@ -96,9 +89,8 @@ fn function_with(
 
 /// The name of the collection that a `do` over this input by this function makes.
 pub fn do_at(alloc: Global, form: &Form, input: &Input, called: &Called) -> Result<Str, Refusal>
-    ensures ok { IfOk result (λ name. (function : Function_) → IsCalled called.now.name called.now.fun function → spec.do_at form.now (rows_of input.now) function ≡ Some name) }
-    ensures takes { IfOk result (λ name. called.now.fun.takes ≡ input.now.ty) }
-    ensures err { IfErr result (λ e. e ≢ Refusal.Memory → (function : Function_) → IsCalled called.now.name called.now.fun function → spec.do_at form.now (rows_of input.now) function ≡ None) }
+    ensures { (function : Function_) → IsCalled called.now function →
+        Gives (λ name. name) result (spec.do_at form.now (statement_of input.now) function) }
 {
     match form {
         Form::Let(name, Operation::Do(collection, caller)) => {
@@ -116,9 +108,9 @@ fn do_by(
     input: &Input,
     called: &Called,
 ) -> Result<Str, Refusal>
-    ensures ok { IfOk result (λ it. (function : Function_) → IsCalled called.now.name called.now.fun function → spec.do_by name.now (Operation.Do collection.now caller.now) (rows_of input.now) function ≡ Some it) }
-    ensures takes { IfOk result (λ it. called.now.fun.takes ≡ input.now.ty) }
-    ensures err { IfErr result (λ e. e ≢ Refusal.Memory → (function : Function_) → IsCalled called.now.name called.now.fun function → spec.do_by name.now (Operation.Do collection.now caller.now) (rows_of input.now) function ≡ None) }
+    ensures { (function : Function_) → IsCalled called.now function →
+        Gives (λ it. it) result (spec.do_by name.now
+        (Operation.Do collection.now caller.now) (statement_of input.now) function) }
 {
     if is_do(name, collection, caller, input, called) {
         let name = name.copy(alloc)?;
@@ -130,7 +122,9 @@ fn do_by(
 
 /// Whether a `do` of these names is over this input by this function, under another name.
 fn is_do(name: &Str, collection: &Str, caller: &Str, input: &Input, called: &Called) -> bool
-    ensures { result ≡ (bytes_eq collection.now input.now.name && bytes_eq caller.now called.now.name && not (bytes_eq name.now input.now.name) && is_same input.now.ty called.now.fun.takes) }
+    ensures { result ≡ (bytes_eq collection.now input.now.name
+        && bytes_eq caller.now called.now.name && not (bytes_eq name.now input.now.name)
+        && is_same input.now.ty called.now.fun.takes) }
 {
     collection.is(input.name.as_bytes())
         && caller.is(called.name.as_bytes())
@@ -147,16 +141,14 @@ pub fn is_one_type(ty: &Ty, other: &Ty) -> bool
 
 /// The file to which a statement writes this collection, whose members have that type.
 pub fn output_at(alloc: Global, form: &Form, collection: &Str, ty: &Ty) -> Result<Str, Refusal>
-    ensures ok { IfOk result (λ file. spec.output_at form.now collection.now ty.now ≡ Some file) }
-    ensures file { IfOk result IsUtf8 }
-    ensures columns { IfOk result (λ _. is_some (columns_of ty.now) ≡ true) }
-    ensures err { IfErr result (λ e. e ≢ Refusal.Memory → (file : List ℕ) → spec.output_at form.now collection.now ty.now ≡ Some file → IsUtf8 file → ⊥) }
+    ensures { Gives (λ file. file) result (spec.output_at form.now collection.now ty.now) }
 {
     match form {
         Form::Output(name, file) => {
             is_flat(alloc, ty)?;
             if name.is(collection.as_bytes()) {
-                file_named(alloc, file)
+                let file = file.copy(alloc)?;
+                Ok(file)
             } else {
                 Err(Refusal::NotAccepted)
             }

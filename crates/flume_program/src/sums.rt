@@ -1,10 +1,11 @@
-ghost use Rattle.std.specs.Prelude.{◌≡◌, ◌≢◌, ◌&&◌, not, Some, None, is_some, true, false, IfOk, IfErr};
+ghost use Rattle.std.specs.Prelude.{◌≡◌, ◌&&◌, not, is_some};
 ghost use Rattle.std.specs.Option.{option_copied};
 ghost use Rattle.std.specs.Str.{bytes_eq};
 ghost use Rattle.flume_types.specs.declared.types.Ty.{out-Ty};
 ghost use Rattle.flume_types.specs.Tables.{table_of};
 ghost use Rattle.dofn_check.specs.Typing.{is_same};
 ghost use Rattle.flume_program.specs.Checked as spec;
+ghost use Rattle.flume_program.specs.inner.Answers.{Gives, Tests};
 
 use crate::statements::is_one_type;
 use dofn_check::Refusal;
@@ -15,8 +16,7 @@ use std::alloc::Global;
 
 /// The name of the groups of this collection that a statement makes.
 pub fn group_at(alloc: Global, form: &Form, input: &Str, collection: &Str) -> Result<Str, Refusal>
-    ensures ok { IfOk result (λ name. spec.group_at form.now input.now collection.now ≡ Some name) }
-    ensures err { IfErr result (λ e. e ≢ Refusal.Memory → spec.group_at form.now input.now collection.now ≡ None) }
+    ensures { Gives (λ name. name) result (spec.group_at form.now input.now collection.now) }
 {
     match form {
         Form::Let(name, Operation::Group(source)) => {
@@ -33,8 +33,8 @@ fn group_by(
     input: &Str,
     collection: &Str,
 ) -> Result<Str, Refusal>
-    ensures ok { IfOk result (λ it. spec.group_by name.now (Operation.Group source.now) input.now collection.now ≡ Some it) }
-    ensures err { IfErr result (λ e. e ≢ Refusal.Memory → spec.group_by name.now (Operation.Group source.now) input.now collection.now ≡ None) }
+    ensures { Gives (λ it. it) result
+        (spec.group_by name.now (Operation.Group source.now) input.now collection.now) }
 {
     if is_group(name, source, input, collection) {
         let name = name.copy(alloc)?;
@@ -46,7 +46,8 @@ fn group_by(
 
 /// Whether these are the groups of this collection, under another name.
 fn is_group(name: &Str, source: &Str, input: &Str, collection: &Str) -> bool
-    ensures { result ≡ (bytes_eq source.now collection.now && not (bytes_eq name.now input.now) && not (bytes_eq name.now collection.now)) }
+    ensures { result ≡ (bytes_eq source.now collection.now
+        && not (bytes_eq name.now input.now) && not (bytes_eq name.now collection.now)) }
 {
     source.is(collection.as_bytes())
         && !name.is(input.as_bytes())
@@ -61,8 +62,8 @@ pub fn sum_at(
     collection: &Str,
     group: &Str,
 ) -> Result<Str, Refusal>
-    ensures ok { IfOk result (λ name. spec.sum_at form.now input.now collection.now group.now ≡ Some name) }
-    ensures err { IfErr result (λ e. e ≢ Refusal.Memory → spec.sum_at form.now input.now collection.now group.now ≡ None) }
+    ensures { Gives (λ name. name) result
+        (spec.sum_at form.now input.now collection.now group.now) }
 {
     match form {
         Form::Let(name, Operation::Combine(source, combiner)) => {
@@ -81,8 +82,8 @@ fn sum_by(
     collection: &Str,
     group: &Str,
 ) -> Result<Str, Refusal>
-    ensures ok { IfOk result (λ it. spec.sum_by name.now (Operation.Combine source.now combiner.now) input.now collection.now group.now ≡ Some it) }
-    ensures err { IfErr result (λ e. e ≢ Refusal.Memory → spec.sum_by name.now (Operation.Combine source.now combiner.now) input.now collection.now group.now ≡ None) }
+    ensures { Gives (λ it. it) result (spec.sum_by name.now
+        (Operation.Combine source.now combiner.now) input.now collection.now group.now) }
 {
     if is_of_groups(name, source, combiner, input, collection, group) {
         let name = name.copy(alloc)?;
@@ -101,7 +102,9 @@ fn is_of_groups(
     collection: &Str,
     group: &Str,
 ) -> bool
-    ensures { result ≡ (bytes_eq source.now group.now && spec.is_sum combiner.now && not (bytes_eq name.now input.now) && not (bytes_eq name.now collection.now) && not (bytes_eq name.now group.now)) }
+    ensures { result ≡ (bytes_eq source.now group.now && spec.is_sum combiner.now
+        && not (bytes_eq name.now input.now) && not (bytes_eq name.now collection.now)
+        && not (bytes_eq name.now group.now)) }
 {
     source.is(group.as_bytes())
         && is_sum(combiner)
@@ -121,8 +124,7 @@ fn is_sum(combiner: &Combiner) -> bool
 
 /// Whether the type is a table of ints.
 pub fn is_summed(alloc: Global, ty: &Ty) -> Result<(), Refusal>
-    ensures ok { IfOk result (λ _. is_some (spec.sum_key ty.now) ≡ true) }
-    ensures err { IfErr result (λ e. e ≢ Refusal.Memory → spec.sum_key ty.now ≡ None) }
+    ensures { Tests result (is_some (spec.sum_key ty.now)) }
 {
     match first_type(ty) {
         Some(key) => is_table_of_ints(alloc, ty, key),
@@ -132,8 +134,7 @@ pub fn is_summed(alloc: Global, ty: &Ty) -> Result<(), Refusal>
 
 /// Whether the type is the table of this key and of ints.
 fn is_table_of_ints(alloc: Global, ty: &Ty, key: &Ty) -> Result<(), Refusal>
-    ensures ok { IfOk result (λ _. is_some (spec.key_of_ints ty.now key.now) ≡ true) }
-    ensures err { IfErr result (λ e. e ≢ Refusal.Memory → spec.key_of_ints ty.now key.now ≡ None) }
+    ensures { Tests result (is_some (spec.key_of_ints ty.now key.now)) }
 {
     let key = key.copy(alloc)?;
     let table = table_type(alloc, key, Ty::Int)?;

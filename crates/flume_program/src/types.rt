@@ -1,5 +1,6 @@
-ghost use Rattle.std.specs.Prelude.{◌≡◌, ◌≢◌, ◌≤◌, length, [], drop, Some, None, IfOk, IfErr};
+ghost use Rattle.std.specs.Prelude.{◌≡◌, ◌≤◌, length, [], drop, IfOk};
 ghost use Rattle.flume_program.specs.Checked as spec;
+ghost use Rattle.flume_program.specs.inner.Answers.{Gives};
 
 use crate::names::Names;
 use crate::written::whole_type;
@@ -17,10 +18,11 @@ pub struct Start {
 
 /// The names of the types at the start.
 pub fn types_at_start(alloc: Global, statements: &[Statement]) -> Result<Start, Refusal>
-    ensures names { IfOk result (λ start. spec.named_types (spec.types_in statements.now) [] ≡ Some start.names) }
-    ensures behind { IfOk result (λ start. spec.behind_types statements.now ≡ drop start.count statements.now) }
+    ensures names { Gives (λ start. start.names) result
+        (spec.named_types (spec.types_in statements.now) []) }
+    ensures behind { IfOk result (λ start.
+        spec.behind_types statements.now ≡ drop start.count statements.now) }
     ensures within { IfOk result (λ start. start.count ≤ length statements.now) }
-    ensures err { IfErr result (λ e. e ≢ Refusal.Memory → spec.named_types (spec.types_in statements.now) [] ≡ None) }
 {
     let mut names = Names::new(alloc);
     let mut count = 0;
@@ -38,8 +40,7 @@ pub fn types_at_start(alloc: Global, statements: &[Statement]) -> Result<Start, 
 
 /// A name for a type more, which no earlier type has.
 fn add(alloc: Global, name: &Str, ty: &Type, names: &mut Names) -> Result<(), Refusal>
-    ensures ok { IfOk result (λ _. spec.with_name name.now ty.now names.old ≡ Some names.new) }
-    ensures err { IfErr result (λ e. e ≢ Refusal.Memory → spec.with_name name.now ty.now names.old ≡ None) }
+    ensures { Gives (λ _. names.new) result (spec.with_name name.now ty.now names.old) }
 {
     if names.get(name).is_some() {
         return Err(Refusal::NotAccepted);

@@ -1,8 +1,9 @@
-ghost use Rattle.std.specs.Prelude.{◌≡◌, ◌≢◌, Some, None, IfOk, IfErr};
+ghost use Rattle.std.specs.Prelude.{◌≡◌, IfOk};
 ghost use Rattle.dofn_check.specs.Names.{look};
 ghost use Rattle.dofn_check.specs.Fields.{fields_of as fields, record_of};
 ghost use Rattle.dofn_check.specs.Typing.{all_types};
 ghost use Rattle.flume_program.specs.Written as spec;
+ghost use Rattle.flume_program.specs.inner.Answers.{Gives};
 
 use crate::names::Names;
 use dofn_check::{Refusal, are_different};
@@ -13,8 +14,7 @@ use std::alloc::{AllocError, Global};
 
 /// The type that is written, where it is at most 8 deep once names are replaced.
 pub fn whole_type(alloc: Global, ty: &Type, names: &Names) -> Result<Ty, Refusal>
-    ensures ok { IfOk result (λ t. spec.whole_type ty.now names.now ≡ Some t) }
-    ensures err { IfErr result (λ e. e ≢ Refusal.Memory → spec.whole_type ty.now names.now ≡ None) }
+    ensures { Gives (λ t. t) result (spec.whole_type ty.now names.now) }
 {
     let ty = written(alloc, ty, names)?;
     if depth(&ty) <= 8 {
@@ -28,8 +28,7 @@ pub fn whole_type(alloc: Global, ty: &Type, names: &Names) -> Result<Ty, Refusal
 #[cycle(written)]
 #[tactic(auto, using(crate::proofs::WrittenLemmas::written_rules))]
 fn written(alloc: Global, ty: &Type, names: &Names) -> Result<Ty, Refusal>
-    ensures ok { IfOk result (λ t. spec.written ty.now names.now ≡ Some t) }
-    ensures err { IfErr result (λ e. e ≢ Refusal.Memory → spec.written ty.now names.now ≡ None) }
+    ensures { Gives (λ t. t) result (spec.written ty.now names.now) }
 {
     match ty {
         Type::Int => Ok(Ty::Int),
@@ -54,8 +53,7 @@ fn written(alloc: Global, ty: &Type, names: &Names) -> Result<Ty, Refusal>
 /// The types that are written, in order.
 #[cycle(written)]
 fn all_written(alloc: Global, types: &[Type], names: &Names) -> Result<Pile<Ty>, Refusal>
-    ensures ok { IfOk result (λ all. all_types spec.written types.now names.now ≡ Some all) }
-    ensures err { IfErr result (λ e. e ≢ Refusal.Memory → all_types spec.written types.now names.now ≡ None) }
+    ensures { Gives (λ all. all) result (all_types spec.written types.now names.now) }
 {
     let mut all = Pile::new(alloc);
     for part in types {
@@ -67,8 +65,7 @@ fn all_written(alloc: Global, types: &[Type], names: &Names) -> Result<Pile<Ty>,
 
 /// The type that a name stands for.
 fn named(alloc: Global, name: &Str, names: &Names) -> Result<Ty, Refusal>
-    ensures ok { IfOk result (λ t. look name.now names.now ≡ Some t) }
-    ensures err { IfErr result (λ e. e ≢ Refusal.Memory → look name.now names.now ≡ None) }
+    ensures { Gives (λ t. t) result (look name.now names.now) }
 {
     match names.get(name) {
         Some(ty) => {
@@ -81,8 +78,7 @@ fn named(alloc: Global, name: &Str, names: &Names) -> Result<Ty, Refusal>
 
 /// The record of these types under as many names, each another.
 fn record(alloc: Global, names: &[Str], types: Pile<Ty>) -> Result<Ty, Refusal>
-    ensures ok { IfOk result (λ t. record_of names.now types ≡ Some t) }
-    ensures err { IfErr result (λ e. e ≢ Refusal.Memory → record_of names.now types ≡ None) }
+    ensures { Gives (λ t. t) result (record_of names.now types) }
 {
     if names.len() != types.len() || !are_different(names) {
         return Err(Refusal::NotAccepted);

@@ -1,9 +1,4 @@
-pub mod Answer
-pub mod Bodies
-pub mod Expressions
-pub mod Grammar
-pub mod Out
-pub mod Reading
-pub mod Refusal
-pub mod Statements
-pub mod Types
+pub use Rattle.flume_grammar.specs.Answer
+pub use Rattle.flume_grammar.specs.Fault
+pub use Rattle.flume_grammar.specs.Grammar
+pub use Rattle.flume_grammar.specs.Limits

@@ -1,15 +1,14 @@
-ghost use Rattle.std.specs.Prelude.{◌≡◌, ◌≢◌, IfOk, IfErr};
-ghost use Rattle.flume_syntax.specs.declared.tree.Ast.{Ast};
-ghost use Rattle.flume_tokens.specs.declared.token.TokenList.{TokenList as Cut};
-ghost use Rattle.flume_tokens.specs.Tokens.{tokens_of};
-ghost use Rattle.flume_syntax.specs.Answer as spec;
-ghost use Rattle.flume_syntax.specs.Refusal.{NoScriptBeginsSo};
-ghost use Rattle.flume_syntax.specs.Statements.{script_at};
+ghost use Rattle.std.specs.Prelude.{◌≡◌, ◌≢◌, ℕ, IfOk, IfErr};
+ghost use Rattle.flume_grammar.specs.declared.fault.ScriptKind.{ScriptKind as Kind};
+ghost use Rattle.flume_grammar.specs.declared.tree.Ast.{Ast};
+ghost use Rattle.flume_grammar.specs.Limits.{the_limits};
+ghost use Rattle.flume_grammar.specs.Answer as spec;
+ghost use Rattle.flume_grammar.specs.inner.Answer as inner;
+ghost use Rattle.flume_grammar.specs.inner.Statements.{script_at};
 
-use crate::cursor::Cursor;
-use crate::fault::{ScriptFault, ScriptKind, Stop};
 use crate::statement::script;
-use crate::tree::Ast;
+use flume_expressions::Cursor;
+use flume_grammar::{Ast, ScriptFault, ScriptKind, Stop};
 use flume_tokens::{Refusal, TokenFault, TokenList, tokens};
 use std::alloc::Global;
 
@@ -36,7 +35,7 @@ fn token_fault(fault: TokenFault) -> ScriptFault
 }
 
 fn stopped(stop: Stop, last_line: u32) -> ScriptFault
-    ensures { result ≡ spec.stopped last_line stop }
+    ensures { result ≡ inner.stopped last_line stop }
 {
     match stop {
         Stop::Fault {
@@ -53,8 +52,10 @@ fn stopped(stop: Stop, last_line: u32) -> ScriptFault
 
 /// The tree of some tokens.
 fn tree(alloc: Global, list: TokenList) -> Result<Ast, ScriptFault>
-    ensures ok { IfOk result (λ ast. spec.tree_of list.last_line (script_at list.items) ≡ Ok ast) }
-    ensures err { IfErr result (λ e. e ≢ ScriptFault.Memory → spec.tree_of list.last_line (script_at list.items) ≡ Err e) }
+    ensures ok { IfOk result (λ ast. inner.tree_of list.last_line (script_at the_limits list.items)
+        ≡ Ok ast) }
+    ensures err { IfErr result (λ e. e ≢ ScriptFault.Memory
+        → inner.tree_of list.last_line (script_at the_limits list.items) ≡ Err e) }
 {
     let TokenList { items, last_line } = list;
     let mut left = Cursor::new(items);
@@ -71,17 +72,18 @@ pub fn parse(alloc: Global, bytes: &[u8]) -> Result<Ast, ScriptFault>
     ensures accepted { IfOk result (λ ast. spec.Accepts bytes.now ast) }
     // and what they spell is answered, unless memory runs out.
     ensures only { (ast : Ast) → spec.Accepts bytes.now ast → spec.IsParsed result ast }
-    // Where the bytes are cut into tokens, no script begins with the tokens up to the fault.
-    ensures no_script_begins_so { IfErr result (λ e. (list : Cut) → tokens_of bytes.now ≡ Ok list → NoScriptBeginsSo list e) }
-    // The fault is that of the parser on lists of tokens.
-    ensures fault { IfErr result (λ e. e ≢ ScriptFault.Memory → spec.parse_of bytes.now ≡ Err e) }
+    // A refusal is the first fault of the bytes,
+    ensures refused { IfErr result (λ e. spec.IsRefusal bytes.now e) }
+    // and the first fault is answered, unless memory runs out.
+    ensures only_refused { (line : ℕ) (kind : Kind) → spec.Refuses bytes.now line kind
+        → spec.IsRefused result line kind }
 {
     parsed(alloc, bytes)
 }
 
 fn parsed(alloc: Global, bytes: &[u8]) -> Result<Ast, ScriptFault>
-    ensures ok { IfOk result (λ ast. spec.parse_of bytes.now ≡ Ok ast) }
-    ensures err { IfErr result (λ e. e ≢ ScriptFault.Memory → spec.parse_of bytes.now ≡ Err e) }
+    ensures ok { IfOk result (λ ast. inner.parse_of bytes.now ≡ Ok ast) }
+    ensures err { IfErr result (λ e. e ≢ ScriptFault.Memory → inner.parse_of bytes.now ≡ Err e) }
 {
     match tokens(alloc, bytes) {
         Ok(list) => tree(alloc, list),

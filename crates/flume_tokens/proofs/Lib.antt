@@ -1,2 +1,4 @@
 pub mod NextPieces
+pub mod NoMemory
 pub mod Whole
+pub mod Utf8Texts

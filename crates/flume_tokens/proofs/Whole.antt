@@ -21,11 +21,13 @@ false_from : (b : Bool) → (b ≡ true → ⊥) → b ≡ false
 false_from true h = absurd (h refl)
 false_from false h = refl
 
-pub refused : (bs : List ℕ) → length bs ≤ 65536 → (IsUtf8 bs → ⊥) → tokens_of bs ≡ Err (Refused (line_at bs (utf8_valid_len bs)) Utf8)
+pub refused : (bs : List ℕ) → length bs ≤ 65536 → (IsUtf8 bs → ⊥)
+    → tokens_of bs ≡ Err (Refused (line_at bs (utf8_valid_len bs)) Utf8)
 unfolding tokens_of
 refused bs h g =
     second (nat_lt 65536 (length bs)) _ _ (le-ltb 65536 (length bs) h)
-    ∙ first (not (is_utf8 bs)) _ _ (ap not (false_from (is_utf8 bs) (λ e. g (IsUtf8-from_is_utf8 bs e))))
+    ∙ first (not (is_utf8 bs)) _ _
+    (ap not (false_from (is_utf8 bs) (λ e. g (IsUtf8-from_is_utf8 bs e))))
 
 pub cut : (bs : List ℕ) → length bs ≤ 65536 → IsUtf8 bs → tokens_of bs ≡ listed bs
 unfolding tokens_of

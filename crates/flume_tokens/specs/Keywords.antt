@@ -54,7 +54,14 @@ spelling keyword.Pick = codes "pick"
 spelling keyword.Empty = codes "empty"
 
 abbrev pub keywords : List Keyword
-keywords = keyword.Type ∷ keyword.Input ∷ keyword.Fn ∷ keyword.Let ∷ keyword.Output ∷ keyword.From ∷ keyword.To ∷ keyword.Scale ∷ keyword.Do ∷ keyword.Group ∷ keyword.Combine ∷ keyword.By ∷ keyword.Flatten ∷ keyword.Count ∷ keyword.Join ∷ keyword.Top ∷ keyword.Sum ∷ keyword.Min ∷ keyword.Max ∷ keyword.All ∷ keyword.Any ∷ keyword.Int ∷ keyword.Bool ∷ keyword.Text ∷ keyword.List ∷ keyword.Either ∷ keyword.Table ∷ keyword.If ∷ keyword.Else ∷ keyword.For ∷ keyword.In ∷ keyword.Emit ∷ keyword.Case ∷ keyword.Left ∷ keyword.Right ∷ keyword.True ∷ keyword.False ∷ keyword.And ∷ keyword.Or ∷ keyword.Not ∷ keyword.Len ∷ keyword.Words ∷ keyword.Concat ∷ keyword.Number ∷ keyword.Pick ∷ keyword.Empty ∷ []
+keywords = keyword.Type ∷ keyword.Input ∷ keyword.Fn ∷ keyword.Let ∷ keyword.Output ∷ keyword.From ∷
+    keyword.To ∷ keyword.Scale ∷ keyword.Do ∷ keyword.Group ∷ keyword.Combine ∷ keyword.By ∷
+    keyword.Flatten ∷ keyword.Count ∷ keyword.Join ∷ keyword.Top ∷ keyword.Sum ∷ keyword.Min ∷
+    keyword.Max ∷ keyword.All ∷ keyword.Any ∷ keyword.Int ∷ keyword.Bool ∷ keyword.Text ∷
+    keyword.List ∷ keyword.Either ∷ keyword.Table ∷ keyword.If ∷ keyword.Else ∷ keyword.For ∷
+    keyword.In ∷ keyword.Emit ∷ keyword.Case ∷ keyword.Left ∷ keyword.Right ∷ keyword.True ∷
+    keyword.False ∷ keyword.And ∷ keyword.Or ∷ keyword.Not ∷ keyword.Len ∷ keyword.Words ∷
+    keyword.Concat ∷ keyword.Number ∷ keyword.Pick ∷ keyword.Empty ∷ []
 
 -- the keyword that a word is
 unfoldable pub keyword_of : List ℕ → Option Keyword

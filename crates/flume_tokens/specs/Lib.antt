@@ -3,3 +3,4 @@ pub mod Pieces
 pub mod Signs
 pub mod Texts
 pub mod Tokens
+pub mod Utf8

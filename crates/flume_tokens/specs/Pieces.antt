@@ -34,11 +34,13 @@ word_kind spelling None = kind.Name spelling
 abbrev pub word : List ℕ → Piece
 word bs =
     let spelling = take_while (is_in class.Word) bs in
-    if nat_lt 32 (length spelling) then piece.Fault refusal.TooLong else piece.Token (word_kind spelling (keyword_of spelling)) (length spelling)
+    if nat_lt 32 (length spelling) then piece.Fault refusal.TooLong else piece.Token
+    (word_kind spelling (keyword_of spelling)) (length spelling)
 
 -- all digits that follow
 abbrev pub number : List ℕ → Piece
-number bs = let digits = take_while (is_in class.Digit) bs in piece.Token (kind.Number digits) (length digits)
+number bs = let digits = take_while (is_in class.Digit) bs in
+    piece.Token (kind.Number digits) (length digits)
 
 abbrev pub text_piece : Closed → Piece
 text_piece (Some (content, taken)) = piece.Token (kind.Text content) (taken + 1)

@@ -31,7 +31,10 @@ spelling sign.Remainder = codes "%"
 
 -- all signs, those of two bytes before those of one
 abbrev pub signs : List Sign
-signs = sign.Equal ∷ sign.NotEqual ∷ sign.AtMost ∷ sign.AtLeast ∷ sign.Arrow ∷ sign.OpenBrace ∷ sign.CloseBrace ∷ sign.Open ∷ sign.Close ∷ sign.OpenBracket ∷ sign.CloseBracket ∷ sign.Less ∷ sign.Greater ∷ sign.Comma ∷ sign.Colon ∷ sign.Dot ∷ sign.Assign ∷ sign.Plus ∷ sign.Minus ∷ sign.Times ∷ sign.Divide ∷ sign.Remainder ∷ []
+signs = sign.Equal ∷ sign.NotEqual ∷ sign.AtMost ∷ sign.AtLeast ∷ sign.Arrow ∷ sign.OpenBrace ∷
+    sign.CloseBrace ∷ sign.Open ∷ sign.Close ∷ sign.OpenBracket ∷ sign.CloseBracket ∷ sign.Less ∷
+    sign.Greater ∷ sign.Comma ∷ sign.Colon ∷ sign.Dot ∷ sign.Assign ∷ sign.Plus ∷ sign.Minus ∷
+    sign.Times ∷ sign.Divide ∷ sign.Remainder ∷ []
 
 -- the longest sign that the bytes begin with
 unfoldable pub sign_of : List ℕ → Option Sign

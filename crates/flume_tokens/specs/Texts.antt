@@ -3,7 +3,8 @@ use Rattle.std.specs.Prelude.{ℕ, ◌+◌, List, [], ◌∷◌, ◌++◌, Bool,
 
 -- the byte that a backslash and this byte stand for: `\n`, `\t`, `\\`, `\"`
 abbrev pub escaped : ℕ → Option ℕ
-escaped b = if b == 110 then Some 10 else if b == 116 then Some 9 else if b == 92 then Some 92 else if b == 34 then Some 34 else None
+escaped b = if b == 110 then Some 10 else if b == 116 then Some 9 else if b == 92 then Some 92 else
+    if b == 34 then Some 34 else None
 
 -- a text's content, and how many bytes it takes up to its closing quote
 abbrev pub Closed : Type 0
@@ -18,8 +19,10 @@ abbrev pub with_byte : Option ℕ → Closed → Closed
 with_byte (Some b) (Some (content, n)) = Some (b ∷ content, n + 1)
 with_byte _ _ = None
 
--- The content of a text from after its opening quote on; the test says whether a backslash stands before.
--- Characters other than `"`, `\` and LF stand for themselves, and a text that is not closed on its line is none.
+-- The content of a text from after its opening quote on; the test says whether a backslash stands
+-- before.
+-- Characters other than `"`, `\` and LF stand for themselves, and a text that is not closed on its
+-- line is none.
 abbrev pub closed_text : Bool → List ℕ → Closed
 closed_text _ [] = None
 closed_text true (b ∷ bs) = with_byte (escaped b) (closed_text false bs)

@@ -19,11 +19,13 @@ abbrev pub ahead : List Token → Cut → Cut
 ahead ts (Ok us) = Ok (ts ++ us)
 ahead ts (Err e) = Err e
 
--- this piece, on this line, and what is left after it: a function of its bytes yet to pass, and of the line
+-- this piece, on this line, and what is left after it: a function of its bytes yet to pass, and of
+-- the line
 abbrev pub and_on : ℕ → (ℕ → ℕ → Cut) → Piece → Cut
 and_on line rest piece.LineEnd = rest 0 (line + 1)
 and_on line rest (piece.Gap n) = rest (n - 1) line
-and_on line rest (piece.Token kind n) = ahead (record { kind = kind; line = line } ∷ []) (rest (n - 1) line)
+and_on line rest (piece.Token kind n) = ahead (record { kind = kind; line = line } ∷ [])
+    (rest (n - 1) line)
 and_on line rest (piece.Fault kind) = Err (Refused line kind)
 
 -- The tokens from a line on, or the first fault. The first `left` bytes belong to the piece before.
@@ -44,7 +46,8 @@ list_of last_line (Err e) = Err e
 abbrev pub listed : List ℕ → Result TokenList TokenFault
 listed bs = list_of (line_at bs (length bs)) (tokens_from 0 1 bs)
 
--- The tokens of a script, or its first fault: TooLong, else Utf8 at the first byte that is not part of UTF-8,
+-- The tokens of a script, or its first fault: TooLong, else Utf8 at the first byte that is not part
+-- of UTF-8,
 -- else the first place where no token can be read.
 unfoldable pub tokens_of : List ℕ → Result TokenList TokenFault
 tokens_of bs =

@@ -29,7 +29,8 @@ fn line_at(bytes: &[u8], at: usize) -> u32
 }
 
 fn put(tokens: &mut Vec<Token>, kind: TokenKind, line: u32) -> Result<(), AllocError>
-    ensures { OnOk result (tokens.new.items ≡ tokens.old.items ++ record { kind = kind; line = line } ∷ []) }
+    ensures { OnOk result (tokens.new.items
+        ≡ tokens.old.items ++ record { kind = kind; line = line } ∷ []) }
 {
     tokens.push(Token { kind, line })?;
     Ok(())
@@ -47,7 +48,8 @@ fn piece_at(alloc: Global, bytes: &[u8], at: usize) -> Result<Piece, AllocError>
 fn cut(alloc: Global, bytes: &[u8]) -> Result<Vec<Token>, TokenFault>
     requires { length bytes.now ≤ 65536 }
     ensures ok { IfOk result (λ ts. spec.tokens_from 0 1 bytes.now ≡ Ok ts.items) }
-    ensures err { IfErr result (λ e. e ≢ TokenFault.Memory → spec.tokens_from 0 1 bytes.now ≡ Err e) }
+    ensures err { IfErr result (λ e. e ≢ TokenFault.Memory
+        → spec.tokens_from 0 1 bytes.now ≡ Err e) }
 {
     let mut tokens = Vec::new(alloc);
     let mut line = 1;

@@ -12,15 +12,15 @@
 mod cutting;
 mod fault;
 mod keyword;
+mod law;
 mod piece;
 mod sign;
-#[cfg(test)]
-mod tests;
 mod text;
 mod token;
 
 pub use cutting::tokens;
 pub use fault::{Refusal, TokenFault};
 pub use keyword::{Keyword, keyword_law, keyword_of};
+pub use law::text_law;
 pub use sign::Sign;
 pub use token::{Token, TokenKind, TokenList};

@@ -50,7 +50,8 @@ fn is_in(class: Class, b: u8) -> bool
 fn run_of(class: Class, bytes: &[u8]) -> usize
     ensures value { result ≡ prefix_len (spec.is_in class) bytes.now }
     ensures within { result ≤ length bytes.now }
-    ensures moves { spec.is_in class (slice_index bytes.now 0) ≡ true → 0 < length bytes.now → 0 < result }
+    ensures moves { spec.is_in class (slice_index bytes.now 0) ≡ true → 0 < length bytes.now
+        → 0 < result }
 {
     let mut end = 0;
     while end < bytes.len() && is_in(class, bytes[end]) {

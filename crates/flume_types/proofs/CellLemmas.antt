@@ -1,9 +1,10 @@
--- The cells of a value of a flat type are_filled the type's columns.
+-- The cells of a value of a flat type fill the type's columns.
 use Rattle.std.proofs.Common.{◌≡◌, ℕ, true, ◌&&◌, List, [], ◌∷◌, ◌++◌, Option, Some, None, option_map, unwrap_or, refl, sym, ap, ◌∙◌, subst}
 use Rattle.std.specs.List.{flat_map}
 use Rattle.std.proofs.lemmas.List.Concat.{flat_map-cons}
 use Rattle.flume_value.specs.declared.value.Value.{Value, Value-F, out-Value}
 use Rattle.flume_value.specs.declared.value.Value.TheVariants as variant
+use Rattle.flume_value.proofs.BoolLemmas.{both_true}
 use Rattle.flume_types.specs.declared.types.Ty.{Ty, Ty-F, out-Ty}
 use Rattle.flume_types.specs.declared.types.Field.{Field}
 use Rattle.flume_types.specs.declared.column.Column.{Column}
@@ -12,7 +13,6 @@ use Rattle.flume_types.specs.declared.column.ColumnKind.TheVariants as kind
 use Rattle.flume_types.specs.Typing.{each_has, layer_has, has_type}
 use Rattle.flume_types.specs.Columns.{cell_kind, cell_column, joined, cells_under, field_columns, record_columns, flat_columns, columns_of, input_at, input_columns_of}
 use Rattle.flume_types.specs.Cells.{field_cells, row_cells, cells_of, is_cell, are_filled}
-use Rattle.flume_types.proofs.SameLemmas.{both_true}
 use Rattle.flume_types.proofs.TypingLemmas.{has_type-step}
 
 some_is : {A : Type 0} (x y : A) → Some x ≡ Some y → x ≡ y

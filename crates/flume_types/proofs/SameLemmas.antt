@@ -1,8 +1,8 @@
 -- The derived `==` of types decides equality.
 use Rattle.std.proofs.Common.{◌≡◌, Decides, Bool, true, false, ◌&&◌, nat_eq, List, [], ◌∷◌, map, refl, sym, ap, ◌∙◌, subst}
 use denote.Hole.Carrier as carrier
-use Rattle.std.specs.Cmp.{first_so, second_so}
 use Rattle.std.specs.Cmp.Lexicographic.{pointwise, same_text}
+use Rattle.flume_value.proofs.BoolLemmas.{both_true}
 use Rattle.flume_types.specs.declared.types.Ty.{Ty, Ty-F, out-Ty, roll-Ty, roll-out-Ty, out-roll-Ty, map-Ty, ind-Ty}
 use Rattle.flume_types.specs.declared.types.Ty.TheVariants as variant
 use Rattle.flume_types.specs.declared.types.Field.{Field}
@@ -37,9 +37,6 @@ pub derived-step : (a b : Ty) → (ghosts).eq a b ≡ layer_same (ghosts).eq (ou
 derived-step a b = is a b ∙ derived a b
 
 -- ---- the equation tells types apart
-
-pub both_true : (a b : Bool) → a && b ≡ true → (a ≡ true) × (b ≡ true)
-both_true a b e = (first_so a b e, second_so a b e)
 
 pointwise_tells : {A B : Type 0} (R : B → B → Bool) (h : A → B) → ((a : A) (b : B) → R (h a) b ≡ true → h a ≡ b) → (xs : List A) (ys : List B) → pointwise R (map h xs) ys ≡ true → map h xs ≡ ys
 pointwise_tells R h tells [] [] e = refl

@@ -24,13 +24,15 @@ joined (Some columns) None = None
 joined None more = None
 
 -- the columns of all fields in order, where each field has some
-abbrev pub all_columns : {X : Type 0} → (Field X → Option (List Column)) → List (Field X) → Option (List Column)
+abbrev pub all_columns : {X : Type 0} → (Field X → Option (List Column)) → List (Field X)
+    → Option (List Column)
 all_columns columns [] = Some []
 all_columns columns (field ∷ fields) = joined (columns field) (all_columns columns fields)
 
 -- the columns of a record of cells: a prefix and then the name of the field
 abbrev pub cells_under : List ℕ → List (Field Ty) → Option (List Column)
-cells_under prefix fields = all_columns (λ field. cell_column (prefix ++ field.name) (out-Ty field.ty)) fields
+cells_under prefix fields =
+    all_columns (λ field. cell_column (prefix ++ field.name) (out-Ty field.ty)) fields
 
 -- the columns of a field f: `f` where it has cells, `f.g` for each field g of a record of cells
 abbrev pub field_columns : List ℕ → Ty-F Ty → Option (List Column)

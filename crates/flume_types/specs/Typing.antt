@@ -1,6 +1,6 @@
 -- The values of a type.
-use Rattle.std.specs.Prelude.{Bool, true, false, ◌&&◌, List, [], ◌∷◌}
-use Rattle.std.specs.List.{list_all}
+use Rattle.std.specs.Prelude.{All, IsTrue, Bool, true, false, ◌&&◌, List, [], ◌∷◌, map}
+use Rattle.std.specs.List.{AllZip, list_all}
 use Rattle.flume_value.specs.declared.value.Value.{Value, Value-F, fold-Value}
 use Rattle.flume_types.specs.declared.types.Ty.{Ty, Ty-F, out-Ty}
 use Rattle.flume_types.specs.declared.types.Field.{Field}
@@ -26,3 +26,19 @@ layer_has R x t = false
 -- whether the value has the type
 abbrev pub has_type : Value → Ty → Bool
 has_type = fold-Value (Ty → Bool) (λ x t. layer_has (λ f u. f u) x (out-Ty t))
+
+-- the value has the type
+abbrev pub Has : Ty → Value → Type 0
+Has type value = IsTrue (has_type value type)
+
+-- the values all have the type
+abbrev pub AllHave : Ty → List Value → Type 0
+AllHave type values = All (Has type) values
+
+-- as many values as types, each of its own
+abbrev pub HaveTypes : List Ty → List Value → Type 0
+HaveTypes types values = AllZip Has types values
+
+-- the types of fields, in order
+abbrev pub types_of : List (Field Ty) → List Ty
+types_of fields = map (λ field. field.ty) fields

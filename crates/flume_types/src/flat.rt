@@ -75,7 +75,8 @@ fn add_fields(
 
 fn add_field(alloc: Global, field: &Field<Ty>, columns: &mut Vec<Column>) -> Result<(), ColumnFault>
     ensures flat { OnOk result (
-        joined (Some columns.old.items) (field_columns field.now.name (out-Ty field.now.ty)) ≡ Some columns.new.items) }
+        joined (Some columns.old.items) (field_columns field.now.name (out-Ty field.now.ty))
+        ≡ Some columns.new.items) }
     ensures not_flat { IfErr result (λ e. e ≢ ColumnFault.Memory →
         field_columns field.now.name (out-Ty field.now.ty) ≡ None) }
 {
@@ -96,7 +97,8 @@ fn add_cells(
     columns: &mut Vec<Column>,
 ) -> Result<(), ColumnFault>
     ensures flat { OnOk result (
-        joined (Some columns.old.items) (cells_under prefix.now fields.now) ≡ Some columns.new.items) }
+        joined (Some columns.old.items) (cells_under prefix.now fields.now)
+        ≡ Some columns.new.items) }
     ensures not_flat { IfErr result (λ e. e ≢ ColumnFault.Memory →
         cells_under prefix.now fields.now ≡ None) }
 {
@@ -109,7 +111,8 @@ fn add_cells(
 
 fn add_cell(name: Str, ty: &Ty, columns: &mut Vec<Column>) -> Result<(), ColumnFault>
     ensures flat { OnOk result (
-        joined (Some columns.old.items) (cell_column name (out-Ty ty.now)) ≡ Some columns.new.items) }
+        joined (Some columns.old.items) (cell_column name (out-Ty ty.now))
+        ≡ Some columns.new.items) }
     ensures not_flat { IfErr result (λ e. e ≢ ColumnFault.Memory →
         cell_column name (out-Ty ty.now) ≡ None) }
 {

@@ -14,8 +14,6 @@ mod deep;
 mod flat;
 mod same;
 mod table;
-#[cfg(test)]
-mod tests;
 mod types;
 mod typing;
 
@@ -23,7 +21,7 @@ pub use column::{Column, ColumnFault, ColumnKind, Columns};
 pub use copies::{copy, copy_fields};
 pub use deep::{depth, depth_law};
 pub use flat::{columns, columns_law, input_columns};
-pub use same::same_type;
+pub use same::{same_law, same_type};
 pub use table::table_type;
 pub use types::{Field, Fields, Ty};
 pub use typing::{has_type, typing_law};

@@ -7,24 +7,27 @@
 //! A bag is seen as the ascending list of its members, `bag_of`. So two bags are equal where
 //! these lists are, whatever the order in which their members came (`bag_law`), bags add up
 //! (`bag_sum_law`), and what a function gives for each member is a bag again (`bag_image_law`).
+//!
+//! A value is written as its canonical bytes, which tell it from all others (`canonical_law`).
+//! Work is shared out by key: `partition` is a hash of a key's canonical bytes.
 #![tactic(auto)]
 
 mod bag;
 mod bytes;
 mod copies;
 mod fault;
+mod hashing;
 mod held;
 mod order;
 mod pile;
-#[cfg(test)]
-mod tests;
 mod text;
 mod value;
 
 pub use bag::{bag_image_law, bag_law, bag_sum_law, sorted};
-pub use bytes::canonical_bytes;
+pub use bytes::{canonical_bytes, canonical_law};
 pub use copies::{copy, copy_all};
 pub use fault::{CallFault, Kind};
+pub use hashing::partition;
 pub use held::Held;
 pub use order::{compare, equals, order_law};
 pub use pile::Pile;

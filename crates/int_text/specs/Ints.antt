@@ -22,13 +22,18 @@ number_of digits = number_on 0 digits
 
 -- the int that digits write, if 64 bits hold it
 abbrev pub int_from : List ℕ → Option ℤ
-int_from digits = if is_numeral digits && nat_lt (number_of digits) (2 ^ 63) then Some (pos (number_of digits)) else None
+int_from digits =
+    if is_numeral digits && nat_lt (number_of digits) (2 ^ 63)
+    then Some (pos (number_of digits)) else None
 
 -- the same of digits below a minus sign
 abbrev pub int_below : List ℕ → Option ℤ
-int_below digits = if is_numeral digits && nat_le (number_of digits) (2 ^ 63) then Some (neg_ℤ (pos (number_of digits))) else None
+int_below digits =
+    if is_numeral digits && nat_le (number_of digits) (2 ^ 63)
+    then Some (neg_ℤ (pos (number_of digits))) else None
 
--- the int of a text: an optional minus sign and one or more decimal digits, of a value that 64 bits hold
+-- the int of a text: an optional minus sign and one or more decimal digits, of a value that 64 bits
+-- hold
 abbrev pub int_of : List ℕ → Option ℤ
 int_of [] = None
 int_of (byte ∷ rest) = if byte == minus then int_below rest else int_from (byte ∷ rest)

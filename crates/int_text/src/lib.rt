@@ -8,6 +8,3 @@
 mod reading;
 
 pub use reading::int_of;
-
-#[cfg(test)]
-mod tests;

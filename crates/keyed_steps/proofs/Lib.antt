@@ -1,3 +1,2 @@
-pub mod Members
 pub mod TypedFacts
 pub mod Stepping

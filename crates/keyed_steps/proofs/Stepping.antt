@@ -3,13 +3,15 @@ use Rattle.std.proofs.Common.{◌≡◌, ◌<◌, ◌≤◌, ◌+◌, ℕ, zero,
 use Rattle.std.specs.Prelude.{Result, Ok, Err}
 use Rattle.std.specs.List.{flat_map}
 use Rattle.std.proofs.lemmas.Grind.{flat_map-append}
+use Rattle.std.proofs.lemmas.List.Elements.{All-from_recursion}
 use Rattle.std.proofs.lemmas.List.{map-append, take_all, take_more}
 use Rattle.flume_value.specs.declared.fault.Kind.{Kind}
 use Rattle.flume_value.specs.declared.value.Value.{Value}
-use Rattle.flume_value.proofs.BagLemmas.{each_from}
+use Rattle.flume_value.proofs.EachLemmas.{each_from}
 use Rattle.flume_types.specs.declared.types.Ty.{Ty}
 use Rattle.flume_types.specs.declared.types.Ty.TheVariants as ty
 use Rattle.flume_types.specs.Tables.{table_of}
+use Rattle.flume_types.specs.Typing.{AllHave, Has}
 use Rattle.bag_groups.specs.Pairs.{pair, key_of}
 use Rattle.bag_groups.specs.Combining.{combined_list, combined_pair, trapped_key}
 use Rattle.bag_groups.proofs.PairOrder.{key_of-pair}
@@ -18,9 +20,8 @@ use Rattle.combine_table.specs.Combinations.{combined}
 use Rattle.keyed_steps.specs.declared.fault.KeyFault.{KeyFault}
 use Rattle.keyed_steps.specs.declared.fault.KeyFault.TheVariants.{Trap, Memory}
 use Rattle.keyed_steps.specs.Keyed.{IsFirst}
-use Rattle.keyed_steps.specs.Types.{AllHave, gives_type}
-use Rattle.keyed_steps.proofs.Members.{all_from}
-use Rattle.keyed_steps.proofs.TypedFacts.{Has, combined_pairs_have}
+use Rattle.keyed_steps.specs.Types.{gives_type}
+use Rattle.keyed_steps.proofs.TypedFacts.{combined_pairs_have}
 
 abbrev pub pairs_at : Comb → Value → List Value
 pairs_at comb g = combined_pair (key_of g) (combined_list (combined comb) g)
@@ -91,5 +92,5 @@ first_trap comb gs vs i g fault within at c h =
 pub come_typed : (comb : Comb) (gs vs : List Value) → ComeTo comb gs vs → (key value : Ty) → AllHave (table_of key (ty.List value)) gs → AllHave (table_of key (gives_type comb value)) vs
 come_typed comb gs vs c key value all =
     subst (AllHave (table_of key (gives_type comb value))) c.pairs
-    (all_from (Has (table_of key (gives_type comb value))) (flat_map (pairs_at comb) gs)
+    (All-from_recursion (Has (table_of key (gives_type comb value))) (flat_map (pairs_at comb) gs)
     (combined_pairs_have comb key value gs (each_from (Has (table_of key (ty.List value))) gs all)))

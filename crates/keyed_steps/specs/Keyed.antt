@@ -2,8 +2,8 @@
 use Rattle.std.specs.Prelude.{◌≡◌, All, List, Some, slice_get}
 use Rattle.flume_value.specs.declared.fault.Kind.{Kind}
 use Rattle.flume_value.specs.declared.value.Value.{Value}
+use Rattle.flume_value.specs.Parts.{members_or_none}
 use Rattle.bag_groups.specs.Pairs.{IsPair, value_of}
-use Rattle.bag_groups.specs.Combining.{members_of}
 use Rattle.combine_table.specs.declared.comb.Comb.{Comb}
 use Rattle.combine_table.specs.Contents.{IsList}
 use Rattle.combine_table.specs.Combinations.{Suits}
@@ -14,7 +14,7 @@ use Rattle.keyed_steps.specs.declared.fault.KeyFault.TheVariants.{Trap, Memory}
 pub record IsGroup (comb : Comb) (group : Value) : Type 0 where
   pub keyed : IsPair group
   pub listed : IsList (value_of group)
-  pub suited : All (Suits comb) (members_of (value_of group))
+  pub suited : All (Suits comb) (members_or_none (value_of group))
 
 -- a fault names the first of the traps; want of memory comes at any time
 abbrev pub IsFirst : List (Kind × Value) → KeyFault → Type 0

@@ -1,15 +1,9 @@
 -- The types that a combiner takes and gives.
-use Rattle.std.specs.Prelude.{◌≡◌, All, IsTrue, List}
-use Rattle.flume_value.specs.declared.value.Value.{Value}
+use Rattle.std.specs.Prelude.{◌≡◌}
 use Rattle.flume_types.specs.declared.types.Ty.{Ty}
 use Rattle.flume_types.specs.declared.types.Ty.TheVariants as ty
-use Rattle.flume_types.specs.Typing.{has_type}
 use Rattle.combine_table.specs.declared.comb.Comb.{Comb}
 use Rattle.combine_table.specs.declared.comb.Comb.TheVariants as by
-
--- the values all have the type
-abbrev pub AllHave : Ty → List Value → Type 0
-AllHave t vs = All (λ v. IsTrue (has_type v t)) vs
 
 -- the combiner takes values of the type
 abbrev pub TakesType : Comb → Ty → Type 0

@@ -14,8 +14,6 @@ mod fault;
 mod laws;
 mod parts;
 mod steps;
-#[cfg(test)]
-mod tests;
 
 pub use fault::KeyFault;
 pub use laws::tables_law;

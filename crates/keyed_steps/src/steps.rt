@@ -7,10 +7,12 @@ ghost use Rattle.bag_groups.specs.Pairs.{key_of};
 ghost use Rattle.bag_groups.specs.Combining.{combined_list, combined_pair, trapped_key, combined_each, traps_of_each};
 ghost use Rattle.combine_table.specs.Combinations.{combined};
 ghost use Rattle.keyed_steps.specs.Keyed.{IsGroup, IsFirst};
-ghost use Rattle.keyed_steps.specs.Types.{AllHave, gives_type};
+ghost use Rattle.flume_types.specs.Typing.{AllHave};
+ghost use Rattle.keyed_steps.specs.Types.{gives_type};
 
 use crate::fault::KeyFault;
-use crate::parts::{key, list, pair};
+use crate::parts::list;
+use bag_groups::{key, pair};
 use combine_table::{Comb, combine};
 use flume_value::{CallFault, Value};
 use std::alloc::Global;
@@ -19,12 +21,14 @@ use std::alloc::Global;
 /// It copies keys, and of the lists no more than the combiner keeps.
 pub fn combine_each(alloc: Global, comb: Comb, groups: &[Value]) -> Result<Vec<Value>, KeyFault>
     requires { All (IsGroup comb) groups.now }
-    ensures combined { IfOk result (λ values. bag_of values.items ≡ combined_each (combined comb) groups.now) }
+    ensures combined { IfOk result (λ values.
+        bag_of values.items ≡ combined_each (combined comb) groups.now) }
     ensures through { IfOk result (λ values. traps_of_each (combined comb) groups.now ≡ []) }
     ensures trap { IfErr result (IsFirst (traps_of_each (combined comb) groups.now)) }
     ensures count { IfOk result (λ values. length values.items ≡ length groups.now) }
     ensures keys { IfOk result (λ values. map key_of values.items ≡ map key_of groups.now) }
-    ensures typed { (key value : Ty) → AllHave (table_of key (ty.List value)) groups.now → IfOk result (λ values. AllHave (table_of key (gives_type comb value)) values.items) }
+    ensures typed { (key value : Ty) → AllHave (table_of key (ty.List value)) groups.now →
+        IfOk result (λ values. AllHave (table_of key (gives_type comb value)) values.items) }
 {
     let mut values = Vec::with_capacity(alloc, groups.len())?;
     for group in groups {
@@ -36,8 +40,10 @@ pub fn combine_each(alloc: Global, comb: Comb, groups: &[Value]) -> Result<Vec<V
 /// The pair with its list combined; or the trap of its list, and its key.
 fn combine_group(alloc: Global, comb: Comb, group: &Value) -> Result<Value, KeyFault>
     requires { IsGroup comb group.now }
-    ensures pair { IfOk result (λ p. combined_pair (key_of group.now) (combined_list (combined comb) group.now) ≡ p ∷ []) }
-    ensures trap { IfErr result (IsFirst (trapped_key (key_of group.now) (combined_list (combined comb) group.now))) }
+    ensures pair { IfOk result (λ p.
+        combined_pair (key_of group.now) (combined_list (combined comb) group.now) ≡ p ∷ []) }
+    ensures trap { IfErr result
+        (IsFirst (trapped_key (key_of group.now) (combined_list (combined comb) group.now))) }
 {
     let key = key(group).copy(alloc)?;
     match combine(alloc, comb, list(group)) {

@@ -1,6 +1,6 @@
 pub mod FileLemmas
-pub mod Fronts
-pub mod Places
-pub mod SlotLemmas
-pub mod RoomLemmas
 pub mod OutputLemmas
+pub mod Places
+pub mod RoomLemmas
+pub mod SaidLemmas
+pub mod SlotLemmas

@@ -1,4 +1,4 @@
--- Counts of failures, which never fall and stand still at their last value, and the causes of refusals.
+-- Counts of failures, which never fall and stand still at their last value, and causes of refusals.
 use Rattle.std.specs.Prelude.{◌≡◌, ℕ, ◌+◌, ◌-◌, ◌^◌, ◌≤◌, min, Result, OnOk, OnErr, IsErrOf}
 use Rattle.outside.specs.declared.source.BeginFault.{BeginFault}
 use Rattle.outside.specs.declared.source.BeginFault.TheVariants.{Failed}
@@ -26,7 +26,8 @@ pub record HasStrictCause {T E : Type 0} (before now : ℕ) (result : Result T E
   pub ok : OnOk result (now ≡ before)
   pub failed : OnErr result (Rose before now)
 
--- a begin of a source: the count doesn't fall, and Failed was counted; a name that is missing is no failure
+-- a begin of a source: the count doesn't fall, and Failed was counted; a name that is missing is no
+-- failure
 pub record HasBeginCause {T : Type 0} (before now : ℕ) (result : Result T BeginFault) : Type 0 where
   pub later : before ≤ now
   pub failed : IsErrOf result Failed → Rose before now

@@ -1,19 +1,31 @@
--- What the forms in memory hold.
-use Rattle.std.specs.Prelude.{ℕ, List, [], Option, Some, None, Bool, if◌then◌else◌, drop, slice_get}
-use Rattle.std.specs.Option.{option_map_or}
+-- What is seen of the forms in memory.
+use Rattle.std.specs.Prelude.{ℕ, List, Option}
+use Rattle.outside.specs.Calls.{CallList}
 use Rattle.outside.specs.declared.file.File.{File}
-use Rattle.outside.specs.declared.host.At.{At}
-use Rattle.outside.specs.Notes.{Notes}
 
--- the bytes of the k-th file, or none
-abbrev pub bytes_at : List File → ℕ → List ℕ
-bytes_at files k = option_map_or (λ file. file.bytes) (slice_get files k) []
+-- a source: its files, what is left to read of the begun file, its calls, and how many failed
+pub record SourceInMemory : Type 0 where
+  pub files : List File
+  pub rest : Option (List ℕ)
+  pub calls : CallList
+  pub faults : ℕ
 
--- what is left of the begun file
-abbrev pub rest_of : List File → Option ℕ → ℕ → List ℕ
-rest_of files None at = []
-rest_of files (Some k) at = drop at (bytes_at files k)
+-- a shelf: its files, the name of the begun one, how many were left begun, its room for files and
+-- for bytes, its calls, and how many failed
+pub record ShelfInMemory : Type 0 where
+  pub files : List File
+  pub begun : Option (List ℕ)
+  pub left : ℕ
+  pub max_files : ℕ
+  pub max_bytes : ℕ
+  pub calls : CallList
+  pub faults : ℕ
 
--- what a host tells: its notes, while it tells
-abbrev pub notes_of : Bool → List At → List At → Option Notes
-notes_of tells passed downs = if tells then Some (record { passed = passed; downs = downs }) else None
+-- a screen: its text, its room for bytes, the numbers of the calls that are to fail, how many calls
+-- there were, and how many failed
+pub record ScreenInMemory : Type 0 where
+  pub text : List ℕ
+  pub max_bytes : ℕ
+  pub fails : List ℕ
+  pub calls : ℕ
+  pub faults : ℕ

@@ -22,8 +22,8 @@ pub struct At {
     pub task: u32,
     /// The attempt of the task, counted from 1.
     pub attempt: u32,
-    /// 0 at the attempt's start, k before its k-th element: a map task's are those of its shard, a reduce
-    /// task's the groups of its partition.
+    /// 0 at the attempt's start, k before its k-th element: a map task's are those of its shard, a
+    /// reduce task's the groups of its partition.
     pub place: u64,
 }
 
@@ -31,8 +31,9 @@ pub struct At {
 #[derive(Clone, Copy, Debug, PartialEq, Eq)]
 pub struct Down;
 
-/// A worker's machine, which lets each attempt go on from place to place, or is down.
-pub trait Host: Send {
+/// A worker's machine, which lets each attempt go on from place to place, or is down. Whoever lends
+/// hosts to workers in threads of their own asks for `Host + Send`.
+pub trait Host {
     /// What the host let through and what it refused, where it tells that.
     ghost notes: { Self → Option Notes };
 
@@ -41,8 +42,8 @@ pub trait Host: Send {
 
     /// Asks whether the attempt may go on.
     ///
-    /// A host that tells after the call told before it, and has noted this place: as passed, or where it
-    /// is down among its downs. Down comes only where the count rose.
+    /// A host that tells after the call told before it, and has noted this place: as passed, or where
+    /// it is down among its downs. Down comes only where the count rose.
     fn pass(&mut self, at: At) -> Result<(), Down>
         ensures notes { IfSome (notes self.new) (λ new.
             IsSomeAnd (notes self.old) (λ old. new ≡ noted old at (is_ok result))) }

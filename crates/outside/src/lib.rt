@@ -1,14 +1,16 @@
-//! What a run touches of the world, as four traits: a `Source` of files to read, a `Shelf` of files to
-//! write, a `Screen` to print on, and `Host`s on which the attempts of tasks run.
+//! What a run touches of the world, as four traits: a `Source` of files to read, a `Shelf` of files
+//! to write, a `Screen` to print on, and `Host`s on which the attempts of tasks run.
 //!
-//! A contract sees what each of them tells (its files, its text, its notes: optional, since a real disk
-//! tells nothing) and a count of its failures, which never falls. A call answers `Failed` or `Down` only
-//! where that count rose in the call, so whoever calls can name the cause of every refusal, whatever is
-//! told. The forms in memory (`MemSource`, `MemShelf`, `MemScreen`, `MemHost`) tell all that they hold and
-//! fail exactly where a list says, for tests; `CalmHost` is the real host.
+//! A contract sees what each of them tells (its files, its text, its notes: optional, since a real
+//! disk tells nothing) and a count of its failures, which never falls. A call answers `Failed` or
+//! `Down` only where that count rose in the call, so whoever calls can name the cause of every
+//! refusal, whatever is told. The forms in memory (`MemSource`, `MemShelf`, `MemScreen`, `MemHost`)
+//! tell all that they hold and fail exactly where a list says, for tests; `CalmHost` is the real
+//! host.
 //!
-//! Above the traits stand whole transfers: `load` and `load_tried` read a file within a limit, `save` and
-//! `save_all` write files, `say` and `say_all` print a text without taking memory.
+//! Above the traits stand whole transfers: `load` and `load_tried` read a file within a limit,
+//! `save` and `save_all` write files and end each of them, `say` and `say_all` print a text without
+//! taking memory.
 #![tactic(auto)]
 
 mod file;
@@ -20,8 +22,6 @@ mod says;
 mod screen;
 mod shelf;
 mod source;
-#[cfg(test)]
-mod tests;
 
 pub use file::File;
 pub use host::{At, CalmHost, Down, Host, Phase};

@@ -52,8 +52,8 @@ impl From<AllocError> for LoadFault {
 
 /// Loads a file, at most `tries` times: again where the source failed.
 ///
-/// Missing and TooLong come as from `load`, and Failed only where the source's count rose by `tries` at
-/// least.
+/// Missing and TooLong come as from `load`, and Failed only where the source's count rose by
+/// `tries` at least.
 pub fn load_tried<S: Source>(
     alloc: Global,
     source: &mut S,
@@ -86,9 +86,9 @@ pub fn load_tried<S: Source>(
 
 /// Loads a file: to its end, or to one byte more than the limit.
 ///
-/// Where files are told, a load that goes through gives the bytes of the file of that name. Missing comes
-/// exactly where there is none, and TooLong where it has more bytes than the limit, which no load of it
-/// gives then. Failed comes only where the source's count rose.
+/// Where files are told, a load that goes through gives the bytes of the file of that name. Missing
+/// comes exactly where there is none, and TooLong where it has more bytes than the limit, which no
+/// load of it gives then. Failed comes only where the source's count rose.
 pub fn load<S: Source>(
     alloc: Global,
     source: &mut S,
@@ -137,7 +137,8 @@ fn read_piece<S: Source>(
     ensures begun { IsTrue (S.begun source.new) }
     ensures bound { IfOk result (λ n. n ≤ length buf.old) }
     ensures more { IfOk result (λ n. length bytes.new.items ≡ length bytes.old.items + n) }
-    ensures end { IfSome (S.files source.old) (λ _. IfOk result (λ n. n ≡ 0 → S.rest source.old ≡ [])) }
+    ensures end { IfSome (S.files source.old) (λ _.
+        IfOk result (λ n. n ≡ 0 → S.rest source.old ≡ [])) }
     ensures bytes { IfSome (S.files source.old) (λ _. OnOk result
         (bytes.old.items ++ S.rest source.old ≡ bytes.new.items ++ S.rest source.new)) }
     ensures later { S.faults source.old ≤ S.faults source.new }

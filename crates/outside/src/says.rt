@@ -1,21 +1,16 @@
-ghost use Rattle.std.specs.Prelude.{◌≡◌, ◌++◌, OnOk, OnErr};
 ghost use Rattle.std.specs.List.{flat_map};
-ghost use Rattle.std.specs.Option.{option_map};
-ghost use Rattle.outside.specs.Cause.{HasStrictCause};
-ghost use Rattle.outside.specs.Save.{HasFront};
-ghost use Rattle.outside.specs.Told.{WhereTold};
+ghost use Rattle.outside.specs.Says.{Says};
+ghost use Rattle.outside.specs.Seen.{seen};
 
 use crate::{Failed, Screen};
 
-/// Prints pieces of a text, one after the other. It takes no memory.
+/// Says pieces of a text, one after the other. It takes no memory.
 ///
-/// Failed comes only where the screen's count rose; then a front of the text stands behind what was there.
+/// Failed comes only where the screen's count rose; then a front of the text stands behind what was
+/// there.
 pub fn say_all<P: Screen>(screen: &mut P, pieces: &[&[u8]]) -> Result<(), Failed>
-    ensures ok { OnOk result (P.text screen.new ≡
-        option_map (λ old. old ++ flat_map (λ piece. piece.now) pieces.now) (P.text screen.old)) }
-    ensures err { OnErr result (WhereTold (P.text screen.old) (P.text screen.new)
-        (HasFront (flat_map (λ piece. piece.now) pieces.now))) }
-    ensures cause { HasStrictCause (P.faults screen.old) (P.faults screen.new) result }
+    ensures { Says (flat_map (λ piece. piece.now) pieces.now)
+        (seen P.text P.faults screen.old) (seen P.text P.faults screen.new) result }
 {
     for piece in pieces {
         say(screen, piece)?;
@@ -23,13 +18,13 @@ pub fn say_all<P: Screen>(screen: &mut P, pieces: &[&[u8]]) -> Result<(), Failed
     Ok(())
 }
 
-/// Prints a text. It takes no memory.
+/// Says a text. It takes no memory.
 ///
-/// Failed comes only where the screen's count rose; then a front of the text stands behind what was there.
+/// Failed comes only where the screen's count rose; then a front of the text stands behind what was
+/// there.
 pub fn say<P: Screen>(screen: &mut P, text: &[u8]) -> Result<(), Failed>
-    ensures ok { OnOk result (P.text screen.new ≡ option_map (λ old. old ++ text.now) (P.text screen.old)) }
-    ensures err { OnErr result (WhereTold (P.text screen.old) (P.text screen.new) (HasFront text.now)) }
-    ensures cause { HasStrictCause (P.faults screen.old) (P.faults screen.new) result }
+    ensures { Says text.now
+        (seen P.text P.faults screen.old) (seen P.text P.faults screen.new) result }
 {
     let mut done = 0;
     while done < text.len() {

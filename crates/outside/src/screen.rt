@@ -12,7 +12,8 @@ pub trait Screen {
     /// How often the screen has failed. The count never falls.
     ghost faults: { Self → ℕ };
 
-    /// Adds the first bytes of a piece to the text, and says how many: at least one, where there is one.
+    /// Adds the first bytes of a piece to the text, and says how many: at least one, where there is
+    /// one.
     ///
     /// Failed comes only where the count rose; the text is as before then.
     fn write(&mut self, piece: &[u8]) -> Result<usize, Failed>

@@ -18,7 +18,8 @@ pub struct Failed;
 
 /// Files to read, one at a time, each from its first byte.
 ///
-/// A source gives the same bytes for a name at every time: where it tells its files, no call changes them.
+/// A source gives the same bytes for a name at every time: where it tells its files, no call
+/// changes them.
 pub trait Source {
     /// The files, where the source tells them.
     ghost files: { Self → Option (List File) };
@@ -32,7 +33,8 @@ pub trait Source {
     /// How often the source has failed. The count never falls.
     ghost faults: { Self → ℕ };
 
-    /// Begins a file at its first byte. It may be called at any time, and ends the file that was begun before.
+    /// Begins a file at its first byte. It may be called at any time, and ends the file that was
+    /// begun before.
     ///
     /// Missing comes exactly where told files lack the name, and Failed only where the count rose.
     fn begin(&mut self, name: &str) -> Result<(), BeginFault>
@@ -44,7 +46,8 @@ pub trait Source {
             OnOk result (bytes_of files name.now ≡ Some (rest self.new))) }
         ensures cause { HasBeginCause (faults self.old) (faults self.new) result };
 
-    /// Reads the next bytes of the begun file into the front of the buffer, and says how many: 0 exactly at the end.
+    /// Reads the next bytes of the begun file into the front of the buffer, and says how many: 0
+    /// exactly at the end.
     ///
     /// Failed comes only where the count rose; of what is left to read nothing is said then.
     fn read(&mut self, buf: &mut [u8]) -> Result<usize, Failed>

@@ -4,7 +4,8 @@ use Rattle.std.specs.Fmt.{signed_decimal}
 use Rattle.std.specs.List.{flat_map}
 use Rattle.flume_value.specs.declared.value.Value.{Value, Value-F, fold-Value}
 
--- a byte of a text as it stands between quotes: LF, tab, CR, `\` and `"` by their escapes, any other as it is
+-- a byte of a text as it stands between quotes: LF, tab, CR, `\` and `"` by their escapes, any
+-- other as it is
 abbrev pub escaped : ℕ → List ℕ
 escaped byte =
     if byte == 10 then codes "\\n"

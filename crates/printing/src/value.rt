@@ -1,24 +1,26 @@
 // Values on a screen, said part by part. It takes no memory.
 ghost use Rattle.std.specs.Prelude.{◌≡◌, ◌==◌, ◌++◌, [], codes, if◌then◌else◌, Bool, ℕ, ℤ, List};
 ghost use Rattle.std.specs.Fmt.{signed_decimal};
+ghost use Rattle.outside.specs.Says.{Says};
+ghost use Rattle.outside.specs.Seen.{seen};
 ghost use Rattle.flume_value.specs.declared.value.Value.{Value as Value_, out-Value};
 ghost use Rattle.flume_value.specs.declared.value.Value.TheVariants as variant;
 ghost use Rattle.printing.specs.Printed.{quoted, listed, truth, layer_printed, printed};
-ghost use Rattle.printing.specs.Said.{Says, seen};
 
-use crate::screen::{say_quoted, say_text};
+use crate::screen::say_quoted;
 use flume_value::Value;
 use itoa::Buffer;
-use outside::{Failed, Screen};
+use outside::{Failed, Screen, say};
 
 /// Says a value as it is printed.
 #[cycle(say)]
 pub fn say_value<P: Screen>(screen: &mut P, value: &Value) -> Result<(), Failed>
-    ensures { Says (printed value.now) (seen P.text P.faults screen.old) (seen P.text P.faults screen.new) result }
+    ensures { Says (printed value.now)
+        (seen P.text P.faults screen.old) (seen P.text P.faults screen.new) result }
 {
     match value {
         Value::Int(n) => say_int(screen, *n),
-        Value::Bool(answer) => say_text(screen, truth(*answer)),
+        Value::Bool(answer) => say(screen, truth(*answer)),
         Value::Text(text) => say_quoted(screen, text.as_bytes()),
         Value::List(members) => say_between(screen, b"[", members.as_slice(), b"]"),
         Value::Rec(parts) => say_between(screen, b"(", parts.as_slice(), b")"),
@@ -34,9 +36,9 @@ fn say_side<P: Screen>(screen: &mut P, before: &[u8], part: &Value) -> Result<()
     ensures { Says (before.now ++ (printed part.now ++ codes ")"))
         (seen P.text P.faults screen.old) (seen P.text P.faults screen.new) result }
 {
-    say_text(screen, before)?;
+    say(screen, before)?;
     say_value(screen, part)?;
-    say_text(screen, b")")
+    say(screen, b")")
 }
 
 // Values between brackets.
@@ -50,14 +52,15 @@ fn say_between<P: Screen>(
     ensures { Says (before.now ++ (listed printed values.now ++ behind.now))
         (seen P.text P.faults screen.old) (seen P.text P.faults screen.new) result }
 {
-    say_text(screen, before)?;
+    say(screen, before)?;
     say_listed(screen, values)?;
-    say_text(screen, behind)
+    say(screen, behind)
 }
 
 #[cycle(say)]
 fn say_listed<P: Screen>(screen: &mut P, values: &[Value]) -> Result<(), Failed>
-    ensures { Says (listed printed values.now) (seen P.text P.faults screen.old) (seen P.text P.faults screen.new) result }
+    ensures { Says (listed printed values.now)
+        (seen P.text P.faults screen.old) (seen P.text P.faults screen.new) result }
 {
     for (at, value) in values.iter().enumerate() {
         say_behind(screen, comma_before(at), value)?;
@@ -68,9 +71,10 @@ fn say_listed<P: Screen>(screen: &mut P, values: &[Value]) -> Result<(), Failed>
 // A value behind a text.
 #[cycle(say)]
 fn say_behind<P: Screen>(screen: &mut P, before: &[u8], value: &Value) -> Result<(), Failed>
-    ensures { Says (before.now ++ printed value.now) (seen P.text P.faults screen.old) (seen P.text P.faults screen.new) result }
+    ensures { Says (before.now ++ printed value.now)
+        (seen P.text P.faults screen.old) (seen P.text P.faults screen.new) result }
 {
-    say_text(screen, before)?;
+    say(screen, before)?;
     say_value(screen, value)
 }
 
@@ -88,18 +92,20 @@ fn truth(answer: bool) -> &'static [u8]
 }
 
 fn say_int<P: Screen>(screen: &mut P, n: i64) -> Result<(), Failed>
-    ensures { Says (signed_decimal n) (seen P.text P.faults screen.old) (seen P.text P.faults screen.new) result }
+    ensures { Says (signed_decimal n)
+        (seen P.text P.faults screen.old) (seen P.text P.faults screen.new) result }
 {
     let mut digits = Buffer::new();
-    say_text(screen, digits.format(n).as_bytes())
+    say(screen, digits.format(n).as_bytes())
 }
 
 fn say_wide<P: Screen>(screen: &mut P, n: &i128) -> Result<(), Failed>
-    ensures { Says (signed_decimal n.now) (seen P.text P.faults screen.old) (seen P.text P.faults screen.new) result }
+    ensures { Says (signed_decimal n.now)
+        (seen P.text P.faults screen.old) (seen P.text P.faults screen.new) result }
 {
     let n = *n;
     let mut digits = Buffer::new();
-    say_text(screen, digits.format(n).as_bytes())
+    say(screen, digits.format(n).as_bytes())
 }
 
 /// The text of each variant, from those of its parts.
@@ -112,7 +118,9 @@ pub fn printed_law()
         printed (variant.List members) ≡ codes "[" ++ (listed printed members ++ codes "]") }
     ensures rec { (parts : List Value_) →
         printed (variant.Rec parts) ≡ codes "(" ++ (listed printed parts ++ codes ")") }
-    ensures left { (part : Value_) → printed (variant.Left part) ≡ codes "left(" ++ (printed part ++ codes ")") }
-    ensures right { (part : Value_) → printed (variant.Right part) ≡ codes "right(" ++ (printed part ++ codes ")") }
+    ensures left { (part : Value_) →
+        printed (variant.Left part) ≡ codes "left(" ++ (printed part ++ codes ")") }
+    ensures right { (part : Value_) →
+        printed (variant.Right part) ≡ codes "right(" ++ (printed part ++ codes ")") }
     ensures wide { (n : ℤ) → printed (variant.Wide n) ≡ signed_decimal n }
 {}

@@ -1,10 +1,14 @@
 ghost use Rattle.std.specs.Prelude.{◌≡◌};
-ghost use Rattle.outside.specs.Calls.{fails_begin, fails_call, is_named, with_begin, with_call};
+ghost use Rattle.std.specs.Prelude.{◌≤◌};
+ghost use Rattle.outside.specs.Calls.{fails_begin, fails_call, is_named, no_calls, with_begin, with_call};
+ghost use Rattle.outside.specs.Cause.{raised};
 
+use crate::Failed;
 use flume_value::Pile;
+use std::marker::Model;
 
-/// A call that is to fail: the number of the `begin` that it belongs to, counted from 0, and its own number
-/// since then, that `begin` being call 0.
+/// A call that is to fail: the number of the `begin` that it belongs to, counted from 0, and its
+/// own number since then, that `begin` being call 0.
 #[derive(Clone, Copy, Debug, PartialEq, Eq)]
 pub struct Fail {
     /// The number of the `begin`.
@@ -21,9 +25,17 @@ pub struct Calls {
     calls: u64,
 }
 
+impl Model for Calls {
+    ghost use Rattle.outside.specs.Calls.{CallList};
+
+    ghost Value = { CallList };
+
+    ghost view = { λ c. record { fails = c.fails; begins = c.begins; calls = c.calls } };
+}
+
 impl Calls {
     pub fn new(fails: Pile<Fail>) -> Self
-        ensures { result ≡ record { fails = fails; begins = 0; calls = 0 } }
+        ensures { result ≡ no_calls fails }
     {
         Calls {
             fails,
@@ -58,4 +70,13 @@ fn is_named(fails: &[Fail], begun: u64, call: u64) -> bool
     ensures { result ≡ is_named fails.now begun call }
 {
     fails.iter().any(|fail| u64::from(fail.begun) == begun && u64::from(fail.call) == call)
+}
+
+/// Counts a failure, and names it.
+pub fn failed(faults: &mut u64) -> Failed
+    ensures counted { faults.new ≡ raised faults.old }
+    ensures later { faults.old ≤ faults.new }
+{
+    *faults = faults.saturating_add(1);
+    Failed
 }

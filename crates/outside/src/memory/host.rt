@@ -1,15 +1,15 @@
-ghost use Rattle.std.specs.Prelude.{Some, true, ◌≡◌, ◌≤◌, ◌<◌, ◌+◌, ◌++◌, ◌∷◌, [], ◌↔◌, ℕ, List, vec_len, vec_capacity, is_ok, IsTrue, Contains, IsErr, IfOk, IfSome, IsSomeAnd};
-ghost use Rattle.outside.specs.Calls.{counted};
+ghost use Rattle.std.specs.Prelude.{◌≡◌, ◌↔◌, is_ok, Contains, IsErr, IfOk, IfSome, IsSomeAnd};
 ghost use Rattle.outside.specs.Cause.{HasCause};
-ghost use Rattle.outside.specs.Memory.{notes_of};
-ghost use Rattle.outside.specs.Notes.{noted};
+ghost use Rattle.outside.specs.Notes.{noted, new_host, told_by, asked};
 
 use crate::{At, Down, Host};
 use flume_value::Pile;
 use std::alloc::{AllocError, Global};
+use std::marker::Model;
 
-/// A host that is down exactly at the places of a list. It notes each place that it is asked for in room
-/// that is taken when it is made; where that is used up it notes nothing, and tells no more.
+/// A host that is down exactly at the places of a list. It notes each place that it is asked for in
+/// room that is taken when it is made; where that is used up it notes nothing, and tells no more.
+/// Contracts see its list, its notes, its room, whether it tells, and its losses.
 #[derive(Debug, Drop)]
 pub struct MemHost {
     down_at: Pile<At>,
@@ -18,18 +18,29 @@ pub struct MemHost {
     room: usize,
     tells: bool,
     losses: u64,
-    ghost passed_room: { room ≤ vec_capacity passed },
-    ghost downs_room: { room ≤ vec_capacity downs },
+}
+
+impl Model for MemHost {
+    ghost use Rattle.std.specs.Prelude.{◌≤◌, vec_capacity};
+    ghost use Rattle.outside.specs.Notes.{HostInMemory};
+
+    ghost Value = { HostInMemory };
+
+    ghost view = { λ h. record {
+      down_at = h.down_at;
+      notes = record { passed = h.passed.items; downs = h.downs.items };
+      room = h.room;
+      tells = h.tells;
+      losses = h.losses;
+    } };
+
+    ghost invariant = { λ h. (h.room ≤ vec_capacity h.passed) × (h.room ≤ vec_capacity h.downs) };
 }
 
 impl MemHost {
     /// A host that is down at these places, with room for that many notes.
     pub fn new(alloc: Global, down_at: Pile<At>, max_notes: u64) -> Result<Self, AllocError>
-        ensures down_at { IfOk result (λ host. host.down_at ≡ down_at) }
-        ensures room { IfOk result (λ host. host.room ≡ max_notes) }
-        ensures notes { IfOk result (λ host. notes_of host.tells host.passed.items host.downs.items
-            ≡ Some (record { passed = []; downs = [] })) }
-        ensures losses { IfOk result (λ host. host.losses ≡ 0) }
+        ensures { IfOk result (λ host. host ≡ new_host down_at max_notes) }
     {
         let room = max_notes as usize;
         Ok(MemHost {
@@ -44,14 +55,14 @@ impl MemHost {
 
     /// The places noted that it let through, in the order of the calls.
     pub fn passed(&self) -> &[At]
-        ensures { result.now ≡ self.now.passed.items }
+        ensures { result.now ≡ self.now.notes.passed }
     {
         &self.passed
     }
 
     /// The places noted at which it was down, in the order of the calls.
     pub fn downs(&self) -> &[At]
-        ensures { result.now ≡ self.now.downs.items }
+        ensures { result.now ≡ self.now.notes.downs }
     {
         &self.downs
     }
@@ -65,26 +76,18 @@ impl MemHost {
 }
 
 impl Host for MemHost {
-    ghost notes = { λ h. notes_of h.tells h.passed.items h.downs.items };
+    ghost notes = { told_by };
 
     ghost losses = { λ h. h.losses };
 
     fn pass(&mut self, at: At) -> Result<(), Down>
-        ensures notes { IfSome (notes_of self.new.tells self.new.passed.items self.new.downs.items) (λ new.
-            IsSomeAnd (notes_of self.old.tells self.old.passed.items self.old.downs.items) (λ old.
-            new ≡ noted old at (is_ok result))) }
+        ensures notes { IfSome (told_by self.new) (λ new.
+            IsSomeAnd (told_by self.old) (λ old. new ≡ noted old at (is_ok result))) }
         ensures cause { HasCause self.old.losses self.new.losses result }
 
         // It is down exactly where its list says.
         ensures down { IsErr result ↔ Contains self.old.down_at at }
-        ensures counted { self.new.losses ≡ counted result self.old.losses }
-
-        // It tells after the call exactly where it told before it and had room for a note.
-        ensures tells { IsTrue self.new.tells ↔
-            (IsTrue self.old.tells × (vec_len self.old.passed + vec_len self.old.downs < self.old.room)) }
-        ensures full { self.old.room ≤ vec_len self.old.passed + vec_len self.old.downs →
-            (self.new.passed.items ≡ self.old.passed.items) × (self.new.downs.items ≡ self.old.downs.items) }
-        ensures kept { (self.new.down_at ≡ self.old.down_at) × (self.new.room ≡ self.old.room) }
+        ensures asked { self.new ≡ asked self.old at (is_ok result) }
     {
         let down = self.down_at.as_slice().contains(&at);
         self.tells = self.tells

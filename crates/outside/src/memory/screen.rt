@@ -1,13 +1,15 @@
-ghost use Rattle.std.specs.Prelude.{Some, [], ◌≡◌, ◌≤◌, ◌<◌, ◌+◌, ◌++◌, ◌⊎◌, ◌↔◌, length, take, vec_len, vec_capacity, IsTrue, IsErr, IfOk, OnErr};
+ghost use Rattle.std.specs.Prelude.{Some, [], ◌≡◌, ◌≤◌, ◌<◌, ◌+◌, ◌++◌, ◌⊎◌, ◌↔◌, length, take, IsTrue, IsErr, IfOk, OnErr};
 ghost use Rattle.outside.specs.Calls.{counted, is_numbered};
 ghost use Rattle.outside.specs.Cause.{HasStrictCause, raised};
 
+use super::calls::failed;
 use crate::{Failed, Screen};
 use flume_value::Pile;
 use std::alloc::{AllocError, Global};
+use std::marker::Model;
 
-/// A text in memory, in room that is taken when it is made. A `write` takes its whole piece, or fails
-/// exactly where the list names its number, counted from 0, or the piece doesn't fit.
+/// A text in memory, in room that is taken when it is made. A `write` takes its whole piece, or
+/// fails exactly where the list names its number, counted from 0, or the piece doesn't fit.
 #[derive(Debug, Drop)]
 pub struct MemScreen {
     text: Vec<u8>,
@@ -15,17 +17,35 @@ pub struct MemScreen {
     fails: Pile<u32>,
     calls: u64,
     faults: u64,
-    ghost has_room: { room ≤ vec_capacity text },
+}
+
+impl Model for MemScreen {
+    ghost use Rattle.std.specs.Prelude.{◌≤◌, vec_capacity};
+    ghost use Rattle.outside.specs.Memory.{ScreenInMemory};
+
+    ghost Value = { ScreenInMemory };
+
+    ghost view = { λ s. record {
+      text = s.text.items;
+      max_bytes = s.room;
+      fails = s.fails;
+      calls = s.calls;
+      faults = s.faults;
+    } };
+
+    ghost invariant = { λ s. s.room ≤ vec_capacity s.text };
 }
 
 impl MemScreen {
     /// An empty screen with room for that many bytes, whose named calls are to fail.
     pub fn new(alloc: Global, fails: Pile<u32>, max_bytes: u64) -> Result<Self, AllocError>
-        ensures text { IfOk result (λ screen. screen.text.items ≡ []) }
-        ensures room { IfOk result (λ screen. screen.room ≡ max_bytes) }
-        ensures fails { IfOk result (λ screen. screen.fails ≡ fails) }
-        ensures calls { IfOk result (λ screen. screen.calls ≡ 0) }
-        ensures faults { IfOk result (λ screen. screen.faults ≡ 0) }
+        ensures { IfOk result (λ screen. screen ≡ record {
+          text = [];
+          max_bytes = max_bytes;
+          fails = fails;
+          calls = 0;
+          faults = 0;
+        }) }
     {
         let room = max_bytes as usize;
         Ok(MemScreen {
@@ -39,7 +59,7 @@ impl MemScreen {
 
     /// The bytes written.
     pub fn text(&self) -> &[u8]
-        ensures { result.now ≡ self.now.text.items }
+        ensures { result.now ≡ self.now.text }
     {
         &self.text
     }
@@ -53,25 +73,27 @@ impl MemScreen {
 }
 
 impl Screen for MemScreen {
-    ghost text = { λ s. Some s.text.items };
+    ghost text = { λ s. Some s.text };
 
     ghost faults = { λ s. s.faults };
 
     fn write(&mut self, piece: &[u8]) -> Result<usize, Failed>
         ensures ok { IfOk result (λ n.
-            Some self.new.text.items ≡ Some (self.old.text.items ++ take n piece.now)) }
-        ensures err { OnErr result (Some self.new.text.items ≡ Some self.old.text.items) }
+            Some self.new.text ≡ Some (self.old.text ++ take n piece.now)) }
+        ensures err { OnErr result (Some self.new.text ≡ Some self.old.text) }
         ensures bound { IfOk result (λ n. n ≤ length piece.now) }
         ensures some { IfOk result (λ n. 0 < length piece.now → 0 < n) }
         ensures cause { HasStrictCause self.old.faults self.new.faults result }
 
-        // It takes the whole piece, or fails exactly where its list names the call or the piece doesn't fit.
+        // It takes the whole piece, or fails exactly where its list names the call or the piece
+        // doesn't fit.
         ensures whole { IfOk result (λ n. n ≡ length piece.now) }
         ensures fails { IsErr result ↔ (IsTrue (is_numbered self.old.fails self.old.calls)
-            ⊎ (self.old.room < vec_len self.old.text + length piece.now)) }
+            ⊎ (self.old.max_bytes < length self.old.text + length piece.now)) }
         ensures counted { self.new.faults ≡ counted result self.old.faults }
         ensures calls { self.new.calls ≡ raised self.old.calls }
-        ensures kept { (self.new.fails ≡ self.old.fails) × (self.new.room ≡ self.old.room) }
+        ensures kept { (self.new.fails ≡ self.old.fails)
+            × (self.new.max_bytes ≡ self.old.max_bytes) }
     {
         let call = self.calls;
         self.calls = call.saturating_add(1);
@@ -80,8 +102,7 @@ impl Screen for MemScreen {
             || is_numbered(self.fails.as_slice(), call)
             || self.text.extend_from_slice(piece).is_err()
         {
-            self.faults = self.faults.saturating_add(1);
-            return Err(Failed);
+            return Err(failed(&mut self.faults));
         }
         Ok(piece.len())
     }

@@ -1,7 +1,6 @@
-ghost use Rattle.std.specs.Prelude.{Some, None, ◌≡◌, ◌≤◌, ◌<◌, ◌+◌, ◌^◌, ◌++◌, ◌∷◌, [], List, vec_len, vec_capacity, All, length, IfOk, OnErr, OnOk};
+ghost use Rattle.std.specs.Prelude.{Some, None, ◌≡◌, ◌≤◌, ◌<◌, ◌+◌, ◌^◌, ◌++◌, ◌∷◌, [], List, vec_len, vec_capacity, All, length, sum_by, IfOk, OnErr, OnOk};
 ghost use Rattle.std.proofs.Common.{set};
-ghost use Rattle.outside.specs.Memory.{bytes_at};
-ghost use Rattle.outside.specs.Slots.{files_of, place_of, name_at, HasRoom, total};
+ghost use Rattle.outside.specs.inner.Slots.{bytes_at, files_of, name_at, place_of, HasRoom, slot_size};
 
 use crate::File;
 use std::alloc::{AllocError, Global};
@@ -27,8 +26,8 @@ pub fn slot_place(slots: &[Slot], name: &[u8]) -> Option<usize>
 
 // The bytes of all files, names included.
 pub fn used(slots: &[Slot]) -> usize
-    requires { total slots.now < 2 ^ 64 }
-    ensures { result ≡ total slots.now }
+    requires { sum_by slot_size slots.now < 2 ^ 64 }
+    ensures { result ≡ sum_by slot_size slots.now }
 {
     let mut all = 0;
     for slot in slots {
@@ -44,7 +43,7 @@ pub fn empty_file(slots: &mut Vec<Slot>, k: usize, room: usize)
     ensures files { files_of slots.new.items ≡ set (files_of slots.old.items) k
         (record { name = name_at (files_of slots.old.items) k; bytes = [] }) }
     ensures rooms { All (HasRoom room) slots.new.items }
-    ensures total { total slots.new.items ≤ total slots.old.items }
+    ensures total { sum_by slot_size slots.new.items ≤ sum_by slot_size slots.old.items }
     ensures len { vec_len slots.new ≡ vec_len slots.old }
     ensures capacity { vec_capacity slots.new ≡ vec_capacity slots.old }
 {
@@ -55,14 +54,15 @@ pub fn empty_file(slots: &mut Vec<Slot>, k: usize, room: usize)
 pub fn add_piece(slots: &mut Vec<Slot>, k: usize, piece: &[u8], room: usize)
     requires within { k < vec_len slots.old }
     requires rooms { All (HasRoom room) slots.old.items }
-    requires fits { total slots.old.items + length piece.now ≤ room }
+    requires fits { sum_by slot_size slots.old.items + length piece.now ≤ room }
     ensures files { files_of slots.new.items ≡ set (files_of slots.old.items) k
         (record {
           name = name_at (files_of slots.old.items) k;
           bytes = bytes_at (files_of slots.old.items) k ++ piece.now;
         }) }
     ensures rooms { All (HasRoom room) slots.new.items }
-    ensures total { total slots.new.items ≡ total slots.old.items + length piece.now }
+    ensures total { sum_by slot_size slots.new.items ≡
+        sum_by slot_size slots.old.items + length piece.now }
     ensures len { vec_len slots.new ≡ vec_len slots.old }
     ensures capacity { vec_capacity slots.new ≡ vec_capacity slots.old }
 {
@@ -78,7 +78,8 @@ pub fn add_file(slots: &mut Vec<Slot>, mut slot: Slot, name: &[u8], room: usize)
     ensures files { files_of slots.new.items ≡
         files_of slots.old.items ++ record { name = name.now; bytes = [] } ∷ [] }
     ensures rooms { All (HasRoom room) slots.new.items }
-    ensures total { total slots.new.items ≡ total slots.old.items + length name.now }
+    ensures total { sum_by slot_size slots.new.items ≡
+        sum_by slot_size slots.old.items + length name.now }
     ensures len { vec_len slots.new ≡ vec_len slots.old + 1 }
     ensures capacity { vec_capacity slots.old ≤ vec_capacity slots.new }
 {
@@ -90,7 +91,8 @@ pub fn add_file(slots: &mut Vec<Slot>, mut slot: Slot, name: &[u8], room: usize)
 
 // Room for a file of at most that many bytes.
 fn new_slot(alloc: Global, room: usize) -> Result<Slot, AllocError>
-    ensures { IfOk result (λ slot. (slot.name.items ≡ []) × (slot.bytes.items ≡ []) × HasRoom room slot) }
+    ensures empty { IfOk result (λ slot. (slot.name.items ≡ []) × (slot.bytes.items ≡ [])) }
+    ensures room { IfOk result (HasRoom room) }
 {
     Ok(Slot {
         name: Vec::with_capacity(alloc, room)?,

@@ -1,35 +1,52 @@
-ghost use Rattle.std.specs.Prelude.{Some, None, true, ◌≡◌, ◌≢◌, ◌≤◌, ◌<◌, ◌↔◌, ◌++◌, [], is_ok, is_some, IsTrue, IsOk, IsErr, IsErrOf, IfSome, IfOk, OnOk, drop, take, length, MatchOption};
-ghost use Rattle.outside.specs.Calls.{counted, fails_begin, fails_call, with_begin, with_call};
+ghost use Rattle.std.specs.Prelude.{Some, None, Ok, true, ◌≡◌, ◌≢◌, ◌≤◌, ◌<◌, ◌↔◌, ◌++◌, [], is_ok, is_some, unwrap_or, IsTrue, IsErr, IsErrOf, IfOk, OnOk, take, length, MatchOption};
+ghost use Rattle.outside.specs.Calls.{counted, fails_begin, fails_call, no_calls, with_begin, with_call};
 ghost use Rattle.outside.specs.Cause.{HasCause, HasBeginCause, raised};
 ghost use Rattle.outside.specs.Files.{bytes_of};
-ghost use Rattle.outside.specs.Memory.{bytes_at, rest_of};
+ghost use Rattle.outside.specs.inner.Slots.{bytes_at};
 
-use super::calls::Calls;
+use super::calls::{Calls, failed};
 use crate::{BeginFault, Fail, Failed, File, Source};
 use flume_value::Pile;
 use std::alloc::AllocError;
+use std::marker::Model;
 
-/// Files in memory, to read. Its calls fail exactly where its list names them, but for the `begin` of a
-/// name that it lacks, which is missing.
+/// Files in memory, to read. Its calls fail exactly where its list names them, but for the `begin`
+/// of a name that it lacks, which is missing.
 #[derive(Debug, Drop)]
 pub struct MemSource {
-    files: Pile<File>,
+    files: Vec<File>,
     calls: Calls,
     begun: Option<usize>,
     at: usize,
     faults: u64,
 }
 
+impl Model for MemSource {
+    ghost use Rattle.outside.specs.Memory.{SourceInMemory};
+    ghost use Rattle.outside.specs.inner.Slots.{rest_of};
+
+    ghost Value = { SourceInMemory };
+
+    ghost view = { λ s. record {
+      files = s.files.items;
+      rest = rest_of s.files.items s.begun s.at;
+      calls = s.calls;
+      faults = s.faults;
+    } };
+}
+
 impl MemSource {
     /// A source of these files, whose named calls are to fail. It takes no memory.
     pub fn new(files: Pile<File>, fails: Pile<Fail>) -> Result<Self, AllocError>
-        ensures made { IsOk result }
-        ensures files { IfOk result (λ source. source.files ≡ files) }
-        ensures calls { IfOk result (λ source. source.calls ≡ record { fails = fails; begins = 0; calls = 0 }) }
-        ensures faults { IfOk result (λ source. source.faults ≡ 0) }
+        ensures { result ≡ Ok (record {
+          files = files;
+          rest = None;
+          calls = no_calls fails;
+          faults = 0;
+        }) }
     {
         Ok(MemSource {
-            files,
+            files: files.into_vec(),
             calls: Calls::new(fails),
             begun: None,
             at: 0,
@@ -41,7 +58,7 @@ impl MemSource {
     pub fn files(&self) -> &[File]
         ensures { result.now ≡ self.now.files }
     {
-        self.files.as_slice()
+        &self.files
     }
 
     /// How many calls have failed.
@@ -55,34 +72,36 @@ impl MemSource {
 impl Source for MemSource {
     ghost files = { λ s. Some s.files };
 
-    ghost begun = { λ s. is_some s.begun };
+    ghost begun = { λ s. is_some s.rest };
 
-    ghost rest = { λ s. rest_of s.files s.begun s.at };
+    ghost rest = { λ s. unwrap_or s.rest [] };
 
     ghost faults = { λ s. s.faults };
 
     fn begin(&mut self, name: &str) -> Result<(), BeginFault>
         ensures files { Some self.new.files ≡ Some self.old.files }
-        ensures begun { is_some self.new.begun ≡ is_ok result }
-        ensures missing { IsErrOf result BeginFault.Missing ↔ (bytes_of self.old.files name.now ≡ None) }
-        ensures rest { OnOk result (bytes_of self.old.files name.now ≡
-            Some (rest_of self.new.files self.new.begun self.new.at)) }
+        ensures begun { is_some self.new.rest ≡ is_ok result }
+        ensures missing { IsErrOf result BeginFault.Missing ↔
+            (bytes_of self.old.files name.now ≡ None) }
+        ensures rest { OnOk result
+            (bytes_of self.old.files name.now ≡ Some (unwrap_or self.new.rest [])) }
         ensures cause { HasBeginCause self.old.faults self.new.faults result }
 
         // It fails exactly where its list names the call and the file is there.
         ensures fails { IsErrOf result BeginFault.Failed ↔
             (IsTrue (fails_begin self.old.calls) × (bytes_of self.old.files name.now ≢ None)) }
-        ensures raised { IsErrOf result BeginFault.Failed → self.new.faults ≡ raised self.old.faults }
+        ensures raised { IsErrOf result BeginFault.Failed →
+            self.new.faults ≡ raised self.old.faults }
         ensures calls { self.new.calls ≡ with_begin self.old.calls }
     {
         let fails = self.calls.begin();
         self.begun = None;
         self.at = 0;
-        let Some(place) = file_place(self.files.as_slice(), name.as_bytes()) else {
+        let Some(place) = file_place(&self.files, name.as_bytes()) else {
             return Err(BeginFault::Missing);
         };
         if fails {
-            self.faults = self.faults.saturating_add(1);
+            failed(&mut self.faults);
             return Err(BeginFault::Failed);
         }
         self.begun = Some(place);
@@ -90,14 +109,14 @@ impl Source for MemSource {
     }
 
     fn read(&mut self, buf: &mut [u8]) -> Result<usize, Failed>
-        requires begun { IsTrue (is_some self.old.begun) }
+        requires begun { IsTrue (is_some self.old.rest) }
         requires room { 0 < length buf.old }
         ensures files { Some self.new.files ≡ Some self.old.files }
-        ensures begun { IsTrue (is_some self.new.begun) }
+        ensures begun { IsTrue (is_some self.new.rest) }
         ensures bound { IfOk result (λ n. n ≤ length buf.new) }
-        ensures end { IfOk result (λ n. (n ≡ 0) ↔ (rest_of self.old.files self.old.begun self.old.at ≡ [])) }
-        ensures bytes { IfOk result (λ n. rest_of self.old.files self.old.begun self.old.at ≡
-            take n buf.new ++ rest_of self.new.files self.new.begun self.new.at) }
+        ensures end { IfOk result (λ n. (n ≡ 0) ↔ (unwrap_or self.old.rest [] ≡ [])) }
+        ensures bytes { IfOk result (λ n.
+            unwrap_or self.old.rest [] ≡ take n buf.new ++ unwrap_or self.new.rest []) }
         ensures cause { HasCause self.old.faults self.new.faults result }
 
         // It fails exactly where its list names the call.
@@ -106,13 +125,12 @@ impl Source for MemSource {
         ensures calls { self.new.calls ≡ with_call self.old.calls }
     {
         if self.calls.call() {
-            self.faults = self.faults.saturating_add(1);
-            return Err(Failed);
+            return Err(failed(&mut self.faults));
         }
         let Some(place) = self.begun else {
-            return Ok(0)
+            return Ok(0);
         };
-        let Some(file) = self.files.as_slice().get(place) else {
+        let Some(file) = self.files.get(place) else {
             return Ok(0);
         };
         let bytes = file.bytes.as_bytes();

@@ -6,7 +6,7 @@ use Rattle.flume_value.specs.Order.{value_cmp}
 use Rattle.flume_value.proofs.BagLemmas.{IsSorted-bag_of}
 use Rattle.bag_groups.specs.Pairs.{IsPair}
 use Rattle.bag_groups.specs.Groups.{grouped}
-use Rattle.bag_groups.proofs.Each.{All-left}
+use Rattle.bag_groups.proofs.MemberLemmas.{All-left}
 use Rattle.bag_groups.proofs.Grouping.{pairs_begin, groups_begin, rest_ascends, groups_grow, grouped-IsSorted}
 use Rattle.bag_groups.proofs.groups.group.Goals as goal
 

@@ -2,7 +2,7 @@ use Rattle.std.proofs.Common.{◌≡◌, Some, [], ◌∷◌, ◌++◌, get_or, 
 use Rattle.std.proofs.lemmas.List.Elements.{All-pop}
 use Rattle.flume_value.specs.declared.value.Value.TheVariants as value
 use Rattle.bag_groups.specs.Pairs.{IsPair}
-use Rattle.bag_groups.proofs.Each.{All-left}
+use Rattle.bag_groups.proofs.MemberLemmas.{All-left}
 use Rattle.bag_groups.proofs.Grouping.{group_ends, run_leaves}
 use Rattle.bag_groups.proofs.groups.last_group.Goals as goal
 

@@ -1,5 +1,5 @@
 use Rattle.bag_groups.specs.Pairs.{IsPair}
-use Rattle.bag_groups.proofs.Each.{last_has}
+use Rattle.bag_groups.proofs.MemberLemmas.{last_has}
 use Rattle.bag_groups.proofs.groups.pop_of_key.Goals as goal
 
 pub key-requires : goal.key-requires

@@ -1,9 +1,11 @@
 use Rattle.std.proofs.Common.{◌≡◌, [], ◌∷◌, ap, ◌∙◌, subst}
 use Rattle.claim_board.specs.Boards.{Board, Pass, AreOf}
-use Rattle.claim_board.specs.Seats.{Seated, pass_in, pass_view, board_of}
+use Rattle.claim_board.specs.Seats.{pass_view}
+use Rattle.claim_board.specs.inner.Seats.{Seated, pass_in, board_of}
+use Rattle.std.proofs.lemmas.List.Elements.{All-head}
 use Rattle.claim_board.proofs.Seating.{joins_as}
 use Rattle.claim_board.proofs.Naming.{same_table, same_size}
-use Rattle.claim_board.proofs.Totals.{each_right}
+use Rattle.claim_board.proofs.Totals.{all_right}
 use Rattle.claim_board.proofs.seats.gather.Goals as goal
 
 pub join_seat-requires : goal.join_seat-requires
@@ -12,7 +14,9 @@ join_seat-requires c =
     let words = c.args.words.now in
     let board : Board = board_of words.table_id words.key in
     let p = c.in-Some.pass in
-    let mine = (each_right (λ (q : Pass). q.board ≡ board) c.pop.new.self.items (p ∷ []) (subst (AreOf board) c.in-Some.ensures.items i.members)).0 in
+    let mine = All-head (λ (q : Pass). q.board ≡ board) p []
+    (all_right (λ (q : Pass). q.board ≡ board) c.pop.new.self.items (p ∷ [])
+    (subst (AreOf board) c.in-Some.ensures.items i.members)) in
     let of = ap (λ (q : Pass). q.board) c.pass.view_is ∙ mine in
     let me = c.pass.invariant.0 in (
       i.table,

@@ -1,5 +1,6 @@
 use Rattle.std.proofs.Common.{◌≡◌, [], ◌++◌}
-use Rattle.claim_board.specs.Seats.{maker_view, board_of}
+use Rattle.claim_board.specs.Seats.{maker_view}
+use Rattle.claim_board.specs.inner.Seats.{board_of}
 use Rattle.claim_board.specs.Boards.{states_of, AreOf}
 use Rattle.claim_board.proofs.seats.gather.Given as goal
 

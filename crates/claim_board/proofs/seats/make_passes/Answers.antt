@@ -1,5 +1,5 @@
 use Rattle.std.proofs.Common.{[], ap, arith}
-use Rattle.claim_board.specs.Seats.{Seated}
+use Rattle.claim_board.specs.inner.Seats.{Seated}
 use Rattle.claim_board.proofs.Seating.{makes_as}
 use Rattle.claim_board.proofs.seats.make_passes.Goals as goal
 

@@ -1,5 +1,6 @@
 use Rattle.std.proofs.Common.{◌≡◌, []}
-use Rattle.claim_board.specs.Seats.{maker_view, board_of}
+use Rattle.claim_board.specs.Seats.{maker_view}
+use Rattle.claim_board.specs.inner.Seats.{board_of}
 use Rattle.claim_board.specs.Boards.{fresh_passes}
 use Rattle.claim_board.proofs.seats.make_passes.Given as goal
 

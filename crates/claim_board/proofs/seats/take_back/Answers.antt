@@ -2,7 +2,8 @@ use Rattle.std.proofs.Common.{ℕ, List, get_or, length, sym, ap, ◌∙◌, sub
 use Rattle.std.specs.Mem.Slots.{slots_items}
 use Rattle.claim_board.specs.Protocol.{IsGood}
 use Rattle.claim_board.specs.Boards.{Pass, Passes, states_of}
-use Rattle.claim_board.specs.Seats.{Seated, task_words}
+use Rattle.claim_board.specs.Seats.{task_words}
+use Rattle.claim_board.specs.inner.Seats.{Seated}
 use Rattle.claim_board.proofs.Seating.{closes_as, length_states_of}
 use Rattle.claim_board.proofs.seats.take_back.Goals as goal
 

@@ -2,7 +2,7 @@ use Rattle.std.proofs.Common.{◌∙◌, Some, ap}
 use Rattle.std.proofs.lemmas.Result.{err_from_is_err_and}
 use Rattle.csv.specs.Reading.{expected_len}
 use Rattle.csv.specs.Records.{fields_of}
-use Rattle.csv_rows.specs.Records.{left_of}
+use Rattle.csv_rows.specs.inner.Readers.{left_of}
 use Rattle.csv_rows.proofs.RowFacts.{row_fault, row_more, rows_end, wide_fault}
 use Rattle.csv_rows.proofs.read.read_table.Goals as goal
 

@@ -1,7 +1,7 @@
 use Rattle.std.proofs.Common.{◌≡◌, Some, length}
 use Rattle.csv.specs.Reading.{expected_len}
 use Rattle.csv_rows.proofs.RowFacts.{Continues}
-use Rattle.csv_rows.specs.Records.{IsPlain, left_of}
+use Rattle.csv_rows.specs.inner.Readers.{IsPlain, left_of}
 use Rattle.csv_rows.proofs.read.read_table.Given as goal
 
 abbrev pub invariant-rows : goal.invariant-rows

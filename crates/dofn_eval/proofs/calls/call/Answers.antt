@@ -8,4 +8,4 @@ pub returns-clause-typed : goal.returns-clause-typed
 returns-clause-typed c =
     let f = c.args.f.now in let x = c.args.x.now in
     typed_call f.takes f.gives f.body x c.from_vec.result c.body.ensures.typed c.requires
-    (sym (λ i. run (c.body.ensures.body i) (x ∷ []) (c.new-out.ensures.items i)) ∙ (c.in_ok-run_block.ensures.ok ∙ ap Gives (sym c.from_vec.ensures)))
+    (sym (λ i. run (c.body.ensures.body i) (x ∷ []) (c.new-out.ensures.items i)) ∙ (c.in_ok-run_block.ensures ∙ ap Gives (sym c.from_vec.ensures)))

@@ -5,4 +5,6 @@ use Rattle.flume_program.specs.Written.{written}
 use Rattle.flume_program.proofs.written.+written.Given as goal
 
 abbrev pub invariant-all_written-loop-part : goal.invariant-all_written-loop-part
-invariant-all_written-loop-part l = option_map (λ types. l.all ++ types) (all_types written (drop l.part-index l.types) l.names) ≡ all_types written l.types l.names
+invariant-all_written-loop-part l =
+    option_map (λ types. l.all ++ types) (all_types written (drop l.part-index l.types) l.names)
+    ≡ all_types written l.types l.names

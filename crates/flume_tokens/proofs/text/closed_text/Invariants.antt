@@ -3,4 +3,5 @@ use Rattle.flume_tokens.specs.Texts.{closed_text, ahead}
 use Rattle.flume_tokens.proofs.text.closed_text.Given as goal
 
 abbrev pub invariant-loop-i : goal.invariant-loop-i
-invariant-loop-i l = ahead l.content.items l.i (closed_text l.after_backslash (drop l.i l.bytes)) ≡ closed_text false l.bytes
+invariant-loop-i l = ahead l.content.items l.i (closed_text l.after_backslash (drop l.i l.bytes))
+    ≡ closed_text false l.bytes

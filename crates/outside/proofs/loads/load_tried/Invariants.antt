@@ -7,7 +7,8 @@ use Rattle.outside.proofs.loads.load_tried.Given as goal
 abbrev pub invariant-loop-turn : goal.invariant-loop-turn
 invariant-loop-turn g l = record {
   files : g.S.Source.files l.source ≡ g.S.Source.files l.fn.source;
-  found : IfSome (g.S.Source.files l.fn.source) (λ files. 0 < l._turn → bytes_of files l.name ≡ None → ⊥);
+  found : IfSome (g.S.Source.files l.fn.source)
+      (λ files. 0 < l._turn → bytes_of files l.name ≡ None → ⊥);
   later : g.S.Source.faults l.fn.source ≤ g.S.Source.faults l.source;
   rose : RoseBy l._turn (g.S.Source.faults l.fn.source) (g.S.Source.faults l.source);
 }

@@ -1,11 +1,11 @@
-use Rattle.std.proofs.Common.{◌≡◌, take}
-use Rattle.std.specs.Option.{option_map}
-use Rattle.outside.specs.Save.{with_outputs}
+use Rattle.std.proofs.Common.{map, take}
+use Rattle.outside.specs.Saves.{HasFiles, output_file}
+use Rattle.outside.specs.Seen.{seen_shelf}
 use Rattle.outside.proofs.saves.save_all.Given as goal
 
--- the outputs so far are whole
+-- the outputs so far are whole and ended
 abbrev pub invariant-loop-k : goal.invariant-loop-k
-invariant-loop-k g l = record {
-  files : g.K.Shelf.files l.shelf ≡ option_map (λ files. with_outputs files (take l.k l.outputs)) (g.K.Shelf.files l.fn.shelf);
-  faults : g.K.Shelf.faults l.shelf ≡ g.K.Shelf.faults l.fn.shelf;
-}
+invariant-loop-k g l =
+    HasFiles (map output_file (take l.k l.outputs))
+    (seen_shelf g.K.Shelf.files g.K.Shelf.begun g.K.Shelf.left g.K.Shelf.faults l.fn.shelf)
+    (seen_shelf g.K.Shelf.files g.K.Shelf.begun g.K.Shelf.left g.K.Shelf.faults l.shelf)

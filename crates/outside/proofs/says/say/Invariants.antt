@@ -6,7 +6,8 @@ use Rattle.outside.proofs.says.say.Given as goal
 abbrev pub invariant-loop-done : goal.invariant-loop-done
 invariant-loop-done g l = record {
   within : l.done ≤ length l.text;
-  text : g.P.Screen.text l.screen ≡ option_map (λ old. old ++ take l.done l.text) (g.P.Screen.text l.fn.screen);
+  text : g.P.Screen.text l.screen ≡ option_map (λ old. old ++ take l.done l.text)
+      (g.P.Screen.text l.fn.screen);
   faults : g.P.Screen.faults l.screen ≡ g.P.Screen.faults l.fn.screen;
 }
 

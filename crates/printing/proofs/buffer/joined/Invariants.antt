@@ -3,4 +3,5 @@ use Rattle.std.specs.List.{flat_map}
 use Rattle.printing.proofs.buffer.joined.Given as goal
 
 abbrev pub invariant-loop-piece : goal.invariant-loop-piece
-invariant-loop-piece l = l.text.items ++ flat_map (λ piece. piece.now) (drop l.piece-index l.pieces) ≡ flat_map (λ piece. piece.now) l.pieces
+invariant-loop-piece l = l.text.items ++ flat_map (λ piece. piece.now)
+    (drop l.piece-index l.pieces) ≡ flat_map (λ piece. piece.now) l.pieces

@@ -5,4 +5,5 @@ use Rattle.printing.proofs.buffer.push_quoted.Given as goal
 
 abbrev pub invariant-loop-byte : goal.invariant-loop-byte
 invariant-loop-byte l =
-    l.text.items ++ flat_map escaped (drop l.byte-index l.name) ≡ l.fn.text.items ++ (codes "\"" ++ flat_map escaped l.name)
+    l.text.items ++ flat_map escaped (drop l.byte-index l.name) ≡ l.fn.text.items
+    ++ (codes "\"" ++ flat_map escaped l.name)

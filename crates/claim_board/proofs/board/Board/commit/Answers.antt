@@ -1,6 +1,6 @@
 use Rattle.std.proofs.Common.{sym, ap, ◌∙◌, subst, arith}
 use Rattle.claim_board.specs.Boards.{Board, Pass, Drawn, IsOpenDraw}
-use Rattle.claim_board.specs.Seats.{board_of}
+use Rattle.claim_board.specs.inner.Seats.{board_of}
 use Rattle.claim_board.proofs.Claimable.{commit_keeps}
 use Rattle.claim_board.proofs.Moves.{commits_at}
 use Rattle.claim_board.proofs.Naming.{same_table, same_size}

@@ -2,7 +2,7 @@ use Rattle.std.proofs.Common.{ℕ, List, refl, ap, ◌∙◌}
 use Rattle.std.specs.List.{refill}
 use Rattle.claim_board.specs.Boards.{Pass, Passes}
 use Rattle.claim_board.specs.Lends.{with_members}
-use Rattle.claim_board.specs.Seats.{maker_passes}
+use Rattle.claim_board.specs.inner.Seats.{maker_passes}
 use Rattle.claim_board.proofs.passes.Passes.as_mut_slice.Goals as goal
 
 pub returns : goal.returns

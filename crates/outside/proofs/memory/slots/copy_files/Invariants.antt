@@ -1,6 +1,6 @@
 use Rattle.std.proofs.Common.{◌≡◌, ◌≤◌, take, vec_len, vec_capacity}
 use Rattle.std.specs.List.{All}
-use Rattle.outside.specs.Slots.{files_of, HasRoom}
+use Rattle.outside.specs.inner.Slots.{files_of, HasRoom}
 use Rattle.outside.proofs.memory.slots.copy_files.Given as goal
 
 abbrev pub invariant-loop-file : goal.invariant-loop-file

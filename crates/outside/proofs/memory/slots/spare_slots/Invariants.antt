@@ -1,6 +1,6 @@
 use Rattle.std.proofs.Common.{◌≡◌, vec_len}
 use Rattle.std.specs.List.{All}
-use Rattle.outside.specs.Slots.{HasRoom}
+use Rattle.outside.specs.inner.Slots.{HasRoom}
 use Rattle.outside.proofs.memory.slots.spare_slots.Given as goal
 
 abbrev pub invariant-loop-turn : goal.invariant-loop-turn

@@ -1,12 +1,13 @@
 use Rattle.std.proofs.Common.{arith, ◌≡◌, Some, None}
 use Rattle.std.proofs.lemmas.Grind.{common_steps}
-use Rattle.outside.specs.Slots.{place_of}
+use Rattle.outside.specs.inner.Slots.{place_of}
 use Rattle.outside.proofs.Places.{at_place, at_none}
 use Rattle.outside.proofs.memory.source.file_place.Goals as goal
 
 pub returns-then-eq : goal.returns-then-eq
 returns-then-eq c =
-    let found : place_of c.args.files.now c.args.name.now ≡ Some c.loop-k.k = grind (arith, common_steps) in
+    let found : place_of c.args.files.now c.args.name.now ≡ Some c.loop-k.k
+    = grind (arith, common_steps) in
     (at_place c.args.files.now c.args.name.now c.loop-k.k found).bytes_is
 
 pub returns : goal.returns

@@ -1,0 +1,386 @@
+-- What a phase has when its board is closed.
+use Rattle.std.proofs.Common.{◌≡◌, ◌≢◌, ℕ, zero, suc, ◌+◌, ◌-◌, ◌*◌, ◌/◌, ◌%◌, ◌^◌, ◌<◌, ◌≤◌, Bool, true, false, eqb, ltb, ◌&&◌, cond, ◌⊎◌, inl, inr, ⊎_elim, List, [], ◌∷◌, ◌++◌, get_or, map, length, refl, sym, ap, ◌∙◌, subst, arith, mul_comm, true≢false}
+use Rattle.std.specs.Prelude.{All, Contains, sum_by, count_by}
+use Rattle.std.specs.List.{filter}
+use Rattle.std.specs.List.Sorted.{IsPermutation, IsNonDecreasingBy}
+use Rattle.std.proofs.lemmas.Nat.{div-mul-add, mod-mul-add}
+use Rattle.std.proofs.lemmas.Bool.Decides.{eqb_tells, Decides-ltb}
+use Rattle.std.proofs.lemmas.List.Elements.{All-nil, All-cons, All-head, All-tail, All-append, All-weaker, All-map, All-filter, All-contains, filter_passes}
+use Rattle.std.proofs.lemmas.List.Sums.{sum_by-cons, sum_by-append}
+use Rattle.std.proofs.lemmas.List.Sorted.{All-permutation, sum_by-IsPermutation}
+use Rattle.std.proofs.Math.Nat.{mul-le-mul_right}
+use Rattle.std.proofs.Common.{suc-mul, length-append}
+use mathlib.Core.Option.{some}
+use lib.ListN.{get_elem?}
+use Rattle.claim_board.specs.Counts.{one_if, times, times_first}
+use Rattle.claim_board.specs.Protocol.{PassState, limit, fresh, of_task, IsGood, IsGoodPass}
+use Rattle.claim_board.specs.Boards.{Board, Pass, Tally, states_of, AreOf, fresh_passes}
+use Rattle.claim_board.specs.Laws.{UndecidedWereDrawn}
+use Rattle.claim_board.specs.Told.{closing_state, draw_of}
+use Rattle.crew.specs.declared.kept.KeptOut.{KeptOut}
+use Rattle.crew.specs.declared.drill.Entry.{Entry}
+use Rattle.crew.specs.Hosts.{Account, HaveRisen, Refused, SomeHost}
+use Rattle.crew.specs.Drills.{Settings, attempt_in, names, is_drilled, same_phase, drilled_tries}
+use Rattle.crew.specs.Outs.{IsOut, RanOn, draw_by}
+use Rattle.crew.specs.Work.{Cause, drawn_attempt}
+use Rattle.crew.specs.Work.Cause.{Won, Lost, Taken, Drilled, WentDown}
+use Rattle.crew.specs.Phases.{IsClosed, IsLostTask, CanFinish, AreOuts, Settled, Unsettled}
+use Rattle.crew.specs.inner.Halves.{CanStart, Phased, wons}
+use Rattle.crew.proofs.Lists.{part, all_times, all_both, all_zero, all_of_map, one_if_ne}
+use Rattle.crew.proofs.InOrder.{outs_of, outs_of-cons, indexed}
+use Rattle.crew.proofs.Counting.{just, first_length, all_accounted, any_counts}
+
+-- the passes of a new board are its own, have done nothing, and are as many as its crew
+pub fresh_are_of : (b : Board) (n : ℕ) → AreOf b (fresh_passes b n)
+fresh_are_of b zero = All-nil (λ (p : Pass). p.board ≡ b)
+fresh_are_of b (suc n) =
+    let Q : Pass → Type 0 = λ p. p.board ≡ b in
+    All-append Q (fresh_passes b n) (record { board = b; state = fresh n } ∷ []) (fresh_are_of b n)
+    (All-cons Q _ [] refl (All-nil Q))
+
+pub fresh_done_nothing : (b : Board) (n : ℕ)
+    → All (λ p. (p.state.won ≡ []) × (p.state.draws ≡ [])) (fresh_passes b n)
+fresh_done_nothing b zero = All-nil (λ (p : Pass). (p.state.won ≡ []) × (p.state.draws ≡ []))
+fresh_done_nothing b (suc n) =
+    let Q : Pass → Type 0 = λ p. (p.state.won ≡ []) × (p.state.draws ≡ []) in
+    All-append Q (fresh_passes b n) (record { board = b; state = fresh n } ∷ [])
+    (fresh_done_nothing b n) (All-cons Q _ [] (refl, refl) (All-nil Q))
+
+pub length_fresh : (b : Board) (n : ℕ) → length (fresh_passes b n) ≡ n
+length_fresh b zero = refl
+length_fresh b (suc n) =
+    let r = length_fresh b n in
+    omega (arith, length-append (fresh_passes b n) (record { board = b; state = fresh n } ∷ []))
+
+pub can_start : (b : Board) (count tries hosts : ℕ) (ps : List Pass) → ps ≡ fresh_passes b b.crew
+    → b.tasks ≡ count → b.tries ≡ tries → b.crew ≡ hosts → 0 < count → 0 < hosts
+    → CanStart b count tries hosts ps
+can_start b count tries hosts ps is tasks try crew some_task some_host =
+    let len : length ps ≡ b.crew = ap length is ∙ length_fresh b b.crew in record {
+      board = subst (AreOf b) (sym is) (fresh_are_of b b.crew);
+      fresh = subst (All (λ (p : Pass). (p.state.won ≡ []) × (p.state.draws ≡ []))) (sym is)
+          (fresh_done_nothing b b.crew);
+      passes = (omega arith, omega arith);
+      tasks = (tasks, some_task);
+      tries = try;
+    }
+
+-- the draws of a task that passes have won
+wins_of_all : (tasks t : ℕ) (ps : List Pass)
+    → sum_by (λ (q : PassState). of_task tasks t q.won) (states_of ps) ≡ of_task tasks t (wons ps)
+wins_of_all tasks t [] = refl
+wins_of_all tasks t (p ∷ ps) =
+    let r = wins_of_all tasks t ps in
+    omega (
+      arith,
+      sum_by-cons (λ (q : PassState). of_task tasks t q.won) p.state (states_of ps),
+      sum_by-append (λ (d : ℕ). one_if (eqb (d % tasks) t)) p.state.won (wons ps),
+    )
+
+all_wons : (P : ℕ → Type 0) (ps : List Pass) → All (λ q. All P q.won) (states_of ps)
+    → All P (wons ps)
+all_wons P [] h = All-nil P
+all_wons P (p ∷ ps) h =
+    let Q : PassState → Type 0 = λ q. All P q.won in
+    All-append P p.state.won (wons ps) (All-head Q p.state (states_of ps) h)
+    (all_wons P ps (All-tail Q p.state (states_of ps) h))
+
+inside_limit : (tasks tries t k : ℕ) → t < tasks → k < tries → k * tasks + t < tasks * tries
+inside_limit tasks tries t k small few =
+    let below : suc k * tasks ≤ tries * tasks = mul-le-mul_right tasks few in
+    let turned : tries * tasks ≡ tasks * tries = mul_comm tries tasks in
+    let more : suc k * tasks ≡ k * tasks + tasks = suc-mul k tasks in omega arith
+
+-- only the smaller tasks
+outs_of_filter : {O : Type 0} (t task : ℕ) → t < task → (ks : List (KeptOut O))
+    → outs_of t (filter (λ k. ltb k.task task) ks) ≡ outs_of t ks
+outs_of_filter t task l [] = refl
+outs_of_filter {O} t task l (k ∷ ks) =
+    go (ltb k.task task) refl (outs_of_filter t task l ks) ∙ sym (outs_of-cons t k ks)
+  where
+    go : (b : Bool) → ltb k.task task ≡ b
+        → outs_of t (filter (λ (j : KeptOut O). ltb j.task task) ks) ≡ outs_of t ks
+        → outs_of t (cond b (k ∷ filter (λ (j : KeptOut O). ltb j.task task) ks)
+        (filter (λ (j : KeptOut O). ltb j.task task) ks))
+        ≡ one_if (eqb k.task t) + outs_of t ks
+    go true is r =
+        outs_of-cons t k (filter (λ (j : KeptOut O). ltb j.task task) ks)
+        ∙ ap (λ (n : ℕ). one_if (eqb k.task t) + n) r
+    go false is r =
+        let z : one_if (eqb k.task t) ≡ 0 =
+        one_if_ne k.task t (λ e. true≢false (sym ((Decides-ltb k.task task).1
+        (subst (λ (x : ℕ). x < task) (sym e) l)) ∙ is)) in omega arith
+
+module _ (tasks : ℕ) (s : Settings) {O : Type 0} (is_value : ℕ → O → Type 0) (places : ℕ → ℕ) where
+  -- an attempt's draw names its task and itself
+  draw_task : (k : KeptOut O) → IsOut is_value tasks s k → draw_by tasks k % tasks ≡ k.task
+  draw_task k h = mod-mul-add (k.attempt - 1) tasks k.task h.task
+
+  draw_attempt : (k : KeptOut O) → IsOut is_value tasks s k
+      → draw_by tasks k / tasks + 1 ≡ k.attempt
+  draw_attempt k h =
+      let e = div-mul-add (k.attempt - 1) tasks k.task h.task in
+      let some_attempt = h.attempt.0 in omega arith
+
+  outs_of_draws : (t : ℕ) (ks : List (KeptOut O)) → All (IsOut is_value tasks s) ks
+      → of_task tasks t (map (draw_by tasks) ks) ≡ outs_of t ks
+  outs_of_draws t [] h = refl
+  outs_of_draws t (k ∷ ks) h =
+      let I = IsOut is_value tasks s in
+      let r = outs_of_draws t ks (All-tail I k ks h) in
+      let e : one_if (eqb (draw_by tasks k % tasks) t) ≡ one_if (eqb k.task t) =
+      ap (λ (x : ℕ). one_if (eqb x t)) (draw_task k (All-head I k ks h)) in
+      omega (
+        arith,
+        outs_of-cons t k ks,
+        sum_by-cons (λ (d : ℕ). one_if (eqb (d % tasks) t)) (draw_by tasks k)
+            (map (draw_by tasks) ks),
+      )
+
+  module _ (r : Tally) (ps : List Pass) (us vs : List Account) (ks : List (KeptOut O))
+      (good : IsGood tasks s.tries (closing_state r ps))
+      (h : Phased tasks s is_value places ps us vs ks) (some_task : 0 < tasks)
+      (as_many : length (states_of ps) ≡ length us) where
+    closed : IsClosed tasks s (length us) (closing_state r ps)
+    closed = record {
+      good = good;
+      passes = as_many;
+      ended = All-map (λ (q : PassState). q.ended ≡ true) (λ (p : Pass). p.state) ps h.ended;
+    }
+
+    abbrev Fact : KeptOut O → Type 0
+    Fact k =
+        (IsOut is_value tasks s k × SomeHost (λ a b. RanOn places s a b k) us vs)
+        × (get_or r.winners k.task 0 ≡ k.attempt)
+
+    outs : All (IsOut is_value tasks s) ks
+    outs =
+        All-weaker (λ k. IsOut is_value tasks s k × SomeHost (λ a b. RanOn places s a b k) us vs)
+        (IsOut is_value tasks s) (λ k t. t.0) ks h.kept
+
+    facts : All Fact ks
+    facts =
+        let Word : ℕ → Type 0 =
+        λ d. (d < tasks * s.tries) × (get_or r.winners (d % tasks) 0 ≡ d / tasks + 1) in
+        let K : KeptOut O → Type 0 =
+        λ k. IsOut is_value tasks s k × SomeHost (λ a b. RanOn places s a b k) us vs in
+        let words = all_wons Word ps
+        (All-weaker (IsGoodPass tasks s.tries r.winners) (λ q. All Word q.won) (λ q g. g.won)
+        (states_of ps) good.passes) in
+        let named = all_of_map Word (draw_by tasks) ks (subst (All Word) h.won words) in
+        All-weaker (λ k. K k × Word (draw_by tasks k)) Fact
+        (λ k t. (
+          t.0,
+          ap (λ (x : ℕ). get_or r.winners x 0) (sym (draw_task k t.0.0))
+              ∙ (t.1.1 ∙ draw_attempt k t.0.0),
+        )) ks
+        (all_both K (λ k. Word (draw_by tasks k)) ks h.kept named)
+
+    one_out : (t : ℕ) → t < tasks → get_or r.winners t 0 ≢ 0 → outs_of t ks ≡ 1
+    one_out t small full =
+        sym (outs_of_draws t ks outs)
+        ∙ (ap (of_task tasks t) (sym h.won)
+        ∙ (sym (wins_of_all tasks t ps) ∙ (good.one_winner t small).1 full))
+
+    are_outs : (n : ℕ) (xs ls : List (KeptOut O)) → All Fact xs → All (λ k. k.task < n) xs
+        → ((t : ℕ) → t < n → outs_of t xs ≡ 1) → IsPermutation xs ls
+        → IsNonDecreasingBy (λ k. k.task) ls
+        → AreOuts tasks s is_value places us vs (closing_state r ps) n ls
+    are_outs n xs ls each low one moved rise =
+        let all = All-permutation Fact xs ls moved each in
+        let below = All-permutation (λ (k : KeptOut O). k.task < n) xs ls moved low in
+        let by_task = indexed n ls below rise
+        (λ t small. sum_by-IsPermutation (λ (k : KeptOut O). one_if (eqb k.task t)) xs ls moved
+        ∙ one t small) in record {
+          count = by_task.0;
+          order = by_task.1;
+          outs = All-weaker Fact (IsOut is_value tasks s) (λ k t. t.0.0) ls all;
+          winners = All-weaker Fact (λ k. get_or r.winners k.task 0 ≡ k.attempt) (λ k t. t.1) ls
+              all;
+          ran = All-weaker Fact (λ k. SomeHost (λ a b. RanOn places s a b k) us vs)
+              (λ k t. t.0.1) ls all;
+        }
+
+    pub settled : ((t : ℕ) → t < tasks → get_or r.winners t 0 ≢ 0) → (ls : List (KeptOut O))
+        → IsPermutation ks ls → IsNonDecreasingBy (λ k. k.task) ls
+        → Settled tasks s is_value places us vs ls
+    settled all ls moved rise = record {
+      board = closing_state r ps;
+      closed = closed;
+      outs = are_outs tasks ks ls facts
+          (All-weaker (IsOut is_value tasks s) (λ k. k.task < tasks) (λ k t. t.task) ks outs)
+          (λ t small. one_out t small (all t small)) moved rise;
+    }
+
+    module _ (law : UndecidedWereDrawn) (task : ℕ) (small : task < tasks)
+        (none : get_or r.winners task 0 ≡ 0) (some_pass : 0 < length ps) where
+      -- why the attempt k + 1 of the task was not won
+      abbrev Why : ℕ → Type 0
+      Why k =
+          (is_drilled s.drill (attempt_in s task (k + 1)) ≡ true)
+          ⊎ (0 < times (k * tasks + task) h.downs)
+
+      -- a cause that no winner and no loss has
+      cause_left_over : (k : ℕ) (q : PassState) → times (k * tasks + task) q.won ≡ 0
+          → times_first (k * tasks + task) q.lost ≡ 0 → IsGoodPass tasks s.tries r.winners q
+          → Cause tasks s h.downs q (k * tasks + task) → Why k
+      cause_left_over k q no_win no_loss g (Won x) = absurd (omega arith)
+      cause_left_over k q no_win no_loss g (Lost x) = absurd (omega arith)
+      cause_left_over k q no_win no_loss g (Taken a full x) =
+          let turn : (k * tasks + task) % tasks ≡ task = mod-mul-add k tasks task small in
+          let seen = All-contains
+          (λ (y : ℕ × ℕ). (y.0 < tasks) × ((y.1 ≡ 0) ⊎ (get_or r.winners y.0 0 ≡ y.1)))
+          q.seen ((k * tasks + task) % tasks, a) g.seen x in
+          absurd (full (⊎_elim (λ (z : a ≡ 0). z)
+          (λ (z : get_or r.winners ((k * tasks + task) % tasks) 0 ≡ a).
+          sym z ∙ (ap (λ (u : ℕ). get_or r.winners u 0) turn ∙ none)) seen.1))
+      cause_left_over k q no_win no_loss g (Drilled x) =
+          inl (subst (λ (y : ℕ × ℕ). is_drilled s.drill (attempt_in s y.0 (y.1 + 1)) ≡ true)
+          (λ i. (mod-mul-add k tasks task small i, div-mul-add k tasks task small i)) x)
+      cause_left_over k q no_win no_loss g (WentDown x) = inr x
+
+      attempt_cause : (k : ℕ) → k < s.tries → Why k
+      attempt_cause k few =
+          let d : ℕ = k * tasks + task in
+          let states = states_of ps in
+          let drawn = law tasks s.tries (closing_state r ps) 0 (first_state ps) task k good
+          (first_at ps some_pass) (first_ended ps h.ended some_pass) small none few in
+          let C : PassState → Type 0 =
+          λ q. All (λ x. x < limit tasks s.tries → Cause tasks s h.downs q x) q.draws in
+          let G : PassState → Type 0 = λ q. IsGoodPass tasks s.tries r.winners q in
+          let W : PassState → Type 0 = λ q. times d q.won ≡ 0 in
+          let L : PassState → Type 0 = λ q. times_first d q.lost ≡ 0 in
+          let some_one : 0 < sum_by (λ (q : PassState). times d q.draws) states =
+          (let e = drawn.0 in omega arith) in
+          let all = all_both (λ q. C q × G q) (λ q. W q × L q) states
+          (all_both C G states (All-map C (λ (p : Pass). p.state) ps h.causes) good.passes)
+          (all_both W L states
+          (all_zero (λ (q : PassState). times d q.won) states drawn.1)
+          (all_zero (λ (q : PassState). times_first d q.lost) states drawn.2)) in
+          let q = part (λ q. (C q × G q) × (W q × L q)) (λ (q : PassState). times d q.draws) states
+          all some_one in
+          let low = inside_limit tasks s.tries task k small few in
+          let why = all_times (λ x. x < limit tasks s.tries → Cause tasks s h.downs q.0 x) d
+          q.0.draws q.1.0.0 q.2 low in
+          cause_left_over k q.0 q.1.1.0 q.1.1.1 q.1.0.1 why
+        where
+          first_state : (qs : List Pass) → PassState
+          first_state [] = fresh 0
+          first_state (p ∷ qs) = p.state
+
+          first_at : (qs : List Pass) → 0 < length qs
+              → get_elem? (states_of qs) 0 ≡ some (first_state qs)
+          first_at [] l = absurd (omega arith)
+          first_at (p ∷ qs) l = refl
+
+          first_ended : (qs : List Pass) → All (λ p. p.state.ended ≡ true) qs → 0 < length qs
+              → (first_state qs).ended ≡ true
+          first_ended [] e l = absurd (omega arith)
+          first_ended (p ∷ qs) e l = All-head (λ (q : Pass). q.state.ended ≡ true) p qs e
+
+      both_yes : (a b c d : ℕ) → a ≡ b → c ≡ d → 1 ≤ one_if (eqb a b && eqb c d)
+      both_yes a b c d e f =
+          ⊎_elim
+          (λ (t : (eqb a b ≡ true) × (a ≡ b)).
+          ⊎_elim
+          (λ (u : (eqb c d ≡ true) × (c ≡ d)).
+          let o : one_if (eqb a b && eqb c d) ≡ 1 =
+          ap (λ (x : Bool × Bool). one_if (x.0 && x.1)) (λ i. (t.0 i, u.0 i)) in
+          omega arith)
+          (λ (u : (eqb c d ≡ false) × (c ≢ d)). absurd (u.1 f)) (eqb_tells c d))
+          (λ (t : (eqb a b ≡ false) × (a ≢ b)). absurd (t.1 e)) (eqb_tells a b)
+
+      -- a down of a draw of the task counts for its attempt
+      down_counts : (k : ℕ) (ds : List ℕ) → 0 < times (k * tasks + task) ds
+          → 0 < just (λ _. true) (λ d. eqb (d % tasks) task) (λ d. d / tasks + 1) (k + 1) ds
+      down_counts k [] l = absurd (omega arith)
+      down_counts k (d ∷ ds) l =
+          let named = k * tasks + task in
+          let count : ℕ → ℕ =
+          λ x. one_if (true && (eqb (x % tasks) task && eqb (x / tasks + 1) (k + 1))) in
+          let c = sum_by-cons (λ (x : ℕ). one_if (eqb x named)) d ds in
+          let c' = sum_by-cons count d ds in
+          ⊎_elim
+          (λ (t : (eqb d named ≡ true) × (d ≡ named)).
+          let turn : d % tasks ≡ task =
+          ap (λ (y : ℕ). y % tasks) t.1 ∙ mod-mul-add k tasks task small in
+          let round : d / tasks + 1 ≡ k + 1 =
+          ap (λ (y : ℕ). y / tasks + 1) t.1
+          ∙ ap (λ (y : ℕ). y + 1) (div-mul-add k tasks task small) in
+          let one = both_yes (d % tasks) task (d / tasks + 1) (k + 1) turn round in omega arith)
+          (λ (t : (eqb d named ≡ false) × (d ≢ named)).
+          let z : one_if (eqb d named) ≡ 0 = ap one_if t.0 in
+          let more = down_counts k ds (omega arith) in omega arith)
+          (eqb_tells d named)
+
+      accounted : s.tries ≤ drilled_tries s task + length h.downs
+      accounted =
+          let p : Entry → Bool = λ e. eqb e.stage s.stage && same_phase e.phase s.phase in
+          let q : Entry → Bool = λ e. eqb e.task task in
+          let a : Entry → ℕ = λ e. e.attempt in
+          let p' : ℕ → Bool = λ _. true in
+          let q' : ℕ → Bool = λ d. eqb (d % tasks) task in
+          let a' : ℕ → ℕ = λ d. d / tasks + 1 in
+          let each = λ (k : ℕ) (few : k < s.tries).
+          ⊎_elim
+          (λ (x : is_drilled s.drill (attempt_in s task (k + 1)) ≡ true).
+          inl (any_counts (names (attempt_in s task (k + 1))) s.drill x))
+          (λ (x : 0 < times (k * tasks + task) h.downs). inr (down_counts k h.downs x))
+          (attempt_cause k few) in
+          let le = all_accounted p q a p' q' a' s.drill h.downs s.tries each in
+          let few = first_length p' q' a' s.tries h.downs in omega arith
+
+      lost : IsLostTask tasks s us vs task
+      lost = record {
+        losses = length h.downs;
+        risen = h.risen;
+        counted = accounted;
+        told = λ attempt some_attempt few.
+            let k = attempt - 1 in
+            let is : k + 1 ≡ attempt = omega arith in
+            let Told : ℕ → Type 0 = λ n.
+            (is_drilled s.drill (attempt_in s task n) ≡ true)
+            ⊎ SomeHost (λ a b. Refused a b (attempt_in s task n)) us vs in
+            subst Told is
+            (⊎_elim (λ (x : is_drilled s.drill (attempt_in s task (k + 1)) ≡ true). inl x)
+            (λ (x : 0 < times (k * tasks + task) h.downs).
+            inr (subst
+            (λ (y : ℕ × ℕ).
+            SomeHost (λ a b. Refused a b (attempt_in s y.0 (y.1 + 1))) us vs)
+            (λ i. (mod-mul-add k tasks task small i, div-mul-add k tasks task small i))
+            (all_times (λ d. SomeHost (λ a b. Refused a b (drawn_attempt tasks s d)) us vs)
+            (k * tasks + task) h.downs h.told x)))
+            (attempt_cause k (omega arith)));
+      }
+
+      pub unsettled : ((t : ℕ) → t < task → get_or r.winners t 0 ≢ 0) → (ls : List (KeptOut O))
+          → IsPermutation (filter (λ k. ltb k.task task) ks) ls → IsNonDecreasingBy (λ k. k.task) ls
+          → Unsettled tasks s is_value places us vs task ls
+      unsettled smaller ls moved rise =
+          let test : KeptOut O → Bool = λ k. ltb k.task task in record {
+            board = closing_state r ps;
+            closed = closed;
+            is_task = small;
+            none = none;
+            least = smaller;
+            lost = lost;
+            below = are_outs task (filter test ks) ls (All-filter test Fact ks facts)
+                (All-weaker (λ k. test k ≡ true) (λ k. k.task < task)
+                (λ k t. (Decides-ltb k.task task).0 t) (filter test ks) (filter_passes test ks))
+                (λ t l. outs_of_filter t task l ks ∙ one_out t (omega arith) (smaller t l)) moved
+                rise;
+          }
+
+-- a phase that gives up on a task has lost each of its tries
+pub cannot_finish : (tasks : ℕ) (s : Settings) (us vs : List Account) (task : ℕ) → task < tasks
+    → IsLostTask tasks s us vs task → CanFinish tasks s us vs → ⊥
+cannot_finish tasks s us vs task small lost can =
+    can task small (fewer us vs (s.tries - drilled_tries s task) lost.losses
+    (let c = lost.counted in omega arith) lost.risen)
+  where
+    fewer : (us vs : List Account) (m n : ℕ) → m ≤ n → HaveRisen n us vs → HaveRisen m us vs
+    fewer us vs m n l h =
+        ⊎_elim
+        (λ (x : sum_by (λ (a : Account). a.losses) us + n ≤ sum_by (λ (b : Account). b.losses) vs).
+        inl (omega arith))
+        (λ (x : (b : Account) × Contains vs b × (2 ^ 64 - 1 ≤ b.losses)). inr x) h

@@ -1,0 +1,40 @@
+use Rattle.std.proofs.Common.{rules, map}
+use Rattle.std.specs.Prelude.{IfOk}
+use Rattle.std.specs.List.{AllZip}
+use Rattle.std.proofs.lemmas.List.{map-append}
+use Rattle.crew.specs.Hosts.{Account, account, Grew}
+use Rattle.crew.specs.inner.Halves.{Phased}
+use Rattle.crew.proofs.Accounts.{all_grew-append}
+use Rattle.crew.proofs.Joining.{phased_both}
+use Rattle.crew.proofs.halves.+halves.Goals as goal
+
+pub both_halves-returns-clause-phased : goal.both_halves-returns-clause-phased
+both_halves-returns-clause-phased g t c =
+    let f : g.row.H.Denot → Account = account g.H.Host.notes g.H.Host.losses in
+    let is_value = g.T.Tasks.is_value c.args.tasks.now in
+    let places = g.T.Tasks.places c.args.tasks.now in
+    let tasks = g.T.Tasks.count_of c.args.tasks.now in
+    let s = c.args.phase.now in
+    let grew : AllZip Grew (map f c.args.first_hosts.now) (map f c.first_hosts-1.given.0) =
+    search rules in
+    let first : IfOk c.join_mut-first.result.0 (Phased tasks s is_value places
+    c.first_passes-1.given.0 (map f c.args.first_hosts.now) (map f c.first_hosts-1.given.0)) =
+    search rules in
+    let last : IfOk c.join_mut-first.result.1 (Phased tasks s is_value places
+    c.last_passes-1.given.0 (map f c.args.last_hosts.now) (map f c.last_hosts-1.given.0)) =
+    search rules in
+    rw c.in_ok-append.ensures
+    (phased_both tasks s is_value places _ _ _ _ _ _ _ _ grew
+    (rw c.in_ok-all.was at first) (rw c.in_ok-rest.was at last))
+
+pub work_all-returns-clause-grew : goal.work_all-returns-clause-grew
+work_all-returns-clause-grew g t c =
+    let f : g.row.H.Denot → Account = account g.H.Host.notes g.H.Host.losses in
+    let cut = c.split_at_mut-first_hosts in
+    let first = c.both_halves.new.first_hosts in
+    let last = c.both_halves.new.last_hosts in
+    rw (
+      cut.ensures.value,
+      map-append f cut.result.0.now cut.result.1.now,
+      map-append f first last,
+    ) (all_grew-append _ _ _ _ c.both_halves.ensures.first c.both_halves.ensures.last)

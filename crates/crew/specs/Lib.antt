@@ -1,0 +1,7 @@
+pub mod Hosts
+pub mod Drills
+pub mod Attempts
+pub mod Outs
+pub mod Work
+pub mod Phases
+pub mod inner

@@ -1,0 +1,137 @@
+// Several workers, forked and joined over halves.
+ghost use Rattle.std.specs.Prelude.{◌≡◌, ◌++◌, length, map, IfOk};
+ghost use Rattle.std.specs.List.{AllZip};
+ghost use Rattle.std.specs.Thread.{IsSync, IsSend};
+ghost use Rattle.claim_board.specs.Boards.{AreOf};
+ghost use Rattle.crew.specs.Hosts.{account, Grew};
+ghost use Rattle.crew.specs.inner.Halves.{CanStart, Phased};
+
+use crate::kept::Kept;
+use crate::settings::PhaseSettings;
+use crate::tasks::Tasks;
+use crate::worker::work;
+use claim_board::{Board, Pass};
+use outside::Host;
+use std::alloc::{AllocError, Global};
+use std::thread::{Threads, join_mut};
+
+// Each host works with the pass at its place. Halves of the hosts run side by side: where no thread
+// can be started `join_mut` runs both here.
+#[cycle(halves)]
+pub(crate) fn work_all<R: Threads + Sync, T: Tasks, H: Host + Send>(
+    rt: &R,
+    alloc: &Global,
+    board: &Board,
+    tasks: &T,
+    phase: &PhaseSettings<'_>,
+    hosts: &mut [H],
+    passes: &mut [Pass],
+) -> Result<Kept<T::Out>, AllocError>
+    requires start { CanStart board.now (T.count_of tasks.now) phase.now.tries
+        (length hosts.old) passes.old }
+    ensures same { AreOf board.now passes.new }
+    ensures grew { AllZip Grew
+        (map (account H.notes H.losses) hosts.old) (map (account H.notes H.losses) hosts.new) }
+    ensures phased { IfOk result (Phased (T.count_of tasks.now) phase.now
+        (T.is_value tasks.now) (T.places tasks.now) passes.new
+        (map (account H.notes H.losses) hosts.old) (map (account H.notes H.losses) hosts.new)) }
+{
+    if passes.len() == 1 {
+        return work_alone(alloc, board, tasks, phase, hosts, passes);
+    }
+    let half = passes.len() / 2;
+    let (first_hosts, last_hosts) = hosts.split_at_mut(half);
+    let (first_passes, last_passes) = passes.split_at_mut(half);
+    both_halves(
+        rt,
+        alloc,
+        board,
+        tasks,
+        phase,
+        first_hosts,
+        first_passes,
+        last_hosts,
+        last_passes,
+    )
+}
+
+#[cycle(halves)]
+fn both_halves<R: Threads + Sync, T: Tasks, H: Host + Send>(
+    rt: &R,
+    alloc: &Global,
+    board: &Board,
+    tasks: &T,
+    phase: &PhaseSettings<'_>,
+    first_hosts: &mut [H],
+    first_passes: &mut [Pass],
+    last_hosts: &mut [H],
+    last_passes: &mut [Pass],
+) -> Result<Kept<T::Out>, AllocError>
+    requires first { CanStart board.now (T.count_of tasks.now) phase.now.tries
+        (length first_hosts.old) first_passes.old }
+    requires last { CanStart board.now (T.count_of tasks.now) phase.now.tries
+        (length last_hosts.old) last_passes.old }
+    ensures same { AreOf board.now first_passes.new × AreOf board.now last_passes.new }
+    ensures first { AllZip Grew (map (account H.notes H.losses) first_hosts.old)
+        (map (account H.notes H.losses) first_hosts.new) }
+    ensures last { AllZip Grew (map (account H.notes H.losses) last_hosts.old)
+        (map (account H.notes H.losses) last_hosts.new) }
+    ensures phased { IfOk result (Phased (T.count_of tasks.now) phase.now
+        (T.is_value tasks.now) (T.places tasks.now) (first_passes.new ++ last_passes.new)
+        (map (account H.notes H.losses) first_hosts.old
+        ++ map (account H.notes H.losses) last_hosts.old)
+        (map (account H.notes H.losses) first_hosts.new
+        ++ map (account H.notes H.losses) last_hosts.new)) }
+{
+    let mut front = || -> Result<Kept<T::Out>, AllocError>
+        requires { IsSync R.row × IsSync T.row × IsSend H.row × IsSend T.Out.row
+            × CanStart board.now (T.count_of tasks.now) phase.now.tries
+            (length first_hosts.now) first_passes.now }
+        ensures { AreOf board.entry.now first_passes.exit.now
+            × AllZip Grew (map (account H.notes H.losses) first_hosts.entry.now)
+            (map (account H.notes H.losses) first_hosts.exit.now)
+            × IfOk result (Phased (T.count_of tasks.entry.now) phase.entry.now
+            (T.is_value tasks.entry.now) (T.places tasks.entry.now) first_passes.exit.now
+            (map (account H.notes H.losses) first_hosts.entry.now)
+            (map (account H.notes H.losses) first_hosts.exit.now)) }
+    { work_all(rt, alloc, board, tasks, phase, first_hosts, first_passes) };
+    let mut back = || -> Result<Kept<T::Out>, AllocError>
+        requires { IsSync R.row × IsSync T.row × IsSend H.row × IsSend T.Out.row
+            × CanStart board.now (T.count_of tasks.now) phase.now.tries
+            (length last_hosts.now) last_passes.now }
+        ensures { AreOf board.entry.now last_passes.exit.now
+            × AllZip Grew (map (account H.notes H.losses) last_hosts.entry.now)
+            (map (account H.notes H.losses) last_hosts.exit.now)
+            × IfOk result (Phased (T.count_of tasks.entry.now) phase.entry.now
+            (T.is_value tasks.entry.now) (T.places tasks.entry.now) last_passes.exit.now
+            (map (account H.notes H.losses) last_hosts.entry.now)
+            (map (account H.notes H.losses) last_hosts.exit.now)) }
+    { work_all(rt, alloc, board, tasks, phase, last_hosts, last_passes) };
+    let (first, last) = join_mut(rt, &mut front, &mut back);
+    let mut all = first?;
+    let rest = last?;
+    all.append(rest)?;
+    Ok(all)
+}
+
+// One host, with one pass.
+fn work_alone<T: Tasks, H: Host>(
+    alloc: &Global,
+    board: &Board,
+    tasks: &T,
+    phase: &PhaseSettings<'_>,
+    hosts: &mut [H],
+    passes: &mut [Pass],
+) -> Result<Kept<T::Out>, AllocError>
+    requires start { CanStart board.now (T.count_of tasks.now) phase.now.tries
+        (length hosts.old) passes.old }
+    requires one { length passes.old ≡ 1 }
+    ensures same { AreOf board.now passes.new }
+    ensures grew { AllZip Grew
+        (map (account H.notes H.losses) hosts.old) (map (account H.notes H.losses) hosts.new) }
+    ensures phased { IfOk result (Phased (T.count_of tasks.now) phase.now
+        (T.is_value tasks.now) (T.places tasks.now) passes.new
+        (map (account H.notes H.losses) hosts.old) (map (account H.notes H.losses) hosts.new)) }
+{
+    work(*alloc, board, &mut passes[0], tasks, &mut hosts[0], phase)
+}

@@ -1,0 +1,5 @@
+use Rattle.dofn_eval.proofs.Sound.{answered_call}
+use Rattle.dofn_eval.proofs.laws.call_law.Goals as goal
+
+pub returns : goal.returns
+returns c = answered_call

@@ -1,0 +1,165 @@
+use crate::answers::{Answer, Argument, answer_of, ints, texts};
+use flume_types::Ty;
+use flume_value::{Kind, Value};
+use std::alloc::{AllocError, Global};
+use std::test::Fail;
+
+/// What a body is to answer.
+#[derive(Clone, Copy)]
+enum Wanted {
+    Emits(&'static [i64]),
+    Traps(Kind),
+}
+
+fn answer_wanted(alloc: Global, it: Wanted) -> Result<Answer, AllocError> {
+    match it {
+        Wanted::Emits(all) => Ok(Answer::Emits(ints(alloc, all)?)),
+        Wanted::Traps(kind) => Ok(Answer::Trap(kind)),
+    }
+}
+
+fn int(n: i64) -> Argument {
+    Argument {
+        ty: Ty::Int,
+        value: Value::Int(n),
+    }
+}
+
+#[test]
+fn ints_are_computed(rt: HostRuntime) -> Result<(), Fail> {
+    let alloc = rt.alloc();
+    let table: [(&[u8], i64, Wanted); 17] = [
+        (b"emit -7 / 2 emit -7 % 2", 0, Wanted::Emits(&[-3, -1])),
+        (b"emit x / -1", i64::MIN, Wanted::Traps(Kind::Overflow)),
+        (b"emit x % -1", i64::MIN, Wanted::Emits(&[0])),
+        (b"emit 1 emit 1 / 0", 0, Wanted::Traps(Kind::DivideByZero)),
+        (b"emit 1 % x", 0, Wanted::Traps(Kind::DivideByZero)),
+        (b"emit -x", i64::MIN, Wanted::Traps(Kind::Overflow)),
+        (b"emit x + 1", i64::MAX, Wanted::Traps(Kind::Overflow)),
+        (b"emit x - 1", i64::MIN, Wanted::Traps(Kind::Overflow)),
+        (b"emit x * x", 4294967296, Wanted::Traps(Kind::Overflow)),
+        (b"emit x * 3 - 1 + x", 5, Wanted::Emits(&[19])),
+        (b"emit [1][1]", 0, Wanted::Traps(Kind::BadIndex)),
+        (b"emit [1][-1]", 0, Wanted::Traps(Kind::BadIndex)),
+        (b"emit [4, 5, 6][x]", 2, Wanted::Emits(&[6])),
+        (b"emit number(\"007\")", 0, Wanted::Emits(&[7])),
+        (b"emit number(\"+1\")", 0, Wanted::Traps(Kind::BadNumber)),
+        (
+            b"emit number(text(x))",
+            i64::MIN,
+            Wanted::Emits(&[i64::MIN]),
+        ),
+        (
+            b"for w in words(\"  a b \") { emit len(w) }",
+            0,
+            Wanted::Emits(&[1, 1]),
+        ),
+    ];
+    for (body, x, it) in table {
+        let wanted = answer_wanted(alloc, it)?;
+        assert_eq!(rt; answer_of(alloc, body, 1, int(x), Ty::Int)?, wanted);
+    }
+    Ok(())
+}
+
+#[test]
+fn what_is_not_needed_does_not_trap(rt: HostRuntime) -> Result<(), Fail> {
+    let alloc = rt.alloc();
+    let table: [(&[u8], Wanted); 8] = [
+        (b"emit pick(true, 1, 1 / 0)", Wanted::Emits(&[1])),
+        (b"emit pick(false, 1 / 0, 2)", Wanted::Emits(&[2])),
+        (
+            b"emit pick(1 / 0 == 1, 1, 2)",
+            Wanted::Traps(Kind::DivideByZero),
+        ),
+        (
+            b"if false and 1 / 0 == 1 { emit 1 } else { emit 2 }",
+            Wanted::Emits(&[2]),
+        ),
+        (
+            b"if true or 1 / 0 == 1 { emit 1 } else { emit 2 }",
+            Wanted::Emits(&[1]),
+        ),
+        (
+            b"if true and 1 / 0 == 1 { emit 1 }",
+            Wanted::Traps(Kind::DivideByZero),
+        ),
+        (
+            b"if false or 1 / 0 == 1 { emit 1 }",
+            Wanted::Traps(Kind::DivideByZero),
+        ),
+        (b"if not true { emit 1 / 0 }", Wanted::Emits(&[])),
+    ];
+    for (body, it) in table {
+        let wanted = answer_wanted(alloc, it)?;
+        assert_eq!(rt; answer_of(alloc, body, 1, int(0), Ty::Int)?, wanted);
+    }
+    Ok(())
+}
+
+#[test]
+fn values_are_compared(rt: HostRuntime) -> Result<(), Fail> {
+    let alloc = rt.alloc();
+    let table: [(&[u8], &'static [i64]); 8] = [
+        (b"if x == 3 { emit 1 } else { emit 0 }", &[1]),
+        (b"if x != 3 { emit 1 } else { emit 0 }", &[0]),
+        (b"if x < 3 { emit 1 } else { emit 0 }", &[0]),
+        (b"if x <= 3 { emit 1 } else { emit 0 }", &[1]),
+        (b"if x > 3 { emit 1 } else { emit 0 }", &[0]),
+        (b"if x >= 3 { emit 1 } else { emit 0 }", &[1]),
+        (b"if \"a\" < \"ab\" and false < true { emit 1 }", &[1]),
+        (b"if [1, 2] < [1, 3] and {a: 1} == {a: 1} { emit 1 }", &[1]),
+    ];
+    for (body, all) in table {
+        let wanted = Answer::Emits(ints(alloc, all)?);
+        assert_eq!(rt; answer_of(alloc, body, 1, int(3), Ty::Int)?, wanted);
+    }
+    Ok(())
+}
+
+#[test]
+fn texts_and_lists_are_joined(rt: HostRuntime) -> Result<(), Fail> {
+    let alloc = rt.alloc();
+    let table: [(&[u8], &'static [&'static [u8]]); 5] = [
+        (b"emit text(x)", &[b"-9223372036854775808"]),
+        (b"emit concat(\"ab\", concat(\"\", \"c\"))", &[b"abc"]),
+        (
+            b"for t in concat([\"a\"], [\"b\", \"c\"]) { emit t }",
+            &[b"a", b"b", b"c"],
+        ),
+        (
+            b"for t in concat(empty<text>, words(\"d e\")) { emit t }",
+            &[b"d", b"e"],
+        ),
+        (b"emit text(len(concat([1], [2])))", &[b"2"]),
+    ];
+    for (body, all) in table {
+        let wanted = Answer::Emits(texts(alloc, all)?);
+        assert_eq!(rt; answer_of(alloc, body, 1, int(i64::MIN), Ty::Text)?, wanted);
+    }
+    Ok(())
+}
+
+#[test]
+fn sides_are_told_apart(rt: HostRuntime) -> Result<(), Fail> {
+    let alloc = rt.alloc();
+    let table: [(&[u8], &'static [i64]); 3] = [
+        (
+            b"case left<text>(x) left n { emit n } right t { emit len(t) }",
+            &[3],
+        ),
+        (
+            b"case right<int>(\"four\") left n { emit n } right t { emit len(t) }",
+            &[4],
+        ),
+        (
+            b"for e in [left<int>(x), right<int>(5)] {case e left n {emit n} right m {emit -m}}",
+            &[3, -5],
+        ),
+    ];
+    for (body, all) in table {
+        let wanted = Answer::Emits(ints(alloc, all)?);
+        assert_eq!(rt; answer_of(alloc, body, 1, int(3), Ty::Int)?, wanted);
+    }
+    Ok(())
+}

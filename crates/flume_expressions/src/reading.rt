@@ -1,0 +1,94 @@
+ghost use Rattle.std.specs.Prelude.{◌≡◌, Some};
+ghost use Rattle.flume_grammar.specs.inner.Out.{one};
+ghost use Rattle.flume_grammar.specs.inner.Reads.{Reads};
+ghost use Rattle.flume_grammar.specs.inner.Reading as spec;
+
+use crate::cursor::Cursor;
+use flume_grammar::{ScriptKind, Stop};
+use flume_tokens::{Keyword, Sign, Token, TokenKind};
+use flume_value::Str;
+use std::alloc::Global;
+
+/// The fault at the token on this line.
+pub fn at(line: u32, kind: ScriptKind) -> Stop
+    ensures { result ≡ Stop.Fault (Some line) kind }
+{
+    Stop::Fault {
+        line: Some(line),
+        kind,
+    }
+}
+
+pub fn sign(tokens: &mut Cursor, sign: Sign) -> Result<(), Stop>
+    ensures { Reads (one (spec.sign_at sign)) tokens.old tokens.new result }
+{
+    let Token { kind, line } = tokens.token()?;
+    match kind {
+        TokenKind::Sign(s) if s == sign => Ok(()),
+        _ => Err(at(line, ScriptKind::Syntax)),
+    }
+}
+
+pub fn keyword(tokens: &mut Cursor, keyword: Keyword) -> Result<(), Stop>
+    ensures { Reads (one (spec.keyword_at keyword)) tokens.old tokens.new result }
+{
+    let Token { kind, line } = tokens.token()?;
+    match kind {
+        TokenKind::Keyword(k) if k == keyword => Ok(()),
+        _ => Err(at(line, ScriptKind::Syntax)),
+    }
+}
+
+pub fn name(tokens: &mut Cursor) -> Result<Str, Stop>
+    ensures { Reads (one (spec.name_at)) tokens.old tokens.new result }
+{
+    let Token { kind, line } = tokens.token()?;
+    match kind {
+        TokenKind::Name(own) => Ok(own),
+        _ => Err(at(line, ScriptKind::Syntax)),
+    }
+}
+
+/// A field's name: any word, reserved or not.
+pub fn word(alloc: Global, tokens: &mut Cursor) -> Result<Str, Stop>
+    ensures { Reads (one (spec.word_at)) tokens.old tokens.new result }
+{
+    let Token { kind, line } = tokens.token()?;
+    match kind {
+        TokenKind::Name(name) => Ok(name),
+        TokenKind::Keyword(keyword) => Ok(Str::from_slice(alloc, keyword.spelling())?),
+        _ => Err(at(line, ScriptKind::Syntax)),
+    }
+}
+
+pub fn number(tokens: &mut Cursor) -> Result<Str, Stop>
+    ensures { Reads (one (spec.number_at)) tokens.old tokens.new result }
+{
+    let Token { kind, line } = tokens.token()?;
+    match kind {
+        TokenKind::Number(digits) => Ok(digits),
+        _ => Err(at(line, ScriptKind::Syntax)),
+    }
+}
+
+pub fn text(tokens: &mut Cursor) -> Result<Str, Stop>
+    ensures { Reads (one (spec.text_at)) tokens.old tokens.new result }
+{
+    let Token { kind, line } = tokens.token()?;
+    match kind {
+        TokenKind::Text(text) => Ok(text),
+        _ => Err(at(line, ScriptKind::Syntax)),
+    }
+}
+
+/// The comma after so many members, of which at most the limit may be there.
+pub fn comma(tokens: &mut Cursor, members: usize, limit: usize) -> Result<(), Stop>
+    ensures { Reads (one (spec.comma_at members limit)) tokens.old tokens.new result }
+{
+    let Token { kind, line } = tokens.token()?;
+    match kind {
+        TokenKind::Sign(Sign::Comma) if members < limit => Ok(()),
+        TokenKind::Sign(Sign::Comma) => Err(at(line, ScriptKind::TooMany)),
+        _ => Err(at(line, ScriptKind::Syntax)),
+    }
+}

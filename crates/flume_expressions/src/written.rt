@@ -1,0 +1,214 @@
+ghost use Rattle.std.specs.Prelude.{◌≡◌, ◌<◌, ◌≤◌, IfOk};
+ghost use Rattle.flume_tokens.specs.declared.token.Token.{Token};
+ghost use Rattle.flume_grammar.specs.Limits.{the_limits};
+ghost use Rattle.flume_grammar.specs.inner.Out.{one, all_of};
+ghost use Rattle.flume_grammar.specs.inner.Reads.{Reads, ReadsSuch, PassesSuch, Within, Below};
+ghost use Rattle.flume_grammar.specs.inner.Types as spec;
+
+use crate::cursor::Cursor;
+use crate::reading::{at, comma, sign, word};
+use flume_grammar::limits::{MAX_DEPTH, MAX_FIELDS};
+use flume_grammar::parts::Parts;
+use flume_grammar::start::TypeStart;
+use flume_grammar::{ScriptKind, Stop, Type};
+use flume_tokens::{Keyword, Sign, Token, TokenKind};
+use flume_value::Held;
+use std::alloc::Global;
+
+/// A type begins, of at most that depth.
+fn type_start(token: Token, limit: u32) -> Result<TypeStart, Stop>
+    ensures value { result ≡ spec.type_start limit token }
+    ensures deep { IfOk result (λ s. spec.HasRoom s limit) }
+{
+    let Token { kind, line } = token;
+    let start = match kind {
+        TokenKind::Name(name) => TypeStart::Leaf(Type::Named(name)),
+        TokenKind::Keyword(keyword) => return keyword_type(keyword, line, limit),
+        TokenKind::Sign(Sign::OpenBrace) if limit > 1 => TypeStart::Record,
+        TokenKind::Sign(Sign::OpenBrace) => return Err(at(line, ScriptKind::TooDeep)),
+        _ => return Err(at(line, ScriptKind::Syntax)),
+    };
+    Ok(start)
+}
+
+fn keyword_type(keyword: Keyword, line: u32, limit: u32) -> Result<TypeStart, Stop>
+    ensures value { (t : Token) → t.line ≡ line → result ≡ spec.keyword_type keyword limit t }
+    ensures deep { IfOk result (λ s. spec.HasRoom s limit) }
+{
+    let start = match keyword {
+        Keyword::Int => return Ok(TypeStart::Leaf(Type::Int)),
+        Keyword::Bool => return Ok(TypeStart::Leaf(Type::Bool)),
+        Keyword::Text => return Ok(TypeStart::Leaf(Type::Text)),
+        Keyword::List => TypeStart::List,
+        Keyword::Either => TypeStart::Either,
+        Keyword::Table => TypeStart::Table,
+        _ => return Err(at(line, ScriptKind::Syntax)),
+    };
+    if limit > 1 {
+        Ok(start)
+    } else {
+        Err(at(line, ScriptKind::TooDeep))
+    }
+}
+
+/// A type, which may have the depth that is allowed.
+pub fn whole_type(alloc: Global, tokens: &mut Cursor) -> Result<Type, Stop>
+    ensures { Reads (spec.whole_type the_limits) tokens.old tokens.new result }
+{
+    let (whole, _) = type_of(alloc, tokens, MAX_DEPTH)?;
+    Ok(whole)
+}
+
+/// A type and its depth.
+#[cycle(types)]
+#[tactic(auto, using(flume_grammar::proofs::Steps::type_step))]
+fn type_of(alloc: Global, tokens: &mut Cursor, limit: u32) -> Result<(Type, u32), Stop>
+    requires { 1 ≤ limit }
+    ensures { ReadsSuch (Within limit) (spec.type_within the_limits limit)
+        tokens.old tokens.new result }
+{
+    let start = next_start(tokens, limit)?;
+    after_start(alloc, tokens, limit, start)
+}
+
+fn next_start(tokens: &mut Cursor, limit: u32) -> Result<TypeStart, Stop>
+    ensures { ReadsSuch (λ s. spec.HasRoom s limit) (one (spec.type_start limit))
+        tokens.old tokens.new result }
+{
+    let token = tokens.token()?;
+    type_start(token, limit)
+}
+
+/// The type that begins so.
+#[cycle(types)]
+fn after_start(
+    alloc: Global,
+    tokens: &mut Cursor,
+    limit: u32,
+    start: TypeStart,
+) -> Result<(Type, u32), Stop>
+    requires limit { 1 ≤ limit }
+    requires deep { spec.HasRoom start limit }
+    ensures { PassesSuch (Within limit) (spec.after_start the_limits (spec.type_below limit) start)
+        tokens.old tokens.new result }
+{
+    match start {
+        TypeStart::Leaf(leaf) => Ok((leaf, 1)),
+        TypeStart::List => list_type(alloc, tokens, limit),
+        TypeStart::Either => {
+            let (left, right, depth) = pair_type(alloc, tokens, limit)?;
+            Ok((Type::Either(left, right), depth))
+        }
+        TypeStart::Table => {
+            let (key, value, depth) = pair_type(alloc, tokens, limit)?;
+            Ok((Type::Table(key, value), depth))
+        }
+        TypeStart::Record => record_type(alloc, tokens, limit),
+    }
+}
+
+#[cycle(types)]
+fn list_type(alloc: Global, tokens: &mut Cursor, limit: u32) -> Result<(Type, u32), Stop>
+    requires { 2 ≤ limit }
+    ensures { ReadsSuch (Within limit) (spec.list_type (spec.type_below limit))
+        tokens.old tokens.new result }
+{
+    sign(tokens, Sign::Less)?;
+    let (member, depth) = type_of(alloc, tokens, limit - 1)?;
+    sign(tokens, Sign::Greater)?;
+    Ok((Type::List(Held::new(alloc, member)?), depth + 1))
+}
+
+#[cycle(types)]
+fn pair_type(
+    alloc: Global,
+    tokens: &mut Cursor,
+    limit: u32,
+) -> Result<(Held<Type>, Held<Type>, u32), Stop>
+    requires { 2 ≤ limit }
+    ensures { ReadsSuch (λ x. x.2 ≤ limit) (spec.pair_type (spec.type_below limit))
+        tokens.old tokens.new result }
+{
+    sign(tokens, Sign::Less)?;
+    let (first, a) = type_of(alloc, tokens, limit - 1)?;
+    sign(tokens, Sign::Comma)?;
+    let (second, b) = type_of(alloc, tokens, limit - 1)?;
+    sign(tokens, Sign::Greater)?;
+    Ok((
+        Held::new(alloc, first)?,
+        Held::new(alloc, second)?,
+        a.max(b) + 1,
+    ))
+}
+
+#[cycle(types)]
+fn field_type(
+    alloc: Global,
+    tokens: &mut Cursor,
+    limit: u32,
+    fields: Parts<Type>,
+) -> Result<Parts<Type>, Stop>
+    requires limit { 2 ≤ limit }
+    requires depth { fields.depth < limit }
+    ensures { ReadsSuch (Below limit) (spec.field_type (spec.type_below limit) fields)
+        tokens.old tokens.new result }
+{
+    let name = word(alloc, tokens)?;
+    sign(tokens, Sign::Colon)?;
+    let (part, depth) = type_of(alloc, tokens, limit - 1)?;
+    let mut fields = fields;
+    fields.put(name, part, depth)?;
+    Ok(fields)
+}
+
+/// A comma and one more field.
+#[cycle(types)]
+fn next_field_type(
+    alloc: Global,
+    tokens: &mut Cursor,
+    limit: u32,
+    fields: Parts<Type>,
+) -> Result<Parts<Type>, Stop>
+    requires limit { 2 ≤ limit }
+    requires depth { fields.depth < limit }
+    ensures { ReadsSuch (Below limit)
+        (spec.next_field_type the_limits (spec.type_below limit) fields)
+        tokens.old tokens.new result }
+{
+    comma(tokens, fields.len(), MAX_FIELDS)?;
+    field_type(alloc, tokens, limit, fields)
+}
+
+/// The fields after the first.
+#[cycle(types)]
+fn more_field_types(
+    alloc: Global,
+    tokens: &mut Cursor,
+    limit: u32,
+    first: Parts<Type>,
+) -> Result<Parts<Type>, Stop>
+    requires limit { 2 ≤ limit }
+    requires depth { first.depth < limit }
+    ensures { PassesSuch (Below limit)
+        (all_of spec.at_comma (spec.next_field_type the_limits (spec.type_below limit)) first)
+        tokens.old tokens.new result }
+{
+    let mut fields = first;
+    'more: while tokens.is_at_sign(Sign::Comma) {
+        fields = next_field_type(alloc, tokens, limit, fields)?;
+    }
+    Ok(fields)
+}
+
+#[cycle(types)]
+fn record_type(alloc: Global, tokens: &mut Cursor, limit: u32) -> Result<(Type, u32), Stop>
+    requires { 2 ≤ limit }
+    ensures { ReadsSuch (Within limit) (spec.record_type the_limits (spec.type_below limit))
+        tokens.old tokens.new result }
+{
+    let first = field_type(alloc, tokens, limit, Parts::new(alloc))?;
+    let fields = more_field_types(alloc, tokens, limit, first)?;
+    sign(tokens, Sign::CloseBrace)?;
+    let (names, types, depth) = fields.into_parts();
+    Ok((Type::Record(names, types), depth + 1))
+}

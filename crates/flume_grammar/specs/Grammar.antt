@@ -1,0 +1,296 @@
+-- The grammar, as relations between tokens and trees. Each takes the tokens, those that are left
+-- after what is read, what is read, and how deep it is. The limits are those of depth and of parts.
+use Rattle.std.specs.Prelude.{◌≡◌, ℕ, ◌+◌, ◌≤◌, max, length, List, [], ◌∷◌, ◌++◌, true, false, Option, Some, None}
+use Rattle.flume_tokens.specs.declared.keyword.Keyword.{Keyword}
+use Rattle.flume_tokens.specs.declared.keyword.Keyword.TheVariants as keyword
+use Rattle.flume_tokens.specs.declared.sign.Sign.{Sign}
+use Rattle.flume_tokens.specs.declared.sign.Sign.TheVariants as sign
+use Rattle.flume_tokens.specs.declared.token.Token.{Token}
+use Rattle.flume_grammar.specs.declared.parts.Parts.{Parts}
+use Rattle.flume_grammar.specs.declared.tree.Unary.{Unary}
+use Rattle.flume_grammar.specs.declared.tree.Unary.TheVariants as unary
+use Rattle.flume_grammar.specs.declared.tree.Binary.{Binary}
+use Rattle.flume_grammar.specs.declared.tree.Side.{Side}
+use Rattle.flume_grammar.specs.declared.tree.Side.TheVariants as side
+use Rattle.flume_grammar.specs.declared.tree.Type.TheVariants as type_tree
+use Rattle.flume_grammar.specs.declared.tree.Expr.{Expr}
+use Rattle.flume_grammar.specs.declared.tree.Expr.TheVariants as tree
+use Rattle.flume_grammar.specs.declared.tree.Body.{Body}
+use Rattle.flume_grammar.specs.declared.tree.Body.TheVariants as body
+use Rattle.flume_grammar.specs.declared.tree.Combiner.{Combiner}
+use Rattle.flume_grammar.specs.declared.tree.Combiner.TheVariants as combiner
+use Rattle.flume_grammar.specs.declared.tree.Operation.{Operation}
+use Rattle.flume_grammar.specs.declared.tree.Operation.TheVariants as operation
+use Rattle.flume_grammar.specs.declared.tree.Form.TheVariants as form
+use Rattle.flume_grammar.specs.declared.tree.Statement.{Statement}
+use Rattle.flume_grammar.specs.Terminals.{word_of, key, mark, name, number, text}
+use Rattle.flume_grammar.specs.Parts.{Tree, none, with_part}
+use Rattle.flume_grammar.specs.Operators.{operator_of, rank, left_rank}
+use Rattle.flume_grammar.specs.Limits.{Limits}
+
+-- the calls with one argument
+abbrev pub call_of : Keyword → Option Unary
+call_of keyword.Len = Some unary.Len
+call_of keyword.Words = Some unary.Words
+call_of keyword.Text = Some unary.Text
+call_of keyword.Number = Some unary.Number
+call_of _ = None
+
+abbrev pub side_of : Keyword → Option Side
+side_of keyword.Left = Some side.Left
+side_of keyword.Right = Some side.Right
+side_of _ = None
+
+-- comb = "sum" | "count" | "min" | "max" | "all" | "any" | "top" num
+pub data IsCombiner : List Token → List Token → Combiner → Type 0 where
+  sum : {n : ℕ} {ts : List Token} → IsCombiner (key keyword.Sum n ∷ ts) ts combiner.Sum
+  count : {n : ℕ} {ts : List Token} → IsCombiner (key keyword.Count n ∷ ts) ts combiner.Count
+  min : {n : ℕ} {ts : List Token} → IsCombiner (key keyword.Min n ∷ ts) ts combiner.Min
+  max_ : {n : ℕ} {ts : List Token} → IsCombiner (key keyword.Max n ∷ ts) ts combiner.Max
+  all : {n : ℕ} {ts : List Token} → IsCombiner (key keyword.All n ∷ ts) ts combiner.All
+  any : {n : ℕ} {ts : List Token} → IsCombiner (key keyword.Any n ∷ ts) ts combiner.Any
+  top : {digits : List ℕ} {n m : ℕ} {ts : List Token}
+      → IsCombiner (key keyword.Top n ∷ number digits m ∷ ts) ts (combiner.Top digits)
+
+-- name { "," name }
+pub data AreNames : List Token → List Token → List (List ℕ) → Type 0 where
+  one : {x : List ℕ} {n : ℕ} {ts : List Token} → AreNames (name x n ∷ ts) ts (x ∷ [])
+  more : {x : List ℕ} {xs : List (List ℕ)} {n m : ℕ} {ts us : List Token}
+      → AreNames ts (mark sign.Comma m ∷ name x n ∷ us) xs → AreNames ts us (xs ++ x ∷ [])
+
+-- [ "scale" num ]
+pub data IsScale : List Token → List Token → Option (List ℕ) → Type 0 where
+  absent : {ts : List Token} → IsScale ts ts None
+  present : {digits : List ℕ} {n m : ℕ} {ts : List Token}
+      → IsScale (key keyword.Scale n ∷ number digits m ∷ ts) ts (Some digits)
+
+module _ (limits : Limits) where
+  mutual
+    -- type = "int" | "bool" | "text" | "list" "<" type ">" | "either" "<" type "," type ">"
+    --      | "table" "<" type "," type ">" | "{" word ":" type { "," word ":" type } "}" | name
+    pub data IsType : List Token → List Token → Tree → ℕ → Type 0 where
+      int : {n : ℕ} {ts : List Token} → IsType (key keyword.Int n ∷ ts) ts type_tree.Int 1
+      bool : {n : ℕ} {ts : List Token} → IsType (key keyword.Bool n ∷ ts) ts type_tree.Bool 1
+      text_ : {n : ℕ} {ts : List Token} → IsType (key keyword.Text n ∷ ts) ts type_tree.Text 1
+      named : {x : List ℕ} {n : ℕ} {ts : List Token}
+          → IsType (name x n ∷ ts) ts (type_tree.Named x) 1
+      list : {n m k a : ℕ} {ts us : List Token} {t : Tree}
+          → IsType ts (mark sign.Greater k ∷ us) t a
+          → IsType (key keyword.List n ∷ mark sign.Less m ∷ ts) us (type_tree.List t) (a + 1)
+      either : {n m k o a b : ℕ} {ts us vs : List Token} {s t : Tree}
+          → IsType ts (mark sign.Comma k ∷ us) s a → IsType us (mark sign.Greater o ∷ vs) t b
+          → IsType (key keyword.Either n ∷ mark sign.Less m ∷ ts) vs (type_tree.Either s t)
+          (max a b + 1)
+      table : {n m k o a b : ℕ} {ts us vs : List Token} {s t : Tree}
+          → IsType ts (mark sign.Comma k ∷ us) s a → IsType us (mark sign.Greater o ∷ vs) t b
+          → IsType (key keyword.Table n ∷ mark sign.Less m ∷ ts) vs (type_tree.Table s t)
+          (max a b + 1)
+      record_ : {n m : ℕ} {ts us : List Token} {p : Parts Tree}
+          → AreFieldTypes ts (mark sign.CloseBrace m ∷ us) p → length p.names ≤ limits.fields
+          → IsType (mark sign.OpenBrace n ∷ ts) us (type_tree.Record p.names p.parts) (p.depth + 1)
+
+    -- word ":" type { "," word ":" type }
+    pub data AreFieldTypes : List Token → List Token → Parts Tree → Type 0 where
+      first : {w : Token} {x : List ℕ} {n a : ℕ} {ts us : List Token} {t : Tree}
+          → word_of w.kind ≡ Some x → IsType ts us t a
+          → AreFieldTypes (w ∷ mark sign.Colon n ∷ ts) us (with_part none x t a)
+      next : {w : Token} {x : List ℕ} {n m a : ℕ} {ts us vs : List Token} {t : Tree}
+          {p : Parts Tree} → AreFieldTypes ts (mark sign.Comma m ∷ w ∷ mark sign.Colon n ∷ us) p
+          → word_of w.kind ≡ Some x → IsType us vs t a → AreFieldTypes ts vs (with_part p x t a)
+
+  -- a type as it is written is at most 32 deep
+  pub record IsWholeType (ts us : List Token) (t : Tree) : Type 0 where
+    pub depth : ℕ
+    pub spelled : IsType ts us t depth
+    pub small : depth ≤ limits.depth
+
+  mutual
+    -- An expression of this rank or above: 1 is `or`, 2 `and`, 3 `not`, 4 a comparison, 5 a sum,
+    -- 6 a product, 7 `-` before an operand, 8 an operand.
+    pub data IsExpr : ℕ → List Token → List Token → Expr → ℕ → Type 0 where
+      above : {r a : ℕ} {ts us : List Token} {e : Expr} → IsExpr (r + 1) ts us e a
+          → IsExpr r ts us e a
+      -- conj { "or" conj }, neg { "and" neg }, sum [ rel sum ], prod { ("+" | "-") prod },
+      -- una { ("*" | "/" | "%") una }
+      binary : {t : Token} {o : Binary} {a b : ℕ} {ts us vs : List Token} {e f : Expr}
+          → operator_of t.kind ≡ Some o
+          → IsExpr (left_rank o) ts (t ∷ us) e a → IsExpr (rank o + 1) us vs f b
+          → IsExpr (rank o) ts vs (tree.Binary o e f) (max a b + 1)
+      -- "not" neg, "-" una
+      not_ : {n a : ℕ} {ts us : List Token} {e : Expr} → IsExpr 3 ts us e a
+          → IsExpr 3 (key keyword.Not n ∷ ts) us (tree.Unary unary.Not e) (a + 1)
+      negate : {n a : ℕ} {ts us : List Token} {e : Expr} → IsExpr 7 ts us e a
+          → IsExpr 7 (mark sign.Minus n ∷ ts) us (tree.Unary unary.Negate e) (a + 1)
+      -- prim { "." word | "[" expr "]" }
+      field : {w : Token} {x : List ℕ} {n a : ℕ} {ts us : List Token} {e : Expr}
+          → IsExpr 8 ts (mark sign.Dot n ∷ w ∷ us) e a → word_of w.kind ≡ Some x
+          → IsExpr 8 ts us (tree.Field e x) (a + 1)
+      index : {n m a b : ℕ} {ts us vs : List Token} {e f : Expr}
+          → IsExpr 8 ts (mark sign.OpenBracket n ∷ us) e a
+          → IsExpr 1 us (mark sign.CloseBracket m ∷ vs) f b
+          → IsExpr 8 ts vs (tree.Index e f) (max a b + 1)
+      -- num | textlit | "true" | "false" | name | "(" expr ")"
+      num : {digits : List ℕ} {n : ℕ} {ts : List Token}
+          → IsExpr 8 (number digits n ∷ ts) ts (tree.Number digits) 1
+      textlit : {content : List ℕ} {n : ℕ} {ts : List Token}
+          → IsExpr 8 (text content n ∷ ts) ts (tree.Text content) 1
+      true_ : {n : ℕ} {ts : List Token} → IsExpr 8 (key keyword.True n ∷ ts) ts (tree.Bool true) 1
+      false_ : {n : ℕ} {ts : List Token}
+          → IsExpr 8 (key keyword.False n ∷ ts) ts (tree.Bool false) 1
+      variable : {x : List ℕ} {n : ℕ} {ts : List Token}
+          → IsExpr 8 (name x n ∷ ts) ts (tree.Name x) 1
+      paren : {n m a : ℕ} {ts us : List Token} {e : Expr} → IsExpr 1 ts (mark sign.Close m ∷ us) e a
+          → IsExpr 8 (mark sign.Open n ∷ ts) us e a
+      -- "{" word ":" expr { "," word ":" expr } "}" | "[" expr { "," expr } "]"
+      literal : {n m : ℕ} {ts us : List Token} {p : Parts Expr}
+          → AreFields ts (mark sign.CloseBrace m ∷ us) p → length p.names ≤ limits.fields
+          → IsExpr 8 (mark sign.OpenBrace n ∷ ts) us (tree.Record p.names p.parts) (p.depth + 1)
+      members : {n m a : ℕ} {ts us : List Token} {es : List Expr}
+          → AreMembers ts (mark sign.CloseBracket m ∷ us) es a → length es ≤ limits.members
+          → IsExpr 8 (mark sign.OpenBracket n ∷ ts) us (tree.List es) (a + 1)
+      -- "empty" "<" type ">" | "left" "<" type ">" "(" expr ")" | "right" "<" type ">" "(" expr ")"
+      empty : {n m k : ℕ} {ts us : List Token} {t : Tree}
+          → IsWholeType ts (mark sign.Greater k ∷ us) t
+          → IsExpr 8 (key keyword.Empty n ∷ mark sign.Less m ∷ ts) us (tree.Empty t) 1
+      sided : {k : Keyword} {s : Side} {n m i j o a : ℕ} {ts us vs : List Token} {t : Tree}
+          {e : Expr} → side_of k ≡ Some s
+          → IsWholeType ts (mark sign.Greater i ∷ mark sign.Open j ∷ us) t
+          → IsExpr 1 us (mark sign.Close o ∷ vs) e a
+          → IsExpr 8 (key k n ∷ mark sign.Less m ∷ ts) vs (tree.Side s t e) (a + 1)
+      -- "len" "(" expr ")" | "words" "(" expr ")" | "text" "(" expr ")" | "number" "(" expr ")"
+      call : {k : Keyword} {u : Unary} {n m i a : ℕ} {ts us : List Token} {e : Expr}
+          → call_of k ≡ Some u → IsExpr 1 ts (mark sign.Close i ∷ us) e a
+          → IsExpr 8 (key k n ∷ mark sign.Open m ∷ ts) us (tree.Unary u e) (a + 1)
+      -- "concat" "(" expr "," expr ")" | "pick" "(" expr "," expr "," expr ")"
+      concat : {n m i j a b : ℕ} {ts us vs : List Token} {e f : Expr}
+          → IsExpr 1 ts (mark sign.Comma i ∷ us) e a → IsExpr 1 us (mark sign.Close j ∷ vs) f b
+          → IsExpr 8 (key keyword.Concat n ∷ mark sign.Open m ∷ ts) vs (tree.Concat e f)
+          (max a b + 1)
+      pick : {n m i j o a b c : ℕ} {ts us vs ws : List Token} {e f g : Expr}
+          → IsExpr 1 ts (mark sign.Comma i ∷ us) e a → IsExpr 1 us (mark sign.Comma j ∷ vs) f b
+          → IsExpr 1 vs (mark sign.Close o ∷ ws) g c
+          → IsExpr 8 (key keyword.Pick n ∷ mark sign.Open m ∷ ts) ws (tree.Pick e f g)
+          (max (max a b) c + 1)
+
+    -- word ":" expr { "," word ":" expr }
+    pub data AreFields : List Token → List Token → Parts Expr → Type 0 where
+      first : {w : Token} {x : List ℕ} {n a : ℕ} {ts us : List Token} {e : Expr}
+          → word_of w.kind ≡ Some x → IsExpr 1 ts us e a
+          → AreFields (w ∷ mark sign.Colon n ∷ ts) us (with_part none x e a)
+      next : {w : Token} {x : List ℕ} {n m a : ℕ} {ts us vs : List Token} {e : Expr}
+          {p : Parts Expr} → AreFields ts (mark sign.Comma m ∷ w ∷ mark sign.Colon n ∷ us) p
+          → word_of w.kind ≡ Some x → IsExpr 1 us vs e a → AreFields ts vs (with_part p x e a)
+
+    -- expr { "," expr }
+    pub data AreMembers : List Token → List Token → List Expr → ℕ → Type 0 where
+      one : {a : ℕ} {ts us : List Token} {e : Expr} → IsExpr 1 ts us e a
+          → AreMembers ts us (e ∷ []) a
+      more : {m a b : ℕ} {ts us vs : List Token} {e : Expr} {es : List Expr}
+          → AreMembers ts (mark sign.Comma m ∷ us) es a → IsExpr 1 us vs e b
+          → AreMembers ts vs (es ++ e ∷ []) (max a b)
+
+  mutual
+    -- body = "let" name "=" expr | "emit" expr | "if" expr block [ "else" block ]
+    --      | "for" name "in" expr block | "case" expr "left" name block "right" name block
+    pub data IsBody : List Token → List Token → Body → ℕ → Type 0 where
+      let_ : {x : List ℕ} {n m k a : ℕ} {ts us : List Token} {e : Expr} → IsExpr 1 ts us e a
+          → IsBody (key keyword.Let n ∷ name x m ∷ mark sign.Assign k ∷ ts) us (body.Let n x e)
+          (a + 1)
+      emit : {n a : ℕ} {ts us : List Token} {e : Expr} → IsExpr 1 ts us e a
+          → IsBody (key keyword.Emit n ∷ ts) us (body.Emit n e) (a + 1)
+      if_ : {n a b : ℕ} {ts us vs : List Token} {e : Expr} {ss : List Body} → IsExpr 1 ts us e a
+          → IsBlock us vs ss b
+          → IsBody (key keyword.If n ∷ ts) vs (body.If n e ss []) (max (max a b) 0 + 1)
+      if_else : {n m a b c : ℕ} {ts us vs ws : List Token} {e : Expr} {ss rs : List Body}
+          → IsExpr 1 ts us e a → IsBlock us (key keyword.Else m ∷ vs) ss b → IsBlock vs ws rs c
+          → IsBody (key keyword.If n ∷ ts) ws (body.If n e ss rs) (max (max a b) c + 1)
+      for_ : {x : List ℕ} {n m k a b : ℕ} {ts us vs : List Token} {e : Expr} {ss : List Body}
+          → IsExpr 1 ts us e a → IsBlock us vs ss b
+          → IsBody (key keyword.For n ∷ name x m ∷ key keyword.In k ∷ ts) vs (body.For n x e ss)
+          (max a b + 1)
+      case_ : {x y : List ℕ} {n m k i j a b c : ℕ} {ts us vs ws : List Token} {e : Expr}
+          {ss rs : List Body} → IsExpr 1 ts (key keyword.Left m ∷ name x k ∷ us) e a
+          → IsBlock us (key keyword.Right i ∷ name y j ∷ vs) ss b → IsBlock vs ws rs c
+          → IsBody (key keyword.Case n ∷ ts) ws (body.Case n e x ss y rs) (max (max a b) c + 1)
+
+    -- block = "{" { body } "}"
+    pub data IsBlock : List Token → List Token → List Body → ℕ → Type 0 where
+      braces : {n m a : ℕ} {ts us : List Token} {ss : List Body}
+          → AreBodies ts (mark sign.CloseBrace m ∷ us) ss a
+          → IsBlock (mark sign.OpenBrace n ∷ ts) us ss a
+
+    pub data AreBodies : List Token → List Token → List Body → ℕ → Type 0 where
+      none_ : {ts : List Token} → AreBodies ts ts [] 0
+      some : {a b : ℕ} {ts us vs : List Token} {s : Body} {ss : List Body} → AreBodies ts us ss a
+          → IsBody us vs s b → AreBodies ts vs (ss ++ s ∷ []) (max a b)
+
+  -- op = "do" name name | "group" name | "combine" name "by" comb | "flatten" name { "," name }
+  --    | "count" name | "join" name "," name | "top" num name
+  pub data IsOperation : List Token → List Token → Operation → Type 0 where
+    do_ : {c f : List ℕ} {n m k : ℕ} {ts : List Token}
+        → IsOperation (key keyword.Do n ∷ name c m ∷ name f k ∷ ts) ts (operation.Do c f)
+    group : {c : List ℕ} {n m : ℕ} {ts : List Token}
+        → IsOperation (key keyword.Group n ∷ name c m ∷ ts) ts (operation.Group c)
+    combine : {c : List ℕ} {n m k : ℕ} {ts us : List Token} {b : Combiner} → IsCombiner ts us b
+        → IsOperation (key keyword.Combine n ∷ name c m ∷ key keyword.By k ∷ ts) us
+        (operation.Combine c b)
+    flatten : {n : ℕ} {ts us : List Token} {xs : List (List ℕ)} → AreNames ts us xs
+        → length xs ≤ limits.inputs
+        → IsOperation (key keyword.Flatten n ∷ ts) us (operation.Flatten xs)
+    count : {c : List ℕ} {n m : ℕ} {ts : List Token}
+        → IsOperation (key keyword.Count n ∷ name c m ∷ ts) ts (operation.Count c)
+    join : {a b : List ℕ} {n m k i : ℕ} {ts : List Token}
+        → IsOperation (key keyword.Join n ∷ name a m ∷ mark sign.Comma k ∷ name b i ∷ ts) ts
+        (operation.Join a b)
+    top : {digits c : List ℕ} {n m k : ℕ} {ts : List Token}
+        → IsOperation (key keyword.Top n ∷ number digits m ∷ name c k ∷ ts) ts
+        (operation.Top digits c)
+
+  -- stmt = "type" name "=" type | "input" name ":" type "from" textlit
+  --      | "fn" name "(" name ":" type ")" "->" type [ "scale" num ] block
+  --      | "let" name "=" op | "output" name "to" textlit
+  pub data IsStatement : List Token → List Token → Statement → Type 0 where
+    type_ : {x : List ℕ} {n m k : ℕ} {ts us : List Token} {t : Tree} → IsWholeType ts us t
+        → IsStatement (key keyword.Type n ∷ name x m ∷ mark sign.Assign k ∷ ts) us
+        (record { line = n; form = form.Type x t })
+    input : {x f : List ℕ} {n m k i j : ℕ} {ts us : List Token} {t : Tree}
+        → IsWholeType ts (key keyword.From i ∷ text f j ∷ us) t
+        → IsStatement (key keyword.Input n ∷ name x m ∷ mark sign.Colon k ∷ ts) us
+        (record { line = n; form = form.Input x t f })
+    -- a function's body is at most 32 deep
+    fn_ : {x y : List ℕ} {n m k i j o p d : ℕ} {ts us vs ws : List Token} {s t : Tree}
+        {c : Option (List ℕ)} {b : List Body}
+        → IsWholeType ts (mark sign.Close o ∷ mark sign.Arrow p ∷ us) s → IsWholeType us vs t
+        → IsScale vs ws c
+        → {xs : List Token} → IsBlock ws xs b d → d ≤ limits.depth
+        → IsStatement (key keyword.Fn n ∷ name x m ∷ mark sign.Open k ∷ name y i ∷ mark sign.Colon j
+        ∷ ts) xs
+        (record {
+          line = n;
+          form =
+              form.Function (record {
+                name = x;
+                argument = y;
+                takes = s;
+                gives = t;
+                scale = c;
+                body =
+                    b;
+              });
+        })
+    let_ : {x : List ℕ} {n m k : ℕ} {ts us : List Token} {o : Operation} → IsOperation ts us o
+        → IsStatement (key keyword.Let n ∷ name x m ∷ mark sign.Assign k ∷ ts) us
+        (record { line = n; form = form.Let x o })
+    output : {x f : List ℕ} {n m k i : ℕ} {ts : List Token}
+        → IsStatement (key keyword.Output n ∷ name x m ∷ key keyword.To k ∷ text f i ∷ ts) ts
+        (record { line = n; form = form.Output x f })
+
+  -- script = { stmt }
+  pub data AreStatements : List Token → List Token → List Statement → Type 0 where
+    none_ : {ts : List Token} → AreStatements ts ts []
+    some : {ts us vs : List Token} {s : Statement} {ss : List Statement} → AreStatements ts us ss
+        → IsStatement us vs s → AreStatements ts vs (ss ++ s ∷ [])
+
+  -- the tokens spell these statements
+  abbrev pub IsScript : List Token → List Statement → Type 0
+  IsScript ts ss = AreStatements ts [] ss

@@ -1,0 +1,9 @@
+pub mod Answer
+pub mod Fault
+pub mod Grammar
+pub mod Limits
+pub mod Operators
+pub mod Parts
+pub mod Terminals
+pub mod Utf8
+pub mod inner

@@ -1,0 +1,38 @@
+-- What the language limits.
+use Rattle.std.specs.Prelude.{ℕ, ◌+◌, ◌≤◌, ◌<◌}
+
+-- how deep a function's tree and a type as it is written may be, and how many fields of a record,
+-- members of a list literal and inputs of a flatten there may be
+pub record Limits : Type 0 where
+  pub depth : ℕ
+  pub fields : ℕ
+  pub members : ℕ
+  pub inputs : ℕ
+
+abbrev pub the_limits : Limits
+the_limits = record { depth = 32; fields = 16; members = 64; inputs = 256 }
+
+-- each limit is lower
+pub record IsBelow (limits more : Limits) : Type 0 where
+  pub depth : limits.depth < more.depth
+  pub fields : limits.fields < more.fields
+  pub members : limits.members < more.members
+  pub inputs : limits.inputs < more.inputs
+
+-- one more level of depth
+abbrev pub deeper : Limits → Limits
+deeper l = record {
+  depth = l.depth + 1;
+  fields = l.fields;
+  members = l.members;
+  inputs = l.inputs;
+}
+
+-- one more field, one more member and one more input
+abbrev pub longer : Limits → Limits
+longer l = record {
+  depth = l.depth;
+  fields = l.fields + 1;
+  members = l.members + 1;
+  inputs = l.inputs + 1;
+}

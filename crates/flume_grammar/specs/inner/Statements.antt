@@ -1,0 +1,192 @@
+-- Statements of a script.
+use Rattle.std.specs.Prelude.{ℕ, length, is_some, List, [], ◌∷◌, ◌++◌, Bool, if◌then◌else◌, Option, Some, None, Result, Ok, Err}
+use Rattle.flume_tokens.specs.declared.keyword.Keyword.{Keyword}
+use Rattle.flume_tokens.specs.declared.keyword.Keyword.TheVariants as keyword
+use Rattle.flume_tokens.specs.declared.sign.Sign.TheVariants as sign
+use Rattle.flume_tokens.specs.declared.token.Token.{Token}
+use Rattle.flume_tokens.specs.declared.token.TokenKind.{TokenKind}
+use Rattle.flume_tokens.specs.declared.token.TokenKind.TheVariants as kind
+use Rattle.flume_grammar.specs.declared.fault.ScriptKind.TheVariants.{Syntax}
+use Rattle.flume_grammar.specs.declared.fault.Stop.{Stop}
+use Rattle.flume_grammar.specs.declared.start.OperationStart.{OperationStart}
+use Rattle.flume_grammar.specs.declared.start.OperationStart.TheVariants as begin
+use Rattle.flume_grammar.specs.declared.start.CombinerStart.{CombinerStart}
+use Rattle.flume_grammar.specs.declared.start.CombinerStart.TheVariants as combining
+use Rattle.flume_grammar.specs.declared.start.StatementStart.{StatementStart}
+use Rattle.flume_grammar.specs.declared.start.StatementStart.TheVariants as start
+use Rattle.flume_grammar.specs.declared.tree.Combiner.{Combiner}
+use Rattle.flume_grammar.specs.declared.tree.Combiner.TheVariants as combiner
+use Rattle.flume_grammar.specs.declared.tree.Operation.{Operation}
+use Rattle.flume_grammar.specs.declared.tree.Operation.TheVariants as operation
+use Rattle.flume_grammar.specs.declared.tree.Form.{Form}
+use Rattle.flume_grammar.specs.declared.tree.Form.TheVariants as form
+use Rattle.flume_grammar.specs.declared.tree.Statement.{Statement}
+use Rattle.flume_grammar.specs.inner.Out.{Out, give, bind, at, one, next, all_of}
+use Rattle.flume_grammar.specs.inner.Reading.{sign_at, keyword_at, name_at, number_at, text_at, comma_at, or_syntax, is_at_keyword}
+use Rattle.flume_grammar.specs.Parts.{Tree}
+use Rattle.flume_grammar.specs.inner.Types.{at_comma, whole_type}
+use Rattle.flume_grammar.specs.inner.Bodies.{whole_block}
+use Rattle.flume_grammar.specs.Limits.{Limits}
+
+-- ---- operations
+
+abbrev pub keyword_operation : Keyword → Option OperationStart
+keyword_operation keyword.Do = Some begin.Do
+keyword_operation keyword.Group = Some begin.Group
+keyword_operation keyword.Combine = Some begin.Combine
+keyword_operation keyword.Flatten = Some begin.Flatten
+keyword_operation keyword.Count = Some begin.Count
+keyword_operation keyword.Join = Some begin.Join
+keyword_operation keyword.Top = Some begin.Top
+keyword_operation _ = None
+
+abbrev pub of_keyword : {A : Type 0} → (Keyword → Option A) → TokenKind → Option A
+of_keyword f (kind.Keyword k) = f k
+of_keyword f _ = None
+
+abbrev pub operation_start : Token → Result OperationStart Stop
+operation_start t = or_syntax t (of_keyword keyword_operation t.kind)
+
+abbrev pub keyword_combiner : Keyword → Option CombinerStart
+keyword_combiner keyword.Sum = Some (combining.Whole combiner.Sum)
+keyword_combiner keyword.Count = Some (combining.Whole combiner.Count)
+keyword_combiner keyword.Min = Some (combining.Whole combiner.Min)
+keyword_combiner keyword.Max = Some (combining.Whole combiner.Max)
+keyword_combiner keyword.All = Some (combining.Whole combiner.All)
+keyword_combiner keyword.Any = Some (combining.Whole combiner.Any)
+keyword_combiner keyword.Top = Some combining.Top
+keyword_combiner _ = None
+
+abbrev pub combiner_start : Token → Result CombinerStart Stop
+combiner_start t = or_syntax t (of_keyword keyword_combiner t.kind)
+
+abbrev pub after_combiner : CombinerStart → List Token → Out Combiner
+after_combiner (combining.Whole c) ts = give c ts
+after_combiner combining.Top ts = bind (one number_at ts) (λ n us. give (combiner.Top n) us)
+
+abbrev pub combiner_at : List Token → Out Combiner
+combiner_at ts = bind (one combiner_start ts) (λ s us. after_combiner s us)
+
+abbrev pub combine : List Token → Out Operation
+combine ts =
+    bind (one name_at ts) (λ c us. bind (one (keyword_at keyword.By) us)
+    (λ _ vs. bind (combiner_at vs) (λ k ws. give (operation.Combine c k) ws)))
+
+abbrev pub join : List Token → Out Operation
+join ts =
+    bind (one name_at ts) (λ a us. bind (one (sign_at sign.Comma) us)
+    (λ _ vs. bind (one name_at vs) (λ b ws. give (operation.Join a b) ws)))
+
+-- ---- statements
+
+abbrev pub keyword_statement : Keyword → Option StatementStart
+keyword_statement keyword.Type = Some start.Type
+keyword_statement keyword.Input = Some start.Input
+keyword_statement keyword.Fn = Some start.Function
+keyword_statement keyword.Let = Some start.Let
+keyword_statement keyword.Output = Some start.Output
+keyword_statement _ = None
+
+abbrev pub with_line : Token → Option StatementStart → Result (StatementStart × ℕ) Stop
+with_line t (Some s) = Ok (s, t.line)
+with_line t None = Err (at t Syntax)
+
+abbrev pub statement_start : Token → Result (StatementStart × ℕ) Stop
+statement_start t = with_line t (of_keyword keyword_statement t.kind)
+
+abbrev pub scale : List Token → Out (Option (List ℕ))
+scale ts =
+    if is_at_keyword keyword.Scale (next ts) then bind (one (keyword_at keyword.Scale) ts)
+    (λ _ us. bind (one number_at us) (λ n vs. give (Some n) vs)) else give None ts
+
+abbrev pub output_form : List Token → Out Form
+output_form ts =
+    bind (one name_at ts) (λ x us. bind (one (keyword_at keyword.To) us)
+    (λ _ vs. bind (one text_at vs) (λ f ws. give (form.Output x f) ws)))
+
+abbrev pub is_more : List Statement → List Token → Bool
+is_more ss ts = is_some (next ts)
+
+module _ (limits : Limits) where
+  abbrev pub next_input : List (List ℕ) → List Token → Out (List (List ℕ))
+  next_input xs ts = bind (one (comma_at (length xs) limits.inputs) ts)
+      (λ _ us. bind (one name_at us) (λ x vs. give (xs ++ x ∷ []) vs))
+
+  abbrev pub flatten : List Token → Out Operation
+  flatten ts =
+      bind (one name_at ts) (λ x us. bind (all_of at_comma next_input (x ∷ []) us)
+      (λ xs vs. give (operation.Flatten xs) vs))
+
+  abbrev pub after_begin : OperationStart → List Token → Out Operation
+  after_begin begin.Do ts =
+      bind (one name_at ts) (λ c us. bind (one name_at us) (λ f vs. give (operation.Do c f) vs))
+  after_begin begin.Group ts = bind (one name_at ts) (λ c us. give (operation.Group c) us)
+  after_begin begin.Combine ts = combine ts
+  after_begin begin.Flatten ts = flatten ts
+  after_begin begin.Count ts = bind (one name_at ts) (λ c us. give (operation.Count c) us)
+  after_begin begin.Join ts = join ts
+  after_begin begin.Top ts =
+      bind (one number_at ts) (λ n us. bind (one name_at us) (λ c vs. give (operation.Top n c) vs))
+
+  abbrev pub operation_at : List Token → Out Operation
+  operation_at ts = bind (one operation_start ts) (λ s us. after_begin s us)
+
+  abbrev pub type_form : List Token → Out Form
+  type_form ts =
+      bind (one name_at ts) (λ x us. bind (one (sign_at sign.Assign) us)
+      (λ _ vs. bind ((whole_type limits) vs) (λ t ws. give (form.Type x t) ws)))
+
+  abbrev pub input_form : List Token → Out Form
+  input_form ts =
+      bind (one name_at ts) (λ x us. bind (one (sign_at sign.Colon) us)
+      (λ _ vs. bind ((whole_type limits) vs) (λ t ws. bind (one (keyword_at keyword.From) ws)
+      (λ _ xs.
+      bind (one text_at xs) (λ f ys. give (form.Input x t f) ys)))))
+
+  -- the argument, its type, and the type of what is given
+  abbrev pub signature : List Token → Out (List ℕ × Tree × Tree)
+  signature ts =
+      bind (one (sign_at sign.Open) ts)
+      (λ _ us. bind (one name_at us) (λ x vs. bind (one (sign_at sign.Colon) vs)
+      (λ _ ws. bind ((whole_type limits) ws) (λ a xs.
+      bind (one (sign_at sign.Close) xs) (λ _ ys. bind (one (sign_at sign.Arrow) ys)
+      (λ _ zs. bind ((whole_type limits) zs) (λ b os. give (x, a, b) os)))))))
+
+  abbrev pub function_form : List Token → Out Form
+  function_form ts =
+      bind (one name_at ts)
+      (λ f us. bind (signature us)
+      (λ g vs. bind (scale vs) (λ n ws. bind ((whole_block limits) ws) (λ b xs.
+      give (form.Function (record {
+        name = f;
+        argument = g.0;
+        takes = g.1;
+        gives = g.2;
+        scale =
+            n;
+        body = b;
+      })) xs))))
+
+  abbrev pub let_form : List Token → Out Form
+  let_form ts =
+      bind (one name_at ts) (λ x us. bind (one (sign_at sign.Assign) us)
+      (λ _ vs. bind (operation_at vs) (λ o ws. give (form.Let x o) ws)))
+
+  abbrev pub form_at : StatementStart → List Token → Out Form
+  form_at start.Type ts = type_form ts
+  form_at start.Input ts = input_form ts
+  form_at start.Function ts = function_form ts
+  form_at start.Let ts = let_form ts
+  form_at start.Output ts = output_form ts
+
+  abbrev pub statement_at : List Token → Out Statement
+  statement_at ts =
+      bind (one statement_start ts)
+      (λ s us. bind (form_at s.0 us) (λ f vs. give (record { line = s.1; form = f }) vs))
+
+  abbrev pub next_statement : List Statement → List Token → Out (List Statement)
+  next_statement ss ts = bind (statement_at ts) (λ s us. give (ss ++ s ∷ []) us)
+
+  -- all statements up to the end
+  abbrev pub script_at : List Token → Out (List Statement)
+  script_at ts = all_of is_more next_statement [] ts

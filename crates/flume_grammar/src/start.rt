@@ -1,0 +1,70 @@
+//! How the parts of a script begin, by their first tokens.
+
+use crate::tree::{Combiner, Expr, Side, Type, Unary};
+
+/// How a statement begins.
+#[derive(Clone, Copy, Debug)]
+pub enum StatementStart {
+    Type,
+    Input,
+    Function,
+    Let,
+    Output,
+}
+
+/// How an operation begins.
+#[derive(Clone, Copy, Debug)]
+pub enum OperationStart {
+    Do,
+    Group,
+    Combine,
+    Flatten,
+    Count,
+    Join,
+    Top,
+}
+
+/// How a combiner begins: `top` has a number yet to come.
+#[derive(Debug, Drop)]
+pub enum CombinerStart {
+    Whole(Combiner),
+    Top,
+}
+
+/// How a type begins.
+#[derive(Debug, Drop)]
+pub enum TypeStart {
+    /// a whole type
+    Leaf(Type),
+    List,
+    Either,
+    Table,
+    Record,
+}
+
+/// How a statement of a body begins.
+#[derive(Clone, Copy, Debug)]
+pub enum BodyStart {
+    Let,
+    Emit,
+    If,
+    For,
+    Case,
+}
+
+/// How an operand begins.
+#[derive(Debug, Drop)]
+pub enum Start {
+    /// a whole expression
+    Leaf(Expr),
+    Empty,
+    Record,
+    List,
+    Side(Side),
+    /// an operator before its operand
+    Prefix(Unary),
+    /// a call with one argument
+    Call(Unary),
+    Concat,
+    Pick,
+}

@@ -1,0 +1,53 @@
+-- What the parts of a program are, as they are found.
+use Rattle.std.specs.Prelude.{◌≡◌, List, Option, Result, Ok, Err, option_and_then}
+use Rattle.flume_grammar.specs.declared.tree.Form.{Form}
+use Rattle.flume_grammar.specs.declared.tree.Statement.{Statement}
+use Rattle.dofn_check.specs.Call.{Function}
+use Rattle.dofn_check.specs.Typing.{Scope}
+use Rattle.dofn_check.specs.declared.refusal.Refusal.{Refusal}
+use Rattle.flume_program.specs.Script.{Script}
+use Rattle.flume_program.specs.Checked.{Done, done_at, do_script, sum_script}
+use Rattle.flume_program.specs.Accepted.{AreNamed, Does, IsNamed, IsProgram, IsProgramOf, IsReady, IsRefused, statement_of}
+use Rattle.flume_program.specs.declared.program.Program.{Program}
+use Rattle.flume_program.specs.declared.statements.Called.{Called}
+use Rattle.flume_program.specs.declared.checks.Done.{Done as Found}
+use Rattle.flume_program.specs.inner.Answers.{Fails}
+
+-- what was found is the function, under its name, by slots
+pub record IsCalled (called : Called) (function : Function) : Type 0 where
+  pub named : function.name ≡ called.name
+  pub does : Does called.fun function
+
+-- what was found is the `do`, whose function takes its rows
+pub record IsDone (found : Found) (done : Done) : Type 0 where
+  pub rows : done.rows ≡ statement_of found.input
+  pub collection : done.collection ≡ found.collection
+  pub called : IsCalled found.called done.function
+  pub takes : done.function.takes ≡ found.input.ty
+
+-- what these forms mean behind the types: a `do` and its output
+abbrev pub do_meant : Form → Form → Form → Form → Scope → Option Script
+do_meant input function made output names =
+    option_and_then (λ done. do_script done output) (done_at input function made names)
+
+-- the same with its groups and their sums
+abbrev pub sums_meant : Form → Form → Form → Form → Form → Form → Scope → Option Script
+sums_meant input function made grouped summed output names =
+    option_and_then (λ done. sum_script done grouped summed output)
+    (done_at input function made names)
+
+-- the program is the script, by some function
+abbrev pub IsMade : Program → Script → Type 0
+IsMade program script = (function : Function) × IsProgram program function script
+
+-- the program is one of these statements, and ready; its files are named in UTF-8 where theirs are
+pub record IsAnswered (statements : List Statement) (program : Program) : Type 0 where
+  pub accepted : IsProgramOf statements program
+  pub ready : IsReady program
+  pub named : AreNamed statements → IsNamed program
+
+-- the answer for these statements: the program of a script as which they are accepted, or a refusal
+-- where there is none
+abbrev pub IsAnswer : List Statement → Result Program Refusal → Type 0
+IsAnswer statements (Ok program) = IsAnswered statements program
+IsAnswer statements (Err e) = Fails e (IsRefused statements)

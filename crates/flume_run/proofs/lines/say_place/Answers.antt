@@ -1,4 +1,0 @@
-use Rattle.flume_run.proofs.lines.say_place.Goals as goal
-
-pub returns-in-File : goal.returns-in-File
-returns-in-File g c = rw (c.in-File.is, ← c.as_bytes.ensures) c.say_named.ensures

@@ -1,4 +1,0 @@
-use Rattle.flume_run.proofs.lines.say_too_long.Goals as goal
-
-pub returns : goal.returns
-returns g c = rw (← c.format.ensures.text, ← c.as_bytes-limit.ensures.value) c.say_named.ensures

@@ -1,7 +1,0 @@
-use Rattle.flume_types.specs.declared.types.Ty.TheVariants as ty
-use Rattle.flume_types.specs.Tables.{table_of}
-use Rattle.keyed_steps.specs.Types.{AllHave}
-use Rattle.keyed_steps.proofs.tests.table.Given as goal
-
-abbrev pub invariant-loop-pair : goal.invariant-loop-pair
-invariant-loop-pair l = AllHave (table_of ty.Int ty.Int) l.table.items

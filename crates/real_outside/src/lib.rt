@@ -1,0 +1,15 @@
+//! The files of the system as a source and a shelf, and a writer, as the standard output, as a
+//! screen.
+//!
+//! They tell nothing of what they hold, and count their failures. What they read and write is shown
+//! by tests alone.
+#![tactic(auto)]
+
+mod faults;
+mod screen;
+mod shelf;
+mod source;
+
+pub use screen::OutputScreen;
+pub use shelf::FileShelf;
+pub use source::FileSource;

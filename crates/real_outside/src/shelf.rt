@@ -1,0 +1,87 @@
+ghost use Rattle.std.specs.Prelude.{◌≡◌, None, [], false};
+
+use crate::faults::{FaultCount, write_some};
+use outside::{Failed, Shelf};
+use std::fs;
+use std::io::Write;
+use std::marker::Model;
+use std::rt::Files;
+
+/// The files of the system, to write. It tells nothing of what they hold.
+#[derive(Drop)]
+pub struct FileShelf<'a, R: Files> {
+    system: &'a R,
+    begun: Option<R::File>,
+    left: u64,
+    faults: FaultCount,
+}
+
+impl<'a, R: Files> Model for FileShelf<'a, R> {
+    ghost use Rattle.std.specs.Prelude.{is_some};
+    ghost use Rattle.real_outside.specs.Standing.{StandingShelf};
+
+    ghost Value = { StandingShelf };
+
+    ghost view = { λ shelf.
+        record { begun = is_some shelf.begun; left = shelf.left; faults = shelf.faults.count } };
+}
+
+impl<'a, R: Files> FileShelf<'a, R> {
+    /// A shelf with no file begun and none left begun, which has not failed.
+    pub fn new(system: &'a R) -> Self
+        ensures { result ≡ record { begun = false; left = 0; faults = 0 } }
+    {
+        FileShelf {
+            system,
+            begun: None,
+            left: 0,
+            faults: FaultCount::new(),
+        }
+    }
+}
+
+impl<R: Files> Shelf for FileShelf<'_, R> {
+    ghost files = { λ _. None };
+
+    ghost begun = { λ shelf. shelf.begun };
+
+    ghost begun_name = { λ _. [] };
+
+    ghost left = { λ shelf. shelf.left };
+
+    ghost faults = { λ shelf. shelf.faults };
+
+    /// Makes an empty file, or empties the one that is there.
+    fn begin(&mut self, name: &str) -> Result<(), Failed> {
+        if self.begun.take().is_some() {
+            self.left = self.left.saturating_add(1);
+        }
+        match fs::create(self.system, name) {
+            Ok(file) => {
+                self.begun = Some(file);
+                Ok(())
+            }
+            Err(_) => Err(self.faults.raise()),
+        }
+    }
+
+    fn write(&mut self, piece: &[u8]) -> Result<usize, Failed> {
+        if let Some(file) = &mut self.begun {
+            if let Some(count) = write_some(file, piece) {
+                return Ok(count);
+            }
+        }
+        Err(self.faults.raise())
+    }
+
+    /// Closes the file. The system keeps no part of it back in this program, so what a close itself
+    /// would tell is not asked for.
+    fn end(&mut self) -> Result<(), Failed> {
+        if let Some(mut file) = self.begun.take() {
+            if file.flush().is_ok() {
+                return Ok(());
+            }
+        }
+        Err(self.faults.raise())
+    }
+}

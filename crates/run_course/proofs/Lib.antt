@@ -1,0 +1,4 @@
+pub mod AcceptedLemmas
+pub mod CauseLemmas
+pub mod PromiseLemmas
+pub mod TurnLemmas

@@ -1,0 +1,154 @@
+-- Each answer of a call: its cause, and what stands afterwards.
+use Rattle.std.specs.Prelude.{◌≡◌, ◌++◌, ℕ, List, Some, None, Err, slice_get, ⊤}
+use Rattle.std.specs.List.{Contains}
+use Rattle.std.specs.Option.{option_map}
+use Rattle.csv_rows.specs.Rows.{rows_of}
+use Rattle.csv_rows.specs.declared.fault.RowFault.TheVariants.{Bad}
+use Rattle.csv_rows.specs.declared.fault.RowKind.{RowKind}
+use Rattle.direct_meaning.specs.Direct.{Collection, traps_of}
+use Rattle.flume_program.specs.Needed.{Wanted}
+use Rattle.flume_program.specs.Script.{Script, name_at}
+use Rattle.flume_value.specs.declared.fault.Kind.{Kind}
+use Rattle.flume_value.specs.declared.value.Value.{Value}
+use Rattle.outside.specs.Cause.{Rose, RoseBy}
+use Rattle.outside.specs.Saves.{FailsAt, HasFiles}
+use Rattle.outside.specs.Says.{HasFront, HasLine}
+use Rattle.outside.specs.Seen.{Seen, SeenShelf}
+use Rattle.outside.specs.Told.{WhereTold}
+use Rattle.outside.specs.declared.file.File.{File as NamedBytes}
+use Rattle.run_texts.specs.Lines.{line_of, trap_line}
+use Rattle.run_texts.specs.declared.status.Place.{Place}
+use Rattle.run_texts.specs.declared.status.Place.TheVariants.{File, Screen}
+use Rattle.flume_grammar.specs.declared.fault.ScriptKind.{ScriptKind}
+use Rattle.run_texts.specs.declared.status.Status.{Status}
+use Rattle.run_texts.specs.declared.status.Status.TheVariants.{Done, Usage, ScriptRefused, InputRefused, Trap, ReadFault, WriteFault, WantOfMemory, TooLong, NoFile}
+use Rattle.run_course.specs.Accepted.{Refused}
+use Rattle.run_course.specs.Asked.{IsAbove, IsAskedFor, IsMissing, IsRun, IsTurnOf, Loads, Writes}
+use Rattle.run_course.specs.Words.{script_asked}
+use Rattle.run_course.specs.World.{World}
+use Rattle.run_course.specs.declared.limits.TheConstants.{SCRIPT_LIMIT, INPUT_LIMIT, TRIES}
+
+-- ---- what is written
+
+-- the screen has got the text, and has not failed
+pub record HasText (text : List ℕ) (before after : Seen (List ℕ)) : Type 0 where
+  pub told : after.told ≡ option_map (λ old. old ++ text) before.told
+  pub faults : after.faults ≡ before.faults
+
+-- the screen failed, and has a front of the text
+pub record IsCutOff (text : List ℕ) (before after : Seen (List ℕ)) : Type 0 where
+  pub told : WhereTold before.told after.told (HasFront text)
+  pub faults : Rose before.faults after.faults
+
+-- the shelf failed at the file of this name: those before it are whole, and those behind it as they
+-- were
+abbrev pub FailsAtFile : List ℕ → List NamedBytes → SeenShelf → SeenShelf → Type 0
+FailsAtFile name files before after =
+    (place : ℕ) × (file : NamedBytes) × (slice_get files place ≡ Some file) × (file.name ≡ name)
+    × FailsAt place files before after
+
+-- Done: the words ask for a run whose script has no trap. Each output file is whole and ended and
+-- is the sorted text of the script's direct meaning, and the screen has got the graph, the plan,
+-- the sizes and `done`.
+abbrev pub IsDone : List (List ℕ) → World → World → Type 0
+IsDone words before after =
+    (files : List NamedBytes) × (text : List ℕ) × Writes words before.source.told files text
+    × HasFiles files before.shelf after.shelf × HasText text before.screen after.screen
+
+-- WriteFault of a file: the run came to its writing, so no call traps, and the shelf failed there
+abbrev pub IsFileFault : List ℕ → List (List ℕ) → World → World → Type 0
+IsFileFault name words before after =
+    (files : List NamedBytes) × (text : List ℕ) × Writes words before.source.told files text
+    × FailsAtFile name files before.shelf after.shelf
+    × HasLine (line_of (WriteFault (File name))) before.screen after.screen
+
+-- WriteFault of the screen: every output file is whole and ended, and the screen failed in its text
+abbrev pub IsScreenFault : List (List ℕ) → World → World → Type 0
+IsScreenFault words before after =
+    (files : List NamedBytes) × (text : List ℕ) × Writes words before.source.told files text
+    × HasFiles files before.shelf after.shelf × IsCutOff text before.screen after.screen
+
+-- what a run that came to its writing left, where that failed
+abbrev pub IsWriteFault : Place → List (List ℕ) → World → World → Type 0
+IsWriteFault (File name) words before after = IsFileFault name words before after
+IsWriteFault Screen words before after = IsScreenFault words before after
+
+-- ---- what is not
+
+-- Trap: the words ask for a run, and this is one of its script's traps; the shelf is untouched, and
+-- the screen has the line, with the name of the trap's statement
+abbrev pub IsTrap : ℕ → Kind → Value → List (List ℕ) → World → World → Type 0
+IsTrap origin kind element words before after =
+    (script : Script) × (rows : List (List Value)) × (made : List Collection) × (name : List ℕ)
+    × IsRun words before.source.told script rows made
+    × Contains (traps_of made) (record { origin = origin; kind = kind; element = element })
+    × (name_at script.nodes origin ≡ Some name)
+    × (after.shelf ≡ before.shelf)
+    × HasLine (trap_line name kind element) before.screen after.screen
+
+-- Usage: the words ask for no script
+abbrev pub IsUsage : List (List ℕ) → Type 0
+IsUsage words = script_asked words ≡ None
+
+-- NoFile: it is the file's turn, and the source has none of that name
+abbrev pub IsNoFile : List ℕ → List (List ℕ) → Seen (List NamedBytes) → Type 0
+IsNoFile name words source =
+    (limit : ℕ) × IsAskedFor words source.told name limit × IsMissing source.told name
+
+-- TooLong: it is the file's turn, and it has more bytes than its limit
+abbrev pub IsTooLong : List ℕ → ℕ → List (List ℕ) → Seen (List NamedBytes) → Type 0
+IsTooLong name limit words source =
+    IsAskedFor words source.told name limit × IsAbove source.told name limit
+
+-- ReadFault: it is the file's turn, and the source failed in each of its loads
+abbrev pub IsReadFault : List ℕ → List (List ℕ) → Seen (List NamedBytes) →
+    Seen (List NamedBytes) → Type 0
+IsReadFault name words before after =
+    (limit : ℕ) × IsAskedFor words before.told name limit × RoseBy TRIES before.faults after.faults
+
+-- ScriptRefused: the script was loaded, and its bytes are refused so
+abbrev pub IsScriptRefused : ℕ → ScriptKind → List (List ℕ) → Seen (List NamedBytes) → Type 0
+IsScriptRefused line kind words source =
+    (name : List ℕ) × (bytes : List ℕ) × (script_asked words ≡ Some name)
+    × Loads source.told name SCRIPT_LIMIT bytes × Refused bytes line kind
+
+-- InputRefused: it is the input's turn, its file was loaded, and this is the first fault of its
+-- rows
+abbrev pub IsInputRefused : List ℕ → ℕ → ℕ → RowKind → List (List ℕ) → Seen (List NamedBytes) →
+    Type 0
+IsInputRefused name row column kind words source =
+    (wanted : Wanted) × (bytes : List ℕ) × IsTurnOf words source.told wanted × (name ≡ wanted.file)
+    × Loads source.told wanted.file INPUT_LIMIT bytes
+    × (rows_of bytes wanted.type ≡ Err (Bad row column kind))
+
+-- a refusal before anything is written: the shelf is untouched, and the screen has the refusal's
+-- line
+pub record IsRefused (status : Status) (before after : World) : Type 0 where
+  pub shelf : after.shelf ≡ before.shelf
+  pub line : HasLine (line_of status) before.screen after.screen
+
+-- ---- the answer
+
+-- the cause of each refusal that comes before anything is written; want of memory needs none
+abbrev pub IsCause : List (List ℕ) → Seen (List NamedBytes) → Seen (List NamedBytes) → Status →
+    Type 0
+IsCause words before after Usage = IsUsage words
+IsCause words before after (NoFile name) = IsNoFile name words before
+IsCause words before after (TooLong name limit) = IsTooLong name limit words before
+IsCause words before after (ReadFault name) = IsReadFault name words before after
+IsCause words before after (ScriptRefused line kind) = IsScriptRefused line kind words before
+IsCause words before after (InputRefused name row column kind) =
+    IsInputRefused name row column kind words before
+IsCause words before after WantOfMemory = ⊤
+IsCause words before after Done = ⊥
+IsCause words before after (Trap origin kind element) = ⊥
+IsCause words before after (WriteFault place) = ⊥
+
+-- what each answer says of the words, of what stood before the call and of what stands after it
+abbrev pub Answers : List (List ℕ) → World → World → Status → Type 0
+Answers words before after Done = IsDone words before after
+Answers words before after (Trap origin kind element) =
+    IsTrap origin kind element words before after
+Answers words before after (WriteFault place) = IsWriteFault place words before after
+Answers words before after status =
+    IsCause words before.source after.source status × IsRefused status before after

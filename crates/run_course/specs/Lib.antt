@@ -1,0 +1,7 @@
+pub mod Accepted
+pub mod Answers
+pub mod Asked
+pub mod Promises
+pub mod Words
+pub mod World
+pub mod inner

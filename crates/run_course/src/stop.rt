@@ -1,0 +1,33 @@
+use direct_meaning::Trapped;
+use run_texts::Status;
+use std::alloc::AllocError;
+
+/// Why a run writes nothing.
+#[derive(Debug, Drop)]
+pub enum Stop {
+    Refused(Status),
+    Trapped(Trapped),
+}
+
+impl From<Status> for Stop {
+    ghost use Rattle.std.specs.Prelude.{◌≡◌};
+    ghost use Rattle.run_course.specs.declared.stop.Stop.TheVariants.{Refused};
+
+    ghost from_gives = { λ status stop. stop ≡ Refused status };
+
+    fn from(status: Status) -> Stop {
+        Stop::Refused(status)
+    }
+}
+
+impl From<AllocError> for Stop {
+    ghost use Rattle.std.specs.Prelude.{◌≡◌};
+    ghost use Rattle.run_texts.specs.declared.status.Status.TheVariants.{WantOfMemory};
+    ghost use Rattle.run_course.specs.declared.stop.Stop.TheVariants.{Refused};
+
+    ghost from_gives = { λ _ stop. stop ≡ Refused WantOfMemory };
+
+    fn from(_e: AllocError) -> Stop {
+        Stop::Refused(Status::WantOfMemory)
+    }
+}

@@ -1,0 +1,9 @@
+//! Worked calls of `flume` over the forms in memory, as tables.
+#![tactic(auto)]
+
+mod calls;
+mod faults;
+mod refusals;
+mod rows;
+mod sums;
+mod words;

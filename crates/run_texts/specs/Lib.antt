@@ -1,0 +1,5 @@
+pub mod Codes
+pub mod Lines
+pub mod Shown
+pub mod Texts
+pub mod inner

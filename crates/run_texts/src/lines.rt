@@ -1,0 +1,184 @@
+// The line of a refusal, which is written piece by piece and takes no memory.
+ghost use Rattle.std.specs.Prelude.{◌≡◌, ◌≤◌};
+ghost use Rattle.run_texts.specs.Lines.{line_of, place_line, row_kind_name, script_kind_name, trap_kind_name, trap_line};
+ghost use Rattle.outside.specs.Says.{HasLine, Says};
+ghost use Rattle.outside.specs.Seen.{seen};
+
+use crate::status::{Place, Status};
+use csv_rows::RowKind;
+use flume_syntax::ScriptKind;
+use flume_value::{Kind, Value};
+use itoa::Buffer;
+use outside::{Failed, Screen, say, say_all};
+use printing::{say_named, say_value};
+
+/// Writes the line of a refusal as far as the screen takes it.
+pub fn tell<P: Screen>(screen: &mut P, status: &Status)
+    ensures line { HasLine (line_of status.now)
+        (seen P.text P.faults screen.old) (seen P.text P.faults screen.new) }
+    ensures later { P.faults screen.old ≤ P.faults screen.new }
+{
+    let _ = say_line(screen, status);
+}
+
+/// Writes the line of a trap as far as the screen takes it: the name of the collection that the
+/// call was to make a part of, why it traps, and what it was called with.
+pub fn tell_trap<P: Screen>(screen: &mut P, name: &[u8], kind: Kind, element: &Value)
+    ensures line { HasLine (trap_line name.now kind element.now)
+        (seen P.text P.faults screen.old) (seen P.text P.faults screen.new) }
+    ensures later { P.faults screen.old ≤ P.faults screen.new }
+{
+    let _ = say_trap(screen, name, kind, element);
+}
+
+fn say_line<P: Screen>(screen: &mut P, status: &Status) -> Result<(), Failed>
+    ensures { Says (line_of status.now)
+        (seen P.text P.faults screen.old) (seen P.text P.faults screen.new) result }
+{
+    match status {
+        Status::Done | Status::Trap { .. } => say_all(screen, &[]),
+        Status::Usage => say(
+            screen,
+            b"usage: flume check S | plan S [--json] | direct S | run S [options] | \
+              make START ROWS\n",
+        ),
+        Status::ScriptRefused { line, kind } => say_script_refused(screen, *line, *kind),
+        Status::InputRefused {
+            name,
+            row,
+            column,
+            kind,
+        } => say_input_refused(screen, name.as_bytes(), *row, *column, *kind),
+        Status::ReadFault { name } => say_named(screen, b"read fault: ", name.as_bytes(), &[b"\n"]),
+        Status::WriteFault { place } => say_place(screen, place),
+        Status::WantOfMemory => say_all(screen, &[b"want of memory\n"]),
+        Status::TooLong { name, limit } => say_too_long(screen, name.as_bytes(), *limit),
+        Status::NoFile { name } => say_named(screen, b"no file: ", name.as_bytes(), &[b"\n"]),
+    }
+}
+
+fn say_trap<P: Screen>(
+    screen: &mut P,
+    name: &[u8],
+    kind: Kind,
+    element: &Value,
+) -> Result<(), Failed>
+    ensures { Says (trap_line name.now kind element.now)
+        (seen P.text P.faults screen.old) (seen P.text P.faults screen.new) result }
+{
+    say(screen, b"trap at ")?;
+    say(screen, name)?;
+    say_all(screen, &[b": ", trap_kind(kind), b" on "])?;
+    say_value(screen, element)?;
+    say(screen, b"\n")
+}
+
+fn say_script_refused<P: Screen>(screen: &mut P, line: u32, kind: ScriptKind) -> Result<(), Failed>
+    ensures { Says (line_of (Status.ScriptRefused line kind))
+        (seen P.text P.faults screen.old) (seen P.text P.faults screen.new) result }
+{
+    let mut digits = Buffer::new();
+    let line = digits.format(line).as_bytes();
+    let pieces: [&[u8]; 5] = [
+        b"script refused at line ",
+        line,
+        b": ",
+        script_kind(kind),
+        b"\n",
+    ];
+    say_all(screen, &pieces)
+}
+
+fn say_input_refused<P: Screen>(
+    screen: &mut P,
+    name: &[u8],
+    row: u64,
+    column: u32,
+    kind: RowKind,
+) -> Result<(), Failed>
+    ensures { Says (line_of (Status.InputRefused name.now row column kind))
+        (seen P.text P.faults screen.old) (seen P.text P.faults screen.new) result }
+{
+    let mut row_digits = Buffer::new();
+    let mut column_digits = Buffer::new();
+    let row = row_digits.format(row).as_bytes();
+    let column = column_digits.format(column).as_bytes();
+    let behind: [&[u8]; 7] = [
+        b" row ",
+        row,
+        b" column ",
+        column,
+        b": ",
+        row_kind(kind),
+        b"\n",
+    ];
+    say_named(screen, b"input refused: ", name, &behind)
+}
+
+fn say_too_long<P: Screen>(screen: &mut P, name: &[u8], limit: u64) -> Result<(), Failed>
+    ensures { Says (line_of (Status.TooLong name.now limit))
+        (seen P.text P.faults screen.old) (seen P.text P.faults screen.new) result }
+{
+    let mut digits = Buffer::new();
+    let limit = digits.format(limit).as_bytes();
+    say_named(
+        screen,
+        b"too long: ",
+        name,
+        &[b" above ", limit, b" bytes\n"],
+    )
+}
+
+// A screen that failed gets no line.
+fn say_place<P: Screen>(screen: &mut P, place: &Place) -> Result<(), Failed>
+    ensures { Says (place_line place.now)
+        (seen P.text P.faults screen.old) (seen P.text P.faults screen.new) result }
+{
+    match place {
+        Place::File(name) => say_named(screen, b"write fault: ", name.as_bytes(), &[b"\n"]),
+        Place::Screen => say_all(screen, &[]),
+    }
+}
+
+fn trap_kind(kind: Kind) -> &'static [u8]
+    ensures { result.now ≡ trap_kind_name kind }
+{
+    match kind {
+        Kind::Overflow => b"Overflow",
+        Kind::DivideByZero => b"DivideByZero",
+        Kind::BadIndex => b"BadIndex",
+        Kind::BadNumber => b"BadNumber",
+    }
+}
+
+fn script_kind(kind: ScriptKind) -> &'static [u8]
+    ensures { result.now ≡ script_kind_name kind }
+{
+    match kind {
+        ScriptKind::Utf8 => b"Utf8",
+        ScriptKind::Token => b"Token",
+        ScriptKind::Syntax => b"Syntax",
+        ScriptKind::TooDeep => b"TooDeep",
+        ScriptKind::TooLong => b"TooLong",
+        ScriptKind::TooMany => b"TooMany",
+        ScriptKind::Unknown => b"Unknown",
+        ScriptKind::Twice => b"Twice",
+        ScriptKind::Mistyped => b"Mistyped",
+        ScriptKind::NotTable => b"NotTable",
+        ScriptKind::NotFlat => b"NotFlat",
+        ScriptKind::NoOutput => b"NoOutput",
+        ScriptKind::BadNumber => b"BadNumber",
+    }
+}
+
+fn row_kind(kind: RowKind) -> &'static [u8]
+    ensures { result.now ≡ row_kind_name kind }
+{
+    match kind {
+        RowKind::Header => b"Header",
+        RowKind::Width => b"Width",
+        RowKind::NotInt => b"NotInt",
+        RowKind::NotBool => b"NotBool",
+        RowKind::Utf8 => b"Utf8",
+    }
+}

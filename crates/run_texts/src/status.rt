@@ -1,0 +1,81 @@
+ghost use Rattle.std.specs.Prelude.{◌≡◌};
+ghost use Rattle.run_texts.specs.Codes.{code_of};
+
+use csv_rows::RowKind;
+use flume_syntax::ScriptKind;
+use flume_value::{Kind, Str, Value};
+
+/// Where a write failed.
+#[derive(Debug, Drop)]
+pub enum Place {
+    /// The output file of this name.
+    File(Str),
+    Screen,
+}
+
+/// How a call of `flume` ended. `Done` alone says that all was written.
+#[derive(Debug, Drop)]
+pub enum Status {
+    /// Every output file and the screen's text are written.
+    Done,
+    /// The words are no command.
+    Usage,
+    /// The script is not of the language, by the first fault in it.
+    ScriptRefused {
+        line: u32,
+        kind: ScriptKind,
+    },
+    /// An input file has no rows of its type, by the first fault in it.
+    InputRefused {
+        name: Str,
+        row: u64,
+        column: u32,
+        kind: RowKind,
+    },
+    /// A call of a function traps, and nothing is written: the number of the collection that it was
+    /// to make a part of, in order of the script, and the element that it was called with.
+    Trap {
+        origin: u32,
+        kind: Kind,
+        element: Value,
+    },
+    /// The source failed while it gave this file.
+    ReadFault {
+        name: Str,
+    },
+    /// The shelf or the screen failed.
+    WriteFault {
+        place: Place,
+    },
+    /// A growth found no memory.
+    WantOfMemory,
+    /// The file has more bytes than its limit.
+    TooLong {
+        name: Str,
+        limit: u64,
+    },
+    /// The source has no file of this name.
+    NoFile {
+        name: Str,
+    },
+}
+
+impl Status {
+    /// The exit status of the program.
+    pub fn code(&self) -> u8
+        ensures { result ≡ code_of self.now }
+    {
+        match self {
+            Status::Done => 0,
+            Status::Usage => 2,
+            Status::ScriptRefused { .. } => 3,
+            Status::InputRefused { .. } => 4,
+            Status::Trap { .. } => 5,
+            Status::ReadFault { .. } => 6,
+            Status::WriteFault { .. } => 7,
+            Status::WantOfMemory => 9,
+            Status::TooLong { .. } => 10,
+            Status::NoFile { .. } => 11,
+        }
+    }
+}

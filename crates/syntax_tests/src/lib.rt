@@ -1,0 +1,13 @@
+//! Tests of the tokens and the trees of scripts, as tables of cases over `tokens` and `parse`.
+#![tactic(auto)]
+
+#[cfg(test)]
+mod cuts;
+#[cfg(test)]
+mod faults;
+#[cfg(test)]
+mod made;
+#[cfg(test)]
+mod scripts;
+#[cfg(test)]
+mod trees;

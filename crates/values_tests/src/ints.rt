@@ -1,0 +1,27 @@
+use int_text::int_of;
+
+#[test]
+fn reads_ints_and_nothing_else(rt: HostRuntime) {
+    let table: [(&[u8], Option<i64>); 16] = [
+        (b"-0", Some(0)),
+        (b"007", Some(7)),
+        (b"-12", Some(-12)),
+        (b"9223372036854775807", Some(i64::MAX)),
+        (b"-9223372036854775808", Some(i64::MIN)),
+        (b"9223372036854775808", None),
+        (b"-9223372036854775809", None),
+        (b"", None),
+        (b"-", None),
+        (b"--1", None),
+        (b"+1", None),
+        (b" 1", None),
+        (b"1\n", None),
+        (b"12x", None),
+        // a digit of another script, and no text at all
+        (b"\xd9\xa1", None),
+        (b"\xff", None),
+    ];
+    for (text, wanted) in table {
+        assert!(rt; int_of(text) == wanted);
+    }
+}

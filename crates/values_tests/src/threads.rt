@@ -1,0 +1,87 @@
+use crate::samples::of_each_variant;
+use flume_value::{Items, Pile, Str, Value, partition};
+use std::marker::Model;
+use std::test::Fail;
+use std::thread;
+use std::thread::Threads;
+
+/// How many of the values have the partition, of two.
+fn count_of(values: &[Value], part: u32) -> usize {
+    let mut count = 0usize;
+    for value in values {
+        if partition(value, 2) == part {
+            count = count.saturating_add(1);
+        }
+    }
+    count
+}
+
+/// How many values each partition of two has, each counted by a thread.
+fn counts<R: Threads>(rt: &R, values: &[Value]) -> (usize, usize) {
+    thread::join(rt, || count_of(values, 0), || count_of(values, 1))
+}
+
+/// A share of work over a list of values, which contracts see as the list.
+#[derive(Drop)]
+struct Share<'a> {
+    values: &'a [Value],
+}
+
+impl<'a> Model for Share<'a> {
+    ghost use Rattle.std.specs.Prelude.{List};
+    ghost use Rattle.std.specs.Coded.{coded_list};
+    ghost use Rattle.flume_value.specs.declared.value.Value.{Value as Plain};
+    ghost use Rattle.flume_value.specs.contracts.value.Value as value;
+
+    ghost Value = { List Plain };
+
+    ghost coded = { coded_list value.the_row.coded };
+
+    ghost view = { λ share. share.values.now };
+}
+
+trait Work {
+    /// How many values the first partition of two has.
+    fn count(&self) -> usize;
+}
+
+impl<'a> Work for Share<'a> {
+    fn count(&self) -> usize {
+        count_of(self.values, 0)
+    }
+}
+
+/// One piece of work, done by two threads.
+fn both<R: Threads, W: Work + Sync>(rt: &R, work: &W) -> (usize, usize) {
+    thread::join(rt, || work.count(), || work.count())
+}
+
+/// A list and a text, each handed through a thread.
+fn sent<R: Threads>(rt: &R, list: Items, text: Str) -> (Items, Str) {
+    thread::join(rt, move || list, move || text)
+}
+
+#[test]
+fn two_threads_read_one_list(rt: HostRuntime) -> Result<(), Fail> {
+    let values = of_each_variant(rt.alloc())?;
+    assert_eq!(rt; counts(&rt, &values), (3, 5));
+    Ok(())
+}
+
+#[test]
+fn two_threads_share_work_over_values(rt: HostRuntime) -> Result<(), Fail> {
+    let values = of_each_variant(rt.alloc())?;
+    let share = Share { values: &values };
+    assert_eq!(rt; both(&rt, &share), (3, 3));
+    Ok(())
+}
+
+#[test]
+fn a_list_and_a_text_come_back_from_threads(rt: HostRuntime) -> Result<(), Fail> {
+    let alloc = rt.alloc();
+    let list = Pile::from_vec(of_each_variant(alloc)?);
+    let (list, text) = sent(&rt, list, Str::from_slice(alloc, b"hi")?);
+    assert_eq!(rt; list.len(), 8);
+    assert!(rt; text.is(b"hi"));
+    Ok(())
+}
