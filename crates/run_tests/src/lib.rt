@@ -1,9 +1,15 @@
 //! Worked calls of `flume` over the forms in memory, as tables.
 #![tactic(auto)]
 
+#[cfg(test)]
 mod calls;
+#[cfg(test)]
 mod faults;
+#[cfg(test)]
 mod refusals;
+#[cfg(test)]
 mod rows;
+#[cfg(test)]
 mod sums;
+#[cfg(test)]
 mod words;
