@@ -21,7 +21,7 @@ pub code_same : (d c : Place) → d.out < 2 ^ 32 → c.out < 2 ^ 32
 code_same d c h i = code_by d.node d.out c.node c.out h i
 
 -- ---- spots
-swap : (a b : ℕ) → eqb a b ≡ eqb b a
+pub swap : (a b : ℕ) → eqb a b ≡ eqb b a
 swap a b = grind (arith, nat_tests)
 
 pub spot_some : (n : ℕ) (d : Place) (s : Spot) (j : ℕ) → s.out ≡ Some j

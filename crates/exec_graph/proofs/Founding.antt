@@ -13,17 +13,11 @@ use Rattle.exec_graph.specs.Wellformed.{Ascends, IsFounded}
 use Rattle.exec_graph.specs.inner.Numbers.{is_given, reads_given, above, up_from}
 use Rattle.exec_graph.specs.inner.Edges.{numbers, IsRising, edges_of}
 use Rattle.exec_graph.specs.inner.Order.{HasRank, IsWithin}
-use Rattle.exec_graph.proofs.Entries.{all_then}
 use Rattle.exec_graph.proofs.Edging.{edges, edges_within, rank_to, rank_from}
 use Rattle.std.specs.Prelude.{IsTrue}
-
--- ---- numbers that rise
-and_parts : (a b : Bool) → (a && b) ≡ true → (a ≡ true) × (b ≡ true)
-and_parts true b h = (refl, h)
-and_parts false b h = absurd (false≢true h)
-
-and_both : (a b : Bool) → a ≡ true → b ≡ true → (a && b) ≡ true
-and_both a b e f = rw e f
+use Rattle.flume_value.proofs.EachLemmas.{Each-weaker}
+use Rattle.flume_value.proofs.BoolLemmas.{both_true, and_both}
+use Rattle.exec_graph.proofs.Coding.{swap}
 
 less_from : (m n : ℕ) → ltb m n ≡ true → m < n
 less_from m n h = grind (arith, nat_tests)
@@ -39,17 +33,20 @@ Higher (Some m) es = AllByRecursion (λ e. m < e.number) es
 higher_first : (low : Option ℕ) (e : Entry) (es : List Entry) → above low e.number ≡ true
     → AllByRecursion (λ d. e.number < d.number) es → Higher low (e ∷ es)
 higher_first None e es h a = tt
-higher_first (Some m) e es h a = let l = less_from m e.number h in
-    (l, all_then (λ (d : Entry). e.number < d.number) (λ d. m < d.number) (λ d q. omega arith) es a)
+higher_first (Some m) e es h a = let l = less_from m e.number h in (
+  l,
+  Each-weaker (λ (d : Entry). e.number < d.number) (λ d. m < d.number) (λ d q. omega arith) es
+      a,
+)
 
 rise_from : (low : Option ℕ) (next : ℕ) (es : List Entry) → up_from low next es ≡ true
     → Higher low es × Rise next es
 rise_from None next [] h = (tt, record { ascends = tt; below = tt })
 rise_from (Some m) next [] h = (tt, record { ascends = tt; below = tt })
 rise_from low next (e ∷ es) h =
-    let p = and_parts (above low e.number) (ltb e.number next && up_from (Some e.number) next es)
+    let p = both_true (above low e.number) (ltb e.number next && up_from (Some e.number) next es)
     h in
-    let q = and_parts (ltb e.number next) (up_from (Some e.number) next es) p.1 in
+    let q = both_true (ltb e.number next) (up_from (Some e.number) next es) p.1 in
     let i = rise_from (Some e.number) next es q.1 in (
       higher_first low e es p.0 i.0,
       record {
@@ -99,9 +96,6 @@ none_given (d ∷ ds) c n a e = by (eqb c.node d.number) refl (none_given ds c n
         let s : c.node ≡ d.number = eqb-true c.node d.number q in absurd (omega arith)
     by false q i = i
 
-swap : (a b : ℕ) → eqb a b ≡ eqb b a
-swap a b = grind (arith, nat_tests)
-
 or_none : (a : Bool) → (a || false) ≡ a
 or_none true = refl
 or_none false = refl
@@ -123,7 +117,7 @@ given_there (e ∷ es) c a = ap (λ (b : Bool). (b && gives e.node c.out) || is_
 all_true : (p : Place → Bool) (cs : List Place) → list_all p cs ≡ true
     → AllByRecursion (λ c. p c ≡ true) cs
 all_true p [] h = tt
-all_true p (c ∷ cs) h = let q = and_parts (p c) (list_all p cs) h in (q.0, all_true p cs q.1)
+all_true p (c ∷ cs) h = let q = both_true (p c) (list_all p cs) h in (q.0, all_true p cs q.1)
 
 true_all : (p : Place → Bool) (cs : List Place) → AllByRecursion (λ c. p c ≡ true) cs
     → list_all p cs ≡ true
@@ -133,7 +127,7 @@ true_all p (c ∷ cs) a = and_both (p c) (list_all p cs) a.0 (true_all p cs a.1)
 entries_true : (p : Entry → Bool) (es : List Entry) → list_all p es ≡ true
     → AllByRecursion (λ e. p e ≡ true) es
 entries_true p [] h = tt
-entries_true p (e ∷ es) h = let q = and_parts (p e) (list_all p es) h in
+entries_true p (e ∷ es) h = let q = both_true (p e) (list_all p es) h in
     (q.0, entries_true p es q.1)
 
 true_entries : (p : Entry → Bool) (es : List Entry) → AllByRecursion (λ e. p e ≡ true) es
@@ -143,13 +137,13 @@ true_entries p (e ∷ es) a = and_both (p e) (list_all p es) a.0 (true_entries p
 
 pub places_there : (es : List Entry) (cs : List Place) → Ascends es
     → list_all (is_given es) cs ≡ true → AllByRecursion (IsThere es) cs
-places_there es cs up h = all_then (λ c. is_given es c ≡ true) (IsThere es)
+places_there es cs up h = Each-weaker (λ c. is_given es c ≡ true) (IsThere es)
     (λ c q. sym (given_there es c up) ∙ q) cs (all_true (is_given es) cs h)
 
 pub there_places : (es : List Entry) (cs : List Place) → Ascends es → AllByRecursion (IsThere es) cs
     → list_all (is_given es) cs ≡ true
 there_places es cs up a = true_all (is_given es) cs
-    (all_then (IsThere es) (λ c. is_given es c ≡ true) (λ c q. given_there es c up ∙ q) cs a)
+    (Each-weaker (IsThere es) (λ c. is_given es c ≡ true) (λ c q. given_there es c up ∙ q) cs a)
 
 node_there : (es : List Entry) (x : Node) → Ascends es → reads_given es x ≡ true
     → AllByRecursion (IsThere es) (reads x)
@@ -167,7 +161,7 @@ there_node es (Gbk c o l k tb) up a = given_there es c up ∙ a.0
 
 pub nodes_there : (es : List Entry) → Ascends es → list_all (λ e. reads_given es e.node) es ≡ true
     → AllByRecursion (λ e. AllByRecursion (IsThere es) (reads e.node)) es
-nodes_there es up h = all_then (λ (e : Entry). reads_given es e.node ≡ true)
+nodes_there es up h = Each-weaker (λ (e : Entry). reads_given es e.node ≡ true)
     (λ e. AllByRecursion (IsThere es) (reads e.node)) (λ e q. node_there es e.node up q) es
     (entries_true (λ e. reads_given es e.node) es h)
 
@@ -175,7 +169,7 @@ pub there_nodes : (es : List Entry) → Ascends es
     → AllByRecursion (λ e. AllByRecursion (IsThere es) (reads e.node)) es
     → list_all (λ e. reads_given es e.node) es ≡ true
 there_nodes es up a = true_entries (λ e. reads_given es e.node) es
-    (all_then (λ (e : Entry). AllByRecursion (IsThere es) (reads e.node))
+    (Each-weaker (λ (e : Entry). AllByRecursion (IsThere es) (reads e.node))
     (λ e. reads_given es e.node ≡ true) (λ e q. there_node es e.node up q) es a)
 
 -- ---- the test as a whole

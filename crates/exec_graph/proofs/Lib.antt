@@ -5,6 +5,7 @@ pub mod Entries
 pub mod Solving
 pub mod Numbered
 pub mod Soundness
+pub mod StepFacts
 pub mod Typed
 pub mod Walks
 pub mod Spotting

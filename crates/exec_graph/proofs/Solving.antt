@@ -7,7 +7,7 @@ use Rattle.exec_graph.specs.Meaning.{Rows, Collection, together, by_key, total, 
 use Rattle.exec_graph.specs.Traps.{trap_le}
 use Rattle.exec_graph.specs.Sets.{put_new, gather}
 use Rattle.exec_graph.specs.Forests.{Label, Forest, Bare, Grow}
-use Rattle.exec_graph.proofs.Entries.{all_then, all_three, all_two, all_found, map_alike, flat_map_alike}
+use Rattle.exec_graph.proofs.Entries.{all_three, all_found, map_alike, flat_map_alike}
 use Rattle.exec_graph.proofs.Bools.{or_left, or_right, or_false, or_cases, not_here}
 use Rattle.flume_value.specs.Bag.{bag_of}
 use Rattle.flume_value.specs.declared.value.Value.{Value}
@@ -16,6 +16,7 @@ use Rattle.exec_graph.specs.declared.graph.Node.{Node}
 use Rattle.exec_graph.specs.declared.graph.Node.TheVariants.{Source, Flatten, Pdo, Gbk}
 use Rattle.exec_graph.specs.declared.graph.Entry.{Entry}
 use Rattle.exec_graph.specs.declared.graph.Graph.{Graph}
+use Rattle.flume_value.proofs.EachLemmas.{Each-both, Each-weaker}
 
 first_found : (a b : Option Collection) (u : Collection) → a ≡ Some u → first a b ≡ Some u
 first_found a b u h = ap (λ (o : Option Collection). first o b) h
@@ -161,7 +162,7 @@ stable w r es ra (suc k) zero c p q = absurd (omega arith)
 stable w r es ra (suc k) (suc j) c p q =
     solve_next w es k c
     ∙ at_alike w (solve w es j) (solve w es k) (node_at es c.node) c.out
-    (λ x h. all_then (λ (d : Place). r d.node < r c.node) (λ d. solve w es k d ≡ solve w es j d)
+    (λ x h. Each-weaker (λ (d : Place). r d.node < r c.node) (λ d. solve w es k d ≡ solve w es j d)
     (λ d i. stable w r es ra k j d (omega arith) (omega arith)) (reads x)
     (ranked_at r es c.node x ra h))
     ∙ sym (solve_next w es j c)
@@ -181,7 +182,7 @@ each_found (e ∷ es) d = (
   all_three (λ d. d.number ≡ e.number → ⊥) (λ d. node_at es d.number ≡ Some d.node) (λ d. Unit {0})
       (λ d. node_at (e ∷ es) d.number ≡ Some d.node)
       (λ d a b _. apart e es d (eqb e.number d.number) refl a b) es d.0 (each_found es d.1)
-      (all_then (λ d. node_at es d.number ≡ Some d.node) (λ d. Unit {0}) (λ d h. tt) es
+      (Each-weaker (λ d. node_at es d.number ≡ Some d.node) (λ d. Unit {0}) (λ d h. tt) es
       (each_found es d.1)),
 )
 
@@ -251,7 +252,7 @@ pub short_ranked : (r : ℕ → ℕ) (all es : List Entry)
     → IsRankedBy (place_of r all) es
 short_ranked r all [] t a = tt
 short_ranked r all (e ∷ es) t a = (
-  all_two (IsThere all) (λ (c : Place). r c.node < r e.number)
+  Each-both (IsThere all) (λ (c : Place). r c.node < r e.number)
       (λ (c : Place). place_of r all c.node < place_of r all e.number)
       (λ c u v. let x = there_found all c u in
       lower_strict r all c.node (r e.number) (found_stands all c.node x.0 x.1) v) (reads e.node)
@@ -274,12 +275,12 @@ collection_meets w g ok =
     let m : Place → Collection = collection w g in
     let r : ℕ → ℕ = place_of ok.ranked.0 es in
     let ra : IsRankedBy r es = short_ranked ok.ranked.0 es es ok.there ok.ranked.1 in
-    all_two (λ e. node_at es e.number ≡ Some e.node) (λ (e : Entry). HasOuts e.node)
+    Each-both (λ e. node_at es e.number ≡ Some e.node) (λ (e : Entry). HasOuts e.node)
     (λ (e : Entry). Holds w m e.number e.node) (λ e h o. holds_from w m e.number e.node o (λ j.
     collection_is w g (place e.number j) ∙ solve_next w es (length es) (place e.number j)
     ∙ ap (λ (x : Option Node). value_at w (solve w es (length es)) x j) h
     ∙ value_alike w m (solve w es (length es)) e.node j
-    (all_then (λ (d : Place). r d.node < r e.number) (λ d. solve w es (length es) d ≡ m d)
+    (Each-weaker (λ (d : Place). r d.node < r e.number) (λ d. solve w es (length es) d ≡ m d)
     (λ d i. let top : r e.number ≤ length es =
     lower_most ok.ranked.0 es (ok.ranked.0 e.number) in
     stable w r es ra (length es) (suc (length es)) d (omega arith) (omega arith)
@@ -307,7 +308,7 @@ only w g m k ok h i r ra (suc fuel) c p t =
     all_found (λ e. AllByRecursion (IsThere g.nodes) (reads e.node)) g.nodes c.node x.0 x.1
     ok.there in
     holds_one w m k c.node c.out x.0 x.2
-    (all_two (λ (d : Place). r d.node < r c.node) (IsThere g.nodes) (λ d. k d ≡ m d)
+    (Each-both (λ (d : Place). r d.node < r c.node) (IsThere g.nodes) (λ d. k d ≡ m d)
     (λ d u v. only w g m k ok h i r ra fuel d (omega arith) v) (reads x.0)
     (ranked_at r g.nodes c.node x.0 ra x.1) reads_there)
     (all_found (λ e. Holds w m e.number e.node) g.nodes c.node x.0 x.1 h)
@@ -340,18 +341,18 @@ pub Agrees-self : (w : Rows) (g : Graph) (m k : Place → Collection) → IsSoun
 Agrees-self w g m k ok h i =
     let same : (cs : List Place) → AllByRecursion (IsThere g.nodes) cs
     → AllByRecursion (λ c. k c ≡ m c) cs =
-    λ cs a. all_then (IsThere g.nodes) (λ c. k c ≡ m c) (λ c t. only_meaning w g m k ok h i c t)
+    λ cs a. Each-weaker (IsThere g.nodes) (λ c. k c ≡ m c) (λ c t. only_meaning w g m k ok h i c t)
     cs a in
     record {
       outputs = sym (map_alike m k g.outputs (same g.outputs ok.told));
       own = λ n. sym (ap (λ (l : List Value). bag_of l)
           (flat_map_alike (λ e. own k n e.node) (λ e. own m n e.node) g.nodes
-          (all_then (λ (e : Entry). AllByRecursion (IsThere g.nodes) (reads e.node))
+          (Each-weaker (λ (e : Entry). AllByRecursion (IsThere g.nodes) (reads e.node))
           (λ e. own k n e.node ≡ own m n e.node)
           (λ e a. own-alike k m n e.node (same (reads e.node) a)) g.nodes ok.there)));
       traps = sym (ap (λ l. gather (put_new trap_le) l [])
           (flat_map_alike (λ e. traps k e.node) (λ e. traps m e.node) g.nodes
-          (all_then (λ (e : Entry). AllByRecursion (IsThere g.nodes) (reads e.node))
+          (Each-weaker (λ (e : Entry). AllByRecursion (IsThere g.nodes) (reads e.node))
           (λ e. traps k e.node ≡ traps m e.node)
           (λ e a. traps-alike k m e.node (same (reads e.node) a)) g.nodes ok.there)));
     }

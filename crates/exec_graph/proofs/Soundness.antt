@@ -7,14 +7,14 @@ use Rattle.exec_graph.specs.declared.graph.Graph.{Graph}
 use Rattle.exec_graph.specs.declared.graph.Place.{Place}
 use Rattle.exec_graph.specs.Meaning.{Rows, Collection, Meets, IsThere, collection, AllDiffer, HasOuts, OutsDiffer, IsSound, KeepsMeaning, SameMeaning}
 use Rattle.exec_graph.specs.Wellformed.{Ascends, IsNodeOk, IsGraphOk}
-use Rattle.exec_graph.proofs.Entries.{all_then}
 use Rattle.exec_graph.proofs.Numbered.{numbered_differ}
 use Rattle.exec_graph.proofs.Solving.{SameMeaning-from_kept, collection_meets, only_meaning}
+use Rattle.flume_value.proofs.EachLemmas.{Each-weaker}
 
 pub differ_ascends : (es : List Entry) → Ascends es → AllDiffer es
 differ_ascends [] a = tt
 differ_ascends (e ∷ es) a = (
-  all_then (λ (d : Entry). e.number < d.number)
+  Each-weaker (λ (d : Entry). e.number < d.number)
       (λ d. d.number ≡ e.number → ⊥) (λ d h i. omega arith) es a.0,
   differ_ascends es a.1,
 )
@@ -30,7 +30,7 @@ IsSound-ok g ok = record {
   differ = differ_ascends g.nodes ok.founded.ascends;
   there = ok.founded.there;
   told = ok.founded.told;
-  outs = all_then (λ (e : Entry). IsNodeOk g e.number e.node) (λ e. HasOuts e.node)
+  outs = Each-weaker (λ (e : Entry). IsNodeOk g e.number e.node) (λ e. HasOuts e.node)
       (λ e h. outs_ok g e.number e.node h) g.nodes ok.nodes;
   ranked = ok.founded.ranked;
 }

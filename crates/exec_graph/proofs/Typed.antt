@@ -4,7 +4,7 @@ use Rattle.std.specs.List.{flat_map, AllByRecursion, AllByRecursion as Each}
 use Rattle.bag_groups.specs.Groups.{grouped}
 use Rattle.exec_graph.specs.declared.step.Table.{Table}
 use Rattle.exec_graph.specs.Traps.{Trap}
-use Rattle.exec_graph.proofs.Entries.{all_found, all_two}
+use Rattle.exec_graph.proofs.Entries.{all_found}
 use Rattle.exec_graph.specs.Calls.{emitted, called, of_call, of_combine, emissions, emitted_by}
 use Rattle.exec_graph.specs.Forests.{Label, Forest, Bare, Grow}
 use Rattle.exec_graph.specs.Meaning.{Rows, Collection, collection, through, unless_trapped, place, FitsForest, Holds, Meets, node_at, reads, IsRankedBy, is_out, has_out}
@@ -19,7 +19,7 @@ use Rattle.std.proofs.Common.{◌≡◌, ℕ, zero, suc, List, [], ◌∷◌, Re
 use Rattle.flume_value.specs.declared.value.Value.{Value}
 use Rattle.flume_value.specs.declared.fault.Kind.{Kind}
 use Rattle.std.proofs.lemmas.List.Elements.{All-from_recursion}
-use Rattle.flume_value.proofs.EachLemmas.{each_from, Each-append}
+use Rattle.flume_value.proofs.EachLemmas.{each_from, Each-append, Each-both}
 use Rattle.flume_types.specs.declared.types.Ty.{Ty}
 use Rattle.dofn_eval.specs.Outcome.{Outcome, Gives, Traps, Stuck}
 use Rattle.dofn_eval.specs.Run.{means}
@@ -154,7 +154,7 @@ node_good w es m c (Source r s) h a k rows g t e =
 node_good w es m c (Flatten ty ins) h a k rows g t e =
     at_place m c ty t e (subst (λ (v : Collection). Each (Has ty) v.bag) (sym h)
     (Each-bag_of (Has ty) (flat_map (λ (v : Collection). v.bag) (map m ins))
-    (flat_good ty m ins (all_two (λ d. type_of es d ≡ Some ty) (Good es m)
+    (flat_good ty m ins (Each-both (λ d. type_of es d ≡ Some ty) (Good es m)
     (λ d. Each (Has ty) (m d).bag) (λ d q f. f ty q) ins a g))))
 node_good w es m c (Pdo d f) h a k rows g t e =
     pdo_good es m c.node c.out d f t (type_of es d) refl k a h g.0 e

@@ -40,9 +40,13 @@ abbrev pub emissions : ℕ → Called → List Value
 emissions n (Ok outs) = or_none (slice_get outs n)
 emissions n (Err e) = []
 
+-- a trap of script node n: why, and the element that it names
+abbrev pub trap_named : ℕ → Kind × Value → Trap
+trap_named n e = record { origin = n; kind = e.0; element = e.1 }
+
 abbrev pub trap_of : ℕ → Called → List Trap
 trap_of n (Ok outs) = []
-trap_of n (Err e) = record { origin = n; kind = e.0; element = e.1 } ∷ []
+trap_of n (Err e) = trap_named n e ∷ []
 
 -- what is emitted of an element to an output: nothing where it traps
 unfoldable pub emitted_by : Does → ℕ → Value → List Value

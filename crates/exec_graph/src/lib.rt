@@ -4,6 +4,7 @@
 //! of steps on each element of a collection (Pdo), and the groups of a collection of pairs (Gbk).
 //! One type serves before and after every rewrite.
 //!
+//! A step calls a function or combines the list of a pair (`step_law`).
 //! `Meets` (specs/Meaning.antt) says what a graph means: an assignment of a bag and a set of traps
 //! to each collection that meets the equation of every node. A well-formed graph (`IsGraphOk`,
 //! specs/Wellformed.antt) has just one (`meaning_law`), which `collection` computes, and each
@@ -25,5 +26,5 @@ mod step;
 
 pub use founded::is_founded;
 pub use graph::{Blocked, Entry, Graph, Node, Place};
-pub use laws::{meaning_law, typed_law};
+pub use laws::{meaning_law, step_law, typed_law};
 pub use step::{Does, Output, Roots, Step, Table};
