@@ -1,16 +1,15 @@
--- A kid keeps a graph's meaning.
-use Rattle.std.proofs.Common.{◌≡◌, ℕ, ◌/◌, ◌<◌, Bool, true, false, cond, eqb, ◌||◌, inl, inr, List, Option, Some, None, refl, sym, ap, ◌∙◌, subst, arith}
-use Rattle.std.proofs.lemmas.Bool.{eqb-true, eq-eqb, false≢true}
+-- A kid, and a sibling, keep what a graph means.
+use Rattle.std.proofs.Common.{◌≡◌, ℕ, ◌/◌, ◌<◌, Bool, true, false, cond, eqb, List, Some, refl, sym, ap, ◌∙◌, arith}
+use Rattle.std.proofs.lemmas.Bool.{eqb-true, eq-eqb}
 use Rattle.std.specs.List.{AllByRecursion}
-use Rattle.exec_graph.specs.Forests.{Forest, Bare, Grow, numbered}
+use Rattle.exec_graph.specs.Forests.{Forest, numbered}
 use Rattle.graph_laws.specs.Joining.{beside, set_node, without, moved, joined, CanJoin, HasOne, grafted, as_kid, as_sibling}
-use Rattle.exec_graph.specs.Meaning.{place, node_at, reads, is_out, has_out, IsThere, OutsDiffer, HasOuts, IsSound, KeepsMeaning, SameMeaning}
-use Rattle.graph_laws.specs.Kids.{number_in, moved_out, refitted, out_named, named_by, out_kept, kept_by, even, odd, same_number, renewed, apart, with_kid, with_sibling, CanKid, CanPair}
+use Rattle.exec_graph.specs.Meaning.{place, node_at, reads, has_out, IsThere, OutsDiffer, HasOuts, IsSound, KeepsMeaning, SameMeaning}
+use Rattle.graph_laws.specs.Kids.{number_in, moved_out, refitted, named_by, kept_by, even, odd, same_number, renewed, apart, with_kid, with_sibling, CanKid, CanPair}
 use Rattle.exec_graph.specs.Readers.{is_read}
 use Rattle.exec_graph.specs.Wellformed.{IsGraphOk}
 use Rattle.exec_graph.proofs.Entries.{all_found}
 use Rattle.graph_laws.proofs.Changes.{node_at-without_other}
-use Rattle.exec_graph.proofs.Bools.{or_left, or_right, or_else, not_true, or_false, no_or}
 use Rattle.graph_laws.proofs.Joining.{there_at}
 use Rattle.flume_value.proofs.EachLemmas.{Each-both}
 use Rattle.exec_graph.proofs.Numbered.{numbered_differ}
@@ -24,6 +23,7 @@ use Rattle.exec_graph.specs.declared.graph.Place.{Place}
 use Rattle.exec_graph.specs.declared.graph.Node.TheVariants.{Pdo}
 use Rattle.exec_graph.specs.declared.graph.Entry.{Entry}
 use Rattle.exec_graph.specs.declared.graph.Graph.{Graph}
+use Rattle.graph_laws.proofs.Renaming.{had_out, has_named, differ_named, differ_kept, has_stays, has_one}
 
 pub KeepsMeaning-then : (g h i : Graph) → KeepsMeaning g h → KeepsMeaning h i → KeepsMeaning g i
 KeepsMeaning-then g h i a b w m meets =
@@ -37,176 +37,6 @@ KeepsMeaning-then g h i a b w m meets =
         traps = x.2.traps ∙ y.2.traps;
       },
     )
-
--- ---- other numbers
-pub record IsNaming (r back : ℕ → ℕ) : Type 0 where
-  pub found : (j : ℕ) → back (r j) ≡ j
-
--- which number it had
-pub record Had (r : ℕ → ℕ) (f : Forest) (j : ℕ) : Type 0 where
-  pub old : ℕ
-  pub is : r old ≡ j
-  pub has : has_out old f ≡ true
-
-out_back : (r : ℕ → ℕ) (o : Option ℕ) (j : ℕ) → is_out (out_named r o) j ≡ true → (i : ℕ)
-    × (r i ≡ j) × (is_out o i ≡ true)
-out_back r None j h = absurd (false≢true h)
-out_back r (Some i) j h = (i, eqb-true (r i) j h, eq-eqb i i refl)
-
-pub had_out : (r : ℕ → ℕ) (f : Forest) (j : ℕ) → has_out j (named_by r f) ≡ true → Had r f j
-had_out r Bare j h = absurd (false≢true h)
-had_out r (Grow l kids rest) j h = by (had_out r kids j) (had_out r rest j)
-  where
-    by : (has_out j (named_by r kids) ≡ true → Had r kids j)
-        → (has_out j (named_by r rest) ≡ true → Had r rest j) → Had r (Grow l kids rest) j
-    by f g =
-        let H : Type 0 = Had r (Grow l kids rest) j in
-        or_else H (is_out (out_named r l.out) j)
-        (has_out j (named_by r kids) || has_out j (named_by r rest)) h
-        (λ i. let b = out_back r l.out j i in
-        record {
-          old = b.0;
-          is = b.1;
-          has =
-              or_left (is_out l.out b.0) (has_out b.0 kids || has_out b.0 rest) b.2;
-        })
-        (λ i. or_else H (has_out j (named_by r kids)) (has_out j (named_by r rest)) i
-        (λ k. let b = f k in record {
-          old = b.old;
-          is = b.is;
-          has = or_right (is_out l.out b.old) (has_out b.old kids || has_out b.old rest)
-              (or_left (has_out b.old kids) (has_out b.old rest) b.has);
-        })
-        (λ k. let b = g k in record {
-          old = b.old;
-          is = b.is;
-          has = or_right (is_out l.out b.old) (has_out b.old kids || has_out b.old rest)
-              (or_right (has_out b.old kids) (has_out b.old rest) b.has);
-        }))
-
-out_has : (r : ℕ → ℕ) (o : Option ℕ) (j : ℕ) → is_out o j ≡ true
-    → is_out (out_named r o) (r j) ≡ true
-out_has r None j h = h
-out_has r (Some i) j h = eq-eqb (r i) (r j) (ap r (eqb-true i j h))
-
-pub has_named : (r : ℕ → ℕ) (f : Forest) (j : ℕ) → has_out j f ≡ true
-    → has_out (r j) (named_by r f) ≡ true
-has_named r Bare j h = h
-has_named r (Grow l kids rest) j h = by (has_named r kids j) (has_named r rest j)
-  where
-    by : (has_out j kids ≡ true → has_out (r j) (named_by r kids) ≡ true)
-        → (has_out j rest ≡ true → has_out (r j) (named_by r rest) ≡ true)
-        → has_out (r j) (named_by r (Grow l kids rest)) ≡ true
-    by f g =
-        let A : Bool = is_out (out_named r l.out) (r j) in
-        let B : Bool = has_out (r j) (named_by r kids) in
-        let C : Bool = has_out (r j) (named_by r rest) in
-        or_else ((A || (B || C)) ≡ true) (is_out l.out j) (has_out j kids || has_out j rest) h
-        (λ i. or_left A (B || C) (out_has r l.out j i))
-        (λ i. or_else ((A || (B || C)) ≡ true) (has_out j kids) (has_out j rest) i
-        (λ k. or_right A (B || C) (or_left B C (f k)))
-        (λ k. or_right A (B || C) (or_right B C (g k))))
-
--- what lacks an output lacks it under its new number
-lacks : (r back : ℕ → ℕ) → ((j : ℕ) → back (r j) ≡ j) → (f : Forest) (i : ℕ) → has_out i f ≡ false
-    → has_out (r i) (named_by r f) ≡ false
-lacks r back h f i l = not_true (has_out (r i) (named_by r f))
-    (λ e. let b = had_out r f (r i) e in false≢true
-    (sym l ∙ ap (λ (x : ℕ). has_out x f) (sym (sym (h b.old) ∙ ap back b.is ∙ h i)) ∙ b.has))
-
-pub differ_named : (r back : ℕ → ℕ) → ((j : ℕ) → back (r j) ≡ j) → (f : Forest) → OutsDiffer f
-    → OutsDiffer (named_by r f)
-differ_named r back h Bare d = tt
-differ_named r back h (Grow l kids rest) d = (
-  λ j o. let b = out_back r l.out j o in let p =
-      or_false (has_out b.0 kids) (has_out b.0 rest) (d.0 b.0 b.2) in
-      subst (λ (x : ℕ). (has_out x (named_by r kids) || has_out x (named_by r rest)) ≡ false) b.1
-      (no_or (has_out (r b.0) (named_by r kids)) (has_out (r b.0) (named_by r rest))
-      (lacks r back h kids b.0 p.0) (lacks r back h rest b.0 p.1)),
-  λ j o. let b = had_out r kids j o in subst (λ (x : ℕ). has_out x (named_by r rest) ≡ false) b.is
-      (lacks r back h rest b.old (d.1 b.old b.has)),
-  differ_named r back h kids d.2,
-  differ_named r back h rest d.3,
-)
-
--- ---- fewer outputs
-out_fewer : (keep : ℕ → Bool) (o : Option ℕ) (j : ℕ) → is_out (out_kept keep o) j ≡ true
-    → is_out o j ≡ true
-out_fewer keep None j h = h
-out_fewer keep (Some i) j h = elim (keep i) as (λ b. is_out (cond b (Some i) None) j ≡ true
-    → eqb i j ≡ true) [ true ↦ λ e. e | false ↦ λ e. absurd (false≢true e) ] h
-
-has_fewer : (keep : ℕ → Bool) (f : Forest) (j : ℕ) → has_out j (kept_by keep f) ≡ true
-    → has_out j f ≡ true
-has_fewer keep Bare j h = h
-has_fewer keep (Grow l kids rest) j h = by (has_fewer keep kids j) (has_fewer keep rest j)
-  where
-    by : (has_out j (kept_by keep kids) ≡ true → has_out j kids ≡ true)
-        → (has_out j (kept_by keep rest) ≡ true → has_out j rest ≡ true)
-        → has_out j (Grow l kids rest) ≡ true
-    by f g =
-        let A : Bool = is_out l.out j in
-        let B : Bool = has_out j kids in
-        let C : Bool = has_out j rest in
-        or_else ((A || (B || C)) ≡ true) (is_out (out_kept keep l.out) j)
-        (has_out j (kept_by keep kids) || has_out j (kept_by keep rest)) h
-        (λ i. or_left A (B || C) (out_fewer keep l.out j i))
-        (λ i. or_else ((A || (B || C)) ≡ true) (has_out j (kept_by keep kids))
-        (has_out j (kept_by keep rest)) i (λ k. or_right A (B || C) (or_left B C (f k)))
-        (λ k. or_right A (B || C) (or_right B C (g k))))
-
-lacks_fewer : (keep : ℕ → Bool) (f : Forest) (j : ℕ) → has_out j f ≡ false
-    → has_out j (kept_by keep f) ≡ false
-lacks_fewer keep f j l = not_true (has_out j (kept_by keep f))
-    (λ e. false≢true (sym l ∙ has_fewer keep f j e))
-
-differ_kept : (keep : ℕ → Bool) (f : Forest) → OutsDiffer f → OutsDiffer (kept_by keep f)
-differ_kept keep Bare d = tt
-differ_kept keep (Grow l kids rest) d = (
-  λ j o. let p = or_false (has_out j kids) (has_out j rest) (d.0 j (out_fewer keep l.out j o)) in
-      no_or (has_out j (kept_by keep kids)) (has_out j (kept_by keep rest))
-      (lacks_fewer keep kids j p.0) (lacks_fewer keep rest j p.1),
-  λ j o. lacks_fewer keep rest j (d.1 j (has_fewer keep kids j o)),
-  differ_kept keep kids d.2,
-  differ_kept keep rest d.3,
-)
-
-out_stays : (keep : ℕ → Bool) (o : Option ℕ) (j : ℕ) → keep j ≡ true → is_out o j ≡ true
-    → is_out (out_kept keep o) j ≡ true
-out_stays keep None j k h = h
-out_stays keep (Some i) j k h = let e : keep i ≡ true = ap keep (eqb-true i j h) ∙ k in rw e h
-
-has_stays : (keep : ℕ → Bool) (f : Forest) (j : ℕ) → keep j ≡ true → has_out j f ≡ true
-    → has_out j (kept_by keep f) ≡ true
-has_stays keep Bare j k h = h
-has_stays keep (Grow l kids rest) j k h = by (has_stays keep kids j k) (has_stays keep rest j k)
-  where
-    by : (has_out j kids ≡ true → has_out j (kept_by keep kids) ≡ true)
-        → (has_out j rest ≡ true → has_out j (kept_by keep rest) ≡ true)
-        → has_out j (kept_by keep (Grow l kids rest)) ≡ true
-    by f g =
-        let A : Bool = is_out (out_kept keep l.out) j in
-        let B : Bool = has_out j (kept_by keep kids) in
-        let C : Bool = has_out j (kept_by keep rest) in
-        or_else ((A || (B || C)) ≡ true) (is_out l.out j) (has_out j kids || has_out j rest) h
-        (λ i. or_left A (B || C) (out_stays keep l.out j k i))
-        (λ i. or_else ((A || (B || C)) ≡ true) (has_out j kids) (has_out j rest) i
-        (λ q. or_right A (B || C) (or_left B C (f q)))
-        (λ q. or_right A (B || C) (or_right B C (g q))))
-
--- ---- an output that is there is of one step
-pub has_one : (j : ℕ) (f : Forest) → OutsDiffer f → has_out j f ≡ true → HasOne j f
-has_one j Bare d h = absurd (false≢true h)
-has_one j (Grow l kids rest) d h = by (has_one j kids d.2) (has_one j rest d.3) (is_out l.out j)
-    (has_out j kids) refl refl h
-  where
-    by : (has_out j kids ≡ true → HasOne j kids) → (has_out j rest ≡ true → HasOne j rest)
-        → (a b : Bool) → is_out l.out j ≡ a → has_out j kids ≡ b
-        → (a || (b || has_out j rest)) ≡ true → HasOne j (Grow l kids rest)
-    by f g true b p q i = let x = or_false (has_out j kids) (has_out j rest) (d.0 j p) in
-        inl (p, x.0, x.1)
-    by f g false true p q i = inr (inl (p, f q, d.1 j q))
-    by f g false false p q i = inr (inr (p, q, g i))
 
 -- ---- graphs
 -- each read place of the node is kept
@@ -278,9 +108,6 @@ renews g n c f ok at =
     refits h n c k (numbered 0 k) (λ j. number_in 0 k j) a.sound a.here (refit_numbered n k dk)
     (numbered_differ 0 k) (λ j o i. numbered_has 0 k j o) in
     (b.sound, KeepsMeaning-then g h (renewed g n c f) a.keeps b.keeps)
-
-half : ℕ → ℕ
-half n = n / 2
 
 even_back : (j : ℕ) → (even j) / 2 ≡ j
 even_back j = omega arith

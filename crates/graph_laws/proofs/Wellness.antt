@@ -1,14 +1,14 @@
--- A joined graph is ok
-use Rattle.std.proofs.Common.{◌≡◌, ℕ, ◌<◌, ◌≤◌, Bool, true, false, cond, eqb, min, ◌||◌, List, [], ◌∷◌, Option, Some, None, map, refl, sym, ap, ◌∙◌, subst, arith, inl, inr}
+-- What a join of two nodes leaves is sound.
+use Rattle.std.proofs.Common.{◌≡◌, ℕ, ◌<◌, ◌≤◌, Bool, true, false, cond, eqb, min, List, [], ◌∷◌, Option, Some, None, map, refl, sym, ap, ◌∙◌, subst, arith}
 use Rattle.std.proofs.lemmas.Bool.{eqb-true, eq-eqb, false≢true}
 use Rattle.std.specs.List.{AllByRecursion}
-use Rattle.exec_graph.specs.Forests.{Label, Forest, Bare, Grow}
+use Rattle.exec_graph.specs.Forests.{Forest}
 use Rattle.graph_laws.specs.Joining.{beside, grafted, HasOne, set_node, without, moved, reread, reread_entry, joined, CanJoin, as_kid, as_sibling}
-use Rattle.exec_graph.specs.Meaning.{place, node_at, reads, is_out, has_out, gives, gives_at, IsThere, AllDiffer, OutsDiffer, HasOuts, IsRankedBy, IsSound, KeepsMeaning}
+use Rattle.exec_graph.specs.Meaning.{place, node_at, reads, has_out, gives, gives_at, IsThere, AllDiffer, OutsDiffer, HasOuts, IsRankedBy, IsSound, KeepsMeaning}
 use Rattle.exec_graph.proofs.Entries.{entry, all_map, all_found}
 use Rattle.graph_laws.proofs.Changes.{all_set, all_without, all_set_others, differ_without, node_at-without_other}
-use Rattle.exec_graph.proofs.Bools.{or_left, or_right, or_false, not_true, or_cases, no_or}
-use Rattle.graph_laws.proofs.Joining.{lacks_grafted, KeepsMeaning-as_kid, KeepsMeaning-as_sibling}
+use Rattle.exec_graph.proofs.Bools.{or_left, or_right, not_true}
+use Rattle.graph_laws.proofs.Joining.{KeepsMeaning-as_kid, KeepsMeaning-as_sibling}
 use Rattle.exec_graph.specs.declared.graph.Place.{Place}
 use Rattle.exec_graph.specs.declared.graph.Node.{Node}
 use Rattle.exec_graph.specs.declared.graph.Node.TheVariants.{Source, Flatten, Pdo, Gbk}
@@ -16,135 +16,7 @@ use Rattle.exec_graph.specs.declared.graph.Entry.{Entry}
 use Rattle.exec_graph.specs.declared.graph.Graph.{Graph}
 use Rattle.exec_graph.proofs.Solving.{gives_found}
 use Rattle.flume_value.proofs.EachLemmas.{Each-weaker}
-
-or_swap : (k r g : Bool) → ((k || g) || r) ≡ ((k || r) || g)
-or_swap true r g = refl
-or_swap false true true = refl
-or_swap false true false = refl
-or_swap false false true = refl
-or_swap false false false = refl
-
-or_mid : (o k r g : Bool) → (o || ((k || g) || r)) ≡ ((o || (k || r)) || g)
-or_mid true k r g = refl
-or_mid false k r g = or_swap k r g
-
-or_end : (o k r g : Bool) → (o || (k || (r || g))) ≡ ((o || (k || r)) || g)
-or_end true k r g = refl
-or_end false true r g = refl
-or_end false false r g = refl
-
-has_out-beside : (i : ℕ) (f g : Forest) → has_out i (beside f g) ≡ (has_out i f || has_out i g)
-has_out-beside i Bare g = refl
-has_out-beside i (Grow l kids rest) g = ap (λ (b : Bool). is_out l.out i || (has_out i kids || b))
-    (has_out-beside i rest g) ∙ or_end (is_out l.out i) (has_out i kids) (has_out i rest)
-    (has_out i g)
-
-has_out-grafted : (i j : ℕ) (f g : Forest) → HasOne j f
-    → has_out i (grafted j g f) ≡ (has_out i f || has_out i g)
-has_out-grafted i j Bare g h = absurd h
-has_out-grafted i j (Grow l kids rest) g (inl h) =
-    let e : is_out l.out j ≡ true = h.0 in
-    rw e (ap (λ (b : Bool). is_out l.out i || (b || has_out i rest)) (has_out-beside i kids g)
-    ∙ or_mid (is_out l.out i) (has_out i kids) (has_out i rest) (has_out i g))
-has_out-grafted i j (Grow l kids rest) g (inr (inl h)) =
-    let e : is_out l.out j ≡ false = h.0 in
-    rw e (ap (λ (x : Forest). is_out l.out i || (has_out i (grafted j g kids) || has_out i x))
-    (lacks_grafted j rest g h.2)
-    ∙ ap (λ (b : Bool). is_out l.out i || (b || has_out i rest)) (has_out-grafted i j kids g h.1)
-    ∙ or_mid (is_out l.out i) (has_out i kids) (has_out i rest) (has_out i g))
-has_out-grafted i j (Grow l kids rest) g (inr (inr h)) =
-    let e : is_out l.out j ≡ false = h.0 in
-    rw e (ap (λ (x : Forest). is_out l.out i || (has_out i x || has_out i (grafted j g rest)))
-    (lacks_grafted j kids g h.1)
-    ∙ ap (λ (b : Bool). is_out l.out i || (has_out i kids || b)) (has_out-grafted i j rest g h.2)
-    ∙ or_end (is_out l.out i) (has_out i kids) (has_out i rest) (has_out i g))
-
--- no output in both
-abbrev pub Apart : Forest → Forest → Type 0
-Apart f g = (i : ℕ) → has_out i f ≡ true → has_out i g ≡ true → ⊥
-
-apart_kids : (l : Label) (kids rest g : Forest) → Apart (Grow l kids rest) g → Apart kids g
-apart_kids l kids rest g x = λ i h k. x i (or_right (is_out l.out i)
-    (has_out i kids || has_out i rest) (or_left (has_out i kids) (has_out i rest) h)) k
-
-apart_rest : (l : Label) (kids rest g : Forest) → Apart (Grow l kids rest) g → Apart rest g
-apart_rest l kids rest g x = λ i h k. x i (or_right (is_out l.out i)
-    (has_out i kids || has_out i rest) (or_right (has_out i kids) (has_out i rest) h)) k
-
--- at a label's output nothing else, and nothing of g
-label_out : (l : Label) (kids rest g : Forest) (i : ℕ) → OutsDiffer (Grow l kids rest)
-    → Apart (Grow l kids rest) g → is_out l.out i ≡ true → (has_out i kids ≡ false)
-    × (has_out i rest ≡ false) × (has_out i g ≡ false)
-label_out l kids rest g i d x o =
-    let p = or_false (has_out i kids) (has_out i rest) (d.0 i o) in (
-      p.0,
-      p.1,
-      not_true (has_out i g) (λ h. x i
-          (or_left (is_out l.out i) (has_out i kids || has_out i rest) o) h),
-    )
-
-pub differ_beside : (f g : Forest) → OutsDiffer f → OutsDiffer g → Apart f g
-    → OutsDiffer (beside f g)
-differ_beside Bare g d e x = e
-differ_beside (Grow l kids rest) g d e x = (
-  (λ i o. let p = label_out l kids rest g i d x o in
-      no_or (has_out i kids) (has_out i (beside rest g)) p.0
-      (has_out-beside i rest g ∙ no_or (has_out i rest) (has_out i g) p.1 p.2)),
-  (λ i k. has_out-beside i rest g ∙ no_or (has_out i rest) (has_out i g) (d.1 i k)
-      (not_true (has_out i g) (λ h. apart_kids l kids rest g x i k h))),
-  d.2,
-  differ_beside rest g d.3 e (apart_rest l kids rest g x),
-)
-
--- the kids gain g
-wider_kids : (l : Label) (kids rest g new : Forest) → OutsDiffer (Grow l kids rest)
-    → Apart (Grow l kids rest) g → ((i : ℕ) → has_out i new ≡ (has_out i kids || has_out i g))
-    → OutsDiffer new → OutsDiffer (Grow l new rest)
-wider_kids l kids rest g new d x h n = (
-  (λ i o. let p = label_out l kids rest g i d x o in
-      no_or (has_out i new) (has_out i rest) (h i ∙ no_or (has_out i kids) (has_out i g) p.0 p.2)
-      p.1),
-  (λ i k. elim (or_cases (has_out i kids) (has_out i g) (sym (h i) ∙ k)) [
-    | inl a ↦ d.1 i a
-    | inr b ↦ not_true (has_out i rest) (λ r. apart_rest l kids rest g x i r b)
-  ]),
-  n,
-  d.3,
-)
-
--- the rest gains g
-wider_rest : (l : Label) (kids rest g new : Forest) → OutsDiffer (Grow l kids rest)
-    → Apart (Grow l kids rest) g → ((i : ℕ) → has_out i new ≡ (has_out i rest || has_out i g))
-    → OutsDiffer new → OutsDiffer (Grow l kids new)
-wider_rest l kids rest g new d x h n = (
-  (λ i o. let p = label_out l kids rest g i d x o in
-      no_or (has_out i kids) (has_out i new) p.0
-      (h i ∙ no_or (has_out i rest) (has_out i g) p.1 p.2)),
-  (λ i k. h i ∙ no_or (has_out i rest) (has_out i g) (d.1 i k)
-      (not_true (has_out i g) (λ b. apart_kids l kids rest g x i k b))),
-  d.2,
-  n,
-)
-
-pub differ_grafted : (j : ℕ) (f g : Forest) → HasOne j f → OutsDiffer f → OutsDiffer g → Apart f g
-    → OutsDiffer (grafted j g f)
-differ_grafted j Bare g h d e x = absurd h
-differ_grafted j (Grow l kids rest) g (inl h) d e x =
-    let a : is_out l.out j ≡ true = h.0 in
-    rw a (wider_kids l kids rest g (beside kids g) d x (λ i. has_out-beside i kids g)
-    (differ_beside kids g d.2 e (apart_kids l kids rest g x)))
-differ_grafted j (Grow l kids rest) g (inr (inl h)) d e x =
-    let a : is_out l.out j ≡ false = h.0 in
-    rw a (subst (λ (y : Forest). OutsDiffer (Grow l (grafted j g kids) y))
-    (sym (lacks_grafted j rest g h.2))
-    (wider_kids l kids rest g (grafted j g kids) d x (λ i. has_out-grafted i j kids g h.1)
-    (differ_grafted j kids g h.1 d.2 e (apart_kids l kids rest g x))))
-differ_grafted j (Grow l kids rest) g (inr (inr h)) d e x =
-    let a : is_out l.out j ≡ false = h.0 in
-    rw a (subst (λ (y : Forest). OutsDiffer (Grow l y (grafted j g rest)))
-    (sym (lacks_grafted j kids g h.1))
-    (wider_rest l kids rest g (grafted j g rest) d x (λ i. has_out-grafted i j rest g h.2)
-    (differ_grafted j rest g h.2 d.3 e (apart_rest l kids rest g x))))
+use Rattle.graph_laws.proofs.Disjoint.{has_out-beside, has_out-grafted, differ_beside, differ_grafted}
 
 -- ---- graphs
 abbrev pub mapped : (Place → Place) → Option Node → Option Node
