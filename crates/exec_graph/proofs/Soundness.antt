@@ -40,13 +40,8 @@ pub SameMeaning-kept : (g h : Graph) → IsGraphOk g → IsGraphOk h → KeepsMe
     → SameMeaning g h
 SameMeaning-kept g h a b k = SameMeaning-from_kept g h (IsSound-ok g a) (IsSound-ok h b) k
 
--- ---- one meaning
-
-pub some_meaning : (w : Rows) (g : Graph) → IsGraphOk g → Meets w g.nodes (collection w g)
-some_meaning w g ok = collection_meets w g (IsSound-ok g ok)
-
-pub one_meaning : (w : Rows) (g : Graph) (m : Place → Collection) → IsGraphOk g → Meets w g.nodes m
+-- no other assignment meets the equations
+pub one_meaning : (w : Rows) (g : Graph) (m : Place → Collection) → IsSound g → Meets w g.nodes m
     → (c : Place) → IsThere g.nodes c → m c ≡ collection w g c
 one_meaning w g m ok h c t =
-    let sound = IsSound-ok g ok in
-    only_meaning w g (collection w g) m sound (collection_meets w g sound) h c t
+    only_meaning w g (collection w g) m ok (collection_meets w g ok) h c t

@@ -16,7 +16,7 @@ ghost use Rattle.exec_graph.specs.declared.graph.Place.{Place};
 ghost use Rattle.exec_graph.specs.declared.step.Does.TheVariants as does;
 ghost use Rattle.exec_graph.specs.declared.step.Table.{Table};
 ghost use Rattle.exec_graph.specs.Calls.{emitted_by, trapped_by, trap_named};
-ghost use Rattle.exec_graph.specs.Meaning.{Rows, Collection, Meets, IsThere, SameMeaning, KeepsMeaning, collection};
+ghost use Rattle.exec_graph.specs.Meaning.{Rows, Collection, Meets, IsSound, IsThere, SameMeaning, KeepsMeaning, collection};
 ghost use Rattle.exec_graph.specs.Typing.{IsTypedRun, type_of};
 ghost use Rattle.exec_graph.specs.Wellformed.{IsGraphOk};
 
@@ -41,14 +41,16 @@ pub fn step_law()
         ≡ map (trap_named n) (traps_of_each (combined c) pairs) }
 {}
 
-/// A well-formed graph has just one meaning: `collection` meets the equations of all nodes, and
-/// nothing else does. So a rewrite means the same where each meaning of the graph is kept.
+/// A well-formed graph is sound, and a sound graph has just one meaning: `collection` meets the
+/// equations of all nodes, and nothing else does. So a rewrite that keeps each meaning of a graph
+/// means the same.
 pub fn meaning_law()
-    ensures some { (rows : Rows) (g : Graph) → IsGraphOk g →
+    ensures sound { (g : Graph) → IsGraphOk g → IsSound g }
+    ensures some { (rows : Rows) (g : Graph) → IsSound g →
         Meets rows g.nodes (collection rows g) }
-    ensures one { (rows : Rows) (g : Graph) (m : Place → Collection) → IsGraphOk g →
+    ensures one { (rows : Rows) (g : Graph) (m : Place → Collection) → IsSound g →
         Meets rows g.nodes m → (c : Place) → IsThere g.nodes c → m c ≡ collection rows g c }
-    ensures kept { (g h : Graph) → IsGraphOk g → IsGraphOk h → KeepsMeaning g h → SameMeaning g h }
+    ensures kept { (g h : Graph) → IsSound g → IsSound h → KeepsMeaning g h → SameMeaning g h }
 {}
 
 /// Each member of a collection has the collection's type.

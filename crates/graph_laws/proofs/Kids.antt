@@ -7,7 +7,6 @@ use Rattle.graph_laws.specs.Joining.{beside, set_node, without, moved, joined, C
 use Rattle.exec_graph.specs.Meaning.{place, node_at, reads, has_out, IsThere, OutsDiffer, HasOuts, IsSound, KeepsMeaning, SameMeaning}
 use Rattle.graph_laws.specs.Kids.{number_in, moved_out, refitted, named_by, kept_by, even, odd, same_number, renewed, apart, with_kid, with_sibling, CanKid, CanPair}
 use Rattle.exec_graph.specs.Readers.{is_read}
-use Rattle.exec_graph.specs.Wellformed.{IsGraphOk}
 use Rattle.exec_graph.proofs.Entries.{all_found}
 use Rattle.graph_laws.proofs.Changes.{node_at-without_other}
 use Rattle.graph_laws.proofs.Joining.{there_at}
@@ -15,7 +14,6 @@ use Rattle.flume_value.proofs.EachLemmas.{Each-both}
 use Rattle.exec_graph.proofs.Numbered.{numbered_differ}
 use Rattle.graph_laws.proofs.NumberedHas.{numbered_has}
 use Rattle.exec_graph.proofs.Solving.{SameMeaning-from_kept}
-use Rattle.exec_graph.proofs.Soundness.{IsSound-ok}
 use Rattle.graph_laws.proofs.Wellness.{node_at-map, mapped, node_at-set_same, node_at-set_other, reads_lower, IsGood, IsGood-as_kid, IsGood-as_sibling}
 use Rattle.graph_laws.proofs.ReadPlaces.{nodes_read, outputs_read}
 use Rattle.graph_laws.proofs.Refitting.{IsRefit, IsHeld, KeepsMeaning-refitted, IsSound-refitted, refit_numbered, refit_named, refit_kept}
@@ -189,13 +187,6 @@ kid_sound g p k q c f h ok can =
           (KeepsMeaning-then g2 g3 (with_kid g p k q c f h) good.keeps e.1)),
     )
 
-pub SameMeaning-with_kid : (g : Graph) (p k q : ℕ) (c : Place) (f h : Forest) → IsGraphOk g
-    → CanKid g p k q c f h → SameMeaning g (with_kid g p k q c f h)
-SameMeaning-with_kid g p k q c f h ok can =
-    let s : IsSound g = IsSound-ok g ok in
-    let e = kid_sound g p k q c f h s can in
-    SameMeaning-from_kept g (with_kid g p k q c f h) s e.0 e.1
-
 pub sibling_sound : (g : Graph) (p q : ℕ) (c : Place) (f h : Forest) → IsSound g
     → CanPair g p q c f h → IsSound (with_sibling g p q c f h)
     × KeepsMeaning g (with_sibling g p q c f h)
@@ -243,19 +234,16 @@ sibling_sound g p q c f h ok can =
           (KeepsMeaning-then g2 g3 (with_sibling g p q c f h) good.keeps e.1)),
     )
 
-pub SameMeaning-with_sibling : (g : Graph) (p q : ℕ) (c : Place) (f h : Forest) → IsGraphOk g
-    → CanPair g p q c f h → SameMeaning g (with_sibling g p q c f h)
-SameMeaning-with_sibling g p q c f h ok can =
-    let s : IsSound g = IsSound-ok g ok in
-    let e = sibling_sound g p q c f h s can in
-    SameMeaning-from_kept g (with_sibling g p q c f h) s e.0 e.1
-
 -- ---- as the laws say it
 
-pub IsSound-with_kid : (g : Graph) (p k q : ℕ) (c : Place) (f h : Forest) → IsGraphOk g
-    → CanKid g p k q c f h → IsSound (with_kid g p k q c f h)
-IsSound-with_kid g p k q c f h ok can = (kid_sound g p k q c f h (IsSound-ok g ok) can).0
+pub same_kid : (g : Graph) (p k q : ℕ) (c : Place) (f h : Forest) → IsSound g
+    → CanKid g p k q c f h → SameMeaning g (with_kid g p k q c f h)
+same_kid g p k q c f h ok can =
+    let e = kid_sound g p k q c f h ok can in
+    SameMeaning-from_kept g (with_kid g p k q c f h) ok e.0 e.1
 
-pub IsSound-with_sibling : (g : Graph) (p q : ℕ) (c : Place) (f h : Forest) → IsGraphOk g
-    → CanPair g p q c f h → IsSound (with_sibling g p q c f h)
-IsSound-with_sibling g p q c f h ok can = (sibling_sound g p q c f h (IsSound-ok g ok) can).0
+pub same_sibling : (g : Graph) (p q : ℕ) (c : Place) (f h : Forest) → IsSound g
+    → CanPair g p q c f h → SameMeaning g (with_sibling g p q c f h)
+same_sibling g p q c f h ok can =
+    let e = sibling_sound g p q c f h ok can in
+    SameMeaning-from_kept g (with_sibling g p q c f h) ok e.0 e.1

@@ -22,22 +22,31 @@ pub fn lift_law()
         KeepsMeaning g (remarked marks g) }
 {}
 
-/// Where a Pdo reads an output of another, its roots may become kids of the step with that output.
-/// The graph means the same, and has just one meaning.
+/// Where a Pdo reads an output of another, its roots may become kids of the step with that output:
+/// a sound graph stays sound and means the same.
 pub fn kid_law()
-    ensures sound { (g : Graph) (p k q : ℕ) (c : Place) (f h : Forest) → IsGraphOk g →
+    ensures sound { (g : Graph) (p k q : ℕ) (c : Place) (f h : Forest) → IsSound g →
         CanKid g p k q c f h → IsSound (with_kid g p k q c f h) }
-    ensures same { (g : Graph) (p k q : ℕ) (c : Place) (f h : Forest) → IsGraphOk g →
+    ensures kept { (g : Graph) (p k q : ℕ) (c : Place) (f h : Forest) → IsSound g →
+        CanKid g p k q c f h → KeepsMeaning g (with_kid g p k q c f h) }
+    ensures same { (g : Graph) (p k q : ℕ) (c : Place) (f h : Forest) → IsSound g →
         CanKid g p k q c f h → SameMeaning g (with_kid g p k q c f h) }
 {}
 
-/// Where two Pdos read one collection, the roots of the one may stand behind those of the other.
-/// The graph means the same, and has just one meaning.
+/// Where two Pdos read one collection, the roots of the one may stand behind those of the other: a
+/// sound graph stays sound and means the same.
 pub fn sibling_law()
-    ensures sound { (g : Graph) (p q : ℕ) (c : Place) (f h : Forest) → IsGraphOk g →
+    ensures sound { (g : Graph) (p q : ℕ) (c : Place) (f h : Forest) → IsSound g →
         CanPair g p q c f h → IsSound (with_sibling g p q c f h) }
-    ensures same { (g : Graph) (p q : ℕ) (c : Place) (f h : Forest) → IsGraphOk g →
+    ensures kept { (g : Graph) (p q : ℕ) (c : Place) (f h : Forest) → IsSound g →
+        CanPair g p q c f h → KeepsMeaning g (with_sibling g p q c f h) }
+    ensures same { (g : Graph) (p q : ℕ) (c : Place) (f h : Forest) → IsSound g →
         CanPair g p q c f h → SameMeaning g (with_sibling g p q c f h) }
+{}
+
+/// Where a rewrite keeps the meaning, and so does the next, both together do.
+pub fn chain_law()
+    ensures { (g h i : Graph) → KeepsMeaning g h → KeepsMeaning h i → KeepsMeaning g i }
 {}
 
 /// A step over collections together gives what it gives over each, together; and so the steps of a
