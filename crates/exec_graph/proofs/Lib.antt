@@ -1,0 +1,14 @@
+pub mod Bools
+pub mod Bagging
+pub mod Orders
+pub mod Entries
+pub mod Solving
+pub mod Numbered
+pub mod Soundness
+pub mod StepFacts
+pub mod Typed
+pub mod Walks
+pub mod Spotting
+pub mod Coding
+pub mod Edging
+pub mod Founding

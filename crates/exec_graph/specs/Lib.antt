@@ -1,0 +1,10 @@
+pub mod Forests
+pub mod Twigs
+pub mod Traps
+pub mod Sets
+pub mod Calls
+pub mod Meaning
+pub mod Readers
+pub mod Typing
+pub mod Wellformed
+pub mod inner

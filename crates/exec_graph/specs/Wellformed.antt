@@ -1,0 +1,118 @@
+-- When a graph is well-formed.
+use Rattle.std.specs.Prelude.{◌≡◌, ℕ, ◌+◌, ◌==◌, ◌<◌, ◌≤◌, Bool, true, false, List, [], ◌∷◌, length, Option, Some, None}
+use Rattle.std.specs.List.{AllByRecursion}
+use Rattle.combine_table.specs.declared.comb.Comb.{Comb}
+use Rattle.combine_table.specs.declared.comb.Comb.TheVariants as by
+use Rattle.exec_graph.specs.declared.step.Does.{Does}
+use Rattle.exec_graph.specs.declared.step.Does.TheVariants as does
+use Rattle.exec_graph.specs.Forests.{Forest, Bare, Grow, steps, numbered}
+use Rattle.exec_graph.specs.Meaning.{place, node_at, reads, has_out, IsThere, IsRankedBy}
+use Rattle.exec_graph.specs.Readers.{among, any_node, collects, readers, is_read}
+use Rattle.exec_graph.specs.Typing.{IsTypedNode}
+use Rattle.exec_graph.specs.declared.graph.Node.{Node}
+use Rattle.exec_graph.specs.declared.graph.Node.TheVariants.{Source, Flatten, Pdo, Gbk}
+use Rattle.exec_graph.specs.declared.graph.Entry.{Entry}
+use Rattle.exec_graph.specs.declared.graph.Graph.{Graph}
+use Rattle.exec_graph.specs.declared.graph.Blocked.{Blocked}
+
+-- the numbers ascend
+abbrev pub Ascends : List Entry → Type 0
+Ascends [] = Unit {0}
+Ascends (e ∷ es) = AllByRecursion (λ d. e.number < d.number) es × Ascends es
+
+-- all that is read is there, and no path returns to its node
+pub record IsFounded (g : Graph) : Type 0 where
+  pub ascends : Ascends g.nodes
+  pub below : AllByRecursion (λ e. e.number < g.next) g.nodes
+  pub there : AllByRecursion (λ e. AllByRecursion (IsThere g.nodes) (reads e.node)) g.nodes
+  pub told : AllByRecursion (IsThere g.nodes) g.outputs
+  pub ranked : (r : ℕ → ℕ) × IsRankedBy r g.nodes
+
+-- ---- the nodes
+
+-- the outputs of the forest of Pdo n have the numbers from 0 on in preorder, each once, and each is
+-- read
+pub record IsForestOk (g : Graph) (n : ℕ) (f : Forest) : Type 0 where
+  pub order : numbered 0 f ≡ f
+  pub read : (j : ℕ) → has_out j f ≡ true → is_read g (place n j) ≡ true
+
+-- a combiner's number, so that combiners are told apart
+abbrev pub comb_rank : Comb → ℕ
+comb_rank by.Sum = 0
+comb_rank by.Count = 1
+comb_rank by.Min = 2
+comb_rank by.Max = 3
+comb_rank by.All = 4
+comb_rank by.Any = 5
+comb_rank (by.Top n) = 6 + n
+
+abbrev pub combines_by : Comb → Does → Bool
+combines_by k (does.Call f) = false
+combines_by k (does.Combine c tb) = comb_rank c == comb_rank k
+
+-- whether the only root is a step of the combiner
+abbrev pub one_root : Comb → Forest → Bool
+one_root k Bare = false
+one_root k (Grow l kids Bare) = combines_by k l.does
+one_root k (Grow l kids (Grow m others rest)) = false
+
+abbrev pub has_root : Comb → Option Node → Bool
+has_root k None = false
+has_root k (Some (Source r t)) = false
+has_root k (Some (Flatten ty ins)) = false
+has_root k (Some (Pdo c f)) = one_root k f
+has_root k (Some (Gbk c o l i tb)) = false
+
+-- a lifted Gbk is no script output and is read by one Pdo alone, whose only root is a step of its
+-- combiner
+pub record IsLiftedOk (g : Graph) (n : ℕ) (k : Comb) : Type 0 where
+  pub untold : among (place n 0) g.outputs ≡ false
+  pub uncollected : any_node (collects (place n 0)) g.nodes ≡ false
+  pub reader : ℕ
+  pub alone : readers g.nodes (place n 0) ≡ reader ∷ []
+  pub root : has_root k (node_at g.nodes reader) ≡ true
+
+-- how many inputs a Flatten may have, and how many nodes a graph
+abbrev pub most : ℕ
+most = 4096
+
+abbrev pub IsNodeOk : Graph → ℕ → Node → Type 0
+IsNodeOk g n (Source r t) = Unit {0}
+IsNodeOk g n (Flatten ty ins) = (0 < length ins) × (length ins ≤ most)
+IsNodeOk g n (Pdo c f) = IsForestOk g n f
+IsNodeOk g n (Gbk c o l None tb) = Unit {0}
+IsNodeOk g n (Gbk c o l (Some k) tb) = IsLiftedOk g n k
+
+-- a Pdo counts once for each step
+abbrev pub size : Node → ℕ
+size (Source r t) = 1
+size (Flatten ty ins) = 1
+size (Pdo c f) = steps f
+size (Gbk c o l k tb) = 1
+
+abbrev pub total_size : List Entry → ℕ
+total_size [] = 0
+total_size (e ∷ es) = size e.node + total_size es
+
+pub record IsGraphOk (g : Graph) : Type 0 where
+  pub founded : IsFounded g
+  pub nodes : AllByRecursion (λ e. IsNodeOk g e.number e.node) g.nodes
+  pub few : total_size g.nodes ≤ most
+  pub typed : AllByRecursion (λ e. IsTypedNode g.nodes e.node) g.nodes
+
+-- ---- marks
+
+abbrev pub is_lifted : Option Node → Bool
+is_lifted None = false
+is_lifted (Some (Source r t)) = false
+is_lifted (Some (Flatten ty ins)) = false
+is_lifted (Some (Pdo c f)) = false
+is_lifted (Some (Gbk c o l None tb)) = false
+is_lifted (Some (Gbk c o l (Some k) tb)) = true
+
+-- marked collections are there, and none is of a lifted Gbk
+pub record IsBlockedOk (b : Blocked) : Type 0 where
+  pub ok : IsGraphOk b.graph
+  pub marked : AllByRecursion (IsThere b.graph.nodes) b.marks
+  pub unlifted :
+      AllByRecursion (λ c. is_lifted (node_at b.graph.nodes c.node) ≡ false) b.marks

@@ -1,0 +1,30 @@
+//! Execution graphs: operations on collections, and what a graph means.
+//!
+//! A `Graph` has four kinds of nodes: a source of rows, collections together (Flatten), a forest
+//! of steps on each element of a collection (Pdo), and the groups of a collection of pairs (Gbk).
+//! One type serves before and after every rewrite.
+//!
+//! A step calls a function or combines the list of a pair (`step_law`).
+//! `Meets` (specs/Meaning.antt) says what a graph means: an assignment of a bag and a set of traps
+//! to each collection that meets the equation of every node. A well-formed graph (`IsGraphOk`,
+//! specs/Wellformed.antt) has just one (`meaning_law`), which `collection` computes, and each
+//! member of a collection has the collection's type (`typed_law`).
+//!
+//! `is_founded` decides what the meaning rests on: all that is read is there, and no path returns
+//! to its node.
+#![tactic(auto)]
+
+mod edges;
+mod founded;
+mod given;
+mod graph;
+mod laws;
+mod order;
+mod places;
+mod spots;
+mod step;
+
+pub use founded::is_founded;
+pub use graph::{Blocked, Entry, Graph, Node, Place};
+pub use laws::{meaning_law, step_law, typed_law};
+pub use step::{Does, Output, Roots, Step, Table};

@@ -1,0 +1,12 @@
+pub mod Changes
+pub mod Joining
+pub mod Disjoint
+pub mod Wellness
+pub mod Numbering
+pub mod NumberedHas
+pub mod Refitting
+pub mod ReadPlaces
+pub mod Renaming
+pub mod Kids
+pub mod Lifting
+pub mod Columns

@@ -1,0 +1,11 @@
+use Rattle.graph_laws.proofs.Kids.{kid_sound, same_kid}
+use Rattle.graph_laws.proofs.laws.kid_law.Goals as goal
+
+pub returns-clause-sound : goal.returns-clause-sound
+returns-clause-sound c = λ g p k q at f h ok can. (kid_sound g p k q at f h ok can).0
+
+pub returns-clause-kept : goal.returns-clause-kept
+returns-clause-kept c = λ g p k q at f h ok can. (kid_sound g p k q at f h ok can).1
+
+pub returns-clause-same : goal.returns-clause-same
+returns-clause-same c = same_kid

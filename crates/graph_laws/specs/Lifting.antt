@@ -1,0 +1,71 @@
+-- Lifting: a Gbk whose only reader is one CombineValues is marked with its combiner.
+use Rattle.std.specs.Prelude.{ℕ, ◌==◌, cond, List, [], ◌∷◌, map, Option, Some, None}
+use Rattle.combine_table.specs.declared.comb.Comb.{Comb}
+use Rattle.exec_graph.specs.declared.step.Does.{Does}
+use Rattle.exec_graph.specs.declared.step.Does.TheVariants as does
+use Rattle.exec_graph.specs.Forests.{Forest, Bare, Grow}
+use Rattle.exec_graph.specs.Meaning.{place, node_at}
+use Rattle.exec_graph.specs.Readers.{among, any_node, collects, readers}
+use Rattle.exec_graph.specs.declared.graph.Node.{Node}
+use Rattle.exec_graph.specs.declared.graph.Node.TheVariants.{Source, Flatten, Pdo, Gbk}
+use Rattle.exec_graph.specs.declared.graph.Entry.{Entry}
+use Rattle.exec_graph.specs.declared.graph.Graph.{Graph}
+
+-- ---- marks
+
+-- another mark on a Gbk
+abbrev pub marked : (Option Comb → Option Comb) → Node → Node
+marked h (Source r t) = Source r t
+marked h (Flatten ty ins) = Flatten ty ins
+marked h (Pdo c f) = Pdo c f
+marked h (Gbk c o l k tb) = Gbk c o l (h k) tb
+
+abbrev pub marked_entry : (ℕ → Option Comb → Option Comb) → Entry → Entry
+marked_entry s e = record { number = e.number; node = marked (s e.number) e.node }
+
+-- the same graph with other marks, each from the Gbk's number and the mark that it had
+abbrev pub remarked : (ℕ → Option Comb → Option Comb) → Graph → Graph
+remarked s g =
+    record { nodes = map (marked_entry s) g.nodes; outputs = g.outputs; next = g.next }
+
+-- ---- what may be lifted
+
+abbrev pub comb_of : Does → Option Comb
+comb_of (does.Call f) = None
+comb_of (does.Combine k tb) = Some k
+
+-- the combiner of a forest whose one root combines
+abbrev pub root_comb : Forest → Option Comb
+root_comb Bare = None
+root_comb (Grow l kids Bare) = comb_of l.does
+root_comb (Grow l kids (Grow m others rest)) = None
+
+abbrev pub comb_at : Option Node → Option Comb
+comb_at None = None
+comb_at (Some (Source r t)) = None
+comb_at (Some (Flatten ty ins)) = None
+comb_at (Some (Pdo c f)) = root_comb f
+comb_at (Some (Gbk c o l k tb)) = None
+
+-- the combiner where one Pdo alone reads
+abbrev pub only_comb : List Entry → List ℕ → Option Comb
+only_comb es [] = None
+only_comb es (q ∷ []) = comb_at (node_at es q)
+only_comb es (q ∷ (p ∷ ns)) = None
+
+-- what the Gbk n may be lifted with: it is no script output, and one Pdo alone reads it
+abbrev pub lift_of : Graph → ℕ → Option Comb
+lift_of g n =
+    cond (among (place n 0) g.outputs) None
+    (cond (any_node (collects (place n 0)) g.nodes) None
+    (only_comb g.nodes (readers g.nodes (place n 0))))
+
+-- ---- the rewrites
+
+-- each Gbk is lifted that may be, and no other
+abbrev pub lifted : Graph → Graph
+lifted g = remarked (λ n k. lift_of g n) g
+
+-- the Gbk n is lifted, if it may be
+abbrev pub lifted_at : ℕ → Graph → Graph
+lifted_at n g = remarked (λ m k. cond (m == n) (lift_of g n) k) g
