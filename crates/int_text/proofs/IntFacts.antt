@@ -11,7 +11,7 @@ use Rattle.std.specs.Result.{OkIff, result_ok}
 use Rattle.std.specs.Str.{IsAscii, all_ascii_digits}
 use Rattle.std.specs.Str.Parse.{ParsesSigned}
 use mir.Syntax.{w64}
-use Rattle.int_text.specs.Ints.{int_below, int_from, int_of, is_numeral, minus, number_of, number_on}
+use Rattle.int_text.specs.Ints.{int_below, int_from, int_of_text, is_numeral, minus, number_of, number_on}
 
 -- the words of these specs are a reading of digits
 pub own : IsNumeralModel (λ ds. all_ascii_digits ds ≡ true) (number_on 0)
@@ -68,7 +68,7 @@ nothing (Ok x) P v h out = absurd (out h.0)
 nothing (Err e) P v h out = refl
 
 -- what `parse` makes of bytes with no plus in front
-pub parsed : {E : Type 0} (bs : List ℕ) (r : Result ℤ E) → ParsesSigned w64 10 bs r → pointwise nat_eq (43 ∷ []) (take 1 bs) ≡ false → result_ok r ≡ int_of bs
+pub parsed : {E : Type 0} (bs : List ℕ) (r : Result ℤ E) → ParsesSigned w64 10 bs r → pointwise nat_eq (43 ∷ []) (take 1 bs) ≡ false → result_ok r ≡ int_of_text bs
 parsed [] r h other = nothing r _ _ (parse_signed_plain own w64 [] r h (λ e. cc e) (λ e. cc e)) (λ p. omega (arith, p.1))
 parsed (b ∷ rest) r h other =
     let first : b ≢ 43 = grind (arith, nat_tests) in
@@ -82,11 +82,11 @@ none-if true b v out = absurd (out refl)
 none-if false b v out = refl
 
 -- a plus in front is refused
-pub plus : (bs : List ℕ) → pointwise nat_eq (43 ∷ []) (take 1 bs) ≡ true → ◌≡◌ {A = Option ℤ} None (int_of bs)
+pub plus : (bs : List ℕ) → pointwise nat_eq (43 ∷ []) (take 1 bs) ≡ true → ◌≡◌ {A = Option ℤ} None (int_of_text bs)
 plus [] e = cc
 plus (b ∷ rest) e =
     let first : 43 ≡ b = grind (arith, nat_tests) in
-    subst (λ (x : ℕ). ◌≡◌ {A = Option ℤ} None (int_of (x ∷ rest))) first refl
+    subst (λ (x : ℕ). ◌≡◌ {A = Option ℤ} None (int_of_text (x ∷ rest))) first refl
 
 numeral-text : (ds : List ℕ) → is_numeral ds ≡ true → IsAscii ds
 numeral-text ds h = IsAscii-from_digits ds (own.to ds (numeral-from ds h).0)
@@ -95,7 +95,7 @@ minus-text : (ds : List ℕ) → IsAscii ds → IsAscii (minus ∷ ds)
 minus-text ds h = search rules
 
 -- what is no text has no int
-pub no_text : (bs : List ℕ) → ¬ (IsUtf8 bs) → ◌≡◌ {A = Option ℤ} None (int_of bs)
+pub no_text : (bs : List ℕ) → ¬ (IsUtf8 bs) → ◌≡◌ {A = Option ℤ} None (int_of_text bs)
 no_text [] h = refl
 no_text (b ∷ rest) h =
     elim (cases_Bool (b == minus)) [

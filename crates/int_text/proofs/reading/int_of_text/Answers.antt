@@ -1,6 +1,6 @@
 use Rattle.std.proofs.Common.{◌∙◌, sym}
 use Rattle.int_text.proofs.IntFacts.{no_text, parsed, plus}
-use Rattle.int_text.proofs.reading.int_of.Goals as goal
+use Rattle.int_text.proofs.reading.int_of_text.Goals as goal
 
 pub returns-then-starts_with : goal.returns-then-starts_with
 returns-then-starts_with c = plus c.args.text.now (sym c.starts_with.ensures.value ∙ c.if-starts_with.true)
