@@ -13,11 +13,11 @@ pub Each-distinct : (P : Value → Type 0) (xs : List Value) → Each P xs → E
 Each-distinct P [] e = tt
 Each-distinct P (x ∷ xs) e = (e.0, Each-filter P (λ w. not (value_eq w x)) (distinct xs) (Each-distinct P xs e.1))
 
-pub filter_all : (p : Value → Bool) (xs : List Value) → Each (λ x. p x ≡ true) xs → filter p xs ≡ xs
+pub filter_all : {A : Type 0} (p : A → Bool) (xs : List A) → Each (λ x. p x ≡ true) xs → filter p xs ≡ xs
 filter_all p [] e = refl
 filter_all p (x ∷ xs) e = ap (λ b. cond b (x ∷ filter p xs) (filter p xs)) e.0 ∙ ap (λ l. x ∷ l) (filter_all p xs e.1)
 
-pub filter_none : (p : Value → Bool) (xs : List Value) → Each (λ x. p x ≡ false) xs → filter p xs ≡ []
+pub filter_none : {A : Type 0} (p : A → Bool) (xs : List A) → Each (λ x. p x ≡ false) xs → filter p xs ≡ []
 filter_none p [] e = refl
 filter_none p (x ∷ xs) e = ap (λ b. cond b (x ∷ filter p xs) (filter p xs)) e.0 ∙ filter_none p xs e.1
 
