@@ -25,7 +25,8 @@ chosen-flat choose f (x ∷ xs) =
 -- as a bag it depends on the bag of the list alone
 pub chosen-bag_of : {A : Type 0} (choose : Value → Option A) (f : A → List Value)
     (xs : List Value)
-    → bag_of (flat_map f (filter_map choose (bag_of xs))) ≡ bag_of (flat_map f (filter_map choose xs))
+    → bag_of (flat_map f (filter_map choose (bag_of xs)))
+    ≡ bag_of (flat_map f (filter_map choose xs))
 chosen-bag_of choose f xs =
     ap bag_of (chosen-flat choose f (bag_of xs))
     ∙ bag_of-flat_map-bag_of (given choose f) xs

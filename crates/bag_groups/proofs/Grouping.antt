@@ -30,18 +30,25 @@ use Rattle.bag_groups.proofs.PairOrder.{Rises-keys, Rises-values, value_eq-same,
 abbrev others : Value → Value → Bool
 others v w = not (value_eq w v)
 
-distinct-same : (k : Value) (xs : List Value) → Each (λ x. x ≡ k) xs → 0 < length xs → distinct xs ≡ k ∷ []
+distinct-same : (k : Value) (xs : List Value) → Each (λ x. x ≡ k) xs → 0 < length xs
+    → distinct xs ≡ k ∷ []
 distinct-same k [] e h = absurd (omega arith)
 distinct-same k (x ∷ xs) e h =
-    ap (λ l. x ∷ l) (filter_none (others x) (distinct xs) (Each-distinct (λ w. others x w ≡ false) xs (Each-both (λ w. w ≡ k) (λ w. w ≡ k) (λ w. others x w ≡ false) (λ w same _. ap not (value_eq-same w x (same ∙ sym e.0))) xs e.1 e.1)))
+    ap (λ l. x ∷ l)
+    (filter_none (others x) (distinct xs)
+    (Each-distinct (λ w. others x w ≡ false) xs
+    (Each-both (λ w. w ≡ k) (λ w. w ≡ k) (λ w. others x w ≡ false)
+    (λ w same _. ap not (value_eq-same w x (same ∙ sym e.0))) xs e.1 e.1)))
     ∙ ap (λ v. v ∷ []) e.0
 
-pub distinct-run : (xs ys : List Value) (k : Value) → Each (λ x. x ≡ k → ⊥) xs → Each (λ y. y ≡ k) ys → 0 < length ys → distinct (xs ++ ys) ≡ distinct xs ++ k ∷ []
+pub distinct-run : (xs ys : List Value) (k : Value) → Each (λ x. x ≡ k → ⊥) xs
+    → Each (λ y. y ≡ k) ys → 0 < length ys → distinct (xs ++ ys) ≡ distinct xs ++ k ∷ []
 distinct-run [] ys k e f h = distinct-same k ys f h
 distinct-run (x ∷ xs) ys k e f h =
     ap (λ l. x ∷ filter (others x) l) (distinct-run xs ys k e.1 f h)
     ∙ ap (λ l. x ∷ l) (filter-append (others x) (distinct xs) (k ∷ []))
-    ∙ ap (λ l. x ∷ (filter (others x) (distinct xs) ++ l)) (filter_all (others x) (k ∷ []) (ap not (value_eq-other k x (λ same. e.0 (sym same))), tt))
+    ∙ ap (λ l. x ∷ (filter (others x) (distinct xs) ++ l))
+    (filter_all (others x) (k ∷ []) (ap not (value_eq-other k x (λ same. e.0 (sym same))), tt))
 
 -- ---- the last key's group
 
@@ -142,16 +149,22 @@ not_true false h = refl
 Strict-distinct : (xs : List Value) → Rises xs → Strict (distinct xs)
 Strict-distinct [] r = tt
 Strict-distinct (x ∷ xs) r = (
-  Each-both (NotBelow x) (λ y. others x y ≡ true) (λ y. value_cmp y x ≡ Greater) (λ y up h. less_from x y up (not_true (value_eq y x) h))
-      (filter (others x) (distinct xs)) (Each-filter (NotBelow x) (others x) (distinct xs) (Each-distinct (NotBelow x) xs r.0)) (Each-filter_passes (others x) (distinct xs)),
+  Each-both (NotBelow x) (λ y. others x y ≡ true) (λ y. value_cmp y x ≡ Greater)
+      (λ y up h. less_from x y up (not_true (value_eq y x) h))
+      (filter (others x) (distinct xs))
+      (Each-filter (NotBelow x) (others x) (distinct xs) (Each-distinct (NotBelow x) xs r.0))
+      (Each-filter_passes (others x) (distinct xs)),
   Strict-filter (others x) (distinct xs) (Strict-distinct xs r.1),
 )
 
-Rises-groups : (F : Value → Value) (ks : List Value) → Strict ks → Rises (map (λ k. pair k (F k)) ks)
+Rises-groups : (F : Value → Value) (ks : List Value) → Strict ks
+    → Rises (map (λ k. pair k (F k)) ks)
 Rises-groups F [] s = tt
 Rises-groups F (x ∷ xs) s = (
   Each-map (NotBelow (pair x (F x))) (λ k. pair k (F k)) xs
-      (Each-both (λ y. value_cmp y x ≡ Greater) (λ y. value_cmp y x ≡ Greater) (λ y. NotBelow (pair x (F x)) (pair y (F y))) (λ y h _. pairs-NotBelow x (F x) y (F y) h) xs s.0 s.0),
+      (Each-both (λ y. value_cmp y x ≡ Greater) (λ y. value_cmp y x ≡ Greater)
+      (λ y. NotBelow (pair x (F x)) (pair y (F y))) (λ y h _. pairs-NotBelow x (F x) y (F y) h)
+      xs s.0 s.0),
   Rises-groups F xs s.1,
 )
 
@@ -318,7 +331,8 @@ group_ends whole left rest k wanted values group fields vs r pairs up e one at o
     = subst (λ l. IsRun whole l (Some wanted) values) at_rest
     (subst (λ o. IsRun whole left o values) known.0 r) in
     run_ends whole rest wanted values run pairs up other
-    ∙ ap (λ f. grouped rest ++ value.Rec f ∷ []) (sym (is ∙ ap (λ l. l ++ value.List vs ∷ []) known.1
+    ∙ ap (λ f. grouped rest ++ value.Rec f ∷ []) (sym (is
+    ∙ ap (λ l. l ++ value.List vs ∷ []) known.1
     ∙ ap (λ l. wanted ∷ value.List l ∷ []) held))
 
 pub run_leaves : (before left rest : List Value) (last : Value) (k : Option Value)
@@ -341,18 +355,32 @@ run_leaves before left rest last k values n r e count =
     ∙ sym (take-append-le (length rest) before (last ∷ []) fits)
     ∙ ap (take (length rest)) joined ∙ take-append_seam rest run)
 
-pub pairs_begin : (pairs ascending : List Value) → ascending ≡ bag_of pairs → All IsPair pairs → All IsPair ascending
-pairs_begin pairs ascending e all = All-same IsPair ascending (bag_of pairs) e (All-permutation IsPair pairs (bag_of pairs) (IsPermutation-bag_of pairs) all)
+pub pairs_begin : (pairs ascending : List Value) → ascending ≡ bag_of pairs → All IsPair pairs
+    → All IsPair ascending
+pairs_begin pairs ascending e all =
+    All-same IsPair ascending (bag_of pairs) e
+    (All-permutation IsPair pairs (bag_of pairs) (IsPermutation-bag_of pairs) all)
 
-pub groups_begin : (pairs ascending groups : List Value) → ascending ≡ bag_of pairs → groups ≡ [] → grouped pairs ≡ grouped ascending ++ reverse groups
+pub groups_begin : (pairs ascending groups : List Value) → ascending ≡ bag_of pairs → groups ≡ []
+    → grouped pairs ≡ grouped ascending ++ reverse groups
 groups_begin pairs ascending groups e none =
-    sym (ap grouped e ∙ grouped-bag_of pairs) ∙ sym (append-nil (grouped ascending)) ∙ ap (λ gs. grouped ascending ++ reverse gs) (sym none)
+    sym (ap grouped e ∙ grouped-bag_of pairs) ∙ sym (append-nil (grouped ascending))
+    ∙ ap (λ gs. grouped ascending ++ reverse gs) (sym none)
 
-pub rest_ascends : (ascending before rest : List Value) (last : Value) (n : ℕ) → IsSorted value_cmp ascending → ascending ≡ before ++ last ∷ [] → rest ≡ take n before → IsSorted value_cmp rest
+pub rest_ascends : (ascending before rest : List Value) (last : Value) (n : ℕ)
+    → IsSorted value_cmp ascending → ascending ≡ before ++ last ∷ [] → rest ≡ take n before
+    → IsSorted value_cmp rest
 rest_ascends ascending before rest last n up e is =
-    subst (IsSorted value_cmp) (sym is) (sorted_from (take n before) (Rises-take n before (Rises-left before (last ∷ []) (subst Rises e (rises_from ascending up)))))
+    subst (IsSorted value_cmp) (sym is)
+    (sorted_from (take n before)
+    (Rises-take n before
+    (Rises-left before (last ∷ []) (subst Rises e (rises_from ascending up)))))
 
-pub groups_grow : (whole ascending before rest groups grown : List Value) (last group : Value) → whole ≡ grouped ascending ++ reverse groups → ascending ≡ before ++ last ∷ [] → grouped (before ++ last ∷ []) ≡ grouped rest ++ group ∷ [] → grown ≡ groups ++ group ∷ [] → whole ≡ grouped rest ++ reverse grown
+pub groups_grow : (whole ascending before rest groups grown : List Value) (last group : Value)
+    → whole ≡ grouped ascending ++ reverse groups → ascending ≡ before ++ last ∷ []
+    → grouped (before ++ last ∷ []) ≡ grouped rest ++ group ∷ [] → grown ≡ groups ++ group ∷ []
+    → whole ≡ grouped rest ++ reverse grown
 groups_grow whole ascending before rest groups grown last group all e is push =
-    all ∙ ap (λ l. grouped l ++ reverse groups) e ∙ ap (λ l. l ++ reverse groups) is ∙ append_assoc (grouped rest) (group ∷ []) (reverse groups)
+    all ∙ ap (λ l. grouped l ++ reverse groups) e ∙ ap (λ l. l ++ reverse groups) is
+    ∙ append_assoc (grouped rest) (group ∷ []) (reverse groups)
     ∙ ap (λ l. grouped rest ++ l) (sym (ap reverse push ∙ reverse-append groups (group ∷ [])))

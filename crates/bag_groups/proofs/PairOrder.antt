@@ -79,7 +79,10 @@ same-value_eq a b h =
 
 pub value_eq-other : (a b : Value) → (a ≡ b → ⊥) → value_eq a b ≡ false
 value_eq-other a b h =
-    elim (value_eq a b) as (λ t. value_eq a b ≡ t → t ≡ false) [ true ↦ λ e. absurd (h (same-value_eq a b e)) | false ↦ λ e. refl ] refl
+    elim (value_eq a b) as (λ t. value_eq a b ≡ t → t ≡ false) [
+      | true ↦ λ e. absurd (h (same-value_eq a b e))
+      | false ↦ λ e. refl
+    ] refl
 
 -- ---- pairs of keys that rise strictly
 

@@ -67,7 +67,8 @@ come_all comb gs vs i end c = subst (λ l. ComeTo comb l vs) (take_all i gs end)
 
 -- ---- the first trap
 
-first_ahead : (xs ys : List (Kind × Value)) (fault : KeyFault) → IsFirst xs fault → IsFirst (xs ++ ys) fault
+first_ahead : (xs ys : List (Kind × Value)) (fault : KeyFault) → IsFirst xs fault
+    → IsFirst (xs ++ ys) fault
 first_ahead xs ys Memory h = tt
 first_ahead [] ys (Trap kind key) h = cc
 first_ahead (x ∷ xs) ys (Trap kind key) h = h
@@ -108,4 +109,5 @@ come_typed comb gs vs c key value all =
     All-permutation P (bag_of vs) vs (IsPermutation-sym vs (bag_of vs) (IsPermutation-bag_of vs))
     (subst (AllHave (table_of key (gives_type comb value))) c.pairs
     (All-from_recursion P (bag_of made) (Each-bag_of P made
-    (combined_pairs_have comb key value gs (each_from (Has (table_of key (ty.List value))) gs all)))))
+    (combined_pairs_have comb key value gs
+    (each_from (Has (table_of key (ty.List value))) gs all)))))

@@ -161,7 +161,9 @@ combined_pairs_have comb key value [] e = tt
 combined_pairs_have comb key value (g ∷ gs) e =
     let (k, l, is, typed, members) = table_group key value g e.0 in
     let P = Has (table_of key (gives_type comb value)) in
-    subst (λ (o : Option Group). Each P (flat_map (given (combined comb)) (cons_option o (groups_of gs))))
+    subst
+    (λ (o : Option Group). Each P
+    (flat_map (given (combined comb)) (cons_option o (groups_of gs))))
     (sym is)
     (Each-append P (given (combined comb) (k, l)) (flat_map (given (combined comb)) (groups_of gs))
     (made_has key (gives_type comb value) k (combined comb (bag_of l)) typed

@@ -34,7 +34,9 @@ pub pop_of_key-requires : goal.pop_of_key-requires
 pop_of_key-requires c = All-left IsPair _ _ _ c.loop-pair.invariant.run.joins c.requires.pairs
 
 pub split-requires : goal.split-requires
-split-requires c = (All-pop IsPair _ _ (Some c.in-Some.pair) c.in-Some.ensures.popped (All-left IsPair _ _ _ c.loop-pair.invariant.run.joins c.requires.pairs)).1
+split-requires c =
+    (All-pop IsPair _ _ (Some c.in-Some.pair) c.in-Some.ensures.popped
+    (All-left IsPair _ _ _ c.loop-pair.invariant.run.joins c.requires.pairs)).1
 
 pub returns-clause-group : goal.returns-clause-group
 returns-clause-group c =
@@ -46,5 +48,6 @@ returns-clause-group c =
 
 pub returns-clause-rest : goal.returns-clause-rest
 returns-clause-rest c =
-    let count : vec_len c.pop_of_key.new.pairs ≡ length c.pop_of_key.new.pairs.items = omega (arith, c.pop_of_key.new.pairs.ok) in
+    let count : vec_len c.pop_of_key.new.pairs ≡ length c.pop_of_key.new.pairs.items =
+    omega (arith, c.pop_of_key.new.pairs.ok) in
     run_leaves _ _ _ _ _ _ _ c.loop-pair.invariant.run c.in_default.ensures.popped count

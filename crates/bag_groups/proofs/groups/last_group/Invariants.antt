@@ -7,7 +7,8 @@ use Rattle.bag_groups.proofs.groups.last_group.Given as goal
 abbrev pub invariant-loop-pair : goal.invariant-loop-pair
 invariant-loop-pair l = record {
   group : l.group.items ≡ option_to_list (key_of l.fn.last);
-  run : IsRun (l.fn.before.items ++ l.fn.last ∷ []) l.before.items (key_of l.fn.last) (reverse l.values.items);
+  run : IsRun (l.fn.before.items ++ l.fn.last ∷ []) l.before.items (key_of l.fn.last)
+      (reverse l.values.items);
 }
 
 abbrev pub decreases-loop-pair : goal.decreases-loop-pair
