@@ -11,7 +11,7 @@ use Rattle.flume_value.specs.Bag.{bag_of}
 use Rattle.flume_value.specs.Parts.{members_of}
 use Rattle.flume_value.proofs.BagLemmas.{bag_of-sum}
 use Rattle.bag_groups.specs.Pairs.{pair, parts_of, key_of, value_of}
-use Rattle.bag_groups.specs.Combining.{combined_each, combined_pair, group_of, groups_of, trapped_key, traps_of_each}
+use Rattle.bag_groups.specs.Combining.{combined_each, combined_pair, group_of, groups_in, trapped_key, traps_of_each}
 use Rattle.bag_groups.proofs.PairLemmas.{Parts, key_of-pair}
 
 abbrev pub Group : Type 0
@@ -31,14 +31,14 @@ pub combined_each-append : (f : Combiner) (xs ys : List Value)
     → combined_each f (xs ++ ys) ≡ bag_of (combined_each f xs ++ combined_each f ys)
 combined_each-append f xs ys =
     ap (λ groups. bag_of (flat_map (given f) groups)) (filter_map-append group_of xs ys)
-    ∙ ap bag_of (flat_map-append (given f) (groups_of xs) (groups_of ys))
-    ∙ sym (bag_of-sum (flat_map (given f) (groups_of xs)) (flat_map (given f) (groups_of ys)))
+    ∙ ap bag_of (flat_map-append (given f) (groups_in xs) (groups_in ys))
+    ∙ sym (bag_of-sum (flat_map (given f) (groups_in xs)) (flat_map (given f) (groups_in ys)))
 
 pub traps_of_each-append : (f : Combiner) (xs ys : List Value)
     → traps_of_each f (xs ++ ys) ≡ traps_of_each f xs ++ traps_of_each f ys
 traps_of_each-append f xs ys =
     ap (flat_map (trapped f)) (filter_map-append group_of xs ys)
-    ∙ flat_map-append (trapped f) (groups_of xs) (groups_of ys)
+    ∙ flat_map-append (trapped f) (groups_in xs) (groups_in ys)
 
 -- ---- the parts of a group
 

@@ -16,8 +16,8 @@ group_of p =
     (parts_of p)
 
 -- the groups among the values, in order
-abbrev pub groups_of : List Value → List (Value × List Value)
-groups_of values = filter_map group_of values
+abbrev pub groups_in : List Value → List (Value × List Value)
+groups_in values = filter_map group_of values
 
 -- the pair of the key and what its list came to, if that is a value
 abbrev pub combined_pair : Value → Result Value Kind → List Value
@@ -32,9 +32,9 @@ trapped_key k (Err kind) = (kind, k) ∷ []
 -- the bag of the groups that do not trap, each with its list, as a bag, combined by f
 abbrev pub combined_each : (List Value → Result Value Kind) → List Value → List Value
 combined_each f table =
-    bag_of (flat_map (λ group. combined_pair group.0 (f (bag_of group.1))) (groups_of table))
+    bag_of (flat_map (λ group. combined_pair group.0 (f (bag_of group.1))) (groups_in table))
 
 -- the traps of the groups that trap: for each the kind and the key
 abbrev pub traps_of_each : (List Value → Result Value Kind) → List Value → List (Kind × Value)
 traps_of_each f table =
-    flat_map (λ group. trapped_key group.0 (f (bag_of group.1))) (groups_of table)
+    flat_map (λ group. trapped_key group.0 (f (bag_of group.1))) (groups_in table)

@@ -14,7 +14,7 @@ use Rattle.flume_types.specs.declared.types.Ty.TheVariants as ty
 use Rattle.flume_types.specs.Tables.{table_of}
 use Rattle.flume_types.specs.Typing.{AllHave, Has}
 use Rattle.bag_groups.specs.Pairs.{key_of}
-use Rattle.bag_groups.specs.Combining.{combined_each, groups_of, traps_of_each}
+use Rattle.bag_groups.specs.Combining.{combined_each, groups_in, traps_of_each}
 use Rattle.bag_groups.proofs.CombiningLemmas.{combined_each-append, given, one_given, traps_of_each-append}
 use Rattle.combine_table.specs.declared.comb.Comb.{Comb}
 use Rattle.combine_table.specs.Combinations.{combined}
@@ -105,7 +105,7 @@ pub come_typed : (comb : Comb) (gs vs : List Value) → ComeTo comb gs vs → (k
     → AllHave (table_of key (ty.List value)) gs → AllHave (table_of key (gives_type comb value)) vs
 come_typed comb gs vs c key value all =
     let P = Has (table_of key (gives_type comb value)) in
-    let made = flat_map (given (combined comb)) (groups_of gs) in
+    let made = flat_map (given (combined comb)) (groups_in gs) in
     All-permutation P (bag_of vs) vs (IsPermutation-sym vs (bag_of vs) (IsPermutation-bag_of vs))
     (subst (AllHave (table_of key (gives_type comb value))) c.pairs
     (All-from_recursion P (bag_of made) (Each-bag_of P made

@@ -23,7 +23,7 @@ use Rattle.flume_types.proofs.PartLemmas.{at_level, bool_in, has_bool, has_int, 
 use Rattle.flume_types.proofs.TypingLemmas.{has_type-Rec}
 use Rattle.bag_groups.specs.Pairs.{pair, IsPair, parts_at, parts_of, pairs_of}
 use Rattle.bag_groups.specs.Groups.{keys_of, values_of, grouped}
-use Rattle.bag_groups.specs.Combining.{combined_pair, group_of, groups_of}
+use Rattle.bag_groups.specs.Combining.{combined_pair, group_of, groups_in}
 use Rattle.bag_groups.proofs.CombiningLemmas.{Group, given, group_by}
 use Rattle.bag_groups.proofs.MemberLemmas.{Each-distinct}
 use Rattle.bag_groups.proofs.PairLemmas.{Parts}
@@ -156,16 +156,16 @@ made_has key t k (Err kind) g h = tt
 pub combined_pairs_have : (comb : Comb) (key value : Ty) (gs : List Value)
     → Each (Has (table_of key (ty.List value))) gs
     → Each (Has (table_of key (gives_type comb value)))
-    (flat_map (given (combined comb)) (groups_of gs))
+    (flat_map (given (combined comb)) (groups_in gs))
 combined_pairs_have comb key value [] e = tt
 combined_pairs_have comb key value (g ∷ gs) e =
     let (k, l, is, typed, members) = table_group key value g e.0 in
     let P = Has (table_of key (gives_type comb value)) in
     subst
     (λ (o : Option Group). Each P
-    (flat_map (given (combined comb)) (cons_option o (groups_of gs))))
+    (flat_map (given (combined comb)) (cons_option o (groups_in gs))))
     (sym is)
-    (Each-append P (given (combined comb) (k, l)) (flat_map (given (combined comb)) (groups_of gs))
+    (Each-append P (given (combined comb) (k, l)) (flat_map (given (combined comb)) (groups_in gs))
     (made_has key (gives_type comb value) k (combined comb (bag_of l)) typed
     (λ w same. combined_has comb value (bag_of l) w (Each-bag_of (Has value) l members) same))
     (combined_pairs_have comb key value gs e.1))
