@@ -1,29 +1,30 @@
 -- A pair, a member of a table: the record of its key and its value.
-use Rattle.std.specs.Prelude.{[], ◌∷◌}
+use Rattle.std.specs.Prelude.{List, [], ◌∷◌, Option, Some, None, IsSome, option_map, filter_map}
 use Rattle.flume_value.specs.declared.value.Value.{Value, Value-F, out-Value}
 use Rattle.flume_value.specs.declared.value.Value.TheVariants as value
 
 abbrev pub pair : Value → Value → Value
 pair k v = value.Rec (k ∷ v ∷ [])
 
-abbrev pub IsPairAt : Value-F Value → Type 0
-IsPairAt (Value-F.Rec (k ∷ v ∷ [])) = Unit {0}
-IsPairAt _ = ⊥
+-- the key and the value of a pair; no other value has them
+abbrev pub parts_at : Value-F Value → Option (Value × Value)
+parts_at (Value-F.Rec (k ∷ v ∷ [])) = Some (k, v)
+parts_at _ = None
+
+abbrev pub parts_of : Value → Option (Value × Value)
+parts_of p = parts_at (out-Value p)
 
 abbrev pub IsPair : Value → Type 0
-IsPair p = IsPairAt (out-Value p)
+IsPair p = IsSome (parts_of p)
 
--- the key of a pair; of another value, the value given
-abbrev pub key_at : Value → Value-F Value → Value
-key_at other (Value-F.Rec (k ∷ v ∷ [])) = k
-key_at other _ = other
+-- the key of a pair
+abbrev pub key_of : Value → Option Value
+key_of p = option_map (λ parts. parts.0) (parts_of p)
 
-abbrev pub key_of : Value → Value
-key_of p = key_at p (out-Value p)
+-- the value of a pair
+abbrev pub value_of : Value → Option Value
+value_of p = option_map (λ parts. parts.1) (parts_of p)
 
-abbrev pub value_at : Value → Value-F Value → Value
-value_at other (Value-F.Rec (k ∷ v ∷ [])) = v
-value_at other _ = other
-
-abbrev pub value_of : Value → Value
-value_of p = value_at p (out-Value p)
+-- the pairs among the values, in order
+abbrev pub pairs_of : List Value → List (Value × Value)
+pairs_of values = filter_map parts_of values

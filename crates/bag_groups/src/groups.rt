@@ -49,10 +49,10 @@ fn last_group(alloc: Global, last: Value, before: &mut Vec<Value>) -> Result<Val
 fn pop_of_key(wanted: &Value, pairs: &mut Vec<Value>) -> Option<Value>
     requires { All IsPair pairs.old.items }
     ensures popped { pairs.old.items ≡ pairs.new.items ++ option_to_list result }
-    ensures key { IfSome result (λ pair. key_of pair ≡ wanted.now) }
+    ensures key { IfSome result (λ pair. key_of pair ≡ Some wanted.now) }
     ensures none { IfNone result ((pair : GhostValue) →
         slice_get pairs.new.items (length pairs.new.items - 1) ≡ Some pair →
-        key_of pair ≢ wanted.now) }
+        key_of pair ≢ Some wanted.now) }
 {
     match pairs.last() {
         None => None,

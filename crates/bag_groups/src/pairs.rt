@@ -1,4 +1,5 @@
-ghost use Rattle.std.specs.Prelude.{◌≡◌, ◌∷◌, [], IfOk};
+ghost use Rattle.std.specs.Prelude.{◌≡◌, Some, IfOk};
+ghost use Rattle.std.specs.Option.{option_to_list};
 ghost use Rattle.bag_groups.specs.Pairs.{IsPair, key_of, value_of, pair as pair_of};
 
 use flume_value::{Pile, Value};
@@ -17,7 +18,7 @@ pub fn pair(alloc: Global, key: Value, value: Value) -> Result<Value, AllocError
 /// The key of a pair.
 pub fn key(pair: &Value) -> &Value
     requires { IsPair pair.now }
-    ensures { result.now ≡ key_of pair.now }
+    ensures { key_of pair.now ≡ Some result.now }
 {
     match pair {
         Value::Rec(fields) => &fields.as_slice()[0],
@@ -28,7 +29,7 @@ pub fn key(pair: &Value) -> &Value
 /// The value of a pair.
 pub fn value(pair: &Value) -> &Value
     requires { IsPair pair.now }
-    ensures { result.now ≡ value_of pair.now }
+    ensures { value_of pair.now ≡ Some result.now }
 {
     match pair {
         Value::Rec(fields) => &fields.as_slice()[1],
@@ -39,8 +40,8 @@ pub fn value(pair: &Value) -> &Value
 /// The fields of a pair: its key alone, and beside them its value.
 pub(crate) fn split(pair: Value) -> (Vec<Value>, Value)
     requires { IsPair pair }
-    ensures key { result.0.items ≡ key_of pair ∷ [] }
-    ensures value { result.1 ≡ value_of pair }
+    ensures key { result.0.items ≡ option_to_list (key_of pair) }
+    ensures value { value_of pair ≡ Some result.1 }
 {
     if let Value::Rec(fields) = pair {
         let mut fields = fields.into_vec();

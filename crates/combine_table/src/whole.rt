@@ -8,7 +8,7 @@ ghost use Rattle.combine_table.specs.Combinations.{Suits, combined, IsFault, tot
 use crate::comb::Comb;
 use crate::contents::{int, truth};
 use crate::outcome::int_or_overflow;
-use flume_value::{CallFault, Items, Kind, Pile, Value};
+use flume_value::{CallFault, Items, Kind, Pile, Value, ascending};
 use std::alloc::{AllocError, Global};
 
 /// What the combiner makes of these values as a bag: a value, or a trap exactly where their
@@ -91,17 +91,9 @@ fn copy_or_bad_index(alloc: Global, value: Option<&Value>) -> Result<Value, Call
 fn top(alloc: Global, n: u32, values: &[Value]) -> Result<Vec<Value>, AllocError>
     ensures { IfOk result (λ kept. kept.items ≡ greatest_of n (bag_of values.now)) }
 {
-    let ascending = sorted(alloc, values)?;
-    let rest = ascending.len().saturating_sub(n as usize);
-    copy_each(alloc, &ascending[rest..])
-}
-
-fn sorted(alloc: Global, values: &[Value]) -> Result<Vec<&Value>, AllocError>
-    ensures { IfOk result (λ all. map (λ v. v.now) all.items ≡ bag_of values.now) }
-{
-    let mut all: Vec<&Value> = values.iter().collect(alloc)?;
-    all.sort_unstable();
-    Ok(all)
+    let all = ascending(alloc, values)?;
+    let rest = all.len().saturating_sub(n as usize);
+    copy_each(alloc, &all[rest..])
 }
 
 fn copy_each(alloc: Global, values: &[&Value]) -> Result<Vec<Value>, AllocError>

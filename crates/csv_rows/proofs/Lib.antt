@@ -3,4 +3,3 @@ pub mod RowFacts
 pub mod TypeFacts
 pub mod LawFacts
 pub mod Literals
-pub mod OrderFacts

@@ -11,7 +11,8 @@ unfolding csv_on_literals
 empty = refl
 
 -- blank lines give no record, and the end of the text needs no line's end
-pub blank : records_of (codes "\n\r\nk,v\n\n1,2") ≡ (codes "k" ∷ codes "v" ∷ []) ∷ (codes "1" ∷ codes "2" ∷ []) ∷ []
+pub blank : records_of (codes "\n\r\nk,v\n\n1,2")
+    ≡ (codes "k" ∷ codes "v" ∷ []) ∷ (codes "1" ∷ codes "2" ∷ []) ∷ []
 unfolding csv_on_literals
 blank = refl
 
@@ -21,7 +22,8 @@ unfolding csv_on_literals
 mark = refl
 
 -- quotes, doubled quotes and line ends inside quotes
-pub quotes : records_of (codes "\"a,\"\"b\"\"\n\",c\r\n") ≡ (codes "a,\"b\"\n" ∷ codes "c" ∷ []) ∷ []
+pub quotes : records_of (codes "\"a,\"\"b\"\"\n\",c\r\n")
+    ≡ (codes "a,\"b\"\n" ∷ codes "c" ∷ []) ∷ []
 unfolding csv_on_literals
 quotes = refl
 

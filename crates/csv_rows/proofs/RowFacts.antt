@@ -18,16 +18,19 @@ pub text_yes : (bs : List ℕ) → IsUtf8 bs → is_utf8 bs ≡ true
 text_yes = is_utf8-from_IsUtf8
 
 pub text_no : (bs : List ℕ) → ¬ (IsUtf8 bs) → is_utf8 bs ≡ false
-text_no bs h = elim (cases_Bool (is_utf8 bs)) [ inl e ↦ absurd (h (IsUtf8-from_is_utf8 bs e)) | inr e ↦ e ]
+text_no bs h =
+    elim (cases_Bool (is_utf8 bs)) [ inl e ↦ absurd (h (IsUtf8-from_is_utf8 bs e)) | inr e ↦ e ]
 
 pub ruleset text_tests = (text_yes, text_no)
 
 -- the field at a place is the first from there on
-pub field_at-some : (xs : List (List ℕ)) (i : ℕ) (v : List ℕ) → field_at xs i ≡ Some v → drop i xs ≡ v ∷ drop (i + 1) xs
+pub field_at-some : (xs : List (List ℕ)) (i : ℕ) (v : List ℕ) → field_at xs i ≡ Some v
+    → drop i xs ≡ v ∷ drop (i + 1) xs
 unfolding field_at
 field_at-some [] i v e = cc e
 field_at-some (x ∷ xs) zero v e = cc e
-field_at-some (x ∷ xs) (suc i) v e = let n : suc i + 1 ≡ suc (i + 1) = omega arith in rw n (field_at-some xs i v e)
+field_at-some (x ∷ xs) (suc i) v e =
+    let n : suc i + 1 ≡ suc (i + 1) = omega arith in rw n (field_at-some xs i v e)
 
 pub field_at-none : (xs : List (List ℕ)) (i : ℕ) → field_at xs i ≡ None → length xs ≤ i
 unfolding field_at
@@ -36,7 +39,8 @@ field_at-none (x ∷ xs) zero e = cc e
 field_at-none (x ∷ xs) (suc i) e = let h = field_at-none xs i e in omega arith
 
 -- the column at a place is the first from there on
-pub column_at : (columns : List Column) (i : ℕ) (d : Column) → i < length columns → drop i columns ≡ get_or columns i d ∷ drop (i + 1) columns
+pub column_at : (columns : List Column) (i : ℕ) (d : Column) → i < length columns
+    → drop i columns ≡ get_or columns i d ∷ drop (i + 1) columns
 column_at columns i d lt = rw add-one (drop-cons columns i d lt)
 
 -- some values, and then those of what is left
@@ -44,7 +48,8 @@ abbrev pub after : List Value → Result (List Value) RowFault → Result (List 
 after xs (Ok ys) = Ok (xs ++ ys)
 after xs (Err e) = Err e
 
-after-more : (xs : List Value) (x : Value) (rest : Result (List Value) RowFault) → after xs (and_more x rest) ≡ after (xs ++ (x ∷ [])) rest
+after-more : (xs : List Value) (x : Value) (rest : Result (List Value) RowFault)
+    → after xs (and_more x rest) ≡ after (xs ++ (x ∷ [])) rest
 after-more xs x (Ok ys) = ap Ok (sym (append_assoc xs (x ∷ []) ys))
 after-more xs x (Err e) = refl
 
@@ -53,14 +58,18 @@ after-none (Ok ys) = refl
 after-none (Err e) = refl
 
 -- a header of the right length is faulty where a name is
-pub header_is : (columns : List Column) (names : List (List ℕ)) → length names ≡ length columns → header_fault columns names ≡ other_name 1 columns names
+pub header_is : (columns : List Column) (names : List (List ℕ)) → length names ≡ length columns
+    → header_fault columns names ≡ other_name 1 columns names
 header_is columns names e = rw (eq-eqb (length names) (length columns) e) refl
 
 -- one more name
-pub names_next : (columns : List Column) (names : List (List ℕ)) (i : ℕ) (c : Column) (name : List ℕ)
+pub names_next : (columns : List Column) (names : List (List ℕ)) (i : ℕ) (c : Column)
+    (name : List ℕ)
     → drop i columns ≡ c ∷ drop (i + 1) columns → drop i names ≡ name ∷ drop (i + 1) names
     → other_name 1 columns names ≡ other_name (i + 1) (drop i columns) (drop i names)
-    → other_name 1 columns names ≡ (if bytes_eq c.name name then other_name (i + 1 + 1) (drop (i + 1) columns) (drop (i + 1) names) else Some (i + 1))
+    → other_name 1 columns names ≡
+    (if bytes_eq c.name name then other_name (i + 1 + 1) (drop (i + 1) columns)
+    (drop (i + 1) names) else Some (i + 1))
 names_next columns names i c name a b h = h ∙ rw (a, b) refl
 
 not-turn : (b t : Bool) → b ≡ not t → t ≡ not b
@@ -68,98 +77,130 @@ not-turn b true e = rw e refl
 not-turn b false e = rw e refl
 
 -- what a test of two names says of the column's
-pub name_test : (c : Column) (mine name : List ℕ) (b : Bool) → mine ≡ c.name → b ≡ not (bytes_eq mine name) → bytes_eq c.name name ≡ not b
+pub name_test : (c : Column) (mine name : List ℕ) (b : Bool) → mine ≡ c.name
+    → b ≡ not (bytes_eq mine name) → bytes_eq c.name name ≡ not b
 name_test c mine name b e t = rw (← e) (not-turn b (bytes_eq mine name) t)
 
 -- a row of the right length is the values of its fields
-row_is : (row : ℕ) (columns : List Column) (fields : List (List ℕ)) → length fields ≡ length columns → row_at row columns fields ≡ record_of (cells_from row 1 columns fields)
+row_is : (row : ℕ) (columns : List Column) (fields : List (List ℕ))
+    → length fields ≡ length columns
+    → row_at row columns fields ≡ record_of (cells_from row 1 columns fields)
 row_is row columns fields e = rw (eq-eqb (length fields) (length columns) e) refl
 
 -- the values of a row's fields are these, and then those from a place on
 abbrev pub Reads : ℕ → List Column → List (List ℕ) → List Value → ℕ → Type 0
-Reads row columns fields cells i = cells_from row 1 columns fields ≡ after cells (cells_from row (i + 1) (drop i columns) (drop i fields))
+Reads row columns fields cells i =
+    cells_from row 1 columns fields ≡ after cells
+    (cells_from row (i + 1) (drop i columns) (drop i fields))
 
-pub reads_none : (row : ℕ) (columns : List Column) (fields : List (List ℕ)) → Reads row columns fields [] 0
+pub reads_none : (row : ℕ) (columns : List Column) (fields : List (List ℕ))
+    → Reads row columns fields [] 0
 reads_none row columns fields = sym (after-none _)
 
-cells_next : (row : ℕ) (columns : List Column) (fields : List (List ℕ)) (cells : List Value) (i : ℕ) (c : Column) (field : List ℕ)
-    → drop i columns ≡ c ∷ drop (i + 1) columns → drop i fields ≡ field ∷ drop (i + 1) fields → Reads row columns fields cells i
-    → cells_from row 1 columns fields ≡ after cells (first_then (cell_at row (i + 1) c.kind field) (cells_from row (i + 1 + 1) (drop (i + 1) columns) (drop (i + 1) fields)))
+cells_next : (row : ℕ) (columns : List Column) (fields : List (List ℕ)) (cells : List Value)
+    (i : ℕ) (c : Column) (field : List ℕ)
+    → drop i columns ≡ c ∷ drop (i + 1) columns → drop i fields ≡ field ∷ drop (i + 1) fields
+    → Reads row columns fields cells i
+    → cells_from row 1 columns fields ≡ after cells
+    (first_then (cell_at row (i + 1) c.kind field)
+    (cells_from row (i + 1 + 1) (drop (i + 1) columns) (drop (i + 1) fields)))
 cells_next row columns fields cells i c field a b h = h ∙ rw (a, b) refl
 
 -- a field's fault is the row's
-pub cell_fault : (row : ℕ) (columns : List Column) (fields : List (List ℕ)) (cells : List Value) (i : ℕ) (c : Column) (field : List ℕ) (e : RowFault) → length fields ≡ length columns
-    → drop i columns ≡ c ∷ drop (i + 1) columns → drop i fields ≡ field ∷ drop (i + 1) fields → Reads row columns fields cells i
+pub cell_fault : (row : ℕ) (columns : List Column) (fields : List (List ℕ)) (cells : List Value)
+    (i : ℕ) (c : Column) (field : List ℕ) (e : RowFault) → length fields ≡ length columns
+    → drop i columns ≡ c ∷ drop (i + 1) columns → drop i fields ≡ field ∷ drop (i + 1) fields
+    → Reads row columns fields cells i
     → cell_at row (i + 1) c.kind field ≡ Err e → row_at row columns fields ≡ Err e
 cell_fault row columns fields cells i c field e size a b h fault =
-    row_is row columns fields size ∙ ap record_of (rw fault at (cells_next row columns fields cells i c field a b h))
+    row_is row columns fields size
+    ∙ ap record_of (rw fault at (cells_next row columns fields cells i c field a b h))
 
 -- a field's value joins those before it
-pub cell_more : (row : ℕ) (columns : List Column) (fields : List (List ℕ)) (cells : List Value) (i : ℕ) (c : Column) (field : List ℕ) (x : Value)
-    → drop i columns ≡ c ∷ drop (i + 1) columns → drop i fields ≡ field ∷ drop (i + 1) fields → Reads row columns fields cells i
+pub cell_more : (row : ℕ) (columns : List Column) (fields : List (List ℕ)) (cells : List Value)
+    (i : ℕ) (c : Column) (field : List ℕ) (x : Value)
+    → drop i columns ≡ c ∷ drop (i + 1) columns → drop i fields ≡ field ∷ drop (i + 1) fields
+    → Reads row columns fields cells i
     → cell_at row (i + 1) c.kind field ≡ Ok x → Reads row columns fields (cells ++ (x ∷ [])) (i + 1)
 cell_more row columns fields cells i c field x a b h ok =
     rw ok at (cells_next row columns fields cells i c field a b h) ∙ after-more cells x _
 
 -- all fields are read
-pub cells_end : (row : ℕ) (columns : List Column) (fields : List (List ℕ)) (cells : List Value) (i : ℕ) → length fields ≡ length columns → length columns ≤ i
+pub cells_end : (row : ℕ) (columns : List Column) (fields : List (List ℕ)) (cells : List Value)
+    (i : ℕ) → length fields ≡ length columns → length columns ≤ i
     → Reads row columns fields cells i → row_at row columns fields ≡ Ok (value.Rec cells)
 cells_end row columns fields cells i size past h =
     let none = drop_all i columns past in
     row_is row columns fields size ∙ ap record_of (rw (none, append-nil) at h)
 
 -- the rows of all records are these, and then those of the records left from a row's number on
-abbrev pub Continues : List Column → Option (List (List (List ℕ))) → ℕ → List Value → Option (List (List (List ℕ))) → Type 0
+abbrev pub Continues : List Column → Option (List (List (List ℕ))) → ℕ → List Value
+    → Option (List (List (List ℕ))) → Type 0
 Continues columns None row rows left = Unit {0}
 Continues columns (Some records) row rows None = ⊥
-Continues columns (Some records) row rows (Some left) = rows_under columns records ≡ after rows (rows_from row columns left)
+Continues columns (Some records) row rows (Some left) =
+    rows_under columns records ≡ after rows (rows_from row columns left)
 
 -- what all records mean, where they are known
-abbrev pub Means : List Column → Option (List (List (List ℕ))) → Result (List Value) RowFault → Type 0
+abbrev pub Means : List Column → Option (List (List (List ℕ))) → Result (List Value) RowFault
+    → Type 0
 Means columns all answer = IfSome all (λ records. rows_under columns records ≡ answer)
 
-pub no_header : (columns : List Column) (all : Option (List (List (List ℕ)))) → NoneLeft all → Means columns all (bad 0 0 kind.Header)
+pub no_header : (columns : List Column) (all : Option (List (List (List ℕ)))) → NoneLeft all
+    → Means columns all (bad 0 0 kind.Header)
 no_header columns None h = tt
 no_header columns (Some records) h = rw h refl
 
-pub bad_header : (columns : List Column) (all left : Option (List (List (List ℕ)))) (names : List (List ℕ)) (at : ℕ) → Takes all names left
+pub bad_header : (columns : List Column) (all left : Option (List (List (List ℕ))))
+    (names : List (List ℕ)) (at : ℕ) → Takes all names left
     → Some at ≡ header_fault columns names → Means columns all (bad 0 at kind.Header)
 bad_header columns None left names at h e = tt
 bad_header columns (Some records) None names at h e = absurd h
 bad_header columns (Some records) (Some left) names at h e = rw (h, ← e) refl
 
-pub good_header : (columns : List Column) (all left : Option (List (List (List ℕ)))) (names : List (List ℕ)) → Takes all names left
+pub good_header : (columns : List Column) (all left : Option (List (List (List ℕ))))
+    (names : List (List ℕ)) → Takes all names left
     → None ≡ header_fault columns names → Continues columns all 1 [] left
 good_header columns None left names h e = tt
 good_header columns (Some records) None names h e = absurd h
 good_header columns (Some records) (Some left) names h e = rw (h, ← e) (sym (after-none _))
 
-pub row_more : (columns : List Column) (all now left : Option (List (List (List ℕ)))) (row : ℕ) (rows : List Value) (fields : List (List ℕ)) (x : Value)
-    → Continues columns all row rows now → Takes now fields left → row_at row columns fields ≡ Ok x → Continues columns all (row + 1) (rows ++ (x ∷ [])) left
+pub row_more : (columns : List Column) (all now left : Option (List (List (List ℕ)))) (row : ℕ)
+    (rows : List Value) (fields : List (List ℕ)) (x : Value)
+    → Continues columns all row rows now → Takes now fields left → row_at row columns fields ≡ Ok x
+    → Continues columns all (row + 1) (rows ++ (x ∷ [])) left
 row_more columns None now left row rows fields x h t ok = tt
 row_more columns (Some records) None left row rows fields x h t ok = absurd h
 row_more columns (Some records) (Some xs) None row rows fields x h t ok = absurd t
-row_more columns (Some records) (Some xs) (Some ys) row rows fields x h t ok = rw (t, ok) at h ∙ after-more rows x _
+row_more columns (Some records) (Some xs) (Some ys) row rows fields x h t ok =
+    rw (t, ok) at h ∙ after-more rows x _
 
-pub row_fault : (columns : List Column) (all now left : Option (List (List (List ℕ)))) (row : ℕ) (rows : List Value) (fields : List (List ℕ)) (e : RowFault)
-    → Continues columns all row rows now → Takes now fields left → row_at row columns fields ≡ Err e → Means columns all (Err e)
+pub row_fault : (columns : List Column) (all now left : Option (List (List (List ℕ)))) (row : ℕ)
+    (rows : List Value) (fields : List (List ℕ)) (e : RowFault)
+    → Continues columns all row rows now → Takes now fields left
+    → row_at row columns fields ≡ Err e → Means columns all (Err e)
 row_fault columns None now left row rows fields e h t fault = tt
 row_fault columns (Some records) None left row rows fields e h t fault = absurd h
 row_fault columns (Some records) (Some xs) None row rows fields e h t fault = absurd t
-row_fault columns (Some records) (Some xs) (Some ys) row rows fields e h t fault = rw (t, fault) at h
+row_fault columns (Some records) (Some xs) (Some ys) row rows fields e h t fault =
+    rw (t, fault) at h
 
-width-fault : (row : ℕ) (columns : List Column) (fields : List (List ℕ)) → length fields ≢ length columns → row_at row columns fields ≡ bad row 0 kind.Width
+width-fault : (row : ℕ) (columns : List Column) (fields : List (List ℕ))
+    → length fields ≢ length columns → row_at row columns fields ≡ bad row 0 kind.Width
 width-fault row columns fields other = rw (ne_eqb (length fields) (length columns) other) refl
 
-pub wide_fault : (columns : List Column) (all now : Option (List (List (List ℕ)))) (row : ℕ) (rows : List Value) (width : Option ℕ)
-    → Continues columns all row rows now → OtherLengthNext now width → width ≡ Some (length columns) → Means columns all (bad row 0 kind.Width)
+pub wide_fault : (columns : List Column) (all now : Option (List (List (List ℕ)))) (row : ℕ)
+    (rows : List Value) (width : Option ℕ)
+    → Continues columns all row rows now → OtherLengthNext now width
+    → width ≡ Some (length columns) → Means columns all (bad row 0 kind.Width)
 wide_fault columns None now row rows width h o e = tt
 wide_fault columns (Some records) None row rows width h o e = absurd h
 wide_fault columns (Some records) (Some xs) row rows width h o e =
     let (fields, rest, is, other) = rw e at o in
     rw (is, width-fault row columns fields other) at h
 
-pub rows_end : (columns : List Column) (all now : Option (List (List (List ℕ)))) (row : ℕ) (rows : List Value)
+pub rows_end : (columns : List Column) (all now : Option (List (List (List ℕ)))) (row : ℕ)
+    (rows : List Value)
     → Continues columns all row rows now → NoneLeft now → Means columns all (Ok rows)
 rows_end columns None now row rows h n = tt
 rows_end columns (Some records) None row rows h n = absurd h

@@ -1,5 +1,5 @@
 -- What a text of CSV means as rows of a type: the values of its records, or the first fault.
-use Rattle.std.specs.Prelude.{ℕ, ◌+◌, ◌==◌, Bool, true, false, List, [], ◌∷◌, length, Option, Some, None, Result, Ok, Err, if◌then◌else◌, codes, unwrap_or}
+use Rattle.std.specs.Prelude.{ℕ, ◌+◌, ◌==◌, Bool, true, false, List, [], ◌∷◌, length, Option, Some, None, Result, Ok, Err, if◌then◌else◌, codes, option_map}
 use Rattle.std.specs.Str.{bytes_eq, is_utf8}
 use Rattle.flume_value.specs.declared.value.Value.{Value}
 use Rattle.flume_value.specs.declared.value.Value.TheVariants as value
@@ -8,7 +8,7 @@ use Rattle.flume_types.specs.declared.column.Column.{Column}
 use Rattle.flume_types.specs.declared.column.ColumnKind.{ColumnKind}
 use Rattle.flume_types.specs.declared.column.ColumnKind.TheVariants as cell
 use Rattle.flume_types.specs.declared.types.Ty.{Ty}
-use Rattle.int_text.specs.Ints.{int_of}
+use Rattle.int_text.specs.Ints.{int_of_text}
 use Rattle.csv_rows.specs.Records.{records_of}
 use Rattle.csv_rows.specs.declared.fault.RowFault.{RowFault}
 use Rattle.csv_rows.specs.declared.fault.RowFault.TheVariants as fault
@@ -46,7 +46,7 @@ value_or fault made (Some x) = Ok (made x)
 -- the value of a field at a row and a column, or its fault
 abbrev pub cell_at : ℕ → ℕ → ColumnKind → List ℕ → ValueOrFault
 cell_at row column cell.Int field =
-    value_or (bad row column kind.NotInt) (λ n. value.Int n) (int_of field)
+    value_or (bad row column kind.NotInt) (λ n. value.Int n) (int_of_text field)
 cell_at row column cell.Bool field =
     value_or (bad row column kind.NotBool) (λ b. value.Bool b) (bool_of field)
 cell_at row column cell.Text field =
@@ -106,10 +106,8 @@ abbrev pub rows_under : List Column → List (List (List ℕ)) → ValuesOrFault
 rows_under columns [] = bad 0 0 kind.Header
 rows_under columns (names ∷ records) = under_header columns (header_fault columns names) records
 
--- the columns of an input of a type: its fields, where it is a record of int, bool and text
-abbrev pub columns_in : Ty → List Column
-columns_in ty = unwrap_or (input_columns_of ty) []
-
--- the rows of a text of CSV as values of a type, or its first fault
-abbrev pub rows_of : List ℕ → Ty → ValuesOrFault
-rows_of bytes ty = rows_under (columns_in ty) (records_of bytes)
+-- the rows of a text of CSV as values of a type, or its first fault; a type that is no record of
+-- int, bool and text has neither
+abbrev pub rows_of : List ℕ → Ty → Option ValuesOrFault
+rows_of bytes ty =
+    option_map (λ columns. rows_under columns (records_of bytes)) (input_columns_of ty)

@@ -1,5 +1,5 @@
 -- The text of a bag of values, as csv writes it.
-use Rattle.std.specs.Prelude.{false, List, [], ◌++◌, ℕ, if◌then◌else◌, codes, map, unwrap_or}
+use Rattle.std.specs.Prelude.{false, List, [], ◌++◌, ℕ, Option, if◌then◌else◌, codes, map, option_map}
 use Rattle.std.specs.Fmt.{signed_decimal}
 use Rattle.std.specs.List.{flat_map}
 use Rattle.csv.specs.Writing.{default_writer, row_text, with_has_headers}
@@ -33,6 +33,7 @@ abbrev pub table_text : List Column → List Value → List ℕ
 table_text columns values =
     row_text plain_writer (map (λ column. column.name) columns) ++ flat_map row_of values
 
--- the sorted text of a bag of values of a type, which is given as its ascending list
-abbrev pub text_of : List Value → Ty → List ℕ
-text_of bag ty = table_text (unwrap_or (columns_of ty) []) bag
+-- the sorted text of a bag of values of a type, which is given as its ascending list; a type that
+-- is not flat has none
+abbrev pub text_of : List Value → Ty → Option (List ℕ)
+text_of bag ty = option_map (λ columns. table_text columns bag) (columns_of ty)

@@ -1,6 +1,6 @@
 // Laws of rows and texts.
 
-ghost use Rattle.std.specs.Prelude.{◌≡◌, ◌+◌, ◌∷◌, [], List, Ok, codes, length, ℕ};
+ghost use Rattle.std.specs.Prelude.{◌≡◌, ◌+◌, ◌∷◌, [], List, Ok, Some, codes, length, ℕ};
 ghost use Rattle.csv.specs.Writing.{row_text};
 ghost use Rattle.flume_types.specs.declared.types.Ty.{Ty};
 ghost use Rattle.flume_value.specs.declared.value.Value.{Value};
@@ -11,7 +11,7 @@ ghost use Rattle.csv_rows.specs.Text.{plain_writer};
 /// A file has one row for each record after its header.
 pub fn rows_law()
     ensures { (bytes : List ℕ) (ty : Ty) (rows : List Value) →
-        rows_of bytes ty ≡ Ok rows → length (records_of bytes) ≡ length rows + 1 }
+        rows_of bytes ty ≡ Some (Ok rows) → length (records_of bytes) ≡ length rows + 1 }
 {}
 
 /// What `csv` makes of texts of which the rule of rows says nothing itself.

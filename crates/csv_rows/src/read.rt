@@ -1,6 +1,6 @@
 // Reading rows.
 
-ghost use Rattle.std.specs.Prelude.{◌≡◌, ◌≢◌, ◌<◌, ◌^◌, length, Ok, Err, None, IfOk, IfErr, IfSome, IsSome, IsTrue};
+ghost use Rattle.std.specs.Prelude.{◌≡◌, ◌≢◌, ◌<◌, ◌^◌, length, Ok, Err, None, Some, IfOk, IfErr, IfSome, IsSome, IsTrue};
 ghost use Rattle.std.specs.List.{All};
 ghost use Rattle.csv.specs.Reading.{expected_len};
 ghost use Rattle.csv.specs.Records.{fields_of};
@@ -14,7 +14,7 @@ use crate::records::{Next, next_record};
 use csv::{ByteRecord, Reader, ReaderBuilder};
 use flume_types::{Column, ColumnFault, ColumnKind, Ty, input_columns};
 use flume_value::{Items, Pile, Str, Value};
-use int_text::int_of;
+use int_text::int_of_text;
 use std::alloc::Global;
 use std::io::Read;
 use std::str;
@@ -28,9 +28,10 @@ use std::str;
 #[tactic(auto, using(crate::proofs::TypeFacts::rows_typed))]
 pub fn rows(alloc: Global, bytes: &[u8], ty: &Ty) -> Result<Items, RowFault>
     requires { IsSome (input_columns_of ty.now) }
-    ensures rows { IfOk result (λ rows. rows_of bytes.now ty.now ≡ Ok rows) }
+    ensures rows { IfOk result (λ rows. rows_of bytes.now ty.now ≡ Some (Ok rows)) }
     ensures typed { IfOk result (λ rows. All (λ row. IsTrue (has_type row ty.now)) rows) }
-    ensures fault { IfErr result (λ e. e ≢ RowFault.Memory → rows_of bytes.now ty.now ≡ Err e) }
+    ensures fault { IfErr result (λ e. e ≢ RowFault.Memory →
+        rows_of bytes.now ty.now ≡ Some (Err e)) }
 {
     read_rows(alloc, bytes, ty)
 }
@@ -39,9 +40,9 @@ pub fn rows(alloc: Global, bytes: &[u8], ty: &Ty) -> Result<Items, RowFault>
 fn read_rows<R: Read + Drop>(alloc: Global, source: R, ty: &Ty) -> Result<Items, RowFault>
     requires { IsSome (input_columns_of ty.now) }
     ensures rows { IfOk result (λ rows.
-        IfSome (R.remaining source) (λ bytes. rows_of bytes ty.now ≡ Ok rows)) }
+        IfSome (R.remaining source) (λ bytes. rows_of bytes ty.now ≡ Some (Ok rows))) }
     ensures fault { IfErr result (λ e. e ≢ RowFault.Memory →
-        IfSome (R.remaining source) (λ bytes. rows_of bytes ty.now ≡ Err e)) }
+        IfSome (R.remaining source) (λ bytes. rows_of bytes ty.now ≡ Some (Err e))) }
 {
     let columns = match input_columns(alloc, ty) {
         Ok(columns) => columns,
@@ -159,7 +160,7 @@ fn read_cell(
         cell_at row column kind field.now ≡ Err e) }
 {
     match kind {
-        ColumnKind::Int => match int_of(field) {
+        ColumnKind::Int => match int_of_text(field) {
             Some(n) => Ok(Value::Int(n)),
             None => Err(RowFault::bad(row, column, RowKind::NotInt)),
         },

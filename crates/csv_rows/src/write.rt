@@ -1,6 +1,6 @@
 // Writing rows.
 
-ghost use Rattle.std.specs.Prelude.{◌≡◌, ◌++◌, ◌∷◌, [], length, map, IfOk, IsSome, IsTrue, OnOk};
+ghost use Rattle.std.specs.Prelude.{◌≡◌, ◌++◌, ◌∷◌, [], length, map, Some, IfOk, IsSome, IsTrue, OnOk};
 ghost use Rattle.std.specs.Io.KnownBytes.{Appends};
 ghost use Rattle.std.specs.List.{All};
 ghost use Rattle.csv.specs.Records.{fields_of, partial_of};
@@ -15,7 +15,7 @@ ghost use Rattle.csv_rows.specs.inner.Writers.{IsFresh};
 
 use csv::{ByteRecord, Writer, WriterBuilder};
 use flume_types::{Column, ColumnFault, Ty, columns};
-use flume_value::{Items, Value};
+use flume_value::{Items, Value, ascending};
 use itoa::Buffer;
 use std::alloc::{AllocError, Global};
 use std::io::Write;
@@ -27,25 +27,17 @@ use std::io::Write;
 pub fn text(alloc: Global, values: &Items, ty: &Ty) -> Result<Vec<u8>, AllocError>
     requires flat { IsSome (columns_of ty.now) }
     requires typed { All (λ value. IsTrue (has_type value ty.now)) values.now }
-    ensures { IfOk result (λ text. text.items ≡ text_of (bag_of values.now) ty.now) }
+    ensures { IfOk result (λ text. text_of (bag_of values.now) ty.now ≡ Some text.items) }
 {
     let bag = ascending(alloc, values.as_slice())?;
     bag_text(alloc, &bag, ty)
 }
 
-/// The values in ascending order.
-fn ascending(alloc: Global, values: &[Value]) -> Result<Vec<&Value>, AllocError>
-    ensures { IfOk result (λ bag. map (λ value. value.now) bag.items ≡ bag_of values.now) }
-{
-    let mut bag: Vec<&Value> = values.iter().collect(alloc)?;
-    bag.sort_unstable();
-    Ok(bag)
-}
-
 /// The sorted text of a bag of values of a flat type, which stand in ascending order.
 fn bag_text(alloc: Global, bag: &[&Value], ty: &Ty) -> Result<Vec<u8>, AllocError>
     requires { IsSome (columns_of ty.now) }
-    ensures { IfOk result (λ text. text.items ≡ text_of (map (λ value. value.now) bag.now) ty.now) }
+    ensures { IfOk result (λ text.
+        text_of (map (λ value. value.now) bag.now) ty.now ≡ Some text.items) }
 {
     match columns(alloc, ty) {
         Ok(columns) => write_table(alloc, columns.as_slice(), bag),

@@ -18,7 +18,7 @@ use Rattle.flume_grammar.specs.declared.tree.Unary.{Unary}
 use Rattle.flume_grammar.specs.declared.tree.Side.{Side}
 use Rattle.flume_grammar.specs.declared.tree.Type as tree
 use Rattle.flume_grammar.specs.declared.tree.Expr.{Expr, Expr-F, out-Expr, roll-Expr, out-roll-Expr, map-Expr, ind-Expr}
-use Rattle.int_text.specs.Ints.{int_of}
+use Rattle.int_text.specs.Ints.{int_of_text}
 use Rattle.dofn_eval.specs.declared.expr.Expr.{Expr as Slots}
 use Rattle.dofn_eval.specs.declared.expr.Expr.TheVariants as expr
 use Rattle.dofn_eval.specs.declared.expr.Binary.{Binary as Operation}
@@ -418,7 +418,7 @@ module _ (known : Scope) where
 
   by_form : (y : Expr-F ((e : Expr) × RightExpr e)) (scope : Scope) → IsRight scope (layer_slots known (slots_of known) (map-Expr ((e : Expr) × RightExpr e) Expr plain y) scope)
       (layer_type known (type_in known) (map-Expr ((e : Expr) × RightExpr e) Expr plain y) scope) (λ env. layer_given known (given_in known) (map-Expr ((e : Expr) × RightExpr e) Expr plain y) env)
-  by_form (Expr-F.Number digits) scope = number_by (int_of digits) scope
+  by_form (Expr-F.Number digits) scope = number_by (int_of_text digits) scope
   by_form (Expr-F.Text text) scope = text_right text scope
   by_form (Expr-F.Bool b) scope = bool_right b scope
   by_form (Expr-F.Name name) scope = right_name name scope

@@ -12,7 +12,7 @@ use Rattle.flume_grammar.specs.declared.tree.Expr.{Expr, Expr-F, out-Expr, map-E
 use Rattle.flume_grammar.specs.declared.tree.Expr.TheVariants as parsed
 use Rattle.flume_grammar.specs.declared.tree.Body.{Body, Body-F, out-Body, map-Body, fold_out-Body}
 use Rattle.flume_grammar.specs.declared.tree.Body.TheVariants as body
-use Rattle.int_text.specs.Ints.{int_of}
+use Rattle.int_text.specs.Ints.{int_of_text}
 use Rattle.dofn_eval.specs.declared.expr.Expr.{Expr as Slots}
 use Rattle.dofn_eval.specs.declared.expr.Expr.TheVariants as expr
 use Rattle.dofn_eval.specs.declared.stmt.Stmt.{Stmt}
@@ -43,7 +43,7 @@ module _ (known : Scope) where
   at : (e : Expr) (x : Expr-F Expr) (scope : Scope) → out-Expr e ≡ x → slots_of known e scope ≡ layer_slots known (slots_of known) x scope
   at e x scope is = slots_of-step e scope ∙ ap (λ y. layer_slots known (slots_of known) y scope) is
 
-  pub slots-Number : (digits : List ℕ) (scope : Scope) → slots_of known (parsed.Number digits) scope ≡ literal (int_of digits)
+  pub slots-Number : (digits : List ℕ) (scope : Scope) → slots_of known (parsed.Number digits) scope ≡ literal (int_of_text digits)
   slots-Number digits scope = at _ _ scope (parsed.outs-Number digits)
 
   pub slots-Text : (text : List ℕ) (scope : Scope) → slots_of known (parsed.Text text) scope ≡ Some (expr.Literal (value.Text text), ty.Text)

@@ -11,7 +11,7 @@ use Rattle.flume_grammar.specs.declared.tree.Side.TheVariants as side
 use Rattle.flume_grammar.specs.declared.tree.Type as tree
 use Rattle.flume_grammar.specs.declared.tree.Expr.{Expr, Expr-F, fold-Expr}
 use Rattle.flume_grammar.specs.declared.tree.Body.{Body, Body-F, fold-Body}
-use Rattle.int_text.specs.Ints.{int_of}
+use Rattle.int_text.specs.Ints.{int_of_text}
 use Rattle.dofn_eval.specs.declared.expr.Binary.{Binary as Operation}
 use Rattle.dofn_eval.specs.declared.expr.Binary.TheVariants as operation
 use Rattle.dofn_check.specs.declared.operator.Operator.{Operator}
@@ -84,7 +84,7 @@ module _ (known : Scope) where
 
   -- the type of each form, where f gives those of its parts
   abbrev pub layer_type : {X : Type 0} → (X → Scope → Option Ty) → Expr-F X → Scope → Option Ty
-  layer_type f (Expr-F.Number digits) scope = option_map (λ n. ty.Int) (int_of digits)
+  layer_type f (Expr-F.Number digits) scope = option_map (λ n. ty.Int) (int_of_text digits)
   layer_type f (Expr-F.Text text) scope = Some ty.Text
   layer_type f (Expr-F.Bool b) scope = Some ty.Bool
   layer_type f (Expr-F.Name name) scope = look name scope

@@ -1,6 +1,6 @@
 //! Each form of expression, from the slots and types of its parts.
 ghost use Rattle.std.specs.Prelude.{◌≡◌, Some, IfOk};
-ghost use Rattle.int_text.specs.Ints.{int_of as int_in};
+ghost use Rattle.int_text.specs.Ints.{int_of_text as int_shown};
 ghost use Rattle.flume_value.specs.declared.value.Value.TheVariants as value;
 ghost use Rattle.flume_types.specs.declared.types.Ty.TheVariants as ty_;
 ghost use Rattle.dofn_eval.specs.declared.expr.Expr.TheVariants as slots;
@@ -22,7 +22,7 @@ use dofn_eval::Expr as Slots;
 use flume_grammar::{Side, Type, Unary};
 use flume_types::{Ty, copy};
 use flume_value::{Held, Pile, Str, Value};
-use int_text::int_of;
+use int_text::int_of_text;
 use std::alloc::{AllocError, Global};
 
 /// An expression's slots, and its type.
@@ -40,9 +40,9 @@ pub struct AllTyped {
 }
 
 pub fn number(digits: &Str) -> Result<Typed, Refusal>
-    ensures { Finds typed result (spec.literal (int_in digits.now)) }
+    ensures { Finds typed result (spec.literal (int_shown digits.now)) }
 {
-    match int_of(digits.as_bytes()) {
+    match int_of_text(digits.as_bytes()) {
         Some(n) => Ok(Typed {
             expr: Slots::Literal(Value::Int(n)),
             ty: Ty::Int,

@@ -23,7 +23,7 @@ mod pile;
 mod text;
 mod value;
 
-pub use bag::{bag_image_law, bag_law, bag_sum_law, sorted};
+pub use bag::{ascending, bag_image_law, bag_law, bag_sum_law, sorted};
 pub use bytes::{canonical_bytes, canonical_law};
 pub use copies::{copy, copy_all};
 pub use fault::{CallFault, Kind};

@@ -34,6 +34,6 @@ int_below digits =
 
 -- the int of a text: an optional minus sign and one or more decimal digits, of a value that 64 bits
 -- hold
-abbrev pub int_of : List ℕ → Option ℤ
-int_of [] = None
-int_of (byte ∷ rest) = if byte == minus then int_below rest else int_from (byte ∷ rest)
+abbrev pub int_of_text : List ℕ → Option ℤ
+int_of_text [] = None
+int_of_text (byte ∷ rest) = if byte == minus then int_below rest else int_from (byte ∷ rest)

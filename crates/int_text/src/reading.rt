@@ -1,12 +1,12 @@
 ghost use Rattle.std.specs.Prelude.{◌≡◌};
-ghost use Rattle.int_text.specs.Ints.{int_of as int_in};
+ghost use Rattle.int_text.specs.Ints.{int_of_text as int_shown};
 
 use std::str;
 
 /// The int that a text shows: an optional `-` and one or more decimal digits, of a value that 64
 /// bits hold. None for all else, and for what is not UTF-8.
-pub fn int_of(text: &[u8]) -> Option<i64>
-    ensures { result ≡ int_in text.now }
+pub fn int_of_text(text: &[u8]) -> Option<i64>
+    ensures { result ≡ int_shown text.now }
 {
     // std's `parse` takes a `+`, and is the same rule otherwise
     if text.starts_with(b"+") {

@@ -1,7 +1,8 @@
 -- The types of pairs, of their groups, and of what combiners make of them.
-use Rattle.std.proofs.Common.{◌≡◌, ◌-◌, ◌&&◌, Bool, true, false, if◌then◌else◌, ℤ, List, [], ◌∷◌, drop, length, map, is_some, unwrap_or, refl, sym, ap, ◌∙◌, subst}
-use Rattle.std.specs.Prelude.{All, Result, Ok, Err, codes, filter}
-use Rattle.std.specs.List.{AllByRecursion as Each, list_all, list_any, flat_map}
+use Rattle.std.proofs.Common.{◌≡◌, ◌-◌, ◌&&◌, Bool, true, false, if◌then◌else◌, ℤ, List, [], ◌∷◌, drop, length, map, Option, Some, is_some, refl, sym, ap, ◌∙◌, subst}
+use Rattle.std.specs.Prelude.{All, Result, Ok, Err, codes, filter, option_map}
+use Rattle.std.specs.List.{AllByRecursion as Each, cons_option, list_all, list_any, flat_map}
+use Rattle.std.specs.Option.{IsSomeAnd}
 use Rattle.std.proofs.lemmas.List.Elements.{All-from_recursion}
 use Rattle.flume_value.specs.declared.fault.Kind.{Kind}
 use Rattle.flume_value.specs.declared.fault.Kind.TheVariants.{Overflow}
@@ -9,7 +10,6 @@ use Rattle.flume_value.specs.declared.value.Value.{Value, Value-F, out-Value}
 use Rattle.flume_value.specs.declared.value.Value.TheVariants as variant
 use Rattle.flume_value.specs.Bag.{bag_of}
 use Rattle.flume_value.specs.Equality.{value_eq}
-use Rattle.flume_value.specs.Parts.{members_or_none}
 use Rattle.flume_value.specs.Ranges.{fits_int}
 use Rattle.flume_value.proofs.BagLemmas.{Each-bag_of}
 use Rattle.flume_value.proofs.BoolLemmas.{both_true, and_both}
@@ -21,13 +21,15 @@ use Rattle.flume_types.specs.Tables.{table_of}
 use Rattle.flume_types.specs.Typing.{AllHave, Has, has_type, layer_has}
 use Rattle.flume_types.proofs.PartLemmas.{at_level, bool_in, has_bool, has_int, has_list, int_in, list_in}
 use Rattle.flume_types.proofs.TypingLemmas.{has_type-Rec}
-use Rattle.bag_groups.specs.Pairs.{pair, IsPair, IsPairAt, key_at, key_of, value_at, value_of}
+use Rattle.bag_groups.specs.Pairs.{pair, IsPair, parts_at, parts_of, pairs_of}
 use Rattle.bag_groups.specs.Groups.{keys_of, values_of, grouped}
-use Rattle.bag_groups.specs.Combining.{combined_list, combined_pair}
+use Rattle.bag_groups.specs.Combining.{combined_pair, group_of, groups_in}
+use Rattle.bag_groups.proofs.CombiningLemmas.{Group, given, group_by}
 use Rattle.bag_groups.proofs.MemberLemmas.{Each-distinct}
+use Rattle.bag_groups.proofs.PairLemmas.{Parts}
 use Rattle.combine_table.specs.declared.comb.Comb.{Comb}
 use Rattle.combine_table.specs.declared.comb.Comb.TheVariants as by
-use Rattle.combine_table.specs.Contents.{IsBool, IsInt, IsList, truth_of}
+use Rattle.combine_table.specs.Contents.{IsBool, IsInt, truth_of}
 use Rattle.combine_table.specs.Combinations.{Suits, combined, least, first_or_bad_index, total, wrapped}
 use Rattle.keyed_steps.specs.Keyed.{IsGroup}
 use Rattle.keyed_steps.specs.Types.{TakesType, gives_type}
@@ -38,25 +40,25 @@ abbrev fields_of : Ty → Ty → List (Field Ty)
 fields_of key value =
     record { name = codes "key"; ty = key } ∷ record { name = codes "value"; ty = value } ∷ []
 
-pair_at : (key value : Ty) (p : Value) (x : Value-F Value)
+pair_at : (key value : Ty) (x : Value-F Value)
     → layer_has has_type x (Ty-F.Rec (fields_of key value)) ≡ true
-    → IsPairAt x × Has key (key_at p x) × Has value (value_at p x)
-pair_at key value p (Value-F.Rec []) h = cc
-pair_at key value p (Value-F.Rec (k ∷ [])) h = let e : false ≡ true =
+    → (k : Value) × (v : Value) × (parts_at x ≡ Some (k, v)) × Has key k × Has value v
+pair_at key value (Value-F.Rec []) h = cc
+pair_at key value (Value-F.Rec (k ∷ [])) h = let e : false ≡ true =
     (both_true (has_type k key) false h).1 in cc
-pair_at key value p (Value-F.Rec (k ∷ v ∷ [])) h =
+pair_at key value (Value-F.Rec (k ∷ v ∷ [])) h =
     let first = both_true (has_type k key) (has_type v value && true) h in
-    (tt, first.0, (both_true (has_type v value) true first.1).0)
-pair_at key value p (Value-F.Rec (k ∷ v ∷ w ∷ ws)) h =
+    (k, v, refl, first.0, (both_true (has_type v value) true first.1).0)
+pair_at key value (Value-F.Rec (k ∷ v ∷ w ∷ ws)) h =
     let first = both_true (has_type k key) (has_type v value && false) h in
     let e : false ≡ true = (both_true (has_type v value) false first.1).1 in cc
-pair_at key value p _ h = cc
+pair_at key value _ h = cc
 
 -- a member of a table is a pair of a key and a value
 pub table_pair : (key value : Ty) (p : Value) → Has (table_of key value) p
-    → IsPair p × Has key (key_of p) × Has value (value_of p)
+    → (k : Value) × (v : Value) × (parts_of p ≡ Some (k, v)) × Has key k × Has value v
 table_pair key value p h =
-    pair_at key value p (out-Value p)
+    pair_at key value (out-Value p)
     (at_level p (table_of key value) (Ty-F.Rec (fields_of key value))
     (ty.outs-Rec (fields_of key value)) h)
 
@@ -69,11 +71,20 @@ Has-pair key value k v g h =
 
 -- ---- lists
 
-typed_list : (t : Ty) (v : Value) → Has (ty.List t) v
-    → IsList v × Each (Has t) (members_or_none v)
-typed_list t v h =
-    let p = list_in v t h in
-    (ap is_some p.1, subst (Each (Has t)) (sym (ap (λ o. unwrap_or o []) p.1)) p.2)
+-- a member of a table of lists is a group
+table_group : (key value : Ty) (g : Value) → Has (table_of key (ty.List value)) g
+    → (k : Value) × (l : List Value) × (group_of g ≡ Some (k, l)) × Has key k
+    × Each (Has value) l
+table_group key value g h =
+    let (k, v, is, typed, list) = table_pair key (ty.List value) g h in
+    let p = list_in v value list in (
+      k,
+      p.0,
+      group_by g k v (Some p.0) (ap (option_map (λ (it : Parts). it.0)) is)
+          (ap (option_map (λ (it : Parts). it.1)) is) p.1,
+      typed,
+      p.2,
+    )
 
 -- ---- what combiners take
 
@@ -95,16 +106,10 @@ suits (by.Top n) t e v h = tt
 pub group_suits : (comb : Comb) (key value : Ty) → TakesType comb value → (g : Value)
     → Has (table_of key (ty.List value)) g → IsGroup comb g
 group_suits comb key value takes g h =
-    let p = table_pair key (ty.List value) g h in
-    let l = typed_list value (value_of g) p.2 in
-    record {
-      keyed = p.0;
-      listed = l.0;
-      suited =
-          All-from_recursion (Suits comb) (members_or_none (value_of g))
-          (Each-weaker (Has value) (Suits comb) (suits comb value takes)
-          (members_or_none (value_of g)) l.1);
-    }
+    let (k, l, is, typed, members) = table_group key value g h in
+    subst (λ (o : Option Group). IsSomeAnd o (λ it. All (Suits comb) it.1)) (sym is)
+    (All-from_recursion (Suits comb) l
+    (Each-weaker (Has value) (Suits comb) (suits comb value takes) l members))
 
 -- ---- what combiners give
 
@@ -148,61 +153,73 @@ made_has : (key t : Ty) (k : Value) (r : Result Value Kind) → Has key k
 made_has key t k (Ok v) g h = (Has-pair key t k v g (h v refl), tt)
 made_has key t k (Err kind) g h = tt
 
-combined_pair_has : (comb : Comb) (key value : Ty) (g : Value)
-    → Has (table_of key (ty.List value)) g
-    → Each (Has (table_of key (gives_type comb value)))
-    (combined_pair (key_of g) (combined_list (combined comb) g))
-combined_pair_has comb key value g h =
-    let p = table_pair key (ty.List value) g h in
-    let l = typed_list value (value_of g) p.2 in
-    made_has key (gives_type comb value) (key_of g) (combined_list (combined comb) g) p.1
-    (λ w e. combined_has comb value (bag_of (members_or_none (value_of g))) w
-    (Each-bag_of (Has value) (members_or_none (value_of g)) l.1) e)
-
 pub combined_pairs_have : (comb : Comb) (key value : Ty) (gs : List Value)
     → Each (Has (table_of key (ty.List value))) gs
     → Each (Has (table_of key (gives_type comb value)))
-    (flat_map (λ g. combined_pair (key_of g) (combined_list (combined comb) g)) gs)
+    (flat_map (given (combined comb)) (groups_in gs))
 combined_pairs_have comb key value [] e = tt
 combined_pairs_have comb key value (g ∷ gs) e =
-    Each-append (Has (table_of key (gives_type comb value)))
-    (combined_pair (key_of g) (combined_list (combined comb) g))
-    (flat_map (λ g. combined_pair (key_of g) (combined_list (combined comb) g)) gs)
-    (combined_pair_has comb key value g e.0) (combined_pairs_have comb key value gs e.1)
+    let (k, l, is, typed, members) = table_group key value g e.0 in
+    let P = Has (table_of key (gives_type comb value)) in
+    subst
+    (λ (o : Option Group). Each P
+    (flat_map (given (combined comb)) (cons_option o (groups_in gs))))
+    (sym is)
+    (Each-append P (given (combined comb) (k, l)) (flat_map (given (combined comb)) (groups_in gs))
+    (made_has key (gives_type comb value) k (combined comb (bag_of l)) typed
+    (λ w same. combined_has comb value (bag_of l) w (Each-bag_of (Has value) l members) same))
+    (combined_pairs_have comb key value gs e.1))
 
 -- ---- the groups of a table
 
-module _ (key value : Ty) (ps : List Value) (e : Each (Has (table_of key value)) ps) where
-  keys_have : Each (Has key) (keys_of ps)
-  keys_have =
-      Each-distinct (Has key) (bag_of (map key_of ps)) (Each-bag_of (Has key) (map key_of ps)
-      (Each-map (Has key) key_of ps
-      (Each-weaker (Has (table_of key value)) (λ p. Has key (key_of p))
-      (λ p h. (table_pair key value p h).1) ps e)))
+abbrev HaveParts : Ty → Ty → Parts → Type 0
+HaveParts key value p = Has key p.0 × Has value p.1
 
-  values_have : (k : Value) → Each (Has value) (values_of k ps)
+pairs_have : (key value : Ty) (ps : List Value) → Each (Has (table_of key value)) ps
+    → Each (HaveParts key value) (pairs_of ps)
+pairs_have key value [] e = tt
+pairs_have key value (p ∷ ps) e =
+    let (k, v, is, typed, held) = table_pair key value p e.0 in
+    subst (λ (o : Option Parts). Each (HaveParts key value) (cons_option o (pairs_of ps))) (sym is)
+    ((typed, held), pairs_have key value ps e.1)
+
+module _ (key value : Ty) (ps : List Value) (e : Each (Has (table_of key value)) ps) where
+  abbrev parts : List Parts
+  parts = pairs_of ps
+
+  keys_have : Each (Has key) (keys_of parts)
+  keys_have =
+      Each-distinct (Has key) (bag_of (map (λ (p : Parts). p.0) parts))
+      (Each-bag_of (Has key) (map (λ (p : Parts). p.0) parts)
+      (Each-map (Has key) (λ (p : Parts). p.0) parts
+      (Each-weaker (HaveParts key value) (λ p. Has key p.0) (λ p h. h.0) parts
+      (pairs_have key value ps e))))
+
+  values_have : (k : Value) → Each (Has value) (values_of k parts)
   values_have k =
-      let of_key = filter (λ p. value_eq (key_of p) k) ps in
-      Each-bag_of (Has value) (map value_of of_key) (Each-map (Has value) value_of of_key
-      (Each-filter (λ p. Has value (value_of p)) (λ p. value_eq (key_of p) k) ps
-      (Each-weaker (Has (table_of key value)) (λ p. Has value (value_of p))
-      (λ p h. (table_pair key value p h).2) ps e)))
+      let of_key = filter (λ (p : Parts). value_eq p.0 k) parts in
+      Each-bag_of (Has value) (map (λ (p : Parts). p.1) of_key)
+      (Each-map (Has value) (λ (p : Parts). p.1) of_key
+      (Each-filter (λ (p : Parts). Has value p.1) (λ p. value_eq p.0 k) parts
+      (Each-weaker (HaveParts key value) (λ p. Has value p.1) (λ p h. h.1) parts
+      (pairs_have key value ps e))))
 
   pub groups_have : Each (Has (table_of key (ty.List value))) (grouped ps)
   groups_have =
-      Each-map (Has (table_of key (ty.List value))) (λ k. pair k (variant.List (values_of k ps)))
-      (keys_of ps)
+      Each-map (Has (table_of key (ty.List value)))
+      (λ k. pair k (variant.List (values_of k parts))) (keys_of parts)
       (Each-weaker (Has key)
-      (λ k. Has (table_of key (ty.List value)) (pair k (variant.List (values_of k ps))))
-      (λ k h. Has-pair key (ty.List value) k (variant.List (values_of k ps)) h
-      (has_list value (values_of k ps) (values_have k))) (keys_of ps) keys_have)
+      (λ k. Has (table_of key (ty.List value)) (pair k (variant.List (values_of k parts))))
+      (λ k h. Has-pair key (ty.List value) k (variant.List (values_of k parts)) h
+      (has_list value (values_of k parts) (values_have k))) (keys_of parts) keys_have)
 
 -- ---- the same of all members
 
 pub all_pairs : (key value : Ty) (ps : List Value) → AllHave (table_of key value) ps → All IsPair ps
 all_pairs key value ps all =
     All-from_recursion IsPair ps
-    (Each-weaker (Has (table_of key value)) IsPair (λ p h. (table_pair key value p h).0) ps
+    (Each-weaker (Has (table_of key value)) IsPair
+    (λ p h. ap is_some (table_pair key value p h).2) ps
     (each_from (Has (table_of key value)) ps all))
 
 pub all_groups : (key value : Ty) (ps : List Value) → AllHave (table_of key value) ps

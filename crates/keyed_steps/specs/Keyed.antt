@@ -1,20 +1,17 @@
 -- Pairs of a key and a list, and the faults where each list is combined.
 use Rattle.std.specs.Prelude.{◌≡◌, All, List, Some, slice_get}
+use Rattle.std.specs.Option.{IsSomeAnd}
 use Rattle.flume_value.specs.declared.fault.Kind.{Kind}
 use Rattle.flume_value.specs.declared.value.Value.{Value}
-use Rattle.flume_value.specs.Parts.{members_or_none}
-use Rattle.bag_groups.specs.Pairs.{IsPair, value_of}
+use Rattle.bag_groups.specs.Combining.{group_of}
 use Rattle.combine_table.specs.declared.comb.Comb.{Comb}
-use Rattle.combine_table.specs.Contents.{IsList}
 use Rattle.combine_table.specs.Combinations.{Suits}
 use Rattle.keyed_steps.specs.declared.fault.KeyFault.{KeyFault}
 use Rattle.keyed_steps.specs.declared.fault.KeyFault.TheVariants.{Trap, Memory}
 
 -- a pair of a key and a list whose members all suit the combiner
-pub record IsGroup (comb : Comb) (group : Value) : Type 0 where
-  pub keyed : IsPair group
-  pub listed : IsList (value_of group)
-  pub suited : All (Suits comb) (members_or_none (value_of group))
+abbrev pub IsGroup : Comb → Value → Type 0
+IsGroup comb group = IsSomeAnd (group_of group) (λ it. All (Suits comb) it.1)
 
 -- a fault names the first of the traps; want of memory comes at any time
 abbrev pub IsFirst : List (Kind × Value) → KeyFault → Type 0

@@ -4,15 +4,15 @@ ghost use Rattle.flume_types.specs.declared.types.Ty.{Ty};
 ghost use Rattle.flume_types.specs.declared.types.Ty.TheVariants as ty;
 ghost use Rattle.flume_types.specs.Tables.{table_of};
 ghost use Rattle.bag_groups.specs.Pairs.{key_of};
-ghost use Rattle.bag_groups.specs.Combining.{combined_list, combined_pair, trapped_key, combined_each, traps_of_each};
+ghost use Rattle.bag_groups.specs.Combining.{combined_each, traps_of_each};
 ghost use Rattle.combine_table.specs.Combinations.{combined};
 ghost use Rattle.keyed_steps.specs.Keyed.{IsGroup, IsFirst};
 ghost use Rattle.flume_types.specs.Typing.{AllHave};
 ghost use Rattle.keyed_steps.specs.Types.{gives_type};
 
 use crate::fault::KeyFault;
-use crate::parts::list;
-use bag_groups::{key, pair};
+use crate::parts::parts;
+use bag_groups::pair;
 use combine_table::{Comb, combine};
 use flume_value::{CallFault, Value};
 use std::alloc::Global;
@@ -40,13 +40,12 @@ pub fn combine_each(alloc: Global, comb: Comb, groups: &[Value]) -> Result<Vec<V
 /// The pair with its list combined; or the trap of its list, and its key.
 fn combine_group(alloc: Global, comb: Comb, group: &Value) -> Result<Value, KeyFault>
     requires { IsGroup comb group.now }
-    ensures pair { IfOk result (λ p.
-        combined_pair (key_of group.now) (combined_list (combined comb) group.now) ≡ p ∷ []) }
-    ensures trap { IfErr result
-        (IsFirst (trapped_key (key_of group.now) (combined_list (combined comb) group.now))) }
+    ensures pair { IfOk result (λ p. combined_each (combined comb) (group.now ∷ []) ≡ p ∷ []) }
+    ensures trap { IfErr result (IsFirst (traps_of_each (combined comb) (group.now ∷ []))) }
 {
-    let key = key(group).copy(alloc)?;
-    match combine(alloc, comb, list(group)) {
+    let (key, list) = parts(group);
+    let key = key.copy(alloc)?;
+    match combine(alloc, comb, list) {
         Ok(value) => Ok(pair(alloc, key, value)?),
         Err(CallFault::Trap(kind)) => Err(KeyFault::Trap { kind, key }),
         Err(CallFault::Memory) => Err(KeyFault::Memory),

@@ -137,7 +137,7 @@ input_cause words before middle after program (Trap origin kind element) read to
 
 -- the file of the one output, and the text of the screen
 pub gives : (program : Program) (rows members : List Value) (sizes : Sizes) (name text screen : List ℕ) → name ≡ program.output_file
-    → text ≡ text_of (bag_of members) program.fun.gives → IsRunText program sizes screen → Evaluates program rows members sizes
+    → text_of (bag_of members) program.fun.gives ≡ Some text → IsRunText program sizes screen → Evaluates program rows members sizes
     → Gives program rows (record { name = name; bytes = text }) screen
 gives program rows members sizes name text screen named texted shown evaluates function script is =
     let it = evaluates function script is in
@@ -151,9 +151,13 @@ gives program rows members sizes name text screen named texted shown evaluates f
         through = it.1.through;
         files = ap (files_of it.0) read.read
             ∙ (ap (λ (found : Option Collection). option_and_then (λ f. option_map (λ fs. f ∷ fs) (files_of it.0 []))
-            (option_map (λ c. file program.output_file (text_of c.bag c.type)) found)) read.found
-            ∙ (λ i. Some (file (sym named i) ((ap (λ (bag : List Value). text_of bag last.type) read.bag
-            ∙ (ap (text_of (bag_of members)) read.type ∙ sym texted)) i) ∷ [])));
+            (option_and_then (λ c. option_map (λ bytes. file program.output_file bytes)
+            (text_of c.bag c.type)) found)) read.found
+            ∙ (ap (λ (bytes : Option (List ℕ)). option_and_then (λ f. option_map (λ fs. f ∷ fs) (files_of it.0 []))
+            (option_map (λ b. file program.output_file b) bytes))
+            (ap (λ (bag : List Value). text_of bag last.type) read.bag
+            ∙ (ap (text_of (bag_of members)) read.type ∙ texted))
+            ∙ (λ i. Some (file (sym named i) text ∷ []))));
         shown = ap (screen_text script) it.1.counts ∙ shown function script is;
       },
     )

@@ -64,7 +64,8 @@ same_script words told p q tells first second =
 one_rows : (told : Told) (wanted : Wanted) (rows other : List Value) → IsSome told → HasRows told wanted rows → HasRows told wanted other → rows ≡ other
 one_rows told wanted rows other tells first second =
     let bytes : first.0 ≡ second.0 = same_bytes told wanted.file first.0 second.0 _ _ tells first.1 second.1 in
-    let same : ◌≡◌ {A = Result (List Value) RowFault} (Ok rows) (Ok other) = sym first.2 ∙ (ap (λ (b : List ℕ). rows_of b wanted.type) bytes ∙ second.2) in
+    let same : ◌≡◌ {A = Option (Result (List Value) RowFault)} (Some (Ok rows)) (Some (Ok other))
+    = sym first.2 ∙ (ap (λ (b : List ℕ). rows_of b wanted.type) bytes ∙ second.2) in
     cc
 
 same_rows : (told : Told) (inputs : List Wanted) (rows others : List (List Value)) → IsSome told → AllHaveRows told inputs rows → AllHaveRows told inputs others
@@ -99,7 +100,7 @@ pub data BadInput (told : Told) (wanted : Wanted) (status : Status) : Type 0 whe
   no_input : IsMissing told wanted.file → status ≡ NoFile wanted.file → BadInput told wanted status
   long_input : IsAbove told wanted.file INPUT_LIMIT → status ≡ TooLong wanted.file INPUT_LIMIT → BadInput told wanted status
   bad_rows : (bytes : List ℕ) (row column : ℕ) (kind : RowKind) → Loads told wanted.file INPUT_LIMIT bytes
-      → rows_of bytes wanted.type ≡ Err (Bad row column kind) → status ≡ InputRefused wanted.file row column kind → BadInput told wanted status
+      → rows_of bytes wanted.type ≡ Some (Err (Bad row column kind)) → status ≡ InputRefused wanted.file row column kind → BadInput told wanted status
 
 -- a file stops the call so, in its turn
 abbrev pub Stops : Words → Told → Status → Type 0
@@ -125,7 +126,8 @@ no_rows told wanted status tells (no_input gone is) rows has = not_missing told 
 no_rows told wanted status tells (long_input longer is) rows has = not_above told wanted.file has.0 INPUT_LIMIT tells has.1 longer
 no_rows told wanted status tells (bad_rows bytes row column kind loads bad is) rows has =
     let equal : has.0 ≡ bytes = same_bytes told wanted.file has.0 bytes _ _ tells has.1 loads in
-    let wrong : ◌≡◌ {A = Result (List Value) RowFault} (Ok rows) (Err (Bad row column kind)) = sym has.2 ∙ (ap (λ (b : List ℕ). rows_of b wanted.type) equal ∙ bad) in
+    let wrong : ◌≡◌ {A = Option (Result (List Value) RowFault)} (Some (Ok rows)) (Some (Err (Bad row column kind)))
+    = sym has.2 ∙ (ap (λ (b : List ℕ). rows_of b wanted.type) equal ∙ bad) in
     absurd (cc)
 
 one_bad_script : (told : Told) (name : List ℕ) (a b : Status) → IsSome told → BadScript told name a → BadScript told name b → a ≡ b
@@ -153,7 +155,8 @@ one_bad_input told wanted a b tells (bad_rows bytes row column kind loads bad is
 one_bad_input told wanted a b tells (bad_rows bytes row column kind loads bad is) (long_input longer is') = absurd (not_above told wanted.file bytes INPUT_LIMIT tells loads longer)
 one_bad_input told wanted a b tells (bad_rows bytes row column kind loads bad is) (bad_rows bytes' row' column' kind' loads' bad' is') =
     let equal : bytes ≡ bytes' = same_bytes told wanted.file bytes bytes' _ _ tells loads loads' in
-    let same : ◌≡◌ {A = Result (List Value) RowFault} (Err (Bad row column kind)) (Err (Bad row' column' kind'))
+    let same : ◌≡◌ {A = Option (Result (List Value) RowFault)} (Some (Err (Bad row column kind)))
+    (Some (Err (Bad row' column' kind')))
     = sym bad ∙ (ap (λ (b : List ℕ). rows_of b wanted.type) equal ∙ bad') in
     let rows : row ≡ row' = cc in
     let columns : column ≡ column' = cc in

@@ -119,7 +119,7 @@ abbrev pub IsInputRefused : List ℕ → ℕ → ℕ → RowKind → List (List 
 IsInputRefused name row column kind words source =
     (wanted : Wanted) × (bytes : List ℕ) × IsTurnOf words source.told wanted × (name ≡ wanted.file)
     × Loads source.told wanted.file INPUT_LIMIT bytes
-    × (rows_of bytes wanted.type ≡ Err (Bad row column kind))
+    × (rows_of bytes wanted.type ≡ Some (Err (Bad row column kind)))
 
 -- a refusal before anything is written: the shelf is untouched, and the screen has the refusal's
 -- line

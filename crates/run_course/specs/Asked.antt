@@ -36,7 +36,7 @@ Reads words told script =
 abbrev pub HasRows : Option (List File) → Wanted → List Value → Type 0
 HasRows told wanted rows =
     (bytes : List ℕ) × Loads told wanted.file INPUT_LIMIT bytes
-    × (rows_of bytes wanted.type ≡ Ok rows)
+    × (rows_of bytes wanted.type ≡ Some (Ok rows))
 
 -- the same of several inputs, in order
 abbrev pub AllHaveRows : Option (List File) → List Wanted → List (List Value) → Type 0

@@ -112,8 +112,9 @@ screen_text script sizes =
 -- an output's file: the sorted text of the bag of the collection that it reads
 abbrev pub file_of : List Collection → Output → Option File
 file_of made output =
-    option_map (λ collection.
-    record { name = output.file; bytes = text_of collection.bag collection.type })
+    option_and_then (λ collection.
+    option_map (λ bytes. record { name = output.file; bytes = bytes })
+    (text_of collection.bag collection.type))
     (collection_at made output.reads)
 
 -- the files of outputs that read these collections

@@ -1,4 +1,4 @@
-use int_text::int_of;
+use int_text::int_of_text;
 
 #[test]
 fn reads_ints_and_nothing_else(rt: HostRuntime) {
@@ -22,6 +22,6 @@ fn reads_ints_and_nothing_else(rt: HostRuntime) {
         (b"\xff", None),
     ];
     for (text, wanted) in table {
-        assert!(rt; int_of(text) == wanted);
+        assert!(rt; int_of_text(text) == wanted);
     }
 }

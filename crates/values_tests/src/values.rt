@@ -1,5 +1,5 @@
 use crate::samples::of_each_variant;
-use flume_value::{CallFault, Kind, Value, compare, copy, copy_all, equals, sorted};
+use flume_value::{CallFault, Kind, Value, ascending, compare, copy, copy_all, equals, sorted};
 use std::alloc::AllocError;
 use std::cmp::Ordering;
 use std::test::Fail;
@@ -32,6 +32,20 @@ fn sorts_a_bag_and_keeps_what_occurs_twice(rt: HostRuntime) -> Result<(), Fail> 
     assert!(rt; equals(&all[0], &Value::Int(-2)));
     assert!(rt; equals(&all[1], &Value::Int(-2)));
     assert!(rt; equals(&all[8], &Value::Wide(-1)));
+    Ok(())
+}
+
+#[test]
+fn sorts_references_and_leaves_the_values(rt: HostRuntime) -> Result<(), Fail> {
+    let alloc = rt.alloc();
+    let mut values = of_each_variant(alloc)?;
+    values.reverse();
+    let all = ascending(alloc, &values)?;
+    assert_eq!(rt; all.len(), 8);
+    assert!(rt; equals(all[0], &Value::Int(-2)));
+    assert!(rt; equals(all[7], &Value::Wide(-1)));
+    assert_eq!(rt; values.len(), 8);
+    assert!(rt; equals(&values[0], &Value::Wide(-1)));
     Ok(())
 }
 

@@ -8,7 +8,7 @@ use Rattle.flume_grammar.specs.declared.tree.Unary.{Unary}
 use Rattle.flume_grammar.specs.declared.tree.Type as tree
 use Rattle.flume_grammar.specs.declared.tree.Expr.{Expr, Expr-F, fold-Expr}
 use Rattle.flume_grammar.specs.declared.tree.Body.{Body, Body-F, fold-Body}
-use Rattle.int_text.specs.Ints.{int_of}
+use Rattle.int_text.specs.Ints.{int_of_text}
 use Rattle.dofn_eval.specs.declared.expr.Expr.{Expr as Slots}
 use Rattle.dofn_eval.specs.declared.expr.Expr.TheVariants as expr
 use Rattle.dofn_eval.specs.declared.stmt.Stmt.{Stmt}
@@ -147,7 +147,7 @@ module _ (known : Scope) where
 
   abbrev pub layer_slots : {X : Type 0} → (X → Scope → Option Typed) →
       Expr-F X → Scope → Option Typed
-  layer_slots f (Expr-F.Number digits) scope = literal (int_of digits)
+  layer_slots f (Expr-F.Number digits) scope = literal (int_of_text digits)
   layer_slots f (Expr-F.Text text) scope = Some (expr.Literal (value.Text text), ty.Text)
   layer_slots f (Expr-F.Bool b) scope = Some (expr.Literal (value.Bool b), ty.Bool)
   layer_slots f (Expr-F.Name name) scope = variable name scope

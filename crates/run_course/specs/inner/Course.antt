@@ -98,7 +98,7 @@ IsScriptCause words before after status =
 abbrev pub IsInputCause : Seen (List NamedBytes) → Seen (List NamedBytes) → Wanted → Status → Type 0
 IsInputCause before after wanted (InputRefused name row column kind) =
     (name ≡ wanted.file) × (bytes : List ℕ) × Loads before.told wanted.file INPUT_LIMIT bytes
-    × (rows_of bytes wanted.type ≡ Err (Bad row column kind))
+    × (rows_of bytes wanted.type ≡ Some (Err (Bad row column kind)))
 IsInputCause before after wanted status = IsLoadCause before after wanted.file INPUT_LIMIT status
 
 -- ---- what comes of it

@@ -8,5 +8,6 @@ abbrev pub invariant-rows : goal.invariant-rows
 invariant-rows g l = record {
   plain : IsPlain l.reader;
   width : expected_len l.reader ≡ Some (length l.columns);
-  so_far : Continues l.columns (left_of g.R.Read.remaining l.fn.reader) l.row l.rows (left_of g.R.Read.remaining l.reader);
+  so_far : Continues l.columns (left_of g.R.Read.remaining l.fn.reader) l.row l.rows
+      (left_of g.R.Read.remaining l.reader);
 }

@@ -22,11 +22,13 @@ pub returns-in-Ok-false-clause-took : goal.returns-in-Ok-false-clause-took
 returns-in-Ok-false-clause-took g c =
     let (ready, config, trim, flexible) = c.requires in
     let e = rw c.in-Ok-false.field-0-test at c.in-Ok-false.ensures in
-    ends g.R.Read.remaining c.args.reader.now c.read_byte_record.new.self (fields_of c.read_byte_record.new.row) config (e.reads trim ready)
+    ends g.R.Read.remaining c.args.reader.now c.read_byte_record.new.self
+    (fields_of c.read_byte_record.new.row) config (e.reads trim ready)
 
 pub returns-in-UnequalLengths-clause-took : goal.returns-in-UnequalLengths-clause-took
 returns-in-UnequalLengths-clause-took g c =
     let (ready, config, trim, flexible) = c.requires in
     let kind = sym c.kind.ensures ∙ c.in-UnequalLengths.is in
     let (_, expected, other, fields, took, same) = rw kind at (c.in-Err.ensures.why ready) in
-    other_length g.R.Read.remaining c.args.reader.now c.read_byte_record.new.self fields c.in-UnequalLengths.expected_len c.in-UnequalLengths.len config took expected other same
+    other_length g.R.Read.remaining c.args.reader.now c.read_byte_record.new.self fields
+    c.in-UnequalLengths.expected_len c.in-UnequalLengths.len config took expected other same

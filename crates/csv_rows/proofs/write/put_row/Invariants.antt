@@ -8,6 +8,7 @@ use Rattle.csv_rows.proofs.write.put_row.Given as goal
 
 abbrev pub invariant-parts : goal.invariant-parts
 invariant-parts l = record {
-  so_far : fields_of l.row ≡ fields_of l.fn.row ++ map cell_text (flat_map (λ part. field_cells part (out-Value part)) (take l.part-index l.part-items));
+  so_far : fields_of l.row ≡ fields_of l.fn.row ++ map cell_text
+      (flat_map (λ part. field_cells part (out-Value part)) (take l.part-index l.part-items));
   partial : partial_of l.row ≡ [];
 }

@@ -1,4 +1,4 @@
--- Sorted references give the list of the bag.
+-- The values that references refer to, and how they stand in order.
 use Rattle.std.proofs.Common.{◌≡◌, ◌+◌, ◌<◌, List, [], ◌∷◌, length, map, get_or, arith, ap, ◌∙◌, subst}
 use Rattle.std.specs.Borrow.{Bor}
 use Rattle.std.specs.List.Sorted.{IsSorted, IsPermutation}
@@ -27,6 +27,7 @@ referred-IsSorted (r ∷ rs) up k d low high =
     ap (λ x. is_lt (value_cmp x (get_or (referred (r ∷ rs)) k d))) next
     ∙ ap (λ y. is_lt (value_cmp (get_or (r ∷ rs) (k + 1) r).now y)) this ∙ up k r low within
 
+-- references sorted by a comparison that is that of values give the list of the bag
 pub referred-sorted : (cmp : Value → Value → Ordering) → cmp ≡ value_cmp
     → (xs : List Value) (rs ss : List (Bor Value)) → referred rs ≡ xs → IsPermutation rs ss
     → IsSorted (λ (x : Bor Value) (y : Bor Value). cmp x.now y.now) ss → referred ss ≡ bag_of xs
@@ -35,5 +36,3 @@ referred-sorted cmp same xs rs ss e p up =
     (referred-IsSorted ss (subst (λ (c : Value → Value → Ordering). IsSorted
     (λ (x : Bor Value) (y : Bor Value). c x.now y.now) ss) same up))
     ∙ ap bag_of e
-
--- the slice from k on, as the code takes it
