@@ -3,9 +3,9 @@ ghost use Rattle.flume_tokens.specs.declared.token.Token.{Token};
 ghost use Rattle.flume_grammar.specs.inner.Expressions as spec;
 
 use crate::operator::NOT;
-use crate::reading::at;
 use flume_grammar::start::Start;
 use flume_grammar::{Expr, ScriptKind, Side, Stop, Unary};
+use flume_reading::reading::at;
 use flume_tokens::{Keyword, Sign, Token, TokenKind};
 
 /// What a keyword begins.
