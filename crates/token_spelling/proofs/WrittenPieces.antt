@@ -77,7 +77,8 @@ text_piece_of : (content bs : List ℕ)
 text_piece_of content bs =
     text_begins ((escaped content ++ 34 ∷ []) ++ 32 ∷ bs)
     ∙ text_read content bs
-    ∙ ap (piece.Token (kind.Text content)) (omega (arith, length-append (escaped content) (34 ∷ [])))
+    ∙ ap (piece.Token (kind.Text content))
+    (omega (arith, length-append (escaped content) (34 ∷ [])))
 
 sign_piece_of : (s : Sign) (bs : List ℕ)
     → piece_of (sign_spelling s ++ 32 ∷ bs) ≡ piece.Token (kind.Sign s) (length (sign_spelling s))

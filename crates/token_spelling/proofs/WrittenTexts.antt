@@ -17,23 +17,29 @@ read_as content n = Some (content, n)
 same : (b c : ℕ) (xs : List ℕ) (n m : ℕ) → b ≡ c → n ≡ m → read_as (b ∷ xs) n ≡ read_as (c ∷ xs) m
 same b c xs n m e g = ap (λ d. read_as (d ∷ xs) n) e ∙ ap (read_as (c ∷ xs)) g
 
+-- a byte as it is written, by whether it is `"`, `\` or LF
+abbrev escape_by : Bool → Bool → Bool → ℕ → List ℕ
+escape_by quote backslash feed b =
+    if quote then 92 ∷ 34 ∷ [] else if backslash then 92 ∷ 92 ∷ [] else if feed then
+    92 ∷ 110 ∷ [] else b ∷ []
+
+-- what is written of a text is read as that text
+abbrev IsRead : List ℕ → List ℕ → Type 0
+IsRead content rest = closed_text false (escaped content ++ 34 ∷ rest)
+    ≡ Some (content, length (escaped content) + 1)
+
 -- those bytes and then a text as it is written are read as that text with one byte in front
 abbrev ReadAs : ℕ → List ℕ → List ℕ → List ℕ → Type 0
 ReadAs b content rest bs = closed_text false ((bs ++ escaped content) ++ 34 ∷ rest)
     ≡ Some (b ∷ content, length (bs ++ escaped content) + 1)
 
--- what is written of a text is read as that text
-pub closed : (content rest : List ℕ)
-    → closed_text false (escaped content ++ 34 ∷ rest) ≡ Some (content, length (escaped content) + 1)
+pub closed : (content rest : List ℕ) → IsRead content rest
 closed [] rest = refl
 closed (b ∷ content) rest =
     by (b == 34) refl (b == 92) refl (b == 10) refl (closed content rest)
   where
     by : (q : Bool) → (b == 34) ≡ q → (s : Bool) → (b == 92) ≡ s → (n : Bool) → (b == 10) ≡ n
-        → closed_text false (escaped content ++ 34 ∷ rest)
-        ≡ Some (content, length (escaped content) + 1)
-        → ReadAs b content rest (if q then 92 ∷ 34 ∷ [] else if s then 92 ∷ 92 ∷ [] else if n then 92 ∷ 110 ∷ []
-        else b ∷ [])
+        → IsRead content rest → ReadAs b content rest (escape_by q s n b)
     by true e s f n g h =
         ap (λ r. taken (with_byte (Some 34) r)) h
         ∙ same 34 b content _ _ (sym (eqb-true b 34 e)) (omega arith)
@@ -72,8 +78,7 @@ utf8_from run (b ∷ bs) u =
 
     by : (q : Bool) → (b == 34) ≡ q → (s : Bool) → (b == 92) ≡ s → (n : Bool) → (b == 10) ≡ n
         → ((front : List ℕ) → IsUtf8 (front ++ bs) → IsUtf8 (front ++ escaped bs))
-        → Written run bs (if q then 92 ∷ 34 ∷ [] else if s then 92 ∷ 92 ∷ [] else if n then 92 ∷ 110 ∷ []
-        else b ∷ [])
+        → Written run bs (escape_by q s n b)
     by true e s f n g rest = escape_of 34 34 e (lit≤ tt) (lit≤ tt) rest
     by false e true f n g rest = escape_of 92 92 f (lit≤ tt) (lit≤ tt) rest
     by false e false f true g rest = escape_of 10 110 g (lit≤ tt) (lit≤ tt) rest
@@ -99,8 +104,7 @@ inside (b ∷ content) =
         (All-cons (λ b. (b == 10) ≡ false) d [] g (All-nil (λ b. (b == 10) ≡ false)))
 
     by : (q s n : Bool) → (b == 10) ≡ n
-        → All (λ b. (b == 10) ≡ false) (if q then 92 ∷ 34 ∷ [] else if s then 92 ∷ 92 ∷ [] else
-        if n then 92 ∷ 110 ∷ [] else b ∷ [])
+        → All (λ b. (b == 10) ≡ false) (escape_by q s n b)
     by true s n g = pair 92 34 refl refl
     by false true n g = pair 92 92 refl refl
     by false false true g = pair 92 110 refl refl
