@@ -5,13 +5,12 @@ ghost use Rattle.flume_grammar.specs.Limits.{the_limits};
 ghost use Rattle.flume_grammar.specs.inner.Reads.{ReadsSuch, FitsSoFar};
 ghost use Rattle.flume_grammar.specs.inner.Expressions as spec;
 
-use crate::cursor::Cursor;
 use crate::expression::{expression, whole};
 use crate::operator::ANY;
-use crate::reading::sign;
-use crate::written::whole_type;
 use flume_grammar::parts::SoFar;
 use flume_grammar::{Expr, Side, Stop, Unary};
+use flume_reading::reading::sign;
+use flume_reading::{Cursor, whole_type};
 use flume_tokens::Sign;
 use flume_value::Held;
 use std::alloc::Global;

@@ -5,12 +5,12 @@ ghost use Rattle.flume_grammar.specs.inner.Reads.{Reads, ReadsSuch, PassesSuch, 
 ghost use Rattle.flume_grammar.specs.Operators as operators;
 ghost use Rattle.flume_grammar.specs.inner.Expressions as spec;
 
-use crate::cursor::Cursor;
 use crate::operand::operand;
 use crate::operator::{ANY, OPERAND, left_rank, operator_of, rank};
-use crate::reading::{at, sign, word};
 use flume_grammar::parts::{SoFar, Suffix};
 use flume_grammar::{Binary, Expr, ScriptKind, Stop};
+use flume_reading::Cursor;
+use flume_reading::reading::{at, sign, word};
 use flume_tokens::{Sign, TokenKind};
 use flume_value::Held;
 use std::alloc::{AllocError, Global};

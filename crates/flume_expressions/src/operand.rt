@@ -6,15 +6,15 @@ ghost use Rattle.flume_grammar.specs.inner.Types.{at_comma};
 ghost use Rattle.flume_grammar.specs.inner.Expressions as spec;
 
 use crate::calls::{call, concat, empty, pick, sided};
-use crate::cursor::Cursor;
 use crate::expression::{continued, expression, whole};
 use crate::operator::{ANY, NEGATION, NOT};
-use crate::reading::{comma, sign, word};
 use crate::start::operand_start;
 use flume_grammar::limits::{MAX_FIELDS, MAX_MEMBERS};
 use flume_grammar::parts::{Parts, SoFar};
 use flume_grammar::start::Start;
 use flume_grammar::{Expr, Stop, Unary};
+use flume_reading::Cursor;
+use flume_reading::reading::{comma, sign, word};
 use flume_tokens::Sign;
 use flume_value::{Held, Pile};
 use std::alloc::{AllocError, Global};

@@ -3,9 +3,9 @@ ghost use Rattle.flume_tokens.specs.declared.token.Token.{Token};
 ghost use Rattle.flume_grammar.specs.inner.Expressions as spec;
 
 use crate::operator::NOT;
-use crate::reading::at;
 use flume_grammar::start::Start;
 use flume_grammar::{Expr, ScriptKind, Side, Stop, Unary};
+use flume_reading::reading::at;
 use flume_tokens::{Keyword, Sign, Token, TokenKind};
 
 /// What a keyword begins.
@@ -58,7 +58,17 @@ fn fits(start: &Start, least: u32) -> bool
     ensures { result ≡ spec.fits start.now least }
 {
     match start {
-        Start::Prefix(Unary::Not) => least <= NOT,
+        Start::Prefix(unary) => prefix_fits(*unary, least),
+        _ => true,
+    }
+}
+
+/// The same of an operator before its operand.
+fn prefix_fits(unary: Unary, least: u32) -> bool
+    ensures { result ≡ spec.fits (Start.Prefix unary) least }
+{
+    match unary {
+        Unary::Not => least <= NOT,
         _ => true,
     }
 }

@@ -7,8 +7,8 @@ ghost use Rattle.flume_grammar.specs.inner.Answer as inner;
 ghost use Rattle.flume_grammar.specs.inner.Statements.{script_at};
 
 use crate::statement::script;
-use flume_expressions::Cursor;
 use flume_grammar::{Ast, ScriptFault, ScriptKind, Stop};
+use flume_reading::Cursor;
 use flume_tokens::{Refusal, TokenFault, TokenList, tokens};
 use std::alloc::Global;
 

@@ -27,18 +27,18 @@ after_first zero line b bs h = absurd (omega arith)
 after_first (suc k) line b bs h = let e : suc k - 1 ≡ k = omega arith in
     ap (λ n. tokens_from n line bs) e ∙ skipped k line bs
 
-next_LineEnd : (line : ℕ) (bs : List ℕ) → 0 < length bs → piece.LineEnd ≡ piece_of bs
+pub next_LineEnd : (line : ℕ) (bs : List ℕ) → 0 < length bs → piece.LineEnd ≡ piece_of bs
     → tokens_from 0 line bs ≡ tokens_from 0 (line + 1) (drop 1 bs)
 next_LineEnd line [] h e = absurd (omega arith)
 next_LineEnd line (b ∷ bs) h e = ap (and_on line (λ left n. tokens_from left n bs)) (sym e)
 
-next_Gap : (k line : ℕ) (bs : List ℕ) → 0 < length bs → 1 ≤ k → piece.Gap k ≡ piece_of bs
+pub next_Gap : (k line : ℕ) (bs : List ℕ) → 0 < length bs → 1 ≤ k → piece.Gap k ≡ piece_of bs
     → tokens_from 0 line bs ≡ tokens_from 0 line (drop k bs)
 next_Gap k line [] h g e = absurd (omega arith)
 next_Gap k line (b ∷ bs) h g e = ap (and_on line (λ left n. tokens_from left n bs)) (sym e)
     ∙ after_first k line b bs g
 
-next_Token : (kind : TokenKind) (k line : ℕ) (bs : List ℕ) → 0 < length bs → 1 ≤ k
+pub next_Token : (kind : TokenKind) (k line : ℕ) (bs : List ℕ) → 0 < length bs → 1 ≤ k
     → piece.Token kind k ≡ piece_of bs
     → tokens_from 0 line bs ≡ ahead (record { kind = kind; line = line } ∷ [])
     (tokens_from 0 line (drop k bs))

@@ -34,3 +34,5 @@ unfolding tokens_of
 cut bs h g =
     second (nat_lt 65536 (length bs)) _ _ (le-ltb 65536 (length bs) h)
     ∙ second (not (is_utf8 bs)) _ _ (ap not (is_utf8-from_IsUtf8 bs g))
+
+pub ruleset cut_rules = (refused, cut)

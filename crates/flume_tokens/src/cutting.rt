@@ -87,7 +87,7 @@ fn listed(alloc: Global, bytes: &[u8]) -> Result<TokenList, TokenFault>
 /// bytes; Utf8 at the line of the first byte that is not part of UTF-8; else Token, where no token
 /// begins or a text is not closed on its line, or TooLong, where a word has more than 32 bytes,
 /// whichever comes first.
-#[tactic(auto, using(crate::proofs::Whole::refused, crate::proofs::Whole::cut), unfolding(crate::specs::Tokens::tokens_of))]
+#[tactic(auto, using(crate::proofs::Whole::cut_rules), unfolding(crate::specs::Tokens::tokens_of))]
 pub fn tokens(alloc: Global, bytes: &[u8]) -> Result<TokenList, TokenFault>
     ensures ok { IfOk result (λ ts. spec.tokens_of bytes.now ≡ Ok ts) }
     ensures err { IfErr result (λ e. e ≢ TokenFault.Memory → spec.tokens_of bytes.now ≡ Err e) }

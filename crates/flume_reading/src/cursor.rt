@@ -27,6 +27,7 @@ impl Model for Cursor {
 }
 
 impl Cursor {
+    /// All tokens of a script are left.
     pub fn new(tokens: Pile<Token>) -> Cursor
         ensures { result ≡ tokens }
     {
@@ -35,6 +36,7 @@ impl Cursor {
         Cursor { tokens }
     }
 
+    /// How many tokens are left.
     pub fn len(&self) -> usize
         ensures { result ≡ length self.now }
     {
@@ -66,6 +68,7 @@ impl Cursor {
         }
     }
 
+    /// Whether the next token is this sign.
     pub fn is_at_sign(&self, sign: Sign) -> bool
         ensures { result ≡ spec.is_at_sign sign (next self.now) }
     {
@@ -75,6 +78,7 @@ impl Cursor {
         }
     }
 
+    /// Whether the next token is this keyword.
     pub fn is_at_keyword(&self, keyword: Keyword) -> bool
         ensures { result ≡ spec.is_at_keyword keyword (next self.now) }
     {
@@ -84,6 +88,7 @@ impl Cursor {
         }
     }
 
+    /// Whether any token is left.
     pub fn has_more(&self) -> bool
         ensures value { result ≡ is_some (next self.now) }
         ensures end { result ≡ false → self.now ≡ [] }

@@ -19,6 +19,7 @@ pub fn at(line: u32, kind: ScriptKind) -> Stop
     }
 }
 
+/// This sign.
 pub fn sign(tokens: &mut Cursor, sign: Sign) -> Result<(), Stop>
     ensures { Reads (one (spec.sign_at sign)) tokens.old tokens.new result }
 {
@@ -29,6 +30,7 @@ pub fn sign(tokens: &mut Cursor, sign: Sign) -> Result<(), Stop>
     }
 }
 
+/// This keyword.
 pub fn keyword(tokens: &mut Cursor, keyword: Keyword) -> Result<(), Stop>
     ensures { Reads (one (spec.keyword_at keyword)) tokens.old tokens.new result }
 {
@@ -39,6 +41,7 @@ pub fn keyword(tokens: &mut Cursor, keyword: Keyword) -> Result<(), Stop>
     }
 }
 
+/// A name.
 pub fn name(tokens: &mut Cursor) -> Result<Str, Stop>
     ensures { Reads (one (spec.name_at)) tokens.old tokens.new result }
 {
@@ -61,6 +64,7 @@ pub fn word(alloc: Global, tokens: &mut Cursor) -> Result<Str, Stop>
     }
 }
 
+/// A number's digits, as they are written.
 pub fn number(tokens: &mut Cursor) -> Result<Str, Stop>
     ensures { Reads (one (spec.number_at)) tokens.old tokens.new result }
 {
@@ -71,6 +75,7 @@ pub fn number(tokens: &mut Cursor) -> Result<Str, Stop>
     }
 }
 
+/// A text's content.
 pub fn text(tokens: &mut Cursor) -> Result<Str, Stop>
     ensures { Reads (one (spec.text_at)) tokens.old tokens.new result }
 {

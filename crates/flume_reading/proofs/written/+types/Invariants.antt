@@ -3,7 +3,7 @@ use Rattle.flume_grammar.specs.Limits.{the_limits}
 use Rattle.flume_grammar.specs.inner.Out.{all_of}
 use Rattle.flume_grammar.specs.inner.Types.{at_comma, next_field_type, type_below}
 use Rattle.flume_grammar.proofs.Loops.{Reaches}
-use Rattle.flume_expressions.proofs.written.+types.Given as goal
+use Rattle.flume_reading.proofs.written.+types.Given as goal
 
 abbrev pub decreases-type_of : goal.decreases-type_of
 decreases-type_of l = 6 * l.limit + 5

@@ -3,7 +3,7 @@ use Rattle.std.proofs.lemmas.Result.{err_from_is_err_and}
 use Rattle.flume_grammar.specs.Limits.{the_limits}
 use Rattle.flume_grammar.specs.inner.Types.{at_comma, next_field_type, type_below}
 use Rattle.flume_grammar.proofs.Loops.{reaches_start, reaches_fault}
-use Rattle.flume_expressions.proofs.written.+types.Goals as goal
+use Rattle.flume_reading.proofs.written.+types.Goals as goal
 
 pub more_field_types-more-init : goal.more_field_types-more-init
 more_field_types-more-init t c = record {

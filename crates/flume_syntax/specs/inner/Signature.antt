@@ -1,0 +1,22 @@
+-- What is left of a function's signature.
+use Rattle.std.specs.Prelude.{ℕ, List}
+use Rattle.flume_tokens.specs.declared.sign.Sign.TheVariants.{Arrow, Close, Colon}
+use Rattle.flume_tokens.specs.declared.token.Token.{Token}
+use Rattle.flume_grammar.specs.Limits.{Limits}
+use Rattle.flume_grammar.specs.Parts.{Tree}
+use Rattle.flume_grammar.specs.inner.Out.{Out, give, bind, one}
+use Rattle.flume_grammar.specs.inner.Reading.{sign_at}
+use Rattle.flume_grammar.specs.inner.Types.{whole_type}
+
+module _ (limits : Limits) (argument : List ℕ) where
+  -- after the parameter, of this name and type: `-> type`
+  abbrev pub after_parameter : Tree → List Token → Out (List ℕ × Tree × Tree)
+  after_parameter takes ts =
+      bind (one (sign_at Arrow) ts) (λ _ us. bind (whole_type limits us) (λ gives vs.
+      give (argument, takes, gives) vs))
+
+  -- after the name of the argument: `: type) -> type`
+  abbrev pub after_argument : List Token → Out (List ℕ × Tree × Tree)
+  after_argument ts =
+      bind (one (sign_at Colon) ts) (λ _ us. bind (whole_type limits us) (λ takes vs.
+      bind (one (sign_at Close) vs) (λ _ ws. after_parameter takes ws)))

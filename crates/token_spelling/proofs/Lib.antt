@@ -1,0 +1,9 @@
+pub mod Branches
+pub mod Runs
+pub mod Bytes
+pub mod WrittenWords
+pub mod WrittenTexts
+pub mod WrittenPieces
+pub mod CutAgain
+pub mod LastLines
+pub mod FoundTokens
