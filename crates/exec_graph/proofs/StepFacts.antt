@@ -1,9 +1,8 @@
 -- What a step gives, in the words of functions and of combiners.
-use Rattle.std.proofs.Common.{◌≡◌, ℕ, List, [], ◌∷◌, ◌++◌, map, Result, Ok, Err, refl, sym, ap, ◌∙◌}
-use Rattle.std.specs.List.{flat_map}
+use Rattle.std.proofs.Common.{◌≡◌, ℕ, List, [], ◌∷◌, ◌++◌, map, Option, Some, None, Result, Ok, Err, refl, sym, ap, ◌∙◌}
+use Rattle.std.specs.List.{cons_option, flat_map}
 use Rattle.std.proofs.lemmas.List.{map-append}
-use Rattle.bag_groups.specs.Pairs.{key_of}
-use Rattle.bag_groups.specs.Combining.{combined_each, combined_list, combined_pair, trapped_key, traps_of_each}
+use Rattle.bag_groups.specs.Combining.{combined_each, combined_pair, group_of, groups_in, trapped_key, traps_of_each}
 use Rattle.combine_table.specs.Combinations.{combined}
 use Rattle.combine_table.specs.declared.comb.Comb.{Comb}
 use Rattle.dofn_eval.specs.Function.{Function}
@@ -12,7 +11,7 @@ use Rattle.dofn_eval.specs.Run.{means}
 use Rattle.flume_value.specs.Bag.{bag_of}
 use Rattle.flume_value.specs.declared.fault.Kind.{Kind}
 use Rattle.flume_value.specs.declared.value.Value.{Value}
-use Rattle.exec_graph.specs.Calls.{called, emissions, emitted_by, of_call, of_combine, trap_named, trap_of, trapped_by}
+use Rattle.exec_graph.specs.Calls.{called, emissions, emitted_by, of_call, of_combine, of_group, trap_named, trap_of, trapped_by}
 use Rattle.exec_graph.specs.Traps.{Trap}
 use Rattle.exec_graph.specs.declared.step.Does.TheVariants as does
 use Rattle.exec_graph.specs.declared.step.Table.{Table}
@@ -51,31 +50,48 @@ key_trapped : (n : ℕ) (k : Value) (r : Result Value Kind)
 key_trapped n k (Ok v) = refl
 key_trapped n k (Err kind) = refl
 
-one_emitted : (c : Comb) (table : Table) (x : Value)
-    → emitted_by (does.Combine c table) 0 x
-    ≡ combined_pair (key_of x) (combined_list (combined c) x)
-unfolding emitted_by called
-one_emitted c table x = pair_emitted (key_of x) (combined_list (combined c) x)
+-- the pair that a group comes to, and its trap
+abbrev pair_of : Comb → Value × List Value → List Value
+pair_of c group = combined_pair group.0 (combined c (bag_of group.1))
 
-one_trapped : (n : ℕ) (c : Comb) (table : Table) (x : Value)
-    → trapped_by n (does.Combine c table) x
-    ≡ map (trap_named n) (trapped_key (key_of x) (combined_list (combined c) x))
-unfolding trapped_by called
-one_trapped n c table x = key_trapped n (key_of x) (combined_list (combined c) x)
+abbrev key_trap : Comb → Value × List Value → List (Kind × Value)
+key_trap c group = trapped_key group.0 (combined c (bag_of group.1))
+
+one_emitted : (c : Comb) (group : Option (Value × List Value)) (groups : List (Value × List Value))
+    (vs : List Value) → vs ≡ flat_map (pair_of c) groups
+    → emissions 0 (of_group c group) ++ vs ≡ flat_map (pair_of c) (cons_option group groups)
+one_emitted c None groups vs e = e
+one_emitted c (Some g) groups vs e = λ i. pair_emitted g.0 (combined c (bag_of g.1)) i ++ e i
+
+one_trapped : (n : ℕ) (c : Comb) (group : Option (Value × List Value))
+    (groups : List (Value × List Value)) (ts : List Trap)
+    → ts ≡ map (trap_named n) (flat_map (key_trap c) groups)
+    → trap_of n (of_group c group) ++ ts
+    ≡ map (trap_named n) (flat_map (key_trap c) (cons_option group groups))
+one_trapped n c None groups ts e = e
+one_trapped n c (Some g) groups ts e =
+    (λ i. key_trapped n g.0 (combined c (bag_of g.1)) i ++ e i)
+    ∙ sym (map-append (trap_named n) (key_trap c g) (flat_map (key_trap c) groups))
+
+all_emitted : (c : Comb) (table : Table) (pairs : List Value)
+    → flat_map (emitted_by (does.Combine c table) 0) pairs
+    ≡ flat_map (pair_of c) (groups_in pairs)
+unfolding emitted_by called
+all_emitted c table [] = refl
+all_emitted c table (x ∷ xs) =
+    one_emitted c (group_of x) (groups_in xs)
+    (flat_map (emitted_by (does.Combine c table) 0) xs) (all_emitted c table xs)
 
 pub combine_emits : (c : Comb) (table : Table) (pairs : List Value)
     → bag_of (flat_map (emitted_by (does.Combine c table) 0) pairs)
     ≡ combined_each (combined c) pairs
-combine_emits c table pairs =
-    ap (λ (f : Value → List Value). bag_of (flat_map f pairs)) (λ i. λ x. one_emitted c table x i)
+combine_emits c table pairs = ap bag_of (all_emitted c table pairs)
 
 pub combine_traps : (n : ℕ) (c : Comb) (table : Table) (pairs : List Value)
     → flat_map (trapped_by n (does.Combine c table)) pairs
     ≡ map (trap_named n) (traps_of_each (combined c) pairs)
+unfolding trapped_by called
 combine_traps n c table [] = refl
 combine_traps n c table (x ∷ xs) =
-    let one : List (Kind × Value) = trapped_key (key_of x) (combined_list (combined c) x) in
-    ap (λ (ts : List Trap). ts ++ flat_map (trapped_by n (does.Combine c table)) xs)
-    (one_trapped n c table x)
-    ∙ ap (λ (ts : List Trap). map (trap_named n) one ++ ts) (combine_traps n c table xs)
-    ∙ sym (map-append (trap_named n) one (traps_of_each (combined c) xs))
+    one_trapped n c (group_of x) (groups_in xs)
+    (flat_map (trapped_by n (does.Combine c table)) xs) (combine_traps n c table xs)

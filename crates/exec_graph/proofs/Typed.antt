@@ -1,11 +1,11 @@
 -- What a typed step emits of a value of its type has the type that it gives.
 use Rattle.std.proofs.Common.{Bool, true, false, cond, Option, Some, None, ◌<◌, map, sym, eqb, arith}
-use Rattle.std.specs.List.{flat_map, AllByRecursion, AllByRecursion as Each}
+use Rattle.std.specs.List.{cons_option, flat_map, AllByRecursion, AllByRecursion as Each}
 use Rattle.bag_groups.specs.Groups.{grouped}
 use Rattle.exec_graph.specs.declared.step.Table.{Table}
 use Rattle.exec_graph.specs.Traps.{Trap}
 use Rattle.exec_graph.proofs.Entries.{all_found}
-use Rattle.exec_graph.specs.Calls.{emitted, called, of_call, of_combine, emissions, emitted_by}
+use Rattle.exec_graph.specs.Calls.{emitted, called, of_call, of_combine, of_group, emissions, emitted_by}
 use Rattle.exec_graph.specs.Forests.{Label, Forest, Bare, Grow}
 use Rattle.exec_graph.specs.Meaning.{Rows, Collection, collection, through, unless_trapped, place, FitsForest, Holds, Meets, node_at, reads, IsRankedBy, is_out, has_out}
 use Rattle.exec_graph.specs.Typing.{IsTypedForest, IsTypedNode, out_type, at_zero, type_at, type_of, pairs_of, groups_of, takes_of, gives_of, IsApt, IsCallable, AreCallable, IsNodeCallable, RowsHave, IsTypedRun}
@@ -13,6 +13,7 @@ use Rattle.exec_graph.specs.declared.graph.Node.{Node}
 use Rattle.exec_graph.specs.declared.graph.Node.TheVariants.{Source, Flatten, Pdo, Gbk}
 use Rattle.exec_graph.specs.declared.graph.Entry.{Entry}
 use Rattle.std.proofs.lemmas.Bool.{eqb-true}
+use Rattle.flume_value.specs.Bag.{bag_of}
 use Rattle.flume_value.proofs.BagLemmas.{Each-bag_of}
 use Rattle.exec_graph.specs.declared.graph.Place.{Place}
 use Rattle.std.proofs.Common.{◌≡◌, ℕ, zero, suc, List, [], ◌∷◌, Result, Ok, Err, refl, subst, append-nil}
@@ -25,8 +26,8 @@ use Rattle.dofn_eval.specs.Outcome.{Outcome, Gives, Traps, Stuck}
 use Rattle.dofn_eval.specs.Run.{means}
 use Rattle.flume_types.specs.Typing.{Has, AllHave}
 use Rattle.dofn_eval.proofs.Sound.{typed_call}
-use Rattle.bag_groups.specs.Pairs.{key_of}
-use Rattle.bag_groups.specs.Combining.{combined_list, combined_pair}
+use Rattle.bag_groups.specs.Combining.{combined_pair, group_of}
+use Rattle.combine_table.specs.declared.comb.Comb.{Comb}
 use Rattle.combine_table.specs.Combinations.{combined}
 use Rattle.keyed_steps.proofs.TypedFacts.{combined_pairs_have, groups_have}
 use Rattle.exec_graph.specs.declared.step.Does.{Does}
@@ -56,6 +57,19 @@ combine_typed : (t : Ty) (n : ℕ) (k : Value) (r : Result Value Kind)
 combine_typed t n k (Ok v) h = one_list t (combined_pair k (Ok v)) n h
 combine_typed t n k (Err kind) h = tt
 
+-- what one group comes to
+abbrev one_pair : Comb → Option (Value × List Value) → List Value
+one_pair c group =
+    flat_map (λ (g : Value × List Value). combined_pair g.0 (combined c (bag_of g.1)))
+    (cons_option group [])
+
+group_typed : (t : Ty) (n : ℕ) (c : Comb) (group : Option (Value × List Value))
+    → Each (Has t) (one_pair c group) → Each (Has t) (emissions n (of_group c group))
+group_typed t n c None h = no_list t n
+group_typed t n c (Some g) h =
+    let r : Result Value Kind = combined c (bag_of g.1) in
+    combine_typed t n g.0 r (subst (Each (Has t)) (append-nil (combined_pair g.0 r)) h)
+
 pub step_typed : (d : Does) (n : ℕ) (x : Value) → IsCallable d → IsApt d → Has (takes_of d) x
     → Each (Has (gives_of d n)) (emitted_by d n x)
 unfolding emitted_by called
@@ -63,10 +77,8 @@ step_typed (does.Call f) n x c a h = call_typed f.gives n x (means f.body x)
     (λ vs e. typed_call f.takes f.gives f.body x vs c h e)
 step_typed (does.Combine k tb) n x c a h =
     let g : Does = does.Combine k tb in
-    combine_typed (gives_of g n) n (key_of x) (combined_list (combined k) x)
-    (subst (Each (Has (gives_of g n))) (append-nil
-    (combined_pair (key_of x) (combined_list (combined k) x)))
-    (combined_pairs_have k tb.key tb.value (x ∷ []) (h, tt)))
+    group_typed (gives_of g n) n k (group_of x)
+    (combined_pairs_have k tb.key tb.value (x ∷ []) (h, tt))
 
 each_flat : (P Q : Value → Type 0) (f : Value → List Value) → ((x : Value) → P x → Each Q (f x))
     → (xs : List Value) → Each P xs → Each Q (flat_map f xs)

@@ -5,9 +5,11 @@ use Rattle.flume_value.specs.declared.value.Value.{Value}
 use Rattle.flume_value.specs.declared.fault.Kind.{Kind}
 use Rattle.dofn_eval.specs.Outcome.{Outcome, Gives, Traps, Stuck}
 use Rattle.dofn_eval.specs.Run.{means}
-use Rattle.bag_groups.specs.Pairs.{pair, key_of}
-use Rattle.bag_groups.specs.Combining.{combined_list}
+use Rattle.flume_value.specs.Bag.{bag_of}
+use Rattle.bag_groups.specs.Pairs.{pair}
+use Rattle.bag_groups.specs.Combining.{group_of}
 use Rattle.combine_table.specs.Combinations.{combined}
+use Rattle.combine_table.specs.declared.comb.Comb.{Comb}
 use Rattle.exec_graph.specs.declared.step.Does.{Does}
 use Rattle.exec_graph.specs.declared.step.Does.TheVariants as does
 use Rattle.exec_graph.specs.Traps.{Trap}
@@ -28,9 +30,14 @@ abbrev pub of_combine : Value → Result Value Kind → Called
 of_combine k (Ok v) = Ok ((pair k v ∷ []) ∷ [])
 of_combine k (Err kind) = Err (kind, k)
 
+-- the bag of a group's list is combined; what is no pair of a key and a list gives nothing
+abbrev pub of_group : Comb → Option (Value × List Value) → Called
+of_group c None = Ok []
+of_group c (Some group) = of_combine group.0 (combined c (bag_of group.1))
+
 unfoldable pub called : Does → Value → Called
 called (does.Call f) x = of_call x (means f.body x)
-called (does.Combine c table) x = of_combine (key_of x) (combined_list (combined c) x)
+called (does.Combine c table) x = of_group c (group_of x)
 
 abbrev pub or_none : Option (List Value) → List Value
 or_none None = []
