@@ -58,17 +58,7 @@ fn fits(start: &Start, least: u32) -> bool
     ensures { result ≡ spec.fits start.now least }
 {
     match start {
-        Start::Prefix(unary) => prefix_fits(*unary, least),
-        _ => true,
-    }
-}
-
-/// The same of an operator before its operand.
-fn prefix_fits(unary: Unary, least: u32) -> bool
-    ensures { result ≡ spec.fits (Start.Prefix unary) least }
-{
-    match unary {
-        Unary::Not => least <= NOT,
+        Start::Prefix(Unary::Not) => least <= NOT,
         _ => true,
     }
 }
