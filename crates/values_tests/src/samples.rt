@@ -38,13 +38,28 @@ pub(crate) fn record(alloc: Global) -> Result<Value, AllocError> {
 /// A value of each variant, in the order of values.
 pub(crate) fn of_each_variant(alloc: Global) -> Result<Vec<Value>, AllocError> {
     let mut values = Vec::new(alloc);
+    push_cells(alloc, &mut values)?;
+    push_lists(alloc, &mut values)?;
+    push_sides(alloc, &mut values)?;
+    values.push(Value::Wide(-1))?;
+    Ok(values)
+}
+
+fn push_cells(alloc: Global, values: &mut Vec<Value>) -> Result<(), AllocError> {
     values.push(Value::Int(-2))?;
     values.push(Value::Bool(true))?;
     values.push(text(alloc, b"hi")?)?;
+    Ok(())
+}
+
+fn push_lists(alloc: Global, values: &mut Vec<Value>) -> Result<(), AllocError> {
     values.push(Value::List(Pile::new(alloc)))?;
     values.push(record(alloc)?)?;
+    Ok(())
+}
+
+fn push_sides(alloc: Global, values: &mut Vec<Value>) -> Result<(), AllocError> {
     values.push(left(alloc)?)?;
     values.push(right(alloc)?)?;
-    values.push(Value::Wide(-1))?;
-    Ok(values)
+    Ok(())
 }
