@@ -1,5 +1,5 @@
 -- The slots of a body are well typed, and emit what it emits.
-use Rattle.std.proofs.Common.{◌≡◌, Bool, Option, Some, None, List, [], ◌∷◌, ◌++◌, map, refl, sym, ap, ◌∙◌, subst, append-nil, append_assoc}
+use Rattle.std.proofs.Common.{◌≡◌, Option, Some, None, List, [], ◌∷◌, ◌++◌, map, refl, sym, ap, ◌∙◌, subst, append-nil, append_assoc}
 use Rattle.std.specs.Prelude.{option_map}
 use Rattle.flume_value.specs.declared.value.Value.{Value}
 use Rattle.flume_types.specs.declared.types.Ty.{Ty}
@@ -14,7 +14,7 @@ use Rattle.written_types.specs.Options.{◌>>=◌, where_true}
 use Rattle.written_types.specs.Types.{Scope}
 use Rattle.flume_types.specs.Equality.{type_eq}
 use Rattle.dofn_check.specs.Typing.{type_in, unseen, after_all, layer_after, after as names_after}
-use Rattle.dofn_check.specs.Call.{State, state, given_in, run_all, block, after, layer_emitted, emitted_in}
+use Rattle.dofn_check.specs.Call.{State, state, given_in, run_all, block, layer_emitted, emitted_in}
 use Rattle.dofn_check.specs.inner.Slots.{Placed, block_slots, block as block_of, layer_placed, placed_of}
 use Rattle.dofn_check.proofs.FormLemmas.{emitted_in-step, after-step}
 use Rattle.dofn_check.proofs.SlotLemmas.{placed_of-step}
@@ -56,8 +56,8 @@ module _ (gives : Ty) (scope : Scope) (ks : List Stmt) where
     ap (λ o. o >>= λ next. more_names next) h.0 ∙ has,
     h.1 more td,
     λ vs out. ap (λ o. then o rest) (h.2 vs out)
-    ∙ named_then x.1 (slots.run_one x.0 (slots.state vs out)) rest
-    (slots.run_all slots.run_one more) found.1 same,
+        ∙ named_then x.1 (slots.run_one x.0 (slots.state vs out)) rest
+        (slots.run_all slots.run_one more) found.1 same,
   )
 
   next_of : (o : Option Placed) (names : Option Scope) (does : State → Outcome State)
@@ -86,8 +86,8 @@ as_block gives scope (Some x) names does (more, is, has, td, same) = (
   (x.1, has),
   subst (λ ks. BlockTyped (types scope) ks gives) (sym is) td,
   λ vs out. ap (λ o. then o (λ s. Gives s.out)) (same vs out)
-  ∙ emitted_named x.1 (slots.run_all slots.run_one more (slots.state vs out))
-  ∙ ap (λ ks. slots.run ks vs out) (sym is),
+      ∙ emitted_named x.1 (slots.run_all slots.run_one more (slots.state vs out))
+      ∙ ap (λ ks. slots.run ks vs out) (sym is),
 )
 
 -- ---- every body
@@ -182,8 +182,11 @@ module _ (known : Scope) (gives : Ty) where
       (emitted_in known b)
   from_form b scope h =
       subst (AsFound scope)
-      (λ i. (sym (placed_of-step known gives b scope) i, sym (after-step known gives b scope) i,
-      λ s. sym (emitted_in-step known b s) i)) h
+      (λ i. (
+        sym (placed_of-step known gives b scope) i,
+        sym (after-step known gives b scope) i,
+        λ s. sym (emitted_in-step known b s) i,
+      )) h
 
   right_body : (b : Body) → RightBody b
   right_body =

@@ -1,8 +1,6 @@
 -- The slots of an expression have its type, and give what it gives.
-use Rattle.std.proofs.Common.{◌≡◌, Bool, Option, Some, None, List, [], ◌∷◌, map, refl, sym, ◌∙◌, subst}
+use Rattle.std.proofs.Common.{◌≡◌, Option, Some, None, List, [], ◌∷◌, map, refl, sym, ◌∙◌, subst}
 use Rattle.flume_types.specs.declared.types.Ty.{Ty}
-use Rattle.flume_types.specs.declared.types.Field.{Field}
-use Rattle.flume_grammar.specs.declared.tree.Unary.{Unary}
 use Rattle.flume_grammar.specs.declared.tree.Side.{Side}
 use Rattle.flume_grammar.specs.declared.tree.Expr.{Expr, Expr-F, out-Expr, roll-Expr, out-roll-Expr, map-Expr, ind-Expr}
 use Rattle.int_text.specs.Ints.{int_of}
@@ -116,8 +114,11 @@ module _ (known : Scope) where
       IsRight scope (slots_of known e scope) (type_in known e scope) (given_in known e)
   from_form e scope h =
       subst (AsFound scope)
-      (λ i. (sym (slots_of-step known e scope) i, sym (type_in-step known e scope) i,
-      λ env. sym (given_in-step known e env) i)) h
+      (λ i. (
+        sym (slots_of-step known e scope) i,
+        sym (type_in-step known e scope) i,
+        λ env. sym (given_in-step known e env) i,
+      )) h
 
   pub right : (e : Expr) → RightExpr e
   right =

@@ -1,6 +1,5 @@
 -- The types of expressions and what they give, one level at a time.
 use Rattle.std.proofs.Common.{◌≡◌, Option, Some, List, [], ◌∷◌, ◌++◌, map, refl, ap, ◌∙◌}
-use Rattle.std.specs.Prelude.{option_map, option_and_then}
 use Rattle.flume_value.specs.declared.value.Value.{Value}
 use Rattle.flume_value.specs.declared.value.Value.TheVariants as value
 use Rattle.flume_types.specs.declared.types.Ty.{Ty}
@@ -11,13 +10,13 @@ use Rattle.dofn_eval.specs.Operations.{chosen}
 use Rattle.dofn_eval.proofs.MeaningLemmas.{then_same}
 use Rattle.written_types.specs.Options.{◌>>=◌, where_true}
 use Rattle.written_types.specs.Fields.{member_type, side_types}
-use Rattle.written_types.specs.Types.{Scope, all_types}
+use Rattle.written_types.specs.Types.{Scope}
 use Rattle.written_types.proofs.WrittenLemmas.{types_mapped}
 use Rattle.flume_types.specs.Equality.{type_eq}
 use Rattle.typed_forms.specs.FormTypes.{record_type, list_type}
 use Rattle.dofn_check.specs.Typing.{layer_type, type_in, unseen, after_all, layer_after, after as names_after}
 use Rattle.flume_types.specs.declared.types.Ty.TheVariants as ty
-use Rattle.dofn_check.specs.Call.{Thing, Environment, State, state, valued, typed, all_given, layer_given, given_in, run_all, Emits, block, for_each, by_side, after, layer_emitted, emitted_in}
+use Rattle.dofn_check.specs.Call.{Thing, Environment, State, state, valued, typed, all_given, layer_given, given_in, run_all, block, for_each, by_side, after, layer_emitted, emitted_in}
 
 given_mapped : {X : Type 0} (f : X → Environment → Outcome Thing) (xs : List X) (env : Environment)
     (ts : List Ty) (vs : List Value) →

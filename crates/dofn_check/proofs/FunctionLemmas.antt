@@ -1,5 +1,5 @@
 -- A function whose body has slots is well typed, and means what its slots do.
-use Rattle.std.proofs.Common.{◌≡◌, ℕ, Bool, true, false, Option, Some, None, Result, Err, List, [], ◌∷◌, is_some, refl, sym, ap, ◌∙◌, subst}
+use Rattle.std.proofs.Common.{◌≡◌, ℕ, true, false, Option, Some, None, Result, Err, List, [], ◌∷◌, is_some, refl, sym, ap, subst}
 use Rattle.flume_value.specs.declared.value.Value.{Value}
 use Rattle.flume_types.specs.declared.types.Ty.{Ty}
 use Rattle.flume_types.specs.Typing.{Has}
@@ -13,7 +13,7 @@ use Rattle.written_types.specs.declared.refusal.Refusal.{Refusal}
 use Rattle.written_types.specs.declared.refusal.Refusal.TheVariants.{NotAccepted, Memory}
 use Rattle.written_types.specs.Types.{Scope}
 use Rattle.dofn_check.specs.Typing.{after_all, after, are_typed}
-use Rattle.dofn_check.specs.Call.{Emits, block, emitted_in, Function, means}
+use Rattle.dofn_check.specs.Call.{block, emitted_in, Function, means}
 use Rattle.written_types.specs.Answers.{Finds}
 use Rattle.dofn_check.specs.inner.Slots.{placed_of, block as block_of}
 use Rattle.dofn_check.proofs.StatementLemmas.{IsBlock}

@@ -23,7 +23,7 @@ use Rattle.written_types.specs.Types.{Scope, shallow}
 use Rattle.typed_forms.specs.FormTypes.{empty_type}
 use Rattle.dofn_check.specs.Call.{Thing, Environment, tagged, typed, dotted}
 use Rattle.written_types.specs.Places.{further, place_in}
-use Rattle.typed_forms.specs.Forms.{Typed, literal, variable, empty, field, fields, members}
+use Rattle.typed_forms.specs.Forms.{Typed, literal, variable, empty, field}
 use Rattle.typed_forms.proofs.TypeLemmas.{where_same, record_type_is}
 use Rattle.dofn_check.proofs.RightLemmas.{types, bound, IsRight, right_made, same_one}
 
@@ -81,9 +81,12 @@ from_placed : (scope : Scope) (o : Option (ℕ × Ty)) (type : Option Ty)
     (given : Environment → Outcome Thing) → IsPlaced scope o type given →
     IsRight scope (option_map (λ at. (expr.Variable at.0, at.1)) o) type given
 from_placed scope None type given h = h
-from_placed scope (Some at) type given h =
-    (h.0, typing.variable at.0 h.1, λ vs. h.2 vs
-    ∙ ap (tagged at.1) (sym (value_of-Variable at.0 vs)))
+from_placed scope (Some at) type given h = (
+  h.0,
+  typing.variable at.0 h.1,
+  λ vs. h.2 vs
+      ∙ ap (tagged at.1) (sym (value_of-Variable at.0 vs)),
+)
 
 pub right_name : (name : List ℕ) (scope : Scope) →
     IsRight scope (variable name scope) (look name scope) (λ env. with_part (look name env) Gives)
@@ -140,10 +143,10 @@ right_field name scope (Some x) type given h = field_by (place_under name x.1) r
         ∙ ap (λ o. o >>= λ at. Some at.1) e
     field_by (Some at) e = (
       ap (λ o. o >>= λ t. place_under name t >>= λ at. Some at.1) h.0
-      ∙ ap (λ o. o >>= λ at. Some at.1) e,
+          ∙ ap (λ o. o >>= λ at. Some at.1) e,
       field_typed (types scope) x.0 x.1 name at (record_fields x.1) refl e h.1,
       same_one scope x.0 x.1 at.1 (dotted name) (field_in at.0) given (expr.Field x.0 at.0) h.2
-      (λ v. ap (λ o. with_part o (λ p. tagged p.1 (field_in p.0 v))) e) (value_of-Field x.0 at.0),
+          (λ v. ap (λ o. with_part o (λ p. tagged p.1 (field_in p.0 v))) e) (value_of-Field x.0 at.0),
     )
 
 -- ---- literals
@@ -152,23 +155,31 @@ pub number_by : (o : Option ℤ) (scope : Scope) →
     IsRight scope (literal o) (option_map (λ n. ty.Int) o)
     (λ env. with_part o (λ n. Gives (ty.Int, value.Int n)))
 number_by None scope = refl
-number_by (Some n) scope =
-    (refl, typing.literal (value.Int n) (has_int n), λ vs.
-    ap (tagged ty.Int) (sym (value_of-Literal (value.Int n) vs)))
+number_by (Some n) scope = (
+  refl,
+  typing.literal (value.Int n) (has_int n),
+  λ vs.
+      ap (tagged ty.Int) (sym (value_of-Literal (value.Int n) vs)),
+)
 
 pub text_right : (text : List ℕ) (scope : Scope) →
     IsRight scope (Some (expr.Literal (value.Text text), ty.Text)) (Some ty.Text)
     (λ env. Gives (ty.Text, value.Text text))
-text_right text scope =
-    (refl, typing.literal (value.Text text) (has_text text),
-    λ vs. ap (tagged ty.Text) (sym (value_of-Literal (value.Text text) vs)))
+text_right text scope = (
+  refl,
+  typing.literal (value.Text text) (has_text text),
+  λ vs. ap (tagged ty.Text) (sym (value_of-Literal (value.Text text) vs)),
+)
 
 pub bool_right : (b : Bool) (scope : Scope) →
     IsRight scope (Some (expr.Literal (value.Bool b), ty.Bool)) (Some ty.Bool)
     (λ env. Gives (ty.Bool, value.Bool b))
-bool_right b scope =
-    (refl, typing.literal (value.Bool b) (has_bool b), λ vs.
-    ap (tagged ty.Bool) (sym (value_of-Literal (value.Bool b) vs)))
+bool_right b scope = (
+  refl,
+  typing.literal (value.Bool b) (has_bool b),
+  λ vs.
+      ap (tagged ty.Bool) (sym (value_of-Literal (value.Bool b) vs)),
+)
 
 empty_is : (o : Option Ty) (t : Ty) → (o >>= λ m. shallow (ty.List m)) ≡ Some t →
     (m : Ty) × (ty.List m ≡ t)

@@ -1,5 +1,5 @@
 -- The slots of operations are right where those of their operands are.
-use Rattle.std.proofs.Common.{◌≡◌, Bool, true, false, Option, Some, None, List, sym, ap, ◌∙◌, subst}
+use Rattle.std.proofs.Common.{◌≡◌, true, false, Option, Some, None, List, sym, ap, ◌∙◌, subst}
 use Rattle.flume_value.specs.declared.value.Value.{Value}
 use Rattle.flume_value.specs.declared.value.Value.TheVariants as value
 use Rattle.flume_types.specs.declared.types.Ty.{Ty}
@@ -22,7 +22,7 @@ use Rattle.typed_forms.specs.FormTypes.{unary_type, binary_type, index_type, pic
 use Rattle.dofn_check.specs.Call.{Thing, Environment, tagged, typed, valued, operated}
 use Rattle.typed_forms.specs.Forms.{Typed, unary, operation, binary, index, side, pick}
 use Rattle.typed_forms.proofs.TypeLemmas.{unary_typed, both_are, two_typed, index_is, pick_is, side_typed}
-use Rattle.dofn_check.proofs.RightLemmas.{types, bound, IsRight, right_made, tagged_both, tagged_chosen, same_one}
+use Rattle.dofn_check.proofs.RightLemmas.{types, IsRight, right_made, tagged_both, tagged_chosen, same_one}
 
 pub right_unary : (op : Unary) (scope : Scope) (o : Option Typed) (type : Option Ty)
     (given : Environment → Outcome Thing) → IsRight scope o type given →
@@ -35,7 +35,7 @@ right_unary op scope (Some x) type given h =
     (λ u e. (
       typing.unary (unary_typed op x.1 u e) h.1,
       same_one scope x.0 x.1 u _ (of_one (one op)) given (expr.Unary (one op) x.0) h.2
-      (λ v. ap (λ w. typed w (of_one (one op) v)) e) (value_of-Unary (one op) x.0),
+          (λ v. ap (λ w. typed w (of_one (one op) v)) e) (value_of-Unary (one op) x.0),
     ))
 
 pub right_side : (s : Side) (other : Ty) (scope : Scope) (o : Option Typed) (type : Option Ty)
@@ -49,7 +49,7 @@ right_side s other scope (Some x) type given h =
     (λ u e. (
       typing.unary (side_typed s other x.1 u e) h.1,
       same_one scope x.0 x.1 u _ (of_one (side_of s)) given (expr.Unary (side_of s) x.0) h.2
-      (λ v. ap (λ w. typed w (of_one (side_of s) v)) e) (value_of-Unary (side_of s) x.0),
+          (λ v. ap (λ w. typed w (of_one (side_of s) v)) e) (value_of-Unary (side_of s) x.0),
     ))
 
 -- two operands
@@ -113,9 +113,9 @@ right_index scope (Some x) (Some y) s r g h a b =
     (λ i. a.0 i >>= λ t. b.0 i >>= λ u. index_type t u)
     (λ w e. let q = index_is x.1 y.1 w e in (
       typing.index (subst (typing.Typed (types scope) x.0) q.0 a.1)
-      (subst (typing.Typed (types scope) y.0) q.1 b.1),
+          (subst (typing.Typed (types scope) y.0) q.1 b.1),
       λ vs. (λ i. then_both (a.2 vs i) (b.2 vs i)
-      (λ x y. typed (index_type x.0 y.0) (member_in x.1 y.1)))
+          (λ x y. typed (index_type x.0 y.0) (member_in x.1 y.1)))
           ∙ tagged_both x.1 y.1 w (value_of x.0 vs) (value_of y.0 vs) _ member_in
           (λ v u. ap (λ o. typed o (member_in v u)) e)
           ∙ ap (tagged w) (sym (value_of-Index x.0 y.0 vs)),
@@ -138,8 +138,8 @@ right_pick scope (Some z) (Some x) (Some y) q s r f g h c a b =
     (λ i. c.0 i >>= λ t. a.0 i >>= λ u. b.0 i >>= λ w. pick_type t u w)
     (λ w e. let m = pick_is z.1 x.1 y.1 w e in (
       typing.pick (subst (typing.Typed (types scope) z.0) m.0 c.1)
-      (subst (typing.Typed (types scope) x.0) m.2 a.1)
-      (subst (typing.Typed (types scope) y.0) (sym m.1 ∙ m.2) b.1),
+          (subst (typing.Typed (types scope) x.0) m.2 a.1)
+          (subst (typing.Typed (types scope) y.0) (sym m.1 ∙ m.2) b.1),
       λ vs. (λ i. chosen (valued (c.2 vs i)) (a.2 vs i) (b.2 vs i))
           ∙ (λ i. chosen (valued (tagged z.1 (value_of z.0 vs))) (tagged (m.2 i) (value_of x.0 vs))
           (tagged ((sym m.1 ∙ m.2) i) (value_of y.0 vs)))

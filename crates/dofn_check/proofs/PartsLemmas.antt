@@ -1,5 +1,5 @@
 -- The slots of records and lists are right where those of their parts are.
-use Rattle.std.proofs.Common.{◌≡◌, ℕ, ◌+◌, Bool, true, false, ◌&&◌, cond, Option, Some, None, List, [], ◌∷◌, ◌++◌, length, arith, refl, sym, ap, ◌∙◌, subst, append-nil, append_assoc}
+use Rattle.std.proofs.Common.{◌≡◌, ℕ, Bool, true, false, ◌&&◌, cond, Option, Some, None, List, [], ◌∷◌, ◌++◌, length, arith, refl, sym, ap, ◌∙◌, subst, append-nil, append_assoc}
 use Rattle.std.specs.Prelude.{option_map, nat_eq}
 use Rattle.std.specs.List.{list_all}
 use Rattle.std.proofs.lemmas.Bool.{eqb-true}
@@ -20,7 +20,6 @@ use Rattle.dofn_eval.proofs.MeaningLemmas.{value_of-Record, value_of-List}
 use Rattle.written_types.specs.Options.{◌>>=◌}
 use Rattle.written_types.specs.Names.{are_different}
 use Rattle.written_types.specs.Fields.{fields_of}
-use Rattle.typed_forms.specs.Operators.{one}
 use Rattle.written_types.specs.Types.{Scope, shallow}
 use Rattle.flume_types.specs.Equality.{type_eq}
 use Rattle.typed_forms.specs.FormTypes.{record_type, list_type}
@@ -43,9 +42,14 @@ AreRight scope ks ts (Some found) all given =
 
 pub no_parts : (scope : Scope) (ks : List Slots) (ts : List Ty) →
     AreRight scope ks ts (Some (ks, ts)) (Some []) (λ env before made. Gives (before, made))
-no_parts scope ks ts =
-    ([], [], (λ i. (sym (append-nil ks) i, sym (append-nil ts) i)), refl, typing.all_end,
-    λ vs before made. ap (λ us. Gives (us, made)) (sym (append-nil before)))
+no_parts scope ks ts = (
+  [],
+  [],
+  (λ i. (sym (append-nil ks) i, sym (append-nil ts) i)),
+  refl,
+  typing.all_end,
+  λ vs before made. ap (λ us. Gives (us, made)) (sym (append-nil before)),
+)
 
 abbrev in_front : Option Ty → Option (List Ty) → Option (List Ty)
 in_front type all = type >>= λ t. option_map (λ us. t ∷ us) all
@@ -80,8 +84,8 @@ module _ (scope : Scope) (ks : List Slots) (ts : List Ty) (x : Typed)
     (λ i. in_front (h.0 i) (has i)),
     typing.all_more h.1 td,
     λ vs before made.
-    ap (λ o. then o (λ y. rest (bound scope vs) (before ++ y.0 ∷ []) (made ++ y.1 ∷ []))) (h.2 vs)
-    ∙ part_goes more us vs before made (gv vs) (value_of x.0 vs),
+        ap (λ o. then o (λ y. rest (bound scope vs) (before ++ y.0 ∷ []) (made ++ y.1 ∷ []))) (h.2 vs)
+        ∙ part_goes more us vs before made (gv vs) (value_of x.0 vs),
   )
 
 pub parts_more : (scope : Scope) (ks : List Slots) (ts : List Ty) (o : Option Typed)
@@ -119,10 +123,12 @@ record_by : (b : Bool) (names : List (List ℕ)) (ts : List Ty) (t : Ty) →
     nat_eq (length names) (length ts) && are_different names ≡ b →
     (cond b (Some (ty.Rec (fields_of names ts))) None >>= shallow) ≡ Some t →
     (fs : List (Field Ty)) × (ty.Rec fs ≡ t) × (types_of fs ≡ ts)
-record_by true names ts t test e =
-    (fields_of names ts, (where_same _ (ty.Rec (fields_of names ts)) t e).1,
-    counted names ts (eqb-true (length names) (length ts)
-    (both_true (nat_eq (length names) (length ts)) (are_different names) test).0))
+record_by true names ts t test e = (
+  fields_of names ts,
+  (where_same _ (ty.Rec (fields_of names ts)) t e).1,
+  counted names ts (eqb-true (length names) (length ts)
+      (both_true (nat_eq (length names) (length ts)) (are_different names) test).0),
+)
 record_by false names ts t test e = cc
 
 record_is : (names : List (List ℕ)) (ts : List Ty) (t : Ty) → record_type names ts ≡ Some t →
@@ -148,9 +154,12 @@ list_is (u ∷ us) t e = list_by (list_all (type_eq u) us) refl e
         cond b (shallow (ty.List u)) None ≡ Some t →
         (v : Ty) × (ty.List v ≡ t) × ((scope : List Ty) (ks : List Slots) →
         typing.AllTyped scope ks (u ∷ us) → typing.EachTyped scope ks v)
-    list_by true all e =
-        (u, (where_same _ (ty.List u) t e).1, λ scope ks d.
-        each_of u scope ks (u ∷ us) (first all) d)
+    list_by true all e = (
+      u,
+      (where_same _ (ty.List u) t e).1,
+      λ scope ks d.
+          each_of u scope ks (u ∷ us) (first all) d,
+    )
       where
         first : list_all (type_eq u) us ≡ true → list_all (type_eq u) (u ∷ us) ≡ true
         first all = ap (λ b. b && list_all (type_eq u) us) ((ty_eq-Decides u u).1 refl) ∙ all
@@ -171,10 +180,10 @@ right_record names scope (Some found) all given (more, us, is, has, td, gv) =
     (ap (λ o. o >>= λ ts. record_type names ts) has)
     (λ t e. let p = record_is names us t e in (
       subst (typing.Typed (types scope) (expr.Record more)) p.1
-      (typing.fields p.0 (subst (typing.AllTyped (types scope) more) (sym p.2) td)),
+          (typing.fields p.0 (subst (typing.AllTyped (types scope) more) (sym p.2) td)),
       λ vs.
-      ap (λ o. then o (λ found. typed (record_type names found.0) (Gives (value.Rec found.1))))
-      (gv vs [] [])
+          ap (λ o. then o (λ found. typed (record_type names found.0) (Gives (value.Rec found.1))))
+          (gv vs [] [])
           ∙ all_made t us (values_of value_of more vs []) value.Rec _
           (λ ws. ap (λ o. typed o (Gives (value.Rec ws))) e)
           ∙ ap (tagged t) (sym (value_of-Record more vs)),
@@ -194,9 +203,9 @@ right_list scope (Some found) all given (more, us, is, has, td, gv) =
     (right_made scope (expr.List more) (list_type us) _ _ (ap (λ o. o >>= λ ts. list_type ts) has)
     (λ t e. let p = list_is us t e in (
       subst (typing.Typed (types scope) (expr.List more)) p.1
-      (typing.members (p.2 (types scope) more td)),
+          (typing.members (p.2 (types scope) more td)),
       λ vs. ap (λ o. then o (λ found. typed (list_type found.0) (Gives (value.List found.1))))
-      (gv vs [] [])
+          (gv vs [] [])
           ∙ all_made t us (values_of value_of more vs []) value.List _
           (λ ws. ap (λ o. typed o (Gives (value.List ws))) e)
           ∙ ap (tagged t) (sym (value_of-List more vs)),

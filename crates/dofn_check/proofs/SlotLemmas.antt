@@ -1,6 +1,6 @@
 -- The slots of each form, by those of its parts.
 use Rattle.std.proofs.Common.{◌≡◌, ℕ, Bool, Option, Some, Result, Ok, Err, List, [], ◌∷◌, ◌++◌, map, refl, sym, ap, ◌∙◌}
-use Rattle.std.specs.Prelude.{option_and_then, option_map}
+use Rattle.std.specs.Prelude.{option_map}
 use Rattle.flume_value.specs.declared.value.Value.TheVariants as value
 use Rattle.flume_types.specs.declared.types.Ty.{Ty}
 use Rattle.flume_types.specs.declared.types.Ty.TheVariants as ty
@@ -23,7 +23,7 @@ use Rattle.typed_forms.specs.Operators.{operator, concat}
 use Rattle.written_types.specs.Types.{Scope}
 use Rattle.typed_forms.specs.FormTypes.{empty_type}
 use Rattle.written_types.specs.Answers.{Finds}
-use Rattle.typed_forms.specs.Forms.{Typed, literal, variable, empty, unary, field, fields, members}
+use Rattle.typed_forms.specs.Forms.{Typed, literal, variable, empty, fields, members}
 use Rattle.dofn_check.specs.inner.Slots.{all_slots, unary_slots, field_slots, record_slots, list_slots, two_slots, index_slots, pick_slots, side_slots, layer_slots, slots_of, Placed, block_slots, block, let_slots, emit_slots, if_slots, for_slots, case_slots, within, layer_placed, placed_of}
 
 -- ---- expressions
@@ -114,9 +114,22 @@ module _ (known : Scope) where
       slots_of known (parsed.Pick c a b) scope ≡ pick_slots (slots_of known) c a b scope
   slots-Pick c a b scope = at _ _ scope (parsed.outs-Pick c a b)
 
-pub ruleset slots_rules = (slots-Number, slots-Text, slots-Bool, slots-Name, slots-Empty,
-    slots-Unary, slots-Binary, slots-Field, slots-Index, slots-Record, slots-List, slots-Side,
-    slots-Concat, slots-Pick)
+pub ruleset slots_rules = (
+  slots-Number,
+  slots-Text,
+  slots-Bool,
+  slots-Name,
+  slots-Empty,
+  slots-Unary,
+  slots-Binary,
+  slots-Field,
+  slots-Index,
+  slots-Record,
+  slots-List,
+  slots-Side,
+  slots-Concat,
+  slots-Pick,
+)
 
 -- ---- statements
 

@@ -19,7 +19,7 @@ use Rattle.written_types.specs.Options.{◌>>=◌, where_true}
 use Rattle.written_types.specs.Fields.{member_type, side_types}
 use Rattle.written_types.specs.Types.{Scope}
 use Rattle.flume_types.specs.Equality.{type_eq}
-use Rattle.dofn_check.specs.Call.{Thing, Environment, State, state, tagged, valued, Emits, block, each, for_each, side, by_side, after}
+use Rattle.dofn_check.specs.Call.{Thing, Environment, State, state, tagged, valued, Emits, each, for_each, side, by_side, after}
 use Rattle.typed_forms.specs.Forms.{Typed}
 use Rattle.dofn_check.specs.inner.Slots.{Placed, InBlock, within}
 use Rattle.typed_forms.proofs.TypeLemmas.{list_type_is, either_type_is}
@@ -158,9 +158,11 @@ as_test : (b : Bool) (scope : Scope) (wanted : Ty) (x : Typed) (type : Option Ty
     IsRight scope (Some x) type given →
     IsAs scope wanted (where_true b >>= λ same. Some x.0) type given
 as_test true scope wanted x type given e h =
-    let is = tells_apart x.1 wanted e in
-    (ap (tested wanted) h.0 ∙ ap where_true e, subst (typing.Typed (types scope) x.0) is h.1,
-    λ vs. h.2 vs ∙ ap (λ t. tagged t (value_of x.0 vs)) is)
+    let is = tells_apart x.1 wanted e in (
+      ap (tested wanted) h.0 ∙ ap where_true e,
+      subst (typing.Typed (types scope) x.0) is h.1,
+      λ vs. h.2 vs ∙ ap (λ t. tagged t (value_of x.0 vs)) is,
+    )
 as_test false scope wanted x type given e h = ap (tested wanted) h.0 ∙ ap where_true e
 
 pub as_right : (scope : Scope) (wanted : Ty) (o : Option Typed) (type : Option Ty)
@@ -185,8 +187,8 @@ module _ (gives : Ty) (scope : Scope) where
     ap (λ o. o >>= λ t. Some ((name, t) ∷ scope)) h.0,
     λ rest td. typing.lets h.1 td,
     λ vs out. ap (λ o. then o (λ y. Gives (state ((name, y) ∷ bound scope vs) out))) (h.2 vs)
-    ∙ let_goes name scope x.1 vs out (value_of x.0 vs)
-    ∙ ap (named ((name, x.1) ∷ scope)) (sym (run_one-Let x.0 (slots.state vs out))),
+        ∙ let_goes name scope x.1 vs out (value_of x.0 vs)
+        ∙ ap (named ((name, x.1) ∷ scope)) (sym (run_one-Let x.0 (slots.state vs out))),
   )
 
   pub emit_by : (o : Option Slots) (type : Option Ty) (given : Environment → Outcome Thing) →
@@ -199,8 +201,8 @@ module _ (gives : Ty) (scope : Scope) where
     ap (λ o. o >>= λ same. Some scope) h.0,
     λ rest td. typing.emits h.1 td,
     λ vs out. ap (λ o. then o (λ x. Gives (state (bound scope vs) (out ++ x.1 ∷ [])))) (h.2 vs)
-    ∙ emit_goes scope gives vs out (value_of k vs)
-    ∙ ap (named scope) (sym (run_one-Emit k (slots.state vs out))),
+        ∙ emit_goes scope gives vs out (value_of k vs)
+        ∙ ap (named scope) (sym (run_one-Emit k (slots.state vs out))),
   )
 
   pub if_by : (o : Option Slots) (type : Option Ty) (given : Environment → Outcome Thing)
@@ -220,7 +222,7 @@ module _ (gives : Ty) (scope : Scope) where
     (λ i. h.0 i >>= λ test. p.0.1 i >>= λ x. q.0.1 i >>= λ y. Some scope),
     λ rest td. typing.chooses h.1 p.1 q.1 td,
     λ vs out.
-    (λ i. after (bound scope vs) (chosen (valued (h.2 vs i)) (p.2 vs out i) (q.2 vs out i)))
+        (λ i. after (bound scope vs) (chosen (valued (h.2 vs i)) (p.2 vs out i) (q.2 vs out i)))
         ∙ ap (λ o. after (bound scope vs) (chosen o (slots.run x vs out) (slots.run y vs out)))
         (valued_tagged ty.Bool (value_of k vs))
         ∙ after_named scope vs (chosen (value_of k vs) (slots.run x vs out) (slots.run y vs out))
@@ -239,9 +241,9 @@ module _ (gives : Ty) (scope : Scope) where
     for_block name m f (Some ks) names e b = (
       ap (λ o. o >>= λ inner. Some scope) b.0.1,
       λ rest td. typing.loops (subst (typing.Typed (types scope) x.0) (list_type_is x.1 m e) h.1)
-      b.1 td,
+          b.1 td,
       λ vs out. ap (λ o. after (bound scope vs)
-      (then o (λ y. for_each f name y (bound scope vs) out))) (h.2 vs)
+          (then o (λ y. for_each f name y (bound scope vs) out))) (h.2 vs)
           ∙ ap (after (bound scope vs))
           (for_goes f (slots.run ks) name x.1 m scope vs out e (λ v more. b.2 (v ∷ vs) more)
           (value_of x.0 vs))
@@ -279,9 +281,9 @@ module _ (gives : Ty) (scope : Scope) where
     case_blocks left right_ sides f g (Some t) (Some t') (Some y) (Some z) m n e p q = (
       (λ i. p.0.1 i >>= λ y. q.0.1 i >>= λ z. Some scope),
       λ rest td. typing.divides (subst (typing.Typed (types scope) x.0) (either_type_is x.1 sides e)
-      h.1) p.1 q.1 td,
+          h.1) p.1 q.1 td,
       λ vs out. ap (λ o. after (bound scope vs)
-      (then o (λ y. by_side f left g right_ y (bound scope vs) out))) (h.2 vs)
+          (then o (λ y. by_side f left g right_ y (bound scope vs) out))) (h.2 vs)
           ∙ ap (after (bound scope vs))
           (case_goes f g (slots.run y) (slots.run z) left right_ x.1 sides scope vs out e
           (λ v. p.2 (v ∷ vs) out) (λ v. q.2 (v ∷ vs) out) (value_of x.0 vs))

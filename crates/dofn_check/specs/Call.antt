@@ -5,11 +5,10 @@ use Rattle.flume_value.specs.declared.value.Value.{Value}
 use Rattle.flume_value.specs.declared.value.Value.TheVariants as value
 use Rattle.flume_types.specs.declared.types.Ty.{Ty}
 use Rattle.flume_types.specs.declared.types.Ty.TheVariants as ty
-use Rattle.flume_grammar.specs.declared.tree.Type as tree
 use Rattle.flume_grammar.specs.declared.tree.Expr.{Expr, Expr-F, fold-Expr}
 use Rattle.flume_grammar.specs.declared.tree.Body.{Body, Body-F, fold-Body}
 use Rattle.int_text.specs.Ints.{int_of}
-use Rattle.dofn_eval.specs.Outcome.{Outcome, Gives, Traps, Stuck, then, then_both, with_part}
+use Rattle.dofn_eval.specs.Outcome.{Outcome, Gives, Stuck, then, then_both, with_part}
 use Rattle.flume_value.specs.Parts.{members_of, left_of, right_of}
 use Rattle.dofn_eval.specs.Operations.{of_one, of_two, field_in, member_in, chosen}
 use Rattle.typed_forms.specs.declared.operator.Operator.{Operator}

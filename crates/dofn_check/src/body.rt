@@ -201,8 +201,8 @@ fn resolve_for<'a>(
     ensures { Finds (λ k. k) result (spec.for_slots known.now name.now e.now
         (block (placed_of known.now gives.now) body.now) (names_of scope.now)) }
 {
-    let x = looped(alloc, &*name, &*e, &*known, &*scope)?;
-    let turn = resolve_bound(alloc, &*name, &x.ty, &*body, &*known, &*scope, &*gives)?;
+    let x = looped(alloc, name, e, known, scope)?;
+    let turn = resolve_bound(alloc, name, x.ty, body, known, scope, gives)?;
     Ok(Stmt::For(x.expr, turn))
 }
 
@@ -277,7 +277,15 @@ fn resolve_sides<'a>(
 {
     let (left, right) = (names.left, names.right);
     let first = resolve_side(alloc, left, types.left, blocks.first, known, scope, gives)?;
-    let second = resolve_side(alloc, right, types.right, blocks.second, known, scope, gives)?;
+    let second = resolve_side(
+        alloc,
+        right,
+        types.right,
+        blocks.second,
+        known,
+        scope,
+        gives,
+    )?;
     Ok(Blocks { first, second })
 }
 
@@ -296,7 +304,7 @@ fn resolve_side<'a>(
         (block (placed_of known.now gives.now) body.now) (names_of scope.now)) }
 {
     unseen(name, scope)?;
-    resolve_bound(alloc, &*name, &ty, &*body, &*known, &*scope, &*gives)
+    resolve_bound(alloc, name, ty, body, known, scope, gives)
 }
 
 // A block in which one name more is in sight.
@@ -304,16 +312,16 @@ fn resolve_side<'a>(
 fn resolve_bound<'a>(
     alloc: Global,
     name: &'a Str,
-    ty: &'a Ty,
+    ty: Ty,
     body: &'a Pile<Body>,
     known: &'a Names,
     scope: &'a Scope<'a>,
     gives: &'a Ty,
 ) -> Result<Block, Refusal>
     ensures { Finds (λ k. k) result (block (placed_of known.now gives.now) body.now
-        ((name.now, ty.now) ∷ names_of scope.now)) }
+        ((name.now, ty) ∷ names_of scope.now)) }
 {
-    let inner = Scope::Bound(&*name, &*ty, &*scope);
+    let inner = Scope::Bound(&*name, &ty, &*scope);
     resolve_block(alloc, body.as_slice(), &*known, &inner, &*gives)
 }
 

@@ -1,7 +1,5 @@
 -- What types are where the types of forms are found.
-use Rattle.std.proofs.Common.{◌≡◌, ◌⊎◌, ℕ, suc, Bool, true, false, ◌&&◌, cond, Option, Some, None, List, [], ◌∷◌, length, map, inl, inr, refl, sym, ap, ◌∙◌, subst}
-use Rattle.std.specs.List.{list_all}
-use Rattle.std.specs.Prelude.{nat_eq}
+use Rattle.std.proofs.Common.{◌≡◌, ◌⊎◌, Bool, true, false, ◌&&◌, cond, Some, None, List, inl, inr, refl, sym, ap, ◌∙◌, subst}
 use Rattle.flume_value.proofs.BoolLemmas.{both_true}
 use Rattle.flume_types.specs.declared.types.Ty.{Ty, Ty-F, out-Ty, roll-Ty, roll-out-Ty}
 use Rattle.flume_types.specs.declared.types.Ty.TheVariants as ty
@@ -11,20 +9,13 @@ use Rattle.flume_grammar.specs.declared.tree.Unary.{Unary}
 use Rattle.flume_grammar.specs.declared.tree.Unary.TheVariants as unary
 use Rattle.flume_grammar.specs.declared.tree.Side.{Side}
 use Rattle.flume_grammar.specs.declared.tree.Side.TheVariants as side
-use Rattle.dofn_eval.specs.declared.expr.Expr.{Expr as Slots}
 use Rattle.dofn_eval.specs.declared.expr.Binary.{Binary as Operation}
 use Rattle.dofn_eval.specs.declared.expr.Binary.TheVariants as operation
-use Rattle.dofn_eval.specs.Typed.{UnaryTyped, BinaryTyped, Typed, negates, inverts, counts_members, counts_bytes, splits, writes, reads, lefts, rights, computes, compares, joins_texts, joins_lists}
-use Rattle.dofn_eval.specs.Typed as typing
-use Rattle.typed_forms.specs.declared.operator.Operator.{Operator}
-use Rattle.typed_forms.specs.declared.operator.Operator.TheVariants.{And, Or, Two}
-use Rattle.written_types.specs.Options.{◌>>=◌}
+use Rattle.dofn_eval.specs.Typed.{UnaryTyped, BinaryTyped, negates, inverts, counts_members, counts_bytes, splits, writes, reads, lefts, rights, computes, compares, joins_texts, joins_lists}
 use Rattle.written_types.specs.Fields.{record_layer, member_layer, side_layer, record_fields, member_type, side_types}
 use Rattle.flume_types.specs.Equality.{type_eq}
-use Rattle.written_types.specs.Types.{shallow}
-use Rattle.typed_forms.specs.FormTypes.{of_one, of_both, is_long, unary_type, two_type, binary_type, index_type, pick_type, side_type}
+use Rattle.typed_forms.specs.FormTypes.{of_one, of_both, is_long, unary_type, two_type, index_type, pick_type, side_type}
 use Rattle.typed_forms.specs.Operators.{one, side_of}
-use Rattle.typed_forms.specs.Forms.{operation}
 
 same_is : (t u : Ty) → type_eq t u ≡ true → t ≡ u
 same_is t u e = tells_apart t u e

@@ -1,5 +1,5 @@
 -- The equations of `written`, one a form.
-use Rattle.std.proofs.Common.{◌≡◌, ℕ, List, [], ◌∷◌, map, Option, Some, None, refl, ap, sym, ◌∙◌}
+use Rattle.std.proofs.Common.{◌≡◌, ℕ, List, [], ◌∷◌, map, Option, Some, refl, ap, ◌∙◌}
 use Rattle.std.specs.Prelude.{option_map, option_and_then}
 use Rattle.flume_types.specs.declared.types.Ty.{Ty}
 use Rattle.flume_types.specs.declared.types.Ty.TheVariants as ty
@@ -69,5 +69,13 @@ pub written-Record : (fields : List (List ℕ)) (types : List tree.Type) (names 
     ≡ (all_types written types names >>= λ all. record_of fields all)
 written-Record fields types names = at_layer _ _ names (form.outs-Record fields types)
 
-pub ruleset written_rules = (written-Int, written-Bool, written-Text, written-Named, written-List,
-    written-Either, written-Table, written-Record)
+pub ruleset written_rules = (
+  written-Int,
+  written-Bool,
+  written-Text,
+  written-Named,
+  written-List,
+  written-Either,
+  written-Table,
+  written-Record,
+)
