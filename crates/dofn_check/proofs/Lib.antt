@@ -1,10 +1,12 @@
 pub mod FormLemmas
-pub mod WrittenLemmas
 pub mod SlotLemmas
-pub mod SightLemmas
-pub mod NameLemmas
-pub mod PlaceLemmas
-pub mod TypeLemmas
+pub mod GroupLemmas
+pub mod UnseenLemmas
 pub mod RightLemmas
+pub mod OperationLemmas
+pub mod NamedLemmas
+pub mod PartsLemmas
+pub mod ExpressionLemmas
+pub mod StatementLemmas
 pub mod BodyLemmas
 pub mod FunctionLemmas

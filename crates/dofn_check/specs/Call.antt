@@ -5,20 +5,20 @@ use Rattle.flume_value.specs.declared.value.Value.{Value}
 use Rattle.flume_value.specs.declared.value.Value.TheVariants as value
 use Rattle.flume_types.specs.declared.types.Ty.{Ty}
 use Rattle.flume_types.specs.declared.types.Ty.TheVariants as ty
-use Rattle.flume_grammar.specs.declared.tree.Type as tree
 use Rattle.flume_grammar.specs.declared.tree.Expr.{Expr, Expr-F, fold-Expr}
 use Rattle.flume_grammar.specs.declared.tree.Body.{Body, Body-F, fold-Body}
 use Rattle.int_text.specs.Ints.{int_of_text}
-use Rattle.dofn_eval.specs.Outcome.{Outcome, Gives, Traps, Stuck, then, then_both, with_part}
+use Rattle.dofn_eval.specs.Outcome.{Outcome, Gives, Stuck, then, then_both, with_part}
 use Rattle.flume_value.specs.Parts.{members_of, left_of, right_of}
 use Rattle.dofn_eval.specs.Operations.{of_one, of_two, field_in, member_in, chosen}
-use Rattle.dofn_check.specs.declared.operator.Operator.{Operator}
-use Rattle.dofn_check.specs.declared.operator.Operator.TheVariants.{And, Or, Two}
-use Rattle.dofn_check.specs.Names.{look}
-use Rattle.dofn_check.specs.Fields.{place_under, member_type, side_types}
-use Rattle.dofn_check.specs.Operators.{operator, concat, one, side_of}
-use Rattle.dofn_check.specs.Written.{whole_type}
-use Rattle.dofn_check.specs.Typing.{Scope, unary_type, two_type, index_type, record_type, list_type, side_type, empty_type}
+use Rattle.typed_forms.specs.declared.operator.Operator.{Operator}
+use Rattle.typed_forms.specs.declared.operator.Operator.TheVariants.{And, Or, Two}
+use Rattle.named_types.specs.Names.{look}
+use Rattle.named_types.specs.Fields.{place_under, member_type, side_types}
+use Rattle.typed_forms.specs.Operators.{operator, concat, one, side_of}
+use Rattle.named_types.specs.Written.{whole_type}
+use Rattle.named_types.specs.Types.{Scope}
+use Rattle.typed_forms.specs.FormTypes.{unary_type, two_type, index_type, record_type, list_type, side_type, empty_type}
 
 -- a value with its type, by which the fields of a record have their places
 abbrev pub Thing : Type 0

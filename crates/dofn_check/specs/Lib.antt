@@ -1,9 +1,5 @@
-pub mod Options
-pub mod Names
-pub mod Types
-pub mod Fields
-pub mod Operators
-pub mod Written
+pub use Rattle.named_types.specs.Names
+pub use Rattle.named_types.specs.Fields
 pub mod Typing
 pub mod Call
 pub mod inner

@@ -1,20 +1,19 @@
 ghost use Rattle.std.specs.Prelude.{◌∷◌, ◌++◌};
+ghost use Rattle.named_types.specs.Answers.{Finds};
+ghost use Rattle.typed_forms.specs.Sights.{names_of};
+ghost use Rattle.typed_forms.specs.Forms.{typed};
 ghost use Rattle.dofn_check.specs.Typing.{unseen as not_seen};
-ghost use Rattle.dofn_check.specs.inner.Sights.{names_of};
 ghost use Rattle.dofn_check.specs.inner.Slots as spec;
-ghost use Rattle.dofn_check.specs.inner.Slots.{Finds, typed, block, placed_of};
+ghost use Rattle.dofn_check.specs.inner.Slots.{block, placed_of};
 
 use crate::expression::resolve;
-use crate::forms::Typed;
-use crate::names::Names;
-use crate::record::{member_of, sides_of};
-use crate::refusal::Refusal;
-use crate::scope::Scope;
 use dofn_eval::{Block, Expr as Slots, Stmt};
 use flume_grammar::{Body, Expr};
 use flume_types::{Ty, same_type};
 use flume_value::{Pile, Str};
+use named_types::{Names, Refusal, Sides, member_of, sides_of};
 use std::alloc::Global;
+use typed_forms::{Scope, Typed};
 
 /// The two blocks of a statement.
 #[derive(Clone, Copy)]
@@ -25,9 +24,23 @@ struct Branches<'a> {
 
 /// The names of the contents of an either's sides.
 #[derive(Clone, Copy)]
-struct Sides<'a> {
+struct SideNames<'a> {
     left: &'a Str,
     right: &'a Str,
+}
+
+/// The slots of the two blocks of a statement.
+#[derive(Drop)]
+struct Blocks {
+    first: Block,
+    second: Block,
+}
+
+/// The slots of an either, and the types of its sides.
+#[derive(Drop)]
+struct EitherSlots {
+    expr: Slots,
+    sides: Sides,
 }
 
 /// The block with slots in place of names. `NotAccepted` comes where it is not well typed.
@@ -85,7 +98,7 @@ fn resolve_statement<'a>(
         }
         Body::Case(_, e, left, a, right, b) => {
             let scope = Scope::Block(&*names, &*outer);
-            let names = Sides { left, right };
+            let names = SideNames { left, right };
             let blocks = Branches {
                 first: a,
                 second: b,
@@ -154,9 +167,25 @@ fn resolve_if<'a>(
         (block (placed_of known.now gives.now) blocks.entry.second.now) (names_of scope.now)) }
 {
     let test = of_type(alloc, e, &Ty::Bool, known, scope)?;
-    let a = resolve_block(alloc, blocks.first.as_slice(), &*known, &*scope, &*gives)?;
-    let b = resolve_block(alloc, blocks.second.as_slice(), &*known, &*scope, &*gives)?;
-    Ok(Stmt::If(test, a, b))
+    let made = resolve_both(alloc, blocks, known, scope, gives)?;
+    Ok(Stmt::If(test, made.first, made.second))
+}
+
+#[cycle(resolve)]
+fn resolve_both<'a>(
+    alloc: Global,
+    blocks: Branches<'a>,
+    known: &'a Names,
+    scope: &'a Scope<'a>,
+    gives: &'a Ty,
+) -> Result<Blocks, Refusal>
+    ensures { Finds (λ made. (made.first, made.second)) result (spec.both
+        (block (placed_of known.now gives.now) blocks.entry.first.now (names_of scope.now))
+        (block (placed_of known.now gives.now) blocks.entry.second.now (names_of scope.now))) }
+{
+    let first = resolve_block(alloc, blocks.first.as_slice(), &*known, &*scope, &*gives)?;
+    let second = resolve_block(alloc, blocks.second.as_slice(), &*known, &*scope, &*gives)?;
+    Ok(Blocks { first, second })
 }
 
 #[cycle(resolve)]
@@ -172,17 +201,31 @@ fn resolve_for<'a>(
     ensures { Finds (λ k. k) result (spec.for_slots known.now name.now e.now
         (block (placed_of known.now gives.now) body.now) (names_of scope.now)) }
 {
-    let x = new_value(alloc, &*name, &*e, &*known, &*scope)?;
-    let member = member_of(x.ty)?;
-    let turn = resolve_bound(alloc, &*name, &member, &*body, &*known, &*scope, &*gives)?;
+    let x = looped(alloc, name, e, known, scope)?;
+    let turn = resolve_bound(alloc, name, x.ty, body, known, scope, gives)?;
     Ok(Stmt::For(x.expr, turn))
+}
+
+// A list that is gone through under a new name, with the type of its members.
+fn looped<'a>(
+    alloc: Global,
+    name: &Str,
+    e: &'a Expr,
+    known: &'a Names,
+    scope: &'a Scope<'a>,
+) -> Result<Typed, Refusal>
+    ensures { Finds typed result (spec.looped known.now name.now e.now (names_of scope.now)) }
+{
+    let x = new_value(alloc, name, e, known, scope)?;
+    let ty = member_of(x.ty)?;
+    Ok(Typed { expr: x.expr, ty })
 }
 
 #[cycle(resolve)]
 fn resolve_case<'a>(
     alloc: Global,
     e: &'a Expr,
-    names: Sides<'a>,
+    names: SideNames<'a>,
     blocks: Branches<'a>,
     known: &'a Names,
     scope: &'a Scope<'a>,
@@ -193,30 +236,75 @@ fn resolve_case<'a>(
         names.entry.right.now (block (placed_of known.now gives.now) blocks.entry.second.now)
         (names_of scope.now)) }
 {
+    let x = divided(alloc, e, known, scope)?;
+    let made = resolve_sides(alloc, names, x.sides, blocks, known, scope, gives)?;
+    Ok(Stmt::Case(x.expr, made.first, made.second))
+}
+
+// An either, with the types of its sides.
+fn divided<'a>(
+    alloc: Global,
+    e: &'a Expr,
+    known: &'a Names,
+    scope: &'a Scope<'a>,
+) -> Result<EitherSlots, Refusal>
+    ensures { Finds (λ x. (x.expr, (x.sides.left, x.sides.right))) result
+        (spec.divided known.now e.now (names_of scope.now)) }
+{
     let x = resolve(alloc, e, known, scope)?;
     let sides = sides_of(x.ty)?;
-    unseen(names.left, scope)?;
-    let (left, right) = (&sides.left, &sides.right);
-    let a = resolve_bound(
+    Ok(EitherSlots {
+        expr: x.expr,
+        sides,
+    })
+}
+
+#[cycle(resolve)]
+fn resolve_sides<'a>(
+    alloc: Global,
+    names: SideNames<'a>,
+    types: Sides,
+    blocks: Branches<'a>,
+    known: &'a Names,
+    scope: &'a Scope<'a>,
+    gives: &'a Ty,
+) -> Result<Blocks, Refusal>
+    ensures { Finds (λ made. (made.first, made.second)) result (spec.both
+        (spec.beneath names.entry.left.now types.left
+        (block (placed_of known.now gives.now) blocks.entry.first.now) (names_of scope.now))
+        (spec.beneath names.entry.right.now types.right
+        (block (placed_of known.now gives.now) blocks.entry.second.now) (names_of scope.now))) }
+{
+    let (left, right) = (names.left, names.right);
+    let first = resolve_side(alloc, left, types.left, blocks.first, known, scope, gives)?;
+    let second = resolve_side(
         alloc,
-        names.left,
-        left,
-        blocks.first,
-        &*known,
-        &*scope,
-        &*gives,
-    )?;
-    unseen(names.right, scope)?;
-    let b = resolve_bound(
-        alloc,
-        names.right,
         right,
+        types.right,
         blocks.second,
-        &*known,
-        &*scope,
-        &*gives,
+        known,
+        scope,
+        gives,
     )?;
-    Ok(Stmt::Case(x.expr, a, b))
+    Ok(Blocks { first, second })
+}
+
+// A block in which one new name more is in sight.
+#[cycle(resolve)]
+fn resolve_side<'a>(
+    alloc: Global,
+    name: &'a Str,
+    ty: Ty,
+    body: &'a Pile<Body>,
+    known: &'a Names,
+    scope: &'a Scope<'a>,
+    gives: &'a Ty,
+) -> Result<Block, Refusal>
+    ensures { Finds (λ k. k) result (spec.beneath name.now ty
+        (block (placed_of known.now gives.now) body.now) (names_of scope.now)) }
+{
+    unseen(name, scope)?;
+    resolve_bound(alloc, name, ty, body, known, scope, gives)
 }
 
 // A block in which one name more is in sight.
@@ -224,16 +312,16 @@ fn resolve_case<'a>(
 fn resolve_bound<'a>(
     alloc: Global,
     name: &'a Str,
-    ty: &'a Ty,
+    ty: Ty,
     body: &'a Pile<Body>,
     known: &'a Names,
     scope: &'a Scope<'a>,
     gives: &'a Ty,
 ) -> Result<Block, Refusal>
     ensures { Finds (λ k. k) result (block (placed_of known.now gives.now) body.now
-        ((name.now, ty.now) ∷ names_of scope.now)) }
+        ((name.now, ty) ∷ names_of scope.now)) }
 {
-    let inner = Scope::Bound(&*name, &*ty, &*scope);
+    let inner = Scope::Bound(&*name, &ty, &*scope);
     resolve_block(alloc, body.as_slice(), &*known, &inner, &*gives)
 }
 

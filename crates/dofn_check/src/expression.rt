@@ -1,22 +1,20 @@
 ghost use Rattle.std.specs.Prelude.{[]};
-ghost use Rattle.dofn_check.specs.inner.Sights.{names_of};
+ghost use Rattle.named_types.specs.Answers.{Finds};
+ghost use Rattle.typed_forms.specs.Sights.{names_of};
+ghost use Rattle.typed_forms.specs.Forms.{typed, all_typed};
 ghost use Rattle.dofn_check.specs.inner.Slots as spec;
-ghost use Rattle.dofn_check.specs.inner.Slots.{Finds, typed, all_typed, slots_of, all_slots};
+ghost use Rattle.dofn_check.specs.inner.Slots.{slots_of, all_slots};
 
-use crate::forms::{
-    AllTyped, Typed, binary, empty, field, index, list, number, pick, record, sided, text, unary,
-    variable,
-};
-use crate::names::Names;
-use crate::operator::{Operator, operator_of};
-use crate::refusal::Refusal;
-use crate::scope::Scope;
-use crate::written::whole_type;
 use dofn_eval::{Binary, Expr as Slots};
 use flume_grammar::{Expr, Side, Type, Unary};
 use flume_types::Ty;
 use flume_value::{Pile, Str, Value};
+use named_types::{Names, Refusal, whole_type};
 use std::alloc::Global;
+use typed_forms::{
+    AllTyped, Operator, Scope, Typed, binary, empty, field, index, list, number, operator_of, pick,
+    record, sided, text, unary, variable,
+};
 
 /// The expression with slots in place of names, where names of types stand for those of `known`.
 /// `NotAccepted` comes where it has no type.
@@ -113,6 +111,29 @@ fn listed<'a>(
     list(alloc, all)
 }
 
+/// Two parts of an expression.
+#[derive(Drop)]
+struct Pair {
+    left: Typed,
+    right: Typed,
+}
+
+#[cycle(resolve)]
+fn resolve_pair<'a>(
+    alloc: Global,
+    a: &'a Expr,
+    b: &'a Expr,
+    known: &'a Names,
+    scope: &'a Scope<'a>,
+) -> Result<Pair, Refusal>
+    ensures { Finds (λ parts. (typed parts.left, typed parts.right)) result
+        (spec.pair_slots (slots_of known.now) a.now b.now (names_of scope.now)) }
+{
+    let left = resolve(alloc, a, known, scope)?;
+    let right = resolve(alloc, b, known, scope)?;
+    Ok(Pair { left, right })
+}
+
 #[cycle(resolve)]
 fn two<'a>(
     alloc: Global,
@@ -125,9 +146,8 @@ fn two<'a>(
     ensures { Finds typed result
         (spec.two_slots (slots_of known.now) op a.now b.now (names_of scope.now)) }
 {
-    let x = resolve(alloc, a, known, scope)?;
-    let y = resolve(alloc, b, known, scope)?;
-    binary(alloc, op, x, y)
+    let parts = resolve_pair(alloc, a, b, known, scope)?;
+    binary(alloc, op, parts.left, parts.right)
 }
 
 #[cycle(resolve)]
@@ -141,9 +161,8 @@ fn indexed<'a>(
     ensures { Finds typed result
         (spec.index_slots (slots_of known.now) a.now b.now (names_of scope.now)) }
 {
-    let x = resolve(alloc, a, known, scope)?;
-    let y = resolve(alloc, b, known, scope)?;
-    index(alloc, x, y)
+    let parts = resolve_pair(alloc, a, b, known, scope)?;
+    index(alloc, parts.left, parts.right)
 }
 
 #[cycle(resolve)]
@@ -177,9 +196,8 @@ fn picked<'a>(
         (spec.pick_slots (slots_of known.now) c.now a.now b.now (names_of scope.now)) }
 {
     let test = resolve(alloc, c, known, scope)?;
-    let x = resolve(alloc, a, known, scope)?;
-    let y = resolve(alloc, b, known, scope)?;
-    pick(alloc, test, x, y)
+    let parts = resolve_pair(alloc, a, b, known, scope)?;
+    pick(alloc, test, parts.left, parts.right)
 }
 
 #[cycle(resolve)]

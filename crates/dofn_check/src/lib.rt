@@ -8,20 +8,10 @@
 #![tactic(auto)]
 
 mod body;
-mod different;
 mod expression;
-mod forms;
 mod function;
 mod laws;
-mod names;
-mod operator;
-mod record;
-mod refusal;
-mod scope;
-mod types;
-mod written;
 
-pub use different::are_different;
 pub use function::check_function;
 pub use laws::call_law;
-pub use refusal::Refusal;
+pub use named_types::{Refusal, are_different};

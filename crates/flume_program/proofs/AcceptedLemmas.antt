@@ -5,8 +5,8 @@ use Rattle.flume_types.specs.Columns.{columns_of}
 use Rattle.flume_grammar.specs.declared.tree.Statement.{Statement}
 use Rattle.dofn_check.specs.Call.{Function}
 use Rattle.dofn_check.specs.Typing.{Scope}
-use Rattle.dofn_check.specs.declared.refusal.Refusal.{Refusal}
-use Rattle.dofn_check.specs.declared.refusal.Refusal.TheVariants.{NotAccepted, Memory}
+use Rattle.named_types.specs.declared.refusal.Refusal.{Refusal}
+use Rattle.named_types.specs.declared.refusal.Refusal.TheVariants.{NotAccepted, Memory}
 use Rattle.flume_program.specs.Accepted.{AreNamed, IsAccepted, IsNamed, IsProgram, IsProgramOf, IsReady, IsRefused, IsScriptOf, SumsInts, statement_of}
 use Rattle.flume_program.specs.Checked.{behind_types, named_types, script_behind, script_of, types_in}
 use Rattle.flume_program.specs.Script.{Output, Script}

@@ -15,7 +15,8 @@ use Rattle.flume_grammar.specs.declared.tree.Operation.{Operation as Made}
 use Rattle.flume_grammar.specs.declared.tree.Operation.TheVariants as operation
 use Rattle.flume_grammar.specs.declared.tree.Statement.{Statement}
 use Rattle.dofn_check.specs.Call.{Function}
-use Rattle.dofn_check.specs.Typing.{Scope, is_same, are_typed}
+use Rattle.dofn_check.specs.Typing.{Scope, are_typed}
+use Rattle.flume_types.specs.Equality.{type_eq as is_same}
 use Rattle.flume_program.specs.Written.{whole_type}
 use Rattle.flume_program.specs.Checked.{Rows, rows_at, row_type, function_at, function_meant, function_with, do_at, do_by, output_at, group_at, sum_at, first_type, key_of_ints, sum_key, Done, done_at, one_do, group_and_sum, do_script, sum_script, script_behind, script_of, behind_types, named_types, types_in}
 use Rattle.flume_program.specs.Script.{Script}

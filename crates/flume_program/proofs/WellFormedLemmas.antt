@@ -8,7 +8,7 @@ use Rattle.flume_types.specs.declared.types.Ty.TheVariants as ty
 use Rattle.flume_types.proofs.SameLemmas.{ty_eq-Decides}
 use Rattle.combine_table.specs.declared.comb.Comb.TheVariants as by
 use Rattle.dofn_check.specs.Call.{Function}
-use Rattle.dofn_check.specs.Typing.{is_same}
+use Rattle.flume_types.specs.Equality.{type_eq as is_same}
 use Rattle.flume_program.specs.Checked.{Rows, one_do, group_and_sum}
 use Rattle.flume_program.specs.Combiners.{combined_type}
 use Rattle.flume_program.specs.Script.{Node, Output}

@@ -18,7 +18,8 @@ use Rattle.flume_grammar.specs.declared.tree.Combiner.TheVariants as combiner
 use Rattle.flume_grammar.specs.declared.tree.Statement.{Statement}
 use Rattle.combine_table.specs.declared.comb.Comb.TheVariants as comb
 use Rattle.dofn_check.specs.Names.{look}
-use Rattle.dofn_check.specs.Typing.{Scope, is_same, are_typed}
+use Rattle.dofn_check.specs.Typing.{Scope, are_typed}
+use Rattle.flume_types.specs.Equality.{type_eq as is_same}
 use Rattle.dofn_check.specs.Call.{Function}
 use Rattle.flume_program.specs.Optional.{◌>>=◌}
 use Rattle.flume_program.specs.Written.{whole_type}

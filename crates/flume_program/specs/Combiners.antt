@@ -4,7 +4,7 @@ use Rattle.flume_types.specs.declared.types.Ty.{Ty}
 use Rattle.flume_types.specs.declared.types.Ty.TheVariants as ty
 use Rattle.combine_table.specs.declared.comb.Comb.{Comb}
 use Rattle.combine_table.specs.declared.comb.Comb.TheVariants as by
-use Rattle.dofn_check.specs.Typing.{is_same}
+use Rattle.flume_types.specs.Equality.{type_eq as is_same}
 
 -- the type of what a combiner makes of a list of members of a type; none where they don't suit it
 abbrev pub combined_type : Comb → Ty → Option Ty

@@ -1,6 +1,6 @@
 ghost use Rattle.std.specs.Prelude.{◌≡◌, ◌&&◌, not, is_some};
 ghost use Rattle.std.specs.Str.{bytes_eq};
-ghost use Rattle.dofn_check.specs.Typing.{is_same};
+ghost use Rattle.flume_types.specs.Equality.{type_eq as is_same};
 ghost use Rattle.dofn_check.specs.Call.{Function as Function_};
 ghost use Rattle.flume_program.specs.Checked as spec;
 ghost use Rattle.flume_program.specs.Accepted.{statement_of};

@@ -3,7 +3,7 @@ ghost use Rattle.std.specs.Option.{option_copied};
 ghost use Rattle.std.specs.Str.{bytes_eq};
 ghost use Rattle.flume_types.specs.declared.types.Ty.{out-Ty};
 ghost use Rattle.flume_types.specs.Tables.{table_of};
-ghost use Rattle.dofn_check.specs.Typing.{is_same};
+ghost use Rattle.flume_types.specs.Equality.{type_eq as is_same};
 ghost use Rattle.flume_program.specs.Checked as spec;
 ghost use Rattle.flume_program.specs.inner.Answers.{Gives, Tests};
 

@@ -1,8 +1,9 @@
 -- The slots of expressions and statements, with the types of what they give.
-use Rattle.std.specs.Prelude.{◌≡◌, ℕ, ℤ, Result, Ok, Err, Option, Some, None, option_map, List, [], ◌∷◌, ◌++◌}
+use Rattle.std.specs.Prelude.{ℕ, Option, Some, option_map, List, [], ◌∷◌, ◌++◌}
 use Rattle.flume_value.specs.declared.value.Value.TheVariants as value
 use Rattle.flume_types.specs.declared.types.Ty.{Ty}
 use Rattle.flume_types.specs.declared.types.Ty.TheVariants as ty
+use Rattle.flume_types.specs.Equality.{type_eq}
 use Rattle.flume_grammar.specs.declared.tree.Side.{Side}
 use Rattle.flume_grammar.specs.declared.tree.Unary.{Unary}
 use Rattle.flume_grammar.specs.declared.tree.Type as tree
@@ -13,74 +14,15 @@ use Rattle.dofn_eval.specs.declared.expr.Expr.{Expr as Slots}
 use Rattle.dofn_eval.specs.declared.expr.Expr.TheVariants as expr
 use Rattle.dofn_eval.specs.declared.stmt.Stmt.{Stmt}
 use Rattle.dofn_eval.specs.declared.stmt.Stmt.TheVariants as stmt
-use Rattle.dofn_check.specs.declared.forms.Typed.{Typed as Made}
-use Rattle.dofn_check.specs.declared.forms.AllTyped.{AllTyped}
-use Rattle.dofn_check.specs.declared.operator.Operator.{Operator}
-use Rattle.dofn_check.specs.declared.operator.Operator.TheVariants.{And, Or, Two}
-use Rattle.dofn_check.specs.declared.refusal.Refusal.{Refusal}
-use Rattle.dofn_check.specs.declared.refusal.Refusal.TheVariants.{NotAccepted, Memory}
-use Rattle.dofn_check.specs.Options.{◌>>=◌, where_true}
-use Rattle.dofn_check.specs.Fields.{place_under, member_type, side_types}
-use Rattle.dofn_check.specs.Operators.{operator, concat, one, side_of}
-use Rattle.dofn_check.specs.Written.{whole_type}
-use Rattle.dofn_check.specs.Typing.{Scope, is_same, unary_type, binary_type, index_type, pick_type, record_type, list_type, side_type, empty_type, unseen}
-use Rattle.dofn_check.specs.inner.Sights.{place_in}
-
--- what was returned, as the view sees it, is what is found; `NotAccepted` comes where nothing is
-abbrev pub Finds : {A B : Type 0} → (A → B) → Result A Refusal → Option B → Type 0
-Finds view (Ok a) found = found ≡ Some (view a)
-Finds view (Err NotAccepted) found = found ≡ None
-Finds view (Err Memory) found = Unit {0}
-
--- slots, and the type of what they give
-abbrev pub Typed : Type 0
-Typed = Slots × Ty
-
-abbrev pub typed : Made → Typed
-typed made = (made.expr, made.ty)
-
-abbrev pub all_typed : AllTyped → List Slots × List Ty
-all_typed all = (all.exprs, all.types)
-
--- ---- each form, from the slots and types of its parts
-
-abbrev pub literal : Option ℤ → Option Typed
-literal digits = option_map (λ n. (expr.Literal (value.Int n), ty.Int)) digits
-
-abbrev pub variable : List ℕ → Scope → Option Typed
-variable name scope = option_map (λ at. (expr.Variable at.0, at.1)) (place_in name scope)
-
-abbrev pub empty : Option Ty → Option Typed
-empty type = option_map (λ t. (expr.List [], t)) type
-
-abbrev pub unary : Unary → Typed → Option Typed
-unary op x = option_map (λ t. (expr.Unary (one op) x.0, t)) (unary_type op x.1)
-
-abbrev pub operation : Operator → Slots → Slots → Slots
-operation And a b = expr.And a b
-operation Or a b = expr.Or a b
-operation (Two op) a b = expr.Binary op a b
-
-abbrev pub binary : Operator → Typed → Typed → Option Typed
-binary op x y = option_map (λ t. (operation op x.0 y.0, t)) (binary_type op x.1 y.1)
-
-abbrev pub field : List ℕ → Typed → Option Typed
-field name x = option_map (λ at. (expr.Field x.0 at.0, at.1)) (place_under name x.1)
-
-abbrev pub index : Typed → Typed → Option Typed
-index x y = option_map (λ t. (expr.Index x.0 y.0, t)) (index_type x.1 y.1)
-
-abbrev pub fields : List (List ℕ) → List Slots × List Ty → Option Typed
-fields names all = option_map (λ t. (expr.Record all.0, t)) (record_type names all.1)
-
-abbrev pub members : List Slots × List Ty → Option Typed
-members all = option_map (λ t. (expr.List all.0, t)) (list_type all.1)
-
-abbrev pub side : Side → Ty → Typed → Option Typed
-side s other x = option_map (λ t. (expr.Unary (side_of s) x.0, t)) (side_type s other x.1)
-
-abbrev pub pick : Typed → Typed → Typed → Option Typed
-pick c x y = option_map (λ t. (expr.Pick c.0 x.0 y.0, t)) (pick_type c.1 x.1 y.1)
+use Rattle.named_types.specs.Options.{◌>>=◌, where_true}
+use Rattle.named_types.specs.Types.{Scope}
+use Rattle.named_types.specs.Fields.{member_type, side_types}
+use Rattle.named_types.specs.Written.{whole_type}
+use Rattle.typed_forms.specs.declared.operator.Operator.{Operator}
+use Rattle.typed_forms.specs.Operators.{operator, concat}
+use Rattle.typed_forms.specs.FormTypes.{empty_type}
+use Rattle.typed_forms.specs.Forms.{Typed, literal, variable, empty, unary, binary, field, index, fields, members, side, pick}
+use Rattle.dofn_check.specs.Typing.{unseen}
 
 -- ---- expressions
 
@@ -116,26 +58,30 @@ list_slots f parts scope = do
   all ← all_slots f parts scope [] []
   members all
 
+abbrev pub pair_slots : {X : Type 0} → (X → Scope → Option Typed) → X → X → Scope →
+    Option (Typed × Typed)
+pair_slots f a b scope = do
+  x ← f a scope
+  y ← f b scope
+  Some (x, y)
+
 abbrev pub two_slots : {X : Type 0} → (X → Scope → Option Typed) → Operator → X → X →
     Scope → Option Typed
 two_slots f op a b scope = do
-  x ← f a scope
-  y ← f b scope
-  binary op x y
+  parts ← pair_slots f a b scope
+  binary op parts.0 parts.1
 
 abbrev pub index_slots : {X : Type 0} → (X → Scope → Option Typed) → X → X → Scope → Option Typed
 index_slots f a b scope = do
-  x ← f a scope
-  y ← f b scope
-  index x y
+  parts ← pair_slots f a b scope
+  index parts.0 parts.1
 
 abbrev pub pick_slots : {X : Type 0} → (X → Scope → Option Typed) → X → X → X →
     Scope → Option Typed
 pick_slots f c a b scope = do
   test ← f c scope
-  x ← f a scope
-  y ← f b scope
-  pick test x y
+  parts ← pair_slots f a b scope
+  pick test parts.0 parts.1
 
 module _ (known : Scope) where
   abbrev pub side_slots : {X : Type 0} → (X → Scope → Option Typed) → Side → tree.Type → X →
@@ -186,12 +132,25 @@ InBlock = Scope → Option (List Stmt)
 abbrev pub block : {X : Type 0} → (X → Scope → Option Placed) → List X → InBlock
 block f statements scope = option_map (λ all. all.0) (block_slots f statements scope [])
 
+-- those of a block in which a new name more is in sight
+abbrev pub beneath : List ℕ → Ty → InBlock → InBlock
+beneath name type body scope = do
+  new ← unseen name scope
+  body ((name, type) ∷ scope)
+
+-- those of two blocks
+abbrev pub both : Option (List Stmt) → Option (List Stmt) → Option (List Stmt × List Stmt)
+both a b = do
+  first ← a
+  second ← b
+  Some (first, second)
+
 module _ (known : Scope) where
   -- the slots of an expression of this type
   abbrev pub slots_as : Expr → Ty → Scope → Option Slots
   slots_as e wanted scope = do
     x ← slots_of known e scope
-    same ← where_true (is_same x.1 wanted)
+    same ← where_true (type_eq x.1 wanted)
     Some x.0
 
   -- what a name that is not in sight yet is to stand for
@@ -213,26 +172,34 @@ module _ (known : Scope) where
   abbrev pub if_slots : Expr → InBlock → InBlock → Scope → Option Stmt
   if_slots e a b scope = do
     test ← slots_as e ty.Bool scope
-    on_true ← a scope
-    on_false ← b scope
-    Some (stmt.If test on_true on_false)
+    blocks ← both (a scope) (b scope)
+    Some (stmt.If test blocks.0 blocks.1)
+
+  -- a list that is gone through under a new name, with the type of its members
+  abbrev pub looped : List ℕ → Expr → Scope → Option Typed
+  looped name e scope = do
+    x ← new_value name e scope
+    member ← member_type x.1
+    Some (x.0, member)
 
   abbrev pub for_slots : List ℕ → Expr → InBlock → Scope → Option Stmt
   for_slots name e body scope = do
-    x ← new_value name e scope
-    member ← member_type x.1
-    turn ← body ((name, member) ∷ scope)
+    x ← looped name e scope
+    turn ← body ((name, x.1) ∷ scope)
     Some (stmt.For x.0 turn)
+
+  -- an either, with the types of its sides
+  abbrev pub divided : Expr → Scope → Option (Slots × (Ty × Ty))
+  divided e scope = do
+    x ← slots_of known e scope
+    sides ← side_types x.1
+    Some (x.0, sides)
 
   abbrev pub case_slots : Expr → List ℕ → InBlock → List ℕ → InBlock → Scope → Option Stmt
   case_slots e left a right b scope = do
-    x ← slots_of known e scope
-    sides ← side_types x.1
-    new ← unseen left scope
-    on_left ← a ((left, sides.0) ∷ scope)
-    also ← unseen right scope
-    on_right ← b ((right, sides.1) ∷ scope)
-    Some (stmt.Case x.0 on_left on_right)
+    x ← divided e scope
+    blocks ← both (beneath left x.1.0 a scope) (beneath right x.1.1 b scope)
+    Some (stmt.Case x.0 blocks.0 blocks.1)
 
 -- the names in sight are those from before
 abbrev pub within : Scope → Option Stmt → Option Placed

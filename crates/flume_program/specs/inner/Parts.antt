@@ -4,7 +4,7 @@ use Rattle.flume_grammar.specs.declared.tree.Form.{Form}
 use Rattle.flume_grammar.specs.declared.tree.Statement.{Statement}
 use Rattle.dofn_check.specs.Call.{Function}
 use Rattle.dofn_check.specs.Typing.{Scope}
-use Rattle.dofn_check.specs.declared.refusal.Refusal.{Refusal}
+use Rattle.named_types.specs.declared.refusal.Refusal.{Refusal}
 use Rattle.flume_program.specs.Script.{Script}
 use Rattle.flume_program.specs.Checked.{Done, done_at, do_script, sum_script}
 use Rattle.flume_program.specs.Accepted.{AreNamed, Does, IsNamed, IsProgram, IsProgramOf, IsReady, IsRefused, statement_of}

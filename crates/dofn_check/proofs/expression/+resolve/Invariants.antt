@@ -1,7 +1,7 @@
 use Rattle.std.proofs.Common.{◌≡◌, ◌+◌, ◌*◌, [], max, drop}
 use denote.Param.Weighed.{most}
 use Rattle.flume_grammar.specs.declared.tree.Expr.{size-Expr}
-use Rattle.dofn_check.specs.inner.Sights.{names_of}
+use Rattle.typed_forms.specs.Sights.{names_of}
 use Rattle.dofn_check.specs.inner.Slots.{slots_of, all_slots}
 use Rattle.dofn_check.proofs.expression.+resolve.Given as goal
 
@@ -21,16 +21,19 @@ abbrev pub decreases-listed : goal.decreases-listed
 decreases-listed l = 4 * most (λ e. size-Expr e) l.parts.now + 2
 
 abbrev pub decreases-two : goal.decreases-two
-decreases-two l = 4 * max (size-Expr l.a.now) (size-Expr l.b.now) + 1
+decreases-two l = 4 * max (size-Expr l.a.now) (size-Expr l.b.now) + 2
+
+abbrev pub decreases-resolve_pair : goal.decreases-resolve_pair
+decreases-resolve_pair l = 4 * max (size-Expr l.a.now) (size-Expr l.b.now) + 1
 
 abbrev pub decreases-indexed : goal.decreases-indexed
-decreases-indexed l = 4 * max (size-Expr l.a.now) (size-Expr l.b.now) + 1
+decreases-indexed l = 4 * max (size-Expr l.a.now) (size-Expr l.b.now) + 2
 
 abbrev pub decreases-one_side : goal.decreases-one_side
 decreases-one_side l = 4 * size-Expr l.part.now + 1
 
 abbrev pub decreases-picked : goal.decreases-picked
-decreases-picked l = 4 * max (size-Expr l.c.now) (max (size-Expr l.a.now) (size-Expr l.b.now)) + 1
+decreases-picked l = 4 * max (size-Expr l.c.now) (max (size-Expr l.a.now) (size-Expr l.b.now)) + 2
 
 abbrev pub decreases-resolve_all : goal.decreases-resolve_all
 decreases-resolve_all l = 4 * most (λ e. size-Expr e) l.parts.now + 1

@@ -1,0 +1,4 @@
+pub mod BehindLemmas
+pub mod NameLemmas
+pub mod PlaceLemmas
+pub mod WrittenLemmas

@@ -1,0 +1,4 @@
+pub mod Operators
+pub mod FormTypes
+pub mod Sights
+pub mod Forms
