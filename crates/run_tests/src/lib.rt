@@ -2,6 +2,7 @@
 #![tactic(auto)]
 
 mod calls;
+mod combiners;
 mod faults;
 mod refusals;
 mod rows;
