@@ -1,11 +1,9 @@
 -- Of some traps just one is the least.
 use Rattle.std.proofs.Common.{◌≡◌, ℕ, true, false, List, [], ◌∷◌, pos, ap, sym, ◌∙◌, refl}
-use Rattle.std.specs.List.{All}
 use Rattle.std.specs.Ordering.{is_lt}
 use Rattle.std.proofs.lemmas.List.Elements.{All-cons, All-contains, All-nil, All-weaker}
-use Rattle.flume_value.proofs.BagLemmas.{NotBelow, NotBelow-trans, apart, ranks}
+use Rattle.flume_value.proofs.BagLemmas.{NotBelow-trans, apart, ranks}
 use Rattle.flume_value.proofs.OrderLemmas.{value_cmp-same}
-use Rattle.flume_value.specs.Order.{value_cmp}
 use Rattle.flume_value.specs.declared.fault.Kind.{Kind}
 use Rattle.flume_value.specs.declared.fault.Kind.TheVariants.{Overflow, DivideByZero, BadIndex, BadNumber}
 use Rattle.flume_value.specs.declared.value.Value.{Value, Value-F, out-Value}

@@ -1,3 +1,5 @@
 pub mod CallLemmas
 pub mod LeastLemmas
+pub mod ScriptLemmas
 pub mod ProgramLemmas
+pub mod TableLemmas

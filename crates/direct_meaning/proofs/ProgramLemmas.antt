@@ -9,42 +9,29 @@ use Rattle.bag_groups.proofs.Grouping.{grouped-bag_of}
 use Rattle.bag_groups.specs.Combining.{combined_each, traps_of_each}
 use Rattle.bag_groups.specs.Groups.{distinct, grouped}
 use Rattle.combine_table.specs.Combinations.{combined}
-use Rattle.combine_table.specs.declared.comb.Comb.TheVariants as by
+use Rattle.combine_table.specs.declared.comb.Comb.{Comb}
 use Rattle.dofn_check.specs.Call.{Function, means}
 use Rattle.dofn_eval.specs.Function.{Function as Slots}
 use Rattle.dofn_eval.specs.Outcome.{Traps}
 use Rattle.dofn_eval.specs.Answer.{answered}
 use Rattle.dofn_eval.specs.Run.{means as slots_mean}
-use Rattle.flume_program.specs.Accepted.{Does, IsProgram, IsScriptOf, SumsInts, statement_of}
-use Rattle.flume_program.specs.Checked.{Rows, group_and_sum, one_do}
+use Rattle.flume_program.specs.Accepted.{Does, IsProgram, IsScriptOf, of_groups, statement_of, written_type}
+use Rattle.flume_program.specs.Checked.{Combination as Meant, Rows, group_and_combine, one_do}
 use Rattle.flume_program.specs.Script.{Do, Group, Combine, Input, Node, Script, name_at}
+use Rattle.flume_program.specs.declared.program.Combination.{Combination}
 use Rattle.flume_program.specs.declared.program.Program.{Program}
-use Rattle.flume_program.specs.declared.program.Sum.{Sum}
-use Rattle.flume_types.specs.Tables.{table_of}
 use Rattle.flume_types.specs.Typing.{has_type}
 use Rattle.flume_types.specs.declared.types.Ty.{Ty}
-use Rattle.flume_types.specs.declared.types.Ty.TheVariants as ty
 use Rattle.flume_value.proofs.BagLemmas.{length-bag_of}
 use Rattle.flume_value.specs.Bag.{bag_of}
 use Rattle.flume_value.specs.declared.fault.Kind.{Kind}
 use Rattle.flume_value.specs.declared.value.Value.{Value}
 use Rattle.direct_meaning.proofs.CallLemmas.{All-bag_of, All-distinct, Contains-bag_of, Contains-distinct, GoesThrough, HasSome, at_head, calls_all, calls_same, each_through, emitted_bag, none_trap, some_through, trap_among}
+use Rattle.direct_meaning.proofs.ScriptLemmas.{of_combination, of_one_do}
 use Rattle.direct_meaning.specs.Calls.{AllAnswer, EmitAll}
 use Rattle.direct_meaning.specs.Direct.{Call, Collection, Trap, all_emitted, all_traps, calls_on, collection_of, collections, combined_by, done_by, grouped_by, groups_of, has_traps, key_trap, meaning}
-use Rattle.direct_meaning.specs.Evaluated.{Evaluates, Traps as HasTrap, sum_sizes}
+use Rattle.direct_meaning.specs.Evaluated.{Evaluates, Traps as HasTrap, combination_sizes}
 use Rattle.direct_meaning.specs.declared.evaluation.Sizes.{Sizes}
-
--- ---- the script that a program is
-
--- a program without sums is one `do`
-of_one_do : (program : Program) (function : Function) (script : Script) → program.sum ≡ None → IsProgram program function script
-    → script ≡ one_do (statement_of program.input) function program.collection program.output_file
-of_one_do program function script none is = subst (λ (sum : Option Sum). IsScriptOf sum program function script) none is.is
-
--- a program with sums is a group and its sum
-of_sums : (program : Program) (sum : Sum) (function : Function) (script : Script) → program.sum ≡ Some sum → IsProgram program function script → (key : Ty) × (function.gives ≡ table_of key ty.Int)
-    × (script ≡ group_and_sum (statement_of program.input) function program.collection key sum.group sum.name program.output_file)
-of_sums program sum function script some is = subst (λ (s : Option Sum). IsScriptOf s program function script) some is.is
 
 -- ---- the calls of the `do`
 
@@ -110,17 +97,18 @@ node_do function name = (1, record { name = name; operation = Do 0 function })
 abbrev made_do : Function → List ℕ → List Call → List Call → Collection
 made_do function name calls once = collection_of (node_do function name) (bag_of (all_emitted calls)) (all_traps 1 once) false
 
-abbrev node_group : Ty → List ℕ → ℕ × Node
-node_group key name = (2, record { name = name; operation = Group 1 (table_of key (ty.List ty.Int)) })
+abbrev node_group : Meant → ℕ × Node
+node_group meant = (2, record { name = meant.group; operation = Group 1 meant.groups })
 
-abbrev made_group : Ty → List ℕ → Collection → Collection
-made_group key name done = grouped_by (node_group key name) done
+abbrev made_group : Meant → Collection → Collection
+made_group meant done = grouped_by (node_group meant) done
 
-abbrev node_sum : Ty → List ℕ → ℕ × Node
-node_sum key name = (3, record { name = name; operation = Combine 2 by.Sum (table_of key ty.Int) })
+abbrev node_combined : Meant → ℕ × Node
+node_combined meant =
+    (3, record { name = meant.name; operation = Combine 2 meant.combiner meant.type })
 
-abbrev made_sum : Ty → List ℕ → Collection → Collection
-made_sum key name groups = combined_by (node_sum key name) by.Sum groups
+abbrev made_combined : Meant → Collection → Collection
+made_combined meant groups = combined_by (node_combined meant) meant.combiner groups
 
 -- one `do` means these two collections
 do_means : (statement : Rows) (function : Function) (name file : List ℕ) (rows : List Value) (bag : BagCalls function rows)
@@ -129,15 +117,20 @@ do_means statement function name file rows bag =
     λ i. option_and_then (λ done. Some (made_input statement rows ∷ done ∷ []))
     (option_and_then (λ calls. option_map (λ once. made_do function name calls once) (bag.each i)) (bag.all i))
 
--- a group and its sum mean these four
-sums_mean : (statement : Rows) (function : Function) (name : List ℕ) (key : Ty) (group sum file : List ℕ) (rows : List Value) (bag : BagCalls function rows)
-    → let done = made_do function name bag.calls bag.once in let groups = made_group key group done in
-    meaning (group_and_sum statement function name key group sum file) (rows ∷ [])
-    ≡ Some (made_input statement rows ∷ done ∷ groups ∷ made_sum key sum groups ∷ [])
-sums_mean statement function name key group sum file rows bag =
-    let done : done_by (node_do function name) function (made_input statement rows) ≡ Some (made_do function name bag.calls bag.once)
-    = λ i. option_and_then (λ calls. option_map (λ once. made_do function name calls once) (bag.each i)) (bag.all i) in
-    ap (option_and_then (λ c. collections (node_group key group ∷ node_sum key sum ∷ []) [] (made_input statement rows ∷ c ∷ []))) done
+-- groups and their combination mean these four
+combination_means : (statement : Rows) (function : Function) (name : List ℕ) (meant : Meant)
+    (file : List ℕ) (rows : List Value) (bag : BagCalls function rows)
+    → let done = made_do function name bag.calls bag.once in let groups = made_group meant done in
+    meaning (group_and_combine statement function name meant file) (rows ∷ [])
+    ≡ Some (made_input statement rows ∷ done ∷ groups ∷ made_combined meant groups ∷ [])
+combination_means statement function name meant file rows bag =
+    let source = made_input statement rows in
+    let done : done_by (node_do function name) function source
+    ≡ Some (made_do function name bag.calls bag.once)
+    = λ i. option_and_then (λ calls. option_map (λ once. made_do function name calls once)
+    (bag.each i)) (bag.all i) in
+    ap (option_and_then (λ c.
+    collections (node_group meant ∷ node_combined meant ∷ []) [] (source ∷ c ∷ []))) done
 
 -- ---- sizes
 
@@ -150,8 +143,10 @@ told_bag xs n is small = told (bag_of xs) n (is ∙ sym (length-bag_of xs)) smal
 
 -- ---- one `do`
 
-pub do_evaluates : (program : Program) (rows values : List Value) (sizes : Sizes) → program.sum ≡ None → AreOf program.input.ty rows
-    → EmitAll program.fun rows values → sizes.rows ≡ length rows → sizes.values ≡ length values → sizes.rows < 2 ^ 64 → sizes.values < 2 ^ 64
+pub do_evaluates : (program : Program) (rows values : List Value) (sizes : Sizes)
+    → program.combination ≡ None → AreOf program.input.ty rows → EmitAll program.fun rows values
+    → sizes.rows ≡ length rows → sizes.values ≡ length values
+    → sizes.rows < 2 ^ 64 → sizes.values < 2 ^ 64
     → Evaluates program rows values sizes
 do_evaluates program rows values sizes none typed emits rows_are values_are rows_fit values_fit function script is =
     let statement = statement_of program.input in
@@ -165,27 +160,28 @@ do_evaluates program rows values sizes none typed emits rows_are values_are rows
         through = append-nil (all_traps 1 goes.bag.once) ∙ goes.none;
         counts = λ i. (program.input.name, told_bag rows sizes.rows rows_are rows_fit i)
             ∷ (program.collection, (ap (λ (xs : List Value). min (length xs) (2 ^ 64 - 1)) goes.emitted ∙ told_bag values sizes.values values_are values_fit) i)
-            ∷ sum_sizes (sym none i) sizes.groups;
+            ∷ combination_sizes (sym none i) sizes.groups;
         last = (
           done,
           record {
             read = ap (λ (s : Script). s.outputs) of;
             found = refl;
             bag = goes.emitted;
-            type = sym is.does.gives;
+            type = sym is.does.gives
+                ∙ ap (λ (c : Option Combination). written_type c program.fun.gives) (sym none);
           },
         );
       },
     )
 
--- ---- groups and their sums
+-- ---- groups and their combination
 
--- what a group's sum comes to
-abbrev summed : List Value → List Value
-summed groups = combined_each (combined by.Sum) groups
+-- what each group combines to
+abbrev all_combined : Comb → List Value → List Value
+all_combined comb groups = combined_each (combined comb) groups
 
-abbrev sum_traps : List Value → List (Kind × Value)
-sum_traps groups = traps_of_each (combined by.Sum) groups
+abbrev group_traps : Comb → List Value → List (Kind × Value)
+group_traps comb groups = traps_of_each (combined comb) groups
 
 -- where no call of the `do` traps, the groups are those of what is emitted
 groups_are : (function : Function) (rows values : List Value) (goes : Through function rows values)
@@ -194,43 +190,62 @@ groups_are function rows values goes =
     ap (λ (traps : List Trap). groups_of (has_traps traps) (bag_of (all_emitted goes.bag.calls))) goes.none
     ∙ (ap grouped goes.emitted ∙ grouped-bag_of values)
 
-sum_counts : (program : Program) (sum : Sum) (n : ℕ) → program.sum ≡ Some sum → (groups sums : ℕ) → groups ≡ n → sums ≡ n
-    → (sum.group, groups) ∷ (sum.name, sums) ∷ [] ≡ sum_sizes program.sum n
-sum_counts program sum n some groups sums group_count sum_count =
-    (λ i. (sum.group, group_count i) ∷ (sum.name, sum_count i) ∷ []) ∙ ap (λ (s : Option Sum). sum_sizes s n) (sym some)
+both_counts : (program : Program) (made : Combination) (n : ℕ) → program.combination ≡ Some made
+    → (groups members : ℕ) → groups ≡ n → members ≡ n
+    → (made.group, groups) ∷ (made.name, members) ∷ [] ≡ combination_sizes program.combination n
+both_counts program made n some groups members group_count member_count =
+    (λ i. (made.group, group_count i) ∷ (made.name, member_count i) ∷ [])
+    ∙ ap (λ (c : Option Combination). combination_sizes c n) (sym some)
 
-pub sums_evaluate : (program : Program) (sum : Sum) (rows values sums : List Value) (sizes : Sizes) → program.sum ≡ Some sum → AreOf program.input.ty rows
-    → EmitAll program.fun rows values → bag_of sums ≡ summed (grouped values) → sum_traps (grouped values) ≡ []
-    → sizes.groups ≡ length (grouped values) → sizes.groups ≡ length sums → sizes.rows ≡ length rows → sizes.values ≡ length values
-    → sizes.rows < 2 ^ 64 → sizes.values < 2 ^ 64 → sizes.groups < 2 ^ 64 → Evaluates program rows sums sizes
-sums_evaluate program sum rows values sums sizes some typed emits sums_are calm groups_count sums_count rows_are values_are rows_fit values_fit groups_fit function script is =
+pub combination_evaluates : (program : Program) (made : Combination)
+    (rows values members : List Value) (sizes : Sizes) → program.combination ≡ Some made
+    → AreOf program.input.ty rows → EmitAll program.fun rows values
+    → bag_of members ≡ all_combined made.combiner (grouped values)
+    → group_traps made.combiner (grouped values) ≡ []
+    → sizes.groups ≡ length (grouped values) → sizes.groups ≡ length members
+    → sizes.rows ≡ length rows → sizes.values ≡ length values
+    → sizes.rows < 2 ^ 64 → sizes.values < 2 ^ 64 → sizes.groups < 2 ^ 64
+    → Evaluates program rows members sizes
+combination_evaluates program made rows values members sizes some typed emits members_are calm
+    groups_count members_count rows_are values_are rows_fit values_fit groups_fit function script
+    is =
     let statement = statement_of program.input in
-    let goes = through program.fun function rows values is.does (subst (λ (type : Ty). AreOf type rows) (sym is.takes) typed) emits in
-    let of = of_sums program sum function script some is in
+    let goes = through program.fun function rows values is.does
+    (subst (λ (type : Ty). AreOf type rows) (sym is.takes) typed) emits in
+    let of = of_combination program made function script some is in
+    let meant = of_groups made of.0 in
     let done = made_do function program.collection goes.bag.calls goes.bag.once in
-    let groups = made_group of.0 sum.group done in
-    let last = made_sum of.0 sum.name groups in
-    let made = made_input statement rows ∷ done ∷ groups ∷ last ∷ [] in
+    let groups = made_group meant done in
+    let last = made_combined meant groups in
+    let all = made_input statement rows ∷ done ∷ groups ∷ last ∷ [] in
     let grouping = groups_are function rows values goes in
-    let total : last.bag ≡ bag_of sums = ap summed grouping ∙ sym sums_are in
+    let total : last.bag ≡ bag_of members
+    = ap (all_combined made.combiner) grouping ∙ sym members_are in
+    let traps : List Value → List Trap = λ g. map (key_trap 3) (group_traps made.combiner g) in
     let size : List Value → ℕ = λ xs. min (length xs) (2 ^ 64 - 1) in (
-      made,
+      all,
       record {
-        means = ap (λ (s : Script). meaning s (rows ∷ [])) of.2 ∙ sums_mean statement function program.collection of.0 sum.group sum.name program.output_file rows goes.bag;
-        through = ap (λ (traps : List Trap). traps ++ (map (key_trap 3) (sum_traps groups.bag) ++ [])) goes.none
-            ∙ (append-nil (map (key_trap 3) (sum_traps groups.bag)) ∙ (ap (λ (g : List Value). map (key_trap 3) (sum_traps g)) grouping ∙ ap (map (key_trap 3)) calm));
+        means = ap (λ (s : Script). meaning s (rows ∷ [])) of.2
+            ∙ combination_means statement function program.collection meant program.output_file rows
+            goes.bag;
+        through = ap (λ (before : List Trap). before ++ (traps groups.bag ++ [])) goes.none
+            ∙ (append-nil (traps groups.bag) ∙ (ap traps grouping ∙ ap (map (key_trap 3)) calm));
         counts = λ i. (program.input.name, told_bag rows sizes.rows rows_are rows_fit i)
-            ∷ (program.collection, (ap size goes.emitted ∙ told_bag values sizes.values values_are values_fit) i)
-            ∷ sum_counts program sum sizes.groups some
-            (size groups.bag) (size last.bag) (ap size grouping ∙ told (grouped values) sizes.groups groups_count groups_fit)
-            (ap size total ∙ told_bag sums sizes.groups sums_count groups_fit) i;
+            ∷ (
+              program.collection,
+              (ap size goes.emitted
+                  ∙ told_bag values sizes.values values_are values_fit) i,
+            )
+            ∷ both_counts program made sizes.groups some (size groups.bag) (size last.bag)
+            (ap size grouping ∙ told (grouped values) sizes.groups groups_count groups_fit)
+            (ap size total ∙ told_bag members sizes.groups members_count groups_fit) i;
         last = (
           last,
           record {
             read = ap (λ (s : Script). s.outputs) of.2;
             found = refl;
             bag = total;
-            type = sym of.1 ∙ sym is.does.gives;
+            type = ap (λ (c : Option Combination). written_type c program.fun.gives) (sym some);
           },
         );
       },
@@ -251,11 +266,15 @@ trap_once slots function rows bag kind element does typed at traps =
     trap_among 1 (means function) (distinct (bag_of rows)) bag.once element kind bag.each
     (Contains-distinct (bag_of rows) element (Contains-bag_of rows element at)) (ap answered (same ∙ traps))
 
--- whether a program has sums or not, a call of its `do` that traps is a trap of the script
-pub do_trap : (sum : Option Sum) (program : Program) (function : Function) (script : Script) (rows : List Value) (kind : Kind) (element : Value)
-    → IsScriptOf sum program function script → Does program.fun function → AreOf function.takes rows → All (HasSome (means function)) rows
+-- whether a program combines or not, a call of its `do` that traps is a trap of the script
+pub do_trap : (combination : Option Combination) (program : Program) (function : Function)
+    (script : Script) (rows : List Value) (kind : Kind) (element : Value)
+    → IsScriptOf combination program function script → Does program.fun function
+    → AreOf function.takes rows → All (HasSome (means function)) rows
     → Contains rows element → slots_mean program.fun.body element ≡ Traps kind
-    → (made : List Collection) × HasTrap script rows (record { origin = 1; name = program.collection; kind = kind; element = element }) made
+    → (made : List Collection)
+    × HasTrap script rows
+    (record { origin = 1; name = program.collection; kind = kind; element = element }) made
 do_trap None program function script rows kind element of does typed answers at traps =
     let statement = statement_of program.input in
     let bag = bag_calls function rows answers in
@@ -267,44 +286,55 @@ do_trap None program function script rows kind element of does typed answers at 
         named = ap (λ (s : Script). name_at s.nodes 1) of;
       },
     )
-do_trap (Some sum) program function script rows kind element of does typed answers at traps =
+do_trap (Some own) program function script rows kind element of does typed answers at traps =
     let statement = statement_of program.input in
     let bag = bag_calls function rows answers in
+    let meant = of_groups own of.0 in
     let done = made_do function program.collection bag.calls bag.once in
-    let groups = made_group of.0 sum.group done in
-    let last = made_sum of.0 sum.name groups in
+    let groups = made_group meant done in
+    let last = made_combined meant groups in
     let trap : Trap = record { origin = 1; kind = kind; element = element } in (
       made_input statement rows ∷ done ∷ groups ∷ last ∷ [],
       record {
         means = ap (λ (s : Script). meaning s (rows ∷ [])) of.2
-            ∙ sums_mean statement function program.collection of.0 sum.group sum.name program.output_file rows bag;
-        among = Contains-append_left (all_traps 1 bag.once) (map (key_trap 3) (sum_traps groups.bag) ++ []) trap
+            ∙ combination_means statement function program.collection meant program.output_file rows
+            bag;
+        among = Contains-append_left (all_traps 1 bag.once)
+            (map (key_trap 3) (group_traps own.combiner groups.bag) ++ []) trap
             (trap_once program.fun function rows bag kind element does typed at traps);
         named = ap (λ (s : Script). name_at s.nodes 1) of.2;
       },
     )
 
--- the first trap of the sums is a trap of the script
-pub sum_trap : (program : Program) (sum : Sum) (rows values : List Value) (kind : Kind) (key : Value) (function : Function) (script : Script)
-    → program.sum ≡ Some sum → IsProgram program function script → AreOf program.input.ty rows → EmitAll program.fun rows values
-    → slice_get (sum_traps (grouped values)) 0 ≡ Some (kind, key)
-    → (made : List Collection) × HasTrap script rows (record { origin = 3; name = sum.name; kind = kind; element = key }) made
-sum_trap program sum rows values kind key function script some is typed emits first =
+-- the first trap of the groups is a trap of the script
+pub group_trap : (program : Program) (own : Combination) (rows values : List Value) (kind : Kind)
+    (key : Value) (function : Function) (script : Script) → program.combination ≡ Some own
+    → IsProgram program function script → AreOf program.input.ty rows
+    → EmitAll program.fun rows values
+    → slice_get (group_traps own.combiner (grouped values)) 0 ≡ Some (kind, key)
+    → (made : List Collection)
+    × HasTrap script rows (record { origin = 3; name = own.name; kind = kind; element = key }) made
+group_trap program own rows values kind key function script some is typed emits first =
     let statement = statement_of program.input in
-    let goes = through program.fun function rows values is.does (subst (λ (type : Ty). AreOf type rows) (sym is.takes) typed) emits in
-    let of = of_sums program sum function script some is in
+    let goes = through program.fun function rows values is.does
+    (subst (λ (type : Ty). AreOf type rows) (sym is.takes) typed) emits in
+    let of = of_combination program own function script some is in
+    let meant = of_groups own of.0 in
     let done = made_do function program.collection goes.bag.calls goes.bag.once in
-    let groups = made_group of.0 sum.group done in
-    let last = made_sum of.0 sum.name groups in
-    let traps = map (key_trap 3) (sum_traps groups.bag) in
+    let groups = made_group meant done in
+    let last = made_combined meant groups in
+    let all : List Value → List Trap = λ g. map (key_trap 3) (group_traps own.combiner g) in
+    let traps = all groups.bag in
     let trap : Trap = record { origin = 3; kind = kind; element = key } in
     let here : slice_get traps 0 ≡ Some trap
-    = ap (λ (g : List Value). slice_get (map (key_trap 3) (sum_traps g)) 0) (groups_are function rows values goes)
-    ∙ (slice_get-map (key_trap 3) (sum_traps (grouped values)) 0 ∙ ap (option_map (key_trap 3)) first) in (
+    = ap (λ (g : List Value). slice_get (all g) 0) (groups_are function rows values goes)
+    ∙ (slice_get-map (key_trap 3) (group_traps own.combiner (grouped values)) 0
+    ∙ ap (option_map (key_trap 3)) first) in (
       made_input statement rows ∷ done ∷ groups ∷ last ∷ [],
       record {
         means = ap (λ (s : Script). meaning s (rows ∷ [])) of.2
-            ∙ sums_mean statement function program.collection of.0 sum.group sum.name program.output_file rows goes.bag;
+            ∙ combination_means statement function program.collection meant program.output_file rows
+            goes.bag;
         among = Contains-append_right (all_traps 1 goes.bag.once) (traps ++ []) trap
             (Contains-append_left traps [] trap (first_in traps trap here));
         named = ap (λ (s : Script). name_at s.nodes 3) of.2;
@@ -317,8 +347,3 @@ pub renamed : (script : Script) (rows : List Value) (origin : ℕ) (name copy : 
     → (made : List Collection) × HasTrap script rows (record { origin = origin; name = copy; kind = kind; element = element }) made
 renamed script rows origin name copy kind element same =
     subst (λ (n : List ℕ). (made : List Collection) × HasTrap script rows (record { origin = origin; name = n; kind = kind; element = element }) made) same
-
--- the key of the table that a program's sums are of
-pub summed_key : (sums : Option Sum) (type : Ty) (sum : Sum) → sums ≡ Some sum → SumsInts sums type → (key : Ty) × (type ≡ table_of key ty.Int)
-summed_key None type sum some ints = absurd (cc)
-summed_key (Some own) type sum some ints = ints

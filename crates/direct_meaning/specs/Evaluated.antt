@@ -2,10 +2,10 @@
 use Rattle.std.specs.Prelude.{◌≡◌, ℕ, List, [], ◌∷◌, Option, Some, None, ⊤}
 use Rattle.std.specs.List.{Contains}
 use Rattle.dofn_check.specs.Call.{Function}
-use Rattle.flume_program.specs.Accepted.{IsProgram}
+use Rattle.flume_program.specs.Accepted.{IsProgram, written_type}
 use Rattle.flume_program.specs.Script.{Script, name_at}
+use Rattle.flume_program.specs.declared.program.Combination.{Combination}
 use Rattle.flume_program.specs.declared.program.Program.{Program}
-use Rattle.flume_program.specs.declared.program.Sum.{Sum}
 use Rattle.flume_value.specs.Bag.{bag_of}
 use Rattle.flume_value.specs.declared.value.Value.{Value}
 use Rattle.direct_meaning.specs.Direct.{Collection, collection_at, meaning, sizes_of, traps_of}
@@ -14,17 +14,17 @@ use Rattle.direct_meaning.specs.declared.evaluation.EvaluationFault.TheVariants 
 use Rattle.direct_meaning.specs.declared.evaluation.Sizes.{Sizes}
 use Rattle.direct_meaning.specs.declared.evaluation.Trapped.{Trapped}
 
--- the names of the groups and their sums, where there are some, with their sizes
-abbrev pub sum_sizes : Option Sum → ℕ → List (List ℕ × ℕ)
-sum_sizes None groups = []
-sum_sizes (Some sum) groups = (sum.group, groups) ∷ (sum.name, groups) ∷ []
+-- the names of the groups and of their combination, where there is one, with their sizes
+abbrev pub combination_sizes : Option Combination → ℕ → List (List ℕ × ℕ)
+combination_sizes None groups = []
+combination_sizes (Some made) groups = (made.group, groups) ∷ (made.name, groups) ∷ []
 
 -- the names of a program's collections, with these sizes
 abbrev pub program_sizes : Program → Sizes → List (List ℕ × ℕ)
 program_sizes program sizes =
     (program.input.name, sizes.rows)
     ∷ (program.collection, sizes.values)
-    ∷ sum_sizes program.sum sizes.groups
+    ∷ combination_sizes program.combination sizes.groups
 
 -- The script has one output, to the program's file, of the collection that has these members.
 pub record IsLast (program : Program) (script : Script) (made : List Collection)
@@ -33,7 +33,7 @@ pub record IsLast (program : Program) (script : Script) (made : List Collection)
       record { reads = last.number; name = last.name; file = program.output_file } ∷ []
   pub found : collection_at made last.number ≡ Some last
   pub bag : last.bag ≡ bag_of members
-  pub type : last.type ≡ program.fun.gives
+  pub type : last.type ≡ written_type program.combination program.fun.gives
 
 -- Over these rows the script means collections with these sizes, without a trap, and these members
 -- are to be written.

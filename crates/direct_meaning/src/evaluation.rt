@@ -1,17 +1,17 @@
 // The direct evaluation of a program, one statement after another.
 ghost use Rattle.std.specs.Prelude.{◌≡◌, IfErr, IfOk, List, Some, length};
-ghost use Rattle.flume_program.specs.Accepted.{IsReady};
+ghost use Rattle.flume_program.specs.Accepted.{IsReady, written_type};
 ghost use Rattle.flume_types.specs.Tables.{table_of};
 ghost use Rattle.flume_types.specs.declared.types.Ty.{Ty};
-ghost use Rattle.flume_types.specs.declared.types.Ty.TheVariants as ty;
 ghost use Rattle.flume_value.specs.declared.value.Value.{Value as Value_};
 ghost use Rattle.direct_meaning.specs.Evaluated.{Evaluates, IsFaultOf};
 ghost use Rattle.direct_meaning.specs.inner.Emitted.{Emits};
 ghost use Rattle.flume_types.specs.Typing.{AllHave};
+ghost use Rattle.keyed_steps.specs.Types.{TakesType, gives_type};
 
 use crate::calls::{ElementFault, emit_all};
-use crate::sums::group_sums;
-use flume_program::{Program, Sum};
+use crate::combinations::combine_groups;
+use flume_program::{Combination, Program};
 use flume_value::{Items, Kind, Str, Value};
 use keyed_steps::KeyFault;
 use std::alloc::{AllocError, Global};
@@ -22,7 +22,7 @@ pub struct Sizes {
     pub rows: usize,
     /// What the function emits.
     pub values: usize,
-    /// The groups, and so their sums, where there are some.
+    /// The groups, and so what they combine to, where there are some.
     pub groups: usize,
 }
 
@@ -65,19 +65,21 @@ impl From<AllocError> for EvaluationFault {
 }
 
 /// Evaluates a program over the rows of its input, one statement after another. The trap is that of
-/// the first row in order of the input whose call traps, else that of the least key whose sum does.
+/// the first row in order of the input whose call traps, else that of the least key whose group
+/// traps.
 pub fn evaluate(alloc: Global, program: &Program, rows: Items) -> Result<Evaluated, EvaluationFault>
     requires ready { IsReady program.now }
     requires typed { AllHave program.now.input.ty rows }
     ensures meaning { IfOk result (λ it. Evaluates program.now rows it.members.items it.sizes) }
-    ensures typed { IfOk result (λ it. AllHave program.now.fun.gives it.members.items) }
+    ensures typed { IfOk result (λ it.
+        AllHave (written_type program.now.combination program.now.fun.gives) it.members.items) }
     ensures fault { IfErr result (IsFaultOf program.now rows) }
 {
     let count = rows.len();
     match emit_all(alloc, &program.fun, rows.as_slice()) {
-        Ok(values) => match &program.sum {
-            None => Ok(unsummed(count, values)),
-            Some(sum) => summed(alloc, program, sum, count, values),
+        Ok(values) => match &program.combination {
+            None => Ok(uncombined(count, values)),
+            Some(made) => combined(alloc, program, made, count, values),
         },
         Err(ElementFault::Trap { kind, element }) => Err(EvaluationFault::Trapped(Trapped {
             origin: 1,
@@ -90,7 +92,7 @@ pub fn evaluate(alloc: Global, program: &Program, rows: Items) -> Result<Evaluat
 }
 
 // What a run comes to that ends with what its function emits.
-fn unsummed(rows: usize, values: Vec<Value>) -> Evaluated
+fn uncombined(rows: usize, values: Vec<Value>) -> Evaluated
     ensures members { result.members.items ≡ values.items }
     ensures rows { result.sizes.rows ≡ rows }
     ensures values { result.sizes.values ≡ length values.items }
@@ -106,36 +108,38 @@ fn unsummed(rows: usize, values: Vec<Value>) -> Evaluated
     }
 }
 
-// What a run comes to that ends with the sums of what its function emits.
-fn summed(
+// What a run comes to that ends with the combinations of what its function emits.
+fn combined(
     alloc: Global,
     program: &Program,
-    sum: &Sum,
+    made: &Combination,
     rows: usize,
     values: Vec<Value>,
 ) -> Result<Evaluated, EvaluationFault>
-    requires some { program.now.sum ≡ Some sum.now }
-    requires table { (key : Ty) × AllHave (table_of key ty.Int) values.items }
+    requires some { program.now.combination ≡ Some made.now }
+    requires table { (key : Ty) × (value : Ty)
+        × TakesType made.now.combiner value × AllHave (table_of key value) values.items }
     ensures meaning { (all : List Value_) → Emits program.now all values.items → rows ≡ length all →
         IfOk result (λ it. Evaluates program.now all it.members.items it.sizes) }
-    ensures typed { (key : Ty) → AllHave (table_of key ty.Int) values.items →
-        IfOk result (λ it. AllHave (table_of key ty.Int) it.members.items) }
+    ensures typed { (key value : Ty) → AllHave (table_of key value) values.items →
+        IfOk result (λ it.
+        AllHave (table_of key (gives_type made.now.combiner value)) it.members.items) }
     ensures fault { (all : List Value_) → Emits program.now all values.items →
         IfErr result (IsFaultOf program.now all) }
 {
     let count = values.len();
-    match group_sums(alloc, values) {
-        Ok(sums) => Ok(Evaluated {
-            members: sums.values,
+    match combine_groups(alloc, made.combiner, values) {
+        Ok(combinations) => Ok(Evaluated {
+            members: combinations.values,
             sizes: Sizes {
                 rows,
                 values: count,
-                groups: sums.groups,
+                groups: combinations.groups,
             },
         }),
         Err(KeyFault::Trap { kind, key }) => Err(EvaluationFault::Trapped(Trapped {
             origin: 3,
-            name: sum.name.copy(alloc)?,
+            name: made.name.copy(alloc)?,
             kind,
             element: key,
         })),

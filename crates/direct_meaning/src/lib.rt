@@ -4,11 +4,11 @@
 #![tactic(auto)]
 
 mod calls;
+mod combinations;
 mod evaluation;
 mod laws;
-mod sums;
 
 pub use calls::{ElementFault, emit_all};
+pub use combinations::{Combinations, combine_groups};
 pub use evaluation::{Evaluated, EvaluationFault, Sizes, Trapped, evaluate};
 pub use laws::least_law;
-pub use sums::{Sums, group_sums};

@@ -10,8 +10,8 @@ use Rattle.dofn_eval.specs.Outcome.{Outcome, Gives, Traps, Stuck, then}
 use Rattle.dofn_eval.specs.Run as slots
 use Rattle.dofn_eval.specs.Typed as typing
 use Rattle.dofn_eval.specs.Typed.{BlockTyped}
-use Rattle.named_types.specs.Options.{◌>>=◌, where_true}
-use Rattle.named_types.specs.Types.{Scope}
+use Rattle.type_trees.specs.Options.{◌>>=◌, where_true}
+use Rattle.type_trees.specs.Types.{Scope}
 use Rattle.flume_types.specs.Equality.{type_eq}
 use Rattle.dofn_check.specs.Typing.{type_in, unseen, after_all, layer_after, after as names_after}
 use Rattle.dofn_check.specs.Call.{State, state, given_in, run_all, block, layer_emitted, emitted_in}

@@ -7,11 +7,11 @@ use Rattle.int_text.specs.Ints.{int_of_text}
 use Rattle.dofn_eval.specs.declared.expr.Expr.{Expr as Slots}
 use Rattle.dofn_eval.specs.Outcome.{Outcome, then, with_part}
 use Rattle.dofn_eval.specs.Operations.{of_one}
-use Rattle.named_types.specs.Options.{◌>>=◌}
+use Rattle.type_trees.specs.Options.{◌>>=◌}
 use Rattle.typed_forms.specs.declared.operator.Operator.{Operator}
 use Rattle.typed_forms.specs.Operators.{operator, concat, side_of}
-use Rattle.named_types.specs.Written.{whole_type}
-use Rattle.named_types.specs.Types.{Scope, all_types}
+use Rattle.type_trees.specs.Written.{whole_type}
+use Rattle.type_trees.specs.Types.{Scope, all_types}
 use Rattle.typed_forms.specs.FormTypes.{binary_type, side_type}
 use Rattle.dofn_check.specs.Typing.{layer_type, type_in}
 use Rattle.dofn_check.specs.Call.{Thing, Environment, typed, operated, all_given, layer_given, given_in}

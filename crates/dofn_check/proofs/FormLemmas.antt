@@ -8,10 +8,10 @@ use Rattle.flume_grammar.specs.declared.tree.Body.{Body, Body-F, out-Body, map-B
 use Rattle.dofn_eval.specs.Outcome.{Outcome, Gives, then}
 use Rattle.dofn_eval.specs.Operations.{chosen}
 use Rattle.dofn_eval.proofs.MeaningLemmas.{then_same}
-use Rattle.named_types.specs.Options.{◌>>=◌, where_true}
-use Rattle.named_types.specs.Fields.{member_type, side_types}
-use Rattle.named_types.specs.Types.{Scope}
-use Rattle.named_types.proofs.WrittenLemmas.{types_mapped}
+use Rattle.type_trees.specs.Options.{◌>>=◌, where_true}
+use Rattle.type_trees.specs.Fields.{member_type, side_types}
+use Rattle.type_trees.specs.Types.{Scope}
+use Rattle.type_trees.proofs.WrittenLemmas.{types_mapped}
 use Rattle.flume_types.specs.Equality.{type_eq}
 use Rattle.typed_forms.specs.FormTypes.{record_type, list_type}
 use Rattle.dofn_check.specs.Typing.{layer_type, type_in, unseen, after_all, layer_after, after as names_after}

@@ -9,12 +9,12 @@ use Rattle.dofn_eval.specs.Run.{means as slots_mean}
 use Rattle.dofn_eval.specs.Typed.{BlockTyped}
 use Rattle.dofn_eval.specs.Answer.{HasAnswer}
 use Rattle.dofn_eval.proofs.Sound.{answered_call}
-use Rattle.named_types.specs.declared.refusal.Refusal.{Refusal}
-use Rattle.named_types.specs.declared.refusal.Refusal.TheVariants.{NotAccepted, Memory}
-use Rattle.named_types.specs.Types.{Scope}
+use Rattle.type_trees.specs.declared.refusal.Refusal.{Refusal}
+use Rattle.type_trees.specs.declared.refusal.Refusal.TheVariants.{NotAccepted, Memory}
+use Rattle.type_trees.specs.Types.{Scope}
 use Rattle.dofn_check.specs.Typing.{after_all, after, are_typed}
 use Rattle.dofn_check.specs.Call.{block, emitted_in, Function, means}
-use Rattle.named_types.specs.Answers.{Finds}
+use Rattle.type_trees.specs.Answers.{Finds}
 use Rattle.dofn_check.specs.inner.Slots.{placed_of, block as block_of}
 use Rattle.dofn_check.proofs.StatementLemmas.{IsBlock}
 use Rattle.dofn_check.proofs.BodyLemmas.{right_block}

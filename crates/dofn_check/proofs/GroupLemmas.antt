@@ -5,9 +5,9 @@ use Rattle.flume_grammar.specs.declared.tree.Expr.{Expr}
 use Rattle.dofn_eval.specs.declared.expr.Expr.{Expr as Slots}
 use Rattle.dofn_eval.specs.declared.stmt.Stmt.{Stmt}
 use Rattle.dofn_eval.specs.declared.stmt.Stmt.TheVariants as stmt
-use Rattle.named_types.specs.Options.{◌>>=◌}
-use Rattle.named_types.specs.Types.{Scope}
-use Rattle.named_types.specs.Fields.{member_type, side_types}
+use Rattle.type_trees.specs.Options.{◌>>=◌}
+use Rattle.type_trees.specs.Types.{Scope}
+use Rattle.type_trees.specs.Fields.{member_type, side_types}
 use Rattle.dofn_check.specs.Typing.{unseen}
 use Rattle.dofn_check.specs.inner.Slots.{slots_of, InBlock, slots_as, new_value, beneath, both, if_slots, for_slots, case_slots}
 

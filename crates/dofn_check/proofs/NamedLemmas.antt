@@ -15,14 +15,14 @@ use Rattle.dofn_eval.specs.Outcome.{Outcome, Gives, then, with_part}
 use Rattle.dofn_eval.specs.Operations.{field_in}
 use Rattle.dofn_eval.specs.Typed as typing
 use Rattle.dofn_eval.proofs.MeaningLemmas.{value_of-Literal, value_of-Variable, value_of-Field, value_of-List}
-use Rattle.named_types.specs.Options.{◌>>=◌}
-use Rattle.named_types.specs.Names.{look}
-use Rattle.named_types.specs.Fields.{record_fields, field_at, place_under}
-use Rattle.named_types.specs.Written.{whole_type}
-use Rattle.named_types.specs.Types.{Scope, shallow}
+use Rattle.type_trees.specs.Options.{◌>>=◌}
+use Rattle.type_trees.specs.Names.{look}
+use Rattle.type_trees.specs.Fields.{record_fields, field_at, place_under}
+use Rattle.type_trees.specs.Written.{whole_type}
+use Rattle.type_trees.specs.Types.{Scope, shallow}
 use Rattle.typed_forms.specs.FormTypes.{empty_type}
 use Rattle.dofn_check.specs.Call.{Thing, Environment, tagged, typed, dotted}
-use Rattle.named_types.specs.Places.{further, place_in}
+use Rattle.type_trees.specs.Places.{further, place_in}
 use Rattle.typed_forms.specs.Forms.{Typed, literal, variable, empty, field}
 use Rattle.typed_forms.proofs.TypeLemmas.{where_same, record_type_is}
 use Rattle.dofn_check.proofs.RightLemmas.{types, bound, IsRight, right_made, same_one}

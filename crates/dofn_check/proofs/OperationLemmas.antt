@@ -15,9 +15,9 @@ use Rattle.dofn_eval.specs.Typed as typing
 use Rattle.dofn_eval.proofs.MeaningLemmas.{value_of-Unary, value_of-Binary, value_of-And, value_of-Or, value_of-Index, value_of-Pick}
 use Rattle.typed_forms.specs.declared.operator.Operator.{Operator}
 use Rattle.typed_forms.specs.declared.operator.Operator.TheVariants.{And, Or, Two}
-use Rattle.named_types.specs.Options.{◌>>=◌}
+use Rattle.type_trees.specs.Options.{◌>>=◌}
 use Rattle.typed_forms.specs.Operators.{one, side_of}
-use Rattle.named_types.specs.Types.{Scope}
+use Rattle.type_trees.specs.Types.{Scope}
 use Rattle.typed_forms.specs.FormTypes.{unary_type, binary_type, index_type, pick_type, side_type}
 use Rattle.dofn_check.specs.Call.{Thing, Environment, tagged, typed, valued, operated}
 use Rattle.typed_forms.specs.Forms.{Typed, unary, operation, binary, index, side, pick}

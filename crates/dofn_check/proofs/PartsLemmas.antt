@@ -17,10 +17,10 @@ use Rattle.dofn_eval.specs.Outcome.{Outcome, Gives, Traps, Stuck, then}
 use Rattle.dofn_eval.specs.Meaning.{values_of, value_of}
 use Rattle.dofn_eval.specs.Typed as typing
 use Rattle.dofn_eval.proofs.MeaningLemmas.{value_of-Record, value_of-List}
-use Rattle.named_types.specs.Options.{◌>>=◌}
-use Rattle.named_types.specs.Names.{are_different}
-use Rattle.named_types.specs.Fields.{fields_of}
-use Rattle.named_types.specs.Types.{Scope, shallow}
+use Rattle.type_trees.specs.Options.{◌>>=◌}
+use Rattle.type_trees.specs.Names.{are_different}
+use Rattle.type_trees.specs.Fields.{fields_of}
+use Rattle.type_trees.specs.Types.{Scope, shallow}
 use Rattle.flume_types.specs.Equality.{type_eq}
 use Rattle.typed_forms.specs.FormTypes.{record_type, list_type}
 use Rattle.dofn_check.specs.Call.{Thing, Environment, tagged, typed}

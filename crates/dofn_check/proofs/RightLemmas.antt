@@ -9,7 +9,7 @@ use Rattle.dofn_eval.specs.Outcome.{Outcome, Gives, Traps, Stuck, then, then_bot
 use Rattle.dofn_eval.specs.Operations.{chosen}
 use Rattle.dofn_eval.specs.Meaning.{value_of}
 use Rattle.dofn_eval.specs.Typed as typing
-use Rattle.named_types.specs.Types.{Scope}
+use Rattle.type_trees.specs.Types.{Scope}
 use Rattle.dofn_check.specs.Call.{Thing, Environment, tagged, valued}
 use Rattle.typed_forms.specs.Forms.{Typed}
 

@@ -16,13 +16,13 @@ use Rattle.int_text.specs.Ints.{int_of_text}
 use Rattle.dofn_eval.specs.declared.expr.Expr.{Expr as Slots}
 use Rattle.dofn_eval.specs.declared.expr.Expr.TheVariants as expr
 use Rattle.dofn_eval.specs.declared.stmt.Stmt.{Stmt}
-use Rattle.named_types.specs.declared.refusal.Refusal.{Refusal}
-use Rattle.named_types.specs.declared.refusal.Refusal.TheVariants.{NotAccepted, Memory}
-use Rattle.named_types.specs.Options.{◌>>=◌}
+use Rattle.type_trees.specs.declared.refusal.Refusal.{Refusal}
+use Rattle.type_trees.specs.declared.refusal.Refusal.TheVariants.{NotAccepted, Memory}
+use Rattle.type_trees.specs.Options.{◌>>=◌}
 use Rattle.typed_forms.specs.Operators.{operator, concat}
-use Rattle.named_types.specs.Types.{Scope}
+use Rattle.type_trees.specs.Types.{Scope}
 use Rattle.typed_forms.specs.FormTypes.{empty_type}
-use Rattle.named_types.specs.Answers.{Finds}
+use Rattle.type_trees.specs.Answers.{Finds}
 use Rattle.typed_forms.specs.Forms.{Typed, literal, variable, empty, fields, members}
 use Rattle.dofn_check.specs.inner.Slots.{all_slots, unary_slots, field_slots, record_slots, list_slots, two_slots, index_slots, pick_slots, side_slots, layer_slots, slots_of, Placed, block_slots, block, let_slots, emit_slots, if_slots, for_slots, case_slots, within, layer_placed, placed_of}
 

@@ -15,9 +15,9 @@ use Rattle.dofn_eval.specs.Run as slots
 use Rattle.dofn_eval.specs.Typed as typing
 use Rattle.dofn_eval.specs.Typed.{BlockTyped}
 use Rattle.dofn_eval.proofs.MeaningLemmas.{then_same, run_one-Let, run_one-Emit, run_one-If, run_one-For, run_one-Case}
-use Rattle.named_types.specs.Options.{◌>>=◌, where_true}
-use Rattle.named_types.specs.Fields.{member_type, side_types}
-use Rattle.named_types.specs.Types.{Scope}
+use Rattle.type_trees.specs.Options.{◌>>=◌, where_true}
+use Rattle.type_trees.specs.Fields.{member_type, side_types}
+use Rattle.type_trees.specs.Types.{Scope}
 use Rattle.flume_types.specs.Equality.{type_eq}
 use Rattle.dofn_check.specs.Call.{Thing, Environment, State, state, tagged, valued, Emits, each, for_each, side, by_side, after}
 use Rattle.typed_forms.specs.Forms.{Typed}

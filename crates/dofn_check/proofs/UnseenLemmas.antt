@@ -1,10 +1,10 @@
 -- A name that is not in sight.
 use Rattle.std.proofs.Common.{◌≡◌, ℕ, Bool, true, false, not, ◌||◌, Option, Some, None, List, ◌++◌, is_some, refl, sym, ap, ◌∙◌}
 use Rattle.flume_grammar.specs.declared.tree.Expr.{Expr}
-use Rattle.named_types.specs.Options.{◌>>=◌, where_true}
-use Rattle.named_types.specs.Names.{look}
-use Rattle.named_types.specs.Types.{Scope}
-use Rattle.named_types.proofs.BehindLemmas.{look-append}
+use Rattle.type_trees.specs.Options.{◌>>=◌, where_true}
+use Rattle.type_trees.specs.Names.{look}
+use Rattle.type_trees.specs.Types.{Scope}
+use Rattle.type_trees.proofs.BehindLemmas.{look-append}
 use Rattle.typed_forms.specs.Forms.{Typed}
 use Rattle.dofn_check.specs.inner.Slots.{slots_of, new_value}
 

@@ -13,11 +13,11 @@ use Rattle.flume_value.specs.Parts.{members_of, left_of, right_of}
 use Rattle.dofn_eval.specs.Operations.{of_one, of_two, field_in, member_in, chosen}
 use Rattle.typed_forms.specs.declared.operator.Operator.{Operator}
 use Rattle.typed_forms.specs.declared.operator.Operator.TheVariants.{And, Or, Two}
-use Rattle.named_types.specs.Names.{look}
-use Rattle.named_types.specs.Fields.{place_under, member_type, side_types}
+use Rattle.type_trees.specs.Names.{look}
+use Rattle.type_trees.specs.Fields.{place_under, member_type, side_types}
 use Rattle.typed_forms.specs.Operators.{operator, concat, one, side_of}
-use Rattle.named_types.specs.Written.{whole_type}
-use Rattle.named_types.specs.Types.{Scope}
+use Rattle.type_trees.specs.Written.{whole_type}
+use Rattle.type_trees.specs.Types.{Scope}
 use Rattle.typed_forms.specs.FormTypes.{unary_type, two_type, index_type, record_type, list_type, side_type, empty_type}
 
 -- a value with its type, by which the fields of a record have their places

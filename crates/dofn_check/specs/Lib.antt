@@ -1,5 +1,5 @@
-pub use Rattle.named_types.specs.Names
-pub use Rattle.named_types.specs.Fields
+pub use Rattle.type_trees.specs.Names
+pub use Rattle.type_trees.specs.Fields
 pub mod Typing
 pub mod Call
 pub mod inner

@@ -1,5 +1,5 @@
 -- Which bodies are well typed: the types of expressions where names have these types.
-pub use Rattle.named_types.specs.Types.{Scope, shallow, all_types}
+pub use Rattle.type_trees.specs.Types.{Scope, shallow, all_types}
 use Rattle.std.specs.Prelude.{ℕ, Bool, not, is_some, List, [], ◌∷◌, Option, Some, option_map}
 use Rattle.flume_types.specs.declared.types.Ty.{Ty}
 use Rattle.flume_types.specs.declared.types.Ty.TheVariants as ty
@@ -7,10 +7,10 @@ use Rattle.flume_types.specs.Equality.{type_eq}
 use Rattle.flume_grammar.specs.declared.tree.Expr.{Expr, Expr-F, fold-Expr}
 use Rattle.flume_grammar.specs.declared.tree.Body.{Body, Body-F, fold-Body}
 use Rattle.int_text.specs.Ints.{int_of_text}
-use Rattle.named_types.specs.Options.{◌>>=◌, where_true}
-use Rattle.named_types.specs.Names.{look}
-use Rattle.named_types.specs.Fields.{place_under, member_type, side_types}
-use Rattle.named_types.specs.Written.{whole_type}
+use Rattle.type_trees.specs.Options.{◌>>=◌, where_true}
+use Rattle.type_trees.specs.Names.{look}
+use Rattle.type_trees.specs.Fields.{place_under, member_type, side_types}
+use Rattle.type_trees.specs.Written.{whole_type}
 use Rattle.typed_forms.specs.Operators.{operator, concat}
 use Rattle.typed_forms.specs.FormTypes.{unary_type, binary_type, index_type, pick_type, record_type, list_type, side_type, empty_type}
 

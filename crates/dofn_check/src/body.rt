@@ -1,5 +1,5 @@
 ghost use Rattle.std.specs.Prelude.{◌∷◌, ◌++◌};
-ghost use Rattle.named_types.specs.Answers.{Finds};
+ghost use Rattle.type_trees.specs.Answers.{Finds};
 ghost use Rattle.typed_forms.specs.Sights.{names_of};
 ghost use Rattle.typed_forms.specs.Forms.{typed};
 ghost use Rattle.dofn_check.specs.Typing.{unseen as not_seen};
@@ -11,8 +11,8 @@ use dofn_eval::{Block, Expr as Slots, Stmt};
 use flume_grammar::{Body, Expr};
 use flume_types::{Ty, same_type};
 use flume_value::{Pile, Str};
-use named_types::{Names, Refusal, Sides, member_of, sides_of};
 use std::alloc::Global;
+use type_trees::{Names, Refusal, Sides, member_of, sides_of};
 use typed_forms::{Scope, Typed};
 
 /// The two blocks of a statement.

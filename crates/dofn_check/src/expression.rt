@@ -1,5 +1,5 @@
 ghost use Rattle.std.specs.Prelude.{[]};
-ghost use Rattle.named_types.specs.Answers.{Finds};
+ghost use Rattle.type_trees.specs.Answers.{Finds};
 ghost use Rattle.typed_forms.specs.Sights.{names_of};
 ghost use Rattle.typed_forms.specs.Forms.{typed, all_typed};
 ghost use Rattle.dofn_check.specs.inner.Slots as spec;
@@ -9,8 +9,8 @@ use dofn_eval::{Binary, Expr as Slots};
 use flume_grammar::{Expr, Side, Type, Unary};
 use flume_types::Ty;
 use flume_value::{Pile, Str, Value};
-use named_types::{Names, Refusal, whole_type};
 use std::alloc::Global;
+use type_trees::{Names, Refusal, whole_type};
 use typed_forms::{
     AllTyped, Operator, Scope, Typed, binary, empty, field, index, list, number, operator_of, pick,
     record, sided, text, unary, variable,

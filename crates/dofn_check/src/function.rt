@@ -2,7 +2,7 @@ ghost use Rattle.std.specs.Prelude.{◌≡◌, ◌≢◌, ℕ, List, [], ◌∷�
 ghost use Rattle.flume_value.specs.declared.value.Value.{Value as Value_};
 ghost use Rattle.dofn_eval.specs.Typed.{Has};
 ghost use Rattle.dofn_eval.specs.Run.{means as slots_mean};
-ghost use Rattle.named_types.specs.Answers.{Finds};
+ghost use Rattle.type_trees.specs.Answers.{Finds};
 ghost use Rattle.dofn_check.specs.Typing.{are_typed};
 ghost use Rattle.dofn_check.specs.Call.{means};
 ghost use Rattle.dofn_check.specs.inner.Slots.{block, placed_of};
@@ -12,8 +12,8 @@ use dofn_eval::{Block, Fun};
 use flume_grammar::Body;
 use flume_types::Ty;
 use flume_value::Str;
-use named_types::{Names, Refusal};
 use std::alloc::Global;
+use type_trees::{Names, Refusal};
 use typed_forms::Scope;
 
 /// The function of a body, with slots in place of names: it takes and gives values of these

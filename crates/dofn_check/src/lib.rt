@@ -14,4 +14,4 @@ mod laws;
 
 pub use function::check_function;
 pub use laws::call_law;
-pub use named_types::{Refusal, are_different};
+pub use type_trees::{Refusal, are_different};

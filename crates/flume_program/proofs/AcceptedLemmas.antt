@@ -5,20 +5,20 @@ use Rattle.flume_types.specs.Columns.{columns_of}
 use Rattle.flume_grammar.specs.declared.tree.Statement.{Statement}
 use Rattle.dofn_check.specs.Call.{Function}
 use Rattle.dofn_check.specs.Typing.{Scope}
-use Rattle.named_types.specs.declared.refusal.Refusal.{Refusal}
-use Rattle.named_types.specs.declared.refusal.Refusal.TheVariants.{NotAccepted, Memory}
-use Rattle.flume_program.specs.Accepted.{AreNamed, IsAccepted, IsNamed, IsProgram, IsProgramOf, IsReady, IsRefused, IsScriptOf, SumsInts, statement_of}
+use Rattle.type_trees.specs.declared.refusal.Refusal.{Refusal}
+use Rattle.type_trees.specs.declared.refusal.Refusal.TheVariants.{NotAccepted, Memory}
+use Rattle.flume_program.specs.Accepted.{AreNamed, IsAccepted, IsNamed, IsProgram, IsProgramOf, IsReady, IsRefused, IsScriptOf, Combines, CombinesPairs, of_groups, statement_of, written_type}
 use Rattle.flume_program.specs.Checked.{behind_types, named_types, script_behind, script_of, types_in}
 use Rattle.flume_program.specs.Script.{Output, Script}
 use Rattle.flume_program.specs.WellFormed.{IsWellFormed}
+use Rattle.flume_program.specs.declared.program.Combination.{Combination}
 use Rattle.flume_program.specs.declared.program.Program.{Program}
-use Rattle.flume_program.specs.declared.program.Sum.{Sum}
 use Rattle.flume_program.specs.inner.Answers.{Fails, Finds}
 use Rattle.flume_program.specs.inner.Parts.{IsAnswer, IsAnswered, IsMade}
 use Rattle.flume_program.proofs.DoneLemmas.{script_well}
 use Rattle.flume_program.proofs.FileLemmas.{HasNames, script_named}
 use Rattle.flume_program.proofs.OptionLemmas.{fails_more}
-use Rattle.flume_program.proofs.WellFormedLemmas.{one_do_well, group_and_sum_well}
+use Rattle.flume_program.proofs.WellFormedLemmas.{one_do_well, group_and_combine_well}
 
 -- ---- one script at most
 
@@ -33,58 +33,63 @@ abbrev any_output : Output
 any_output = record { reads = 0; name = []; file = [] }
 
 module _ (program : Program) (f : Function) where
-  ready_by : (sum : Option Sum) (script : Script) → program.sum ≡ sum
-      → IsScriptOf sum program f script → IsProgram program f script
+  abbrev IsFlat : Option Combination → Type 0
+  IsFlat combination = IsSome (columns_of (written_type combination program.fun.gives))
+
+  ready_by : (combination : Option Combination) (script : Script)
+      → program.combination ≡ combination
+      → IsScriptOf combination program f script → IsProgram program f script
       → IsWellFormed script → IsReady program
   ready_by None script which is made well =
       let whole = subst IsWellFormed is well in
+      let flat =
+      subst (λ t. IsSome (columns_of t)) (sym made.does.gives)
+      (whole.outputs 0 any_output (omega arith)).1 in
       record {
         rows = whole.nodes.0;
         takes = made.does.takes ∙ made.takes;
-        sums = subst (λ s. SumsInts s program.fun.gives) (sym which) tt;
-        flat =
-            subst (λ t. IsSome (columns_of t)) (sym made.does.gives)
-            (whole.outputs 0 any_output (omega arith)).1;
+        combines = subst (λ c. CombinesPairs c program.fun.gives) (sym which) tt;
+        flat = subst IsFlat (sym which) flat;
       }
-  ready_by (Some sum) script which is made well =
+  ready_by (Some combination) script which is made well =
       let whole = subst IsWellFormed is.2 well in
-      let gives = made.does.gives ∙ is.1 in
+      let combines = subst (λ t. Combines combination t is.0) (sym made.does.gives) is.1 in
       record {
         rows = whole.nodes.0;
         takes = made.does.takes ∙ made.takes;
-        sums = subst (λ s. SumsInts s program.fun.gives) (sym which) (is.0, gives);
-        flat =
-            subst (λ t. IsSome (columns_of t)) (sym gives)
-            (whole.outputs 0 any_output (omega arith)).1;
+        combines = subst (λ c. CombinesPairs c program.fun.gives) (sym which) (is.0, combines);
+        flat = subst IsFlat (sym which) (whole.outputs 0 any_output (omega arith)).1;
       }
 
-  well_by : (sum : Option Sum) (script : Script) → IsScriptOf sum program f script
-      → IsProgram program f script
+  well_by : (combination : Option Combination) (script : Script) → program.combination ≡ combination
+      → IsScriptOf combination program f script → IsProgram program f script
       → IsReady program → IsWellFormed script
-  well_by None script is made ready =
-      let flat = subst (λ t. IsSome (columns_of t)) made.does.gives ready.flat in
+  well_by None script which is made ready =
+      let flat = subst (λ t. IsSome (columns_of t)) made.does.gives
+      (subst IsFlat which ready.flat) in
       subst IsWellFormed (sym is)
       (one_do_well (statement_of program.input) f program.collection program.output_file
       ready.rows made.takes made.does.typed flat)
-  well_by (Some sum) script is made ready =
-      let flat = subst (λ t. IsSome (columns_of t)) made.does.gives ready.flat in
+  well_by (Some combination) script which is made ready =
       subst IsWellFormed (sym is.2)
-      (group_and_sum_well (statement_of program.input) f program.collection program.output_file
-      ready.rows made.takes made.does.typed flat is.0 sum.group sum.name is.1)
+      (group_and_combine_well (statement_of program.input) f program.collection program.output_file
+      ready.rows made.takes made.does.typed (of_groups combination is.0) is.1.0 is.1.1
+      (subst IsFlat which ready.flat))
 
 -- the scripts of a program that is ready are well formed
 pub program_well : (program : Program) → IsReady program → (f : Function) (script : Script)
     → IsProgram program f script
     → IsWellFormed script
-program_well program ready f script made = well_by program f program.sum script made.is made ready
+program_well program ready f script made =
+    well_by program f program.combination script refl made.is made ready
 
 -- the files of a program are named in UTF-8 where its script's are
-named_by : (program : Program) (f : Function) (sum : Option Sum) (script : Script)
-    → IsScriptOf sum program f script → HasNames script → IsNamed program
+named_by : (program : Program) (f : Function) (combination : Option Combination) (script : Script)
+    → IsScriptOf combination program f script → HasNames script → IsNamed program
 named_by program f None script is named =
     let names = subst HasNames is named in
     record { reads = names.0; writes = names.1 }
-named_by program f (Some sum) script is named =
+named_by program f (Some combination) script is named =
     let names = subst HasNames is.2 named in
     record { reads = names.0; writes = names.1 }
 
@@ -105,9 +110,9 @@ module _ (statements rest : List Statement) (names : Scope)
       record {
         accepted = (made.0, script, checked, made.1);
         ready =
-            ready_by program made.0 program.sum script refl made.1.is made.1
+            ready_by program made.0 program.combination script refl made.1.is made.1
             (script_well statements script checked);
-        named = λ named. named_by program made.0 program.sum script made.1.is
+        named = λ named. named_by program made.0 program.combination script made.1.is
             (script_named statements script checked named);
       }
 

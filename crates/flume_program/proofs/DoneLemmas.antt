@@ -1,11 +1,13 @@
 -- What is known of a `do` that is meant, and of the script behind it.
-use Rattle.std.proofs.Common.{◌≡◌, ◌&&◌, ℕ, Bool, true, false, not, is_some, List, [], ◌∷◌, Option, Some, None, IsSome, if◌then◌else◌, sym, ap, subst, ◌∙◌}
+use Rattle.std.proofs.Common.{◌≡◌, ◌&&◌, ℕ, Bool, true, false, not, nat_le, is_some, List, [], ◌∷◌, Option, Some, None, IsSome, if◌then◌else◌, sym, ap, subst, ◌∙◌}
 use Rattle.std.specs.Cmp.{second_so}
 use Rattle.std.specs.Option.{option_and_then}
 use Rattle.std.specs.Str.{bytes_eq}
 use Rattle.flume_types.specs.Columns.{columns_of, input_columns_of}
 use Rattle.flume_types.specs.Tables.{table_of}
-use Rattle.flume_types.specs.declared.types.Ty.{Ty, out-Ty}
+use Rattle.flume_types.specs.Depth.{depth_of}
+use Rattle.flume_types.specs.declared.types.Field.{Field}
+use Rattle.flume_types.specs.declared.types.Ty.{Ty, Ty-F, out-Ty}
 use Rattle.flume_types.specs.declared.types.Ty.TheVariants as ty
 use Rattle.flume_types.proofs.SameLemmas.{tells_apart}
 use Rattle.flume_grammar.specs.declared.tree.Form.{Form}
@@ -15,14 +17,15 @@ use Rattle.flume_grammar.specs.declared.tree.Operation.{Operation as Made}
 use Rattle.flume_grammar.specs.declared.tree.Operation.TheVariants as operation
 use Rattle.flume_grammar.specs.declared.tree.Statement.{Statement}
 use Rattle.dofn_check.specs.Call.{Function}
-use Rattle.dofn_check.specs.Typing.{Scope, are_typed}
+use Rattle.dofn_check.specs.Typing.{Scope, are_typed, shallow}
 use Rattle.flume_types.specs.Equality.{type_eq as is_same}
 use Rattle.flume_program.specs.Written.{whole_type}
-use Rattle.flume_program.specs.Checked.{Rows, rows_at, row_type, function_at, function_meant, function_with, do_at, do_by, output_at, group_at, sum_at, first_type, key_of_ints, sum_key, Done, done_at, one_do, group_and_sum, do_script, sum_script, script_behind, script_of, behind_types, named_types, types_in}
+use Rattle.flume_program.specs.Checked.{Rows, rows_at, row_type, function_at, function_meant, function_with, do_at, do_by, output_at, group_at, combine_at, Table, table_with, table_at, table_in, table_parts, groups_type, pairs_type, Combination, combination, Done, done_at, one_do, group_and_combine, do_script, combine_script, script_behind, script_of, behind_types, named_types, types_in}
+use Rattle.flume_program.specs.Combiners.{combined_type}
 use Rattle.flume_program.specs.Script.{Script}
-use Rattle.flume_program.specs.WellFormed.{IsWellFormed, IsWellTyped}
-use Rattle.flume_program.proofs.OptionLemmas.{through, mapped, there, picked}
-use Rattle.flume_program.proofs.WellFormedLemmas.{one_do_well, group_and_sum_well}
+use Rattle.flume_program.specs.WellFormed.{AreCombined, AreGrouped, IsWellFormed, IsWellTyped}
+use Rattle.flume_program.proofs.OptionLemmas.{through, mapped, picked}
+use Rattle.flume_program.proofs.WellFormedLemmas.{one_do_well, group_and_combine_well}
 
 -- ---- the parts of a `do`
 
@@ -105,16 +108,57 @@ output_flat (form.Output name written) collection type file is =
     second_so (bytes_eq name collection) (is_some (columns_of type)) both.0
 output_flat _ collection type file is = cc
 
--- a type with a key to sum by is the table of that key and of ints
-pub sum_key-is : (type key : Ty) → sum_key type ≡ Some key → type ≡ table_of key ty.Int
-sum_key-is type key is =
-    let first = through (key_of_ints type) (first_type (out-Ty type)) key is in
-    let same = picked (is_same type (table_of first.0 ty.Int)) first.0 key first.2 in
-    tells_apart type (table_of first.0 ty.Int) same.0 ∙ ap (λ k. table_of k ty.Int) same.1
+-- the table that a type is
+table_with-is : (type key value : Ty) (table : Table) → table_with type key value ≡ Some table
+    → type ≡ table_of table.key table.value
+table_with-is type key value table is =
+    let same = picked (is_same type (table_of key value))
+    (record { key = key; value = value }) table is in
+    tells_apart type (table_of key value) same.0 ∙ ap (λ (t : Table). table_of t.key t.value) same.1
 
--- the key of a table of ints
-pub found_key : (type : Ty) → is_some (sum_key type) ≡ true → (key : Ty) × (sum_key type ≡ Some key)
-found_key type is = there (sum_key type) is
+table_at-is : (type : Ty) (fields : List (Field Ty)) (table : Table)
+    → table_at type fields ≡ Some table
+    → type ≡ table_of table.key table.value
+table_at-is type (key ∷ value ∷ []) table is = table_with-is type key.ty value.ty table is
+table_at-is type _ table is = cc
+
+table_in-is : (type : Ty) (x : Ty-F Ty) (table : Table) → table_in type x ≡ Some table
+    → type ≡ table_of table.key table.value
+table_in-is type (Ty-F.Rec fields) table is = table_at-is type fields table is
+table_in-is type _ table is = cc
+
+shallow-is : (type other : Ty) → shallow type ≡ Some other → type ≡ other
+shallow-is type other is = (picked (nat_le (depth_of type) 8) type other is).1
+
+-- a combination that is meant combines the groups of pairs
+pub combination_of : (type : Ty) (grouped combined : Form) (input collection : List ℕ)
+    (made : Combination)
+    → combination type grouped combined input collection ≡ Some made
+    → AreGrouped (Some type) made.groups × AreCombined made.combiner (Some made.groups) made.type
+combination_of type grouped combined input collection made is =
+    let table = through _ (table_parts type) made is in
+    let group = through _ (group_at grouped input collection) made table.2 in
+    let groups = through _ (groups_type table.0) made group.2 in
+    let named = through _ (combine_at combined input collection group.0) made groups.2 in
+    let pairs = through _ (pairs_type named.0.combiner table.0) made named.2 in
+    let value = through _ (combined_type named.0.combiner table.0.value) pairs.0 pairs.1 in
+    let whole : Combination = record {
+      group = group.0;
+      groups = groups.0;
+      combiner = named.0.combiner;
+      name = named.0.name;
+      type = pairs.0;
+    } in
+    let same : whole ≡ made = cc in
+    let of_pairs : type ≡ table_of table.0.key table.0.value
+    = table_in-is type (out-Ty type) table.0 table.1 in
+    let of_groups = shallow-is (table_of table.0.key (ty.List table.0.value)) groups.0 groups.1 in
+    let of_values = shallow-is (table_of table.0.key value.0) pairs.0 value.2 in
+    subst (λ (m : Combination). AreGrouped (Some type) m.groups
+    × AreCombined m.combiner (Some m.groups) m.type) same (
+      (table.0.key, table.0.value, ap Some of_pairs, sym of_groups),
+      (table.0.key, table.0.value, value.0, ap Some (sym of_groups), value.1, sym of_values),
+    )
 
 do_well : (done : Done) → IsSound done → (output : Form) (script : Script)
     → do_script done output ≡ Some script
@@ -127,21 +171,22 @@ do_well done sound output script is =
     (one_do_well done.rows done.function done.collection file.0 sound.flat sound.takes sound.typed
     flat)
 
-sum_well : (done : Done) → IsSound done → (grouped summed output : Form) (script : Script)
-    → sum_script done grouped summed output ≡ Some script → IsWellFormed script
-sum_well done sound grouped summed output script is =
+combine_well : (done : Done) → IsSound done → (grouped combined output : Form) (script : Script)
+    → combine_script done grouped combined output ≡ Some script → IsWellFormed script
+combine_well done sound grouped combined output script is =
     let type = done.function.gives in
-    let key = through _ (sum_key type) script is in
-    let group = through _ (group_at grouped done.rows.name done.collection) script key.2 in
-    let sum = through _ (sum_at summed done.rows.name done.collection group.0) script group.2 in
-    let file = through _ (output_at output sum.0 type) script sum.2 in
-    let flat = output_flat output sum.0 type file.0 file.1 in
-    let same : group_and_sum done.rows done.function done.collection key.0 group.0 sum.0 file.0
-    ≡ script = cc in
+    let made = through _ (combination type grouped combined done.rows.name done.collection) script
+    is in
+    let file = through _ (output_at output made.0.name made.0.type) script made.2 in
+    let flat = output_flat output made.0.name made.0.type file.0 file.1 in
+    let of_pairs = combination_of type grouped combined done.rows.name done.collection made.0
+    made.1 in
+    let same : group_and_combine done.rows done.function done.collection made.0 file.0 ≡ script
+    = cc in
     subst IsWellFormed same
-    (group_and_sum_well done.rows done.function done.collection file.0 sound.flat sound.takes
-    sound.typed flat
-    key.0 group.0 sum.0 (sum_key-is type key.0 key.1))
+    (group_and_combine_well done.rows done.function done.collection file.0 sound.flat sound.takes
+    sound.typed
+    made.0 of_pairs.0 of_pairs.1 flat)
 
 behind_well : (statements : List Statement) (names : Scope) (script : Script)
     → script_behind statements names ≡ Some script → IsWellFormed script
@@ -150,10 +195,10 @@ behind_well (input ∷ function ∷ made ∷ output ∷ []) names script is =
     do_well done.0
     (done_sound input.form function.form made.form names done.0 done.1) output.form script
     done.2
-behind_well (input ∷ function ∷ made ∷ grouped ∷ summed ∷ output ∷ []) names script is =
+behind_well (input ∷ function ∷ made ∷ grouped ∷ combined ∷ output ∷ []) names script is =
     let done = through _ (done_at input.form function.form made.form names) script is in
-    sum_well done.0 (done_sound input.form function.form made.form names done.0 done.1)
-    grouped.form summed.form output.form script done.2
+    combine_well done.0 (done_sound input.form function.form made.form names done.0 done.1)
+    grouped.form combined.form output.form script done.2
 behind_well _ names script is = cc
 
 -- the script of statements is well formed

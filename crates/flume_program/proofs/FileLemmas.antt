@@ -10,7 +10,7 @@ use Rattle.flume_grammar.specs.declared.tree.Form.TheVariants as form
 use Rattle.flume_grammar.specs.declared.tree.Statement.{Statement}
 use Rattle.dofn_check.specs.Typing.{Scope}
 use Rattle.flume_program.specs.Accepted.{AreNamed}
-use Rattle.flume_program.specs.Checked.{Done, Rows, behind_types, do_at, do_script, done_at, function_at, group_and_sum, group_at, named_types, one_do, output_at, row_type, rows_at, script_behind, script_of, sum_at, sum_key, sum_script, type_at, types_in}
+use Rattle.flume_program.specs.Checked.{Done, Rows, behind_types, do_at, do_script, done_at, function_at, combination, combine_script, group_and_combine, named_types, one_do, output_at, row_type, rows_at, script_behind, script_of, type_at, types_in}
 use Rattle.flume_program.specs.Script.{Do, Group, Combine, Input, Node, Operation, Output, Script}
 use Rattle.flume_program.specs.Written.{whole_type}
 use Rattle.flume_program.proofs.OptionLemmas.{mapped, picked, through}
@@ -80,18 +80,17 @@ do_named done reads output script is named =
     subst HasNames same
     (reads, output_named output done.collection done.function.gives file.0 file.1 named)
 
-sums_named : (done : Done) → IsUtf8 done.rows.file
-    → (grouped summed output : Form) (script : Script)
-    → sum_script done grouped summed output ≡ Some script → IsUtf8Named output → HasNames script
-sums_named done reads grouped summed output script is named =
+combination_named : (done : Done) → IsUtf8 done.rows.file → (grouped combined output : Form)
+    (script : Script) → combine_script done grouped combined output ≡ Some script
+    → IsUtf8Named output → HasNames script
+combination_named done reads grouped combined output script is named =
     let type = done.function.gives in
-    let key = through _ (sum_key type) script is in
-    let group = through _ (group_at grouped done.rows.name done.collection) script key.2 in
-    let sum = through _ (sum_at summed done.rows.name done.collection group.0) script group.2 in
-    let file = through _ (output_at output sum.0 type) script sum.2 in
-    let same : group_and_sum done.rows done.function done.collection key.0 group.0 sum.0
-    file.0 ≡ script = cc in
-    subst HasNames same (reads, output_named output sum.0 type file.0 file.1 named)
+    let made =
+    through _ (combination type grouped combined done.rows.name done.collection) script is in
+    let file = through _ (output_at output made.0.name made.0.type) script made.2 in
+    let whole = group_and_combine done.rows done.function done.collection made.0 file.0 in
+    let same : whole ≡ script = cc in
+    subst HasNames same (reads, output_named output made.0.name made.0.type file.0 file.1 named)
 
 names_behind : (statements : List Statement) (names : Scope) (script : Script)
     → script_behind statements names ≡ Some script → AreNamed statements → HasNames script
@@ -101,12 +100,12 @@ names_behind (input ∷ function ∷ made ∷ output ∷ []) names script is nam
     done_named input.form function.form made.form names done.0 done.1
     (named 0 input (omega arith)) in
     do_named done.0 reads output.form script done.2 (named 3 input (omega arith))
-names_behind (input ∷ function ∷ made ∷ grouped ∷ summed ∷ output ∷ []) names script is named =
+names_behind (input ∷ function ∷ made ∷ grouped ∷ combined ∷ output ∷ []) names script is named =
     let done = through _ (done_at input.form function.form made.form names) script is in
     let reads =
     done_named input.form function.form made.form names done.0 done.1
     (named 0 input (omega arith)) in
-    sums_named done.0 reads grouped.form summed.form output.form script done.2
+    combination_named done.0 reads grouped.form combined.form output.form script done.2
     (named 5 input (omega arith))
 names_behind _ names script is named = cc
 

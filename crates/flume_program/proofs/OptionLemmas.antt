@@ -1,8 +1,8 @@
 -- Options that are there, and what an answer says of options.
 use Rattle.std.proofs.Common.{◌≡◌, true, false, Bool, is_some, Option, Some, None, if◌then◌else◌, Result, Ok, Err, refl, ◌∙◌}
 use Rattle.std.specs.Option.{option_map, option_and_then}
-use Rattle.named_types.specs.declared.refusal.Refusal.{Refusal}
-use Rattle.named_types.specs.declared.refusal.Refusal.TheVariants.{NotAccepted, Memory}
+use Rattle.type_trees.specs.declared.refusal.Refusal.{Refusal}
+use Rattle.type_trees.specs.declared.refusal.Refusal.TheVariants.{NotAccepted, Memory}
 use Rattle.flume_program.specs.inner.Answers.{Fails, Finds}
 
 pub through : {A B : Type 0} (f : A → Option B) (o : Option A) (b : B)

@@ -1,18 +1,19 @@
 -- The program that is made of what was found.
-use Rattle.std.proofs.Common.{◌≡◌, ℕ, true, is_some, List, Option, Some, None, Ok, refl, sym, ap, subst, ◌∙◌}
+use Rattle.std.proofs.Common.{◌≡◌, ℕ, List, Option, Some, None, Ok, refl, sym, ap, subst, ◌∙◌}
 use Rattle.std.specs.Option.{option_and_then}
 use Rattle.flume_types.specs.declared.types.Ty.{Ty}
 use Rattle.flume_grammar.specs.declared.tree.Form.{Form}
 use Rattle.dofn_check.specs.Call.{Function}
 use Rattle.dofn_check.specs.Typing.{Scope}
-use Rattle.flume_program.specs.Accepted.{statement_of}
-use Rattle.flume_program.specs.Checked.{Done, Rows, do_at, do_script, done_at, function_at, group_and_sum, group_at, one_do, output_at, rows_at, sum_at, sum_key, sum_script}
+use Rattle.flume_program.specs.Accepted.{Combines, of_groups, statement_of}
+use Rattle.flume_program.specs.Checked.{Done, Rows, do_at, do_script, done_at, function_at, Combination as Meant, Combined, Table, combination, combine_at, combine_script, group_at, groups_type, pairs_type, table_parts, group_and_combine, one_do, output_at, rows_at}
 use Rattle.flume_program.specs.Script.{Script}
 use Rattle.flume_program.specs.declared.checks.Done.{Done as Found}
+use Rattle.flume_program.specs.declared.program.Combination.{Combination}
 use Rattle.flume_program.specs.declared.program.Program.{Program}
 use Rattle.flume_program.specs.inner.Answers.{Finds}
-use Rattle.flume_program.specs.inner.Parts.{IsDone, IsMade}
-use Rattle.flume_program.proofs.DoneLemmas.{found_key, sum_key-is}
+use Rattle.flume_program.specs.inner.Parts.{IsCombined, IsDone, IsMade}
+use Rattle.flume_program.proofs.DoneLemmas.{combination_of}
 
 -- the first of two steps is known
 bound : {A B : Type 0} (f : A → Option B) (o : Option A) (a : A) (r : Option B) → o ≡ Some a
@@ -35,6 +36,42 @@ to_do input function made names rows f collection is_rows is_f is_do =
     (bound (does rows) (function_at function names) f _ is_f
     (bound (last rows f) (do_at made rows f) collection _ is_do refl))
 
+-- a combination is meant once its parts are
+pub to_combination : (type : Ty) (grouped combined : Form) (input collection : List ℕ)
+    (table : Table)
+    (group : List ℕ) (groups : Ty) (made : Combined) (pairs : Ty)
+    → table_parts type ≡ Some table → group_at grouped input collection ≡ Some group
+    → groups_type table ≡ Some groups → combine_at combined input collection group ≡ Some made
+    → pairs_type made.combiner table ≡ Some pairs
+    → combination type grouped combined input collection ≡ Some (record {
+      group = group;
+      groups = groups;
+      combiner = made.combiner;
+      name = made.name;
+      type = pairs;
+    })
+to_combination type grouped combined input collection table group groups made pairs is_table
+    is_group is_groups is_made is_pairs =
+    let whole : List ℕ → Ty → Combined → Ty → Option Meant = λ g gs m p. Some (record {
+      group = g;
+      groups = gs;
+      combiner = m.combiner;
+      name = m.name;
+      type = p;
+    }) in
+    let typed : Table → List ℕ → Ty → Combined → Option Meant =
+    λ t g gs m. option_and_then (whole g gs m) (pairs_type m.combiner t) in
+    let named : Table → List ℕ → Ty → Option Meant =
+    λ t g gs. option_and_then (typed t g gs) (combine_at combined input collection g) in
+    let parted : Table → List ℕ → Option Meant = λ t g. option_and_then (named t g)
+    (groups_type t) in
+    bound (λ t. option_and_then (parted t) (group_at grouped input collection))
+    (table_parts type) table _ is_table
+    (bound (parted table) (group_at grouped input collection) group _ is_group
+    (bound (named table group) (groups_type table) groups _ is_groups
+    (bound (typed table group groups) (combine_at combined input collection group) made _ is_made
+    (bound (whole group groups made) (pairs_type made.combiner table) pairs _ is_pairs refl))))
+
 module _ (found : Found) where
   -- what was found, by this function
   abbrev by_function : Function → Done
@@ -53,17 +90,17 @@ module _ (found : Found) where
       function = found.called.name;
       fun = found.called.fun;
       collection = found.collection;
-      sum = None;
+      combination = None;
       output_file = file;
     }
 
-    abbrev sum_of : List ℕ → List ℕ → Program
-    sum_of group sum = record {
+    abbrev combine_of : Combination → Program
+    combine_of made = record {
       input = found.input;
       function = found.called.name;
       fun = found.called.fun;
       collection = found.collection;
-      sum = Some (record { group = group; name = sum });
+      combination = Some made;
       output_file = file;
     }
 
@@ -93,46 +130,44 @@ module _ (found : Found) where
           ),
         )
 
-    -- the program of sums whose parts are found
-    pub sum_made : (grouped summed output : Form) (group sum : List ℕ) (type : Ty)
+    -- the program of a combination whose output is found
+    pub combine_made : (grouped combined output : Form) (made : Combination) (type : Ty)
         → type ≡ found.called.fun.gives
-        → is_some (sum_key type) ≡ true
-        → group_at grouped found.input.name found.collection ≡ Some group
-        → sum_at summed found.input.name found.collection group ≡ Some sum
-        → output_at output sum type ≡ Some file
-        → (meant : Done) → IsDone found meant
-        → Finds IsMade (Ok (sum_of group sum)) (sum_script meant grouped summed output)
-    sum_made grouped summed output group sum type gives has_key is_group is_sum is_file meant done =
+        → Finds IsCombined (Ok made) (combination type grouped combined found.input.name
+        found.collection)
+        → output_at output made.name made.ty ≡ Some file → (meant : Done) → IsDone found meant
+        → Finds IsMade (Ok (combine_of made)) (combine_script meant grouped combined output)
+    combine_made grouped combined output made type gives has is_file meant done =
         let f = meant.function in
         let rows = statement_of found.input in
         let same : type ≡ f.gives = gives ∙ done.called.does.gives in
-        let key = found_key type has_key in
-        let script = group_and_sum rows f found.collection key.0 group sum file in
-        let last : Ty → List ℕ → List ℕ → List ℕ → Option Script =
-        λ k g s it. Some (group_and_sum rows f found.collection k g s it) in
-        let outputs : Ty → List ℕ → List ℕ → Option Script =
-        λ k g s. option_and_then (last k g s) (output_at output s f.gives) in
-        let sums : Ty → List ℕ → Option Script =
-        λ k g. option_and_then (outputs k g)
-        (sum_at summed found.input.name found.collection g) in
-        let groups : Ty → Option Script =
-        λ k. option_and_then (sums k) (group_at grouped found.input.name found.collection) in
-        let made : option_and_then groups (sum_key f.gives) ≡ Some script =
-        bound groups (sum_key f.gives) key.0 (Some script) (ap sum_key (sym same) ∙ key.1)
-        (bound (sums key.0) (group_at grouped found.input.name found.collection) group
-        (Some script) is_group
-        (bound (outputs key.0 group) (sum_at summed found.input.name found.collection group) sum
-        (Some script) is_sum
-        (bound (last key.0 group sum) (output_at output sum f.gives) file (Some script)
-        (ap (output_at output sum) (sym same) ∙ is_file) refl))) in
-        subst (λ m. Finds IsMade (Ok (sum_of group sum)) (sum_script m grouped summed output))
+        let groups = has.0.groups in
+        let whole = of_groups made groups in
+        let has_whole : combination type grouped combined found.input.name found.collection
+        ≡ Some whole = has.1 ∙ ap Some has.2 in
+        let of_pairs = combination_of type grouped combined found.input.name found.collection whole
+        has_whole in
+        let script = group_and_combine rows f found.collection whole file in
+        let last : Meant → List ℕ → Option Script = λ m it. Some
+        (group_and_combine rows f found.collection m it) in
+        let outputs : Meant → Option Script
+        = λ m. option_and_then (last m) (output_at output m.name m.type) in
+        let is : option_and_then outputs
+        (combination f.gives grouped combined found.input.name found.collection) ≡ Some script =
+        bound outputs (combination f.gives grouped combined found.input.name found.collection)
+        whole (Some script)
+        (ap (λ t. combination t grouped combined found.input.name found.collection) (sym same)
+        ∙ has_whole)
+        (bound (last whole) (output_at output made.name made.ty) file
+        (Some script) is_file refl) in
+        subst (λ m. Finds IsMade (Ok (combine_of made)) (combine_script m grouped combined output))
         (as_found meant done) (
           script,
-          made,
+          is,
           (
             f,
             record {
-              is = (key.0, sym same ∙ sum_key-is type key.0 key.1, refl);
+              is = (groups, subst (λ t. Combines made t groups) same of_pairs, refl);
               named = done.called.named;
               does = done.called.does;
               takes = done.takes;

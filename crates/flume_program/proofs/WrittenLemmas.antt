@@ -8,7 +8,7 @@ use Rattle.flume_grammar.specs.declared.tree.Type.TheVariants as form
 use Rattle.dofn_check.specs.Names.{look}
 use Rattle.dofn_check.specs.Fields.{record_of}
 use Rattle.dofn_check.specs.Typing.{Scope, all_types}
-use Rattle.named_types.proofs.WrittenLemmas.{types_mapped}
+use Rattle.type_trees.proofs.WrittenLemmas.{types_mapped}
 use Rattle.flume_program.specs.Written.{table_written, layer_written, written}
 
 layer_mapped : (f : tree.Type → Scope → Option Ty) (x : tree.Type-F tree.Type) (names : Scope)

@@ -3,9 +3,7 @@ use Rattle.std.specs.Prelude.{◌≡◌, List, Option, Some, None, IsSome, IsUtf
 use Rattle.std.specs.List.{All}
 use Rattle.flume_value.specs.declared.value.Value.{Value}
 use Rattle.flume_types.specs.Columns.{columns_of, input_columns_of}
-use Rattle.flume_types.specs.Tables.{table_of}
 use Rattle.flume_types.specs.declared.types.Ty.{Ty}
-use Rattle.flume_types.specs.declared.types.Ty.TheVariants as ty
 use Rattle.dofn_eval.specs.Typed.{Has}
 use Rattle.dofn_eval.specs.Function.{Function as Slots}
 use Rattle.dofn_eval.specs.Run.{means as slots_mean}
@@ -13,10 +11,10 @@ use Rattle.flume_grammar.specs.Utf8.{IsUtf8Named}
 use Rattle.flume_grammar.specs.declared.tree.Statement.{Statement}
 use Rattle.dofn_check.specs.Call.{Function, means}
 use Rattle.flume_program.specs.Script.{Script}
-use Rattle.flume_program.specs.Checked.{Rows, one_do, group_and_sum, script_of}
-use Rattle.flume_program.specs.WellFormed.{IsWellTyped}
+use Rattle.flume_program.specs.Checked.{Combination as Combined, Rows, one_do, group_and_combine, script_of}
+use Rattle.flume_program.specs.WellFormed.{AreCombined, AreGrouped, IsWellTyped}
 use Rattle.flume_program.specs.declared.program.Program.{Program}
-use Rattle.flume_program.specs.declared.program.Sum.{Sum}
+use Rattle.flume_program.specs.declared.program.Combination.{Combination}
 use Rattle.flume_program.specs.declared.program.Input.{Input as Source}
 
 -- the statements are accepted as this script
@@ -39,19 +37,35 @@ pub record Does (slots : Slots) (function : Function) : Type 0 where
 abbrev pub statement_of : Source → Rows
 statement_of input = record { name = input.name; file = input.file; type = input.ty }
 
--- the script is the program's `do` by this function, with the groups and sums of what it makes
--- where it has some
-abbrev pub IsScriptOf : Option Sum → Program → Function → Script → Type 0
+-- a combination is of pairs of the first type: their groups have the second, and its combiner makes
+-- members of its type of these
+abbrev pub Combines : Combination → Ty → Ty → Type 0
+Combines combination type groups =
+    AreGrouped (Some type) groups × AreCombined combination.combiner (Some groups) combination.ty
+
+-- a combination, of groups of this type
+abbrev pub of_groups : Combination → Ty → Combined
+of_groups made groups = record {
+  group = made.group;
+  groups = groups;
+  combiner = made.combiner;
+  name = made.name;
+  type = made.ty;
+}
+
+-- the script is the program's `do` by this function, with the groups of what it makes and their
+-- combination where it has one
+abbrev pub IsScriptOf : Option Combination → Program → Function → Script → Type 0
 IsScriptOf None program function script =
     script ≡ one_do (statement_of program.input) function program.collection program.output_file
-IsScriptOf (Some sums) program function script =
-    (key : Ty) × (function.gives ≡ table_of key ty.Int)
-    × (script ≡ group_and_sum (statement_of program.input) function program.collection
-    key sums.group sums.name program.output_file)
+IsScriptOf (Some made) program function script =
+    (groups : Ty) × Combines made function.gives groups
+    × (script ≡ group_and_combine (statement_of program.input) function program.collection
+    (of_groups made groups) program.output_file)
 
 -- The program is that script, by this function.
 pub record IsProgram (program : Program) (function : Function) (script : Script) : Type 0 where
-  pub is : IsScriptOf program.sum program function script
+  pub is : IsScriptOf program.combination program function script
   pub named : function.name ≡ program.function
   pub does : Does program.fun function
   pub takes : function.takes ≡ program.input.ty
@@ -62,18 +76,23 @@ IsProgramOf statements program =
     (function : Function) × (script : Script)
     × IsAccepted statements script × IsProgram program function script
 
--- sums, where there are some, are those of a table of ints
-abbrev pub SumsInts : Option Sum → Ty → Type 0
-SumsInts None type = ⊤
-SumsInts (Some sums) type = (key : Ty) × (type ≡ table_of key ty.Int)
+-- a combination, where there is one, is of pairs of this type
+abbrev pub CombinesPairs : Option Combination → Ty → Type 0
+CombinesPairs None type = ⊤
+CombinesPairs (Some made) type = (groups : Ty) × Combines made type groups
+
+-- the type of the collection that is written: what is combined, where something is
+abbrev pub written_type : Option Combination → Ty → Ty
+written_type None type = type
+written_type (Some made) type = made.ty
 
 -- What a program is ready for: its input can be read, its function called on the rows, what this
--- makes summed, and its output written.
+-- makes combined, and its output written.
 pub record IsReady (program : Program) : Type 0 where
   pub rows : IsSome (input_columns_of program.input.ty)
   pub takes : program.fun.takes ≡ program.input.ty
-  pub sums : SumsInts program.sum program.fun.gives
-  pub flat : IsSome (columns_of program.fun.gives)
+  pub combines : CombinesPairs program.combination program.fun.gives
+  pub flat : IsSome (columns_of (written_type program.combination program.fun.gives))
 
 -- each file that the statements name is named in UTF-8, as in each script that is parsed
 abbrev pub AreNamed : List Statement → Type 0

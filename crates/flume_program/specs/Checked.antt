@@ -1,6 +1,6 @@
 -- Which scripts are accepted, and what they are: first types, then an input, a function and a
--- `do`, maybe groups and their sums, and an output of the last collection.
-use Rattle.std.specs.Prelude.{ℕ, Bool, true, false, ◌&&◌, not, is_some, List, [], ◌∷◌, Option, Some, None, option_map, option_and_then, if◌then◌else◌}
+-- `do`, maybe groups and their combination, and an output of the last collection.
+use Rattle.std.specs.Prelude.{ℕ, ℤ, pos, negsuc, ◌&&◌, not, nat_le, is_some, List, [], ◌∷◌, Option, Some, None, option_map, option_and_then, if◌then◌else◌}
 use Rattle.std.specs.Str.{bytes_eq}
 use Rattle.flume_types.specs.declared.types.Ty.{Ty, Ty-F, out-Ty}
 use Rattle.flume_types.specs.declared.types.Ty.TheVariants as ty
@@ -16,11 +16,14 @@ use Rattle.flume_grammar.specs.declared.tree.Operation.TheVariants as operation
 use Rattle.flume_grammar.specs.declared.tree.Combiner.{Combiner}
 use Rattle.flume_grammar.specs.declared.tree.Combiner.TheVariants as combiner
 use Rattle.flume_grammar.specs.declared.tree.Statement.{Statement}
+use Rattle.int_text.specs.Ints.{int_of_text}
+use Rattle.combine_table.specs.declared.comb.Comb.{Comb}
 use Rattle.combine_table.specs.declared.comb.Comb.TheVariants as comb
 use Rattle.dofn_check.specs.Names.{look}
-use Rattle.dofn_check.specs.Typing.{Scope, are_typed}
+use Rattle.dofn_check.specs.Typing.{Scope, are_typed, shallow}
 use Rattle.flume_types.specs.Equality.{type_eq as is_same}
 use Rattle.dofn_check.specs.Call.{Function}
+use Rattle.flume_program.specs.Combiners.{combined_type}
 use Rattle.flume_program.specs.Optional.{◌>>=◌}
 use Rattle.flume_program.specs.Written.{whole_type}
 use Rattle.flume_program.specs.Script.{Input, Do, Group, Combine, Node, Script}
@@ -131,7 +134,7 @@ output_at (form.Output name file) collection type =
     if bytes_eq name collection && is_some (columns_of type) then Some file else None
 output_at _ collection type = None
 
--- ---- groups and sums
+-- ---- groups and their combination
 
 -- a `let` of the groups of this collection: its name, which no earlier collection has
 abbrev pub group_by : List ℕ → Made → List ℕ → List ℕ → Option (List ℕ)
@@ -144,40 +147,96 @@ abbrev pub group_at : Form → List ℕ → List ℕ → Option (List ℕ)
 group_at (form.Let name made) input collection = group_by name made input collection
 group_at _ input collection = None
 
--- whether a combiner is the sum
-abbrev pub is_sum : Combiner → Bool
-is_sum combiner.Sum = true
-is_sum _ = false
+-- the combiner of the greatest n, where n is from 1 to 1000
+abbrev pub top_by : ℤ → Option Comb
+top_by (pos n) = if nat_le 1 n && nat_le n 1000 then Some (comb.Top n) else None
+top_by (negsuc n) = None
 
--- a `let` of these groups' sums: its name, which no earlier collection has
-abbrev pub sum_by : List ℕ → Made → List ℕ → List ℕ → List ℕ → Option (List ℕ)
-sum_by name (operation.Combine source by) input collection group =
-    if bytes_eq source group && is_sum by
+-- the combiner that is written
+abbrev pub combiner_of : Combiner → Option Comb
+combiner_of combiner.Sum = Some comb.Sum
+combiner_of combiner.Count = Some comb.Count
+combiner_of combiner.Min = Some comb.Min
+combiner_of combiner.Max = Some comb.Max
+combiner_of combiner.All = Some comb.All
+combiner_of combiner.Any = Some comb.Any
+combiner_of (combiner.Top digits) = option_and_then top_by (int_of_text digits)
+
+-- a combination: its name, and its combiner
+pub record Combined : Type 0 where
+  pub name : List ℕ
+  pub combiner : Comb
+
+-- a `let` of the combination of these groups, whose name no earlier collection has
+abbrev pub combine_by : List ℕ → Made → List ℕ → List ℕ → List ℕ → Option Combined
+combine_by name (operation.Combine source by) input collection group =
+    if bytes_eq source group
     && not (bytes_eq name input) && not (bytes_eq name collection) && not (bytes_eq name group)
-    then Some name else None
-sum_by name _ input collection group = None
+    then option_map (λ combiner. record { name = name; combiner = combiner }) (combiner_of by)
+    else None
+combine_by name _ input collection group = None
 
-abbrev pub sum_at : Form → List ℕ → List ℕ → List ℕ → Option (List ℕ)
-sum_at (form.Let name made) input collection group = sum_by name made input collection group
-sum_at _ input collection group = None
+abbrev pub combine_at : Form → List ℕ → List ℕ → List ℕ → Option Combined
+combine_at (form.Let name made) input collection group = combine_by name made input collection group
+combine_at _ input collection group = None
 
--- the type of the first of these fields
-abbrev pub type_of_first : List (Field Ty) → Option Ty
-type_of_first [] = None
-type_of_first (field ∷ fields) = Some field.ty
+-- the types of a table's keys and values
+pub record Table : Type 0 where
+  pub key : Ty
+  pub value : Ty
 
--- the type of a record's first field
-abbrev pub first_type : Ty-F Ty → Option Ty
-first_type (Ty-F.Rec fields) = type_of_first fields
-first_type _ = None
+-- the table of this key and value, where the type is that
+abbrev pub table_with : Ty → Ty → Ty → Option Table
+table_with type key value =
+    if is_same type (table_of key value) then Some (record { key = key; value = value }) else None
 
--- the key, where the type is the table of that key and of ints
-abbrev pub key_of_ints : Ty → Ty → Option Ty
-key_of_ints type key = if is_same type (table_of key ty.Int) then Some key else None
+-- the table that a type of these fields is, where it is one
+abbrev pub table_at : Ty → List (Field Ty) → Option Table
+table_at type (key ∷ value ∷ []) = table_with type key.ty value.ty
+table_at type _ = None
 
--- the key of a table of ints
-abbrev pub sum_key : Ty → Option Ty
-sum_key type = option_and_then (key_of_ints type) (first_type (out-Ty type))
+abbrev pub table_in : Ty → Ty-F Ty → Option Table
+table_in type (Ty-F.Rec fields) = table_at type fields
+table_in type _ = None
+
+-- the keys and values of a table
+abbrev pub table_parts : Ty → Option Table
+table_parts type = table_in type (out-Ty type)
+
+-- the type of groups of the members of a table, where it is at most 8 deep
+abbrev pub groups_type : Table → Option Ty
+groups_type table = shallow (table_of table.key (ty.List table.value))
+
+-- the type of what a combiner makes of these groups, where their members suit it and it is at most
+-- 8 deep
+abbrev pub pairs_type : Comb → Table → Option Ty
+pairs_type combiner table = do
+  value ← combined_type combiner table.value
+  shallow (table_of table.key value)
+
+-- the groups of a collection and their type, and their combination: its combiner, name and type
+pub record Combination : Type 0 where
+  pub group : List ℕ
+  pub groups : Ty
+  pub combiner : Comb
+  pub name : List ℕ
+  pub type : Ty
+
+-- the groups of a collection whose members have that type, and their combination
+abbrev pub combination : Ty → Form → Form → List ℕ → List ℕ → Option Combination
+combination type grouped combined input collection = do
+  table ← table_parts type
+  group ← group_at grouped input collection
+  groups ← groups_type table
+  made ← combine_at combined input collection group
+  pairs ← pairs_type made.combiner table
+  Some (record {
+    group = group;
+    groups = groups;
+    combiner = made.combiner;
+    name = made.name;
+    type = pairs;
+  })
 
 -- ---- scripts
 
@@ -206,16 +265,16 @@ one_do rows function collection file = record {
   outputs = record { reads = 1; name = collection; file = file } ∷ [];
 }
 
--- the script of one `do`, the groups of what it makes, and the sum of each
-abbrev pub group_and_sum : Rows → Function → List ℕ → Ty → List ℕ → List ℕ → List ℕ → Script
-group_and_sum rows function collection key group sum file = record {
+-- the script of one `do`, the groups of what it makes, and the combination of each
+abbrev pub group_and_combine : Rows → Function → List ℕ → Combination → List ℕ → Script
+group_and_combine rows function collection made file = record {
   nodes =
       input_node rows
       ∷ record { name = collection; operation = Do 0 function }
-      ∷ record { name = group; operation = Group 1 (table_of key (ty.List ty.Int)) }
-      ∷ record { name = sum; operation = Combine 2 comb.Sum (table_of key ty.Int) }
+      ∷ record { name = made.group; operation = Group 1 made.groups }
+      ∷ record { name = made.name; operation = Combine 2 made.combiner made.type }
       ∷ [];
-  outputs = record { reads = 3; name = sum; file = file } ∷ [];
+  outputs = record { reads = 3; name = made.name; file = file } ∷ [];
 }
 
 -- the script of a `do` and an output
@@ -224,23 +283,21 @@ do_script done output = do
   file ← output_at output done.collection done.function.gives
   Some (one_do done.rows done.function done.collection file)
 
--- the script of a `do`, groups, their sums and an output
-abbrev pub sum_script : Done → Form → Form → Form → Option Script
-sum_script done grouped summed output = do
-  key ← sum_key done.function.gives
-  group ← group_at grouped done.rows.name done.collection
-  sum ← sum_at summed done.rows.name done.collection group
-  file ← output_at output sum done.function.gives
-  Some (group_and_sum done.rows done.function done.collection key group sum file)
+-- the script of a `do`, groups, their combination and an output
+abbrev pub combine_script : Done → Form → Form → Form → Option Script
+combine_script done grouped combined output = do
+  made ← combination done.function.gives grouped combined done.rows.name done.collection
+  file ← output_at output made.name made.type
+  Some (group_and_combine done.rows done.function done.collection made file)
 
 -- the script that statements behind the types are
 abbrev pub script_behind : List Statement → Scope → Option Script
 script_behind (input ∷ function ∷ made ∷ output ∷ []) names = do
   done ← done_at input.form function.form made.form names
   do_script done output.form
-script_behind (input ∷ function ∷ made ∷ grouped ∷ summed ∷ output ∷ []) names = do
+script_behind (input ∷ function ∷ made ∷ grouped ∷ combined ∷ output ∷ []) names = do
   done ← done_at input.form function.form made.form names
-  sum_script done grouped.form summed.form output.form
+  combine_script done grouped.form combined.form output.form
 script_behind _ names = None
 
 -- the script that statements are; none where they are of no form that runs, or break a rule

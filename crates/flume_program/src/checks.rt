@@ -6,15 +6,17 @@ ghost use Rattle.flume_program.specs.Script.{Script};
 ghost use Rattle.flume_program.specs.WellFormed.{IsWellFormed};
 ghost use Rattle.flume_program.specs.Accepted.{AreNamed, IsAccepted, IsNamed, IsProgram, IsProgramOf, IsReady, IsRefused};
 ghost use Rattle.flume_program.specs.inner.Answers.{Finds};
-ghost use Rattle.flume_program.specs.inner.Parts.{IsAnswer, IsDone, IsMade, do_meant, sums_meant};
+ghost use Rattle.flume_program.specs.inner.Parts.{IsAnswer, IsCombined, IsDone, IsMade, combination_meant, do_meant};
 
+use crate::combinations::{Combined, combine_at, group_at};
 use crate::names::Names;
-use crate::program::{Input, Program, Sum};
+use crate::program::{Combination, Input, Program};
 use crate::statements::{Called, do_at, function_at, output_at, rows_at};
-use crate::sums::{group_at, is_summed, sum_at};
+use crate::tables::{groups_type, pairs_type, table_parts};
 use crate::types::types_at_start;
 use dofn_check::Refusal;
 use flume_syntax::{Ast, Form, Statement};
+use flume_types::Ty;
 use flume_value::Str;
 use std::alloc::Global;
 
@@ -65,14 +67,14 @@ fn behind_types(alloc: Global, statements: &[Statement], names: &Names) -> Resul
                 names,
             )
         }
-        [input, function, made, grouped, summed, output] => {
-            sums_behind(
+        [input, function, made, grouped, combined, output] => {
+            combination_behind(
                 alloc,
                 &input.form,
                 &function.form,
                 &made.form,
                 &grouped.form,
-                &summed.form,
+                &combined.form,
                 &output.form,
                 names,
             )
@@ -97,22 +99,23 @@ fn do_behind(
     do_program(alloc, done, output)
 }
 
-/// The program of a `do`, its groups and their sums.
-fn sums_behind(
+/// The program of a `do`, its groups and their combination.
+fn combination_behind(
     alloc: Global,
     input: &Form,
     function: &Form,
     made: &Form,
     grouped: &Form,
-    summed: &Form,
+    combined: &Form,
     output: &Form,
     names: &Names,
 ) -> Result<Program, Refusal>
     ensures { Finds IsMade result
-        (sums_meant input.now function.now made.now grouped.now summed.now output.now names.now) }
+        (combination_meant input.now function.now made.now grouped.now combined.now output.now
+        names.now) }
 {
     let done = done_at(alloc, input, function, made, names)?;
-    sum_program(alloc, done, grouped, summed, output)
+    combine_program(alloc, done, grouped, combined, output)
 }
 
 /// A collection that a `do` makes: over which input, by which function, under which name.
@@ -160,38 +163,68 @@ fn do_program(alloc: Global, done: Done, output: &Form) -> Result<Program, Refus
         function: name,
         fun,
         collection,
-        sum: None,
+        combination: None,
         output_file,
     })
 }
 
-/// The program of a `do`, groups, their sums and an output.
-fn sum_program(
+/// The program of a `do`, groups, their combination and an output.
+fn combine_program(
     alloc: Global,
     done: Done,
     grouped: &Form,
-    summed: &Form,
+    combined: &Form,
     output: &Form,
 ) -> Result<Program, Refusal>
     ensures { (meant : Done_) → IsDone done meant →
-        Finds IsMade result (spec.sum_script meant grouped.now summed.now output.now) }
+        Finds IsMade result (spec.combine_script meant grouped.now combined.now output.now) }
 {
     let Done {
         input,
         called,
         collection,
     } = done;
-    is_summed(alloc, called.fun.gives())?;
-    let group = group_at(alloc, grouped, &input.name, &collection)?;
-    let sum = sum_at(alloc, summed, &input.name, &collection, &group)?;
-    let output_file = output_at(alloc, output, &sum, called.fun.gives())?;
     let Called { name, fun } = called;
+    let made = combination(
+        alloc,
+        fun.gives(),
+        grouped,
+        combined,
+        &input.name,
+        &collection,
+    )?;
+    let output_file = output_at(alloc, output, &made.name, &made.ty)?;
     Ok(Program {
         input,
         function: name,
         fun,
         collection,
-        sum: Some(Sum { group, name: sum }),
+        combination: Some(made),
         output_file,
+    })
+}
+
+/// The groups of a collection whose members have that type, and their combination.
+fn combination(
+    alloc: Global,
+    ty: &Ty,
+    grouped: &Form,
+    combined: &Form,
+    input: &Str,
+    collection: &Str,
+) -> Result<Combination, Refusal>
+    ensures { Finds IsCombined result
+        (spec.combination ty.now grouped.now combined.now input.now collection.now) }
+{
+    let table = table_parts(alloc, ty)?;
+    let group = group_at(alloc, grouped, input, collection)?;
+    let _groups = groups_type(alloc, &table)?;
+    let Combined { name, combiner } = combine_at(alloc, combined, input, collection, &group)?;
+    let ty = pairs_type(alloc, combiner, table)?;
+    Ok(Combination {
+        group,
+        combiner,
+        name,
+        ty,
     })
 }

@@ -9,16 +9,17 @@
 #![tactic(auto)]
 
 mod checks;
+mod combinations;
 mod laws;
 mod names;
 mod program;
 mod rows;
 mod statements;
-mod sums;
+mod tables;
 mod types;
 mod written;
 
 pub use checks::check;
 pub use dofn_check::Refusal;
 pub use laws::{accepted_law, needed_law};
-pub use program::{Input, Program, Sum};
+pub use program::{Combination, Input, Program};

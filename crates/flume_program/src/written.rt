@@ -1,7 +1,7 @@
 ghost use Rattle.std.specs.Prelude.{◌≡◌, IfOk};
 ghost use Rattle.dofn_check.specs.Names.{look};
 ghost use Rattle.dofn_check.specs.Fields.{fields_of as fields, record_of};
-ghost use Rattle.dofn_check.specs.Typing.{all_types};
+ghost use Rattle.dofn_check.specs.Typing.{all_types, shallow};
 ghost use Rattle.flume_program.specs.Written as spec;
 ghost use Rattle.flume_program.specs.inner.Answers.{Gives};
 
@@ -17,6 +17,13 @@ pub fn whole_type(alloc: Global, ty: &Type, names: &Names) -> Result<Ty, Refusal
     ensures { Gives (λ t. t) result (spec.whole_type ty.now names.now) }
 {
     let ty = written(alloc, ty, names)?;
+    shallow(ty)
+}
+
+/// The type, where it is at most 8 deep.
+pub fn shallow(ty: Ty) -> Result<Ty, Refusal>
+    ensures { Gives (λ t. t) result (shallow ty) }
+{
     if depth(&ty) <= 8 {
         Ok(ty)
     } else {

@@ -2,7 +2,7 @@
 //!
 //! The course of a call is that of run_course: the words are read, the script is loaded, parsed and
 //! checked, its input is loaded and decoded, the function is called for each row, what it emits is
-//! grouped and summed where the script says so, and only then the output file is written, and the
+//! grouped and combined where the script says so, and only then the output file is written, and the
 //! screen's text. Scripts of two forms run today; flume_program says which.
 //!
 //! The contract of `flume` is `Promises` of run_course, with a field for each answer. `done` is the

@@ -14,10 +14,10 @@ use std::thread::Threads;
 ///
 /// The words are the program's name, `run` and the name of a script. The script is loaded from
 /// the source, parsed and checked, then its input is loaded and decoded, its function is called for
-/// each row, and what it emits is grouped and summed where the script says so. Only then the output
-/// file is written to the shelf, and then the text of the screen: the execution graph, the plan,
-/// the size of each collection, and `done`. A call that traps, or the first refusal met, is the
-/// answer, and the screen gets its line. Every growth comes before the shelf's first `begin`.
+/// each row, and what it emits is grouped and combined where the script says so. Only then the
+/// output file is written to the shelf, and then the text of the screen: the execution graph, the
+/// plan, the size of each collection, and `done`. A call that traps, or the first refusal met, is
+/// the answer, and the screen gets its line. Every growth comes before the shelf's first `begin`.
 ///
 /// What is promised of each answer is a field of `Promises` (specs/Promises.antt of run_course).
 /// No host is called and no thread is started yet.

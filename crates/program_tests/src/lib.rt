@@ -2,6 +2,8 @@
 #![tactic(auto)]
 
 #[cfg(test)]
+mod combiners;
+#[cfg(test)]
 mod names;
 #[cfg(test)]
 mod outcome;

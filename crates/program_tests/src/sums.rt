@@ -72,33 +72,9 @@ fn accepted_sums(rt: HostRuntime) -> Result<(), Fail> {
 }
 
 #[test]
-fn types_and_combiners_that_are_not_accepted(rt: HostRuntime) -> Result<(), Fail> {
+fn types_that_are_not_summed(rt: HostRuntime) -> Result<(), Fail> {
     let alloc = rt.alloc();
-    let table: [(&str, &[u8], &[u8]); 10] = [
-        (
-            "counts",
-            HEAD,
-            b"let p = do a f
-              let g = group p
-              let s = combine g by count
-              output s to \"o\"",
-        ),
-        (
-            "least values",
-            HEAD,
-            b"let p = do a f
-              let g = group p
-              let s = combine g by min
-              output s to \"o\"",
-        ),
-        (
-            "the greatest value of each group",
-            HEAD,
-            b"let p = do a f
-              let g = group p
-              let s = combine g by top 1
-              output s to \"o\"",
-        ),
+    let table: [(&str, &[u8], &[u8]); 7] = [
         (
             "a function that gives no table",
             INPUT,

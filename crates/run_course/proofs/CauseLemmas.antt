@@ -11,11 +11,11 @@ use Rattle.dofn_check.specs.Call.{Function}
 use Rattle.flume_grammar.specs.Answer.{IsRefusal}
 use Rattle.flume_grammar.specs.declared.fault.ScriptFault.{ScriptFault}
 use Rattle.flume_grammar.specs.declared.fault.ScriptFault.TheVariants as script_fault
-use Rattle.flume_program.specs.Accepted.{IsProgram, IsScriptOf}
+use Rattle.flume_program.specs.Accepted.{IsProgram, IsScriptOf, written_type}
 use Rattle.flume_program.specs.Needed.{Wanted, inputs_of}
 use Rattle.flume_program.specs.Script.{Output, Script}
+use Rattle.flume_program.specs.declared.program.Combination.{Combination}
 use Rattle.flume_program.specs.declared.program.Program.{Program}
-use Rattle.flume_program.specs.declared.program.Sum.{Sum}
 use Rattle.flume_value.specs.Bag.{bag_of}
 use Rattle.flume_value.specs.declared.value.Value.{Value}
 use Rattle.outside.specs.Cause.{RoseBy}
@@ -77,14 +77,16 @@ script_cause words before after (InputRefused name row column kind) cause = absu
 script_cause words before after (WriteFault place) cause = cause.2
 script_cause words before after (Trap origin kind element) cause = cause.2
 
-inputs_by : (sum : Option Sum) (program : Program) (function : Function) (script : Script) → IsScriptOf sum program function script
+inputs_by : (combination : Option Combination) (program : Program) (function : Function)
+    (script : Script) → IsScriptOf combination program function script
     → inputs_of script ≡ input_of program ∷ []
 inputs_by None program function script is = ap inputs_of is
-inputs_by (Some sum) program function script is = ap inputs_of is.2
+inputs_by (Some made) program function script is = ap inputs_of is.2
 
 -- the inputs of the script that a program is
 program_inputs : (program : Program) (function : Function) (script : Script) → IsProgram program function script → inputs_of script ≡ input_of program ∷ []
-program_inputs program function script is = inputs_by program.sum program function script is.is
+program_inputs program function script is =
+    inputs_by program.combination program function script is.is
 
 -- it is the turn of the program's input
 input_turn : (words : List (List ℕ)) (told : Option (List NamedBytes)) (program : Program) → ReadsProgram words told program
@@ -137,7 +139,8 @@ input_cause words before middle after program (Trap origin kind element) read to
 
 -- the file of the one output, and the text of the screen
 pub gives : (program : Program) (rows members : List Value) (sizes : Sizes) (name text screen : List ℕ) → name ≡ program.output_file
-    → text_of (bag_of members) program.fun.gives ≡ Some text → IsRunText program sizes screen → Evaluates program rows members sizes
+    → text_of (bag_of members) (written_type program.combination program.fun.gives) ≡ Some text
+    → IsRunText program sizes screen → Evaluates program rows members sizes
     → Gives program rows (record { name = name; bytes = text }) screen
 gives program rows members sizes name text screen named texted shown evaluates function script is =
     let it = evaluates function script is in

@@ -1,7 +1,7 @@
 // What a run writes, or why it writes nothing.
 ghost use Rattle.std.specs.Prelude.{◌≡◌, IfErr, IfOk, IsSome, IsUtf8, List};
 ghost use Rattle.direct_meaning.specs.Evaluated.{Evaluates};
-ghost use Rattle.flume_program.specs.Accepted.{IsNamed, IsReady};
+ghost use Rattle.flume_program.specs.Accepted.{IsNamed, IsReady, written_type};
 ghost use Rattle.flume_types.specs.Columns.{columns_of};
 ghost use Rattle.flume_types.specs.Typing.{AllHave};
 ghost use Rattle.flume_value.specs.declared.value.Value.{Value as Value_};
@@ -42,8 +42,8 @@ pub fn run_program(alloc: Global, program: Program, rows: Items) -> Result<Writt
 
 // The texts of what a run came to.
 fn write_out(alloc: Global, program: Program, it: Evaluated) -> Result<Written, AllocError>
-    requires flat { IsSome (columns_of program.fun.gives) }
-    requires typed { AllHave program.fun.gives it.members.items }
+    requires flat { IsSome (columns_of (written_type program.combination program.fun.gives)) }
+    requires typed { AllHave (written_type program.combination program.fun.gives) it.members.items }
     ensures written { (rows : List Value_) → Evaluates program rows it.members.items it.sizes →
         IfOk result (λ out.
         Gives program rows (record { name = out.name; bytes = out.text.items }) out.screen.items) }
@@ -51,7 +51,7 @@ fn write_out(alloc: Global, program: Program, it: Evaluated) -> Result<Written, 
 {
     let screen = run_text(alloc, &program, it.sizes)?;
     let members = Pile::from_vec(it.members);
-    let text = text(alloc, &members, program.fun.gives())?;
+    let text = text(alloc, &members, program.written_type())?;
     Ok(Written {
         name: program.output_file,
         text,

@@ -1,19 +1,17 @@
 -- The texts of graph and plan, as their pieces.
-use Rattle.std.proofs.Common.{◌≡◌, ℕ, List, ◌++◌, Option, Some, None, codes, decimal, arith, append_assoc, ap, sym, subst, ◌∙◌}
+use Rattle.std.proofs.Common.{◌≡◌, ℕ, List, ◌++◌, Option, Some, None, codes, decimal, arith, append_assoc, ap, sym, ◌∙◌}
 use Rattle.std.specs.List.{flat_map}
 use Rattle.std.proofs.lemmas.Fmt.{decimal_digit}
+use Rattle.direct_meaning.proofs.ScriptLemmas.{of_combination, of_one_do}
 use Rattle.dofn_check.specs.Call.{Function}
-use Rattle.flume_program.specs.Accepted.{IsProgram, IsScriptOf, statement_of}
-use Rattle.flume_program.specs.Checked.{Rows, group_and_sum, one_do}
+use Rattle.flume_program.specs.Accepted.{IsProgram, of_groups, statement_of}
+use Rattle.flume_program.specs.Checked.{Combination as Meant, Rows, group_and_combine, one_do}
 use Rattle.flume_program.specs.Script.{Output, Script}
+use Rattle.flume_program.specs.declared.program.Combination.{Combination}
 use Rattle.flume_program.specs.declared.program.Program.{Program}
-use Rattle.flume_program.specs.declared.program.Sum.{Sum}
-use Rattle.flume_types.specs.Tables.{table_of}
-use Rattle.flume_types.specs.declared.types.Ty.{Ty}
-use Rattle.flume_types.specs.declared.types.Ty.TheVariants as ty
 use Rattle.printing.specs.Printed.{quoted}
-use Rattle.run_texts.specs.Texts.{graph_text, node_lines, output_line, plan_text}
-use Rattle.run_texts.specs.inner.Pieces.{do_graph_of, do_plan_of, sum_graph_of, sum_plan_of}
+use Rattle.run_texts.specs.Texts.{combiner_text, graph_text, node_lines, output_line, plan_text}
+use Rattle.run_texts.specs.inner.Pieces.{combine_graph_of, combine_plan_of, do_graph_of, do_plan_of}
 
 zero_digit : decimal 0 ≡ codes "0"
 zero_digit = decimal_digit 0 (omega arith)
@@ -61,79 +59,99 @@ plan_pieces : (rows : Rows) (function : Function) (made file : List ℕ) → pla
     ≡ Some (do_plan_of made function.name file)
 plan_pieces rows function made file = simp append_assoc
 
--- ---- groups and their sums
+-- ---- groups and their combination
 
-sum_nodes : (rows : Rows) (function : Function) (made : List ℕ) (key : Ty) (group sum file : List ℕ)
-    → node_lines 0 (group_and_sum rows function made key group sum file).nodes
+combine_nodes : (rows : Rows) (function : Function) (made : List ℕ) (meant : Meant) (file : List ℕ)
+    → node_lines 0 (group_and_combine rows function made meant file).nodes
     ≡ codes "0 source " ++ (rows.name ++ (codes "\n1 do 0 " ++ (made ++ (codes ":" ++ (function.name
-    ++ (codes "\n2 group 1 " ++ (group ++ (codes "\n3 do 2 " ++ (sum ++ codes ":%sum\n")))))))))
-sum_nodes rows function made key group sum file = simp (zero_digit, one_digit, two_digit, three_digit, append_assoc)
+    ++ (codes "\n2 group 1 " ++ (meant.group ++ (codes "\n3 do 2 " ++ (meant.name ++ (codes ":%"
+    ++ (combiner_text meant.combiner ++ codes "\n")))))))))))
+combine_nodes rows function made meant file =
+    simp (zero_digit, one_digit, two_digit, three_digit, append_assoc)
 
-sum_nodes_before : (i c f g s rest : List ℕ) →
-    (codes "0 source " ++ (i ++ (codes "\n1 do 0 " ++ (c ++ (codes ":" ++ (f ++ (codes "\n2 group 1 " ++ (g ++ (codes "\n3 do 2 " ++ (s ++ codes ":%sum\n")))))))))) ++ rest
-    ≡ codes "0 source " ++ (i ++ (codes "\n1 do 0 " ++ (c ++ (codes ":" ++ (f ++ (codes "\n2 group 1 " ++ (g ++ (codes "\n3 do 2 " ++ (s ++ (codes ":%sum\n" ++ rest))))))))))
-sum_nodes_before i c f g s rest = simp append_assoc
+combine_nodes_before : (i c f g s k rest : List ℕ)
+    → (codes "0 source " ++ (i ++ (codes "\n1 do 0 " ++ (c ++ (codes ":" ++ (f
+    ++ (codes "\n2 group 1 " ++ (g ++ (codes "\n3 do 2 " ++ (s ++ (codes ":%"
+    ++ (k ++ codes "\n")))))))))))) ++ rest
+    ≡ codes "0 source " ++ (i ++ (codes "\n1 do 0 " ++ (c ++ (codes ":" ++ (f
+    ++ (codes "\n2 group 1 " ++ (g ++ (codes "\n3 do 2 " ++ (s ++ (codes ":%"
+    ++ (k ++ (codes "\n" ++ rest))))))))))))
+combine_nodes_before i c f g s k rest = simp append_assoc
 
-sum_outputs : (rows : Rows) (function : Function) (made : List ℕ) (key : Ty) (group sum file : List ℕ)
-    → outputs_of (group_and_sum rows function made key group sum file).outputs
-    ≡ codes "output " ++ (sum ++ (codes " reads 3 to " ++ (quoted file ++ codes "\n")))
-sum_outputs rows function made key group sum file = simp (three_digit, append_assoc)
+combine_outputs : (rows : Rows) (function : Function) (made : List ℕ) (meant : Meant)
+    (file : List ℕ)
+    → outputs_of (group_and_combine rows function made meant file).outputs
+    ≡ codes "output " ++ (meant.name ++ (codes " reads 3 to " ++ (quoted file ++ codes "\n")))
+combine_outputs rows function made meant file = simp (three_digit, append_assoc)
 
-sum_graph_pieces : (rows : Rows) (function : Function) (made : List ℕ) (key : Ty) (group sum file : List ℕ)
-    → sum_graph_of rows.name made function.name group sum file ≡ graph_text (group_and_sum rows function made key group sum file)
-sum_graph_pieces rows function made key group sum file =
-    let script = group_and_sum rows function made key group sum file in
-    let nodes = codes "0 source " ++ (rows.name ++ (codes "\n1 do 0 " ++ (made ++ (codes ":" ++ (function.name
-    ++ (codes "\n2 group 1 " ++ (group ++ (codes "\n3 do 2 " ++ (sum ++ codes ":%sum\n"))))))))) in
-    let rest = codes "output " ++ (sum ++ (codes " reads 3 to " ++ (quoted file ++ codes "\n"))) in
+combine_graph_pieces : (rows : Rows) (function : Function) (made : List ℕ) (meant : Meant)
+    (file : List ℕ)
+    → combine_graph_of rows.name made function.name meant.group meant.name
+    (combiner_text meant.combiner) file
+    ≡ graph_text (group_and_combine rows function made meant file)
+combine_graph_pieces rows function made meant file =
+    let script = group_and_combine rows function made meant file in
+    let combiner = combiner_text meant.combiner in
+    let nodes = codes "0 source " ++ (rows.name ++ (codes "\n1 do 0 " ++ (made ++ (codes ":"
+    ++ (function.name ++ (codes "\n2 group 1 " ++ (meant.group ++ (codes "\n3 do 2 "
+    ++ (meant.name ++ (codes ":%" ++ (combiner ++ codes "\n"))))))))))) in
+    let rest = codes "output " ++ (meant.name ++ (codes " reads 3 to "
+    ++ (quoted file ++ codes "\n"))) in
     let both : node_lines 0 script.nodes ++ outputs_of script.outputs
-    ≡ codes "0 source " ++ (rows.name ++ (codes "\n1 do 0 " ++ (made ++ (codes ":" ++ (function.name
-    ++ (codes "\n2 group 1 " ++ (group ++ (codes "\n3 do 2 " ++ (sum ++ (codes ":%sum\n" ++ rest))))))))))
-    = ap (λ text. text ++ outputs_of script.outputs) (sum_nodes rows function made key group sum file)
-    ∙ (ap (λ text. nodes ++ text) (sum_outputs rows function made key group sum file)
-    ∙ sum_nodes_before rows.name made function.name group sum rest) in
+    ≡ codes "0 source " ++ (rows.name ++ (codes "\n1 do 0 " ++ (made ++ (codes ":"
+    ++ (function.name ++ (codes "\n2 group 1 " ++ (meant.group ++ (codes "\n3 do 2 "
+    ++ (meant.name ++ (codes ":%" ++ (combiner ++ (codes "\n" ++ rest))))))))))))
+    = ap (λ text. text ++ outputs_of script.outputs) (combine_nodes rows function made meant file)
+    ∙ (ap (λ text. nodes ++ text) (combine_outputs rows function made meant file)
+    ∙ combine_nodes_before rows.name made function.name meant.group meant.name combiner rest) in
     sym (ap (λ text. codes "graph\n" ++ text) both)
 
-sum_plan_pieces : (rows : Rows) (function : Function) (made : List ℕ) (key : Ty) (group sum file : List ℕ)
-    → plan_text (group_and_sum rows function made key group sum file) ≡ Some (sum_plan_of made function.name group sum file)
-sum_plan_pieces rows function made key group sum file = simp append_assoc
+combine_plan_pieces : (rows : Rows) (function : Function) (made : List ℕ) (meant : Meant)
+    (file : List ℕ)
+    → plan_text (group_and_combine rows function made meant file)
+    ≡ Some (combine_plan_of made function.name meant.group meant.name (combiner_text meant.combiner)
+    file)
+combine_plan_pieces rows function made meant file = simp append_assoc
 
 -- ---- the texts of a program are those of the script that it is
 
-of_one_do : (program : Program) (function : Function) (script : Script) → program.sum ≡ None → IsProgram program function script
-    → script ≡ one_do (statement_of program.input) function program.collection program.output_file
-of_one_do program function script none is = subst (λ (sum : Option Sum). IsScriptOf sum program function script) none is.is
-
-of_sums : (program : Program) (sum : Sum) (function : Function) (script : Script) → program.sum ≡ Some sum → IsProgram program function script
-    → (key : Ty) × (function.gives ≡ table_of key ty.Int)
-    × (script ≡ group_and_sum (statement_of program.input) function program.collection key sum.group sum.name program.output_file)
-of_sums program sum function script some is = subst (λ (s : Option Sum). IsScriptOf s program function script) some is.is
-
-pub do_graph_text : (program : Program) (function : Function) (script : Script) → program.sum ≡ None → IsProgram program function script
+pub do_graph_text : (program : Program) (function : Function) (script : Script)
+    → program.combination ≡ None → IsProgram program function script
     → do_graph_of program.input.name program.collection program.function program.output_file ≡ graph_text script
 do_graph_text program function script none is =
     ap (λ (name : List ℕ). do_graph_of program.input.name program.collection name program.output_file) (sym is.named)
     ∙ (graph_pieces (statement_of program.input) function program.collection program.output_file
     ∙ ap graph_text (sym (of_one_do program function script none is)))
 
-pub do_plan_text : (program : Program) (function : Function) (script : Script) → program.sum ≡ None → IsProgram program function script
+pub do_plan_text : (program : Program) (function : Function) (script : Script)
+    → program.combination ≡ None → IsProgram program function script
     → plan_text script ≡ Some (do_plan_of program.collection program.function program.output_file)
 do_plan_text program function script none is =
     ap plan_text (of_one_do program function script none is)
     ∙ (plan_pieces (statement_of program.input) function program.collection program.output_file
     ∙ ap (λ (name : List ℕ). Some (do_plan_of program.collection name program.output_file)) is.named)
 
-pub sum_graph_text : (program : Program) (sum : Sum) (function : Function) (script : Script) → program.sum ≡ Some sum → IsProgram program function script
-    → sum_graph_of program.input.name program.collection program.function sum.group sum.name program.output_file ≡ graph_text script
-sum_graph_text program sum function script some is =
-    let of = of_sums program sum function script some is in
-    ap (λ (name : List ℕ). sum_graph_of program.input.name program.collection name sum.group sum.name program.output_file) (sym is.named)
-    ∙ (sum_graph_pieces (statement_of program.input) function program.collection of.0 sum.group sum.name program.output_file ∙ ap graph_text (sym of.2))
+pub combine_graph_text : (program : Program) (made : Combination) (function : Function)
+    (script : Script) → program.combination ≡ Some made → IsProgram program function script
+    → combine_graph_of program.input.name program.collection program.function made.group made.name
+    (combiner_text made.combiner) program.output_file
+    ≡ graph_text script
+combine_graph_text program made function script some is =
+    let of = of_combination program made function script some is in
+    ap (λ (name : List ℕ). combine_graph_of program.input.name program.collection name made.group
+    made.name (combiner_text made.combiner) program.output_file) (sym is.named)
+    ∙ (combine_graph_pieces (statement_of program.input) function program.collection
+    (of_groups made of.0) program.output_file ∙ ap graph_text (sym of.2))
 
-pub sum_plan_text : (program : Program) (sum : Sum) (function : Function) (script : Script) → program.sum ≡ Some sum → IsProgram program function script
-    → plan_text script ≡ Some (sum_plan_of program.collection program.function sum.group sum.name program.output_file)
-sum_plan_text program sum function script some is =
-    let of = of_sums program sum function script some is in
+pub combine_plan_text : (program : Program) (made : Combination) (function : Function)
+    (script : Script) → program.combination ≡ Some made → IsProgram program function script
+    → plan_text script
+    ≡ Some (combine_plan_of program.collection program.function made.group made.name
+    (combiner_text made.combiner) program.output_file)
+combine_plan_text program made function script some is =
+    let of = of_combination program made function script some is in
     ap plan_text of.2
-    ∙ (sum_plan_pieces (statement_of program.input) function program.collection of.0 sum.group sum.name program.output_file
-    ∙ ap (λ (name : List ℕ). Some (sum_plan_of program.collection name sum.group sum.name program.output_file)) is.named)
+    ∙ (combine_plan_pieces (statement_of program.input) function program.collection
+    (of_groups made of.0) program.output_file
+    ∙ ap (λ (name : List ℕ). Some (combine_plan_of program.collection name made.group made.name
+    (combiner_text made.combiner) program.output_file)) is.named)

@@ -2,6 +2,7 @@
 //! the sizes of the collections.
 #![tactic(auto)]
 
+mod combiner;
 mod lines;
 mod status;
 mod texts;

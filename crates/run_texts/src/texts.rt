@@ -3,14 +3,15 @@ ghost use Rattle.std.specs.Prelude.{◌≡◌, IfOk, Some};
 ghost use Rattle.dofn_check.specs.Call.{Function};
 ghost use Rattle.flume_program.specs.Accepted.{IsProgram};
 ghost use Rattle.flume_program.specs.Script.{Script};
-ghost use Rattle.direct_meaning.specs.Evaluated.{program_sizes, sum_sizes as sizes_of_sum};
+ghost use Rattle.direct_meaning.specs.Evaluated.{combination_sizes as sizes_of, program_sizes};
 ghost use Rattle.run_texts.specs.Shown.{IsRunText};
-ghost use Rattle.run_texts.specs.inner.Pieces.{do_graph_of, do_plan_of, sum_graph_of, sum_plan_of};
+ghost use Rattle.run_texts.specs.inner.Pieces.{combine_graph_of, combine_plan_of, do_graph_of, do_plan_of};
 ghost use Rattle.printing.specs.Printed.{quoted};
-ghost use Rattle.run_texts.specs.Texts.{graph_text as graph_of, plan_text as plan_of, size_line as line_of_size, size_lines as lines_of_sizes};
+ghost use Rattle.run_texts.specs.Texts.{combiner_text as combiner_of, graph_text as graph_of, plan_text as plan_of, size_line as line_of_size, size_lines as lines_of_sizes};
 
+use crate::combiner::combiner_text;
 use direct_meaning::Sizes;
-use flume_program::{Program, Sum};
+use flume_program::{Combination, Program};
 use itoa::Buffer;
 use printing::{joined, push_quoted};
 use std::alloc::{AllocError, Global};
@@ -37,9 +38,9 @@ fn graph_text(alloc: Global, program: &Program) -> Result<Vec<u8>, AllocError>
     ensures { IfOk result (λ text. (function : Function) (script : Script) →
         IsProgram program.now function script → text.items ≡ graph_of script) }
 {
-    match &program.sum {
+    match &program.combination {
         None => do_graph(alloc, program),
-        Some(sum) => sum_graph(alloc, program, sum),
+        Some(made) => combine_graph(alloc, program, made),
     }
 }
 
@@ -47,9 +48,9 @@ fn plan_text(alloc: Global, program: &Program) -> Result<Vec<u8>, AllocError>
     ensures { IfOk result (λ text. (function : Function) (script : Script) →
         IsProgram program.now function script → plan_of script ≡ Some text.items) }
 {
-    match &program.sum {
+    match &program.combination {
         None => do_plan(alloc, program),
-        Some(sum) => sum_plan(alloc, program, sum),
+        Some(made) => combine_plan(alloc, program, made),
     }
 }
 
@@ -58,23 +59,27 @@ fn size_lines(alloc: Global, program: &Program, sizes: Sizes) -> Result<Vec<u8>,
 {
     let rows = size_line(alloc, program.input.name.as_bytes(), sizes.rows)?;
     let values = size_line(alloc, program.collection.as_bytes(), sizes.values)?;
-    let sums = match &program.sum {
+    let others = match &program.combination {
         None => Vec::new(alloc),
-        Some(sum) => sum_sizes(alloc, sum, sizes.groups)?,
+        Some(made) => combination_sizes(alloc, made, sizes.groups)?,
     };
     joined(
         alloc,
-        &[rows.as_slice(), values.as_slice(), sums.as_slice()],
+        &[rows.as_slice(), values.as_slice(), others.as_slice()],
     )
 }
 
-fn sum_sizes(alloc: Global, sum: &Sum, groups: usize) -> Result<Vec<u8>, AllocError>
+fn combination_sizes(
+    alloc: Global,
+    made: &Combination,
+    groups: usize,
+) -> Result<Vec<u8>, AllocError>
     ensures { IfOk result (λ text.
-        text.items ≡ lines_of_sizes (sizes_of_sum (Some sum.now) groups)) }
+        text.items ≡ lines_of_sizes (sizes_of (Some made.now) groups)) }
 {
-    let group = size_line(alloc, sum.group.as_bytes(), groups)?;
-    let sums = size_line(alloc, sum.name.as_bytes(), groups)?;
-    joined(alloc, &[group.as_slice(), sums.as_slice()])
+    let group = size_line(alloc, made.group.as_bytes(), groups)?;
+    let combined = size_line(alloc, made.name.as_bytes(), groups)?;
+    joined(alloc, &[group.as_slice(), combined.as_slice()])
 }
 
 fn do_graph(alloc: Global, program: &Program) -> Result<Vec<u8>, AllocError>
@@ -123,10 +128,16 @@ fn do_plan(alloc: Global, program: &Program) -> Result<Vec<u8>, AllocError>
     )
 }
 
-fn sum_graph(alloc: Global, program: &Program, sum: &Sum) -> Result<Vec<u8>, AllocError>
-    ensures { let it = program.now in IfOk result (λ text. text.items ≡ sum_graph_of it.input.name
-        it.collection it.function sum.now.group sum.now.name it.output_file) }
+fn combine_graph(
+    alloc: Global,
+    program: &Program,
+    made: &Combination,
+) -> Result<Vec<u8>, AllocError>
+    ensures { let it = program.now in let own = made.now in IfOk result (λ text.
+        text.items ≡ combine_graph_of it.input.name it.collection it.function own.group own.name
+        (combiner_of own.combiner) it.output_file) }
 {
+    let combiner = combiner_text(alloc, made.combiner)?;
     let file = quoted_name(alloc, program.output_file.as_bytes())?;
     joined(
         alloc,
@@ -138,11 +149,13 @@ fn sum_graph(alloc: Global, program: &Program, sum: &Sum) -> Result<Vec<u8>, All
             b":",
             program.function.as_bytes(),
             b"\n2 group 1 ",
-            sum.group.as_bytes(),
+            made.group.as_bytes(),
             b"\n3 do 2 ",
-            sum.name.as_bytes(),
-            b":%sum\noutput ",
-            sum.name.as_bytes(),
+            made.name.as_bytes(),
+            b":%",
+            combiner.as_slice(),
+            b"\noutput ",
+            made.name.as_bytes(),
             b" reads 3 to ",
             file.as_slice(),
             b"\n",
@@ -150,10 +163,12 @@ fn sum_graph(alloc: Global, program: &Program, sum: &Sum) -> Result<Vec<u8>, All
     )
 }
 
-fn sum_plan(alloc: Global, program: &Program, sum: &Sum) -> Result<Vec<u8>, AllocError>
-    ensures { let it = program.now in IfOk result (λ text. text.items ≡ sum_plan_of
-        it.collection it.function sum.now.group sum.now.name it.output_file) }
+fn combine_plan(alloc: Global, program: &Program, made: &Combination) -> Result<Vec<u8>, AllocError>
+    ensures { let it = program.now in let own = made.now in IfOk result (λ text.
+        text.items ≡ combine_plan_of it.collection it.function own.group own.name
+        (combiner_of own.combiner) it.output_file) }
 {
+    let combiner = combiner_text(alloc, made.combiner)?;
     let file = quoted_name(alloc, program.output_file.as_bytes())?;
     joined(
         alloc,
@@ -163,11 +178,15 @@ fn sum_plan(alloc: Global, program: &Program, sum: &Sum) -> Result<Vec<u8>, Allo
             b":",
             program.function.as_bytes(),
             b">0\ngroup 0 ",
-            sum.group.as_bytes(),
-            b" lift sum takes 0.0 does ",
-            sum.name.as_bytes(),
-            b":%sum>0 gives 1.0\noutput ",
-            sum.name.as_bytes(),
+            made.group.as_bytes(),
+            b" lift ",
+            combiner.as_slice(),
+            b" takes 0.0 does ",
+            made.name.as_bytes(),
+            b":%",
+            combiner.as_slice(),
+            b">0 gives 1.0\noutput ",
+            made.name.as_bytes(),
             b" reads 1.0 to ",
             file.as_slice(),
             b"\n",

@@ -12,7 +12,7 @@ use Rattle.flume_grammar.specs.declared.tree.Side.TheVariants as side
 use Rattle.dofn_eval.specs.declared.expr.Binary.{Binary as Operation}
 use Rattle.dofn_eval.specs.declared.expr.Binary.TheVariants as operation
 use Rattle.dofn_eval.specs.Typed.{UnaryTyped, BinaryTyped, negates, inverts, counts_members, counts_bytes, splits, writes, reads, lefts, rights, computes, compares, joins_texts, joins_lists}
-use Rattle.named_types.specs.Fields.{record_layer, member_layer, side_layer, record_fields, member_type, side_types}
+use Rattle.type_trees.specs.Fields.{record_layer, member_layer, side_layer, record_fields, member_type, side_types}
 use Rattle.flume_types.specs.Equality.{type_eq}
 use Rattle.typed_forms.specs.FormTypes.{of_one, of_both, is_long, unary_type, two_type, index_type, pick_type, side_type}
 use Rattle.typed_forms.specs.Operators.{one, side_of}

@@ -11,10 +11,10 @@ use Rattle.flume_grammar.specs.declared.tree.Side.TheVariants as side
 use Rattle.flume_grammar.specs.declared.tree.Type as tree
 use Rattle.dofn_eval.specs.declared.expr.Binary.{Binary as Operation}
 use Rattle.dofn_eval.specs.declared.expr.Binary.TheVariants as operation
-use Rattle.named_types.specs.Options.{◌>>=◌}
-use Rattle.named_types.specs.Types.{Scope, shallow}
-use Rattle.named_types.specs.Fields.{record_of, member_type}
-use Rattle.named_types.specs.Written.{whole_type}
+use Rattle.type_trees.specs.Options.{◌>>=◌}
+use Rattle.type_trees.specs.Types.{Scope, shallow}
+use Rattle.type_trees.specs.Fields.{record_of, member_type}
+use Rattle.type_trees.specs.Written.{whole_type}
 use Rattle.typed_forms.specs.declared.operator.Operator.{Operator}
 use Rattle.typed_forms.specs.declared.operator.Operator.TheVariants.{And, Or, Two}
 

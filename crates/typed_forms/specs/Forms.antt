@@ -7,9 +7,9 @@ use Rattle.flume_grammar.specs.declared.tree.Side.{Side}
 use Rattle.flume_grammar.specs.declared.tree.Unary.{Unary}
 use Rattle.dofn_eval.specs.declared.expr.Expr.{Expr as Slots}
 use Rattle.dofn_eval.specs.declared.expr.Expr.TheVariants as expr
-use Rattle.named_types.specs.Types.{Scope}
-use Rattle.named_types.specs.Places.{place_in}
-use Rattle.named_types.specs.Fields.{place_under}
+use Rattle.type_trees.specs.Types.{Scope}
+use Rattle.type_trees.specs.Places.{place_in}
+use Rattle.type_trees.specs.Fields.{place_under}
 use Rattle.typed_forms.specs.declared.forms.Typed.{Typed as Made}
 use Rattle.typed_forms.specs.declared.forms.AllTyped.{AllTyped}
 use Rattle.typed_forms.specs.declared.operator.Operator.{Operator}

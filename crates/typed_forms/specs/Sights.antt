@@ -2,7 +2,7 @@
 use Rattle.std.specs.Prelude.{[], ◌∷◌, ◌++◌}
 use Rattle.typed_forms.specs.declared.scope.Scope.{Scope as Sight}
 use Rattle.typed_forms.specs.declared.scope.Scope.TheVariants.{Empty, Bound', Block'}
-use Rattle.named_types.specs.Types.{Scope}
+use Rattle.type_trees.specs.Types.{Scope}
 
 -- the names in sight with their types, the newest first
 abbrev pub names_of : Sight → Scope

@@ -4,8 +4,8 @@ ghost use Rattle.int_text.specs.Ints.{int_of_text as int_shown};
 ghost use Rattle.flume_value.specs.declared.value.Value.TheVariants as value;
 ghost use Rattle.flume_types.specs.declared.types.Ty.TheVariants as ty_;
 ghost use Rattle.dofn_eval.specs.declared.expr.Expr.TheVariants as slots;
-ghost use Rattle.named_types.specs.Answers.{Finds};
-ghost use Rattle.named_types.specs.Fields.{place_under as field_under};
+ghost use Rattle.type_trees.specs.Answers.{Finds};
+ghost use Rattle.type_trees.specs.Fields.{place_under as field_under};
 ghost use Rattle.typed_forms.specs.FormTypes.{empty_type as type_of_empty};
 ghost use Rattle.typed_forms.specs.Sights.{names_of};
 ghost use Rattle.typed_forms.specs.Forms as spec;
@@ -21,8 +21,8 @@ use flume_grammar::{Side, Type, Unary};
 use flume_types::{Ty, copy};
 use flume_value::{Held, Pile, Str, Value};
 use int_text::int_of_text;
-use named_types::{Names, Refusal, place_under, whole_type};
 use std::alloc::{AllocError, Global};
+use type_trees::{Names, Refusal, place_under, whole_type};
 
 /// An expression's slots, and its type.
 #[derive(Debug, Drop)]

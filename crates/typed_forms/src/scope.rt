@@ -1,12 +1,12 @@
 ghost use Rattle.std.specs.Prelude.{◌≡◌, Some, is_some};
-ghost use Rattle.named_types.specs.Answers.{Finds};
-ghost use Rattle.named_types.specs.Names.{look};
-ghost use Rattle.named_types.specs.Places.{further, place, place_in};
+ghost use Rattle.type_trees.specs.Answers.{Finds};
+ghost use Rattle.type_trees.specs.Names.{look};
+ghost use Rattle.type_trees.specs.Places.{further, place, place_in};
 ghost use Rattle.typed_forms.specs.Sights.{names_of};
 
 use flume_types::Ty;
 use flume_value::Str;
-use named_types::{Found, Names, Refusal};
+use type_trees::{Found, Names, Refusal};
 
 /// The names in sight with their types, the newest first.
 #[derive(Clone, Copy)]
@@ -20,7 +20,7 @@ pub enum Scope<'a> {
 
 impl<'a> Scope<'a> {
     /// Where the newest of a name stands. `NotAccepted` comes where the name is not in sight.
-    #[tactic(auto, using(named_types::proofs::BehindLemmas::behind_rules))]
+    #[tactic(auto, using(type_trees::proofs::BehindLemmas::behind_rules))]
     pub fn find(&'a self, name: &Str) -> Result<Found<'a>, Refusal>
         ensures { Finds place result (place_in name.now (names_of self.now)) }
     {
@@ -45,7 +45,7 @@ impl<'a> Scope<'a> {
     }
 
     /// Whether a name is in sight.
-    #[tactic(auto, using(named_types::proofs::BehindLemmas::behind_rules))]
+    #[tactic(auto, using(type_trees::proofs::BehindLemmas::behind_rules))]
     pub fn has(&self, name: &Str) -> bool
         ensures { result ≡ is_some (look name.now (names_of self.now)) }
     {

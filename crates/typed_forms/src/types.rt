@@ -5,9 +5,9 @@ ghost use Rattle.std.specs.List.{list_all};
 ghost use Rattle.flume_types.specs.declared.types.Ty.{out-Ty};
 ghost use Rattle.flume_types.specs.declared.types.Ty.TheVariants as ty_;
 ghost use Rattle.flume_types.specs.Equality.{type_eq};
-ghost use Rattle.named_types.specs.Answers.{Finds};
-ghost use Rattle.named_types.specs.Fields.{member_type};
-ghost use Rattle.named_types.specs.Types.{shallow as shallow_type};
+ghost use Rattle.type_trees.specs.Answers.{Finds};
+ghost use Rattle.type_trees.specs.Fields.{member_type};
+ghost use Rattle.type_trees.specs.Types.{shallow as shallow_type};
 ghost use Rattle.typed_forms.specs.FormTypes as spec;
 
 use crate::operator::Operator;
@@ -15,8 +15,8 @@ use dofn_eval::Binary;
 use flume_grammar::{Side, Unary};
 use flume_types::{Ty, same_type};
 use flume_value::{Held, Pile, Str};
-use named_types::{Refusal, either, member_of, record, shallow};
 use std::alloc::Global;
+use type_trees::{Refusal, either, member_of, record, shallow};
 
 fn is_long(ty: &Ty) -> bool
     ensures { result ≡ spec.is_long (out-Ty ty.now) }

@@ -14,10 +14,10 @@ use Rattle.dofn_eval.specs.declared.expr.Expr.{Expr as Slots}
 use Rattle.dofn_eval.specs.declared.expr.Expr.TheVariants as expr
 use Rattle.dofn_eval.specs.declared.stmt.Stmt.{Stmt}
 use Rattle.dofn_eval.specs.declared.stmt.Stmt.TheVariants as stmt
-use Rattle.named_types.specs.Options.{◌>>=◌, where_true}
-use Rattle.named_types.specs.Types.{Scope}
-use Rattle.named_types.specs.Fields.{member_type, side_types}
-use Rattle.named_types.specs.Written.{whole_type}
+use Rattle.type_trees.specs.Options.{◌>>=◌, where_true}
+use Rattle.type_trees.specs.Types.{Scope}
+use Rattle.type_trees.specs.Fields.{member_type, side_types}
+use Rattle.type_trees.specs.Written.{whole_type}
 use Rattle.typed_forms.specs.declared.operator.Operator.{Operator}
 use Rattle.typed_forms.specs.Operators.{operator, concat}
 use Rattle.typed_forms.specs.FormTypes.{empty_type}

@@ -1,7 +1,7 @@
 -- What a part of the check answers, beside what is meant.
 use Rattle.std.specs.Prelude.{◌≡◌, Bool, true, false, Option, Some, None, Result, Ok, Err, ⊤}
-use Rattle.named_types.specs.declared.refusal.Refusal.{Refusal}
-use Rattle.named_types.specs.declared.refusal.Refusal.TheVariants.{NotAccepted, Memory}
+use Rattle.type_trees.specs.declared.refusal.Refusal.{Refusal}
+use Rattle.type_trees.specs.declared.refusal.Refusal.TheVariants.{NotAccepted, Memory}
 
 -- a refusal stands where this holds; want of memory may come at any time
 abbrev pub Fails : Refusal → Type 0 → Type 0

@@ -4,13 +4,16 @@ use Rattle.flume_grammar.specs.declared.tree.Form.{Form}
 use Rattle.flume_grammar.specs.declared.tree.Statement.{Statement}
 use Rattle.dofn_check.specs.Call.{Function}
 use Rattle.dofn_check.specs.Typing.{Scope}
-use Rattle.named_types.specs.declared.refusal.Refusal.{Refusal}
+use Rattle.type_trees.specs.declared.refusal.Refusal.{Refusal}
 use Rattle.flume_program.specs.Script.{Script}
-use Rattle.flume_program.specs.Checked.{Done, done_at, do_script, sum_script}
-use Rattle.flume_program.specs.Accepted.{AreNamed, Does, IsNamed, IsProgram, IsProgramOf, IsReady, IsRefused, statement_of}
+use Rattle.flume_program.specs.Checked.{Combination as Meant, Combined as NameAndCombiner, Done, Table as Types, done_at, do_script, combine_script}
+use Rattle.flume_program.specs.Accepted.{AreNamed, Does, IsNamed, IsProgram, IsProgramOf, IsReady, IsRefused, of_groups, statement_of}
+use Rattle.flume_program.specs.declared.combinations.Combined.{Combined}
+use Rattle.flume_program.specs.declared.program.Combination.{Combination}
 use Rattle.flume_program.specs.declared.program.Program.{Program}
 use Rattle.flume_program.specs.declared.statements.Called.{Called}
 use Rattle.flume_program.specs.declared.checks.Done.{Done as Found}
+use Rattle.flume_program.specs.declared.tables.Table.{Table}
 use Rattle.flume_program.specs.inner.Answers.{Fails}
 
 -- what was found is the function, under its name, by slots
@@ -30,11 +33,23 @@ abbrev pub do_meant : Form → Form → Form → Form → Scope → Option Scrip
 do_meant input function made output names =
     option_and_then (λ done. do_script done output) (done_at input function made names)
 
--- the same with its groups and their sums
-abbrev pub sums_meant : Form → Form → Form → Form → Form → Form → Scope → Option Script
-sums_meant input function made grouped summed output names =
-    option_and_then (λ done. sum_script done grouped summed output)
+-- the same with its groups and their combination
+abbrev pub combination_meant : Form → Form → Form → Form → Form → Form → Scope → Option Script
+combination_meant input function made grouped combined output names =
+    option_and_then (λ done. combine_script done grouped combined output)
     (done_at input function made names)
+
+-- the types of a table
+abbrev pub types_of : Table → Types
+types_of table = record { key = table.key; value = table.value }
+
+-- a combination's name and combiner
+abbrev pub combined_of : Combined → NameAndCombiner
+combined_of made = record { name = made.name; combiner = made.combiner }
+
+-- what was found is the combination
+abbrev pub IsCombined : Combination → Meant → Type 0
+IsCombined made meant = meant ≡ of_groups made meant.groups
 
 -- the program is the script, by some function
 abbrev pub IsMade : Program → Script → Type 0

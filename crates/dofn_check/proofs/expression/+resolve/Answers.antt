@@ -1,6 +1,6 @@
 use Rattle.std.proofs.Common.{sym, ap, ◌∙◌, subst}
 use Rattle.typed_forms.specs.Sights.{names_of}
-use Rattle.named_types.specs.Answers.{Finds}
+use Rattle.type_trees.specs.Answers.{Finds}
 use Rattle.typed_forms.specs.Forms.{typed}
 use Rattle.dofn_check.specs.inner.Slots.{slots_of}
 use Rattle.dofn_check.proofs.SlotLemmas.{slots-Record, slots-List}
