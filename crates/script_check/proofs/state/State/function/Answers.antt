@@ -1,0 +1,54 @@
+use Rattle.std.proofs.Common.{◌≡◌, ℕ, ◌<◌, length, Some, None, sym, subst}
+use Rattle.type_table.specs.Table.{type_at}
+use Rattle.script_check.specs.Script.{Callee, Function, find_function}
+use Rattle.script_check.specs.Program.{function_in}
+use Rattle.script_check.specs.declared.made.Function.{Function as HeldFunction}
+use Rattle.written_types.proofs.NamedLemmas.{found-within}
+use Rattle.script_check.proofs.StateLemmas.{placed-found, placed-none}
+use Rattle.script_check.proofs.state.State.function.Goals as goal
+
+abbrev called : ℕ → Function → Callee
+called number function = record {
+  number = number;
+  takes = function.takes;
+  gives = function.gives;
+}
+
+pub returns-in_err-number-clause-ok : goal.returns-in_err-number-clause-ok
+returns-in_err-number-clause-ok c =
+    let own = c.self.inside in
+    rw c.from_residual.ensures
+    (subst
+    (λ checking. None ≡ find_function c.args.name.now checking.state.functions)
+    c.self.view_is
+    (placed-none (function_in own.known.types) called c.args.name.now own.functions.entries
+    c.in_err-number.ensures.value))
+
+pub returns-clause-ok : goal.returns-clause-ok
+returns-clause-ok c =
+    let own = c.self.inside in
+    let found = c.in_ok-number in
+    subst
+    (λ checking. Some (record {
+      number = found.number;
+      takes = type_at checking.types found.function.now.takes;
+      gives = type_at checking.types found.function.now.gives;
+    })
+    ≡ find_function c.args.name.now checking.state.functions)
+    c.self.view_is
+    (placed-found (function_in own.known.types) called c.args.name.now own.functions.entries
+    found.number found.function.now found.ensures.index found.ensures.value)
+
+pub returns-clause-within : goal.returns-clause-within
+returns-clause-within c =
+    let own = c.self.inside in
+    let found = c.in_ok-number in
+    subst
+    (λ checking. (found.function.now.takes < length checking.types)
+    × (found.function.now.gives < length checking.types))
+    c.self.view_is
+    (found-within
+    (λ (held : HeldFunction). (held.takes < length own.known.types)
+    × (held.gives < length own.known.types))
+    c.args.name.now own.functions.entries found.function.now c.self.invariant.functions_typed
+    (sym found.ensures.value))
