@@ -1,5 +1,5 @@
--- The rules of statements, each tried in order; the first fault with the line on which its statement
--- begins.
+-- The rules of statements, each tried in order; the first fault with the line on which its
+-- statement begins.
 use Rattle.std.specs.Prelude.{ℕ, List, [], ◌∷◌, nat_lt, Option, Some, None, Ok, length}
 use Rattle.flume_types.specs.Columns.{columns_of, input_columns_of}
 use Rattle.flume_grammar.specs.declared.tree.Type as tree
