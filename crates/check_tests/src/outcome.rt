@@ -13,7 +13,7 @@ pub enum Outcome {
 /// The program of a script, or its first fault.
 pub fn checked(alloc: Global, script: &[u8]) -> Result<Program, ScriptFault> {
     let ast = parse(alloc, script)?;
-    check(alloc, &ast)
+    check(alloc, ast)
 }
 
 /// What comes of the script.

@@ -60,10 +60,13 @@ fn functions_and_types(rt: HostRuntime) -> Result<(), Fail> {
     let program = checked(alloc, SCRIPT)?;
     assert_eq!(rt; program.function_count(), 2);
     if program.function_count() == 2 && 1 < program.node_count() {
-        let pair = program.function(0);
-        let same = program.function(1);
+        let pair = program.function(0).signature;
+        let same = program.function(1).signature;
         assert_eq!(rt; program.function_name(0).as_bytes(), b"pair".as_slice());
         assert_eq!(rt; program.function_name(1).as_bytes(), b"same".as_slice());
+        assert!(rt; program.function(0).argument.is(b"x"));
+        assert_eq!(rt; program.function(0).type_names, 1);
+        assert_eq!(rt; program.function(1).body.len(), 1);
         assert_eq!(rt; (pair.scale, same.scale), (300, 100));
         assert!(rt; program.types().same(pair.takes, same.gives));
         assert!(rt; program.types().same(pair.gives, program.node(1).ty));

@@ -1,9 +1,10 @@
 -- What is in memory, as contracts see it: look-ups, one more, and what stays as types are added.
-use Rattle.std.proofs.Common.{◌≡◌, ℕ, ◌<◌, Bool, false, List, ◌∷◌, [], ◌++◌, length, map, Option, Some, None, is_some, refl, sym, ap, ◌∙◌, arith}
+use Rattle.std.proofs.Common.{◌≡◌, ℕ, ◌<◌, ◌≤◌, false, List, ◌∷◌, [], ◌++◌, length, map, take, Option, Some, None, is_some, refl, sym, ap, ◌∙◌, arith}
 use Rattle.std.specs.List.{All, position, position_or_len}
 use Rattle.std.specs.Option.{option_map}
 use Rattle.std.specs.Str.{bytes_eq}
 use Rattle.std.specs.Map.{keys_of}
+use Rattle.std.proofs.lemmas.List.{length_push, take-append-le}
 use Rattle.std.proofs.lemmas.Option.{cond_some}
 use Rattle.flume_types.specs.declared.types.Ty.{Ty}
 use Rattle.type_table.specs.Table.{type_at, Extends}
@@ -11,10 +12,12 @@ use Rattle.written_types.specs.Named.{Named, find}
 use Rattle.written_types.specs.Known.{Known}
 use Rattle.written_types.proofs.NamedLemmas.{mapped, find-mapped, keys-mapped, same-map}
 use Rattle.script_check.specs.declared.made.Function.{Function as HeldFunction}
+use Rattle.script_check.specs.declared.made.Signature.{Signature as HeldSignature}
 use Rattle.script_check.specs.declared.made.Node.{Node as HeldNode}
 use Rattle.script_check.specs.declared.made.Output.{Output}
 use Rattle.script_check.specs.Script.{State, place}
 use Rattle.script_check.specs.inner.Held.{function_of, node_of, FunctionIn, NodeIn, AreHeld, checking_of}
+use Rattle.script_check.specs.Program.{signature_in}
 
 -- ---- look-ups
 
@@ -66,42 +69,85 @@ module _ {A B C : Type 0} (f : A → B) (g : ℕ → B → C) (name : List ℕ) 
   placed-none is =
       sym (placed-mapped ∙ ap (option_map (λ x. g (place name names) (f x))) (sym is))
 
--- ---- more types
+-- ---- more types, and more names for types
 
-module _ (old new : List Ty) (more : Extends old new) (functions : Named HeldFunction) (nodes : Named HeldNode) (held : AreHeld old functions nodes) where
-  functions-kept : map (function_of new) functions ≡ map (function_of old) functions
+-- each number keeps its type, and the first names stand for what they stood for
+pub record Grows (old new : Known) : Type 0 where
+  pub types : Extends old.types new.types
+  pub longer : length old.names ≤ length new.names
+  pub names : (n : ℕ) → n ≤ length old.names → take n new.names ≡ take n old.names
+
+pub grows-types : (old new : Known) → Extends old.types new.types → new.names ≡ old.names
+    → Grows old new
+grows-types old new more names = record {
+  types = more;
+  longer = omega (arith, ap length names);
+  names = λ n le. ap (take n) names;
+}
+
+pub grows-name : (old new : Known) (entry : List ℕ × Ty) → new.types ≡ old.types
+    → new.names ≡ old.names ++ entry ∷ [] → Grows old new
+grows-name old new entry types names = record {
+  types = record {
+    longer = omega (arith, ap length types);
+    same = λ id in_. ap (λ types. type_at types id) types;
+  };
+  longer = omega (arith, ap length names, length_push old.names entry);
+  names = λ n le. ap (take n) names ∙ take-append-le n old.names (entry ∷ []) le;
+}
+
+module _ (old new : Known) (more : Grows old new) (functions : Named HeldFunction) (nodes : Named HeldNode) (held : AreHeld old functions nodes) where
+  signature-kept : (signature : HeldSignature) → signature.takes < length old.types
+      → signature.gives < length old.types
+      → signature_in new.types signature ≡ signature_in old.types signature
+  signature-kept signature takes gives = λ i. record {
+    takes = more.types.same signature.takes takes i;
+    gives = more.types.same signature.gives gives i;
+    scale = signature.scale;
+  }
+
+  function-kept : (entry : List ℕ × HeldFunction) → FunctionIn old entry
+      → function_of new entry ≡ function_of old entry
+  function-kept entry in_ = λ i. (
+    entry.0,
+    record {
+      types = more.names entry.1.type_names in_.named i;
+      argument = entry.1.argument;
+      signature = signature-kept entry.1.signature in_.takes in_.gives i;
+      body = entry.1.body;
+    },
+  )
+
+  pub functions-kept : map (function_of new) functions ≡ map (function_of old) functions
   functions-kept =
-      same-map (function_of new) (function_of old) (FunctionIn (length old))
-      (λ e in_ i. (
-        e.0,
-        record {
-          takes = more.same e.1.takes in_.0 i;
-          gives = more.same e.1.gives in_.1 i;
-          scale = e.1.scale;
-        },
-      ))
-      functions held.functions_typed
+      same-map (function_of new) (function_of old) (FunctionIn old) function-kept functions
+      held.functions_held
 
-  nodes-kept : map (node_of new) nodes ≡ map (node_of old) nodes
+  pub nodes-kept : map (node_of new.types) nodes ≡ map (node_of old.types) nodes
   nodes-kept =
-      same-map (node_of new) (node_of old) (NodeIn (length old))
-      (λ e in_ i. (e.0, record { made = e.1.made; type = more.same e.1.ty in_ i }))
-      nodes held.nodes_typed
+      same-map (node_of new.types) (node_of old.types) (NodeIn old)
+      (λ e in_ i. (e.0, record { made = e.1.made; type = more.types.same e.1.ty in_ i })) nodes
+      held.nodes_held
 
   pub held-more : AreHeld new functions nodes
   held-more = record {
-    functions_typed = λ k e in_.
-        let within = held.functions_typed k e in_ in
-        (omega (arith, within.0, more.longer), omega (arith, within.1, more.longer));
-    nodes_typed = λ k e in_. omega (arith, held.nodes_typed k e in_, more.longer);
+    functions_held = λ k e in_.
+        let within = held.functions_held k e in_ in
+        record {
+          takes = omega (arith, within.takes, more.types.longer);
+          gives = omega (arith, within.gives, more.types.longer);
+          named = omega (arith, within.named, more.longer);
+        };
+    nodes_held = λ k e in_. omega (arith, held.nodes_held k e in_, more.types.longer);
   }
 
 pub state-kept : (old new : Known) → Extends old.types new.types → new.names ≡ old.names
     → (functions : Named HeldFunction) (nodes : Named HeldNode) (outputs : Named Output)
-    → AreHeld old.types functions nodes
+    → AreHeld old functions nodes
     → (checking_of new functions nodes outputs).state
     ≡ (checking_of old functions nodes outputs).state
 state-kept old new more names functions nodes outputs held =
-    let a = functions-kept old.types new.types more functions nodes held in
-    let b = nodes-kept old.types new.types more functions nodes held in
+    let grows = grows-types old new more names in
+    let a = functions-kept old new grows functions nodes held in
+    let b = nodes-kept old new grows functions nodes held in
     λ i. record { types = names i; functions = a i; nodes = b i; outputs = outputs }

@@ -5,7 +5,7 @@ use Rattle.flume_types.specs.Columns.{columns_of, input_columns_of}
 use Rattle.flume_grammar.specs.declared.tree.Type as tree
 use Rattle.flume_grammar.specs.declared.tree.Form.{Form}
 use Rattle.flume_grammar.specs.declared.tree.Form.TheVariants as form
-use Rattle.flume_grammar.specs.declared.tree.Function.{Function}
+use Rattle.flume_grammar.specs.declared.tree.Function.{Function as Written}
 use Rattle.flume_grammar.specs.declared.tree.Operation.{Operation}
 use Rattle.flume_grammar.specs.declared.tree.Statement.{Statement}
 use Rattle.flume_grammar.specs.declared.fault.ScriptKind.TheVariants.{TooMany, NotFlat, NoOutput, BadNumber}
@@ -14,7 +14,7 @@ use Rattle.written_types.specs.Named.{Named, fresh}
 use Rattle.written_types.specs.Written.{shallow, whole_type}
 use Rattle.script_check.specs.declared.made.Made.TheVariants as made
 use Rattle.script_check.specs.Numbers.{number_within}
-use Rattle.script_check.specs.Script.{Script, State, nothing, script_from, with_type, with_function, with_node, with_output}
+use Rattle.script_check.specs.Script.{Signature, Function, Script, State, nothing, script_from, with_type, with_function, with_node, with_output}
 use Rattle.script_check.specs.Operations.{collection, made_by}
 
 -- each fault is told on this line
@@ -42,14 +42,29 @@ module _ (line : ℕ) where
     columns ← or_fault line NotFlat (input_columns_of t)
     Ok (with_node name (record { made = made.Input file columns; type = t }) s)
 
-  abbrev pub rule_function : Function → State → Checked State
-  rule_function function s = do
+  -- what a function that may be defined here takes and gives
+  abbrev pub signature_of : Written → State → Checked Signature
+  signature_of function s = do
     few ← room 128 s.functions
     new ← fresh line function.name s.functions
     takes ← whole_type line function.takes s.types
     gives ← whole_type line function.gives s.types
     scale ← scale_of function.scale
-    Ok (with_function function.name (record { takes = takes; gives = gives; scale = scale }) s)
+    Ok (record { takes = takes; gives = gives; scale = scale })
+
+  -- a function as it is written, with its types
+  abbrev pub function_of : Written → Signature → State → Function
+  function_of function signature s = record {
+    types = s.types;
+    argument = function.argument;
+    signature = signature;
+    body = function.body;
+  }
+
+  abbrev pub rule_function : Written → State → Checked State
+  rule_function function s = do
+    signature ← signature_of function s
+    Ok (with_function function.name (function_of function signature s) s)
 
   abbrev pub rule_let : List ℕ → Operation → State → Checked State
   rule_let name by s = do

@@ -5,15 +5,24 @@ use Rattle.std.specs.Option.{option_map}
 use Rattle.std.specs.Str.{bytes_eq}
 use Rattle.std.specs.Map.{keys_of}
 use Rattle.flume_types.specs.declared.types.Ty.{Ty}
+use Rattle.flume_grammar.specs.declared.tree.Body.{Body}
 use Rattle.written_types.specs.Named.{Named, find}
 use Rattle.script_check.specs.declared.made.Made.{Made}
 use Rattle.script_check.specs.declared.made.Output.{Output}
 
--- a function: what it takes and gives, and how many emissions are expected of a hundred calls
-pub record Function : Type 0 where
+-- what a function takes and gives, and how many emissions are expected of a hundred calls
+pub record Signature : Type 0 where
   pub takes : Ty
   pub gives : Ty
   pub scale : ℕ
+
+-- a function as it is written: what names of types stand for in its body, the name of its argument,
+-- and its body, with its types
+pub record Function : Type 0 where
+  pub types : Named Ty
+  pub argument : List ℕ
+  pub signature : Signature
+  pub body : List Body
 
 -- a collection: how it is made, and the type of its members
 pub record Node : Type 0 where
@@ -100,7 +109,7 @@ find_function name functions =
     option_map
     (λ function. record {
       number = place name functions;
-      takes = function.takes;
-      gives = function.gives;
+      takes = function.signature.takes;
+      gives = function.signature.gives;
     })
     (find name functions)

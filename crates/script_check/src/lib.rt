@@ -23,5 +23,5 @@ mod sides;
 mod state;
 
 pub use checks::check;
-pub use made::{Function, Made, Node, Output};
+pub use made::{Function, Made, Node, Output, Signature};
 pub use program::Program;

@@ -1,4 +1,5 @@
 use combine_table::Comb;
+use flume_grammar::Body;
 use flume_types::Columns;
 use flume_value::{Pile, Str};
 use type_table::TypeId;
@@ -32,15 +33,28 @@ pub struct Node {
     pub ty: TypeId,
 }
 
-/// A function.
-#[derive(PartialEq, Eq, Debug, Drop)]
-pub struct Function {
+/// What a function takes and gives.
+#[derive(Clone, Copy, PartialEq, Eq, Debug)]
+pub struct Signature {
     /// The type of its argument.
     pub takes: TypeId,
     /// The type of what it emits.
     pub gives: TypeId,
     /// How many emissions are expected of a hundred calls.
     pub scale: u32,
+}
+
+/// A function as it is written, with its types.
+#[derive(PartialEq, Eq, Debug, Drop)]
+pub struct Function {
+    /// How many names stand for types in its body: the first so many of the script.
+    pub type_names: usize,
+    /// The name of its argument.
+    pub argument: Str,
+    /// What it takes and gives.
+    pub signature: Signature,
+    /// The statements of its body.
+    pub body: Pile<Body>,
 }
 
 /// An output.

@@ -8,11 +8,12 @@ use flume_value::Str;
 use indexmap::IndexMap;
 use std::marker::Model;
 use type_table::Types;
+use written_types::TypeNames;
 
 /// The program that an accepted script is. Contracts see it as the script, over types as trees.
 #[derive(Drop)]
 pub struct Program {
-    types: Types,
+    known: TypeNames,
     functions: IndexMap<Str, Function>,
     nodes: IndexMap<Str, Node>,
     outputs: IndexMap<Str, Output>,
@@ -21,32 +22,42 @@ pub struct Program {
 impl Model for Program {
     ghost use Rattle.std.specs.Coded.{codes};
     ghost use Rattle.flume_types.specs.contracts.types.Ty as coded_types;
+    ghost use Rattle.flume_grammar.specs.contracts.tree.Body as coded_bodies;
     ghost use Rattle.script_check.specs.contracts.made.Made as coded_made;
-    ghost use Rattle.script_check.specs.contracts.made.Output as coded_output;
+    ghost use Rattle.script_check.specs.contracts.made.Output as coded_outputs;
     ghost use Rattle.script_check.specs.Program.{Numbered};
     ghost use Rattle.script_check.specs.inner.Held.{numbered_of, AreHeld};
 
     ghost Value = { Numbered };
 
-    ghost coded = { Prim.hlevel (codes, coded_types.the_row.coded, coded_made.the_row.coded, coded_output.the_row.coded) };
+    ghost coded = { Prim.hlevel (
+      codes,
+      coded_types.the_row.coded,
+      coded_bodies.the_row.coded,
+      coded_made.the_row.coded,
+      coded_outputs.the_row.coded,
+    ) };
 
-    ghost view = { λ program. numbered_of program.types program.functions.entries program.nodes.entries program.outputs.entries };
+    ghost view = { λ program.
+        numbered_of program.known program.functions.entries program.nodes.entries
+        program.outputs.entries };
 
-    ghost invariant = { λ program. AreHeld program.types program.functions.entries program.nodes.entries };
+    ghost invariant = { λ program.
+        AreHeld program.known program.functions.entries program.nodes.entries };
 }
 
 impl Program {
     pub(crate) fn new(
-        types: Types,
+        known: TypeNames,
         functions: IndexMap<Str, Function>,
         nodes: IndexMap<Str, Node>,
         outputs: IndexMap<Str, Output>,
     ) -> Program
-        requires { AreHeld types functions.entries nodes.entries }
-        ensures { result ≡ numbered_of types functions.entries nodes.entries outputs.entries }
+        requires { AreHeld known functions.entries nodes.entries }
+        ensures { result ≡ numbered_of known functions.entries nodes.entries outputs.entries }
     {
         Program {
-            types,
+            known,
             functions,
             nodes,
             outputs,
@@ -55,9 +66,9 @@ impl Program {
 
     /// The types under numbers.
     pub fn types(&self) -> &Types
-        ensures { result.now ≡ self.now.types }
+        ensures { result.now ≡ self.now.known.types }
     {
-        &self.types
+        self.known.types()
     }
 
     /// How many functions there are.
@@ -83,9 +94,9 @@ impl Program {
     pub fn function(&self, number: usize) -> &Function
         requires { number < length self.now.script.functions }
         ensures is { option_map (λ entry. entry.1) (slice_get self.now.script.functions number)
-            ≡ Some (spec.function_in self.now.types result.now) }
-        ensures takes { result.now.takes < length self.now.types }
-        ensures gives { result.now.gives < length self.now.types }
+            ≡ Some (spec.function_in self.now.known result.now) }
+        ensures takes { result.now.signature.takes < length self.now.known.types }
+        ensures gives { result.now.signature.gives < length self.now.known.types }
     {
         match self.functions.get_index(number) {
             Some((_, function)) => function,
@@ -116,8 +127,8 @@ impl Program {
     pub fn node(&self, number: usize) -> &Node
         requires { number < length self.now.script.nodes }
         ensures is { option_map (λ entry. entry.1) (slice_get self.now.script.nodes number)
-            ≡ Some (spec.node_in self.now.types result.now) }
-        ensures within { result.now.ty < length self.now.types }
+            ≡ Some (spec.node_in self.now.known.types result.now) }
+        ensures within { result.now.ty < length self.now.known.types }
     {
         match self.nodes.get_index(number) {
             Some((_, node)) => node,

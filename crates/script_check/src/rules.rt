@@ -1,16 +1,18 @@
-ghost use Rattle.std.specs.Prelude.{◌≡◌, ◌<◌, length};
+ghost use Rattle.std.specs.Prelude.{◌≡◌, ◌<◌, false, is_some, length, IfOk, OnOk};
 ghost use Rattle.flume_types.specs.Columns.{columns_of, input_columns_of};
 ghost use Rattle.type_table.specs.Table.{type_at};
 ghost use Rattle.written_types.specs.Answer.{Gives, or_fault};
+ghost use Rattle.written_types.specs.Named.{find};
+ghost use Rattle.script_check.specs.Program.{signature_in};
 ghost use Rattle.script_check.specs.Rules as spec;
 
 use crate::fresh::{fresh, room};
-use crate::made::{Function, Made, Node, Output};
+use crate::made::{Made, Node, Output, Signature};
 use crate::numbers::scale;
 use crate::operation::{collection, made_by};
 use crate::state::State;
 use flume_grammar::{
-    Form, Function as WrittenFunction, Operation, ScriptFault, ScriptKind, Statement, Type,
+    Form, Function as Written, Operation, ScriptFault, ScriptKind, Statement, Type,
 };
 use flume_types::{ColumnFault, Columns};
 use flume_value::Str;
@@ -19,33 +21,32 @@ use type_table::{TypeId, columns, input_columns};
 use written_types::{refused, shallow};
 
 /// A statement's rules, in order.
-pub fn rule(alloc: Global, statement: &Statement, state: &mut State) -> Result<(), ScriptFault>
+pub fn rule(alloc: Global, statement: Statement, state: &mut State) -> Result<(), ScriptFault>
     ensures { Gives (λ _. state.new.state) result
-        (spec.rule statement.now.line statement.now.form state.old.state) }
+        (spec.rule statement.line statement.form state.old.state) }
 {
-    let line = statement.line;
-    match &statement.form {
-        Form::Type(name, ty) => rule_type(alloc, line, name, ty, state),
-        Form::Input(name, ty, file) => rule_input(alloc, line, name, ty, file, state),
+    let Statement { line, form } = statement;
+    match form {
+        Form::Type(name, ty) => rule_type(alloc, line, name, &ty, state),
+        Form::Input(name, ty, file) => rule_input(alloc, line, name, &ty, file, state),
         Form::Function(function) => rule_function(alloc, line, function, state),
-        Form::Let(name, by) => rule_let(alloc, line, name, by, state),
-        Form::Output(name, file) => rule_output(alloc, line, name, file, state),
+        Form::Let(name, by) => rule_let(alloc, line, name, &by, state),
+        Form::Output(name, file) => rule_output(alloc, line, &name, file, state),
     }
 }
 
 fn rule_type(
     alloc: Global,
     line: u32,
-    name: &Str,
+    name: Str,
     ty: &Type,
     state: &mut State,
 ) -> Result<(), ScriptFault>
     ensures { Gives (λ _. state.new.state) result
-        (spec.rule_type line name.now ty.now state.old.state) }
+        (spec.rule_type line name ty.now state.old.state) }
 {
-    fresh(line, state.has_type(name))?;
+    fresh(line, state.has_type(&name))?;
     let id = state.whole_type(alloc, line, ty)?;
-    let name = name.copy(alloc)?;
     state.add_type(name, id)?;
     Ok(())
 }
@@ -53,20 +54,18 @@ fn rule_type(
 fn rule_input(
     alloc: Global,
     line: u32,
-    name: &Str,
+    name: Str,
     ty: &Type,
-    file: &Str,
+    file: Str,
     state: &mut State,
 ) -> Result<(), ScriptFault>
     ensures { Gives (λ _. state.new.state) result
-        (spec.rule_input line name.now ty.now file.now state.old.state) }
+        (spec.rule_input line name ty.now file state.old.state) }
 {
     room(line, state.node_count(), 256)?;
-    fresh(line, state.has_node(name))?;
+    fresh(line, state.has_node(&name))?;
     let ty = state.whole_type(alloc, line, ty)?;
     let columns = row_columns(alloc, line, ty, state)?;
-    let file = file.copy(alloc)?;
-    let name = name.copy(alloc)?;
     let made = Made::Input { file, columns };
     state.add_node(name, Node { made, ty })?;
     Ok(())
@@ -75,42 +74,66 @@ fn rule_input(
 fn rule_function(
     alloc: Global,
     line: u32,
-    function: &WrittenFunction,
+    function: Written,
     state: &mut State,
 ) -> Result<(), ScriptFault>
     ensures { Gives (λ _. state.new.state) result
-        (spec.rule_function line function.now state.old.state) }
+        (spec.rule_function line function state.old.state) }
+{
+    let signature = signature_of(alloc, line, &function, state)?;
+    let Written {
+        name,
+        argument,
+        takes: _takes,
+        gives: _gives,
+        scale: _scale,
+        body,
+    } = function;
+    state.add_function(name, argument, signature, body)?;
+    Ok(())
+}
+
+/// What a function that may be defined here takes and gives.
+fn signature_of(
+    alloc: Global,
+    line: u32,
+    function: &Written,
+    state: &mut State,
+) -> Result<Signature, ScriptFault>
+    ensures gives { Gives (signature_in state.new.types) result
+        (spec.signature_of line function.now state.old.state) }
+    ensures new { OnOk result
+        (is_some (find function.now.name state.old.state.functions) ≡ false) }
+    ensures takes { IfOk result (λ signature. signature.takes < length state.new.types) }
+    ensures gives_in { IfOk result (λ signature. signature.gives < length state.new.types) }
+    ensures state { state.new.state ≡ state.old.state }
 {
     room(line, state.function_count(), 128)?;
     fresh(line, state.has_function(&function.name))?;
     let takes = state.whole_type(alloc, line, &function.takes)?;
     let gives = state.whole_type(alloc, line, &function.gives)?;
     let scale = scale(line, &function.scale)?;
-    let name = function.name.copy(alloc)?;
-    let function = Function {
+    Ok(Signature {
         takes,
         gives,
         scale,
-    };
-    state.add_function(name, function)?;
-    Ok(())
+    })
 }
 
 fn rule_let(
     alloc: Global,
     line: u32,
-    name: &Str,
+    name: Str,
     by: &Operation,
     state: &mut State,
 ) -> Result<(), ScriptFault>
     ensures { Gives (λ _. state.new.state) result
-        (spec.rule_let line name.now by.now state.old.state) }
+        (spec.rule_let line name by.now state.old.state) }
 {
     room(line, state.node_count(), 256)?;
-    fresh(line, state.has_node(name))?;
+    fresh(line, state.has_node(&name))?;
     let node = made_by(alloc, line, by, state)?;
     shallow(line, node.ty, state.types())?;
-    let name = name.copy(alloc)?;
     state.add_node(name, node)?;
     Ok(())
 }
@@ -119,17 +142,16 @@ fn rule_output(
     alloc: Global,
     line: u32,
     name: &Str,
-    file: &Str,
+    file: Str,
     state: &mut State,
 ) -> Result<(), ScriptFault>
     ensures { Gives (λ _. state.new.state) result
-        (spec.rule_output line name.now file.now state.old.state) }
+        (spec.rule_output line name.now file state.old.state) }
 {
     room(line, state.output_count(), 64)?;
     let source = collection(line, name, state)?;
     let columns = flat_columns(alloc, line, source.ty, state)?;
-    fresh(line, state.has_output(file))?;
-    let file = file.copy(alloc)?;
+    fresh(line, state.has_output(&file))?;
     let output = Output {
         reads: source.number,
         columns,

@@ -5,15 +5,15 @@ ghost use Rattle.type_table.specs.Table.{type_at, tree_of, IsWithin, Extends};
 ghost use Rattle.written_types.specs.Answer.{Gives};
 ghost use Rattle.written_types.specs.Named.{find};
 ghost use Rattle.written_types.specs.Written.{whole_type as whole};
-ghost use Rattle.script_check.specs.Program.{function_in, node_in};
+ghost use Rattle.script_check.specs.Program.{signature_in, node_in};
 ghost use Rattle.script_check.specs.Script as spec;
 ghost use Rattle.script_check.specs.inner.Held.{operand_in, callee_in};
 
-use crate::made::{Function, Node, Output};
+use crate::made::{Function, Node, Output, Signature};
 use crate::operand::{Callee, Operand};
 use crate::program::Program;
-use flume_grammar::{ScriptFault, Type};
-use flume_value::Str;
+use flume_grammar::{Body, ScriptFault, Type};
+use flume_value::{Pile, Str};
 use indexmap::IndexMap;
 use std::alloc::{AllocError, Global};
 use std::marker::Model;
@@ -32,17 +32,27 @@ pub struct State {
 impl Model for State {
     ghost use Rattle.std.specs.Coded.{codes};
     ghost use Rattle.flume_types.specs.contracts.types.Ty as coded_types;
+    ghost use Rattle.flume_grammar.specs.contracts.tree.Body as coded_bodies;
     ghost use Rattle.script_check.specs.contracts.made.Made as coded_made;
-    ghost use Rattle.script_check.specs.contracts.made.Output as coded_output;
+    ghost use Rattle.script_check.specs.contracts.made.Output as coded_outputs;
     ghost use Rattle.script_check.specs.inner.Held.{Checking, checking_of, AreHeld};
 
     ghost Value = { Checking };
 
-    ghost coded = { Prim.hlevel (codes, coded_types.the_row.coded, coded_made.the_row.coded, coded_output.the_row.coded) };
+    ghost coded = { Prim.hlevel (
+      codes,
+      coded_types.the_row.coded,
+      coded_bodies.the_row.coded,
+      coded_made.the_row.coded,
+      coded_outputs.the_row.coded,
+    ) };
 
-    ghost view = { λ state. checking_of state.known state.functions.entries state.nodes.entries state.outputs.entries };
+    ghost view = { λ state.
+        checking_of state.known state.functions.entries state.nodes.entries
+        state.outputs.entries };
 
-    ghost invariant = { λ state. AreHeld state.known.types state.functions.entries state.nodes.entries };
+    ghost invariant = { λ state.
+        AreHeld state.known state.functions.entries state.nodes.entries };
 }
 
 impl State {
@@ -69,7 +79,7 @@ impl State {
             nodes,
             outputs,
         } = self;
-        Program::new(known.into_types(), functions, nodes, outputs)
+        Program::new(known, functions, nodes, outputs)
     }
 
     // ---- types
@@ -156,8 +166,8 @@ impl State {
         let (number, _, function) = self.functions.get_full(name)?;
         Some(Callee {
             number,
-            takes: function.takes,
-            gives: function.gives,
+            takes: function.signature.takes,
+            gives: function.signature.gives,
         })
     }
 
@@ -205,18 +215,36 @@ impl State {
             ≡ spec.with_type name (type_at self.old.types id) self.old.state) }
         ensures types { self.new.types ≡ self.old.types }
     {
-        self.known.add(name, id)
+        self.known.add(name, id)?;
+        Ok(())
     }
 
     /// A function more, under a name that stands for none yet.
-    pub fn add_function(&mut self, name: Str, function: Function) -> Result<(), AllocError>
+    pub fn add_function(
+        &mut self,
+        name: Str,
+        argument: Str,
+        signature: Signature,
+        body: Pile<Body>,
+    ) -> Result<(), AllocError>
         requires new { is_some (find name self.old.state.functions) ≡ false }
-        requires takes { function.takes < length self.old.types }
-        requires gives { function.gives < length self.old.types }
-        ensures state { OnOk result (self.new.state
-            ≡ spec.with_function name (function_in self.old.types function) self.old.state) }
+        requires takes { signature.takes < length self.old.types }
+        requires gives { signature.gives < length self.old.types }
+        ensures state { OnOk result (self.new.state ≡ spec.with_function name (record {
+          types = self.old.state.types;
+          argument = argument;
+          signature = signature_in self.old.types signature;
+          body = body;
+        }) self.old.state) }
         ensures types { self.new.types ≡ self.old.types }
     {
+        let type_names = self.known.name_count();
+        let function = Function {
+            type_names,
+            argument,
+            signature,
+            body,
+        };
         self.functions.insert(name, function)?;
         Ok(())
     }

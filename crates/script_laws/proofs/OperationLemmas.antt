@@ -50,16 +50,16 @@ read nodes name node = record { number = place name nodes; type = node.type }
 abbrev called : Named Function → List ℕ → Function → Callee
 called functions name function = record {
   number = place name functions;
-  takes = function.takes;
-  gives = function.gives;
+  takes = function.signature.takes;
+  gives = function.signature.gives;
 }
 
 -- a callee is the function of its number
 record IsCallee (functions : Named Function) (callee : Callee) : Type 0 where
   pub function : Function
   pub calls : function_at functions callee.number ≡ Some function
-  pub takes : callee.takes ≡ function.takes
-  pub gives : callee.gives ≡ function.gives
+  pub takes : callee.takes ≡ function.signature.takes
+  pub gives : callee.gives ≡ function.signature.gives
 
 -- an operand is the collection of its number
 abbrev IsRead : Named Node → Operand → Type 0

@@ -57,12 +57,8 @@ module _ (line : ℕ) (s after : State) (good : IsGood s) where
   function-good : (function : WrittenFunction) → spec.rule_function line function s ≡ Ok after
       → IsGood after
   function-good function e =
-      let few = both (spec.room line 128 s.functions) _ after e in
-      let new = both (fresh line function.name s.functions) _ after few.then in
-      let takes = both (whole_type line function.takes s.types) _ after new.then in
-      let gives = both (whole_type line function.gives s.types) _ after takes.then in
-      let scale = both (spec.scale_of line function.scale) _ after gives.then in
-      subst IsGood (ok-same _ after scale.then) (record {
+      let signature = both (spec.signature_of line function s) _ after e in
+      subst IsGood (ok-same _ after signature.then) (record {
         nodes = all-fit-more s.functions _ [] s.nodes good.nodes;
         outputs = good.outputs;
       })

@@ -31,8 +31,8 @@ function_at functions number = option_map (λ entry. entry.1) (slice_get functio
 pub record IsDone (functions : Named Function) (nodes : Named Node) (source called : ℕ) (type : Ty) : Type 0 where
   pub function : Function
   pub calls : function_at functions called ≡ Some function
-  pub takes : members_at nodes source ≡ Some function.takes
-  pub gives : type ≡ function.gives
+  pub takes : members_at nodes source ≡ Some function.signature.takes
+  pub gives : type ≡ function.signature.gives
 
 -- as the groups of a table
 pub record IsGrouped (nodes : Named Node) (source : ℕ) (type : Ty) : Type 0 where

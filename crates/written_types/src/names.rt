@@ -1,4 +1,4 @@
-ghost use Rattle.std.specs.Prelude.{◌≡◌, ◌<◌, ◌++◌, ◌∷◌, [], length, None, IfOk, IfSome, OnOk};
+ghost use Rattle.std.specs.Prelude.{◌≡◌, ◌<◌, ◌++◌, ◌∷◌, [], length, None, IfOk, IfSome, OnOk, OnErr};
 ghost use Rattle.std.specs.Option.{option_map};
 ghost use Rattle.type_table.specs.Table.{type_at, tree_of, IsWithin, Extends};
 ghost use Rattle.written_types.specs.Named.{find};
@@ -78,12 +78,20 @@ impl TypeNames {
         Some(*id)
     }
 
+    /// How many names stand for types.
+    pub fn name_count(&self) -> usize
+        ensures { result ≡ length self.now.names }
+    {
+        self.names.len()
+    }
+
     /// Lets a name that stands for nothing yet stand for a type.
     pub fn add(&mut self, name: Str, id: TypeId) -> Result<(), AllocError>
         requires new { find name self.old.names ≡ None }
         requires within { id < length self.old.types }
         ensures names { OnOk result
             (self.new.names ≡ self.old.names ++ (name, type_at self.old.types id) ∷ []) }
+        ensures err { OnErr result (self.new.names ≡ self.old.names) }
         ensures types { self.new.types ≡ self.old.types }
     {
         self.names.insert(name, id)?;

@@ -1,5 +1,5 @@
 -- What is in memory: types under numbers, and names with numbers of types.
-use Rattle.std.specs.Prelude.{ℕ, ◌<◌, List, length, map}
+use Rattle.std.specs.Prelude.{ℕ, ◌<◌, ◌≤◌, List, length, map}
 use Rattle.std.specs.List.{All}
 use Rattle.flume_types.specs.declared.types.Ty.{Ty}
 use Rattle.type_table.specs.Table.{type_at}
@@ -32,8 +32,8 @@ pair_at types held = record { key = type_at types held.key; value = type_at type
 
 -- ---- names with what they stand for
 
-abbrev pub function_of : List Ty → List ℕ × HeldFunction → List ℕ × Function
-function_of types entry = (entry.0, function_in types entry.1)
+abbrev pub function_of : Known → List ℕ × HeldFunction → List ℕ × Function
+function_of known entry = (entry.0, function_in known entry.1)
 
 abbrev pub node_of : List Ty → List ℕ × HeldNode → List ℕ × Node
 node_of types entry = (entry.0, node_in types entry.1)
@@ -48,29 +48,32 @@ checking_of known functions nodes outputs = record {
   types = known.types;
   state = record {
     types = known.names;
-    functions = map (function_of known.types) functions;
+    functions = map (function_of known) functions;
     nodes = map (node_of known.types) nodes;
     outputs = outputs;
   };
 }
 
-abbrev pub numbered_of : List Ty → Named HeldFunction → Named HeldNode → Named Output → Numbered
-numbered_of types functions nodes outputs = record {
-  types = types;
+abbrev pub numbered_of : Known → Named HeldFunction → Named HeldNode → Named Output → Numbered
+numbered_of known functions nodes outputs = record {
+  known = known;
   script = record {
-    functions = map (function_of types) functions;
-    nodes = map (node_of types) nodes;
+    functions = map (function_of known) functions;
+    nodes = map (node_of known.types) nodes;
     outputs = outputs;
   };
 }
 
--- the numbers are those of types
-abbrev pub FunctionIn : ℕ → List ℕ × HeldFunction → Type 0
-FunctionIn count entry = (entry.1.takes < count) × (entry.1.gives < count)
+-- the numbers are those of types, and of the first names
+pub record FunctionIn (known : Known) (entry : List ℕ × HeldFunction) : Type 0 where
+  pub takes : entry.1.signature.takes < length known.types
+  pub gives : entry.1.signature.gives < length known.types
+  pub named : entry.1.type_names ≤ length known.names
 
-abbrev pub NodeIn : ℕ → List ℕ × HeldNode → Type 0
-NodeIn count entry = entry.1.ty < count
+-- the number is that of a type
+abbrev pub NodeIn : Known → List ℕ × HeldNode → Type 0
+NodeIn known entry = entry.1.ty < length known.types
 
-pub record AreHeld (types : List Ty) (functions : Named HeldFunction) (nodes : Named HeldNode) : Type 0 where
-  pub functions_typed : All (FunctionIn (length types)) functions
-  pub nodes_typed : All (NodeIn (length types)) nodes
+pub record AreHeld (known : Known) (functions : Named HeldFunction) (nodes : Named HeldNode) : Type 0 where
+  pub functions_held : All (FunctionIn known) functions
+  pub nodes_held : All (NodeIn known) nodes

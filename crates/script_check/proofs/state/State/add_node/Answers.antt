@@ -18,11 +18,11 @@ invariant_of-self-2 c =
     subst (λ checking. node.ty < length checking.types) (sym c.self.view_is)
     c.requires.within in
     record {
-      functions_typed = c.self.invariant.functions_typed;
-      nodes_typed =
+      functions_held = c.self.invariant.functions_held;
+      nodes_held =
           within-put (node_in own.known.types) own.nodes c.insert.new.self c.args.name node
-          (none-is _ new) c.in_ok-insert.ensures.entries (NodeIn (length own.known.types))
-          c.self.invariant.nodes_typed within;
+          (none-is _ new) c.in_ok-insert.ensures.entries (NodeIn own.known)
+          c.self.invariant.nodes_held within;
     }
 
 pub returns-clause-state : goal.returns-clause-state
@@ -37,7 +37,7 @@ returns-clause-state c =
     (none-is _ new) c.in_ok-insert.ensures.entries in
     let here : State = record {
       types = own.known.names;
-      functions = map (function_of types) own.functions.entries;
+      functions = map (function_of own.known) own.functions.entries;
       nodes = map (node_of types) c.insert.new.self.entries;
       outputs = own.outputs.entries;
     } in
@@ -47,7 +47,7 @@ returns-clause-state c =
     c.self.view_is
     (λ i. record {
       types = own.known.names;
-      functions = map (function_of types) own.functions.entries;
+      functions = map (function_of own.known) own.functions.entries;
       nodes = put i;
       outputs = own.outputs.entries;
     })

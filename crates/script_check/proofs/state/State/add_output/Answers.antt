@@ -19,7 +19,7 @@ returns-clause-state c =
     ∙ insert_entry-new bytes_eq own.outputs c.args.file c.args.output (none-is _ new) in
     let here : State = record {
       types = own.known.names;
-      functions = map (function_of types) own.functions.entries;
+      functions = map (function_of own.known) own.functions.entries;
       nodes = map (node_of types) own.nodes.entries;
       outputs = c.insert.new.self.entries;
     } in
@@ -27,7 +27,7 @@ returns-clause-state c =
     c.self.view_is
     (λ i. record {
       types = own.known.names;
-      functions = map (function_of types) own.functions.entries;
+      functions = map (function_of own.known) own.functions.entries;
       nodes = map (node_of types) own.nodes.entries;
       outputs = put i;
     })

@@ -12,4 +12,4 @@ returns c =
     ≡ is_some (find c.args.name.now checking.state.functions))
     c.self.view_is
     (c.contains_key.ensures
-    ∙ sym (has-mapped (function_in own.known.types) c.args.name.now own.functions.entries))
+    ∙ sym (has-mapped (function_in own.known) c.args.name.now own.functions.entries))
