@@ -1,0 +1,18 @@
+//! Tests of the checker of scripts: tables of scripts over `parse` and `check`, with the first fault
+//! of each, or that it is accepted.
+#![tactic(auto)]
+
+#[cfg(test)]
+mod limits;
+#[cfg(test)]
+mod operations;
+#[cfg(test)]
+mod order;
+#[cfg(test)]
+mod outcome;
+#[cfg(test)]
+mod programs;
+#[cfg(test)]
+mod statements;
+#[cfg(test)]
+mod types;

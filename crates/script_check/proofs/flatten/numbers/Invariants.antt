@@ -1,0 +1,10 @@
+use Rattle.std.proofs.Common.{◌≡◌, List, map, take}
+use Rattle.flume_types.specs.declared.types.Ty.{Ty}
+use Rattle.script_check.specs.Operations.{numbers}
+use Rattle.script_check.specs.inner.Held.{operand_in}
+use Rattle.script_check.proofs.flatten.numbers.Given as goal
+
+abbrev pub invariant-loop-source : goal.invariant-loop-source
+invariant-loop-source l =
+    (types : List Ty)
+    → l.numbers ≡ numbers (map (operand_in types) (take l.source-index l.sources))

@@ -1,0 +1,95 @@
+use Rattle.std.proofs.Common.{◌≡◌, ◌<◌, ◌≤◌, false, is_some, length, map, take, refl, sym, ap, ◌∙◌, subst, arith}
+use Rattle.std.proofs.Math.Seq.{take-length}
+use Rattle.written_types.specs.Named.{find}
+use Rattle.script_check.specs.declared.made.Function.{Function as HeldFunction}
+use Rattle.script_check.specs.Script.{State, with_function}
+use Rattle.script_check.specs.Program.{signature_in, function_in}
+use Rattle.script_check.specs.inner.Held.{Checking, function_of, node_of, FunctionIn}
+use Rattle.written_types.proofs.NamedLemmas.{mapped-put, within-put}
+use Rattle.script_check.proofs.StateLemmas.{none-is}
+use Rattle.script_check.proofs.state.State.add_function.Goals as goal
+
+pub invariant_of-self-2 : goal.invariant_of-self-2
+invariant_of-self-2 c =
+    let own = c.self.inside in
+    let held : HeldFunction = record {
+      type_names = c.name_count-type_names.result;
+      argument = c.args.argument;
+      signature = c.args.signature;
+      body = c.args.body;
+    } in
+    let new =
+    subst (λ checking. is_some (find c.args.name checking.state.functions) ≡ false)
+    (sym c.self.view_is) c.requires.new in
+    let takes =
+    subst (λ checking. c.args.signature.takes < length checking.types) (sym c.self.view_is)
+    c.requires.takes in
+    let gives =
+    subst (λ checking. c.args.signature.gives < length checking.types) (sym c.self.view_is)
+    c.requires.gives in
+    record {
+      functions_held =
+          within-put (function_in own.known) own.functions c.insert.new.self c.args.name held
+          (none-is _ new) c.in_ok-insert.ensures.entries (FunctionIn own.known)
+          c.self.invariant.functions_held
+          (record {
+            takes = takes;
+            gives = gives;
+            named = omega (arith, c.name_count-type_names.ensures);
+          });
+      nodes_held = c.self.invariant.nodes_held;
+    }
+
+pub returns-clause-state : goal.returns-clause-state
+returns-clause-state c =
+    let own = c.self.inside in
+    let held : HeldFunction = record {
+      type_names = c.name_count-type_names.result;
+      argument = c.args.argument;
+      signature = c.args.signature;
+      body = c.args.body;
+    } in
+    let new =
+    subst (λ checking. is_some (find c.args.name checking.state.functions) ≡ false)
+    (sym c.self.view_is) c.requires.new in
+    let put =
+    mapped-put (function_in own.known) own.functions c.insert.new.self c.args.name held
+    (none-is _ new) c.in_ok-insert.ensures.entries in
+    let all : take c.name_count-type_names.result own.known.names ≡ own.known.names =
+    ap (λ n. take n own.known.names) c.name_count-type_names.ensures ∙ take-length own.known.names in
+    let here : State = record {
+      types = own.known.names;
+      functions = map (function_of own.known) c.insert.new.self.entries;
+      nodes = map (node_of own.known.types) own.nodes.entries;
+      outputs = own.outputs.entries;
+    } in
+    subst
+    (λ (checking : Checking). here
+    ≡ with_function c.args.name (record {
+      types = checking.state.types;
+      argument = c.args.argument;
+      signature = signature_in checking.types c.args.signature;
+      body = c.args.body;
+    })
+    checking.state)
+    c.self.view_is
+    ((λ i. record {
+      types = own.known.names;
+      functions = put i;
+      nodes = map (node_of own.known.types) own.nodes.entries;
+      outputs = own.outputs.entries;
+    })
+    ∙ ap
+    (λ names. with_function c.args.name (record {
+      types = names;
+      argument = c.args.argument;
+      signature = signature_in own.known.types c.args.signature;
+      body = c.args.body;
+    })
+    (record {
+      types = own.known.names;
+      functions = map (function_of own.known) own.functions.entries;
+      nodes = map (node_of own.known.types) own.nodes.entries;
+      outputs = own.outputs.entries;
+    }))
+    all)

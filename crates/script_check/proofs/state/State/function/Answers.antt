@@ -1,0 +1,65 @@
+use Rattle.std.proofs.Common.{◌≡◌, ℕ, ◌<◌, List, length, get_or, Some, None, sym, subst}
+use Rattle.written_types.specs.Known.{Known}
+use Rattle.script_check.specs.inner.Held.{FunctionIn}
+use Rattle.type_table.specs.Table.{type_at}
+use Rattle.script_check.specs.Script.{Callee, Function, find_function}
+use Rattle.script_check.specs.Program.{function_in}
+use Rattle.script_check.specs.declared.made.Function.{Function as HeldFunction}
+use Rattle.written_types.proofs.NamedLemmas.{found-within}
+use Rattle.script_check.proofs.StateLemmas.{placed-found, placed-none}
+use Rattle.script_check.proofs.state.State.function.Goals as goal
+
+renamed : (known : Known) (entry : List ℕ × HeldFunction) (name : List ℕ)
+    → FunctionIn known entry → FunctionIn known (name, entry.1)
+renamed known entry name held = record {
+  takes = held.takes;
+  gives = held.gives;
+  named = held.named;
+}
+
+abbrev called : ℕ → Function → Callee
+called number function = record {
+  number = number;
+  takes = function.signature.takes;
+  gives = function.signature.gives;
+}
+
+pub returns-in_err-number-clause-ok : goal.returns-in_err-number-clause-ok
+returns-in_err-number-clause-ok c =
+    let own = c.self.inside in
+    rw c.from_residual.ensures
+    (subst
+    (λ checking. None ≡ find_function c.args.name.now checking.state.functions)
+    c.self.view_is
+    (placed-none (function_in own.known) called c.args.name.now own.functions.entries
+    c.in_err-number.ensures.value))
+
+pub returns-clause-ok : goal.returns-clause-ok
+returns-clause-ok c =
+    let own = c.self.inside in
+    let found = c.in_ok-number in
+    subst
+    (λ checking. Some (record {
+      number = found.number;
+      takes = type_at checking.types found.function.now.signature.takes;
+      gives = type_at checking.types found.function.now.signature.gives;
+    })
+    ≡ find_function c.args.name.now checking.state.functions)
+    c.self.view_is
+    (placed-found (function_in own.known) called c.args.name.now own.functions.entries
+    found.number found.function.now found.ensures.index found.ensures.value)
+
+pub returns-clause-within : goal.returns-clause-within
+returns-clause-within c =
+    let own = c.self.inside in
+    let found = c.in_ok-number in
+    let held =
+    found-within (λ (held : HeldFunction). FunctionIn own.known (c.args.name.now, held))
+    c.args.name.now own.functions.entries found.function.now
+    (λ k e in_. renamed own.known (get_or own.functions.entries k e) c.args.name.now (c.self.invariant.functions_held k e in_))
+    (sym found.ensures.value) in
+    subst
+    (λ checking.
+    (found.function.now.signature.takes < length checking.types)
+    × (found.function.now.signature.gives < length checking.types))
+    c.self.view_is (held.takes, held.gives)

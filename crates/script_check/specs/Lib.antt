@@ -1,0 +1,6 @@
+pub mod Script
+pub mod Numbers
+pub mod Operations
+pub mod Rules
+pub mod Program
+pub mod inner

@@ -1,0 +1,198 @@
+-- What collections operations make, each by its rules in order; the first fault with its line.
+use Rattle.std.specs.Prelude.{ℕ, Bool, List, [], ◌∷◌, ◌++◌, ◌&&◌, Option, Some, None, Ok, Err, if◌then◌else◌, codes, map}
+use Rattle.std.specs.List.{list_all}
+use Rattle.std.specs.Str.{bytes_eq}
+use Rattle.flume_types.specs.declared.types.Ty.{Ty, Ty-F, out-Ty}
+use Rattle.flume_types.specs.declared.types.Ty.TheVariants as ty
+use Rattle.flume_types.specs.declared.types.Field.{Field}
+use Rattle.flume_types.specs.Equality.{type_eq}
+use Rattle.flume_types.specs.Tables.{table_of}
+use Rattle.flume_grammar.specs.declared.tree.Operation.{Operation}
+use Rattle.flume_grammar.specs.declared.tree.Operation.TheVariants as operation
+use Rattle.flume_grammar.specs.declared.tree.Combiner.{Combiner}
+use Rattle.flume_grammar.specs.declared.tree.Combiner.TheVariants as combiner
+use Rattle.flume_grammar.specs.declared.fault.ScriptKind.TheVariants.{Unknown, Mistyped, NotTable, BadNumber}
+use Rattle.flume_grammar.specs.declared.fault.ScriptFault.TheVariants.{Refused}
+use Rattle.combine_table.specs.declared.comb.Comb.{Comb}
+use Rattle.combine_table.specs.declared.comb.Comb.TheVariants as comb
+use Rattle.written_types.specs.Answer.{Checked, ◌>>=◌, unless, or_fault}
+use Rattle.script_check.specs.declared.made.Made.TheVariants as made
+use Rattle.script_check.specs.Numbers.{number_within}
+use Rattle.script_check.specs.Script.{Node, State, Operand, find_node, Callee, find_function}
+
+-- ---- parts of types
+
+-- the key and the value of a table
+pub record Pair : Type 0 where
+  pub key : Ty
+  pub value : Ty
+
+abbrev pub key_and_value : List (Field Ty) → Option Pair
+key_and_value (key ∷ value ∷ []) =
+    if bytes_eq key.name (codes "key") && bytes_eq value.name (codes "value")
+    then Some (record { key = key.ty; value = value.ty }) else None
+key_and_value _ = None
+
+abbrev pub pair_in : Ty-F Ty → Option Pair
+pair_in (Ty-F.Rec fields) = key_and_value fields
+pair_in _ = None
+
+-- the type of a list's members
+abbrev pub member_in : Ty-F Ty → Option Ty
+member_in (Ty-F.List member) = Some member
+member_in _ = None
+
+-- the lists of both sides of a join
+abbrev pub sides_of : Ty → Ty → Ty
+sides_of left right =
+    ty.Rec
+    (record { name = codes "left"; ty = ty.List left }
+    ∷ record { name = codes "right"; ty = ty.List right } ∷ [])
+
+-- the type of the members, where it is this one
+abbrev pub only : Ty → Ty → Option Ty
+only wanted member = if type_eq member wanted then Some wanted else None
+
+-- the type of what a combiner makes of a list of members of a type; none where they don't suit it
+abbrev pub combined_type : Comb → Ty → Option Ty
+combined_type comb.Sum member = only ty.Int member
+combined_type comb.Count member = Some ty.Int
+combined_type comb.Min member = Some member
+combined_type comb.Max member = Some member
+combined_type comb.All member = only ty.Bool member
+combined_type comb.Any member = only ty.Bool member
+combined_type (comb.Top n) member = Some (ty.List member)
+
+-- the numbers of operands
+abbrev pub numbers : List Operand → List ℕ
+numbers sources = map (λ source. source.number) sources
+
+-- whether all have this type
+abbrev pub all_same : Ty → List Operand → Bool
+all_same t sources = list_all (λ source. type_eq t source.type) sources
+
+-- ---- operations that have no rules of their own
+
+abbrev pub count_of : Operand → Node
+count_of source = record {
+  made = made.Count source.number;
+  type = table_of source.type ty.Int;
+}
+
+abbrev pub top_of : ℕ → Operand → Node
+top_of number source = record { made = made.Top number source.number; type = source.type }
+
+-- each fault is told on this line
+module _ (line : ℕ) where
+  -- ---- operands
+
+  abbrev pub collection : List ℕ → State → Checked Operand
+  collection name s = or_fault line Unknown (find_node name s.nodes)
+
+  abbrev pub callee : List ℕ → State → Checked Callee
+  callee name s = or_fault line Unknown (find_function name s.functions)
+
+  -- collections from the left, behind those so far
+  abbrev pub collections_behind : List Operand → List (List ℕ) → State → Checked (List Operand)
+  collections_behind found [] s = Ok found
+  collections_behind found (name ∷ names) s = do
+    one ← collection name s
+    collections_behind (found ++ one ∷ []) names s
+
+  -- how many of the greatest are asked for
+  abbrev pub top_number : List ℕ → Checked ℕ
+  top_number digits = or_fault line BadNumber (number_within 1 1000 digits)
+
+  abbrev pub comb_of : Combiner → Checked Comb
+  comb_of combiner.Sum = Ok comb.Sum
+  comb_of combiner.Count = Ok comb.Count
+  comb_of combiner.Min = Ok comb.Min
+  comb_of combiner.Max = Ok comb.Max
+  comb_of combiner.All = Ok comb.All
+  comb_of combiner.Any = Ok comb.Any
+  comb_of (combiner.Top digits) = do
+    number ← top_number digits
+    Ok (comb.Top number)
+
+  -- ---- what operands are
+
+  abbrev pub pair_of : Ty → Checked Pair
+  pair_of t = or_fault line NotTable (pair_in (out-Ty t))
+
+  abbrev pub member_of : Ty → Checked Ty
+  member_of t = or_fault line NotTable (member_in (out-Ty t))
+
+  -- the one type of some collections
+  abbrev pub one_type : List Operand → Checked Ty
+  one_type [] = Err (Refused line Mistyped)
+  one_type (first ∷ others) = do
+    same ← unless line Mistyped (all_same first.type others)
+    Ok first.type
+
+  -- ---- operations on them
+
+  abbrev pub do_of : Operand → Callee → Checked Node
+  do_of source function = do
+    same ← unless line Mistyped (type_eq source.type function.takes)
+    Ok (record { made = made.Do source.number function.number; type = function.gives })
+
+  abbrev pub group_of : Operand → Checked Node
+  group_of source = do
+    pair ← pair_of source.type
+    Ok (record { made = made.Group source.number; type = table_of pair.key (ty.List pair.value) })
+
+  abbrev pub combine_of : Operand → Comb → Checked Node
+  combine_of source by = do
+    pair ← pair_of source.type
+    member ← member_of pair.value
+    value ← or_fault line Mistyped (combined_type by member)
+    Ok (record { made = made.Combine source.number by; type = table_of pair.key value })
+
+  abbrev pub flatten_of : List Operand → Checked Node
+  flatten_of sources = do
+    t ← one_type sources
+    Ok (record { made = made.Flatten (numbers sources); type = t })
+
+  abbrev pub join_of : Operand → Operand → Checked Node
+  join_of left right = do
+    lefts ← pair_of left.type
+    rights ← pair_of right.type
+    same ← unless line Mistyped (type_eq lefts.key rights.key)
+    Ok (record {
+      made = made.Join left.number right.number;
+      type = table_of lefts.key (sides_of lefts.value rights.value);
+    })
+
+  -- the members of these collections
+  abbrev pub flattened : List (List ℕ) → State → Checked Node
+  flattened names s = do
+    all ← collections_behind [] names s
+    flatten_of all
+
+  -- ---- operations as they are written
+
+  -- the collection that an operation makes
+  abbrev pub made_by : Operation → State → Checked Node
+  made_by (operation.Do source function) s = do
+    one ← collection source s
+    by ← callee function s
+    do_of one by
+  made_by (operation.Group source) s = do
+    one ← collection source s
+    group_of one
+  made_by (operation.Combine source combiner) s = do
+    one ← collection source s
+    by ← comb_of combiner
+    combine_of one by
+  made_by (operation.Flatten sources) s = flattened sources s
+  made_by (operation.Count source) s = do
+    one ← collection source s
+    Ok (count_of one)
+  made_by (operation.Join left right) s = do
+    one ← collection left s
+    other ← collection right s
+    join_of one other
+  made_by (operation.Top digits source) s = do
+    one ← collection source s
+    number ← top_number digits
+    Ok (top_of number one)

@@ -1,0 +1,79 @@
+-- What is in memory: types under numbers, and names with numbers of types.
+use Rattle.std.specs.Prelude.{ℕ, ◌<◌, ◌≤◌, List, length, map}
+use Rattle.std.specs.List.{All}
+use Rattle.flume_types.specs.declared.types.Ty.{Ty}
+use Rattle.type_table.specs.Table.{type_at}
+use Rattle.written_types.specs.Named.{Named}
+use Rattle.written_types.specs.Known.{Known}
+use Rattle.script_check.specs.declared.made.Function.{Function as HeldFunction}
+use Rattle.script_check.specs.declared.made.Node.{Node as HeldNode}
+use Rattle.script_check.specs.declared.made.Output.{Output}
+use Rattle.script_check.specs.declared.operand.Operand.{Operand as HeldOperand}
+use Rattle.script_check.specs.declared.operand.Callee.{Callee as HeldCallee}
+use Rattle.script_check.specs.declared.pairs.Pair.{Pair as HeldPair}
+use Rattle.script_check.specs.Script.{Function, Node, Script, State, Operand, Callee}
+use Rattle.script_check.specs.Operations.{Pair}
+use Rattle.script_check.specs.Program.{Numbered, function_in, node_in}
+
+-- ---- operands
+
+abbrev pub operand_in : List Ty → HeldOperand → Operand
+operand_in types held = record { number = held.number; type = type_at types held.ty }
+
+abbrev pub callee_in : List Ty → HeldCallee → Callee
+callee_in types held = record {
+  number = held.number;
+  takes = type_at types held.takes;
+  gives = type_at types held.gives;
+}
+
+abbrev pub pair_at : List Ty → HeldPair → Pair
+pair_at types held = record { key = type_at types held.key; value = type_at types held.value }
+
+-- ---- names with what they stand for
+
+abbrev pub function_of : Known → List ℕ × HeldFunction → List ℕ × Function
+function_of known entry = (entry.0, function_in known entry.1)
+
+abbrev pub node_of : List Ty → List ℕ × HeldNode → List ℕ × Node
+node_of types entry = (entry.0, node_in types entry.1)
+
+-- the types under numbers, and what the statements so far define
+pub record Checking : Type 0 where
+  pub types : List Ty
+  pub state : State
+
+abbrev pub checking_of : Known → Named HeldFunction → Named HeldNode → Named Output → Checking
+checking_of known functions nodes outputs = record {
+  types = known.types;
+  state = record {
+    types = known.names;
+    functions = map (function_of known) functions;
+    nodes = map (node_of known.types) nodes;
+    outputs = outputs;
+  };
+}
+
+abbrev pub numbered_of : Known → Named HeldFunction → Named HeldNode → Named Output → Numbered
+numbered_of known functions nodes outputs = record {
+  known = known;
+  script = record {
+    functions = map (function_of known) functions;
+    nodes = map (node_of known.types) nodes;
+    outputs = outputs;
+  };
+}
+
+-- the numbers are those of types, and of the first names
+pub record FunctionIn (known : Known) (entry : List ℕ × HeldFunction) : Type 0 where
+  pub takes : entry.1.signature.takes < length known.types
+  pub gives : entry.1.signature.gives < length known.types
+  pub named : entry.1.type_names ≤ length known.names
+
+-- the number is that of a type
+abbrev pub NodeIn : Known → List ℕ × HeldNode → Type 0
+NodeIn known entry = entry.1.ty < length known.types
+
+pub record AreHeld (known : Known) (functions : Named HeldFunction) (nodes : Named HeldNode) : Type 0 where
+  pub functions_held : All (FunctionIn known) functions
+  pub nodes_held : All (NodeIn known) nodes

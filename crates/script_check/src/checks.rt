@@ -1,0 +1,34 @@
+ghost use Rattle.written_types.specs.Answer.{Gives};
+ghost use Rattle.script_check.specs.Rules as spec;
+
+use crate::program::Program;
+use crate::rules::rule;
+use crate::state::State;
+use flume_grammar::{Ast, ScriptFault, ScriptKind, Statement};
+use flume_value::Pile;
+use std::alloc::Global;
+use written_types::refused;
+
+/// The program that a script is, or its first fault: statements in order, and the rules of each in
+/// theirs.
+pub fn check(alloc: Global, ast: Ast) -> Result<Program, ScriptFault>
+    ensures { Gives (λ program. program.script) result (spec.script_of ast.statements) }
+{
+    let mut state = State::new(alloc);
+    define(alloc, ast.statements, &mut state)?;
+    if state.output_count() == 0 {
+        return Err(refused(0, ScriptKind::NoOutput));
+    }
+    Ok(state.into_program())
+}
+
+/// Statements in order.
+fn define(alloc: Global, statements: Pile<Statement>, state: &mut State) -> Result<(), ScriptFault>
+    ensures { Gives (λ _. state.new.state) result
+        (spec.defined statements state.old.state) }
+{
+    for statement in statements.into_vec() {
+        rule(alloc, statement, state)?;
+    }
+    Ok(())
+}

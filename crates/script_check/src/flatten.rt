@@ -1,0 +1,96 @@
+ghost use Rattle.std.specs.Prelude.{◌≡◌, ◌<◌, List, [], length, map, IfOk};
+ghost use Rattle.std.specs.List.{All};
+ghost use Rattle.flume_types.specs.declared.types.Ty.{Ty};
+ghost use Rattle.type_table.specs.Table.{type_at};
+ghost use Rattle.written_types.specs.Answer.{Gives};
+ghost use Rattle.script_check.specs.Operations as spec;
+ghost use Rattle.script_check.specs.Program.{node_in};
+ghost use Rattle.script_check.specs.inner.Held.{operand_in};
+
+use crate::made::{Made, Node};
+use crate::operand::Operand;
+use crate::operation::collection;
+use crate::state::State;
+use flume_grammar::{ScriptFault, ScriptKind};
+use flume_value::{Pile, Str};
+use std::alloc::{AllocError, Global};
+use type_table::{TypeId, Types};
+use written_types::refused;
+
+/// The members of collections of one type.
+pub fn flatten(
+    alloc: Global,
+    line: u32,
+    sources: &[Str],
+    state: &State,
+) -> Result<Node, ScriptFault>
+    ensures gives { Gives (node_in state.now.types) result
+        (spec.flattened line sources.now state.now.state) }
+    ensures within { IfOk result (λ node. node.ty < length state.now.types) }
+{
+    let sources = collections(alloc, line, sources, state)?;
+    let ty = one_type(line, sources.as_slice(), state.types())?;
+    let sources = numbers(alloc, sources.as_slice())?;
+    Ok(Node {
+        made: Made::Flatten { sources },
+        ty,
+    })
+}
+
+/// The collections of names, from the left.
+fn collections(
+    alloc: Global,
+    line: u32,
+    names: &[Str],
+    state: &State,
+) -> Result<Pile<Operand>, ScriptFault>
+    ensures gives { Gives (λ sources. map (operand_in state.now.types) sources) result
+        (spec.collections_behind line [] names.now state.now.state) }
+    ensures within { IfOk result (λ sources.
+        All (λ source. source.ty < length state.now.types) sources) }
+{
+    let mut sources = Pile::new(alloc);
+    for name in names {
+        let source = collection(line, name, state)?;
+        sources.push(source)?;
+    }
+    Ok(sources)
+}
+
+/// The one type of collections.
+fn one_type(line: u32, sources: &[Operand], types: &Types) -> Result<TypeId, ScriptFault>
+    requires { All (λ source. source.ty < length types.now) sources.now }
+    ensures gives { Gives (type_at types.now) result
+        (spec.one_type line (map (operand_in types.now) sources.now)) }
+    ensures within { IfOk result (λ id. id < length types.now) }
+{
+    match sources {
+        [first, others @ ..] if all_same(first.ty, others, types) => Ok(first.ty),
+        _ => Err(refused(line, ScriptKind::Mistyped)),
+    }
+}
+
+fn all_same(id: TypeId, sources: &[Operand], types: &Types) -> bool
+    requires first { id < length types.now }
+    requires others { All (λ source. source.ty < length types.now) sources.now }
+    ensures { result
+        ≡ spec.all_same (type_at types.now id) (map (operand_in types.now) sources.now) }
+{
+    for source in sources {
+        if !types.same(id, source.ty) {
+            return false;
+        }
+    }
+    true
+}
+
+fn numbers(alloc: Global, sources: &[Operand]) -> Result<Pile<usize>, AllocError>
+    ensures { (types : List Ty) → IfOk result (λ numbers.
+        numbers ≡ spec.numbers (map (operand_in types) sources.now)) }
+{
+    let mut numbers = Pile::new(alloc);
+    for source in sources {
+        numbers.push(source.number)?;
+    }
+    Ok(numbers)
+}

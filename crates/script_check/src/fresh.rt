@@ -1,0 +1,28 @@
+ghost use Rattle.std.specs.Prelude.{◌≡◌, false, nat_lt, not, OnOk};
+ghost use Rattle.written_types.specs.Answer.{Gives, unless};
+
+use flume_grammar::{ScriptFault, ScriptKind};
+use written_types::refused;
+
+/// Room for one more.
+pub fn room(line: u32, count: usize, limit: usize) -> Result<(), ScriptFault>
+    ensures { Gives (λ _. tt) result (unless line ScriptKind.TooMany (nat_lt count limit)) }
+{
+    if count < limit {
+        Ok(())
+    } else {
+        Err(refused(line, ScriptKind::TooMany))
+    }
+}
+
+/// A name that stands for nothing yet: whether it does is told.
+pub fn fresh(line: u32, stands: bool) -> Result<(), ScriptFault>
+    ensures gives { Gives (λ _. tt) result (unless line ScriptKind.Twice (not stands)) }
+    ensures new { OnOk result (stands ≡ false) }
+{
+    if stands {
+        Err(refused(line, ScriptKind::Twice))
+    } else {
+        Ok(())
+    }
+}

@@ -1,0 +1,16 @@
+use type_table::TypeId;
+
+/// A collection that an operation reads: its number, and the type of its members.
+#[derive(Clone, Copy)]
+pub struct Operand {
+    pub number: usize,
+    pub ty: TypeId,
+}
+
+/// A function that an operation calls: its number, and what it takes and gives.
+#[derive(Clone, Copy)]
+pub struct Callee {
+    pub number: usize,
+    pub takes: TypeId,
+    pub gives: TypeId,
+}

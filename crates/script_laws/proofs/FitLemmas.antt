@@ -1,0 +1,62 @@
+-- What fits still fits, as functions and nodes are added.
+use Rattle.std.proofs.Common.{ℕ, List, [], ◌∷◌, ◌++◌, get_or, subst, append_assoc}
+use Rattle.std.specs.List.{All}
+use Rattle.std.proofs.lemmas.List.{append-nil}
+use Rattle.flume_types.specs.declared.types.Ty.{Ty}
+use Rattle.written_types.specs.Named.{Named}
+use Rattle.script_check.specs.declared.made.Made.{Made}
+use Rattle.script_check.specs.declared.made.Made.TheVariants as made
+use Rattle.script_check.specs.declared.made.Output.{Output}
+use Rattle.script_check.specs.Script.{Function, Node}
+use Rattle.script_laws.specs.WellFormed.{Fits, AllFit, HasColumns}
+use Rattle.script_laws.proofs.PlaceLemmas.{mapped-kept}
+
+fits-more : (functions more : Named Function) (nodes : Named Node) (made : Made) (type : Ty)
+    → Fits functions nodes made type → Fits (functions ++ more) nodes made type
+fits-more functions more nodes (made.Do source called) type fits = record {
+  function = fits.function;
+  calls = mapped-kept (λ (entry : List ℕ × Function). entry.1) functions more called fits.function fits.calls;
+  takes = fits.takes;
+  gives = fits.gives;
+}
+fits-more functions more nodes (made.Input file columns) type fits = fits
+fits-more functions more nodes (made.Group source) type fits = fits
+fits-more functions more nodes (made.Combine source by) type fits = fits
+fits-more functions more nodes (made.Flatten sources) type fits = fits
+fits-more functions more nodes (made.Count source) type fits = fits
+fits-more functions more nodes (made.Join left right) type fits = fits
+fits-more functions more nodes (made.Top number source) type fits = fits
+
+pub all-fit-more : (functions more : Named Function) (before nodes : Named Node)
+    → AllFit functions before nodes → AllFit (functions ++ more) before nodes
+all-fit-more functions more before [] fit = tt
+all-fit-more functions more before (entry ∷ nodes) fit = (
+  fits-more functions more before entry.1.made entry.1.type fit.0,
+  all-fit-more functions more (before ++ entry ∷ []) nodes fit.1,
+)
+
+pub fit-push : (functions : Named Function) (before nodes : Named Node) (entry : List ℕ × Node)
+    → AllFit functions before nodes
+    → Fits functions (before ++ nodes) entry.1.made entry.1.type
+    → AllFit functions before (nodes ++ entry ∷ [])
+fit-push functions before [] entry fit fits =
+    (subst (λ nodes. Fits functions nodes entry.1.made entry.1.type) (append-nil before) fits, tt)
+fit-push functions before (first ∷ nodes) entry fit fits = (
+  fit.0,
+  fit-push functions (before ++ first ∷ []) nodes entry fit.1
+      (subst (λ nodes. Fits functions nodes entry.1.made entry.1.type) (simp append_assoc) fits),
+)
+
+columns-kept : (nodes more : Named Node) (output : Output) → HasColumns nodes output
+    → HasColumns (nodes ++ more) output
+columns-kept nodes more output has = record {
+  type = has.type;
+  reads = mapped-kept (λ (entry : List ℕ × Node). entry.1.type) nodes more output.reads has.type has.reads;
+  columns = has.columns;
+}
+
+pub outputs-kept : (nodes more : Named Node) (outputs : Named Output)
+    → All (λ (entry : List ℕ × Output). HasColumns nodes entry.1) outputs
+    → All (λ (entry : List ℕ × Output). HasColumns (nodes ++ more) entry.1) outputs
+outputs-kept nodes more outputs all k entry in_ =
+    columns-kept nodes more (get_or outputs k entry).1 (all k entry in_)

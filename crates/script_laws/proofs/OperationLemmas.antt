@@ -1,0 +1,286 @@
+-- What an operation makes fits.
+use Rattle.std.proofs.Common.{◌≡◌, ℕ, ℤ, pos, ◌≤◌, Bool, true, false, ◌&&◌, nat_le, List, [], ◌∷◌, ◌++◌, Option, Some, None, option_and_then, if◌then◌else◌, Ok, slice_get, refl, sym, ap, ◌∙◌, subst, arith}
+use Rattle.std.specs.List.{All, AllByRecursion}
+use Rattle.std.specs.Option.{option_map}
+use Rattle.std.proofs.lemmas.Bool.{leb-true}
+use Rattle.std.proofs.lemmas.List.Elements.{All-push, All-nil, All-from_recursion, recursion_from_All}
+use Rattle.flume_value.proofs.BoolLemmas.{both_true}
+use Rattle.flume_types.specs.declared.types.Ty.{Ty, out-Ty}
+use Rattle.flume_types.specs.declared.types.Ty.TheVariants as ty
+use Rattle.flume_types.specs.Equality.{type_eq}
+use Rattle.flume_types.specs.Tables.{table_of}
+use Rattle.flume_grammar.specs.declared.tree.Operation.{Operation}
+use Rattle.flume_grammar.specs.declared.tree.Operation.TheVariants as operation
+use Rattle.flume_grammar.specs.declared.fault.ScriptKind.TheVariants.{Unknown, Mistyped, NotTable, BadNumber}
+use Rattle.combine_table.specs.declared.comb.Comb.{Comb}
+use Rattle.int_text.specs.Ints.{int_of_text}
+use Rattle.written_types.specs.Answer.{unless, or_fault}
+use Rattle.written_types.specs.Named.{Named, find}
+use Rattle.script_check.specs.Numbers.{within}
+use Rattle.script_check.specs.Script.{Function, Node, State, Operand, Callee, place}
+use Rattle.script_check.specs.Operations as spec
+use Rattle.script_check.specs.Operations.{Pair, pair_in, member_in, combined_type, numbers, all_same}
+use Rattle.script_laws.specs.WellFormed.{members_at, function_at, Fits}
+use Rattle.script_laws.proofs.CheckedLemmas.{both, holds, there, ok-same}
+use Rattle.script_laws.proofs.PlaceLemmas.{meaning, found-at}
+use Rattle.script_laws.proofs.TypeLemmas.{same-types, is-table, is-list}
+
+-- ---- operands
+
+-- what an option is mapped from
+record From {A B : Type 0} (f : A → B) (o : Option A) (y : B) : Type 0 where
+  pub part : A
+  pub is : o ≡ Some part
+  pub gives : f part ≡ y
+
+from : {A B : Type 0} (f : A → B) (o : Option A) (y : B) → option_map f o ≡ Some y → From f o y
+from f None y e = cc
+from f (Some x) y e = record { part = x; is = refl; gives = cc }
+
+meant-as : {A B : Type 0} (g : A → B) (o : Option (List ℕ × A)) (x : A) → meaning o ≡ Some x
+    → option_map (λ (entry : List ℕ × A). g entry.1) o ≡ Some (g x)
+meant-as g None x e = cc
+meant-as g (Some entry) x e =
+    let same : entry.1 ≡ x = cc in
+    ap (λ y. Some (g y)) same
+
+abbrev read : Named Node → List ℕ → Node → Operand
+read nodes name node = record { number = place name nodes; type = node.type }
+
+abbrev called : Named Function → List ℕ → Function → Callee
+called functions name function = record {
+  number = place name functions;
+  takes = function.signature.takes;
+  gives = function.signature.gives;
+}
+
+-- a callee is the function of its number
+record IsCallee (functions : Named Function) (callee : Callee) : Type 0 where
+  pub function : Function
+  pub calls : function_at functions callee.number ≡ Some function
+  pub takes : callee.takes ≡ function.signature.takes
+  pub gives : callee.gives ≡ function.signature.gives
+
+-- an operand is the collection of its number
+abbrev IsRead : Named Node → Operand → Type 0
+IsRead nodes operand = members_at nodes operand.number ≡ Some operand.type
+
+module _ (line : ℕ) (s : State) where
+  pub is-read : (name : List ℕ) (operand : Operand) → spec.collection line name s ≡ Ok operand
+      → IsRead s.nodes operand
+  is-read name operand e =
+      let found = from (read s.nodes name) (find name s.nodes) operand (there line Unknown _ operand e) in
+      subst (IsRead s.nodes) found.gives
+      (meant-as (λ (node : Node). node.type) (slice_get s.nodes (place name s.nodes)) found.part
+      (found-at name s.nodes found.part found.is))
+
+  is-callee : (name : List ℕ) (callee : Callee) → spec.callee line name s ≡ Ok callee
+      → IsCallee s.functions callee
+  is-callee name callee e =
+      let found = from (called s.functions name) (find name s.functions) callee (there line Unknown _ callee e) in
+      subst (IsCallee s.functions) found.gives (record {
+        function = found.part;
+        calls =
+            meant-as (λ (function : Function). function)
+            (slice_get s.functions (place name s.functions)) found.part
+            (found-at name s.functions found.part found.is);
+        takes = refl;
+        gives = refl;
+      })
+
+-- ---- operations on operands
+
+module _ (line : ℕ) (functions : Named Function) (nodes : Named Node) where
+  abbrev NodeFits : Node → Type 0
+  NodeFits node = Fits functions nodes node.made node.type
+
+  is-pair : (t : Ty) (pair : Pair) → spec.pair_of line t ≡ Ok pair
+      → t ≡ table_of pair.key pair.value
+  is-pair t pair e = is-table t pair (there line NotTable (pair_in (out-Ty t)) pair e)
+
+  do-fits : (source : Operand) (callee : Callee) (node : Node) → IsRead nodes source
+      → IsCallee functions callee → spec.do_of line source callee ≡ Ok node → NodeFits node
+  do-fits source callee node reads is e =
+      let same = both (unless line Mistyped (type_eq source.type callee.takes)) _ node e in
+      let types : source.type ≡ callee.takes =
+      same-types source.type callee.takes (holds line Mistyped _ same.part same.first) in
+      subst NodeFits (ok-same _ node same.then) (record {
+        function = is.function;
+        calls = is.calls;
+        takes = reads ∙ ap Some (types ∙ is.takes);
+        gives = is.gives;
+      })
+
+  group-fits : (source : Operand) (node : Node) → IsRead nodes source
+      → spec.group_of line source ≡ Ok node → NodeFits node
+  group-fits source node reads e =
+      let pair = both (spec.pair_of line source.type) _ node e in
+      subst NodeFits (ok-same _ node pair.then) (record {
+        key = pair.part.key;
+        value = pair.part.value;
+        reads = reads ∙ ap Some (is-pair source.type pair.part pair.first);
+        gives = refl;
+      })
+
+  combine-fits : (source : Operand) (by : Comb) (node : Node) → IsRead nodes source
+      → spec.combine_of line source by ≡ Ok node → NodeFits node
+  combine-fits source by node reads e =
+      let pair = both (spec.pair_of line source.type) _ node e in
+      let member = both (spec.member_of line pair.part.value) _ node pair.then in
+      let value = both (or_fault line Mistyped (combined_type by member.part)) _ node member.then in
+      let list : pair.part.value ≡ ty.List member.part =
+      is-list pair.part.value member.part (there line NotTable _ member.part member.first) in
+      subst NodeFits (ok-same _ node value.then) (record {
+        key = pair.part.key;
+        member = member.part;
+        value = value.part;
+        reads =
+            reads
+            ∙ ap Some
+            (is-pair source.type pair.part pair.first ∙ ap (table_of pair.part.key) list);
+        suits = there line Mistyped _ value.part value.first;
+        gives = refl;
+      })
+
+  count-fits : (source : Operand) → IsRead nodes source → NodeFits (spec.count_of source)
+  count-fits source reads = record { member = source.type; reads = reads; gives = refl }
+
+  join-fits : (left right : Operand) (node : Node) → IsRead nodes left → IsRead nodes right
+      → spec.join_of line left right ≡ Ok node → NodeFits node
+  join-fits left right node reads_left reads_right e =
+      let lefts = both (spec.pair_of line left.type) _ node e in
+      let rights = both (spec.pair_of line right.type) _ node lefts.then in
+      let same = both (unless line Mistyped (type_eq lefts.part.key rights.part.key)) _ node rights.then in
+      let keys : lefts.part.key ≡ rights.part.key =
+      same-types lefts.part.key rights.part.key (holds line Mistyped _ same.part same.first) in
+      subst NodeFits (ok-same _ node same.then) (record {
+        key = lefts.part.key;
+        left_value = lefts.part.value;
+        right_value = rights.part.value;
+        reads_left = reads_left ∙ ap Some (is-pair left.type lefts.part lefts.first);
+        reads_right =
+            reads_right
+            ∙ ap Some
+            (is-pair right.type rights.part rights.first
+            ∙ ap (λ key. table_of key rights.part.value) (sym keys));
+        gives = refl;
+      })
+
+  -- ---- flatten
+
+  abbrev AreRead : List Operand → Type 0
+  AreRead sources = AllByRecursion (IsRead nodes) sources
+
+  abbrev HasType : Ty → ℕ → Type 0
+  HasType t number = members_at nodes number ≡ Some t
+
+  same-read : (t : Ty) (sources : List Operand) → AreRead sources → all_same t sources ≡ true
+      → AllByRecursion (HasType t) (numbers sources)
+  same-read t [] all same = tt
+  same-read t (source ∷ sources) all same =
+      let parts = both_true (type_eq t source.type) (all_same t sources) same in
+      (all.0 ∙ ap Some (sym (same-types t source.type parts.0)), same-read t sources all.1 parts.1)
+
+  flatten-fits : (sources : List Operand) (node : Node) → AreRead sources
+      → spec.flatten_of line sources ≡ Ok node → NodeFits node
+  flatten-fits [] node all e = cc
+  flatten-fits (first ∷ others) node all e =
+      let one = both (spec.one_type line (first ∷ others)) _ node e in
+      let same = both (unless line Mistyped (all_same first.type others)) _ one.part one.first in
+      let type : first.type ≡ one.part = ok-same first.type one.part same.then in
+      let rest =
+      same-read first.type others all.1 (holds line Mistyped _ same.part same.first) in
+      subst NodeFits (ok-same _ node one.then) (record {
+        some = omega arith;
+        read =
+            subst (λ t. All (HasType t) (numbers (first ∷ others))) type
+            (All-from_recursion (HasType first.type) (numbers (first ∷ others)) (all.0, rest));
+      })
+
+-- ---- operations as they are written
+
+module _ (line : ℕ) (s : State) where
+  abbrev Makes : Node → Type 0
+  Makes node = Fits s.functions s.nodes node.made node.type
+
+  all-read : (found : List Operand) (names : List (List ℕ)) (sources : List Operand)
+      → All (IsRead s.nodes) found → spec.collections_behind line found names s ≡ Ok sources
+      → All (IsRead s.nodes) sources
+  all-read found [] sources all e = subst (All (IsRead s.nodes)) (ok-same found sources e) all
+  all-read found (name ∷ names) sources all e =
+      let one = both (spec.collection line name s) _ sources e in
+      all-read (found ++ one.part ∷ []) names sources
+      (All-push (IsRead s.nodes) found one.part all (is-read line s name one.part one.first))
+      one.then
+
+  flattened-fits : (names : List (List ℕ)) (node : Node) → spec.flattened line names s ≡ Ok node
+      → Makes node
+  flattened-fits names node e =
+      let all = both (spec.collections_behind line [] names s) _ node e in
+      let read = all-read [] names all.part (All-nil (IsRead s.nodes)) all.first in
+      flatten-fits line s.functions s.nodes all.part node
+      (recursion_from_All (IsRead s.nodes) all.part read) all.then
+
+  in-limits : (low high : ℕ) (test : Bool) (n number : ℕ)
+      → (test ≡ true → (low ≤ n) × (n ≤ high))
+      → (if test then Some n else None) ≡ Some number → (low ≤ number) × (number ≤ high)
+  in-limits low high true n number limits e =
+      let same : n ≡ number = cc in
+      subst (λ n. (low ≤ n) × (n ≤ high)) same (limits refl)
+  in-limits low high false n number limits e = cc
+
+  within-limits : (low high : ℕ) (z : ℤ) (number : ℕ) → within low high z ≡ Some number
+      → (low ≤ number) × (number ≤ high)
+  within-limits low high (pos n) number e =
+      in-limits low high (nat_le low n && nat_le n high) n number
+      (λ test.
+      let parts = both_true (nat_le low n) (nat_le n high) test in
+      (leb-true low n parts.0, leb-true n high parts.1))
+      e
+  within-limits low high _ number e = cc
+
+  number-limits : (low high : ℕ) (o : Option ℤ) (number : ℕ)
+      → option_and_then (within low high) o ≡ Some number → (low ≤ number) × (number ≤ high)
+  number-limits low high None number e = cc
+  number-limits low high (Some z) number e = within-limits low high z number e
+
+  top-fits : (digits : List ℕ) (source : Operand) (number : ℕ) → IsRead s.nodes source
+      → spec.top_number line digits ≡ Ok number → Makes (spec.top_of number source)
+  top-fits digits source number reads e =
+      let limits =
+      number-limits 1 1000 (int_of_text digits) number (there line BadNumber _ number e) in
+      record { least = limits.0; most = limits.1; reads = reads }
+
+  pub made-fits : (by : Operation) (node : Node) → spec.made_by line by s ≡ Ok node → Makes node
+  made-fits (operation.Do source function) node e =
+      let one = both (spec.collection line source s) _ node e in
+      let by = both (spec.callee line function s) _ node one.then in
+      do-fits line s.functions s.nodes one.part by.part node
+      (is-read line s source one.part one.first) (is-callee line s function by.part by.first)
+      by.then
+  made-fits (operation.Group source) node e =
+      let one = both (spec.collection line source s) _ node e in
+      group-fits line s.functions s.nodes one.part node (is-read line s source one.part one.first)
+      one.then
+  made-fits (operation.Combine source combiner) node e =
+      let one = both (spec.collection line source s) _ node e in
+      let by = both (spec.comb_of line combiner) _ node one.then in
+      combine-fits line s.functions s.nodes one.part by.part node
+      (is-read line s source one.part one.first) by.then
+  made-fits (operation.Flatten sources) node e = flattened-fits sources node e
+  made-fits (operation.Count source) node e =
+      let one = both (spec.collection line source s) _ node e in
+      subst Makes (ok-same _ node one.then)
+      (count-fits line s.functions s.nodes one.part (is-read line s source one.part one.first))
+  made-fits (operation.Join left right) node e =
+      let one = both (spec.collection line left s) _ node e in
+      let other = both (spec.collection line right s) _ node one.then in
+      join-fits line s.functions s.nodes one.part other.part node
+      (is-read line s left one.part one.first) (is-read line s right other.part other.first)
+      other.then
+  made-fits (operation.Top digits source) node e =
+      let one = both (spec.collection line source s) _ node e in
+      let number = both (spec.top_number line digits) _ node one.then in
+      subst Makes (ok-same _ node number.then)
+      (top-fits digits one.part number.part (is-read line s source one.part one.first)
+      number.first)

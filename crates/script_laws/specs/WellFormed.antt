@@ -1,0 +1,106 @@
+-- Which scripts are well formed: each collection is made from collections that stand before it, of
+-- types that fit, and each output has the columns of the collection that it reads.
+use Rattle.std.specs.Prelude.{◌≡◌, ℕ, ◌<◌, ◌≤◌, List, [], ◌∷◌, ◌++◌, Option, Some, length, slice_get, ⊤}
+use Rattle.std.specs.List.{All}
+use Rattle.std.specs.Option.{option_map}
+use Rattle.flume_types.specs.declared.types.Ty.{Ty}
+use Rattle.flume_types.specs.declared.types.Ty.TheVariants as ty
+use Rattle.flume_types.specs.Columns.{columns_of, input_columns_of}
+use Rattle.flume_types.specs.Tables.{table_of}
+use Rattle.combine_table.specs.declared.comb.Comb.{Comb}
+use Rattle.written_types.specs.Named.{Named}
+use Rattle.script_check.specs.declared.made.Made.{Made}
+use Rattle.script_check.specs.declared.made.Made.TheVariants as made
+use Rattle.script_check.specs.declared.made.Output.{Output}
+use Rattle.script_check.specs.Script.{Function, Node, Script}
+use Rattle.script_check.specs.Operations.{sides_of, combined_type}
+
+-- ---- what numbers stand for
+
+-- the type of the members of the collection of a number, where there is one
+abbrev pub members_at : Named Node → ℕ → Option Ty
+members_at nodes number = option_map (λ entry. entry.1.type) (slice_get nodes number)
+
+-- the function of a number, where there is one
+abbrev pub function_at : Named Function → ℕ → Option Function
+function_at functions number = option_map (λ entry. entry.1) (slice_get functions number)
+
+-- ---- how a collection is made
+
+-- by a function that takes the members and gives this type
+pub record IsDone (functions : Named Function) (nodes : Named Node) (source called : ℕ) (type : Ty) : Type 0 where
+  pub function : Function
+  pub calls : function_at functions called ≡ Some function
+  pub takes : members_at nodes source ≡ Some function.signature.takes
+  pub gives : type ≡ function.signature.gives
+
+-- as the groups of a table
+pub record IsGrouped (nodes : Named Node) (source : ℕ) (type : Ty) : Type 0 where
+  pub key : Ty
+  pub value : Ty
+  pub reads : members_at nodes source ≡ Some (table_of key value)
+  pub gives : type ≡ table_of key (ty.List value)
+
+-- by combining the lists of groups, whose members suit the combiner
+pub record IsCombined (nodes : Named Node) (source : ℕ) (by : Comb) (type : Ty) : Type 0 where
+  pub key : Ty
+  pub member : Ty
+  pub value : Ty
+  pub reads : members_at nodes source ≡ Some (table_of key (ty.List member))
+  pub suits : combined_type by member ≡ Some value
+  pub gives : type ≡ table_of key value
+
+-- from collections of one type, at least one
+pub record IsFlattened (nodes : Named Node) (sources : List ℕ) (type : Ty) : Type 0 where
+  pub some : 0 < length sources
+  pub read : All (λ source. members_at nodes source ≡ Some type) sources
+
+-- as the distinct members with how often each occurs
+pub record IsCounted (nodes : Named Node) (source : ℕ) (type : Ty) : Type 0 where
+  pub member : Ty
+  pub reads : members_at nodes source ≡ Some member
+  pub gives : type ≡ table_of member ty.Int
+
+-- from two tables of one type of keys
+pub record IsJoined (nodes : Named Node) (left right : ℕ) (type : Ty) : Type 0 where
+  pub key : Ty
+  pub left_value : Ty
+  pub right_value : Ty
+  pub reads_left : members_at nodes left ≡ Some (table_of key left_value)
+  pub reads_right : members_at nodes right ≡ Some (table_of key right_value)
+  pub gives : type ≡ table_of key (sides_of left_value right_value)
+
+-- from the greatest members, so many of them as may be asked for
+pub record IsTop (nodes : Named Node) (number source : ℕ) (type : Ty) : Type 0 where
+  pub least : 1 ≤ number
+  pub most : number ≤ 1000
+  pub reads : members_at nodes source ≡ Some type
+
+-- how a collection behind these nodes is made fits the type of its members
+abbrev pub Fits : Named Function → Named Node → Made → Ty → Type 0
+Fits functions nodes (made.Input file columns) type = input_columns_of type ≡ Some columns
+Fits functions nodes (made.Do source function) type = IsDone functions nodes source function type
+Fits functions nodes (made.Group source) type = IsGrouped nodes source type
+Fits functions nodes (made.Combine source by) type = IsCombined nodes source by type
+Fits functions nodes (made.Flatten sources) type = IsFlattened nodes sources type
+Fits functions nodes (made.Count source) type = IsCounted nodes source type
+Fits functions nodes (made.Join left right) type = IsJoined nodes left right type
+Fits functions nodes (made.Top number source) type = IsTop nodes number source type
+
+-- each node fits where it stands, behind these nodes
+abbrev pub AllFit : Named Function → Named Node → Named Node → Type 0
+AllFit functions before [] = ⊤
+AllFit functions before (entry ∷ nodes) =
+    Fits functions before entry.1.made entry.1.type
+    × AllFit functions (before ++ entry ∷ []) nodes
+
+-- an output has the columns of the collection that it reads
+pub record HasColumns (nodes : Named Node) (output : Output) : Type 0 where
+  pub type : Ty
+  pub reads : members_at nodes output.reads ≡ Some type
+  pub columns : columns_of type ≡ Some output.columns
+
+pub record IsWellFormed (script : Script) : Type 0 where
+  pub nodes : AllFit script.functions [] script.nodes
+  pub outputs : All (λ entry. HasColumns script.nodes entry.1) script.outputs
+  pub some : 0 < length script.outputs

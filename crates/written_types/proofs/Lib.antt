@@ -1,0 +1,3 @@
+pub mod NamedLemmas
+pub mod FailsLemmas
+pub mod WrittenLemmas

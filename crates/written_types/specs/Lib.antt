@@ -1,0 +1,5 @@
+pub mod Answer
+pub mod Known
+pub mod Named
+pub mod Written
+pub mod inner
