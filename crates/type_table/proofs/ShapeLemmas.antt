@@ -16,11 +16,11 @@ same_part = (part_ghosts).eq
 part-tells : (p q : Part) → same_part p q ≡ true → p ≡ q
 part-tells p q e =
     let names : p.name ≡ q.name =
-        same_text p.name q.name
-        (sym (first_so (pointwise nat_eq p.name q.name) (nat_eq p.ty q.ty) e)) in
+    same_text p.name q.name
+    (sym (first_so (pointwise nat_eq p.name q.name) (nat_eq p.ty q.ty) e)) in
     let types : p.ty ≡ q.ty =
-        (Decides-eqb p.ty q.ty).0 (second_so (pointwise nat_eq p.name q.name) (nat_eq p.ty q.ty) e)
-        in
+    (Decides-eqb p.ty q.ty).0 (second_so (pointwise nat_eq p.name q.name) (nat_eq p.ty q.ty) e)
+    in
     λ i. record { name = names i; ty = types i }
 
 parts-tell : (xs ys : List Part) → pointwise same_part xs ys ≡ true → xs ≡ ys

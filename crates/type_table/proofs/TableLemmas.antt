@@ -62,7 +62,7 @@ tree-Extends old new more (shape.List part) h = ap ty.List (more.same part h)
 tree-Extends old new more (shape.Rec parts) h =
     ap ty.Rec (fields-same (field_at new) (field_at old) (λ part. part.ty < length old)
     (λ part in_ i. record { name = part.name; ty = more.same part.ty in_ i }) parts
-        (recursion_from_All (λ part. part.ty < length old) parts h))
+    (recursion_from_All (λ part. part.ty < length old) parts h))
 tree-Extends old new more (shape.Either left right) h =
     λ i. ty.Either (more.same left h.0 i) (more.same right h.1 i)
 
@@ -91,7 +91,7 @@ parts-apart types n apart (x ∷ xs) (y ∷ ys) h g e =
     let rest : map (field_at types) xs ≡ map (field_at types) ys = cc in
     let types_same : x.ty ≡ y.ty = apart x.ty y.ty h.0 g.0 (ap (λ f. f.ty) one) in
     λ i. record { name = (one i).name; ty = types_same i } ∷ parts-apart types n apart xs ys h.1
-        g.1 rest i
+    g.1 rest i
 
 pub level-apart : (types : List Ty) (n : ℕ) → Apart types n → (s r : Shape) → IsWithin n s
     → IsWithin n r → level types s ≡ level types r → s ≡ r
@@ -104,8 +104,8 @@ level-apart types n apart (shape.List a) (shape.List b) h g e =
 level-apart types n apart (shape.Rec xs) (shape.Rec ys) h g e =
     let same : map (field_at types) xs ≡ map (field_at types) ys = cc in
     ap shape.Rec
-        (parts-apart types n apart xs ys (recursion_from_All (λ part. part.ty < n) xs h)
-        (recursion_from_All (λ part. part.ty < n) ys g) same)
+    (parts-apart types n apart xs ys (recursion_from_All (λ part. part.ty < n) xs h)
+    (recursion_from_All (λ part. part.ty < n) ys g) same)
 level-apart types n apart (shape.Either a b) (shape.Either c d) h g e =
     let left : type_at types a ≡ type_at types c = cc in
     let right : type_at types b ≡ type_at types d = cc in
@@ -190,21 +190,21 @@ module _ (entries : List (Shape × ℕ)) (s : Shape) (depth : ℕ) (is : IsTable
       → tree_of types s ≡ type_at types id → ⊥
   new-apart absent id in_ e =
       absent id in_
-          (sym
-          (tree_of-apart types n is.apart s (entry_at entries id).0 within (within-at id in_) (e
-          ∙ is.levels id in_)))
+      (sym
+      (tree_of-apart types n is.apart s (entry_at entries id).0 within (within-at id in_) (e
+      ∙ is.levels id in_)))
 
   longer-apart : ((id : ℕ) → id < n → (entry_at entries id).0 ≡ s → ⊥) → Apart longer (n + 1)
   longer-apart absent id other in_ other_in =
       below-or-new n (λ id. type_at longer id ≡ type_at longer other → id ≡ other)
       (λ id in_. below-or-new n (λ other. type_at longer id ≡ type_at longer other → id ≡ other)
       (λ other other_in e. is.apart id other in_ other_in (sym (type-old id in_) ∙ e
-          ∙ type-old other other_in))
+      ∙ type-old other other_in))
       (λ e. absurd (new-apart absent id in_ (sym type-new ∙ sym e ∙ type-old id in_)))
       other other_in)
       (below-or-new n (λ other. type_at longer n ≡ type_at longer other → n ≡ other)
       (λ other other_in e. absurd (new-apart absent other other_in (sym type-new ∙ e
-          ∙ type-old other other_in)))
+      ∙ type-old other other_in)))
       (λ e. refl) other other_in)
       id in_
 
@@ -218,8 +218,8 @@ module _ (entries : List (Shape × ℕ)) (s : Shape) (depth : ℕ) (is : IsTable
             λ id in_. subst (λ ts. type_at ts id ≡ tree_of ts (entry_at after id).0) (sym grown) (
             below-or-new n (λ id. type_at longer id ≡ tree_of longer (entry_at after id).0)
             (λ id in_. type-old id in_ ∙ is.levels id in_
-                ∙ sym (tree-kept (entry_at entries id).0 (within-at id in_))
-                ∙ ap (λ e. tree_of longer e.0) (sym (entry-old id in_)))
+            ∙ sym (tree-kept (entry_at entries id).0 (within-at id in_))
+            ∙ ap (λ e. tree_of longer e.0) (sym (entry-old id in_)))
             (type-new ∙ sym (tree-kept s within) ∙ ap (λ e. tree_of longer e.0) (sym entry-new))
             id (omega (arith, length-after)));
         within = λ id in_.
@@ -236,7 +236,7 @@ module _ (entries : List (Shape × ℕ)) (s : Shape) (depth : ℕ) (is : IsTable
             (sym grown) (
             below-or-new n (λ id. (entry_at after id).1 ≡ capped (depth_of (type_at longer id)))
             (λ id in_. ap (λ e. e.1) (entry-old id in_) ∙ is.depths id in_
-                ∙ ap (λ t. capped (depth_of t)) (sym (type-old id in_)))
+            ∙ ap (λ t. capped (depth_of t)) (sym (type-old id in_)))
             (ap (λ e. e.1) entry-new ∙ deep ∙ ap (λ t. capped (depth_of t)) (sym type-new))
             id (omega (arith, length-after)));
       }
@@ -257,9 +257,11 @@ pub found-at : (s : Shape) (entries : List (Shape × ℕ)) (id : ℕ)
     → (id < length entries) × ((entry_at entries id).0 ≡ s)
 found-at s entries id p =
     let there = position-Some ((ghosts).eq s) (keys_of entries) id shape.Int p in
-    let in_ : id < length entries = omega (arith, there.0, length-keys entries) in
-    (in_, sym (shape_at-keys entries id in_)
-        ∙ sym (tells_apart s (get_or (keys_of entries) id shape.Int) there.1))
+    let in_ : id < length entries = omega (arith, there.0, length-keys entries) in (
+      in_,
+      sym (shape_at-keys entries id in_)
+          ∙ sym (tells_apart s (get_or (keys_of entries) id shape.Int) there.1),
+    )
 
 missed : (b : Bool) (v : ℕ) (rest : Option ℕ) → cond b (Some v) rest ≡ None
     → (b ≡ false) × (rest ≡ None)
@@ -277,7 +279,7 @@ pub absent-at : (s : Shape) (entries : List (Shape × ℕ)) → lookup ((ghosts)
     → (id : ℕ) → id < length entries → (entry_at entries id).0 ≡ s → ⊥
 absent-at s entries none id in_ e =
     true≢false (sym ((shape_eq-Decides s (entry_at entries id).0).1 (sym e))
-        ∙ none-before ((ghosts).eq s) entries none id in_)
+    ∙ none-before ((ghosts).eq s) entries none id in_)
 
 pub none-found : (o : Option ℕ) → false ≡ is_some o → o ≡ None
 none-found None e = refl
@@ -293,8 +295,8 @@ pub lookup-absent : (s : Shape) (entries : List (Shape × ℕ))
 lookup-absent s [] absent = refl
 lookup-absent s (e ∷ entries) absent =
     ap (λ b. cond b (Some e.1) (lookup ((ghosts).eq s) entries))
-        (differs ((ghosts).eq s e.0)
-        (λ same. absent 0 (omega arith) (sym (tells_apart s e.0 same))))
+    (differs ((ghosts).eq s e.0)
+    (λ same. absent 0 (omega arith) (sym (tells_apart s e.0 same))))
     ∙ lookup-absent s entries (λ id in_. absent (suc id) (omega arith))
 
 pub level-at : (entries : List (Shape × ℕ)) (types : List Ty) (id : ℕ) (s : Shape)
@@ -304,7 +306,7 @@ level-at entries types id s is view in_ at =
     let here : id < length entries = omega (arith, ap length view, is.as_many) in
     subst (λ ts. out-Ty (type_at ts id) ≡ level ts s) view
     (ap out-Ty (is.levels id here) ∙ out-tree (types_of entries) (entry_at entries id).0
-        ∙ ap (level (types_of entries)) (sym at))
+    ∙ ap (level (types_of entries)) (sym at))
 
 -- ---- a shape more, or want of memory
 
@@ -318,7 +320,7 @@ pub record Interned {E : Type 0} (after : List (Shape × ℕ)) (types : List Ty)
 module _ (entries after : List (Shape × ℕ)) (s : Shape) (depth : ℕ) (is : IsTable entries)
     (within : IsWithin (length (types_of entries)) s)
     (absent : (id : ℕ) → id < length entries → (entry_at entries id).0 ≡ s
-        → ⊥) (deep : depth ≡ capped (depth_of (tree_of (types_of entries) s))) where
+    → ⊥) (deep : depth ≡ capped (depth_of (tree_of (types_of entries) s))) where
   within-entries : IsWithin (length entries) s
   within-entries = subst (λ m. IsWithin m s) is.as_many within
 
@@ -327,12 +329,17 @@ module _ (entries after : List (Shape × ℕ)) (s : Shape) (depth : ℕ) (is : I
       → Interned after (types_of entries) s r
   interned (Ok id) ok err at =
       let longer : types_of after ≡ types_of entries ++ tree_of (types_of entries) s ∷ [] =
-          ap types_of ok ∙ types_of-push entries (s, depth) in record {
+      ap types_of ok ∙ types_of-push entries (s, depth) in record {
         table = subst IsTable (sym ok) (IsTable-push entries s depth is within-entries absent deep);
         within =
-            omega
-            (arith, at, is.as_many, ap length longer, length-append (types_of entries)
-            (tree_of (types_of entries) s ∷ []));
+            omega (
+              arith,
+              at,
+              is.as_many,
+              ap length longer,
+              length-append (types_of entries)
+                  (tree_of (types_of entries) s ∷ []),
+            );
         ok = ap (λ ts. type_at ts id) longer
             ∙ get_or_push (types_of entries) (tree_of (types_of entries) s) ty.Int id (is.as_many
             ∙ sym at);
@@ -371,9 +378,11 @@ pub same-as-numbers : (entries : List (Shape × ℕ)) (types : List Ty) (a b : �
     → nat_eq a b ≡ type_eq (type_at types a) (type_at types b)
 same-as-numbers entries types a b law is view a_in b_in =
     same_from_decides {P = type_at types a ≡ type_at types b} (nat_eq a b)
-    (type_eq (type_at types a) (type_at types b))
-    (λ e. ap (type_at types) ((Decides-eqb a b).0 e), λ e. (Decides-eqb a b).1
-        (is.apart a b (omega (arith, ap length view, is.as_many))
-        (omega (arith, ap length view, is.as_many))
-        (subst (λ ts. type_at ts a ≡ type_at ts b) (sym view) e)))
+    (type_eq (type_at types a) (type_at types b)) (
+      λ e. ap (type_at types) ((Decides-eqb a b).0 e),
+      λ e. (Decides-eqb a b).1
+          (is.apart a b (omega (arith, ap length view, is.as_many))
+          (omega (arith, ap length view, is.as_many))
+          (subst (λ ts. type_at ts a ≡ type_at ts b) (sym view) e)),
+    )
     (law (type_at types a) (type_at types b))

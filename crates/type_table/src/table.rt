@@ -106,7 +106,7 @@ fn shape_at(shapes: &IndexMap<Shape, u32>, id: TypeId) -> &Shape
 fn find(shapes: &IndexMap<Shape, u32>, shape: &Shape) -> Option<TypeId>
     ensures { MatchOption result (spec.LacksShape shapes.now.entries shape.now)
         (λ id. (id < length shapes.now.entries)
-            × ((spec.entry_at shapes.now.entries id).0 ≡ shape.now)) }
+        × ((spec.entry_at shapes.now.entries id).0 ≡ shape.now)) }
 {
     let at = shapes.get_index_of(shape)?;
     Some(TypeId::new(at))

@@ -8,22 +8,22 @@ use Rattle.type_table.proofs.depth.shape_depth.Goals as goal
 pub returns-in-Int : goal.returns-in-Int
 returns-in-Int c =
     let e : depth_of (tree_of (types_of c.args.shapes.now.entries) c.args.shape.now) ≡ 1 =
-        tree-depth c.depth_law.ensures.one_level c.args.shapes.now.entries c.args.shape.now
-        shape.Int c.in-Int.is in
+    tree-depth c.depth_law.ensures.one_level c.args.shapes.now.entries c.args.shape.now
+    shape.Int c.in-Int.is in
     omega arith
 
 pub returns-in-Bool : goal.returns-in-Bool
 returns-in-Bool c =
     let e : depth_of (tree_of (types_of c.args.shapes.now.entries) c.args.shape.now) ≡ 1 =
-        tree-depth c.depth_law.ensures.one_level c.args.shapes.now.entries c.args.shape.now
-        shape.Bool c.in-Bool.is in
+    tree-depth c.depth_law.ensures.one_level c.args.shapes.now.entries c.args.shape.now
+    shape.Bool c.in-Bool.is in
     omega arith
 
 pub returns-in-Text : goal.returns-in-Text
 returns-in-Text c =
     let e : depth_of (tree_of (types_of c.args.shapes.now.entries) c.args.shape.now) ≡ 1 =
-        tree-depth c.depth_law.ensures.one_level c.args.shapes.now.entries c.args.shape.now
-        shape.Text c.in-Text.is in
+    tree-depth c.depth_law.ensures.one_level c.args.shapes.now.entries c.args.shape.now
+    shape.Text c.in-Text.is in
     omega arith
 
 pub returns-in-List : goal.returns-in-List
@@ -31,11 +31,11 @@ returns-in-List c =
     let entries = c.args.shapes.now.entries in
     let part = c.in-List.part in
     let e : depth_of (tree_of (types_of entries) c.args.shape.now) ≡ depth_of
-        (type_at (types_of entries) part) + 1 =
-        tree-depth c.depth_law.ensures.one_level entries c.args.shape.now
-        (shape.List part) c.in-List.is in
+    (type_at (types_of entries) part) + 1 =
+    tree-depth c.depth_law.ensures.one_level entries c.args.shape.now
+    (shape.List part) c.in-List.is in
     let within : part < length entries =
-        subst (IsWithin (length entries)) c.in-List.is c.requires.within in
+    subst (IsWithin (length entries)) c.in-List.is c.requires.within in
     omega (arith, e, c.one_more.ensures, c.depth_at.ensures, c.requires.table.depths part within)
 
 pub returns-in-Rec : goal.returns-in-Rec
@@ -43,13 +43,13 @@ returns-in-Rec c =
     let entries = c.args.shapes.now.entries in
     let parts = c.in-Rec.parts in
     let e : depth_of (tree_of (types_of entries) c.args.shape.now) ≡ deepest depth_of
-        (map (field_at (types_of entries)) parts) + 1 =
-        tree-depth c.depth_law.ensures.one_level entries c.args.shape.now
-        (shape.Rec parts) c.in-Rec.is in
+    (map (field_at (types_of entries)) parts) + 1 =
+    tree-depth c.depth_law.ensures.one_level entries c.args.shape.now
+    (shape.Rec parts) c.in-Rec.is in
     let most : c.deepest.result ≡ capped
-        (deepest depth_of (map (field_at (types_of entries)) parts)) = c.deepest.ensures
-        ∙ ap (λ parts. capped (deepest depth_of (map (field_at (types_of entries)) parts)))
-        c.as_slice.ensures in
+    (deepest depth_of (map (field_at (types_of entries)) parts)) = c.deepest.ensures
+    ∙ ap (λ parts. capped (deepest depth_of (map (field_at (types_of entries)) parts)))
+    c.as_slice.ensures in
     omega (arith, e, c.one_more-in-Rec.ensures, most)
 
 pub returns-in-Either : goal.returns-in-Either
@@ -58,13 +58,19 @@ returns-in-Either c =
     let left = c.in-Either.left in
     let right = c.in-Either.right in
     let e : depth_of (tree_of (types_of entries) c.args.shape.now) ≡ max
-        (depth_of (type_at (types_of entries) left)) (depth_of (type_at (types_of entries) right))
-        + 1 =
-        tree-depth c.depth_law.ensures.one_level entries c.args.shape.now
-        (shape.Either left right) c.in-Either.is in
+    (depth_of (type_at (types_of entries) left)) (depth_of (type_at (types_of entries) right))
+    + 1 =
+    tree-depth c.depth_law.ensures.one_level entries c.args.shape.now
+    (shape.Either left right) c.in-Either.is in
     let within : IsWithin (length entries) (shape.Either left right) =
-        subst (IsWithin (length entries)) c.in-Either.is c.requires.within in
-    omega
-        (arith, e, c.one_more-in-Either.ensures, c.max.ensures, c.depth_at-in-Either.ensures,
-        c.depth_at-in-Either-2.ensures, c.requires.table.depths left within.0,
-        c.requires.table.depths right within.1)
+    subst (IsWithin (length entries)) c.in-Either.is c.requires.within in
+    omega (
+      arith,
+      e,
+      c.one_more-in-Either.ensures,
+      c.max.ensures,
+      c.depth_at-in-Either.ensures,
+      c.depth_at-in-Either-2.ensures,
+      c.requires.table.depths left within.0,
+      c.requires.table.depths right within.1,
+    )

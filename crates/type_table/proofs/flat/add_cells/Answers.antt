@@ -11,19 +11,19 @@ loop-part-preserved c =
     let prefix = c.args.prefix.now in
     let part = c.part-item.result in
     let rest =
-        cells_under prefix
-        (map (field_at types) (drop (c.loop-part.part-index + 1) c.args.parts.now)) in
+    cells_under prefix
+    (map (field_at types) (drop (c.loop-part.part-index + 1) c.args.parts.now)) in
     let one : joined (Some c.loop-part.columns.items)
-        (cell_column (prefix ++ part.name) (out-Ty (type_at types part.ty))) ≡ Some
-        c.add_cell_at.new.columns.items =
+    (cell_column (prefix ++ part.name) (out-Ty (type_at types part.ty))) ≡ Some
+    c.add_cell_at.new.columns.items =
     ap (λ name. joined (Some c.loop-part.columns.items)
-        (cell_column name (out-Ty (type_at types part.ty)))) (sym c.in_ok-name.ensures)
-        ∙ c.in_ok-add_cell_at.ensures.flat in
+    (cell_column name (out-Ty (type_at types part.ty)))) (sym c.in_ok-name.ensures)
+    ∙ c.in_ok-add_cell_at.ensures.flat in
     joined-more c.loop-part.columns.items c.add_cell_at.new.columns.items
-        (cell_column (prefix ++ part.name) (out-Ty (type_at types part.ty))) rest one
+    (cell_column (prefix ++ part.name) (out-Ty (type_at types part.ty))) rest one
     ∙ sym
-        (ap (λ parts. joined (Some c.loop-part.columns.items)
-        (cells_under prefix (map (field_at types) parts)))
-        (drop-item c.args.parts.now c.loop-part.part-index part c.loop-part-test.true
-        c.part-item.is))
+    (ap (λ parts. joined (Some c.loop-part.columns.items)
+    (cells_under prefix (map (field_at types) parts)))
+    (drop-item c.args.parts.now c.loop-part.part-index part c.loop-part-test.true
+    c.part-item.is))
     ∙ c.loop-part.invariant

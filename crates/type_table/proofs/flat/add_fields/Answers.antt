@@ -10,14 +10,14 @@ loop-part-preserved c =
     let types = c.args.types.now in
     let part = c.part-item.result in
     let rest =
-        record_columns (map (field_at types) (drop (c.loop-part.part-index + 1) c.args.parts.now))
-        in
+    record_columns (map (field_at types) (drop (c.loop-part.part-index + 1) c.args.parts.now))
+    in
     joined-more c.loop-part.columns.items c.add_field.new.columns.items
-        (field_columns part.name (out-Ty (type_at types part.ty))) rest
-        c.in_ok-add_field.ensures.flat
+    (field_columns part.name (out-Ty (type_at types part.ty))) rest
+    c.in_ok-add_field.ensures.flat
     ∙ sym
-        (ap (λ parts. joined (Some c.loop-part.columns.items)
-        (record_columns (map (field_at types) parts)))
-        (drop-item c.args.parts.now c.loop-part.part-index part c.loop-part-test.true
-        c.part-item.is))
+    (ap (λ parts. joined (Some c.loop-part.columns.items)
+    (record_columns (map (field_at types) parts)))
+    (drop-item c.args.parts.now c.loop-part.part-index part c.loop-part-test.true
+    c.part-item.is))
     ∙ c.loop-part.invariant

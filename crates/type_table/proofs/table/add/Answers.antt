@@ -8,4 +8,4 @@ pub returns-clause-ok : goal.returns-clause-ok
 returns-clause-ok c =
     c.in_ok-insert.ensures.entries
     ∙ insert_entry-new (ghosts).eq c.args.shapes.now c.args.shape c.args.depth
-        (lookup-absent c.args.shape c.args.shapes.now.entries c.requires)
+    (lookup-absent c.args.shape c.args.shapes.now.entries c.requires)

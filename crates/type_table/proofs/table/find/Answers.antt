@@ -5,8 +5,8 @@ use Rattle.type_table.proofs.table.find.Goals as goal
 pub returns-in_err-at : goal.returns-in_err-at
 returns-in_err-at c =
     rw c.from_residual.ensures
-        (absent-at c.args.shape.now c.args.shapes.now.entries
-        (none-found _ c.in_err-at.ensures.found))
+    (absent-at c.args.shape.now c.args.shapes.now.entries
+    (none-found _ c.in_err-at.ensures.found))
 
 pub returns : goal.returns
 returns c =

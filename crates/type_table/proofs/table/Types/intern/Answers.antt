@@ -7,35 +7,35 @@ pub invariant_of-self : goal.invariant_of-self
 invariant_of-self c =
     let within = subst (λ ts. IsWithin (length ts) c.args.shape) (sym c.self.view_is) c.requires in
     (interned c.self.inside.shapes.entries c.add.new.shapes.entries c.args.shape
-        c.shape_depth-depth.result c.self.invariant within c.in-None.ensures
-        c.shape_depth-depth.ensures c.add.result c.add.ensures.ok c.add.ensures.err
-        c.add.ensures.id).table
+    c.shape_depth-depth.result c.self.invariant within c.in-None.ensures
+    c.shape_depth-depth.ensures c.add.result c.add.ensures.ok c.add.ensures.err
+    c.add.ensures.id).table
 
 pub returns-in-None-clause-within : goal.returns-in-None-clause-within
 returns-in-None-clause-within c =
     let within = subst (λ ts. IsWithin (length ts) c.args.shape) (sym c.self.view_is) c.requires in
     (interned c.self.inside.shapes.entries c.add.new.shapes.entries c.args.shape
-        c.shape_depth-depth.result c.self.invariant within c.in-None.ensures
-        c.shape_depth-depth.ensures c.add.result c.add.ensures.ok c.add.ensures.err
-        c.add.ensures.id).within
+    c.shape_depth-depth.result c.self.invariant within c.in-None.ensures
+    c.shape_depth-depth.ensures c.add.result c.add.ensures.ok c.add.ensures.err
+    c.add.ensures.id).within
 
 pub returns-in-None-clause-ok : goal.returns-in-None-clause-ok
 returns-in-None-clause-ok c =
     let within = subst (λ ts. IsWithin (length ts) c.args.shape) (sym c.self.view_is) c.requires in
     subst
-        (λ ts. IfOk c.add.result
-        (λ id. type_at (types_of c.add.new.shapes.entries) id ≡ tree_of ts c.args.shape))
-        c.self.view_is
+    (λ ts. IfOk c.add.result
+    (λ id. type_at (types_of c.add.new.shapes.entries) id ≡ tree_of ts c.args.shape))
+    c.self.view_is
     (interned c.self.inside.shapes.entries c.add.new.shapes.entries c.args.shape
-        c.shape_depth-depth.result c.self.invariant within c.in-None.ensures
-        c.shape_depth-depth.ensures c.add.result c.add.ensures.ok c.add.ensures.err
-        c.add.ensures.id).ok
+    c.shape_depth-depth.result c.self.invariant within c.in-None.ensures
+    c.shape_depth-depth.ensures c.add.result c.add.ensures.ok c.add.ensures.err
+    c.add.ensures.id).ok
 
 pub returns-in-None-clause-extends : goal.returns-in-None-clause-extends
 returns-in-None-clause-extends c =
     let within = subst (λ ts. IsWithin (length ts) c.args.shape) (sym c.self.view_is) c.requires in
     subst (λ ts. Extends ts (types_of c.add.new.shapes.entries)) c.self.view_is
     (interned c.self.inside.shapes.entries c.add.new.shapes.entries c.args.shape
-        c.shape_depth-depth.result c.self.invariant within c.in-None.ensures
-        c.shape_depth-depth.ensures c.add.result c.add.ensures.ok c.add.ensures.err
-        c.add.ensures.id).extends
+    c.shape_depth-depth.result c.self.invariant within c.in-None.ensures
+    c.shape_depth-depth.ensures c.add.result c.add.ensures.ok c.add.ensures.err
+    c.add.ensures.id).extends
