@@ -1,0 +1,6 @@
+pub mod BodyLemmas
+pub mod FormLemmas
+pub mod FunctionLemmas
+pub mod GoesLemmas
+pub mod PlacedLemmas
+pub mod SightLemmas
