@@ -58,7 +58,9 @@ valued_tagged t Stuck = refl
 
 -- ---- a block for each member
 
-module _ (f : Emits) (g : slots.Emits) (name : List ℕ) (u : Ty) (names : Newest Ty) (vs : List Value) (s : (v : Value) (out : List Value) → f ((name, (u, v)) ∷ bound names vs) out ≡ g (v ∷ vs) out) where
+module _ (f : Emits) (g : slots.Emits) (name : List ℕ) (u : Ty) (names : Newest Ty)
+    (vs : List Value) (s : (v : Value) (out : List Value)
+    → f ((name, (u, v)) ∷ bound names vs) out ≡ g (v ∷ vs) out) where
   each_same : (xs out : List Value)
       → each f name u xs (bound names vs) out ≡ slots.each g xs vs out
   each_same [] out = refl
@@ -83,7 +85,10 @@ module _ (f : Emits) (g : slots.Emits) (name : List ℕ) (u : Ty) (names : Newes
 
 -- ---- the block of a side
 
-module _ (f h : Emits) (g k : slots.Emits) (left right_ : List ℕ) (sides : Ty × Ty) (names : Newest Ty) (vs out : List Value) (s : (v : Value) → f ((left, (sides.0, v)) ∷ bound names vs) out ≡ g (v ∷ vs) out) (q : (v : Value) → h ((right_, (sides.1, v)) ∷ bound names vs) out ≡ k (v ∷ vs) out) where
+module _ (f h : Emits) (g k : slots.Emits) (left right_ : List ℕ) (sides : Ty × Ty)
+    (names : Newest Ty) (vs out : List Value) (s : (v : Value)
+    → f ((left, (sides.0, v)) ∷ bound names vs) out ≡ g (v ∷ vs) out) (q : (v : Value) → h
+    ((right_, (sides.1, v)) ∷ bound names vs) out ≡ k (v ∷ vs) out) where
   side_same : (l r : Option Value)
       → side f left h right_ sides l r (bound names vs) out ≡ slots.side_of g k l r vs out
   side_same (Some x) r = s x

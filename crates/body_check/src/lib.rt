@@ -9,6 +9,8 @@
 
 mod checks;
 mod frame;
+mod laws;
 mod statements;
 
 pub use checks::check_body;
+pub use laws::{call_law, statement_law};

@@ -51,7 +51,8 @@ module _ (name : List ℕ) where
       (sym next) (ap (λ b. cond b (Some t) (find name names)) e ∙ h.0, h.1, later)
     where
       later : (vs : List Value)
-          → looked (bound ((other, t) ∷ names) vs) ≡ tagged u (with_part (slice_get vs (suc i)) Gives)
+          → looked (bound ((other, t) ∷ names) vs)
+          ≡ tagged u (with_part (slice_get vs (suc i)) Gives)
       later [] = refl
       later (v ∷ vs) =
           ap (λ b. with_part (cond b (Some (t, v)) (find name (bound names vs))) Gives) e ∙ h.2 vs
@@ -203,5 +204,6 @@ empty_by line (Ok m) names =
     right_made names (expr.List []) (shallow line (ty.List m)) _ _ refl
     (λ t e. let is = shallow_is line (ty.List m) t e in (
       subst (typing.Typed (types names) (expr.List [])) is (typing.members typing.each_end),
-      λ vs. ap (λ u. tagged u (Gives (value.List []))) is ∙ ap (tagged t) (sym (value_of-List [] vs)),
+      λ vs. ap (λ u. tagged u (Gives (value.List []))) is
+          ∙ ap (tagged t) (sym (value_of-List [] vs)),
     ))

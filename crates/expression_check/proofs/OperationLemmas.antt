@@ -44,7 +44,8 @@ module _ (line : ℕ) where
             (λ v. ap (λ w. typed w (of_one (one op) v)) is) (value_of-Unary (one op) x.0),
       ))
 
-  pub right_side : (s : Side) (other : Ty) (names : Newest Ty) (o : Checked Typed) (type : Checked Ty)
+  pub right_side : (s : Side) (other : Ty) (names : Newest Ty) (o : Checked Typed)
+      (type : Checked Ty)
       (given : Giving) → IsRight names o type given
       → IsRight names (o >>= λ x. sided line s other x)
       (type >>= λ t. shallow line (either_of s other t))
@@ -102,7 +103,8 @@ module _ (line : ℕ) where
   pub right_binary : (op : Operator) (names : Newest Ty) (o p : Checked Typed) (s r : Checked Ty)
       (g h : Giving) → IsRight names o s g → IsRight names p r h
       → IsRight names (paired o p >>= λ both. binary line op both.0 both.1)
-      (s >>= λ t. r >>= λ u. has_type line (binary_type op t u)) (λ env. operated op (g env) (h env))
+      (s >>= λ t. r >>= λ u. has_type line (binary_type op t u)) (λ env. operated op (g env)
+      (h env))
   right_binary op names (Err f) p s r g h a b =
       ap (λ o. o >>= λ t. r >>= λ u. has_type line (binary_type op t u)) a
   right_binary op names (Ok x) (Err f) s r g h a b =
@@ -152,7 +154,8 @@ module _ (line : ℕ) where
   right_pick names (Ok z) (Ok x) (Ok y) q s r f g h c a b =
       right_made names (expr.Pick z.0 x.0 y.0) (has_type line (pick_type z.1 x.1 y.1)) _ _
       (λ i. c.0 i >>= λ t. a.0 i >>= λ u. b.0 i >>= λ w. has_type line (pick_type t u w))
-      (λ w e. let m = pick_is z.1 x.1 y.1 w (there_is line Mistyped (pick_type z.1 x.1 y.1) w e) in (
+      (λ w e. let m = pick_is z.1 x.1 y.1 w (there_is line Mistyped
+      (pick_type z.1 x.1 y.1) w e) in (
         typing.pick (subst (typing.Typed (types names) z.0) m.0 c.1)
             (subst (typing.Typed (types names) x.0) m.2 a.1)
             (subst (typing.Typed (types names) y.0) (sym m.1 ∙ m.2) b.1),

@@ -86,7 +86,8 @@ module _ (names : Newest Ty) (ks : List Slots) (ts : List Ty) (x : Typed) (rest 
     (λ i. in_front (h.0 i) (has i)),
     typing.all_more h.1 td,
     λ vs before made.
-        ap (λ o. then o (λ y. rest (bound names vs) (before ++ y.0 ∷ []) (made ++ y.1 ∷ []))) (h.2 vs)
+        ap (λ o. then o (λ y. rest (bound names vs) (before ++ y.0 ∷ []) (made ++ y.1 ∷ [])))
+        (h.2 vs)
         ∙ part_goes more us vs before made (gv vs) (value_of x.0 vs),
   )
 

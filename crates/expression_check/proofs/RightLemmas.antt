@@ -36,7 +36,8 @@ module _ (line : ℕ) where
       (all_types (type_of line) (map plain es) s) (all_given (given_in line s.known) (map plain es))
   right_all [] s ks ts = no_parts s.names ks ts
   right_all (p ∷ es) s ks ts =
-      parts_more s.names ks ts (slots_of line p.0 s) (type_of line p.0 s) (given_in line s.known p.0)
+      parts_more s.names ks ts (slots_of line p.0 s) (type_of line p.0 s)
+      (given_in line s.known p.0)
       (λ ks' ts'. all_slots (slots_of line) (map plain es) s ks' ts')
       (all_types (type_of line) (map plain es) s) (all_given (given_in line s.known) (map plain es))
       (p.1 s) (right_all es s)

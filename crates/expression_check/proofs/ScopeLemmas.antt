@@ -26,7 +26,11 @@ pub sight-kept : (old new : Known) (entries : Named ℕ) → Extends old.types n
     → new.names ≡ old.names → AreNewest old.types entries
     → (in_sight new entries).sight ≡ (in_sight old entries).sight
 sight-kept old new entries more same held =
-    λ i. record { known = same i; names = names-kept old.types new.types more (reverse entries) held i }
+    λ i. record {
+      known = same i;
+      names = names-kept old.types new.types more
+          (reverse entries) held i;
+    }
 
 -- ---- names
 
@@ -45,8 +49,10 @@ place_in-mapped types name (x ∷ names) =
     by_test (bytes_eq name x.0) (place_in-mapped types name names)
   where
     by_test : (b : Bool)
-        → place_in name (map (type_of types) names) ≡ option_map (at_type types) (place_in name names)
-        → cond b (Some (0, type_at types x.1)) (further 1 (place_in name (map (type_of types) names)))
+        → place_in name (map (type_of types) names) ≡ option_map (at_type types)
+        (place_in name names)
+        → cond b (Some (0, type_at types x.1)) (further 1 (place_in name (map
+        (type_of types) names)))
         ≡ option_map (at_type types) (cond b (Some (0, x.1)) (further 1 (place_in name names)))
     by_test true rest = refl
     by_test false rest = ap (further 1) rest ∙ further-mapped types (place_in name names)
@@ -142,17 +148,21 @@ not-held types name entries e =
 
 -- ---- one name more
 
-module _ {S : Type 0} (types : List Ty) (old new : IndexMap (List ℕ) ℕ S) (name : List ℕ) (id : ℕ) (absent : find name (map (type_of types) (reverse old.entries)) ≡ None) (put : new.entries ≡ insert_entry bytes_eq old.entries name id) where
+module _ {S : Type 0} (types : List Ty) (old new : IndexMap (List ℕ) ℕ S) (name : List ℕ)
+    (id : ℕ) (absent : find name (map (type_of types) (reverse old.entries)) ≡ None)
+    (put : new.entries ≡ insert_entry bytes_eq old.entries name id) where
   pub newest-put : reverse new.entries ≡ (name, id) ∷ reverse old.entries
   newest-put =
-      ap reverse (put ∙ insert_entry-new bytes_eq old name id (not-held types name old.entries absent))
+      ap reverse (put ∙ insert_entry-new bytes_eq old name id
+      (not-held types name old.entries absent))
       ∙ reverse-append old.entries ((name, id) ∷ [])
 
   pub held-put : AreNewest types old.entries → id < length types → AreNewest types new.entries
   held-put held within =
       All-same (λ (e : List ℕ × ℕ). e.1 < length types) (reverse new.entries)
       ((name, id) ∷ reverse old.entries) newest-put
-      (All-cons (λ (e : List ℕ × ℕ). e.1 < length types) (name, id) (reverse old.entries) within held)
+      (All-cons (λ (e : List ℕ × ℕ). e.1 < length types) (name, id)
+      (reverse old.entries) within held)
 
 -- ---- the oldest names
 

@@ -3,7 +3,7 @@
 //! An expression as it is parsed has names: of values, of types, of fields. `specs/Types.antt` says
 //! which type it has, or its first fault from the left, and `specs/Given.antt` what it gives where
 //! names stand for values, by one equation for each form. `resolve` answers the expression with
-//! slots in place of names, with its type, or that first fault. `expression_law` says that such
+//! slots in place of names, with its type, or that first fault. `slots_law` says that such
 //! slots have the type and give what the expression gives.
 #![tactic(auto)]
 
@@ -21,7 +21,7 @@ mod types;
 
 pub use expression::resolve;
 pub use kinds::is_bool;
-pub use laws::expression_law;
+pub use laws::{expression_law, slots_law};
 pub use parts::{Sides, member_of, sides_of};
 pub use scope::{Found, Scope};
 pub use typed::Typed;

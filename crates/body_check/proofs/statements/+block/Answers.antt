@@ -23,14 +23,19 @@ block-loop-statement-preserved t c =
     let is = c.loop-statement.invariant in
     let x : Placed = (c.in_ok-one.one, new.sight) in
     let one : placed_of gives c.statement-item.result old.sight ≡ Ok x =
-    ap (λ g. placed_of g c.statement-item.result old.sight) (sym is.result_) ∙ c.in_ok-one.ensures.gives in
+    ap (λ g. placed_of g c.statement-item.result old.sight) (sym is.result_)
+    ∙ c.in_ok-one.ensures.gives in
     record {
       gives =
-          ap (block_slots (placed_of gives) (drop (i + 1) statements) new.sight) c.in_ok-push.ensures.ok
-          ∙ next-placed gives statements i c.statement-item.result old.sight c.loop-statement.slots x
+          ap (block_slots (placed_of gives) (drop
+          (i + 1) statements) new.sight) c.in_ok-push.ensures.ok
+          ∙ next-placed gives statements i c.statement-item.result old.sight
+          c.loop-statement.slots x
           c.loop-statement-test.true c.statement-item.is one
           ∙ is.gives;
-      extends = Extends-twice c.args.frame.now.types old.types new.types is.extends c.placed.ensures.extends;
+      extends =
+          Extends-twice c.args.frame.now.types old.types new.types is.extends
+          c.placed.ensures.extends;
       known = c.placed.ensures.known ∙ is.known;
       kept =
           behind-twice c.args.frame.now.sight.names old.sight.names new.sight.names is.kept
@@ -81,12 +86,14 @@ place_case-returns-in_err-both-clause-gives t c =
     let sides = c.in_ok-sides.sides in
     let types_of : Ty × Ty = (type_at mid.types sides.left, type_at mid.types sides.right) in
     let has = subst (λ ts. or_fault line Mistyped (side_types (type_at ts x.ty))
-    ≡ Ok (type_at ts sides.left, type_at ts sides.right)) c.types.ensures c.in_ok-sides.ensures.gives in
+    ≡ Ok (type_at ts sides.left, type_at ts sides.right)) c.types.ensures
+    c.in_ok-sides.ensures.gives in
     let fails = subst (λ g. Fails e (both_slots line types_of left (block (placed_of g) a) right_
     (block (placed_of g) b) s)) c.resolve.ensures.result_
     (subst (λ t. Fails e (both_slots line types_of left (block (placed_of mid.gives) a) right_
     (block (placed_of mid.gives) b) t)) c.resolve.ensures.sight c.in_err-both.ensures.gives) in
     rw (p.1, p.2) (Fails-same e _ _
-    (case-goes-on line c.args.e.now left right_ (block (placed_of gives) a) (block (placed_of gives) b) s
+    (case-goes-on line c.args.e.now left right_ (block (placed_of gives) a) (block
+    (placed_of gives) b) s
     (typed mid.types x) types_of c.in_ok-x.ensures.gives has)
     (Fails-first e _ _ fails))

@@ -25,17 +25,24 @@ abbrev pub decreases-place_for : goal.decreases-place_for
 decreases-place_for l = 8 * most (λ b. size-Body b) l.body.now + 4
 
 abbrev pub decreases-place_if : goal.decreases-place_if
-decreases-place_if l = 8 * max (most (λ b. size-Body b) l.blocks.first.now) (most (λ b. size-Body b) l.blocks.second.now) + 3
+decreases-place_if l =
+    8 * max (most (λ b. size-Body b) l.blocks.first.now) (most
+    (λ b. size-Body b) l.blocks.second.now) + 3
 
 abbrev pub decreases-both_sides : goal.decreases-both_sides
-decreases-both_sides l = 8 * max (most (λ b. size-Body b) l.blocks.first.now) (most (λ b. size-Body b) l.blocks.second.now) + 5
+decreases-both_sides l =
+    8 * max (most (λ b. size-Body b) l.blocks.first.now) (most
+    (λ b. size-Body b) l.blocks.second.now) + 5
 
 abbrev pub decreases-place_case : goal.decreases-place_case
-decreases-place_case l = 8 * max (most (λ b. size-Body b) l.blocks.first.now) (most (λ b. size-Body b) l.blocks.second.now) + 6
+decreases-place_case l =
+    8 * max (most (λ b. size-Body b) l.blocks.first.now) (most
+    (λ b. size-Body b) l.blocks.second.now) + 6
 
 abbrev pub invariant-block-loop-statement : goal.invariant-block-loop-statement
 invariant-block-loop-statement l = record {
-  gives : block_slots (placed_of l.fn.frame.gives) (drop l.statement-index l.statements) l.frame.sight l.slots
+  gives : block_slots (placed_of l.fn.frame.gives)
+      (drop l.statement-index l.statements) l.frame.sight l.slots
       ≡ block_slots (placed_of l.fn.frame.gives) l.statements l.fn.frame.sight [];
   extends : Extends l.fn.frame.types l.frame.types;
   known : l.frame.sight.known ≡ l.fn.frame.sight.known;

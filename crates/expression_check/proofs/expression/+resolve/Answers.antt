@@ -23,7 +23,8 @@ all_parts-loop-part-preserved t c =
     c.push-in-loop-part.new.self c.in_ok-x.x.ty c.in_ok-push-2.ensures.ok is.within in
     record {
       gives =
-          (λ j. all_slots (slots_of line) (drop (i + 1) parts) s (c.in_ok-push.ensures.ok j) (grown j))
+          (λ j. all_slots (slots_of line) (drop (i + 1) parts) s (c.in_ok-push.ensures.ok j)
+          (grown j))
           ∙ next-part line parts i c.part-item.result s c.loop-part.exprs
           (map (type_at old) c.loop-part.types) x c.loop-part-test.true c.part-item.is one
           ∙ is.gives;

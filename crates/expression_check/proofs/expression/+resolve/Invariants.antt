@@ -41,7 +41,8 @@ decreases-all_parts l = 4 * most (λ e. size-Expr e) l.parts.now + 1
 
 abbrev pub invariant-all_parts-loop-part : goal.invariant-all_parts-loop-part
 invariant-all_parts-loop-part l = record {
-  gives : all_slots (slots_of l.line) (drop l.part-index l.parts) l.fn.scope.sight l.exprs (map (type_at l.scope.types) l.types)
+  gives : all_slots (slots_of l.line) (drop l.part-index l.parts) l.fn.scope.sight l.exprs (map
+      (type_at l.scope.types) l.types)
       ≡ all_slots (slots_of l.line) l.parts l.fn.scope.sight [] [];
   within : AreTypes (length l.scope.types) l.types;
   extends : Extends l.fn.scope.types l.scope.types;

@@ -6,4 +6,5 @@ use Rattle.expression_check.proofs.parts.find_field.Given as goal
 
 abbrev pub invariant-loop-place : goal.invariant-loop-place
 invariant-loop-place l = (types : List Ty) →
-    field_at l.name l.place (map (held_field types) (drop l.place l.parts)) ≡ field_at l.name 0 (map (held_field types) l.parts)
+    field_at l.name l.place (map (held_field types) (drop l.place l.parts)) ≡ field_at l.name 0
+    (map (held_field types) l.parts)

@@ -6,5 +6,6 @@ use Rattle.expression_check.proofs.record.are_all.Given as goal
 
 abbrev pub invariant-loop-other : goal.invariant-loop-other
 invariant-loop-other l =
-    list_all (is_same (type_at l.types l.first)) (map (type_at l.types) (drop l.other-index l.others))
+    list_all (is_same (type_at l.types l.first)) (map (type_at l.types)
+    (drop l.other-index l.others))
     ≡ list_all (is_same (type_at l.types l.first)) (map (type_at l.types) l.others)

@@ -9,7 +9,8 @@ use Rattle.expression_check.proofs.scope.Scope.add.Goals as goal
 pub invariant_of-self-2 : goal.invariant_of-self-2
 invariant_of-self-2 c =
     let s = c.self.inside in
-    let absent = subst (λ v. find c.args.name v.sight.names ≡ None) (sym c.self.view_is) c.requires.new in
+    let absent = subst (λ v. find c.args.name v.sight.names ≡ None)
+    (sym c.self.view_is) c.requires.new in
     let within = subst (λ v. c.args.id < length v.types) (sym c.self.view_is) c.requires.within in
     held-put s.known.types s.names c.insert.new.self c.args.name c.args.id absent
     c.in_ok-insert.ensures.entries c.self.invariant within
@@ -17,7 +18,8 @@ invariant_of-self-2 c =
 pub returns-clause-sight : goal.returns-clause-sight
 returns-clause-sight c =
     let s = c.self.inside in
-    let absent = subst (λ v. find c.args.name v.sight.names ≡ None) (sym c.self.view_is) c.requires.new in
+    let absent = subst (λ v. find c.args.name v.sight.names ≡ None)
+    (sym c.self.view_is) c.requires.new in
     let put = newest-put s.known.types s.names c.insert.new.self c.args.name c.args.id absent
     c.in_ok-insert.ensures.entries in
     let here : Sight = record {

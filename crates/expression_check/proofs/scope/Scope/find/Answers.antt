@@ -16,7 +16,8 @@ returns-in-Some-clause-ok c =
     let id = c.in-Some.ty.now in
     let at = placed_in name es c.in-Some.at key id c.len.ensures.unique c.in-Some.ensures.entry
     (key_passes (bytes_eq name) es key c.in-Some.ensures.key) in
-    subst (λ s. Some (c.len.result - 1 - c.in-Some.at, type_at s.types id) ≡ place_in name s.sight.names)
+    subst (λ s. Some (c.len.result - 1 - c.in-Some.at, type_at s.types id)
+    ≡ place_in name s.sight.names)
     c.self.view_is
     (ap (λ n. Some (n - 1 - c.in-Some.at, type_at types id)) c.len.ensures.len
     ∙ sym (place_in-mapped types name (reverse es) ∙ ap (option_map (at_type types)) at))

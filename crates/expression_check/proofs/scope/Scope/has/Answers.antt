@@ -5,5 +5,6 @@ use Rattle.expression_check.proofs.scope.Scope.has.Goals as goal
 
 pub returns : goal.returns
 returns c =
-    c.is_some.ensures ∙ found-some c.args.self.now.types c.find.result ∙ ap is_some c.find.ensures.ok
+    c.is_some.ensures ∙ found-some c.args.self.now.types c.find.result
+    ∙ ap is_some c.find.ensures.ok
     ∙ placed_is_found c.args.name.now c.args.self.now.sight.names
