@@ -1,5 +1,5 @@
 -- What is in memory, as contracts see it: look-ups, one more, and what stays as types are added.
-use Rattle.std.proofs.Common.{◌≡◌, ℕ, ◌<◌, ◌≤◌, false, List, ◌∷◌, [], ◌++◌, length, map, take, Option, Some, None, is_some, refl, sym, ap, ◌∙◌, arith}
+use Rattle.std.proofs.Common.{◌≡◌, ℕ, ◌<◌, ◌≤◌, false, List, ◌∷◌, [], ◌++◌, length, map, take, get_or, Option, Some, None, is_some, refl, sym, ap, ◌∙◌, subst, arith}
 use Rattle.std.specs.List.{All, position, position_or_len}
 use Rattle.std.specs.Option.{option_map}
 use Rattle.std.specs.Str.{bytes_eq}
@@ -17,7 +17,7 @@ use Rattle.script_check.specs.declared.made.Node.{Node as HeldNode}
 use Rattle.script_check.specs.declared.made.Output.{Output}
 use Rattle.script_check.specs.Script.{State, place}
 use Rattle.script_check.specs.inner.Held.{function_of, node_of, FunctionIn, NodeIn, AreHeld, checking_of}
-use Rattle.script_check.specs.Program.{signature_in}
+use Rattle.script_check.specs.Program.{signature_in, function_in, Does}
 
 -- ---- look-ups
 
@@ -107,21 +107,18 @@ module _ (old new : Known) (more : Grows old new) (functions : Named HeldFunctio
   }
 
   function-kept : (entry : List ℕ × HeldFunction) → FunctionIn old entry
-      → function_of new entry ≡ function_of old entry
-  function-kept entry in_ = λ i. (
-    entry.0,
-    record {
-      types = more.names entry.1.type_names in_.named i;
-      argument = entry.1.argument;
-      signature = signature-kept entry.1.signature in_.takes in_.gives i;
-      body = entry.1.body;
-    },
-  )
+      → function_in new entry.1 ≡ function_in old entry.1
+  function-kept entry in_ = λ i. record {
+    types = more.names entry.1.type_names in_.named i;
+    argument = entry.1.argument;
+    signature = signature-kept entry.1.signature in_.takes in_.gives i;
+    body = entry.1.body;
+  }
 
   pub functions-kept : map (function_of new) functions ≡ map (function_of old) functions
   functions-kept =
-      same-map (function_of new) (function_of old) (FunctionIn old) function-kept functions
-      held.functions_held
+      same-map (function_of new) (function_of old) (FunctionIn old)
+      (λ entry in_ i. (entry.0, function-kept entry in_ i)) functions held.functions_held
 
   pub nodes-kept : map (node_of new.types) nodes ≡ map (node_of old.types) nodes
   nodes-kept =
@@ -137,6 +134,9 @@ module _ (old new : Known) (more : Grows old new) (functions : Named HeldFunctio
           takes = omega (arith, within.takes, more.types.longer);
           gives = omega (arith, within.gives, more.types.longer);
           named = omega (arith, within.named, more.longer);
+          does =
+              subst (Does (get_or functions k e).1.block)
+              (sym (function-kept (get_or functions k e) within)) within.does;
         };
     nodes_held = λ k e in_. omega (arith, held.nodes_held k e in_, more.types.longer);
   }

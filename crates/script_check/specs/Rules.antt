@@ -12,6 +12,7 @@ use Rattle.flume_grammar.specs.declared.fault.ScriptKind.TheVariants.{TooMany, N
 use Rattle.written_types.specs.Answer.{Checked, ◌>>=◌, unless, or_fault}
 use Rattle.written_types.specs.Named.{Named, fresh}
 use Rattle.written_types.specs.Written.{shallow, whole_type}
+use Rattle.body_check.specs.Bodies.{body_of}
 use Rattle.script_check.specs.declared.made.Made.TheVariants as made
 use Rattle.script_check.specs.Numbers.{number_within}
 use Rattle.script_check.specs.Script.{Signature, Function, Script, State, nothing, script_from, with_type, with_function, with_node, with_output}
@@ -64,6 +65,7 @@ module _ (line : ℕ) where
   abbrev pub rule_function : Written → State → Checked State
   rule_function function s = do
     signature ← signature_of function s
+    body ← body_of s.types function.argument signature.takes signature.gives function.body
     Ok (with_function function.name (function_of function signature s) s)
 
   abbrev pub rule_let : List ℕ → Operation → State → Checked State

@@ -13,7 +13,7 @@ use Rattle.script_check.specs.declared.operand.Callee.{Callee as HeldCallee}
 use Rattle.script_check.specs.declared.pairs.Pair.{Pair as HeldPair}
 use Rattle.script_check.specs.Script.{Function, Node, Script, State, Operand, Callee}
 use Rattle.script_check.specs.Operations.{Pair}
-use Rattle.script_check.specs.Program.{Numbered, function_in, node_in}
+use Rattle.script_check.specs.Program.{Numbered, function_in, node_in, Does}
 
 -- ---- operands
 
@@ -64,11 +64,12 @@ numbered_of known functions nodes outputs = record {
   };
 }
 
--- the numbers are those of types, and of the first names
+-- the numbers are those of types, and of the first names, and the slots do what the body does
 pub record FunctionIn (known : Known) (entry : List ℕ × HeldFunction) : Type 0 where
   pub takes : entry.1.signature.takes < length known.types
   pub gives : entry.1.signature.gives < length known.types
   pub named : entry.1.type_names ≤ length known.names
+  pub does : Does entry.1.block (function_in known entry.1)
 
 -- the number is that of a type
 abbrev pub NodeIn : Known → List ℕ × HeldNode → Type 0

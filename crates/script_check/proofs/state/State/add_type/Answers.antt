@@ -10,14 +10,14 @@ returns-clause-state c =
     let own = c.self.inside in
     let new = c.add.new.self in
     let grows =
-        grows-name own.known new (c.args.name, type_at own.known.types c.args.id)
-        c.add.ensures.types c.in_ok-add.ensures.names in
+    grows-name own.known new (c.args.name, type_at own.known.types c.args.id)
+    c.add.ensures.types c.in_ok-add.ensures.names in
     let functions =
-        functions-kept own.known new grows own.functions.entries own.nodes.entries
-        c.self.invariant in
+    functions-kept own.known new grows own.functions.entries own.nodes.entries
+    c.self.invariant in
     let nodes =
-        nodes-kept own.known new grows own.functions.entries own.nodes.entries
-        c.self.invariant in
+    nodes-kept own.known new grows own.functions.entries own.nodes.entries
+    c.self.invariant in
     let here : State = record {
       types = new.names;
       functions = map (function_of new) own.functions.entries;
@@ -25,12 +25,12 @@ returns-clause-state c =
       outputs = own.outputs.entries;
     } in
     subst
-        (λ (checking : Checking). here
-            ≡ with_type c.args.name (type_at checking.types c.args.id) checking.state)
-        c.self.view_is
-        (λ i. record {
-          types = c.in_ok-add.ensures.names i;
-          functions = functions i;
-          nodes = nodes i;
-          outputs = own.outputs.entries;
-        })
+    (λ (checking : Checking). here
+    ≡ with_type c.args.name (type_at checking.types c.args.id) checking.state)
+    c.self.view_is
+    (λ i. record {
+      types = c.in_ok-add.ensures.names i;
+      functions = functions i;
+      nodes = nodes i;
+      outputs = own.outputs.entries;
+    })

@@ -15,6 +15,7 @@ renamed known entry name held = record {
   takes = held.takes;
   gives = held.gives;
   named = held.named;
+  does = held.does;
 }
 
 abbrev called : ℕ → Function → Callee
