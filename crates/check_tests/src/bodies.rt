@@ -1,5 +1,5 @@
-//! The first fault of a function's body, on the line of the innermost statement. The function stands
-//! on line 2, behind an input and an output.
+//! The first fault of a function's body, on the line of the innermost statement. The function
+//! stands on line 2, behind an input and an output.
 
 use crate::outcome::{Outcome, told_of};
 use flume_syntax::ScriptKind;

@@ -1,5 +1,5 @@
-//! Tests of the checker of scripts: tables of scripts over `parse` and `check`, with the first fault
-//! of each, or that it is accepted.
+//! Tests of the checker of scripts: tables of scripts over `parse` and `check`, with the first
+//! fault of each, or that it is accepted.
 #![tactic(auto)]
 
 #[cfg(test)]

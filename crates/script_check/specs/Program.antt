@@ -38,7 +38,7 @@ function_in known held = record {
 abbrev pub node_in : List Ty → HeldNode → Node
 node_in types held = record { made = held.made; type = type_at types held.ty }
 
--- A block with slots does what a function does: it is well typed, and means the same by slots as the
+-- A block with slots does what a function does: it is well typed, and means by slots what the
 -- parsed body means by names.
 pub record Does (block : List Stmt) (function : Function) : Type 0 where
   pub typed : BlockTyped (function.signature.takes ∷ []) block function.signature.gives

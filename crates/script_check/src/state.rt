@@ -139,29 +139,19 @@ impl State {
     ) -> Result<Block, ScriptFault>
         requires takes { signature.now.takes < length self.old.types }
         requires gives { signature.now.gives < length self.old.types }
-        ensures gives { Gives (λ _. tt) result (body_of self.old.state.types function.now.argument
-            (type_at self.old.types signature.now.takes) (type_at self.old.types signature.now.gives)
-            function.now.body) }
-        ensures does { IfOk result (λ block. Does block (record {
-          types = self.old.state.types;
-          argument = function.now.argument;
-          signature = signature_in self.old.types signature.now;
-          body = function.now.body;
-        })) }
+        ensures gives { Gives (λ _. tt) result (body_of self.old.state.types
+            function.now.argument (type_at self.old.types signature.now.takes)
+            (type_at self.old.types signature.now.gives) function.now.body) }
+        ensures does { IfOk result (λ block. Does block (spec.function_from function.now
+            (signature_in self.old.types signature.now) self.old.state)) }
         ensures extends { Extends self.old.types self.new.types }
         ensures state { self.new.state ≡ self.old.state }
     {
+        let argument = &function.argument;
         let body = function.body.as_slice();
         let takes = signature.takes;
         let gives = signature.gives;
-        check_body(
-            alloc,
-            &mut self.known,
-            &function.argument,
-            takes,
-            gives,
-            body,
-        )
+        check_body(alloc, &mut self.known, argument, takes, gives, body)
     }
 
     // ---- what names stand for
@@ -267,18 +257,11 @@ impl State {
         requires new { is_some (find function.name self.old.state.functions) ≡ false }
         requires takes { signature.takes < length self.old.types }
         requires gives { signature.gives < length self.old.types }
-        requires does { Does block (record {
-          types = self.old.state.types;
-          argument = function.argument;
-          signature = signature_in self.old.types signature;
-          body = function.body;
-        }) }
-        ensures state { OnOk result (self.new.state ≡ spec.with_function function.name (record {
-          types = self.old.state.types;
-          argument = function.argument;
-          signature = signature_in self.old.types signature;
-          body = function.body;
-        }) self.old.state) }
+        requires does { Does block (spec.function_from function
+            (signature_in self.old.types signature) self.old.state) }
+        ensures state { OnOk result (self.new.state ≡ spec.with_function function.name
+            (spec.function_from function (signature_in self.old.types signature) self.old.state)
+            self.old.state) }
         ensures types { self.new.types ≡ self.old.types }
     {
         let type_names = self.known.name_count();

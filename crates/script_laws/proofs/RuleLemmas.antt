@@ -67,7 +67,9 @@ module _ (line : ℕ) (s after : State) (good : IsGood s) where
       let signature = both (spec.signature_of line function s) _ after e in
       let takes = signature.part.takes in
       let gives = signature.part.gives in
-      let body = both (body_of s.types function.argument takes gives function.body) _ after signature.then in
+      let body =
+      both (body_of s.types function.argument takes gives function.body) _ after
+      signature.then in
       subst IsGood (ok-same _ after body.then) (record {
         functions =
             All-push (λ (entry : List ℕ × Function). IsWellTyped entry.1) s.functions _

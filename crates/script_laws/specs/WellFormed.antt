@@ -30,7 +30,8 @@ function_at functions number = option_map (λ entry. entry.1) (slice_get functio
 -- ---- how a collection is made
 
 -- by a function that takes the members and gives this type
-pub record IsDone (functions : Named Function) (nodes : Named Node) (source called : ℕ) (type : Ty) : Type 0 where
+pub record IsDone (functions : Named Function) (nodes : Named Node)
+    (source called : ℕ) (type : Ty) : Type 0 where
   pub function : Function
   pub calls : function_at functions called ≡ Some function
   pub takes : members_at nodes source ≡ Some function.signature.takes
@@ -102,7 +103,7 @@ pub record HasColumns (nodes : Named Node) (output : Output) : Type 0 where
   pub reads : members_at nodes output.reads ≡ Some type
   pub columns : columns_of type ≡ Some output.columns
 
--- a function's body keeps the rules, where names of types stand for what they stood for at its place
+-- a function's body keeps the rules, where names stand for the types that they stood for there
 abbrev pub IsWellTyped : Function → Type 0
 IsWellTyped function =
     body_of function.types function.argument function.signature.takes function.signature.gives

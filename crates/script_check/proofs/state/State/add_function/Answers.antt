@@ -1,4 +1,4 @@
-use Rattle.std.proofs.Common.{◌≡◌, ◌<◌, ◌≤◌, false, is_some, List, length, map, take, refl, sym, ap, ◌∙◌, subst, arith}
+use Rattle.std.proofs.Common.{◌≡◌, ℕ, ◌<◌, false, is_some, List, length, map, take, sym, ap, ◌∙◌, subst, arith}
 use Rattle.std.proofs.Math.Seq.{take-length}
 use Rattle.flume_types.specs.declared.types.Ty.{Ty}
 use Rattle.written_types.specs.Named.{Named, find}
@@ -29,7 +29,7 @@ invariant_of-self-2 c =
     let gives =
     subst (λ checking. c.args.signature.gives < length checking.types) (sym c.self.view_is)
     c.requires.gives in
-    let as_written : Named Ty → List Ty → Function = λ names types. record {
+    let function : Named Ty → List Ty → Function = λ names types. record {
       types = names;
       argument = c.args.function.argument;
       signature = signature_in types c.args.signature;
@@ -37,24 +37,23 @@ invariant_of-self-2 c =
     } in
     let does =
     subst
-    (λ (checking : Checking). Does c.args.block (as_written checking.state.types checking.types))
+    (λ (checking : Checking).
+    Does c.args.block (function checking.state.types checking.types))
     (sym c.self.view_is) c.requires.does in
     let all : take c.name_count-type_names.result own.known.names ≡ own.known.names =
     ap (λ n. take n own.known.names) c.name_count-type_names.ensures
     ∙ take-length own.known.names in
-    record {
-      functions_held =
-          within-put (function_in own.known) own.functions c.insert.new.self c.args.function.name held
-          (none-is _ new) c.in_ok-insert.ensures.entries (FunctionIn own.known)
-          c.self.invariant.functions_held
-          (record {
-            takes = takes;
-            gives = gives;
-            named = omega (arith, c.name_count-type_names.ensures);
-            does = subst (λ names. Does c.args.block (as_written names own.known.types)) (sym all) does;
-          });
-      nodes_held = c.self.invariant.nodes_held;
-    }
+    let in_ : FunctionIn own.known held = record {
+      takes = takes;
+      gives = gives;
+      named = omega (arith, c.name_count-type_names.ensures);
+      does = subst (λ names. Does c.args.block (function names own.known.types)) (sym all) does;
+    } in (
+      within-put (function_in own.known) own.functions c.insert.new.self c.args.function.name held
+          (none-is _ new) c.in_ok-insert.ensures.entries
+          (λ (entry : List ℕ × HeldFunction). FunctionIn own.known entry.1) c.self.invariant.0 in_,
+      c.self.invariant.1,
+    )
 
 pub returns-clause-state : goal.returns-clause-state
 returns-clause-state c =
@@ -73,7 +72,8 @@ returns-clause-state c =
     mapped-put (function_in own.known) own.functions c.insert.new.self c.args.function.name held
     (none-is _ new) c.in_ok-insert.ensures.entries in
     let all : take c.name_count-type_names.result own.known.names ≡ own.known.names =
-    ap (λ n. take n own.known.names) c.name_count-type_names.ensures ∙ take-length own.known.names in
+    ap (λ n. take n own.known.names) c.name_count-type_names.ensures
+    ∙ take-length own.known.names in
     let here : State = record {
       types = own.known.names;
       functions = map (function_of own.known) c.insert.new.self.entries;
