@@ -1,7 +1,9 @@
-//! Tests of the checker of scripts: tables of scripts over `parse` and `check`, with the first fault
-//! of each, or that it is accepted.
+//! Tests of the checker of scripts: tables of scripts over `parse` and `check`, with the first
+//! fault of each, or that it is accepted.
 #![tactic(auto)]
 
+#[cfg(test)]
+mod bodies;
 #[cfg(test)]
 mod limits;
 #[cfg(test)]

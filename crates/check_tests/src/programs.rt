@@ -67,6 +67,7 @@ fn functions_and_types(rt: HostRuntime) -> Result<(), Fail> {
         assert!(rt; program.function(0).argument.is(b"x"));
         assert_eq!(rt; program.function(0).type_names, 1);
         assert_eq!(rt; program.function(1).body.len(), 1);
+        assert_eq!(rt; program.function(1).block.len(), 1);
         assert_eq!(rt; (pair.scale, same.scale), (300, 100));
         assert!(rt; program.types().same(pair.takes, same.gives));
         assert!(rt; program.types().same(pair.gives, program.node(1).ty));

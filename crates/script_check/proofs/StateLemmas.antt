@@ -1,6 +1,6 @@
 -- What is in memory, as contracts see it: look-ups, one more, and what stays as types are added.
-use Rattle.std.proofs.Common.{◌≡◌, ℕ, ◌<◌, ◌≤◌, false, List, ◌∷◌, [], ◌++◌, length, map, take, Option, Some, None, is_some, refl, sym, ap, ◌∙◌, arith}
-use Rattle.std.specs.List.{All, position, position_or_len}
+use Rattle.std.proofs.Common.{◌≡◌, ℕ, ◌<◌, ◌≤◌, false, List, ◌∷◌, [], ◌++◌, length, map, take, get_or, Option, Some, None, is_some, refl, sym, ap, ◌∙◌, subst, arith}
+use Rattle.std.specs.List.{position, position_or_len}
 use Rattle.std.specs.Option.{option_map}
 use Rattle.std.specs.Str.{bytes_eq}
 use Rattle.std.specs.Map.{keys_of}
@@ -15,9 +15,9 @@ use Rattle.script_check.specs.declared.made.Function.{Function as HeldFunction}
 use Rattle.script_check.specs.declared.made.Signature.{Signature as HeldSignature}
 use Rattle.script_check.specs.declared.made.Node.{Node as HeldNode}
 use Rattle.script_check.specs.declared.made.Output.{Output}
-use Rattle.script_check.specs.Script.{State, place}
+use Rattle.script_check.specs.Script.{place}
 use Rattle.script_check.specs.inner.Held.{function_of, node_of, FunctionIn, NodeIn, AreHeld, checking_of}
-use Rattle.script_check.specs.Program.{signature_in}
+use Rattle.script_check.specs.Program.{signature_in, function_in, Does}
 
 -- ---- look-ups
 
@@ -36,7 +36,8 @@ has-mapped f name names =
     ap is_some (find-mapped f name names) ∙ some-mapped f (find name names)
 
 module _ {A B C : Type 0} (f : A → B) (g : ℕ → B → C) (name : List ℕ) (names : Named A) where
-  placed-mapped : option_map (g (place name (map (mapped f) names))) (find name (map (mapped f) names))
+  placed-mapped :
+      option_map (g (place name (map (mapped f) names))) (find name (map (mapped f) names))
       ≡ option_map (λ x. g (place name names) (f x)) (find name names)
   placed-mapped =
       ap (option_map (g (place name (map (mapped f) names)))) (find-mapped f name names)
@@ -106,40 +107,41 @@ module _ (old new : Known) (more : Grows old new) (functions : Named HeldFunctio
     scale = signature.scale;
   }
 
-  function-kept : (entry : List ℕ × HeldFunction) → FunctionIn old entry
-      → function_of new entry ≡ function_of old entry
-  function-kept entry in_ = λ i. (
-    entry.0,
-    record {
-      types = more.names entry.1.type_names in_.named i;
-      argument = entry.1.argument;
-      signature = signature-kept entry.1.signature in_.takes in_.gives i;
-      body = entry.1.body;
-    },
-  )
+  function-kept : (function : HeldFunction) → FunctionIn old function
+      → function_in new function ≡ function_in old function
+  function-kept function in_ = λ i. record {
+    types = more.names function.type_names in_.named i;
+    argument = function.argument;
+    signature = signature-kept function.signature in_.takes in_.gives i;
+    body = function.body;
+  }
 
   pub functions-kept : map (function_of new) functions ≡ map (function_of old) functions
   functions-kept =
-      same-map (function_of new) (function_of old) (FunctionIn old) function-kept functions
-      held.functions_held
+      same-map (function_of new) (function_of old)
+      (λ (entry : List ℕ × HeldFunction). FunctionIn old entry.1)
+      (λ entry in_ i. (entry.0, function-kept entry.1 in_ i)) functions held.0
 
   pub nodes-kept : map (node_of new.types) nodes ≡ map (node_of old.types) nodes
   nodes-kept =
-      same-map (node_of new.types) (node_of old.types) (NodeIn old)
+      same-map (node_of new.types) (node_of old.types)
+      (λ (entry : List ℕ × HeldNode). NodeIn old entry.1)
       (λ e in_ i. (e.0, record { made = e.1.made; type = more.types.same e.1.ty in_ i })) nodes
-      held.nodes_held
+      held.1
+
+  function-more : (function : HeldFunction) → FunctionIn old function → FunctionIn new function
+  function-more function in_ = record {
+    takes = omega (arith, in_.takes, more.types.longer);
+    gives = omega (arith, in_.gives, more.types.longer);
+    named = omega (arith, in_.named, more.longer);
+    does = subst (Does function.block) (sym (function-kept function in_)) in_.does;
+  }
 
   pub held-more : AreHeld new functions nodes
-  held-more = record {
-    functions_held = λ k e in_.
-        let within = held.functions_held k e in_ in
-        record {
-          takes = omega (arith, within.takes, more.types.longer);
-          gives = omega (arith, within.gives, more.types.longer);
-          named = omega (arith, within.named, more.longer);
-        };
-    nodes_held = λ k e in_. omega (arith, held.nodes_held k e in_, more.types.longer);
-  }
+  held-more = (
+    λ k entry in_. function-more (get_or functions k entry).1 (held.0 k entry in_),
+    λ k entry in_. omega (arith, held.1 k entry in_, more.types.longer),
+  )
 
 pub state-kept : (old new : Known) → Extends old.types new.types → new.names ≡ old.names
     → (functions : Named HeldFunction) (nodes : Named HeldNode) (outputs : Named Output)

@@ -1,6 +1,11 @@
 -- A program: a script over types under numbers.
-use Rattle.std.specs.Prelude.{List, take}
+use Rattle.std.specs.Prelude.{◌≡◌, List, [], ◌∷◌, take}
+use Rattle.flume_value.specs.declared.value.Value.{Value}
 use Rattle.flume_types.specs.declared.types.Ty.{Ty}
+use Rattle.dofn_eval.specs.declared.stmt.Stmt.{Stmt}
+use Rattle.dofn_eval.specs.Run.{means as slots_mean}
+use Rattle.dofn_eval.specs.Typed.{BlockTyped}
+use Rattle.body_check.specs.Call.{means}
 use Rattle.type_table.specs.Table.{type_at}
 use Rattle.written_types.specs.Known.{Known}
 use Rattle.script_check.specs.declared.made.Signature.{Signature as HeldSignature}
@@ -32,3 +37,11 @@ function_in known held = record {
 -- a collection in memory, with its type
 abbrev pub node_in : List Ty → HeldNode → Node
 node_in types held = record { made = held.made; type = type_at types held.ty }
+
+-- A block with slots does what a function does: it is well typed, and means by slots what the
+-- parsed body means by names.
+pub record Does (block : List Stmt) (function : Function) : Type 0 where
+  pub typed : BlockTyped (function.signature.takes ∷ []) block function.signature.gives
+  pub means : (x : Value)
+      → means function.types function.argument function.signature.takes function.body x
+      ≡ slots_mean block x

@@ -12,9 +12,10 @@ use Rattle.flume_grammar.specs.declared.fault.ScriptKind.TheVariants.{TooMany, N
 use Rattle.written_types.specs.Answer.{Checked, ◌>>=◌, unless, or_fault}
 use Rattle.written_types.specs.Named.{Named, fresh}
 use Rattle.written_types.specs.Written.{shallow, whole_type}
+use Rattle.body_check.specs.Bodies.{body_of}
 use Rattle.script_check.specs.declared.made.Made.TheVariants as made
 use Rattle.script_check.specs.Numbers.{number_within}
-use Rattle.script_check.specs.Script.{Signature, Function, Script, State, nothing, script_from, with_type, with_function, with_node, with_output}
+use Rattle.script_check.specs.Script.{Signature, Script, State, nothing, function_from, script_from, with_type, with_function, with_node, with_output}
 use Rattle.script_check.specs.Operations.{collection, made_by}
 
 -- each fault is told on this line
@@ -52,19 +53,11 @@ module _ (line : ℕ) where
     scale ← scale_of function.scale
     Ok (record { takes = takes; gives = gives; scale = scale })
 
-  -- a function as it is written, with its types
-  abbrev pub function_of : Written → Signature → State → Function
-  function_of function signature s = record {
-    types = s.types;
-    argument = function.argument;
-    signature = signature;
-    body = function.body;
-  }
-
   abbrev pub rule_function : Written → State → Checked State
   rule_function function s = do
     signature ← signature_of function s
-    Ok (with_function function.name (function_of function signature s) s)
+    body ← body_of s.types function.argument signature.takes signature.gives function.body
+    Ok (with_function function.name (function_from function signature s) s)
 
   abbrev pub rule_let : List ℕ → Operation → State → Checked State
   rule_let name by s = do

@@ -6,6 +6,7 @@ use Rattle.std.specs.Str.{bytes_eq}
 use Rattle.std.specs.Map.{keys_of}
 use Rattle.flume_types.specs.declared.types.Ty.{Ty}
 use Rattle.flume_grammar.specs.declared.tree.Body.{Body}
+use Rattle.flume_grammar.specs.declared.tree.Function.{Function as Written}
 use Rattle.written_types.specs.Named.{Named, find}
 use Rattle.script_check.specs.declared.made.Made.{Made}
 use Rattle.script_check.specs.declared.made.Output.{Output}
@@ -42,6 +43,15 @@ pub record State : Type 0 where
   pub functions : Named Function
   pub nodes : Named Node
   pub outputs : Named Output
+
+-- a function as it is written, with its types, where names stand for types as in this state
+abbrev pub function_from : Written → Signature → State → Function
+function_from function signature s = record {
+  types = s.types;
+  argument = function.argument;
+  signature = signature;
+  body = function.body;
+}
 
 abbrev pub nothing : State
 nothing = record { types = []; functions = []; nodes = []; outputs = [] }

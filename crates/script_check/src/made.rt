@@ -1,4 +1,5 @@
 use combine_table::Comb;
+use dofn_eval::Block;
 use flume_grammar::Body;
 use flume_types::Columns;
 use flume_value::{Pile, Str};
@@ -44,8 +45,8 @@ pub struct Signature {
     pub scale: u32,
 }
 
-/// A function as it is written, with its types.
-#[derive(PartialEq, Eq, Debug, Drop)]
+/// A function: as it is written, with its types, and with slots in place of the names of its body.
+#[derive(Debug, Drop)]
 pub struct Function {
     /// How many names stand for types in its body: the first so many of the script.
     pub type_names: usize,
@@ -55,6 +56,8 @@ pub struct Function {
     pub signature: Signature,
     /// The statements of its body.
     pub body: Pile<Body>,
+    /// The same with slots in place of names, as a call runs it.
+    pub block: Block,
 }
 
 /// An output.

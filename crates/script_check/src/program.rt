@@ -95,6 +95,7 @@ impl Program {
         requires { number < length self.now.script.functions }
         ensures is { option_map (λ entry. entry.1) (slice_get self.now.script.functions number)
             ≡ Some (spec.function_in self.now.known result.now) }
+        ensures does { spec.Does result.now.block (spec.function_in self.now.known result.now) }
         ensures takes { result.now.signature.takes < length self.now.known.types }
         ensures gives { result.now.signature.gives < length self.now.known.types }
     {

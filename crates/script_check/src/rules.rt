@@ -81,15 +81,8 @@ fn rule_function(
         (spec.rule_function line function state.old.state) }
 {
     let signature = signature_of(alloc, line, &function, state)?;
-    let Written {
-        name,
-        argument,
-        takes: _takes,
-        gives: _gives,
-        scale: _scale,
-        body,
-    } = function;
-    state.add_function(name, argument, signature, body)?;
+    let block = state.block_of(alloc, &function, &signature)?;
+    state.add_function(function, signature, block)?;
     Ok(())
 }
 

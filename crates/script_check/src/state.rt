@@ -5,14 +5,17 @@ ghost use Rattle.type_table.specs.Table.{type_at, tree_of, IsWithin, Extends};
 ghost use Rattle.written_types.specs.Answer.{Gives};
 ghost use Rattle.written_types.specs.Named.{find};
 ghost use Rattle.written_types.specs.Written.{whole_type as whole};
-ghost use Rattle.script_check.specs.Program.{signature_in, node_in};
+ghost use Rattle.script_check.specs.Program.{signature_in, node_in, Does};
+ghost use Rattle.body_check.specs.Bodies.{body_of};
 ghost use Rattle.script_check.specs.Script as spec;
 ghost use Rattle.script_check.specs.inner.Held.{operand_in, callee_in};
 
 use crate::made::{Function, Node, Output, Signature};
 use crate::operand::{Callee, Operand};
 use crate::program::Program;
-use flume_grammar::{Body, ScriptFault, Type};
+use body_check::check_body;
+use dofn_eval::Block;
+use flume_grammar::{Body, Function as Written, ScriptFault, Type};
 use flume_value::{Pile, Str};
 use indexmap::IndexMap;
 use std::alloc::{AllocError, Global};
@@ -126,6 +129,31 @@ impl State {
         whole_type(alloc, line, ty, &mut self.known)
     }
 
+    /// The body of a function with slots in place of names, or its first fault. Nothing else
+    /// changes.
+    pub fn block_of(
+        &mut self,
+        alloc: Global,
+        function: &Written,
+        signature: &Signature,
+    ) -> Result<Block, ScriptFault>
+        requires takes { signature.now.takes < length self.old.types }
+        requires gives { signature.now.gives < length self.old.types }
+        ensures gives { Gives (λ _. tt) result (body_of self.old.state.types
+            function.now.argument (type_at self.old.types signature.now.takes)
+            (type_at self.old.types signature.now.gives) function.now.body) }
+        ensures does { IfOk result (λ block. Does block (spec.function_from function.now
+            (signature_in self.old.types signature.now) self.old.state)) }
+        ensures extends { Extends self.old.types self.new.types }
+        ensures state { self.new.state ≡ self.old.state }
+    {
+        let argument = &function.argument;
+        let body = function.body.as_slice();
+        let takes = signature.takes;
+        let gives = signature.gives;
+        check_body(alloc, &mut self.known, argument, takes, gives, body)
+    }
+
     // ---- what names stand for
 
     /// Whether a name stands for a type.
@@ -222,28 +250,35 @@ impl State {
     /// A function more, under a name that stands for none yet.
     pub fn add_function(
         &mut self,
-        name: Str,
-        argument: Str,
+        function: Written,
         signature: Signature,
-        body: Pile<Body>,
+        block: Block,
     ) -> Result<(), AllocError>
-        requires new { is_some (find name self.old.state.functions) ≡ false }
+        requires new { is_some (find function.name self.old.state.functions) ≡ false }
         requires takes { signature.takes < length self.old.types }
         requires gives { signature.gives < length self.old.types }
-        ensures state { OnOk result (self.new.state ≡ spec.with_function name (record {
-          types = self.old.state.types;
-          argument = argument;
-          signature = signature_in self.old.types signature;
-          body = body;
-        }) self.old.state) }
+        requires does { Does block (spec.function_from function
+            (signature_in self.old.types signature) self.old.state) }
+        ensures state { OnOk result (self.new.state ≡ spec.with_function function.name
+            (spec.function_from function (signature_in self.old.types signature) self.old.state)
+            self.old.state) }
         ensures types { self.new.types ≡ self.old.types }
     {
         let type_names = self.known.name_count();
+        let Written {
+            name,
+            argument,
+            takes: _takes,
+            gives: _gives,
+            scale: _scale,
+            body,
+        } = function;
         let function = Function {
             type_names,
             argument,
             signature,
             body,
+            block,
         };
         self.functions.insert(name, function)?;
         Ok(())

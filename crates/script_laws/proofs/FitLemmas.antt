@@ -15,7 +15,9 @@ fits-more : (functions more : Named Function) (nodes : Named Node) (made : Made)
     → Fits functions nodes made type → Fits (functions ++ more) nodes made type
 fits-more functions more nodes (made.Do source called) type fits = record {
   function = fits.function;
-  calls = mapped-kept (λ (entry : List ℕ × Function). entry.1) functions more called fits.function fits.calls;
+  calls =
+      mapped-kept (λ (entry : List ℕ × Function). entry.1) functions more called fits.function
+      fits.calls;
   takes = fits.takes;
   gives = fits.gives;
 }
@@ -51,7 +53,9 @@ columns-kept : (nodes more : Named Node) (output : Output) → HasColumns nodes 
     → HasColumns (nodes ++ more) output
 columns-kept nodes more output has = record {
   type = has.type;
-  reads = mapped-kept (λ (entry : List ℕ × Node). entry.1.type) nodes more output.reads has.type has.reads;
+  reads =
+      mapped-kept (λ (entry : List ℕ × Node). entry.1.type) nodes more output.reads has.type
+      has.reads;
   columns = has.columns;
 }
 

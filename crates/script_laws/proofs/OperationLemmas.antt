@@ -69,7 +69,9 @@ module _ (line : ℕ) (s : State) where
   pub is-read : (name : List ℕ) (operand : Operand) → spec.collection line name s ≡ Ok operand
       → IsRead s.nodes operand
   is-read name operand e =
-      let found = from (read s.nodes name) (find name s.nodes) operand (there line Unknown _ operand e) in
+      let found =
+      from (read s.nodes name) (find name s.nodes) operand
+      (there line Unknown _ operand e) in
       subst (IsRead s.nodes) found.gives
       (meant-as (λ (node : Node). node.type) (slice_get s.nodes (place name s.nodes)) found.part
       (found-at name s.nodes found.part found.is))
@@ -77,7 +79,9 @@ module _ (line : ℕ) (s : State) where
   is-callee : (name : List ℕ) (callee : Callee) → spec.callee line name s ≡ Ok callee
       → IsCallee s.functions callee
   is-callee name callee e =
-      let found = from (called s.functions name) (find name s.functions) callee (there line Unknown _ callee e) in
+      let found =
+      from (called s.functions name) (find name s.functions) callee
+      (there line Unknown _ callee e) in
       subst (IsCallee s.functions) found.gives (record {
         function = found.part;
         calls =
@@ -150,7 +154,9 @@ module _ (line : ℕ) (functions : Named Function) (nodes : Named Node) where
   join-fits left right node reads_left reads_right e =
       let lefts = both (spec.pair_of line left.type) _ node e in
       let rights = both (spec.pair_of line right.type) _ node lefts.then in
-      let same = both (unless line Mistyped (type_eq lefts.part.key rights.part.key)) _ node rights.then in
+      let same =
+      both (unless line Mistyped (type_eq lefts.part.key rights.part.key)) _ node
+      rights.then in
       let keys : lefts.part.key ≡ rights.part.key =
       same-types lefts.part.key rights.part.key (holds line Mistyped _ same.part same.first) in
       subst NodeFits (ok-same _ node same.then) (record {

@@ -17,8 +17,11 @@ first test (key ∷ keys) = cond (test key) 0 (suc (first test keys))
 one-more : (n : ℕ) → suc n ≡ 1 + n
 one-more n = omega arith
 
-first-is : (test : List ℕ → Bool) (keys : List (List ℕ)) → first test keys ≡ position_or_len test keys
-first-is test keys = is_position_or_len (first test) test refl (λ key keys. ap (cond (test key) 0) (one-more (first test keys))) keys
+first-is : (test : List ℕ → Bool) (keys : List (List ℕ))
+    → first test keys ≡ position_or_len test keys
+first-is test keys =
+    is_position_or_len (first test) test refl
+    (λ key keys. ap (cond (test key) 0) (one-more (first test keys))) keys
 
 -- what an entry's name stands for
 abbrev pub meaning : {A : Type 0} → Option (List ℕ × A) → Option A

@@ -14,17 +14,19 @@ use Rattle.flume_grammar.specs.declared.fault.ScriptKind.TheVariants.{NotFlat, N
 use Rattle.written_types.specs.Answer.{unless, or_fault}
 use Rattle.written_types.specs.Named.{fresh}
 use Rattle.written_types.specs.Written.{shallow, whole_type}
+use Rattle.body_check.specs.Bodies.{body_of}
 use Rattle.script_check.specs.declared.made.Output.{Output}
-use Rattle.script_check.specs.Script.{Script, Node, State, nothing, script_from, with_node}
+use Rattle.script_check.specs.Script.{Function, Script, Node, State, nothing, script_from, with_node}
 use Rattle.script_check.specs.Operations.{collection, made_by}
 use Rattle.script_check.specs.Rules as spec
-use Rattle.script_laws.specs.WellFormed.{Fits, AllFit, HasColumns, IsWellFormed}
+use Rattle.script_laws.specs.WellFormed.{Fits, AllFit, HasColumns, IsWellTyped, IsWellFormed}
 use Rattle.script_laws.proofs.CheckedLemmas.{both, holds, there, ok-same}
 use Rattle.script_laws.proofs.FitLemmas.{all-fit-more, fit-push, outputs-kept}
 use Rattle.script_laws.proofs.OperationLemmas.{is-read, made-fits}
 
 -- what is defined so far is well formed
 record IsGood (s : State) : Type 0 where
+  pub functions : All (λ (entry : List ℕ × Function). IsWellTyped entry.1) s.functions
   pub nodes : AllFit s.functions [] s.nodes
   pub outputs : All (λ (entry : List ℕ × Output). HasColumns s.nodes entry.1) s.outputs
 
@@ -32,6 +34,7 @@ record IsGood (s : State) : Type 0 where
 node-more : (s : State) (name : List ℕ) (node : Node) → IsGood s
     → Fits s.functions s.nodes node.made node.type → IsGood (with_node name node s)
 node-more s name node good fits = record {
+  functions = good.functions;
   nodes = fit-push s.functions [] s.nodes (name, node) good.nodes fits;
   outputs = outputs-kept s.nodes ((name, node) ∷ []) s.outputs good.outputs;
 }
@@ -42,7 +45,11 @@ module _ (line : ℕ) (s after : State) (good : IsGood s) where
   type-good name type e =
       let new = both (fresh line name s.types) _ after e in
       let t = both (whole_type line type s.types) _ after new.then in
-      subst IsGood (ok-same _ after t.then) (record { nodes = good.nodes; outputs = good.outputs })
+      subst IsGood (ok-same _ after t.then) (record {
+        functions = good.functions;
+        nodes = good.nodes;
+        outputs = good.outputs;
+      })
 
   input-good : (name : List ℕ) (type : tree.Type) (file : List ℕ)
       → spec.rule_input line name type file s ≡ Ok after → IsGood after
@@ -58,7 +65,15 @@ module _ (line : ℕ) (s after : State) (good : IsGood s) where
       → IsGood after
   function-good function e =
       let signature = both (spec.signature_of line function s) _ after e in
-      subst IsGood (ok-same _ after signature.then) (record {
+      let takes = signature.part.takes in
+      let gives = signature.part.gives in
+      let body =
+      both (body_of s.types function.argument takes gives function.body) _ after
+      signature.then in
+      subst IsGood (ok-same _ after body.then) (record {
+        functions =
+            All-push (λ (entry : List ℕ × Function). IsWellTyped entry.1) s.functions _
+            good.functions body.first;
         nodes = all-fit-more s.functions _ [] s.nodes good.nodes;
         outputs = good.outputs;
       })
@@ -80,6 +95,7 @@ module _ (line : ℕ) (s after : State) (good : IsGood s) where
       let columns = both (or_fault line NotFlat (columns_of one.part.type)) _ after one.then in
       let new = both (fresh line file s.outputs) _ after columns.then in
       subst IsGood (ok-same _ after new.then) (record {
+        functions = good.functions;
         nodes = good.nodes;
         outputs =
             All-push (λ (entry : List ℕ × Output). HasColumns s.nodes entry.1) s.outputs _
@@ -108,12 +124,18 @@ defined-good (statement ∷ rest) s after good e =
 
 nothing-good : IsGood nothing
 nothing-good = record {
+  functions = All-nil (λ (entry : List ℕ × Function). IsWellTyped entry.1);
   nodes = tt;
   outputs = All-nil (λ (entry : List ℕ × Output). HasColumns [] entry.1);
 }
 
 well-formed-from : (s : State) → IsGood s → 0 < length s.outputs → IsWellFormed (script_from s)
-well-formed-from s good some = record { nodes = good.nodes; outputs = good.outputs; some = some }
+well-formed-from s good some = record {
+  functions = good.functions;
+  nodes = good.nodes;
+  outputs = good.outputs;
+  some = some;
+}
 
 pub well-formed : (statements : List Statement) (script : Script)
     → spec.script_of statements ≡ Ok script → IsWellFormed script

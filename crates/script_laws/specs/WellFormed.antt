@@ -1,6 +1,7 @@
 -- Which scripts are well formed: each collection is made from collections that stand before it, of
--- types that fit, and each output has the columns of the collection that it reads.
-use Rattle.std.specs.Prelude.{◌≡◌, ℕ, ◌<◌, ◌≤◌, List, [], ◌∷◌, ◌++◌, Option, Some, length, slice_get, ⊤}
+-- types that fit, each output has the columns of the collection that it reads, and each function's
+-- body is well typed.
+use Rattle.std.specs.Prelude.{◌≡◌, ℕ, ◌<◌, ◌≤◌, List, [], ◌∷◌, ◌++◌, Option, Some, Ok, length, slice_get, ⊤}
 use Rattle.std.specs.List.{All}
 use Rattle.std.specs.Option.{option_map}
 use Rattle.flume_types.specs.declared.types.Ty.{Ty}
@@ -9,6 +10,7 @@ use Rattle.flume_types.specs.Columns.{columns_of, input_columns_of}
 use Rattle.flume_types.specs.Tables.{table_of}
 use Rattle.combine_table.specs.declared.comb.Comb.{Comb}
 use Rattle.written_types.specs.Named.{Named}
+use Rattle.body_check.specs.Bodies.{body_of}
 use Rattle.script_check.specs.declared.made.Made.{Made}
 use Rattle.script_check.specs.declared.made.Made.TheVariants as made
 use Rattle.script_check.specs.declared.made.Output.{Output}
@@ -28,7 +30,8 @@ function_at functions number = option_map (λ entry. entry.1) (slice_get functio
 -- ---- how a collection is made
 
 -- by a function that takes the members and gives this type
-pub record IsDone (functions : Named Function) (nodes : Named Node) (source called : ℕ) (type : Ty) : Type 0 where
+pub record IsDone (functions : Named Function) (nodes : Named Node)
+    (source called : ℕ) (type : Ty) : Type 0 where
   pub function : Function
   pub calls : function_at functions called ≡ Some function
   pub takes : members_at nodes source ≡ Some function.signature.takes
@@ -100,7 +103,15 @@ pub record HasColumns (nodes : Named Node) (output : Output) : Type 0 where
   pub reads : members_at nodes output.reads ≡ Some type
   pub columns : columns_of type ≡ Some output.columns
 
+-- a function's body keeps the rules, where names stand for the types that they stood for there
+abbrev pub IsWellTyped : Function → Type 0
+IsWellTyped function =
+    body_of function.types function.argument function.signature.takes function.signature.gives
+    function.body
+    ≡ Ok tt
+
 pub record IsWellFormed (script : Script) : Type 0 where
+  pub functions : All (λ entry. IsWellTyped entry.1) script.functions
   pub nodes : AllFit script.functions [] script.nodes
   pub outputs : All (λ entry. HasColumns script.nodes entry.1) script.outputs
   pub some : 0 < length script.outputs

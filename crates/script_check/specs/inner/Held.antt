@@ -11,9 +11,9 @@ use Rattle.script_check.specs.declared.made.Output.{Output}
 use Rattle.script_check.specs.declared.operand.Operand.{Operand as HeldOperand}
 use Rattle.script_check.specs.declared.operand.Callee.{Callee as HeldCallee}
 use Rattle.script_check.specs.declared.pairs.Pair.{Pair as HeldPair}
-use Rattle.script_check.specs.Script.{Function, Node, Script, State, Operand, Callee}
+use Rattle.script_check.specs.Script.{Function, Node, State, Operand, Callee}
 use Rattle.script_check.specs.Operations.{Pair}
-use Rattle.script_check.specs.Program.{Numbered, function_in, node_in}
+use Rattle.script_check.specs.Program.{Numbered, function_in, node_in, Does}
 
 -- ---- operands
 
@@ -64,16 +64,22 @@ numbered_of known functions nodes outputs = record {
   };
 }
 
--- the numbers are those of types, and of the first names
-pub record FunctionIn (known : Known) (entry : List ℕ × HeldFunction) : Type 0 where
-  pub takes : entry.1.signature.takes < length known.types
-  pub gives : entry.1.signature.gives < length known.types
-  pub named : entry.1.type_names ≤ length known.names
+-- the numbers are those of types, and of the first names, and the slots do what the body does
+pub record FunctionIn (known : Known) (held : HeldFunction) : Type 0 where
+  pub takes : held.signature.takes < length known.types
+  pub gives : held.signature.gives < length known.types
+  pub named : held.type_names ≤ length known.names
+  pub does : Does held.block (function_in known held)
 
 -- the number is that of a type
-abbrev pub NodeIn : Known → List ℕ × HeldNode → Type 0
-NodeIn known entry = entry.1.ty < length known.types
+abbrev pub NodeIn : Known → HeldNode → Type 0
+NodeIn known held = held.ty < length known.types
 
-pub record AreHeld (known : Known) (functions : Named HeldFunction) (nodes : Named HeldNode) : Type 0 where
-  pub functions_held : All (FunctionIn known) functions
-  pub nodes_held : All (NodeIn known) nodes
+abbrev pub AreFunctions : Known → Named HeldFunction → Type 0
+AreFunctions known functions = All (λ entry. FunctionIn known entry.1) functions
+
+abbrev pub AreNodes : Known → Named HeldNode → Type 0
+AreNodes known nodes = All (λ entry. NodeIn known entry.1) nodes
+
+abbrev pub AreHeld : Known → Named HeldFunction → Named HeldNode → Type 0
+AreHeld known functions nodes = AreFunctions known functions × AreNodes known nodes

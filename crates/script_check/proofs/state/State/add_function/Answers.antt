@@ -1,9 +1,10 @@
-use Rattle.std.proofs.Common.{◌≡◌, ◌<◌, ◌≤◌, false, is_some, length, map, take, refl, sym, ap, ◌∙◌, subst, arith}
+use Rattle.std.proofs.Common.{◌≡◌, ℕ, ◌<◌, false, is_some, List, length, map, take, sym, ap, ◌∙◌, subst, arith}
 use Rattle.std.proofs.Math.Seq.{take-length}
-use Rattle.written_types.specs.Named.{find}
+use Rattle.flume_types.specs.declared.types.Ty.{Ty}
+use Rattle.written_types.specs.Named.{Named, find}
 use Rattle.script_check.specs.declared.made.Function.{Function as HeldFunction}
-use Rattle.script_check.specs.Script.{State, with_function}
-use Rattle.script_check.specs.Program.{signature_in, function_in}
+use Rattle.script_check.specs.Script.{Function, State, with_function}
+use Rattle.script_check.specs.Program.{signature_in, function_in, Does}
 use Rattle.script_check.specs.inner.Held.{Checking, function_of, node_of, FunctionIn}
 use Rattle.written_types.proofs.NamedLemmas.{mapped-put, within-put}
 use Rattle.script_check.proofs.StateLemmas.{none-is}
@@ -14,12 +15,13 @@ invariant_of-self-2 c =
     let own = c.self.inside in
     let held : HeldFunction = record {
       type_names = c.name_count-type_names.result;
-      argument = c.args.argument;
+      argument = c.args.function.argument;
       signature = c.args.signature;
-      body = c.args.body;
+      body = c.args.function.body;
+      block = c.args.block;
     } in
     let new =
-    subst (λ checking. is_some (find c.args.name checking.state.functions) ≡ false)
+    subst (λ checking. is_some (find c.args.function.name checking.state.functions) ≡ false)
     (sym c.self.view_is) c.requires.new in
     let takes =
     subst (λ checking. c.args.signature.takes < length checking.types) (sym c.self.view_is)
@@ -27,36 +29,51 @@ invariant_of-self-2 c =
     let gives =
     subst (λ checking. c.args.signature.gives < length checking.types) (sym c.self.view_is)
     c.requires.gives in
-    record {
-      functions_held =
-          within-put (function_in own.known) own.functions c.insert.new.self c.args.name held
-          (none-is _ new) c.in_ok-insert.ensures.entries (FunctionIn own.known)
-          c.self.invariant.functions_held
-          (record {
-            takes = takes;
-            gives = gives;
-            named = omega (arith, c.name_count-type_names.ensures);
-          });
-      nodes_held = c.self.invariant.nodes_held;
-    }
+    let function : Named Ty → List Ty → Function = λ names types. record {
+      types = names;
+      argument = c.args.function.argument;
+      signature = signature_in types c.args.signature;
+      body = c.args.function.body;
+    } in
+    let does =
+    subst
+    (λ (checking : Checking).
+    Does c.args.block (function checking.state.types checking.types))
+    (sym c.self.view_is) c.requires.does in
+    let all : take c.name_count-type_names.result own.known.names ≡ own.known.names =
+    ap (λ n. take n own.known.names) c.name_count-type_names.ensures
+    ∙ take-length own.known.names in
+    let in_ : FunctionIn own.known held = record {
+      takes = takes;
+      gives = gives;
+      named = omega (arith, c.name_count-type_names.ensures);
+      does = subst (λ names. Does c.args.block (function names own.known.types)) (sym all) does;
+    } in (
+      within-put (function_in own.known) own.functions c.insert.new.self c.args.function.name held
+          (none-is _ new) c.in_ok-insert.ensures.entries
+          (λ (entry : List ℕ × HeldFunction). FunctionIn own.known entry.1) c.self.invariant.0 in_,
+      c.self.invariant.1,
+    )
 
 pub returns-clause-state : goal.returns-clause-state
 returns-clause-state c =
     let own = c.self.inside in
     let held : HeldFunction = record {
       type_names = c.name_count-type_names.result;
-      argument = c.args.argument;
+      argument = c.args.function.argument;
       signature = c.args.signature;
-      body = c.args.body;
+      body = c.args.function.body;
+      block = c.args.block;
     } in
     let new =
-    subst (λ checking. is_some (find c.args.name checking.state.functions) ≡ false)
+    subst (λ checking. is_some (find c.args.function.name checking.state.functions) ≡ false)
     (sym c.self.view_is) c.requires.new in
     let put =
-    mapped-put (function_in own.known) own.functions c.insert.new.self c.args.name held
+    mapped-put (function_in own.known) own.functions c.insert.new.self c.args.function.name held
     (none-is _ new) c.in_ok-insert.ensures.entries in
     let all : take c.name_count-type_names.result own.known.names ≡ own.known.names =
-    ap (λ n. take n own.known.names) c.name_count-type_names.ensures ∙ take-length own.known.names in
+    ap (λ n. take n own.known.names) c.name_count-type_names.ensures
+    ∙ take-length own.known.names in
     let here : State = record {
       types = own.known.names;
       functions = map (function_of own.known) c.insert.new.self.entries;
@@ -65,11 +82,11 @@ returns-clause-state c =
     } in
     subst
     (λ (checking : Checking). here
-    ≡ with_function c.args.name (record {
+    ≡ with_function c.args.function.name (record {
       types = checking.state.types;
-      argument = c.args.argument;
+      argument = c.args.function.argument;
       signature = signature_in checking.types c.args.signature;
-      body = c.args.body;
+      body = c.args.function.body;
     })
     checking.state)
     c.self.view_is
@@ -80,11 +97,11 @@ returns-clause-state c =
       outputs = own.outputs.entries;
     })
     ∙ ap
-    (λ names. with_function c.args.name (record {
+    (λ names. with_function c.args.function.name (record {
       types = names;
-      argument = c.args.argument;
+      argument = c.args.function.argument;
       signature = signature_in own.known.types c.args.signature;
-      body = c.args.body;
+      body = c.args.function.body;
     })
     (record {
       types = own.known.names;

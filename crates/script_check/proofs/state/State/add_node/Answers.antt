@@ -1,5 +1,6 @@
-use Rattle.std.proofs.Common.{◌≡◌, ◌<◌, false, is_some, length, map, sym, subst}
+use Rattle.std.proofs.Common.{◌≡◌, ℕ, ◌<◌, false, List, is_some, length, map, sym, subst}
 use Rattle.written_types.specs.Named.{find}
+use Rattle.script_check.specs.declared.made.Node.{Node as HeldNode}
 use Rattle.script_check.specs.Script.{State, with_node}
 use Rattle.script_check.specs.Program.{node_in}
 use Rattle.script_check.specs.inner.Held.{function_of, node_of, NodeIn}
@@ -16,14 +17,12 @@ invariant_of-self-2 c =
     (sym c.self.view_is) c.requires.new in
     let within =
     subst (λ checking. node.ty < length checking.types) (sym c.self.view_is)
-    c.requires.within in
-    record {
-      functions_held = c.self.invariant.functions_held;
-      nodes_held =
-          within-put (node_in own.known.types) own.nodes c.insert.new.self c.args.name node
-          (none-is _ new) c.in_ok-insert.ensures.entries (NodeIn own.known)
-          c.self.invariant.nodes_held within;
-    }
+    c.requires.within in (
+      c.self.invariant.0,
+      within-put (node_in own.known.types) own.nodes c.insert.new.self c.args.name node
+          (none-is _ new) c.in_ok-insert.ensures.entries
+          (λ (entry : List ℕ × HeldNode). NodeIn own.known entry.1) c.self.invariant.1 within,
+    )
 
 pub returns-clause-state : goal.returns-clause-state
 returns-clause-state c =

@@ -1,21 +1,11 @@
-use Rattle.std.proofs.Common.{◌≡◌, ℕ, ◌<◌, List, length, get_or, Some, None, sym, subst}
-use Rattle.written_types.specs.Known.{Known}
+use Rattle.std.proofs.Common.{◌≡◌, ℕ, ◌<◌, length, Some, None, sym, subst}
 use Rattle.script_check.specs.inner.Held.{FunctionIn}
 use Rattle.type_table.specs.Table.{type_at}
 use Rattle.script_check.specs.Script.{Callee, Function, find_function}
 use Rattle.script_check.specs.Program.{function_in}
-use Rattle.script_check.specs.declared.made.Function.{Function as HeldFunction}
 use Rattle.written_types.proofs.NamedLemmas.{found-within}
 use Rattle.script_check.proofs.StateLemmas.{placed-found, placed-none}
 use Rattle.script_check.proofs.state.State.function.Goals as goal
-
-renamed : (known : Known) (entry : List ℕ × HeldFunction) (name : List ℕ)
-    → FunctionIn known entry → FunctionIn known (name, entry.1)
-renamed known entry name held = record {
-  takes = held.takes;
-  gives = held.gives;
-  named = held.named;
-}
 
 abbrev called : ℕ → Function → Callee
 called number function = record {
@@ -54,10 +44,8 @@ returns-clause-within c =
     let own = c.self.inside in
     let found = c.in_ok-number in
     let held =
-    found-within (λ (held : HeldFunction). FunctionIn own.known (c.args.name.now, held))
-    c.args.name.now own.functions.entries found.function.now
-    (λ k e in_. renamed own.known (get_or own.functions.entries k e) c.args.name.now (c.self.invariant.functions_held k e in_))
-    (sym found.ensures.value) in
+    found-within (FunctionIn own.known) c.args.name.now own.functions.entries
+    found.function.now c.self.invariant.0 (sym found.ensures.value) in
     subst
     (λ checking.
     (found.function.now.signature.takes < length checking.types)

@@ -39,4 +39,4 @@ returns-clause-within c =
     let found = c.in_ok-number in
     subst (λ checking. found.node.now.ty < length checking.types) c.self.view_is
     (found-within (λ (held : HeldNode). held.ty < length own.known.types) c.args.name.now
-    own.nodes.entries found.node.now c.self.invariant.nodes_held (sym found.ensures.value))
+    own.nodes.entries found.node.now c.self.invariant.1 (sym found.ensures.value))

@@ -1,0 +1,99 @@
+use Rattle.std.proofs.Common.{◌≡◌, ◌+◌, Ok, drop, sym, ap, ◌∙◌, subst}
+use Rattle.std.proofs.lemmas.Result.{err_from_is_err_and}
+use Rattle.flume_types.specs.declared.types.Ty.{Ty}
+use Rattle.flume_grammar.specs.declared.fault.ScriptKind.TheVariants.{Mistyped}
+use Rattle.type_table.specs.Table.{type_at}
+use Rattle.type_table.proofs.TableLemmas.{Extends-twice}
+use Rattle.written_types.specs.Answer.{Gives, Fails, or_fault}
+use Rattle.written_types.proofs.FailsLemmas.{Fails-first, Fails-same}
+use Rattle.expression_check.specs.Fields.{side_types}
+use Rattle.expression_check.specs.Slots.{typed}
+use Rattle.body_check.specs.inner.Slots.{Placed, block, block_slots, both_slots, placed_of}
+use Rattle.body_check.proofs.PlacedLemmas.{placed-If, placed-For, placed-Case}
+use Rattle.body_check.proofs.SightLemmas.{behind-twice, next-placed, case-goes-on}
+use Rattle.body_check.proofs.statements.+block.Goals as goal
+
+pub block-loop-statement-preserved : goal.block-loop-statement-preserved
+block-loop-statement-preserved t c =
+    let gives = c.args.frame.now.gives in
+    let statements = c.args.statements.now in
+    let i = c.loop-statement.statement-index in
+    let old = c.loop-statement.frame in
+    let new = c.placed.new.frame in
+    let is = c.loop-statement.invariant in
+    let x : Placed = (c.in_ok-one.one, new.sight) in
+    let one : placed_of gives c.statement-item.result old.sight ≡ Ok x =
+    ap (λ g. placed_of g c.statement-item.result old.sight) (sym is.result_)
+    ∙ c.in_ok-one.ensures.gives in
+    record {
+      gives =
+          ap (block_slots (placed_of gives) (drop
+          (i + 1) statements) new.sight) c.in_ok-push.ensures.ok
+          ∙ next-placed gives statements i c.statement-item.result old.sight
+          c.loop-statement.slots x
+          c.loop-statement-test.true c.statement-item.is one
+          ∙ is.gives;
+      extends =
+          Extends-twice c.args.frame.now.types old.types new.types is.extends
+          c.placed.ensures.extends;
+      known = c.placed.ensures.known ∙ is.known;
+      kept =
+          behind-twice c.args.frame.now.sight.names old.sight.names new.sight.names is.kept
+          c.in_ok-one.ensures.kept;
+      result_ = c.placed.ensures.result_ ∙ is.result_;
+    }
+
+pub placed-returns-in-If-clause-gives : goal.placed-returns-in-If-clause-gives
+placed-returns-in-If-clause-gives t c =
+    let gives = c.args.frame.now.gives in
+    let s = c.args.frame.now.sight in
+    subst (Gives (λ k. (k, c.place_if.new.frame.sight)) c.place_if.result)
+    (sym (ap (λ st. placed_of gives st s) c.in-If.is
+    ∙ placed-If gives c.in-If.line c.in-If.e c.in-If.a c.in-If.b s)) c.place_if.ensures.gives
+
+pub placed-returns-in-For-clause-gives : goal.placed-returns-in-For-clause-gives
+placed-returns-in-For-clause-gives t c =
+    let gives = c.args.frame.now.gives in
+    let s = c.args.frame.now.sight in
+    subst (Gives (λ k. (k, c.place_for.new.frame.sight)) c.place_for.result)
+    (sym (ap (λ st. placed_of gives st s) c.in-For.is
+    ∙ placed-For gives c.in-For.line c.in-For.name c.in-For.e c.in-For.body s))
+    c.place_for.ensures.gives
+
+pub placed-returns-in-Case-clause-gives : goal.placed-returns-in-Case-clause-gives
+placed-returns-in-Case-clause-gives t c =
+    let gives = c.args.frame.now.gives in
+    let s = c.args.frame.now.sight in
+    subst (Gives (λ k. (k, c.place_case.new.frame.sight)) c.place_case.result)
+    (sym (ap (λ st. placed_of gives st s) c.in-Case.is
+    ∙ placed-Case gives c.in-Case.line c.in-Case.e c.in-Case.left c.in-Case.a c.in-Case.right
+    c.in-Case.b s)) c.place_case.ensures.gives
+
+pub place_case-returns-in_err-both-clause-gives : goal.place_case-returns-in_err-both-clause-gives
+place_case-returns-in_err-both-clause-gives t c =
+    let p = err_from_is_err_and c.from_residual-in_err-both.result
+    c.from_residual-in_err-both.ensures.1 in
+    let line = c.args.line in
+    let s = c.args.frame.now.sight in
+    let gives = c.args.frame.now.gives in
+    let mid = c.resolve.new.self in
+    let e = c.in_err-both.field-0.0 in
+    let left = c.args.names.left.now in
+    let right_ = c.args.names.right.now in
+    let a = c.args.blocks.first.now in
+    let b = c.args.blocks.second.now in
+    let x = c.in_ok-x.x in
+    let sides = c.in_ok-sides.sides in
+    let types_of : Ty × Ty = (type_at mid.types sides.left, type_at mid.types sides.right) in
+    let has = subst (λ ts. or_fault line Mistyped (side_types (type_at ts x.ty))
+    ≡ Ok (type_at ts sides.left, type_at ts sides.right)) c.types.ensures
+    c.in_ok-sides.ensures.gives in
+    let fails = subst (λ g. Fails e (both_slots line types_of left (block (placed_of g) a) right_
+    (block (placed_of g) b) s)) c.resolve.ensures.result_
+    (subst (λ t. Fails e (both_slots line types_of left (block (placed_of mid.gives) a) right_
+    (block (placed_of mid.gives) b) t)) c.resolve.ensures.sight c.in_err-both.ensures.gives) in
+    rw (p.1, p.2) (Fails-same e _ _
+    (case-goes-on line c.args.e.now left right_ (block (placed_of gives) a) (block
+    (placed_of gives) b) s
+    (typed mid.types x) types_of c.in_ok-x.ensures.gives has)
+    (Fails-first e _ _ fails))

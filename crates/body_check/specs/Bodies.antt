@@ -1,0 +1,65 @@
+-- The rules of a function's body, or its first fault, on the line of the innermost statement.
+use Rattle.std.specs.Prelude.{ℕ, List, [], ◌∷◌, Ok}
+use Rattle.flume_types.specs.declared.types.Ty.{Ty, out-Ty}
+use Rattle.flume_grammar.specs.declared.tree.Body.{Body, Body-F, fold-Body}
+use Rattle.flume_grammar.specs.declared.fault.ScriptKind.TheVariants.{Mistyped}
+use Rattle.written_types.specs.Answer.{Checked, ◌>>=◌, unless, or_fault}
+use Rattle.written_types.specs.Named.{Named, fresh}
+use Rattle.expression_check.specs.Sight.{Sight, with_name}
+use Rattle.expression_check.specs.Fields.{member_type, side_types}
+use Rattle.expression_check.specs.Types.{is_same, is_bool, type_of}
+
+-- statements one after another, where f gives what is in sight after each
+abbrev pub after_all : {X : Type 0} → (X → Sight → Checked Sight) → List X → Sight → Checked Sight
+after_all f [] s = Ok s
+after_all f (statement ∷ rest) s = do
+  next ← f statement s
+  after_all f rest next
+
+-- what the function emits has this type
+module _ (gives : Ty) where
+  -- what is in sight after each form of statement
+  abbrev pub layer_after : {X : Type 0} → (X → Sight → Checked Sight) →
+      Body-F X → Sight → Checked Sight
+  layer_after f (Body-F.Let line name e) s = do
+    new ← fresh line name s.names
+    t ← type_of line e s
+    Ok (with_name name t s)
+  layer_after f (Body-F.Emit line e) s = do
+    t ← type_of line e s
+    same ← unless line Mistyped (is_same t gives)
+    Ok s
+  layer_after f (Body-F.If line e a b) s = do
+    t ← type_of line e s
+    test ← unless line Mistyped (is_bool (out-Ty t))
+    then_ ← after_all f a s
+    else_ ← after_all f b s
+    Ok s
+  layer_after f (Body-F.For line name e block) s = do
+    new ← fresh line name s.names
+    t ← type_of line e s
+    member ← or_fault line Mistyped (member_type t)
+    inner ← after_all f block (with_name name member s)
+    Ok s
+  layer_after f (Body-F.Case line e left a right b) s = do
+    t ← type_of line e s
+    sides ← or_fault line Mistyped (side_types t)
+    new ← fresh line left s.names
+    on_left ← after_all f a (with_name left sides.0 s)
+    also ← fresh line right s.names
+    on_right ← after_all f b (with_name right sides.1 s)
+    Ok s
+
+  -- what is in sight after a statement, or its first fault
+  abbrev pub after : Body → Sight → Checked Sight
+  after = fold-Body (Sight → Checked Sight) (layer_after (λ m. m))
+
+-- what is in sight at a body's start: the argument, where these names stand for types
+abbrev pub at_start : Named Ty → List ℕ → Ty → Sight
+at_start known argument takes = record { known = known; names = (argument, takes) ∷ [] }
+
+-- the first fault of the body of a function that takes and gives values of these types
+abbrev pub body_of : Named Ty → List ℕ → Ty → Ty → List Body → Checked (Unit {0})
+body_of known argument takes gives body = do
+  end ← after_all (after gives) body (at_start known argument takes)
+  Ok tt

@@ -1,0 +1,71 @@
+ghost use Rattle.std.specs.Prelude.{◌≡◌, ◌<◌, [], ◌∷◌, length, IfOk};
+ghost use Rattle.flume_value.specs.declared.value.Value.{Value as Value_};
+ghost use Rattle.dofn_eval.specs.Run.{means as slots_mean};
+ghost use Rattle.dofn_eval.specs.Typed.{BlockTyped};
+ghost use Rattle.type_table.specs.Table.{type_at, Extends};
+ghost use Rattle.written_types.specs.Answer.{Gives};
+ghost use Rattle.body_check.specs.Bodies.{at_start, body_of};
+ghost use Rattle.body_check.specs.Call.{means};
+ghost use Rattle.body_check.specs.inner.Slots as spec;
+
+use crate::frame::Frame;
+use crate::statements::block;
+use dofn_eval::Block;
+use expression_check::Scope;
+use flume_grammar::{Body, ScriptFault};
+use flume_value::Str;
+use std::alloc::Global;
+use std::mem::replace;
+use type_table::TypeId;
+use written_types::TypeNames;
+
+/// The body of a function that takes and gives values of these types, with slots in place of
+/// names; or its first fault, on the line of the innermost statement. The argument's name is in
+/// sight of the body. Every name of a type keeps its type.
+pub fn check_body(
+    alloc: Global,
+    known: &mut TypeNames,
+    argument: &Str,
+    takes: TypeId,
+    gives: TypeId,
+    body: &[Body],
+) -> Result<Block, ScriptFault>
+    requires takes { takes < length known.old.types }
+    requires gives { gives < length known.old.types }
+    ensures gives { Gives (λ _. tt) result (body_of known.old.names argument.now
+        (type_at known.old.types takes) (type_at known.old.types gives) body.now) }
+    ensures typed { IfOk result (λ block. BlockTyped (type_at known.old.types takes ∷ []) block
+        (type_at known.old.types gives)) }
+    // A call of it means what the body means, where names stand for values.
+    ensures same { IfOk result (λ block. (x : Value_) →
+        means known.old.names argument.now (type_at known.old.types takes) body.now x
+        ≡ slots_mean block x) }
+    ensures extends { Extends known.old.types known.new.types }
+    ensures names { known.new.names ≡ known.old.names }
+{
+    let taken = replace(known, TypeNames::new(alloc));
+    let mut frame = Frame::new(Scope::new(alloc, taken), gives);
+    let slots = slots_of(alloc, argument, takes, body, &mut frame);
+    *known = frame.into_scope().into_known();
+    slots
+}
+
+/// The slots of a body, where no name of a value is in sight but the argument's.
+fn slots_of(
+    alloc: Global,
+    argument: &Str,
+    takes: TypeId,
+    body: &[Body],
+    frame: &mut Frame,
+) -> Result<Block, ScriptFault>
+    requires takes { takes < length frame.old.types }
+    requires names { frame.old.sight.names ≡ [] }
+    ensures gives { Gives (λ k. k) result (spec.block (spec.placed_of frame.old.gives) body.now
+        (at_start frame.old.sight.known argument.now (type_at frame.old.types takes))) }
+    ensures extends { Extends frame.old.types frame.new.types }
+    ensures known { frame.new.sight.known ≡ frame.old.sight.known }
+{
+    let name = argument.copy(alloc)?;
+    frame.add(name, takes)?;
+    block(alloc, body, frame)
+}

@@ -1,0 +1,121 @@
+ghost use Rattle.std.specs.Prelude.{◌≡◌, ◌<◌, ◌-◌, None, length, drop, is_some, IfOk, OnOk};
+ghost use Rattle.type_table.specs.Table.{type_at, Extends};
+ghost use Rattle.written_types.specs.Answer.{Gives};
+ghost use Rattle.written_types.specs.Named.{find};
+ghost use Rattle.expression_check.specs.Sight.{with_name};
+ghost use Rattle.expression_check.specs.Slots.{slots_of, typed};
+ghost use Rattle.expression_check.specs.Types.{is_same};
+
+use expression_check::{Scope, Typed, resolve};
+use flume_grammar::{Expr, ScriptFault};
+use flume_value::Str;
+use std::alloc::{AllocError, Global};
+use std::marker::Model;
+use type_table::{TypeId, Types};
+
+/// What is in sight of a statement, and the type of what the function emits.
+#[derive(Drop)]
+pub struct Frame {
+    scope: Scope,
+    gives: TypeId,
+}
+
+impl Model for Frame {
+    ghost use Rattle.std.specs.Prelude.{◌<◌, length};
+    ghost use Rattle.std.specs.Coded.{codes};
+    ghost use Rattle.flume_types.specs.contracts.types.Ty as coded_types;
+    ghost use Rattle.body_check.specs.inner.Frames.{InBody, in_body};
+
+    ghost Value = { InBody };
+
+    ghost coded = { Prim.hlevel (codes, coded_types.the_row.coded) };
+
+    ghost view = { λ f. in_body f.scope f.gives };
+
+    ghost invariant = { λ f. f.gives < length f.scope.types };
+}
+
+impl Frame {
+    /// A function that emits values of this type.
+    pub fn new(scope: Scope, gives: TypeId) -> Frame
+        requires { gives < length scope.types }
+        ensures types { result.types ≡ scope.types }
+        ensures sight { result.sight ≡ scope.sight }
+        ensures result_ { result.gives ≡ type_at scope.types gives }
+    {
+        Frame { scope, gives }
+    }
+
+    /// What is in sight.
+    pub fn into_scope(self) -> Scope
+        ensures types { result.types ≡ self.types }
+        ensures sight { result.sight ≡ self.sight }
+    {
+        let Frame { scope, gives: _ } = self;
+        scope
+    }
+
+    /// The types under numbers.
+    pub fn types(&self) -> &Types
+        ensures { result.now ≡ self.now.types }
+    {
+        self.scope.types()
+    }
+
+    /// Whether the function emits values of this type.
+    pub fn emits(&self, id: TypeId) -> bool
+        requires { id < length self.now.types }
+        ensures { result ≡ is_same (type_at self.now.types id) self.now.gives }
+    {
+        self.scope.types().same(id, self.gives)
+    }
+
+    /// The expression with slots in place of names, and its type; or its first fault.
+    pub fn resolve(&mut self, alloc: Global, line: u32, e: &Expr) -> Result<Typed, ScriptFault>
+        ensures gives { Gives (typed self.new.types) result (slots_of line e.now self.old.sight) }
+        ensures within { IfOk result (λ made. made.ty < length self.new.types) }
+        ensures extends { Extends self.old.types self.new.types }
+        ensures sight { self.new.sight ≡ self.old.sight }
+        ensures result_ { self.new.gives ≡ self.old.gives }
+    {
+        resolve(alloc, line, e, &mut self.scope)
+    }
+
+    /// Whether a name is in sight.
+    pub fn has(&self, name: &Str) -> bool
+        ensures { result ≡ is_some (find name.now self.now.sight.names) }
+    {
+        self.scope.has(name)
+    }
+
+    /// How many names are in sight.
+    pub fn len(&self) -> usize
+        ensures { result ≡ length self.now.sight.names }
+    {
+        self.scope.len()
+    }
+
+    /// One name more.
+    pub fn add(&mut self, name: Str, id: TypeId) -> Result<(), AllocError>
+        requires new { find name self.old.sight.names ≡ None }
+        requires within { id < length self.old.types }
+        ensures types { self.new.types ≡ self.old.types }
+        ensures known { self.new.sight.known ≡ self.old.sight.known }
+        ensures sight { OnOk result
+            (self.new.sight ≡ with_name name (type_at self.old.types id) self.old.sight) }
+        ensures result_ { self.new.gives ≡ self.old.gives }
+    {
+        self.scope.add(name, id)
+    }
+
+    /// Leaves so many names in sight, the oldest.
+    pub fn leave(&mut self, len: usize)
+        ensures types { self.new.types ≡ self.old.types }
+        ensures known { self.new.sight.known ≡ self.old.sight.known }
+        ensures names { self.new.sight.names
+            ≡ drop (length self.old.sight.names - len) self.old.sight.names }
+        ensures result_ { self.new.gives ≡ self.old.gives }
+    {
+        self.scope.leave(len);
+    }
+}

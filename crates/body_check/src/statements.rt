@@ -1,0 +1,335 @@
+ghost use Rattle.std.specs.Prelude.{◌≡◌, ◌<◌, [], None, length, IfOk, OnOk};
+ghost use Rattle.flume_types.specs.declared.types.Ty.{out-Ty};
+ghost use Rattle.type_table.specs.Table.{type_at, Extends};
+ghost use Rattle.written_types.specs.Answer.{Gives};
+ghost use Rattle.written_types.specs.Named.{find, fresh};
+ghost use Rattle.expression_check.specs.Sight.{with_name};
+ghost use Rattle.expression_check.specs.Slots.{typed};
+ghost use Rattle.expression_check.specs.Types.{is_bool as is_bool_type};
+ghost use Rattle.body_check.specs.inner.Frames.{IsBehind};
+ghost use Rattle.body_check.specs.inner.Slots as spec;
+ghost use Rattle.body_check.specs.inner.Slots.{placed_of};
+
+use crate::frame::Frame;
+use dofn_eval::{Block, Expr as Slots, Stmt};
+use expression_check::{Sides, Typed, is_bool, member_of, sides_of};
+use flume_grammar::{Body, Expr, ScriptFault, ScriptKind};
+use flume_value::{Pile, Str};
+use std::alloc::Global;
+use type_table::TypeId;
+use written_types::refused;
+
+/// The two blocks of a statement.
+#[derive(Clone, Copy)]
+struct Branches<'a> {
+    first: &'a Pile<Body>,
+    second: &'a Pile<Body>,
+}
+
+/// The slots of two blocks.
+#[derive(Debug, Drop)]
+struct BothBlocks {
+    first: Block,
+    second: Block,
+}
+
+/// The names of the contents of an either's sides.
+#[derive(Clone, Copy)]
+struct SideNames<'a> {
+    left: &'a Str,
+    right: &'a Str,
+}
+
+/// Statements with slots in place of names; or their first fault. What they name stays in sight.
+#[cycle(block)]
+pub fn block(alloc: Global, statements: &[Body], frame: &mut Frame) -> Result<Block, ScriptFault>
+    ensures gives { Gives (λ k. (k, frame.new.sight)) result
+        (spec.block_slots (placed_of frame.old.gives) statements.now frame.old.sight []) }
+    ensures extends { Extends frame.old.types frame.new.types }
+    ensures known { frame.new.sight.known ≡ frame.old.sight.known }
+    ensures kept { OnOk result (IsBehind frame.old.sight.names frame.new.sight.names) }
+    ensures result_ { frame.new.gives ≡ frame.old.gives }
+{
+    let mut slots = Pile::new(alloc);
+    for statement in statements {
+        let one = placed(alloc, statement, frame)?;
+        slots.push(one)?;
+    }
+    Ok(slots)
+}
+
+// One statement with slots in place of names. What it names stays in sight.
+#[cycle(block)]
+#[tactic(auto, using(crate::proofs::PlacedLemmas::placed_rules))]
+fn placed(alloc: Global, statement: &Body, frame: &mut Frame) -> Result<Stmt, ScriptFault>
+    ensures gives { Gives (λ k. (k, frame.new.sight)) result
+        (placed_of frame.old.gives statement.now frame.old.sight) }
+    ensures extends { Extends frame.old.types frame.new.types }
+    ensures known { frame.new.sight.known ≡ frame.old.sight.known }
+    ensures kept { OnOk result (IsBehind frame.old.sight.names frame.new.sight.names) }
+    ensures result_ { frame.new.gives ≡ frame.old.gives }
+{
+    match statement {
+        Body::Let(line, name, e) => place_let(alloc, *line, name, e, frame),
+        Body::Emit(line, e) => place_emit(alloc, *line, e, frame),
+        Body::If(line, e, a, b) => {
+            let blocks = Branches {
+                first: a,
+                second: b,
+            };
+            place_if(alloc, *line, e, blocks, frame)
+        }
+        Body::For(line, name, e, body) => place_for(alloc, *line, name, e, body, frame),
+        Body::Case(line, e, left, a, right, b) => {
+            let names = SideNames { left, right };
+            let blocks = Branches {
+                first: a,
+                second: b,
+            };
+            place_case(alloc, *line, e, names, blocks, frame)
+        }
+    }
+}
+
+fn place_let(
+    alloc: Global,
+    line: u32,
+    name: &Str,
+    e: &Expr,
+    frame: &mut Frame,
+) -> Result<Stmt, ScriptFault>
+    ensures gives { Gives (λ k. (k, frame.new.sight)) result
+        (spec.let_slots line name.now e.now frame.old.sight) }
+    ensures extends { Extends frame.old.types frame.new.types }
+    ensures known { frame.new.sight.known ≡ frame.old.sight.known }
+    ensures kept { OnOk result (IsBehind frame.old.sight.names frame.new.sight.names) }
+    ensures result_ { frame.new.gives ≡ frame.old.gives }
+{
+    let x = new_value(alloc, line, name, e, frame)?;
+    let name = name.copy(alloc)?;
+    frame.add(name, x.ty)?;
+    Ok(Stmt::Let(x.expr))
+}
+
+fn place_emit(alloc: Global, line: u32, e: &Expr, frame: &mut Frame) -> Result<Stmt, ScriptFault>
+    ensures gives { Gives (λ k. (k, frame.new.sight)) result
+        (spec.emit_slots line frame.old.gives e.now frame.old.sight) }
+    ensures extends { Extends frame.old.types frame.new.types }
+    ensures sight { frame.new.sight ≡ frame.old.sight }
+    ensures result_ { frame.new.gives ≡ frame.old.gives }
+{
+    let x = frame.resolve(alloc, line, e)?;
+    if frame.emits(x.ty) {
+        Ok(Stmt::Emit(x.expr))
+    } else {
+        Err(refused(line, ScriptKind::Mistyped))
+    }
+}
+
+#[cycle(block)]
+fn place_if(
+    alloc: Global,
+    line: u32,
+    e: &Expr,
+    blocks: Branches<'_>,
+    frame: &mut Frame,
+) -> Result<Stmt, ScriptFault>
+    ensures gives { Gives (λ k. (k, frame.new.sight)) result (spec.if_slots line e.now
+        (spec.block (placed_of frame.old.gives) blocks.entry.first.now)
+        (spec.block (placed_of frame.old.gives) blocks.entry.second.now) frame.old.sight) }
+    ensures extends { Extends frame.old.types frame.new.types }
+    ensures known { frame.new.sight.known ≡ frame.old.sight.known }
+    ensures sight { OnOk result (frame.new.sight ≡ frame.old.sight) }
+    ensures result_ { frame.new.gives ≡ frame.old.gives }
+{
+    let test = truth(alloc, line, e, frame)?;
+    let a = inner(alloc, blocks.first, frame)?;
+    let b = inner(alloc, blocks.second, frame)?;
+    Ok(Stmt::If(test, a, b))
+}
+
+#[cycle(block)]
+fn place_for(
+    alloc: Global,
+    line: u32,
+    name: &Str,
+    e: &Expr,
+    body: &Pile<Body>,
+    frame: &mut Frame,
+) -> Result<Stmt, ScriptFault>
+    ensures gives { Gives (λ k. (k, frame.new.sight)) result (spec.for_slots line name.now e.now
+        (spec.block (placed_of frame.old.gives) body.now) frame.old.sight) }
+    ensures extends { Extends frame.old.types frame.new.types }
+    ensures known { frame.new.sight.known ≡ frame.old.sight.known }
+    ensures sight { OnOk result (frame.new.sight ≡ frame.old.sight) }
+    ensures result_ { frame.new.gives ≡ frame.old.gives }
+{
+    let x = new_value(alloc, line, name, e, frame)?;
+    let member = member_of(line, x.ty, frame.types())?;
+    let turn = named(alloc, name, member, body, frame)?;
+    Ok(Stmt::For(x.expr, turn))
+}
+
+#[cycle(block)]
+fn place_case(
+    alloc: Global,
+    line: u32,
+    e: &Expr,
+    names: SideNames<'_>,
+    blocks: Branches<'_>,
+    frame: &mut Frame,
+) -> Result<Stmt, ScriptFault>
+    ensures gives { Gives (λ k. (k, frame.new.sight)) result (spec.case_slots line e.now
+        names.entry.left.now (spec.block (placed_of frame.old.gives) blocks.entry.first.now)
+        names.entry.right.now (spec.block (placed_of frame.old.gives) blocks.entry.second.now)
+        frame.old.sight) }
+    ensures extends { Extends frame.old.types frame.new.types }
+    ensures known { frame.new.sight.known ≡ frame.old.sight.known }
+    ensures sight { OnOk result (frame.new.sight ≡ frame.old.sight) }
+    ensures result_ { frame.new.gives ≡ frame.old.gives }
+{
+    let x = frame.resolve(alloc, line, e)?;
+    let sides = sides_of(line, x.ty, frame.types())?;
+    let both = both_sides(alloc, line, sides, names, blocks, frame)?;
+    Ok(Stmt::Case(x.expr, both.first, both.second))
+}
+
+// The blocks of both sides.
+#[cycle(block)]
+fn both_sides(
+    alloc: Global,
+    line: u32,
+    sides: Sides,
+    names: SideNames<'_>,
+    blocks: Branches<'_>,
+    frame: &mut Frame,
+) -> Result<BothBlocks, ScriptFault>
+    requires left { sides.left < length frame.old.types }
+    requires right { sides.right < length frame.old.types }
+    ensures gives { Gives (λ both. (both.first, both.second)) result (spec.both_slots line
+        (type_at frame.old.types sides.left, type_at frame.old.types sides.right)
+        names.entry.left.now (spec.block (placed_of frame.old.gives) blocks.entry.first.now)
+        names.entry.right.now (spec.block (placed_of frame.old.gives) blocks.entry.second.now)
+        frame.old.sight) }
+    ensures extends { Extends frame.old.types frame.new.types }
+    ensures known { frame.new.sight.known ≡ frame.old.sight.known }
+    ensures sight { OnOk result (frame.new.sight ≡ frame.old.sight) }
+    ensures result_ { frame.new.gives ≡ frame.old.gives }
+{
+    let first = of_side(alloc, line, names.left, sides.left, blocks.first, frame)?;
+    let second = of_side(alloc, line, names.right, sides.right, blocks.second, frame)?;
+    Ok(BothBlocks { first, second })
+}
+
+// The block of a side, whose content a name that is not in sight yet stands for.
+#[cycle(block)]
+fn of_side(
+    alloc: Global,
+    line: u32,
+    name: &Str,
+    id: TypeId,
+    body: &Pile<Body>,
+    frame: &mut Frame,
+) -> Result<Block, ScriptFault>
+    requires { id < length frame.old.types }
+    ensures gives { Gives (λ k. k) result (spec.side_slots line name.now
+        (type_at frame.old.types id) (spec.block (placed_of frame.old.gives) body.now)
+        frame.old.sight) }
+    ensures extends { Extends frame.old.types frame.new.types }
+    ensures known { frame.new.sight.known ≡ frame.old.sight.known }
+    ensures sight { OnOk result (frame.new.sight ≡ frame.old.sight) }
+    ensures result_ { frame.new.gives ≡ frame.old.gives }
+{
+    unseen(line, name, frame)?;
+    named(alloc, name, id, body, frame)
+}
+
+// A block in which one name more is in sight.
+#[cycle(block)]
+fn named(
+    alloc: Global,
+    name: &Str,
+    id: TypeId,
+    body: &Pile<Body>,
+    frame: &mut Frame,
+) -> Result<Block, ScriptFault>
+    requires new { find name.now frame.old.sight.names ≡ None }
+    requires within { id < length frame.old.types }
+    ensures gives { Gives (λ k. k) result (spec.block (placed_of frame.old.gives) body.now
+        (with_name name.now (type_at frame.old.types id) frame.old.sight)) }
+    ensures extends { Extends frame.old.types frame.new.types }
+    ensures known { frame.new.sight.known ≡ frame.old.sight.known }
+    ensures sight { OnOk result (frame.new.sight ≡ frame.old.sight) }
+    ensures result_ { frame.new.gives ≡ frame.old.gives }
+{
+    let len = frame.len();
+    let name = name.copy(alloc)?;
+    frame.add(name, id)?;
+    let slots = inner(alloc, body, frame)?;
+    frame.leave(len);
+    Ok(slots)
+}
+
+// A block by itself: what it names ends with it.
+#[cycle(block)]
+fn inner(alloc: Global, body: &Pile<Body>, frame: &mut Frame) -> Result<Block, ScriptFault>
+    ensures gives { Gives (λ k. k) result
+        (spec.block (placed_of frame.old.gives) body.now frame.old.sight) }
+    ensures extends { Extends frame.old.types frame.new.types }
+    ensures known { frame.new.sight.known ≡ frame.old.sight.known }
+    ensures sight { OnOk result (frame.new.sight ≡ frame.old.sight) }
+    ensures result_ { frame.new.gives ≡ frame.old.gives }
+{
+    let len = frame.len();
+    let slots = block(alloc, body.as_slice(), frame)?;
+    frame.leave(len);
+    Ok(slots)
+}
+
+// The slots of a test.
+fn truth(alloc: Global, line: u32, e: &Expr, frame: &mut Frame) -> Result<Slots, ScriptFault>
+    ensures gives { Gives (λ k. k) result
+        (spec.slots_as line (λ t. is_bool_type (out-Ty t)) e.now frame.old.sight) }
+    ensures extends { Extends frame.old.types frame.new.types }
+    ensures sight { frame.new.sight ≡ frame.old.sight }
+    ensures result_ { frame.new.gives ≡ frame.old.gives }
+{
+    let x = frame.resolve(alloc, line, e)?;
+    if is_bool(frame.types(), x.ty) {
+        Ok(x.expr)
+    } else {
+        Err(refused(line, ScriptKind::Mistyped))
+    }
+}
+
+// What a name that is not in sight yet is to stand for.
+fn new_value(
+    alloc: Global,
+    line: u32,
+    name: &Str,
+    e: &Expr,
+    frame: &mut Frame,
+) -> Result<Typed, ScriptFault>
+    ensures gives { Gives (typed frame.new.types) result
+        (spec.new_value line name.now e.now frame.old.sight) }
+    ensures new { IfOk result (λ made. find name.now frame.old.sight.names ≡ None) }
+    ensures within { IfOk result (λ made. made.ty < length frame.new.types) }
+    ensures extends { Extends frame.old.types frame.new.types }
+    ensures sight { frame.new.sight ≡ frame.old.sight }
+    ensures result_ { frame.new.gives ≡ frame.old.gives }
+{
+    unseen(line, name, frame)?;
+    frame.resolve(alloc, line, e)
+}
+
+// A name that is not in sight yet.
+fn unseen(line: u32, name: &Str, frame: &Frame) -> Result<(), ScriptFault>
+    ensures gives { Gives (λ _. tt) result (fresh line name.now frame.now.sight.names) }
+    ensures new { OnOk result (find name.now frame.now.sight.names ≡ None) }
+{
+    if frame.has(name) {
+        Err(refused(line, ScriptKind::Twice))
+    } else {
+        Ok(())
+    }
+}

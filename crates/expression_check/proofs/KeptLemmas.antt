@@ -1,0 +1,60 @@
+-- What stays as types are added.
+use Rattle.std.proofs.Common.{◌≡◌, ℕ, ◌+◌, ◌<◌, List, [], ◌∷◌, ◌++◌, length, map, drop, get_or, Ok, arith, sym, ap, ◌∙◌}
+use Rattle.std.proofs.lemmas.List.{map_push, drop_more}
+use Rattle.std.proofs.lemmas.List.Elements.{All-same, All-push}
+use Rattle.flume_types.specs.declared.types.Ty.{Ty}
+use Rattle.flume_grammar.specs.declared.tree.Expr.{Expr}
+use Rattle.dofn_eval.specs.declared.expr.Expr.{Expr as Slots}
+use Rattle.type_table.specs.Table.{type_at, Extends}
+use Rattle.written_types.specs.Answer.{◌>>=◌}
+use Rattle.written_types.proofs.NamedLemmas.{same-map}
+use Rattle.expression_check.specs.declared.typed.Typed.{Typed as Made}
+use Rattle.expression_check.specs.Held.{AreTypes}
+use Rattle.expression_check.specs.Sight.{Sight}
+use Rattle.expression_check.specs.Slots.{Typed, typed, pair_slots, all_slots, pick, pick_slots, slots_of}
+
+pub typed-kept : (old new : List Ty) → Extends old new → (made : Made) → made.ty < length old
+    → typed new made ≡ typed old made
+typed-kept old new more made in_ = λ i. (made.expr, more.same made.ty in_ i)
+
+pub types-kept : (old new : List Ty) → Extends old new → (ids : List ℕ)
+    → AreTypes (length old) ids → map (type_at new) ids ≡ map (type_at old) ids
+types-kept old new more ids all =
+    same-map (type_at new) (type_at old) (λ id. id < length old) more.same ids all
+
+pub types-push : (old new : List Ty) → Extends old new → (ids after : List ℕ) (id : ℕ)
+    → after ≡ ids ++ id ∷ [] → AreTypes (length old) ids
+    → map (type_at new) after ≡ map (type_at old) ids ++ type_at new id ∷ []
+types-push old new more ids after id put all =
+    ap (map (type_at new)) put ∙ map_push (type_at new) ids id
+    ∙ ap (λ ts. ts ++ type_at new id ∷ []) (types-kept old new more ids all)
+
+pub within-push : (old new : List Ty) → Extends old new → (ids after : List ℕ) (id : ℕ)
+    → after ≡ ids ++ id ∷ [] → AreTypes (length old) ids → id < length new
+    → AreTypes (length new) after
+within-push old new more ids after id put all in_ =
+    All-same (λ id. id < length new) after (ids ++ id ∷ []) put
+    (All-push (λ id. id < length new) ids id
+    (λ k d k_in. omega (arith, all k d k_in, more.longer)) in_)
+
+-- ---- parts, from the left
+
+pub next-part : (line : ℕ) (parts : List Expr) (i : ℕ) (part : Expr) (s : Sight)
+    (slots : List Slots) (types : List Ty) (x : Typed) → i < length parts
+    → part ≡ get_or parts i part → slots_of line part s ≡ Ok x
+    → all_slots (slots_of line) (drop (i + 1) parts) s (slots ++ x.0 ∷ []) (types ++ x.1 ∷ [])
+    ≡ all_slots (slots_of line) (drop i parts) s slots types
+next-part line parts i part s slots types x in_ is one =
+    sym (ap (λ rest. all_slots (slots_of line) rest s slots types)
+    (drop_more parts i part in_ ∙ ap (λ y. y ∷ drop (i + 1) parts) (sym is))
+    ∙ ap (λ r. r >>= λ x. all_slots (slots_of line) (drop (i + 1) parts) s (slots ++ x.0 ∷ [])
+    (types ++ x.1 ∷ [])) one)
+
+pub picked-is : (line : ℕ) (c a b : Expr) (s t : Sight) (x y : Typed) (both : Typed × Typed)
+    → slots_of line c s ≡ Ok x → t ≡ s → pair_slots (slots_of line) a b t ≡ Ok both → y ≡ x
+    → pick_slots line (slots_of line) c a b s ≡ pick line y both.0 both.1
+picked-is line c a b s t x y both test same parts kept =
+    ap (λ r. r >>= λ x. pair_slots (slots_of line) a b s >>= λ both. pick line x both.0 both.1) test
+    ∙ ap (λ s. pair_slots (slots_of line) a b s >>= λ both. pick line x both.0 both.1) (sym same)
+    ∙ ap (λ r. r >>= λ both. pick line x both.0 both.1) parts
+    ∙ ap (λ x. pick line x both.0 both.1) (sym kept)

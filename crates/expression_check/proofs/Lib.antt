@@ -1,0 +1,11 @@
+pub mod FormLemmas
+pub mod KeptLemmas
+pub mod NameLemmas
+pub mod OperationLemmas
+pub mod OutcomeLemmas
+pub mod PartsLemmas
+pub mod PlaceLemmas
+pub mod RightLemmas
+pub mod ScopeLemmas
+pub mod SlotLemmas
+pub mod TypeLemmas

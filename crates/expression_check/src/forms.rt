@@ -1,0 +1,287 @@
+//! Each form of expression, from the slots and types of its parts.
+ghost use Rattle.std.specs.Prelude.{◌≡◌, ◌<◌, Ok, length, IfOk};
+ghost use Rattle.flume_value.specs.declared.value.Value.TheVariants as value;
+ghost use Rattle.flume_types.specs.declared.types.Ty.TheVariants as ty_;
+ghost use Rattle.int_text.specs.Ints.{int_of as int_in};
+ghost use Rattle.dofn_eval.specs.declared.expr.Expr.TheVariants as slots;
+ghost use Rattle.type_table.specs.Table.{type_at, Extends};
+ghost use Rattle.written_types.specs.Answer.{Gives};
+ghost use Rattle.expression_check.specs.Held.{AreTypes};
+ghost use Rattle.expression_check.specs.Slots as spec;
+
+use crate::operator::{Operator, one, side_of};
+use crate::parts::place_under;
+use crate::record::{list_type, record_type};
+use crate::scope::Scope;
+use crate::typed::{AllTyped, Typed};
+use crate::types::{binary_type, index_type, list_of, pick_type, side_type, unary_type};
+use dofn_eval::Expr as Slots;
+use flume_grammar::{ScriptFault, ScriptKind, Side, Type, Unary};
+use flume_value::{Held, Pile, Str, Value};
+use int_text::int_of;
+use std::alloc::{AllocError, Global};
+use type_table::{Shape, TypeId, Types};
+use written_types::refused;
+
+pub fn number(line: u32, digits: &Str, scope: &mut Scope) -> Result<Typed, ScriptFault>
+    ensures gives { Gives (spec.typed scope.new.types) result
+        (spec.literal line (int_in digits.now)) }
+    ensures within { IfOk result (λ made. made.ty < length scope.new.types) }
+    ensures extends { Extends scope.old.types scope.new.types }
+    ensures sight { scope.new.sight ≡ scope.old.sight }
+{
+    match int_of(digits.as_bytes()) {
+        Some(n) => Ok(Typed {
+            expr: Slots::Literal(Value::Int(n)),
+            ty: scope.intern(Shape::Int)?,
+        }),
+        None => Err(refused(line, ScriptKind::BadNumber)),
+    }
+}
+
+pub fn text(alloc: Global, text: &Str, scope: &mut Scope) -> Result<Typed, ScriptFault>
+    ensures gives { Gives (spec.typed scope.new.types) result
+        (Ok (slots.Literal (value.Text text.now), ty_.Text)) }
+    ensures within { IfOk result (λ made. made.ty < length scope.new.types) }
+    ensures extends { Extends scope.old.types scope.new.types }
+    ensures sight { scope.new.sight ≡ scope.old.sight }
+{
+    let text = text.copy(alloc)?;
+    let ty = scope.intern(Shape::Text)?;
+    Ok(Typed {
+        expr: Slots::Literal(Value::Text(text)),
+        ty,
+    })
+}
+
+pub fn truth(b: bool, scope: &mut Scope) -> Result<Typed, ScriptFault>
+    ensures gives { Gives (spec.typed scope.new.types) result
+        (Ok (slots.Literal (value.Bool b), ty_.Bool)) }
+    ensures within { IfOk result (λ made. made.ty < length scope.new.types) }
+    ensures extends { Extends scope.old.types scope.new.types }
+    ensures sight { scope.new.sight ≡ scope.old.sight }
+{
+    let ty = scope.intern(Shape::Bool)?;
+    Ok(Typed {
+        expr: Slots::Literal(Value::Bool(b)),
+        ty,
+    })
+}
+
+pub fn variable(line: u32, name: &Str, scope: &Scope) -> Result<Typed, ScriptFault>
+    ensures gives { Gives (spec.typed scope.now.types) result
+        (spec.variable line name.now scope.now.sight.names) }
+    ensures within { IfOk result (λ made. made.ty < length scope.now.types) }
+{
+    match scope.find(name) {
+        Some(at) => Ok(Typed {
+            expr: Slots::Variable(at.place),
+            ty: at.ty,
+        }),
+        None => Err(refused(line, ScriptKind::Unknown)),
+    }
+}
+
+pub fn empty(
+    alloc: Global,
+    line: u32,
+    written: &Type,
+    scope: &mut Scope,
+) -> Result<Typed, ScriptFault>
+    ensures gives { Gives (spec.typed scope.new.types) result
+        (spec.empty line written.now scope.old.sight) }
+    ensures within { IfOk result (λ made. made.ty < length scope.new.types) }
+    ensures extends { Extends scope.old.types scope.new.types }
+    ensures sight { scope.new.sight ≡ scope.old.sight }
+{
+    let member = scope.written(alloc, line, written)?;
+    let ty = list_of(line, member, scope)?;
+    Ok(Typed {
+        expr: Slots::List(Pile::new(alloc)),
+        ty,
+    })
+}
+
+pub fn unary(
+    alloc: Global,
+    line: u32,
+    op: Unary,
+    x: Typed,
+    scope: &mut Scope,
+) -> Result<Typed, ScriptFault>
+    requires { x.ty < length scope.old.types }
+    ensures gives { Gives (spec.typed scope.new.types) result
+        (spec.unary line op (spec.typed scope.old.types x)) }
+    ensures within { IfOk result (λ made. made.ty < length scope.new.types) }
+    ensures extends { Extends scope.old.types scope.new.types }
+    ensures sight { scope.new.sight ≡ scope.old.sight }
+{
+    let ty = unary_type(line, op, x.ty, scope)?;
+    Ok(Typed {
+        expr: Slots::Unary(one(op), Held::new(alloc, x.expr)?),
+        ty,
+    })
+}
+
+pub fn binary(
+    alloc: Global,
+    line: u32,
+    op: Operator,
+    x: Typed,
+    y: Typed,
+    scope: &mut Scope,
+) -> Result<Typed, ScriptFault>
+    requires first { x.ty < length scope.old.types }
+    requires second { y.ty < length scope.old.types }
+    ensures gives { Gives (spec.typed scope.new.types) result
+        (spec.binary line op (spec.typed scope.old.types x) (spec.typed scope.old.types y)) }
+    ensures within { IfOk result (λ made. made.ty < length scope.new.types) }
+    ensures extends { Extends scope.old.types scope.new.types }
+    ensures sight { scope.new.sight ≡ scope.old.sight }
+{
+    let ty = binary_type(line, op, x.ty, y.ty, scope)?;
+    let a = Held::new(alloc, x.expr)?;
+    let b = Held::new(alloc, y.expr)?;
+    let expr = operation(op, a, b);
+    Ok(Typed { expr, ty })
+}
+
+fn operation(op: Operator, a: Held<Slots>, b: Held<Slots>) -> Slots
+    ensures { result ≡ spec.operation op a b }
+{
+    match op {
+        Operator::And => Slots::And(a, b),
+        Operator::Or => Slots::Or(a, b),
+        Operator::Two(op) => Slots::Binary(op, a, b),
+    }
+}
+
+pub fn field(
+    alloc: Global,
+    line: u32,
+    x: Typed,
+    name: &Str,
+    types: &Types,
+) -> Result<Typed, ScriptFault>
+    requires { x.ty < length types.now }
+    ensures gives { Gives (spec.typed types.now) result
+        (spec.field line name.now (spec.typed types.now x)) }
+    ensures within { IfOk result (λ made. made.ty < length types.now) }
+{
+    let at = place_under(line, name, x.ty, types)?;
+    Ok(Typed {
+        expr: Slots::Field(Held::new(alloc, x.expr)?, at.place),
+        ty: at.ty,
+    })
+}
+
+pub fn index(
+    alloc: Global,
+    line: u32,
+    x: Typed,
+    y: Typed,
+    types: &Types,
+) -> Result<Typed, ScriptFault>
+    requires first { x.ty < length types.now }
+    requires second { y.ty < length types.now }
+    ensures gives { Gives (spec.typed types.now) result
+        (spec.index line (spec.typed types.now x) (spec.typed types.now y)) }
+    ensures within { IfOk result (λ made. made.ty < length types.now) }
+{
+    let ty = index_type(line, x.ty, y.ty, types)?;
+    let a = Held::new(alloc, x.expr)?;
+    let b = Held::new(alloc, y.expr)?;
+    Ok(Typed {
+        expr: Slots::Index(a, b),
+        ty,
+    })
+}
+
+pub fn record(
+    alloc: Global,
+    line: u32,
+    names: &[Str],
+    all: AllTyped,
+    scope: &mut Scope,
+) -> Result<Typed, ScriptFault>
+    requires { AreTypes (length scope.old.types) all.types }
+    ensures gives { Gives (spec.typed scope.new.types) result
+        (spec.fields line names.now (spec.all_typed scope.old.types all)) }
+    ensures within { IfOk result (λ made. made.ty < length scope.new.types) }
+    ensures extends { Extends scope.old.types scope.new.types }
+    ensures sight { scope.new.sight ≡ scope.old.sight }
+{
+    let ty = record_type(alloc, line, names, all.types.as_slice(), scope)?;
+    Ok(Typed {
+        expr: Slots::Record(all.exprs),
+        ty,
+    })
+}
+
+pub fn list(line: u32, all: AllTyped, scope: &mut Scope) -> Result<Typed, ScriptFault>
+    requires { AreTypes (length scope.old.types) all.types }
+    ensures gives { Gives (spec.typed scope.new.types) result
+        (spec.members line (spec.all_typed scope.old.types all)) }
+    ensures within { IfOk result (λ made. made.ty < length scope.new.types) }
+    ensures extends { Extends scope.old.types scope.new.types }
+    ensures sight { scope.new.sight ≡ scope.old.sight }
+{
+    let ty = list_type(line, all.types.as_slice(), scope)?;
+    Ok(Typed {
+        expr: Slots::List(all.exprs),
+        ty,
+    })
+}
+
+pub fn sided(
+    alloc: Global,
+    line: u32,
+    side: Side,
+    other: TypeId,
+    x: Typed,
+    scope: &mut Scope,
+) -> Result<Typed, ScriptFault>
+    requires other_in { other < length scope.old.types }
+    requires x_in { x.ty < length scope.old.types }
+    ensures gives { Gives (spec.typed scope.new.types) result
+        (spec.sided line side (type_at scope.old.types other) (spec.typed scope.old.types x)) }
+    ensures within { IfOk result (λ made. made.ty < length scope.new.types) }
+    ensures extends { Extends scope.old.types scope.new.types }
+    ensures sight { scope.new.sight ≡ scope.old.sight }
+{
+    let ty = side_type(line, side, other, x.ty, scope)?;
+    Ok(Typed {
+        expr: Slots::Unary(side_of(side), Held::new(alloc, x.expr)?),
+        ty,
+    })
+}
+
+pub fn pick(
+    alloc: Global,
+    line: u32,
+    test: Typed,
+    x: Typed,
+    y: Typed,
+    types: &Types,
+) -> Result<Typed, ScriptFault>
+    requires test_in { test.ty < length types.now }
+    requires first { x.ty < length types.now }
+    requires second { y.ty < length types.now }
+    ensures gives { Gives (spec.typed types.now) result (spec.pick line
+        (spec.typed types.now test) (spec.typed types.now x) (spec.typed types.now y)) }
+    ensures within { IfOk result (λ made. made.ty < length types.now) }
+{
+    let ty = pick_type(line, test.ty, x.ty, y.ty, types)?;
+    let expr = picked(alloc, test.expr, x.expr, y.expr)?;
+    Ok(Typed { expr, ty })
+}
+
+fn picked(alloc: Global, c: Slots, a: Slots, b: Slots) -> Result<Slots, AllocError>
+    ensures { IfOk result (λ k. k ≡ slots.Pick c a b) }
+{
+    Ok(Slots::Pick(
+        Held::new(alloc, c)?,
+        Held::new(alloc, a)?,
+        Held::new(alloc, b)?,
+    ))
+}
