@@ -91,10 +91,6 @@ all_types f (part ∷ parts) s = do
 
 -- each fault is told on this line
 module _ (line : ℕ) where
-  -- the type that there is
-  abbrev pub has_type : Option Ty → Checked Ty
-  has_type = or_fault line Mistyped
-
   -- the place and the type of a record's field
   abbrev pub place_under : List ℕ → Ty → Checked (ℕ × Ty)
   place_under name type = do
@@ -132,11 +128,11 @@ module _ (line : ℕ) where
   layer_type f (Expr-F.Empty written) s = empty_type written s.known
   layer_type f (Expr-F.Unary op e) s = do
     t ← f e s
-    has_type (unary_type op t)
+    or_fault line Mistyped (unary_type op t)
   layer_type f (Expr-F.Binary op a b) s = do
     t ← f a s
     u ← f b s
-    has_type (binary_type (operator op) t u)
+    or_fault line Mistyped (binary_type (operator op) t u)
   layer_type f (Expr-F.Field e name) s = do
     t ← f e s
     at ← place_under name t
@@ -144,7 +140,7 @@ module _ (line : ℕ) where
   layer_type f (Expr-F.Index a b) s = do
     t ← f a s
     u ← f b s
-    has_type (index_type t u)
+    or_fault line Mistyped (index_type t u)
   layer_type f (Expr-F.Record names parts) s = do
     types ← all_types f parts s
     record_type names types
@@ -158,12 +154,12 @@ module _ (line : ℕ) where
   layer_type f (Expr-F.Concat a b) s = do
     t ← f a s
     u ← f b s
-    has_type (binary_type concat t u)
+    or_fault line Mistyped (binary_type concat t u)
   layer_type f (Expr-F.Pick c a b) s = do
     t ← f c s
     u ← f a s
     w ← f b s
-    has_type (pick_type t u w)
+    or_fault line Mistyped (pick_type t u w)
 
   -- the type of an expression, or its first fault
   abbrev pub type_of : Expr → Sight → Checked Ty
