@@ -41,7 +41,7 @@ impl Frame {
         requires { gives < length scope.types }
         ensures types { result.types ≡ scope.types }
         ensures sight { result.sight ≡ scope.sight }
-        ensures result_ { result.gives ≡ type_at scope.types gives }
+        ensures emits { result.gives ≡ type_at scope.types gives }
     {
         Frame { scope, gives }
     }
@@ -76,7 +76,7 @@ impl Frame {
         ensures within { IfOk result (λ made. made.ty < length self.new.types) }
         ensures extends { Extends self.old.types self.new.types }
         ensures sight { self.new.sight ≡ self.old.sight }
-        ensures result_ { self.new.gives ≡ self.old.gives }
+        ensures emits { self.new.gives ≡ self.old.gives }
     {
         resolve(alloc, line, e, &mut self.scope)
     }
@@ -103,7 +103,7 @@ impl Frame {
         ensures known { self.new.sight.known ≡ self.old.sight.known }
         ensures sight { OnOk result
             (self.new.sight ≡ with_name name (type_at self.old.types id) self.old.sight) }
-        ensures result_ { self.new.gives ≡ self.old.gives }
+        ensures emits { self.new.gives ≡ self.old.gives }
     {
         self.scope.add(name, id)
     }
@@ -114,7 +114,7 @@ impl Frame {
         ensures known { self.new.sight.known ≡ self.old.sight.known }
         ensures names { self.new.sight.names
             ≡ drop (length self.old.sight.names - len) self.old.sight.names }
-        ensures result_ { self.new.gives ≡ self.old.gives }
+        ensures emits { self.new.gives ≡ self.old.gives }
     {
         self.scope.leave(len);
     }

@@ -48,7 +48,7 @@ pub fn block(alloc: Global, statements: &[Body], frame: &mut Frame) -> Result<Bl
     ensures extends { Extends frame.old.types frame.new.types }
     ensures known { frame.new.sight.known ≡ frame.old.sight.known }
     ensures kept { OnOk result (IsBehind frame.old.sight.names frame.new.sight.names) }
-    ensures result_ { frame.new.gives ≡ frame.old.gives }
+    ensures emits { frame.new.gives ≡ frame.old.gives }
 {
     let mut slots = Pile::new(alloc);
     for statement in statements {
@@ -67,7 +67,7 @@ fn placed(alloc: Global, statement: &Body, frame: &mut Frame) -> Result<Stmt, Sc
     ensures extends { Extends frame.old.types frame.new.types }
     ensures known { frame.new.sight.known ≡ frame.old.sight.known }
     ensures kept { OnOk result (IsBehind frame.old.sight.names frame.new.sight.names) }
-    ensures result_ { frame.new.gives ≡ frame.old.gives }
+    ensures emits { frame.new.gives ≡ frame.old.gives }
 {
     match statement {
         Body::Let(line, name, e) => place_let(alloc, *line, name, e, frame),
@@ -103,7 +103,7 @@ fn place_let(
     ensures extends { Extends frame.old.types frame.new.types }
     ensures known { frame.new.sight.known ≡ frame.old.sight.known }
     ensures kept { OnOk result (IsBehind frame.old.sight.names frame.new.sight.names) }
-    ensures result_ { frame.new.gives ≡ frame.old.gives }
+    ensures emits { frame.new.gives ≡ frame.old.gives }
 {
     let x = new_value(alloc, line, name, e, frame)?;
     let name = name.copy(alloc)?;
@@ -116,7 +116,7 @@ fn place_emit(alloc: Global, line: u32, e: &Expr, frame: &mut Frame) -> Result<S
         (spec.emit_slots line frame.old.gives e.now frame.old.sight) }
     ensures extends { Extends frame.old.types frame.new.types }
     ensures sight { frame.new.sight ≡ frame.old.sight }
-    ensures result_ { frame.new.gives ≡ frame.old.gives }
+    ensures emits { frame.new.gives ≡ frame.old.gives }
 {
     let x = frame.resolve(alloc, line, e)?;
     if frame.emits(x.ty) {
@@ -140,7 +140,7 @@ fn place_if(
     ensures extends { Extends frame.old.types frame.new.types }
     ensures known { frame.new.sight.known ≡ frame.old.sight.known }
     ensures sight { OnOk result (frame.new.sight ≡ frame.old.sight) }
-    ensures result_ { frame.new.gives ≡ frame.old.gives }
+    ensures emits { frame.new.gives ≡ frame.old.gives }
 {
     let test = truth(alloc, line, e, frame)?;
     let a = inner(alloc, blocks.first, frame)?;
@@ -162,7 +162,7 @@ fn place_for(
     ensures extends { Extends frame.old.types frame.new.types }
     ensures known { frame.new.sight.known ≡ frame.old.sight.known }
     ensures sight { OnOk result (frame.new.sight ≡ frame.old.sight) }
-    ensures result_ { frame.new.gives ≡ frame.old.gives }
+    ensures emits { frame.new.gives ≡ frame.old.gives }
 {
     let x = new_value(alloc, line, name, e, frame)?;
     let member = member_of(line, x.ty, frame.types())?;
@@ -186,7 +186,7 @@ fn place_case(
     ensures extends { Extends frame.old.types frame.new.types }
     ensures known { frame.new.sight.known ≡ frame.old.sight.known }
     ensures sight { OnOk result (frame.new.sight ≡ frame.old.sight) }
-    ensures result_ { frame.new.gives ≡ frame.old.gives }
+    ensures emits { frame.new.gives ≡ frame.old.gives }
 {
     let x = frame.resolve(alloc, line, e)?;
     let sides = sides_of(line, x.ty, frame.types())?;
@@ -214,7 +214,7 @@ fn both_sides(
     ensures extends { Extends frame.old.types frame.new.types }
     ensures known { frame.new.sight.known ≡ frame.old.sight.known }
     ensures sight { OnOk result (frame.new.sight ≡ frame.old.sight) }
-    ensures result_ { frame.new.gives ≡ frame.old.gives }
+    ensures emits { frame.new.gives ≡ frame.old.gives }
 {
     let first = of_side(alloc, line, names.left, sides.left, blocks.first, frame)?;
     let second = of_side(alloc, line, names.right, sides.right, blocks.second, frame)?;
@@ -238,7 +238,7 @@ fn of_side(
     ensures extends { Extends frame.old.types frame.new.types }
     ensures known { frame.new.sight.known ≡ frame.old.sight.known }
     ensures sight { OnOk result (frame.new.sight ≡ frame.old.sight) }
-    ensures result_ { frame.new.gives ≡ frame.old.gives }
+    ensures emits { frame.new.gives ≡ frame.old.gives }
 {
     unseen(line, name, frame)?;
     named(alloc, name, id, body, frame)
@@ -260,7 +260,7 @@ fn named(
     ensures extends { Extends frame.old.types frame.new.types }
     ensures known { frame.new.sight.known ≡ frame.old.sight.known }
     ensures sight { OnOk result (frame.new.sight ≡ frame.old.sight) }
-    ensures result_ { frame.new.gives ≡ frame.old.gives }
+    ensures emits { frame.new.gives ≡ frame.old.gives }
 {
     let len = frame.len();
     let name = name.copy(alloc)?;
@@ -278,7 +278,7 @@ fn inner(alloc: Global, body: &Pile<Body>, frame: &mut Frame) -> Result<Block, S
     ensures extends { Extends frame.old.types frame.new.types }
     ensures known { frame.new.sight.known ≡ frame.old.sight.known }
     ensures sight { OnOk result (frame.new.sight ≡ frame.old.sight) }
-    ensures result_ { frame.new.gives ≡ frame.old.gives }
+    ensures emits { frame.new.gives ≡ frame.old.gives }
 {
     let len = frame.len();
     let slots = block(alloc, body.as_slice(), frame)?;
@@ -292,7 +292,7 @@ fn truth(alloc: Global, line: u32, e: &Expr, frame: &mut Frame) -> Result<Slots,
         (spec.slots_as line (λ t. is_bool_type (out-Ty t)) e.now frame.old.sight) }
     ensures extends { Extends frame.old.types frame.new.types }
     ensures sight { frame.new.sight ≡ frame.old.sight }
-    ensures result_ { frame.new.gives ≡ frame.old.gives }
+    ensures emits { frame.new.gives ≡ frame.old.gives }
 {
     let x = frame.resolve(alloc, line, e)?;
     if is_bool(frame.types(), x.ty) {
@@ -316,7 +316,7 @@ fn new_value(
     ensures within { IfOk result (λ made. made.ty < length frame.new.types) }
     ensures extends { Extends frame.old.types frame.new.types }
     ensures sight { frame.new.sight ≡ frame.old.sight }
-    ensures result_ { frame.new.gives ≡ frame.old.gives }
+    ensures emits { frame.new.gives ≡ frame.old.gives }
 {
     unseen(line, name, frame)?;
     frame.resolve(alloc, line, e)

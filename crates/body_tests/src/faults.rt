@@ -39,13 +39,14 @@ fn each_kind_has_its_cause(rt: HostRuntime) -> Result<(), Fail> {
 #[test]
 fn the_first_fault_is_told(rt: HostRuntime) -> Result<(), Fail> {
     let alloc = rt.alloc();
-    let table: [(&[u8], u32, ScriptKind); 14] = [
+    let table: [(&[u8], u32, ScriptKind); 15] = [
         // parts from the left, before the whole
         (b"let y = [1, z, 9223372036854775808]", 3, Unknown),
         (b"let y = [1, 9223372036854775808, z]", 3, BadNumber),
         (b"let y = {p: x.c, p: 1}", 3, Unknown),
         (b"let y = x.a + z", 3, Unknown),
-        (b"let y = left<p>(z.q)", 3, Unknown),
+        (b"let y = {p: 1, p: z}", 3, Unknown),
+        (b"let y = left<{p: int, p: int}>(z)", 3, Twice),
         // members of different types, before what is too deep
         (b"let y = [1, [[[[[[[1]]]]]]]]", 3, Mistyped),
         // a name that stands already, before what it would stand for

@@ -13,13 +13,13 @@ use Rattle.dofn_eval.specs.Operations.{of_one, of_two, member_in, chosen}
 use Rattle.dofn_eval.specs.Meaning.{value_of}
 use Rattle.dofn_eval.specs.Typed as typing
 use Rattle.dofn_eval.proofs.MeaningLemmas.{value_of-Unary, value_of-Binary, value_of-And, value_of-Or, value_of-Index, value_of-Pick}
-use Rattle.written_types.specs.Answer.{Checked, ◌>>=◌}
+use Rattle.written_types.specs.Answer.{Checked, ◌>>=◌, or_fault}
 use Rattle.written_types.specs.Written.{shallow}
 use Rattle.expression_check.specs.declared.operator.Operator.{Operator}
 use Rattle.expression_check.specs.declared.operator.Operator.TheVariants.{And, Or, Two}
 use Rattle.expression_check.specs.Sight.{Newest}
 use Rattle.expression_check.specs.Operators.{one, side_of}
-use Rattle.expression_check.specs.Types.{unary_type, binary_type, index_type, pick_type, either_of, has_type}
+use Rattle.expression_check.specs.Types.{unary_type, binary_type, index_type, pick_type, either_of}
 use Rattle.expression_check.specs.Given.{tagged, typed, valued, operated}
 use Rattle.expression_check.specs.Slots.{Typed, operation, unary, binary, index, sided, pick}
 use Rattle.expression_check.specs.Right.{types, IsRight}
@@ -31,13 +31,14 @@ use Rattle.expression_check.proofs.OutcomeLemmas.{Giving, tagged_both, tagged_ch
 module _ (line : ℕ) where
   pub right_unary : (op : Unary) (names : Newest Ty) (o : Checked Typed) (type : Checked Ty)
       (given : Giving) → IsRight names o type given
-      → IsRight names (o >>= λ x. unary line op x) (type >>= λ t. has_type line (unary_type op t))
+      → IsRight names (o >>= λ x. unary line op x)
+      (type >>= λ t. or_fault line Mistyped (unary_type op t))
       (λ env. then (given env) (λ x. typed (unary_type op x.0) (of_one (one op) x.1)))
   right_unary op names (Err f) type given h =
-      ap (λ o. o >>= λ t. has_type line (unary_type op t)) h
+      ap (λ o. o >>= λ t. or_fault line Mistyped (unary_type op t)) h
   right_unary op names (Ok x) type given h =
-      right_made names (expr.Unary (one op) x.0) (has_type line (unary_type op x.1)) _ _
-      (ap (λ o. o >>= λ t. has_type line (unary_type op t)) h.0)
+      right_made names (expr.Unary (one op) x.0) (or_fault line Mistyped (unary_type op x.1)) _ _
+      (ap (λ o. o >>= λ t. or_fault line Mistyped (unary_type op t)) h.0)
       (λ u e. let is = there_is line Mistyped (unary_type op x.1) u e in (
         typing.unary (unary_typed op x.1 u is) h.1,
         same_one names x.0 x.1 u _ (of_one (one op)) given (expr.Unary (one op) x.0) h.2
@@ -103,15 +104,15 @@ module _ (line : ℕ) where
   pub right_binary : (op : Operator) (names : Newest Ty) (o p : Checked Typed) (s r : Checked Ty)
       (g h : Giving) → IsRight names o s g → IsRight names p r h
       → IsRight names (paired o p >>= λ both. binary line op both.0 both.1)
-      (s >>= λ t. r >>= λ u. has_type line (binary_type op t u)) (λ env. operated op (g env)
-      (h env))
+      (s >>= λ t. r >>= λ u. or_fault line Mistyped (binary_type op t u))
+      (λ env. operated op (g env) (h env))
   right_binary op names (Err f) p s r g h a b =
-      ap (λ o. o >>= λ t. r >>= λ u. has_type line (binary_type op t u)) a
+      ap (λ o. o >>= λ t. r >>= λ u. or_fault line Mistyped (binary_type op t u)) a
   right_binary op names (Ok x) (Err f) s r g h a b =
-      λ i. a.0 i >>= λ t. b i >>= λ u. has_type line (binary_type op t u)
+      λ i. a.0 i >>= λ t. b i >>= λ u. or_fault line Mistyped (binary_type op t u)
   right_binary op names (Ok x) (Ok y) s r g h a b =
-      right_made names (operation op x.0 y.0) (has_type line (binary_type op x.1 y.1)) _ _
-      (λ i. a.0 i >>= λ t. b.0 i >>= λ u. has_type line (binary_type op t u))
+      right_made names (operation op x.0 y.0) (or_fault line Mistyped (binary_type op x.1 y.1)) _ _
+      (λ i. a.0 i >>= λ t. b.0 i >>= λ u. or_fault line Mistyped (binary_type op t u))
       (λ w e. let is = there_is line Mistyped (binary_type op x.1 y.1) w e in (
         bool_typed op (types names) x.0 y.0 x.1 y.1 w is a.1 b.1,
         λ vs. (λ i. operated op (a.2 vs i) (b.2 vs i)) ∙ operated_same op x.0 y.0 x.1 y.1 w is vs,
@@ -120,15 +121,15 @@ module _ (line : ℕ) where
   pub right_index : (names : Newest Ty) (o p : Checked Typed) (s r : Checked Ty) (g h : Giving)
       → IsRight names o s g → IsRight names p r h
       → IsRight names (paired o p >>= λ both. index line both.0 both.1)
-      (s >>= λ t. r >>= λ u. has_type line (index_type t u))
+      (s >>= λ t. r >>= λ u. or_fault line Mistyped (index_type t u))
       (λ env. then_both (g env) (h env) (λ x y. typed (index_type x.0 y.0) (member_in x.1 y.1)))
   right_index names (Err f) p s r g h a b =
-      ap (λ o. o >>= λ t. r >>= λ u. has_type line (index_type t u)) a
+      ap (λ o. o >>= λ t. r >>= λ u. or_fault line Mistyped (index_type t u)) a
   right_index names (Ok x) (Err f) s r g h a b =
-      λ i. a.0 i >>= λ t. b i >>= λ u. has_type line (index_type t u)
+      λ i. a.0 i >>= λ t. b i >>= λ u. or_fault line Mistyped (index_type t u)
   right_index names (Ok x) (Ok y) s r g h a b =
-      right_made names (expr.Index x.0 y.0) (has_type line (index_type x.1 y.1)) _ _
-      (λ i. a.0 i >>= λ t. b.0 i >>= λ u. has_type line (index_type t u))
+      right_made names (expr.Index x.0 y.0) (or_fault line Mistyped (index_type x.1 y.1)) _ _
+      (λ i. a.0 i >>= λ t. b.0 i >>= λ u. or_fault line Mistyped (index_type t u))
       (λ w e. let is = there_is line Mistyped (index_type x.1 y.1) w e in
       let q = index_is x.1 y.1 w is in (
         typing.index (subst (typing.Typed (types names) x.0) q.0 a.1)
@@ -143,17 +144,17 @@ module _ (line : ℕ) where
   pub right_pick : (names : Newest Ty) (n o p : Checked Typed) (q s r : Checked Ty) (f g h : Giving)
       → IsRight names n q f → IsRight names o s g → IsRight names p r h
       → IsRight names (n >>= λ c. paired o p >>= λ both. pick line c both.0 both.1)
-      (q >>= λ t. s >>= λ u. r >>= λ w. has_type line (pick_type t u w))
+      (q >>= λ t. s >>= λ u. r >>= λ w. or_fault line Mistyped (pick_type t u w))
       (λ env. chosen (valued (f env)) (g env) (h env))
   right_pick names (Err e) o p q s r f g h c a b =
-      ap (λ o. o >>= λ t. s >>= λ u. r >>= λ w. has_type line (pick_type t u w)) c
+      ap (λ o. o >>= λ t. s >>= λ u. r >>= λ w. or_fault line Mistyped (pick_type t u w)) c
   right_pick names (Ok z) (Err e) p q s r f g h c a b =
-      λ i. c.0 i >>= λ t. a i >>= λ u. r >>= λ w. has_type line (pick_type t u w)
+      λ i. c.0 i >>= λ t. a i >>= λ u. r >>= λ w. or_fault line Mistyped (pick_type t u w)
   right_pick names (Ok z) (Ok x) (Err e) q s r f g h c a b =
-      λ i. c.0 i >>= λ t. a.0 i >>= λ u. b i >>= λ w. has_type line (pick_type t u w)
+      λ i. c.0 i >>= λ t. a.0 i >>= λ u. b i >>= λ w. or_fault line Mistyped (pick_type t u w)
   right_pick names (Ok z) (Ok x) (Ok y) q s r f g h c a b =
-      right_made names (expr.Pick z.0 x.0 y.0) (has_type line (pick_type z.1 x.1 y.1)) _ _
-      (λ i. c.0 i >>= λ t. a.0 i >>= λ u. b.0 i >>= λ w. has_type line (pick_type t u w))
+      right_made names (expr.Pick z.0 x.0 y.0) (or_fault line Mistyped (pick_type z.1 x.1 y.1)) _ _
+      (λ i. c.0 i >>= λ t. a.0 i >>= λ u. b.0 i >>= λ w. or_fault line Mistyped (pick_type t u w))
       (λ w e. let m = pick_is z.1 x.1 y.1 w (there_is line Mistyped
       (pick_type z.1 x.1 y.1) w e) in (
         typing.pick (subst (typing.Typed (types names) z.0) m.0 c.1)

@@ -3,7 +3,7 @@ use Rattle.std.proofs.Common.{ℕ, Ok, Err, List, [], ◌∷◌, map, refl, sym,
 use Rattle.flume_types.specs.declared.types.Ty.{Ty}
 use Rattle.flume_grammar.specs.declared.tree.Side.{Side}
 use Rattle.flume_grammar.specs.declared.tree.Expr.{Expr, Expr-F, out-Expr, roll-Expr, out-roll-Expr, map-Expr, ind-Expr}
-use Rattle.int_text.specs.Ints.{int_of}
+use Rattle.int_text.specs.Ints.{int_of_text}
 use Rattle.dofn_eval.specs.declared.expr.Expr.{Expr as Slots}
 use Rattle.dofn_eval.specs.Outcome.{then}
 use Rattle.dofn_eval.specs.Operations.{of_one}
@@ -58,7 +58,7 @@ module _ (line : ℕ) where
       (layer_type line (type_of line) (map-Expr ((e : Expr) × RightExpr e) Expr plain y) s)
       (λ env. layer_given line s.known (given_in line s.known)
       (map-Expr ((e : Expr) × RightExpr e) Expr plain y) env)
-  by_form (Expr-F.Number digits) s = number_by line (int_of digits) s.names
+  by_form (Expr-F.Number digits) s = number_by line (int_of_text digits) s.names
   by_form (Expr-F.Text text) s = text_right text s.names
   by_form (Expr-F.Bool b) s = bool_right b s.names
   by_form (Expr-F.Name name) s = right_name line name s.names

@@ -9,7 +9,7 @@ use Rattle.flume_grammar.specs.declared.tree.Side.{Side}
 use Rattle.flume_grammar.specs.declared.tree.Type as tree
 use Rattle.flume_grammar.specs.declared.tree.Expr.{Expr, Expr-F, out-Expr, map-Expr, fold_out-Expr}
 use Rattle.flume_grammar.specs.declared.tree.Expr.TheVariants as parsed
-use Rattle.int_text.specs.Ints.{int_of}
+use Rattle.int_text.specs.Ints.{int_of_text}
 use Rattle.dofn_eval.specs.declared.expr.Expr.{Expr as Slots}
 use Rattle.dofn_eval.specs.declared.expr.Expr.TheVariants as expr
 use Rattle.written_types.specs.Answer.{Checked, ◌>>=◌}
@@ -46,7 +46,7 @@ module _ (line : ℕ) where
   at e x s is = slots_of-step e s ∙ ap (λ y. layer_slots line (slots_of line) y s) is
 
   pub slots-Number : (digits : List ℕ) (s : Sight)
-      → slots_of line (parsed.Number digits) s ≡ literal line (int_of digits)
+      → slots_of line (parsed.Number digits) s ≡ literal line (int_of_text digits)
   slots-Number digits s = at _ _ s (parsed.outs-Number digits)
 
   pub slots-Text : (text : List ℕ) (s : Sight)

@@ -6,7 +6,7 @@ use Rattle.flume_value.specs.declared.value.Value.TheVariants as value
 use Rattle.flume_types.specs.declared.types.Ty.{Ty}
 use Rattle.flume_types.specs.declared.types.Ty.TheVariants as ty
 use Rattle.flume_grammar.specs.declared.tree.Expr.{Expr, Expr-F, fold-Expr}
-use Rattle.int_text.specs.Ints.{int_of}
+use Rattle.int_text.specs.Ints.{int_of_text}
 use Rattle.dofn_eval.specs.Outcome.{Outcome, Gives, Stuck, then, then_both, with_part}
 use Rattle.dofn_eval.specs.Operations.{of_one, of_two, field_in, member_in, chosen}
 use Rattle.written_types.specs.Answer.{Checked}
@@ -81,7 +81,7 @@ module _ (line : ℕ) (known : Named Ty) where
   abbrev pub layer_given : {X : Type 0} → (X → Environment → Outcome Thing) →
       Expr-F X → Environment → Outcome Thing
   layer_given f (Expr-F.Number digits) env =
-      with_part (int_of digits) (λ n. Gives (ty.Int, value.Int n))
+      with_part (int_of_text digits) (λ n. Gives (ty.Int, value.Int n))
   layer_given f (Expr-F.Text text) env = Gives (ty.Text, value.Text text)
   layer_given f (Expr-F.Bool b) env = Gives (ty.Bool, value.Bool b)
   layer_given f (Expr-F.Name name) env = with_part (find name env) Gives

@@ -7,8 +7,8 @@ use Rattle.flume_grammar.specs.declared.tree.Side.{Side}
 use Rattle.flume_grammar.specs.declared.tree.Unary.{Unary}
 use Rattle.flume_grammar.specs.declared.tree.Type as tree
 use Rattle.flume_grammar.specs.declared.tree.Expr.{Expr, Expr-F, fold-Expr}
-use Rattle.flume_grammar.specs.declared.fault.ScriptKind.TheVariants.{Unknown, BadNumber}
-use Rattle.int_text.specs.Ints.{int_of}
+use Rattle.flume_grammar.specs.declared.fault.ScriptKind.TheVariants.{Unknown, BadNumber, Mistyped}
+use Rattle.int_text.specs.Ints.{int_of_text}
 use Rattle.dofn_eval.specs.declared.expr.Expr.{Expr as Slots}
 use Rattle.dofn_eval.specs.declared.expr.Expr.TheVariants as expr
 use Rattle.type_table.specs.Table.{type_at}
@@ -21,7 +21,7 @@ use Rattle.expression_check.specs.declared.operator.Operator.{Operator}
 use Rattle.expression_check.specs.declared.operator.Operator.TheVariants.{And, Or, Two}
 use Rattle.expression_check.specs.Operators.{operator, concat, one, side_of}
 use Rattle.expression_check.specs.Sight.{Newest, Sight}
-use Rattle.expression_check.specs.Types.{unary_type, binary_type, index_type, pick_type, either_of, has_type, place_under, record_type, list_type, empty_type}
+use Rattle.expression_check.specs.Types.{unary_type, binary_type, index_type, pick_type, either_of, place_under, record_type, list_type, empty_type}
 use Rattle.expression_check.specs.Places.{place_in}
 
 -- slots, and the type of what they give
@@ -81,12 +81,12 @@ module _ (line : ℕ) where
 
   abbrev pub unary : Unary → Typed → Checked Typed
   unary op x = do
-    t ← has_type line (unary_type op x.1)
+    t ← or_fault line Mistyped (unary_type op x.1)
     Ok (expr.Unary (one op) x.0, t)
 
   abbrev pub binary : Operator → Typed → Typed → Checked Typed
   binary op x y = do
-    t ← has_type line (binary_type op x.1 y.1)
+    t ← or_fault line Mistyped (binary_type op x.1 y.1)
     Ok (operation op x.0 y.0, t)
 
   abbrev pub field : List ℕ → Typed → Checked Typed
@@ -96,7 +96,7 @@ module _ (line : ℕ) where
 
   abbrev pub index : Typed → Typed → Checked Typed
   index x y = do
-    t ← has_type line (index_type x.1 y.1)
+    t ← or_fault line Mistyped (index_type x.1 y.1)
     Ok (expr.Index x.0 y.0, t)
 
   abbrev pub fields : List (List ℕ) → List Slots × List Ty → Checked Typed
@@ -116,7 +116,7 @@ module _ (line : ℕ) where
 
   abbrev pub pick : Typed → Typed → Typed → Checked Typed
   pick c x y = do
-    t ← has_type line (pick_type c.1 x.1 y.1)
+    t ← or_fault line Mistyped (pick_type c.1 x.1 y.1)
     Ok (expr.Pick c.0 x.0 y.0, t)
 
   -- ---- each form, where f gives the slots of its parts
@@ -173,7 +173,7 @@ module _ (line : ℕ) where
 
   abbrev pub layer_slots : {X : Type 0} → (X → Sight → Checked Typed) →
       Expr-F X → Sight → Checked Typed
-  layer_slots f (Expr-F.Number digits) s = literal (int_of digits)
+  layer_slots f (Expr-F.Number digits) s = literal (int_of_text digits)
   layer_slots f (Expr-F.Text text) s = Ok (expr.Literal (value.Text text), ty.Text)
   layer_slots f (Expr-F.Bool b) s = Ok (expr.Literal (value.Bool b), ty.Bool)
   layer_slots f (Expr-F.Name name) s = variable name s.names

@@ -12,7 +12,7 @@ use Rattle.flume_grammar.specs.declared.tree.Type as tree
 use Rattle.flume_grammar.specs.declared.tree.Expr.{Expr, Expr-F, fold-Expr}
 use Rattle.flume_grammar.specs.declared.fault.ScriptKind.TheVariants.{Unknown, Twice, BadNumber, Mistyped}
 use Rattle.flume_grammar.specs.declared.fault.ScriptFault.TheVariants.{Refused}
-use Rattle.int_text.specs.Ints.{int_of}
+use Rattle.int_text.specs.Ints.{int_of_text}
 use Rattle.dofn_eval.specs.declared.expr.Binary.{Binary as Two_}
 use Rattle.dofn_eval.specs.declared.expr.Binary.TheVariants as two
 use Rattle.written_types.specs.Answer.{Checked, ◌>>=◌, unless, or_fault}
@@ -91,10 +91,6 @@ all_types f (part ∷ parts) s = do
 
 -- each fault is told on this line
 module _ (line : ℕ) where
-  -- the type that there is
-  abbrev pub has_type : Option Ty → Checked Ty
-  has_type = or_fault line Mistyped
-
   -- the place and the type of a record's field
   abbrev pub place_under : List ℕ → Ty → Checked (ℕ × Ty)
   place_under name type = do
@@ -124,7 +120,7 @@ module _ (line : ℕ) where
   -- the type of each form, where f gives those of its parts
   abbrev pub layer_type : {X : Type 0} → (X → Sight → Checked Ty) → Expr-F X → Sight → Checked Ty
   layer_type f (Expr-F.Number digits) s = do
-    n ← or_fault line BadNumber (int_of digits)
+    n ← or_fault line BadNumber (int_of_text digits)
     Ok ty.Int
   layer_type f (Expr-F.Text text) s = Ok ty.Text
   layer_type f (Expr-F.Bool b) s = Ok ty.Bool
@@ -132,11 +128,11 @@ module _ (line : ℕ) where
   layer_type f (Expr-F.Empty written) s = empty_type written s.known
   layer_type f (Expr-F.Unary op e) s = do
     t ← f e s
-    has_type (unary_type op t)
+    or_fault line Mistyped (unary_type op t)
   layer_type f (Expr-F.Binary op a b) s = do
     t ← f a s
     u ← f b s
-    has_type (binary_type (operator op) t u)
+    or_fault line Mistyped (binary_type (operator op) t u)
   layer_type f (Expr-F.Field e name) s = do
     t ← f e s
     at ← place_under name t
@@ -144,7 +140,7 @@ module _ (line : ℕ) where
   layer_type f (Expr-F.Index a b) s = do
     t ← f a s
     u ← f b s
-    has_type (index_type t u)
+    or_fault line Mistyped (index_type t u)
   layer_type f (Expr-F.Record names parts) s = do
     types ← all_types f parts s
     record_type names types
@@ -158,12 +154,12 @@ module _ (line : ℕ) where
   layer_type f (Expr-F.Concat a b) s = do
     t ← f a s
     u ← f b s
-    has_type (binary_type concat t u)
+    or_fault line Mistyped (binary_type concat t u)
   layer_type f (Expr-F.Pick c a b) s = do
     t ← f c s
     u ← f a s
     w ← f b s
-    has_type (pick_type t u w)
+    or_fault line Mistyped (pick_type t u w)
 
   -- the type of an expression, or its first fault
   abbrev pub type_of : Expr → Sight → Checked Ty

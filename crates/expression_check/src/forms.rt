@@ -2,7 +2,7 @@
 ghost use Rattle.std.specs.Prelude.{◌≡◌, ◌<◌, Ok, length, IfOk};
 ghost use Rattle.flume_value.specs.declared.value.Value.TheVariants as value;
 ghost use Rattle.flume_types.specs.declared.types.Ty.TheVariants as ty_;
-ghost use Rattle.int_text.specs.Ints.{int_of as int_in};
+ghost use Rattle.int_text.specs.Ints.{int_of_text as int_in};
 ghost use Rattle.dofn_eval.specs.declared.expr.Expr.TheVariants as slots;
 ghost use Rattle.type_table.specs.Table.{type_at, Extends};
 ghost use Rattle.written_types.specs.Answer.{Gives};
@@ -18,7 +18,7 @@ use crate::types::{binary_type, index_type, list_of, pick_type, side_type, unary
 use dofn_eval::Expr as Slots;
 use flume_grammar::{ScriptFault, ScriptKind, Side, Type, Unary};
 use flume_value::{Held, Pile, Str, Value};
-use int_text::int_of;
+use int_text::int_of_text;
 use std::alloc::{AllocError, Global};
 use type_table::{Shape, TypeId, Types};
 use written_types::refused;
@@ -30,7 +30,7 @@ pub fn number(line: u32, digits: &Str, scope: &mut Scope) -> Result<Typed, Scrip
     ensures extends { Extends scope.old.types scope.new.types }
     ensures sight { scope.new.sight ≡ scope.old.sight }
 {
-    match int_of(digits.as_bytes()) {
+    match int_of_text(digits.as_bytes()) {
         Some(n) => Ok(Typed {
             expr: Slots::Literal(Value::Int(n)),
             ty: scope.intern(Shape::Int)?,

@@ -6,6 +6,7 @@ ghost use Rattle.expression_check.specs.Types as spec;
 
 use type_table::{Shape, TypeId, Types};
 
+/// Whether it is the type of numbers.
 pub fn is_int(types: &Types, id: TypeId) -> bool
     requires { id < length types.now }
     ensures { result ≡ spec.is_int (out-Ty (type_at types.now id)) }
@@ -27,6 +28,7 @@ pub fn is_bool(types: &Types, id: TypeId) -> bool
     }
 }
 
+/// Whether it is the type of texts.
 pub fn is_text(types: &Types, id: TypeId) -> bool
     requires { id < length types.now }
     ensures { result ≡ spec.is_text (out-Ty (type_at types.now id)) }

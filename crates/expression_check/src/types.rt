@@ -1,11 +1,12 @@
 //! The types of what operations give, from those of their operands.
 ghost use Rattle.std.specs.Prelude.{◌≡◌, ◌<◌, List, length, IfOk};
 ghost use Rattle.flume_types.specs.declared.types.Ty.{Ty};
+ghost use Rattle.flume_grammar.specs.declared.fault.ScriptKind.TheVariants.{Mistyped};
 ghost use Rattle.flume_grammar.specs.declared.tree.Unary.TheVariants as unary;
 ghost use Rattle.dofn_eval.specs.declared.expr.Binary.TheVariants as two;
 ghost use Rattle.type_table.specs.declared.shape.Shape.TheVariants as shape_;
 ghost use Rattle.type_table.specs.Table.{type_at, tree_of, IsWithin, Extends};
-ghost use Rattle.written_types.specs.Answer.{Gives};
+ghost use Rattle.written_types.specs.Answer.{Gives, or_fault};
 ghost use Rattle.written_types.specs.Written.{shallow as shallow_type};
 ghost use Rattle.expression_check.specs.Types as spec;
 
@@ -22,7 +23,7 @@ use written_types::{refused, shallow};
 fn where_true(line: u32, test: bool, shape: Shape, scope: &mut Scope) -> Result<TypeId, ScriptFault>
     requires { IsWithin (length scope.old.types) shape }
     ensures gives { Gives (type_at scope.new.types) result
-        (spec.has_type line (spec.where_true test (tree_of scope.old.types shape))) }
+        (or_fault line Mistyped (spec.where_true test (tree_of scope.old.types shape))) }
     ensures within { IfOk result (λ id. id < length scope.new.types) }
     ensures extends { Extends scope.old.types scope.new.types }
     ensures sight { scope.new.sight ≡ scope.old.sight }
@@ -37,7 +38,7 @@ fn where_true(line: u32, test: bool, shape: Shape, scope: &mut Scope) -> Result<
 // The type itself, where the test holds.
 fn itself(line: u32, test: bool, id: TypeId) -> Result<TypeId, ScriptFault>
     ensures gives { (types : List Ty) → Gives (type_at types) result
-        (spec.has_type line (spec.where_true test (type_at types id))) }
+        (or_fault line Mistyped (spec.where_true test (type_at types id))) }
     ensures same { IfOk result (λ itself. itself ≡ id) }
 {
     if test {
@@ -47,6 +48,7 @@ fn itself(line: u32, test: bool, id: TypeId) -> Result<TypeId, ScriptFault>
     }
 }
 
+/// The type of what an operation gives of one operand.
 pub fn unary_type(
     line: u32,
     op: Unary,
@@ -55,7 +57,7 @@ pub fn unary_type(
 ) -> Result<TypeId, ScriptFault>
     requires { id < length scope.old.types }
     ensures gives { Gives (type_at scope.new.types) result
-        (spec.has_type line (spec.unary_type op (type_at scope.old.types id))) }
+        (or_fault line Mistyped (spec.unary_type op (type_at scope.old.types id))) }
     ensures within { IfOk result (λ id. id < length scope.new.types) }
     ensures extends { Extends scope.old.types scope.new.types }
     ensures sight { scope.new.sight ≡ scope.old.sight }
@@ -73,7 +75,7 @@ pub fn unary_type(
 fn words_type(line: u32, id: TypeId, scope: &mut Scope) -> Result<TypeId, ScriptFault>
     requires { id < length scope.old.types }
     ensures gives { Gives (type_at scope.new.types) result
-        (spec.has_type line (spec.unary_type unary.Words (type_at scope.old.types id))) }
+        (or_fault line Mistyped (spec.unary_type unary.Words (type_at scope.old.types id))) }
     ensures within { IfOk result (λ id. id < length scope.new.types) }
     ensures extends { Extends scope.old.types scope.new.types }
     ensures sight { scope.new.sight ≡ scope.old.sight }
@@ -83,6 +85,7 @@ fn words_type(line: u32, id: TypeId, scope: &mut Scope) -> Result<TypeId, Script
     where_true(line, test, Shape::List(text), scope)
 }
 
+/// The type of what an operation gives of two operands.
 pub fn binary_type(
     line: u32,
     op: Operator,
@@ -92,7 +95,7 @@ pub fn binary_type(
 ) -> Result<TypeId, ScriptFault>
     requires left_in { left < length scope.old.types }
     requires right_in { right < length scope.old.types }
-    ensures gives { Gives (type_at scope.new.types) result (spec.has_type line
+    ensures gives { Gives (type_at scope.new.types) result (or_fault line Mistyped
         (spec.binary_type op (type_at scope.old.types left) (type_at scope.old.types right))) }
     ensures within { IfOk result (λ id. id < length scope.new.types) }
     ensures extends { Extends scope.old.types scope.new.types }
@@ -113,7 +116,7 @@ fn of_bools(
 ) -> Result<TypeId, ScriptFault>
     requires left_in { left < length scope.old.types }
     requires right_in { right < length scope.old.types }
-    ensures gives { Gives (type_at scope.new.types) result (spec.has_type line
+    ensures gives { Gives (type_at scope.new.types) result (or_fault line Mistyped
         (spec.bools_type (type_at scope.old.types left) (type_at scope.old.types right))) }
     ensures within { IfOk result (λ id. id < length scope.new.types) }
     ensures extends { Extends scope.old.types scope.new.types }
@@ -132,7 +135,7 @@ fn two_type(
 ) -> Result<TypeId, ScriptFault>
     requires left_in { left < length scope.old.types }
     requires right_in { right < length scope.old.types }
-    ensures gives { Gives (type_at scope.new.types) result (spec.has_type line
+    ensures gives { Gives (type_at scope.new.types) result (or_fault line Mistyped
         (spec.two_type op (type_at scope.old.types left) (type_at scope.old.types right))) }
     ensures within { IfOk result (λ id. id < length scope.new.types) }
     ensures extends { Extends scope.old.types scope.new.types }
@@ -154,7 +157,7 @@ fn two_type(
 fn joined(line: u32, left: TypeId, right: TypeId, types: &Types) -> Result<TypeId, ScriptFault>
     requires left_in { left < length types.now }
     requires right_in { right < length types.now }
-    ensures gives { Gives (type_at types.now) result (spec.has_type line
+    ensures gives { Gives (type_at types.now) result (or_fault line Mistyped
         (spec.two_type two.Concat (type_at types.now left) (type_at types.now right))) }
     ensures same { IfOk result (λ joined. joined ≡ left) }
 {
@@ -162,6 +165,7 @@ fn joined(line: u32, left: TypeId, right: TypeId, types: &Types) -> Result<TypeI
     itself(line, test, left)
 }
 
+/// The type of a list's member at an index.
 pub fn index_type(
     line: u32,
     list: TypeId,
@@ -170,7 +174,7 @@ pub fn index_type(
 ) -> Result<TypeId, ScriptFault>
     requires list_in { list < length types.now }
     requires index_in { index < length types.now }
-    ensures gives { Gives (type_at types.now) result (spec.has_type line
+    ensures gives { Gives (type_at types.now) result (or_fault line Mistyped
         (spec.index_type (type_at types.now list) (type_at types.now index))) }
     ensures within { IfOk result (λ id. id < length types.now) }
 {
@@ -181,6 +185,7 @@ pub fn index_type(
     }
 }
 
+/// The type of what a test picks of two values.
 pub fn pick_type(
     line: u32,
     test: TypeId,
@@ -191,7 +196,7 @@ pub fn pick_type(
     requires test_in { test < length types.now }
     requires left_in { left < length types.now }
     requires right_in { right < length types.now }
-    ensures gives { Gives (type_at types.now) result (spec.has_type line (spec.pick_type
+    ensures gives { Gives (type_at types.now) result (or_fault line Mistyped (spec.pick_type
         (type_at types.now test) (type_at types.now left) (type_at types.now right))) }
     ensures same { IfOk result (λ picked. picked ≡ left) }
 {

@@ -8,14 +8,14 @@ returns-clause-gives c =
     let known = c.args.known.now in
     let takes = type_at known.types c.args.takes in
     let gives = type_at known.types c.args.gives in
-    let result_ = c.slots_of-slots.result in
+    let made = c.slots_of-slots.result in
     let types = c.new-2.ensures.types ∙ ap (λ k. k.types) c.replace-taken.ensures.value in
     let names = ap (λ s. s.known) c.new-frame.ensures.sight ∙ c.new-2.ensures.known
     ∙ ap (λ k. k.names) c.replace-taken.ensures.value in
-    keeps_rules known.names c.args.argument.now takes gives c.args.body.now result_
-    (started c.new-frame.result result_ known.names known.types c.args.argument.now c.args.takes
+    keeps_rules known.names c.args.argument.now takes gives c.args.body.now made
+    (started c.new-frame.result made known.names known.types c.args.argument.now c.args.takes
     c.args.gives c.args.body.now (c.new-frame.ensures.types ∙ types) names
-    (c.new-frame.ensures.result_ ∙ ap (λ ts. type_at ts c.args.gives) types)
+    (c.new-frame.ensures.emits ∙ ap (λ ts. type_at ts c.args.gives) types)
     c.slots_of-slots.ensures.gives)
 
 pub returns-clause-typed : goal.returns-clause-typed
@@ -23,14 +23,14 @@ returns-clause-typed c =
     let known = c.args.known.now in
     let takes = type_at known.types c.args.takes in
     let gives = type_at known.types c.args.gives in
-    let result_ = c.slots_of-slots.result in
+    let made = c.slots_of-slots.result in
     let types = c.new-2.ensures.types ∙ ap (λ k. k.types) c.replace-taken.ensures.value in
     let names = ap (λ s. s.known) c.new-frame.ensures.sight ∙ c.new-2.ensures.known
     ∙ ap (λ k. k.names) c.replace-taken.ensures.value in
-    is_typed known.names c.args.argument.now takes gives c.args.body.now result_
-    (started c.new-frame.result result_ known.names known.types c.args.argument.now c.args.takes
+    is_typed known.names c.args.argument.now takes gives c.args.body.now made
+    (started c.new-frame.result made known.names known.types c.args.argument.now c.args.takes
     c.args.gives c.args.body.now (c.new-frame.ensures.types ∙ types) names
-    (c.new-frame.ensures.result_ ∙ ap (λ ts. type_at ts c.args.gives) types)
+    (c.new-frame.ensures.emits ∙ ap (λ ts. type_at ts c.args.gives) types)
     c.slots_of-slots.ensures.gives)
 
 pub returns-clause-same : goal.returns-clause-same
@@ -38,12 +38,12 @@ returns-clause-same c =
     let known = c.args.known.now in
     let takes = type_at known.types c.args.takes in
     let gives = type_at known.types c.args.gives in
-    let result_ = c.slots_of-slots.result in
+    let made = c.slots_of-slots.result in
     let types = c.new-2.ensures.types ∙ ap (λ k. k.types) c.replace-taken.ensures.value in
     let names = ap (λ s. s.known) c.new-frame.ensures.sight ∙ c.new-2.ensures.known
     ∙ ap (λ k. k.names) c.replace-taken.ensures.value in
-    means_same known.names c.args.argument.now takes gives c.args.body.now result_
-    (started c.new-frame.result result_ known.names known.types c.args.argument.now c.args.takes
+    means_same known.names c.args.argument.now takes gives c.args.body.now made
+    (started c.new-frame.result made known.names known.types c.args.argument.now c.args.takes
     c.args.gives c.args.body.now (c.new-frame.ensures.types ∙ types) names
-    (c.new-frame.ensures.result_ ∙ ap (λ ts. type_at ts c.args.gives) types)
+    (c.new-frame.ensures.emits ∙ ap (λ ts. type_at ts c.args.gives) types)
     c.slots_of-slots.ensures.gives)

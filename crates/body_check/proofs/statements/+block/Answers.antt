@@ -23,7 +23,7 @@ block-loop-statement-preserved t c =
     let is = c.loop-statement.invariant in
     let x : Placed = (c.in_ok-one.one, new.sight) in
     let one : placed_of gives c.statement-item.result old.sight ≡ Ok x =
-    ap (λ g. placed_of g c.statement-item.result old.sight) (sym is.result_)
+    ap (λ g. placed_of g c.statement-item.result old.sight) (sym is.emits)
     ∙ c.in_ok-one.ensures.gives in
     record {
       gives =
@@ -40,7 +40,7 @@ block-loop-statement-preserved t c =
       kept =
           behind-twice c.args.frame.now.sight.names old.sight.names new.sight.names is.kept
           c.in_ok-one.ensures.kept;
-      result_ = c.placed.ensures.result_ ∙ is.result_;
+      emits = c.placed.ensures.emits ∙ is.emits;
     }
 
 pub placed-returns-in-If-clause-gives : goal.placed-returns-in-If-clause-gives
@@ -89,7 +89,7 @@ place_case-returns-in_err-both-clause-gives t c =
     ≡ Ok (type_at ts sides.left, type_at ts sides.right)) c.types.ensures
     c.in_ok-sides.ensures.gives in
     let fails = subst (λ g. Fails e (both_slots line types_of left (block (placed_of g) a) right_
-    (block (placed_of g) b) s)) c.resolve.ensures.result_
+    (block (placed_of g) b) s)) c.resolve.ensures.emits
     (subst (λ t. Fails e (both_slots line types_of left (block (placed_of mid.gives) a) right_
     (block (placed_of mid.gives) b) t)) c.resolve.ensures.sight c.in_err-both.ensures.gives) in
     rw (p.1, p.2) (Fails-same e _ _

@@ -47,5 +47,5 @@ invariant-block-loop-statement l = record {
   extends : Extends l.fn.frame.types l.frame.types;
   known : l.frame.sight.known ≡ l.fn.frame.sight.known;
   kept : IsBehind l.fn.frame.sight.names l.frame.sight.names;
-  result_ : l.frame.gives ≡ l.fn.frame.gives;
+  emits : l.frame.gives ≡ l.fn.frame.gives;
 }
