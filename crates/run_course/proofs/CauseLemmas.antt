@@ -8,9 +8,10 @@ use Rattle.direct_meaning.specs.declared.evaluation.EvaluationFault.TheVariants 
 use Rattle.direct_meaning.specs.declared.evaluation.Sizes.{Sizes}
 use Rattle.direct_meaning.specs.declared.evaluation.Trapped.{Trapped}
 use Rattle.dofn_check.specs.Call.{Function}
-use Rattle.flume_grammar.specs.Answer.{IsRefusal}
+use Rattle.flume_grammar.specs.Answer.{Accepts, IsRefusal}
 use Rattle.flume_grammar.specs.declared.fault.ScriptFault.{ScriptFault}
 use Rattle.flume_grammar.specs.declared.fault.ScriptFault.TheVariants as script_fault
+use Rattle.flume_grammar.specs.declared.tree.Ast.{Ast}
 use Rattle.flume_program.specs.Accepted.{IsProgram, IsScriptOf, written_type}
 use Rattle.flume_program.specs.Needed.{Wanted, inputs_of}
 use Rattle.flume_program.specs.Script.{Output, Script}
@@ -36,7 +37,7 @@ use Rattle.run_course.specs.World.{World}
 use Rattle.run_course.specs.declared.limits.TheConstants.{SCRIPT_LIMIT, INPUT_LIMIT, TRIES}
 use Rattle.run_course.specs.declared.stop.Stop.{Stop}
 use Rattle.run_course.specs.declared.stop.Stop.TheVariants as stop
-use Rattle.run_course.specs.inner.Course.{Delivers, Gives, HasTrap, IsInputCause, IsScriptCause, IsScriptFault, IsStop, IsStopped, ReadsProgram, input_of}
+use Rattle.run_course.specs.inner.Course.{Delivers, Gives, HasTrap, IsInputCause, IsRuleFault, IsScriptCause, IsScriptFault, IsStop, IsStopped, ReadsProgram, input_of}
 
 -- ---- why a file was not loaded
 
@@ -44,6 +45,12 @@ use Rattle.run_course.specs.inner.Course.{Delivers, Gives, HasTrap, IsInputCause
 pub parse_fault : (bytes : List ℕ) (why : ScriptFault) → IsRefusal bytes why → IsScriptFault bytes why
 parse_fault bytes (script_fault.Refused line kind) refuses = inl refuses
 parse_fault bytes script_fault.Memory refuses = tt
+
+-- and so is a rule that its tree breaks
+pub rule_fault : (bytes : List ℕ) (ast : Ast) (why : ScriptFault) → Accepts bytes ast
+    → IsRuleFault ast.statements why → IsScriptFault bytes why
+rule_fault bytes ast (script_fault.Refused line kind) spells breaks = inr (inl (ast, spells, breaks))
+rule_fault bytes ast script_fault.Memory spells breaks = tt
 
 -- the script's turn, under another name of the same file
 script_asked_for : (words : List (List ℕ)) (told : Option (List NamedBytes)) (name other : List ℕ) → script_asked words ≡ Some name → other ≡ name

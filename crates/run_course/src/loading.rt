@@ -1,16 +1,17 @@
 // The script and its input, as they are loaded and decoded.
-ghost use Rattle.std.specs.Prelude.{◌≡◌, ◌≤◌, ◌⊎◌, IfErr, IfOk, map, string_bytes};
+ghost use Rattle.std.specs.Prelude.{◌≡◌, ◌≤◌, ◌⊎◌, IfErr, IfOk, OnOk, map, string_bytes};
 ghost use Rattle.flume_program.specs.Accepted.{IsNamed, IsReady};
 ghost use Rattle.flume_types.specs.Typing.{AllHave};
 ghost use Rattle.outside.specs.Seen.{seen};
+ghost use Rattle.run_course.specs.Accepted.{KeepsRules};
 ghost use Rattle.run_course.specs.Asked.{HasRows, Loads};
-ghost use Rattle.run_course.specs.inner.Course.{IsInputCause, IsLoadCause, IsProgramOf, IsScriptCause, IsScriptFault, ReadsProgram, fault_status, input_of, status_of};
+ghost use Rattle.run_course.specs.inner.Course.{IsInputCause, IsLoadCause, IsProgramOf, IsRuleFault, IsScriptCause, IsScriptFault, ReadsProgram, fault_status, input_of, status_of};
 
 use crate::limits::{INPUT_LIMIT, SCRIPT_LIMIT, TRIES};
 use crate::words::script_asked;
 use csv_rows::{RowFault, rows};
 use flume_program::{Program, Refusal, check};
-use flume_syntax::{ScriptFault, ScriptKind, parse};
+use flume_syntax::{Ast, ScriptFault, ScriptKind, parse};
 use flume_value::{Items, Str};
 use outside::{LoadFault, Source, load_tried};
 use run_texts::Status;
@@ -67,7 +68,8 @@ pub fn rows_of_input<R: Source>(
     }
 }
 
-// The program of the bytes of a script. Where the checker accepts no program, it names no line yet.
+// The program of the bytes of a script. A tree that keeps the rules and is of no form that runs is
+// told of no line.
 fn program_of(alloc: Global, bytes: &[u8]) -> Result<Program, ScriptFault>
     ensures accepted { IfOk result (IsProgramOf bytes.now) }
     ensures refused { IfErr result (IsScriptFault bytes.now) }
@@ -76,13 +78,28 @@ fn program_of(alloc: Global, bytes: &[u8]) -> Result<Program, ScriptFault>
 {
     let ast = parse(alloc, bytes)?;
     match check(alloc, &ast) {
-        Ok(program) => Ok(program),
-        Err(Refusal::NotAccepted) => Err(ScriptFault::Refused {
-            line: 0,
-            kind: ScriptKind::Syntax,
-        }),
+        Ok(program) => {
+            keep_rules(alloc, ast)?;
+            Ok(program)
+        }
+        Err(Refusal::NotAccepted) => {
+            keep_rules(alloc, ast)?;
+            Err(ScriptFault::Refused {
+                line: 0,
+                kind: ScriptKind::Syntax,
+            })
+        }
         Err(Refusal::Memory) => Err(ScriptFault::Memory),
     }
+}
+
+// A tree that keeps the rules of the language, or its first fault.
+fn keep_rules(alloc: Global, ast: Ast) -> Result<(), ScriptFault>
+    ensures keeps { OnOk result (KeepsRules ast.statements) }
+    ensures breaks { IfErr result (IsRuleFault ast.statements) }
+{
+    script_check::check(alloc, ast)?;
+    Ok(())
 }
 
 // Loads a file; where the source fails, once more.

@@ -168,21 +168,16 @@ fn nothing_is_combined(rt: HostRuntime) -> Result<(), Fail> {
 #[test]
 fn scripts_that_are_refused(rt: HostRuntime) -> Result<(), Fail> {
     let alloc = rt.alloc();
-    let table: [(&[u8], &str); 4] = [
-        (INTS, "top 3"),
-        (INTS, "all"),
-        (BOOLS, "sum"),
-        (TEXTS, "any"),
+    let table: [(&[u8], &str, &[u8]); 4] = [
+        (INTS, "top 3", b"7: NotFlat\n"),
+        (INTS, "all", b"6: Mistyped\n"),
+        (BOOLS, "sum", b"6: Mistyped\n"),
+        (TEXTS, "any", b"6: Mistyped\n"),
     ];
-    for (head, combiner) in table {
-        check_refused(
-            &rt,
-            alloc,
-            &script(alloc, head, combiner)?,
-            b"k,v\n",
-            3,
-            b"script refused at line 0: Syntax\n",
-        )?;
+    for (head, combiner, fault) in table {
+        let script = script(alloc, head, combiner)?;
+        let line = text_of(alloc, &[b"script refused at line ", fault])?;
+        check_refused(&rt, alloc, &script, b"k,v\n", 3, &line)?;
     }
     Ok(())
 }

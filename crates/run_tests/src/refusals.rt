@@ -36,7 +36,7 @@ fn refuses_words(rt: HostRuntime) -> Result<(), Fail> {
 #[test]
 fn refuses_files(rt: HostRuntime) -> Result<(), Fail> {
     let alloc = rt.alloc();
-    let refused: &[u8] = b"script refused at line 0: Syntax\n";
+    let refused: &[u8] = b"script refused at line 0: NoOutput\n";
     let table: [(Option<&[u8]>, Option<&[u8]>, u8, &[u8]); 9] = [
         // no script, an empty one, and one that is cut off
         (None, None, 11, b"no file: \"s\"\n"),

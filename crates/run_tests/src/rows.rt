@@ -180,33 +180,55 @@ fn refuses_rows_at_their_first_fault(rt: HostRuntime) -> Result<(), Fail> {
     Ok(())
 }
 
+// The type stands on line 1, the function on line 3, and the output on line 5.
 #[test]
-fn refuses_scripts_of_no_form_that_runs(rt: HostRuntime) -> Result<(), Fail> {
+fn refuses_scripts_that_break_a_rule(rt: HostRuntime) -> Result<(), Fail> {
     let alloc = rt.alloc();
     let ty = b"type r = {n: int, t: text}\n";
-    let table: [(&[u8], &[u8]); 8] = [
-        (ty, b"fn f(x: r) -> int { emit x.t }\n"),
-        (ty, b"fn f(x: r) -> int { emit x.m }\n"),
-        (ty, b"fn f(x: r) -> int scale 10 { emit x.n }\n"),
-        (ty, b"fn f(x: text) -> int { emit 1 }\n"),
+    let table: [(&[u8], &[u8], &[u8]); 8] = [
+        (ty, b"fn f(x: r) -> int { emit x.t }\n", b"3: Mistyped\n"),
+        (ty, b"fn f(x: r) -> int { emit x.m }\n", b"3: Unknown\n"),
+        (
+            ty,
+            b"fn f(x: r) -> int scale 10001 { emit x.n }\n",
+            b"3: BadNumber\n",
+        ),
+        (ty, b"fn f(x: text) -> int { emit 1 }\n", b"4: Mistyped\n"),
         (
             ty,
             b"fn f(x: r) -> text { for x in words(x.t) { emit x } }\n",
+            b"3: Twice\n",
         ),
         (
             ty,
             b"fn f(x: r) -> {a: {b: {c: int}}} { emit {a: {b: {c: 1}}} }\n",
+            b"5: NotFlat\n",
         ),
         (
             b"type r = {n: list<int>}\n",
             b"fn f(x: r) -> int { emit 1 }\n",
+            b"2: NotFlat\n",
         ),
-        (b"type r = int\n", b"fn f(x: r) -> int { emit x }\n"),
+        (
+            b"type r = int\n",
+            b"fn f(x: r) -> int { emit x }\n",
+            b"2: NotFlat\n",
+        ),
     ];
-    for (ty, function) in table {
+    for (ty, function, fault) in table {
         let script = script(alloc, ty, function)?;
-        let line = b"script refused at line 0: Syntax\n";
-        check_refused(&rt, alloc, &script, b"n,t\n1,a\n", 3, line)?;
+        let line = text_of(alloc, &[b"script refused at line ", fault])?;
+        check_refused(&rt, alloc, &script, b"n,t\n1,a\n", 3, &line)?;
     }
     Ok(())
+}
+
+#[test]
+fn refuses_scripts_of_no_form_that_runs(rt: HostRuntime) -> Result<(), Fail> {
+    let alloc = rt.alloc();
+    let ty = b"type r = {n: int, t: text}\n";
+    let function = b"fn f(x: r) -> int scale 10 { emit x.n }\n";
+    let script = script(alloc, ty, function)?;
+    let line = b"script refused at line 0: Syntax\n";
+    check_refused(&rt, alloc, &script, b"n,t\n1,a\n", 3, line)
 }

@@ -12,6 +12,7 @@ use Rattle.direct_meaning.specs.declared.evaluation.Trapped.{Trapped}
 use Rattle.dofn_check.specs.Call.{Function}
 use Rattle.flume_grammar.specs.declared.fault.ScriptFault.{ScriptFault}
 use Rattle.flume_grammar.specs.declared.fault.ScriptFault.TheVariants as script_fault
+use Rattle.flume_grammar.specs.declared.tree.Statement.{Statement}
 use Rattle.flume_program.specs.Accepted.{IsProgram}
 use Rattle.flume_program.specs.Needed.{Wanted}
 use Rattle.flume_program.specs.Script.{Script, name_at}
@@ -29,7 +30,7 @@ use Rattle.run_texts.specs.Texts.{files_of, screen_text}
 use Rattle.run_texts.specs.declared.status.Place.TheVariants.{File, Screen}
 use Rattle.run_texts.specs.declared.status.Status.{Status}
 use Rattle.run_texts.specs.declared.status.Status.TheVariants.{Done, Usage, WriteFault, ScriptRefused, InputRefused, ReadFault, WantOfMemory, TooLong, NoFile}
-use Rattle.run_course.specs.Accepted.{Accepted, Refused}
+use Rattle.run_course.specs.Accepted.{Accepted, BreaksRule, Refused}
 use Rattle.run_course.specs.Answers.{FailsAtFile, HasText, IsCause, IsCutOff, IsUsage}
 use Rattle.run_course.specs.Asked.{IsAbove, IsMissing, IsRun, Loads, Reads}
 use Rattle.run_course.specs.Words.{script_asked}
@@ -59,6 +60,11 @@ ReadsProgram words told program =
 abbrev pub IsScriptFault : List ℕ → ScriptFault → Type 0
 IsScriptFault bytes (script_fault.Refused line kind) = Refused bytes line kind
 IsScriptFault bytes script_fault.Memory = ⊤
+
+-- why the statements are not known to keep the rules
+abbrev pub IsRuleFault : List Statement → ScriptFault → Type 0
+IsRuleFault statements (script_fault.Refused line kind) = BreaksRule statements line kind
+IsRuleFault statements script_fault.Memory = ⊤
 
 -- the answer to a refused load
 abbrev pub status_of : LoadFault → List ℕ → ℕ → Status
