@@ -16,14 +16,14 @@ use Rattle.written_types.specs.inner.Held.{type_of}
 use Rattle.written_types.proofs.NamedLemmas.{names-kept, find-mapped}
 use Rattle.expression_check.specs.declared.scope.Found.{Found}
 use Rattle.expression_check.specs.Sight.{Newest}
-use Rattle.expression_check.specs.Held.{in_sight, AreNewest}
+use Rattle.expression_check.specs.Held.{in_sight, AreInSight}
 use Rattle.expression_check.specs.Places.{further, place_in, found}
 use Rattle.expression_check.proofs.PlaceLemmas.{absent}
 
 -- ---- types more
 
 pub sight-kept : (old new : Known) (entries : Named ℕ) → Extends old.types new.types
-    → new.names ≡ old.names → AreNewest old.types entries
+    → new.names ≡ old.names → AreInSight old.types entries
     → (in_sight new entries).sight ≡ (in_sight old entries).sight
 sight-kept old new entries more same held =
     λ i. record {
@@ -157,7 +157,7 @@ module _ {S : Type 0} (types : List Ty) (old new : IndexMap (List ℕ) ℕ S) (n
       (not-held types name old.entries absent))
       ∙ reverse-append old.entries ((name, id) ∷ [])
 
-  pub held-put : AreNewest types old.entries → id < length types → AreNewest types new.entries
+  pub held-put : AreInSight types old.entries → id < length types → AreInSight types new.entries
   held-put held within =
       All-same (λ (e : List ℕ × ℕ). e.1 < length types) (reverse new.entries)
       ((name, id) ∷ reverse old.entries) newest-put
@@ -180,7 +180,7 @@ module _ (types : List Ty) (n : ℕ) (old new : Named ℕ) (left : new ≡ take 
   oldest-are : reverse new ≡ drop (length old - n) (reverse old)
   oldest-are = ap reverse left ∙ reverse-take n old
 
-  pub held-left : AreNewest types old → AreNewest types new
+  pub held-left : AreInSight types old → AreInSight types new
   held-left held =
       All-same (λ (e : List ℕ × ℕ). e.1 < length types) (reverse new)
       (drop (length old - n) (reverse old)) oldest-are

@@ -18,9 +18,10 @@ in_sight known entries = record {
   sight = record { known = known.names; names = map (type_of known.types) (reverse entries) };
 }
 
--- the numbers are those of types
-abbrev pub AreNewest : List Ty → Named ℕ → Type 0
-AreNewest types entries = AreHeld types (reverse entries)
+-- what names stand for are numbers of types
+abbrev pub AreInSight : List Ty → Named ℕ → Type 0
+AreInSight types entries = AreHeld types (reverse entries)
 
+-- these are numbers below n
 abbrev pub AreTypes : ℕ → List ℕ → Type 0
 AreTypes n ids = All (λ id. id < n) ids

@@ -32,7 +32,7 @@ pub struct Found {
 impl Model for Scope {
     ghost use Rattle.std.specs.Coded.{codes};
     ghost use Rattle.flume_types.specs.contracts.types.Ty as coded_types;
-    ghost use Rattle.expression_check.specs.Held.{InSight, in_sight, AreNewest};
+    ghost use Rattle.expression_check.specs.Held.{InSight, in_sight, AreInSight};
 
     ghost Value = { InSight };
 
@@ -40,7 +40,7 @@ impl Model for Scope {
 
     ghost view = { λ s. in_sight s.known s.names.entries };
 
-    ghost invariant = { λ s. AreNewest s.known.types s.names.entries };
+    ghost invariant = { λ s. AreInSight s.known.types s.names.entries };
 }
 
 impl Scope {
