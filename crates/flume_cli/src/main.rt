@@ -10,7 +10,8 @@ use std::io::ErrorKind;
 use std::process::ExitCode;
 use std::{env, fs, io};
 
-// The words of the command line. One that is not UTF-8 makes them no command of `flume`, as none are.
+// The words of the command line. One that is not UTF-8 makes them no command of `flume`, as no word
+// at all does.
 fn words<X: Env + AllocGlobal>(rt: &X) -> io::Result<Vec<String>> {
     match env::args(rt) {
         Ok(words) => Ok(words.collect(rt.alloc())?),

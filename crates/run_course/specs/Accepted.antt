@@ -29,7 +29,7 @@ Accepted bytes script =
 abbrev pub HasFault : List ℕ → ℕ → ScriptKind → Type 0
 HasFault bytes line kind = (ast : Ast) × Accepts bytes ast × BreaksRule ast.statements line kind
 
--- the bytes spell a tree that keeps the rules, and is of no form that runs, which is said of no line
+-- the bytes spell a tree that keeps the rules and is of no form that runs, which is told of no line
 abbrev pub IsOfNoForm : List ℕ → ℕ → ScriptKind → Type 0
 IsOfNoForm bytes line kind =
     (ast : Ast) × Accepts bytes ast × IsRefused ast.statements × KeepsRules ast.statements
