@@ -5,25 +5,28 @@ ghost use Rattle.exec_graph.specs.inner.Spots.{spots};
 
 use crate::spots::Spot;
 use combine_table::Comb;
-use dofn_eval::Fun;
-use flume_types::Ty;
 use std::alloc::{AllocError, Global};
 use std::marker::Model;
 
-/// The types of a table's keys and of its values.
-#[derive(Debug, Drop)]
-pub struct Table {
-    pub key: Ty,
-    pub value: Ty,
-}
-
 /// What a step does with an element.
-#[derive(Drop)]
+#[derive(Clone, Copy, PartialEq, Eq, Debug)]
 pub enum Does {
-    /// Calls the function.
-    Call(Fun),
-    /// Combines the list of a pair of a key and a list, whose types are the table's.
-    Combine(Comb, Table),
+    /// Calls the function of that number.
+    Call(u32),
+    /// Combines the list of a pair of a key and a list.
+    Combine(Comb),
+    /// Makes the pair of the element and 1.
+    Pair,
+    /// Makes the value of a pair a left side.
+    TagLeft,
+    /// Makes the value of a pair a right side.
+    TagRight,
+    /// Makes the list of eithers of a key the record of its lefts and its rights.
+    Split,
+    /// Makes the pair of 0 and the element.
+    Solo,
+    /// Gives the members of the list of a key.
+    Spread,
 }
 
 /// An output of a step: its number, where it is read, and the steps on what it gives.

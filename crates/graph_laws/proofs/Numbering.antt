@@ -3,9 +3,11 @@ use Rattle.std.proofs.Common.{◌≡◌, ℕ, ◌<◌, ◌≤◌, Bool, true, fa
 use Rattle.std.proofs.lemmas.Bool.{eqb-true, eq-eqb, false≢true, lt-ltb, le-ltb}
 use Rattle.std.proofs.lemmas.List.Folds.{flat_map-map}
 use Rattle.std.specs.List.{flat_map, AllByRecursion}
-use Rattle.exec_graph.specs.Sets.{gather}
-use Rattle.exec_graph.specs.Meaning.{Collection, through, place, IsKept, FitsForest, total, node_at, is_out, has_out, OutsDiffer}
-use Rattle.exec_graph.proofs.Bagging.{Swaps}
+use Rattle.flume_collection.specs.Sets.{gather}
+use Rattle.exec_graph.specs.Meaning.{through, place, IsKept, FitsForest, total, node_at, is_out, has_out, OutsDiffer}
+use Rattle.flume_collection.specs.Collection.{Collection}
+use Rattle.exec_graph.specs.World.{World}
+use Rattle.flume_collection.proofs.Bagging.{Swaps}
 use Rattle.exec_graph.specs.Forests.{Label, Forest, Bare, Grow, after, after_out, new_out, new_label, numbered}
 use Rattle.graph_laws.specs.Joining.{set_node, without, reread_entry}
 use Rattle.graph_laws.specs.Kids.{number_in}
@@ -120,23 +122,23 @@ at_rest k n s x y false true e o = absurd (false≢true (sym o))
 at_rest k n s x y false false e o = refl
 
 -- the numbered forest holds
-pub fits_numbered : (m k : Place → Collection) (n s : ℕ) (v : Collection) (f : Forest)
+pub fits_numbered : (w : World) (m k : Place → Collection) (n s : ℕ) (v : Collection) (f : Forest)
     → OutsDiffer f → ((j : ℕ) → has_out j f ≡ true → k (place n (number_in s f j)) ≡ m (place n j))
-    → FitsForest m n v f → FitsForest k n v (numbered s f)
-fits_numbered m k n s v Bare d h a = tt
-fits_numbered m k n s v (Grow l kids rest) d h a = (
-  kept_new k m n s l.out (through l v) (λ j o. ap
+    → FitsForest w m n v f → FitsForest w k n v (numbered s f)
+fits_numbered w m k n s v Bare d h a = tt
+fits_numbered w m k n s v (Grow l kids rest) d h a = (
+  kept_new k m n s l.out (through w l v) (λ j o. ap
       (λ (b : Bool). k (place n (cond b s (cond (has_out j kids)
       (number_in (after_out s l.out) kids j) (number_in (after (after_out s l.out) kids) rest j)))))
       (sym o) ∙ h j (or_left (is_out l.out j) (has_out j kids || has_out j rest) o)) a.0,
-  fits_numbered m k n (after_out s l.out) (through l v) kids d.2 (λ j o.
+  fits_numbered w m k n (after_out s l.out) (through w l v) kids d.2 (λ j o.
       let e : is_out l.out j ≡ false = not_here (is_out l.out j) (has_out j kids || has_out j rest)
       (d.0 j) (or_left (has_out j kids) (has_out j rest) o) in
       at_kids k n s (number_in (after_out s l.out) kids j)
       (number_in (after (after_out s l.out) kids) rest j) (is_out l.out j) (has_out j kids) e o
       ∙ h j (or_right (is_out l.out j) (has_out j kids || has_out j rest)
       (or_left (has_out j kids) (has_out j rest) o))) a.1,
-  fits_numbered m k n (after (after_out s l.out) kids) v rest d.3 (λ j o.
+  fits_numbered w m k n (after (after_out s l.out) kids) v rest d.3 (λ j o.
       let e : is_out l.out j ≡ false = not_here (is_out l.out j) (has_out j kids || has_out j rest)
       (d.0 j) (or_right (has_out j kids) (has_out j rest) o) in
       let i : has_out j kids ≡ false = not_here (has_out j kids) (has_out j rest) (d.1 j) o in
@@ -146,13 +148,13 @@ fits_numbered m k n s v (Grow l kids rest) d h a = (
       (or_right (has_out j kids) (has_out j rest) o))) a.2,
 )
 
-pub total-numbered : {Y : Type 0} (p : Collection → Label → List Y)
+pub total-numbered : (w : World) {Y : Type 0} (p : Collection → Label → List Y)
     → ((v : Collection) (s : ℕ) (l : Label) → p v (new_label s l) ≡ p v l)
-    → (s : ℕ) (v : Collection) (f : Forest) → total p v (numbered s f) ≡ total p v f
-total-numbered p h s v Bare = refl
-total-numbered p h s v (Grow l kids rest) =
-    let a = total-numbered p h (after_out s l.out) (through l v) kids in
-    let b = total-numbered p h (after (after_out s l.out) kids) v rest in
+    → (s : ℕ) (v : Collection) (f : Forest) → total w p v (numbered s f) ≡ total w p v f
+total-numbered w p h s v Bare = refl
+total-numbered w p h s v (Grow l kids rest) =
+    let a = total-numbered w p h (after_out s l.out) (through w l v) kids in
+    let b = total-numbered w p h (after (after_out s l.out) kids) v rest in
     let c = h v s l in
     cc
 

@@ -3,11 +3,13 @@ use Rattle.std.proofs.Common.{◌≡◌, ℕ, ◌<◌, Bool, true, false, cond, 
 use Rattle.std.proofs.lemmas.Bool.{eqb-true, eq-eqb, false≢true}
 use Rattle.std.specs.List.{flat_map, AllByRecursion}
 use Rattle.flume_value.specs.Bag.{put}
-use Rattle.exec_graph.specs.Sets.{put_new}
-use Rattle.exec_graph.specs.Traps.{trap_le}
-use Rattle.exec_graph.proofs.Orders.{bags, sets, one_bag}
+use Rattle.flume_collection.specs.Sets.{put_new}
+use Rattle.flume_collection.specs.Traps.{trap_le}
+use Rattle.flume_collection.proofs.Orders.{bags, sets, one_bag}
 use Rattle.exec_graph.specs.Forests.{Label, Forest, Bare, Grow, with_out, numbered}
-use Rattle.exec_graph.specs.Meaning.{Collection, through, place, IsKept, FitsForest, total, step_own, step_traps, Holds, own, traps, node_at, reads, is_out, has_out, IsThere, OutsDiffer, HasOuts, IsSound, KeepsMeaning}
+use Rattle.exec_graph.specs.Meaning.{through, place, IsKept, FitsForest, total, step_own, step_traps, Holds, own, traps, node_at, reads, is_out, has_out, IsThere, OutsDiffer, HasOuts, IsSound, KeepsMeaning}
+use Rattle.flume_collection.specs.Collection.{Collection}
+use Rattle.exec_graph.specs.World.{World}
 use Rattle.graph_laws.specs.Joining.{set_node, reread, reread_entry}
 use Rattle.graph_laws.specs.Kids.{number_in, moved_out, refitted, out_named, named_by, out_kept, kept_by, same_number}
 use Rattle.graph_laws.proofs.Numbering.{old_in, sum_renamed, fits_numbered, total-numbered, number_back}
@@ -28,11 +30,13 @@ use Rattle.flume_value.proofs.EachLemmas.{Each-both, Each-weaker}
 pub record IsRefit (n : ℕ) (f new : Forest) (r : ℕ → ℕ) : Type 0 where
   pub back : ℕ → ℕ
   pub found : (j : ℕ) → has_out j f ≡ true → back (r j) ≡ j
-  pub fits : (m k : Place → Collection) (v : Collection)
-      → ((j : ℕ) → has_out j f ≡ true → k (place n (r j)) ≡ m (place n j)) → FitsForest m n v f
-      → FitsForest k n v new
-  pub own : (i : ℕ) (v : Collection) → total (step_own i) v new ≡ total (step_own i) v f
-  pub traps : (v : Collection) → total (step_traps) v new ≡ total (step_traps) v f
+  pub fits : (w : World) (m k : Place → Collection) (v : Collection)
+      → ((j : ℕ) → has_out j f ≡ true → k (place n (r j)) ≡ m (place n j)) → FitsForest w m n v f
+      → FitsForest w k n v new
+  pub own : (w : World) (i : ℕ) (v : Collection) → total w (step_own w i) v new ≡ total w
+      (step_own w i) v f
+  pub traps : (w : World) (v : Collection) → total w (step_traps w) v new ≡ total w
+      (step_traps w) v f
 
 abbrev values : (Place → Collection) → ℕ → (ℕ → ℕ) → Place → Collection
 values m n back c = cond (eqb c.node n) (m (place n (back c.out))) (m c)
@@ -72,7 +76,7 @@ KeepsMeaning-refitted g n c f new r ok at s w m meets =
     (λ e a. same (reads e.node) a) g.nodes ok.there in
     let reads_n : R (entry n (Pdo c f)) = all_found R g.nodes n (Pdo c f) at reads_all in
     let reads_set : AllByRecursion R set = all_set R g.nodes n z reads_all reads_n in
-    let at_n : FitsForest m n (m c) f = all_found (λ e. Holds w m e.number e.node) g.nodes n
+    let at_n : FitsForest w m n (m c) f = all_found (λ e. Holds w m e.number e.node) g.nodes n
     (Pdo c f) at meets in
     let H : Entry → Type 0 = λ e. Holds w k e.number (reread mv e.node) in
     let others : AllByRecursion (λ e. (e.number ≡ n → ⊥) → H e) g.nodes =
@@ -80,23 +84,24 @@ KeepsMeaning-refitted g n c f new r ok at s w m meets =
     (λ e a b apart. holds_reread w k m mv e.number e.node b
     (λ i. beyond m n s.back (place e.number i) (eqb e.number n) refl apart) a) g.nodes meets
     reads_all in
-    let here : H (entry n z) = subst (λ (v : Collection). FitsForest k n v new) (sym reads_n.0)
-    (s.fits m k (m c) (λ j e. at_new m n f new r s j e) at_n) in (
+    let here : H (entry n z) = subst (λ (v : Collection). FitsForest w k n v new) (sym reads_n.0)
+    (s.fits w m k (m c) (λ j e. at_new m n f new r s j e) at_n) in (
       k,
       all_map (reread_entry mv) H (λ e. Holds w k e.number e.node) (λ e a. a) set
           (all_set_others H g.nodes n z ok.differ others here),
       record {
         outputs = sym (map_reread k m mv g.outputs (same g.outputs ok.told));
-        own = λ i. one_bag (flat_map (λ (e : Entry). own m i e.node) g.nodes)
-            (flat_map (λ (e : Entry). own k i e.node) (refitted g n c new r).nodes)
-            (sum_renamed put bags (λ (e : Entry). own m i e.node) (λ (e : Entry). own k i e.node)
+        own = λ i. one_bag (flat_map (λ (e : Entry). own w m i e.node) g.nodes)
+            (flat_map (λ (e : Entry). own w k i e.node) (refitted g n c new r).nodes)
+            (sum_renamed put bags (λ (e : Entry). own w m i e.node) (λ
+                (e : Entry). own w k i e.node)
             g.nodes n (Pdo c f) z mv [] at
-            (Each-weaker R (λ e. own k i (reread mv e.node) ≡ own m i e.node)
-            (λ e a. own-reread k m mv i e.node a) set reads_set) (s.own i (m c)));
-        traps = sum_renamed (put_new trap_le) sets (λ (e : Entry). traps m e.node)
-            (λ (e : Entry). traps k e.node) g.nodes n (Pdo c f) z mv [] at
-            (Each-weaker R (λ e. traps k (reread mv e.node) ≡ traps m e.node)
-            (λ e a. traps-reread k m mv e.node a) set reads_set) (s.traps (m c));
+            (Each-weaker R (λ e. own w k i (reread mv e.node) ≡ own w m i e.node)
+            (λ e a. own-reread w k m mv i e.node a) set reads_set) (s.own w i (m c)));
+        traps = sum_renamed (put_new trap_le) sets (λ (e : Entry). traps w m e.node)
+            (λ (e : Entry). traps w k e.node) g.nodes n (Pdo c f) z mv [] at
+            (Each-weaker R (λ e. traps w k (reread mv e.node) ≡ traps w m e.node)
+            (λ e a. traps-reread w k m mv e.node a) set reads_set) (s.traps w (m c));
       },
     )
 
@@ -180,19 +185,19 @@ pub refit_numbered : (n : ℕ) (f : Forest) → OutsDiffer f
 refit_numbered n f d = record {
   back = λ i. old_in 0 f i;
   found = λ j h. (number_back 0 f j h).back;
-  fits = λ m k v e a. fits_numbered m k n 0 v f d e a;
-  own = λ i v. total-numbered (step_own i) (λ v s l. refl) 0 v f;
-  traps = λ v. total-numbered (step_traps) (λ v s l. refl) 0 v f;
+  fits = λ w m k v e a. fits_numbered w m k n 0 v f d e a;
+  own = λ w i v. total-numbered w (step_own w i) (λ v s l. refl) 0 v f;
+  traps = λ w v. total-numbered w (step_traps w) (λ v s l. refl) 0 v f;
 }
 
 -- ---- other numbers
-total-named : {Y : Type 0} (p : Collection → Label → List Y)
+total-named : (w : World) {Y : Type 0} (p : Collection → Label → List Y)
     → ((v : Collection) (o : Option ℕ) (l : Label) → p v (with_out o l) ≡ p v l)
-    → (r : ℕ → ℕ) (v : Collection) (f : Forest) → total p v (named_by r f) ≡ total p v f
-total-named p h r v Bare = refl
-total-named p h r v (Grow l kids rest) =
-    let a = total-named p h r (through l v) kids in
-    let b = total-named p h r v rest in
+    → (r : ℕ → ℕ) (v : Collection) (f : Forest) → total w p v (named_by r f) ≡ total w p v f
+total-named w p h r v Bare = refl
+total-named w p h r v (Grow l kids rest) =
+    let a = total-named w p h r (through w l v) kids in
+    let b = total-named w p h r v rest in
     let c = h v (out_named r l.out) l in
     cc
 
@@ -202,17 +207,18 @@ kept_named : (m k : Place → Collection) (n : ℕ) (r : ℕ → ℕ) (o : Optio
 kept_named m k n r None u e a = tt
 kept_named m k n r (Some j) u e a = e j (eq-eqb j j refl) ∙ a
 
-fits_named : (m k : Place → Collection) (n : ℕ) (r : ℕ → ℕ) (v : Collection) (f : Forest)
-    → ((j : ℕ) → has_out j f ≡ true → k (place n (r j)) ≡ m (place n j)) → FitsForest m n v f
-    → FitsForest k n v (named_by r f)
-fits_named m k n r v Bare e a = tt
-fits_named m k n r v (Grow l kids rest) e a = (
-  kept_named m k n r l.out (through l v) (λ j o. e j
+fits_named : (w : World) (m k : Place → Collection) (n : ℕ) (r : ℕ → ℕ) (v : Collection)
+    (f : Forest)
+    → ((j : ℕ) → has_out j f ≡ true → k (place n (r j)) ≡ m (place n j)) → FitsForest w m n v f
+    → FitsForest w k n v (named_by r f)
+fits_named w m k n r v Bare e a = tt
+fits_named w m k n r v (Grow l kids rest) e a = (
+  kept_named m k n r l.out (through w l v) (λ j o. e j
       (or_left (is_out l.out j) (has_out j kids || has_out j rest) o)) a.0,
-  fits_named m k n r (through l v) kids (λ j o. e j
+  fits_named w m k n r (through w l v) kids (λ j o. e j
       (or_right (is_out l.out j) (has_out j kids || has_out j rest)
       (or_left (has_out j kids) (has_out j rest) o))) a.1,
-  fits_named m k n r v rest (λ j o. e j (or_right (is_out l.out j)
+  fits_named w m k n r v rest (λ j o. e j (or_right (is_out l.out j)
       (has_out j kids || has_out j rest) (or_right (has_out j kids) (has_out j rest) o))) a.2,
 )
 
@@ -221,19 +227,19 @@ pub refit_named : (n : ℕ) (f : Forest) (r back : ℕ → ℕ) → ((j : ℕ) �
 refit_named n f r back h = record {
   back = back;
   found = λ j o. h j;
-  fits = λ m k v e a. fits_named m k n r v f e a;
-  own = λ i v. total-named (step_own i) (λ v o l. refl) r v f;
-  traps = λ v. total-named (step_traps) (λ v o l. refl) r v f;
+  fits = λ w m k v e a. fits_named w m k n r v f e a;
+  own = λ w i v. total-named w (step_own w i) (λ v o l. refl) r v f;
+  traps = λ w v. total-named w (step_traps w) (λ v o l. refl) r v f;
 }
 
 -- ---- fewer outputs
-total-kept : {Y : Type 0} (p : Collection → Label → List Y)
+total-kept : (w : World) {Y : Type 0} (p : Collection → Label → List Y)
     → ((v : Collection) (o : Option ℕ) (l : Label) → p v (with_out o l) ≡ p v l)
-    → (keep : ℕ → Bool) (v : Collection) (f : Forest) → total p v (kept_by keep f) ≡ total p v f
-total-kept p h keep v Bare = refl
-total-kept p h keep v (Grow l kids rest) =
-    let a = total-kept p h keep (through l v) kids in
-    let b = total-kept p h keep v rest in
+    → (keep : ℕ → Bool) (v : Collection) (f : Forest) → total w p v (kept_by keep f) ≡ total w p v f
+total-kept w p h keep v Bare = refl
+total-kept w p h keep v (Grow l kids rest) =
+    let a = total-kept w p h keep (through w l v) kids in
+    let b = total-kept w p h keep v rest in
     let c = h v (out_kept keep l.out) l in
     cc
 
@@ -244,17 +250,18 @@ kept_fewer m k n keep None u e a = tt
 kept_fewer m k n keep (Some j) u e a = elim (keep j) as (λ b. IsKept k n (cond b (Some j) None) u)
     [ true ↦ e j (eq-eqb j j refl) ∙ a | false ↦ tt ]
 
-fits_kept : (m k : Place → Collection) (n : ℕ) (keep : ℕ → Bool) (v : Collection) (f : Forest)
-    → ((j : ℕ) → has_out j f ≡ true → k (place n j) ≡ m (place n j)) → FitsForest m n v f
-    → FitsForest k n v (kept_by keep f)
-fits_kept m k n keep v Bare e a = tt
-fits_kept m k n keep v (Grow l kids rest) e a = (
-  kept_fewer m k n keep l.out (through l v) (λ j o. e j
+fits_kept : (w : World) (m k : Place → Collection) (n : ℕ) (keep : ℕ → Bool) (v : Collection)
+    (f : Forest)
+    → ((j : ℕ) → has_out j f ≡ true → k (place n j) ≡ m (place n j)) → FitsForest w m n v f
+    → FitsForest w k n v (kept_by keep f)
+fits_kept w m k n keep v Bare e a = tt
+fits_kept w m k n keep v (Grow l kids rest) e a = (
+  kept_fewer m k n keep l.out (through w l v) (λ j o. e j
       (or_left (is_out l.out j) (has_out j kids || has_out j rest) o)) a.0,
-  fits_kept m k n keep (through l v) kids (λ j o. e j
+  fits_kept w m k n keep (through w l v) kids (λ j o. e j
       (or_right (is_out l.out j) (has_out j kids || has_out j rest)
       (or_left (has_out j kids) (has_out j rest) o))) a.1,
-  fits_kept m k n keep v rest (λ j o. e j (or_right (is_out l.out j)
+  fits_kept w m k n keep v rest (λ j o. e j (or_right (is_out l.out j)
       (has_out j kids || has_out j rest) (or_right (has_out j kids) (has_out j rest) o))) a.2,
 )
 
@@ -262,7 +269,7 @@ pub refit_kept : (n : ℕ) (f : Forest) (keep : ℕ → Bool) → IsRefit n f (k
 refit_kept n f keep = record {
   back = same_number;
   found = λ j o. refl;
-  fits = λ m k v e a. fits_kept m k n keep v f e a;
-  own = λ i v. total-kept (step_own i) (λ v o l. refl) keep v f;
-  traps = λ v. total-kept (step_traps) (λ v o l. refl) keep v f;
+  fits = λ w m k v e a. fits_kept w m k n keep v f e a;
+  own = λ w i v. total-kept w (step_own w i) (λ v o l. refl) keep v f;
+  traps = λ w v. total-kept w (step_traps w) (λ v o l. refl) keep v f;
 }
