@@ -20,6 +20,7 @@
 //! to its node.
 #![tactic(auto)]
 
+mod copies;
 mod edges;
 mod founded;
 mod given;
@@ -30,6 +31,7 @@ mod places;
 mod spots;
 mod step;
 
+pub use copies::copy_steps;
 pub use founded::is_founded;
 pub use graph::{Blocked, Entry, Graph, Node, Place};
 pub use laws::{meaning_law, step_law, typed_law};
