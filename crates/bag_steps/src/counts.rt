@@ -2,6 +2,7 @@ ghost use Rattle.std.specs.Prelude.{◌≡◌, [], IfOk};
 ghost use Rattle.std.specs.List.Sorted.{IsSorted};
 ghost use Rattle.flume_value.specs.Order.{value_cmp};
 ghost use Rattle.flume_value.specs.Bag.{bag_of};
+ghost use Rattle.bag_groups.specs.Pairs.{pair as pair_of};
 ghost use Rattle.bag_steps.specs.Counts.{counted, counted_traps};
 
 use crate::runs::run_of_value;
@@ -22,10 +23,17 @@ pub fn count(alloc: Global, bag: &[Value]) -> Result<Vec<Value>, AllocError>
     let mut at = 0;
     while at < bag.len() {
         let rest = &bag[at..];
-        let run = run_of_value(&rest[0], rest);
-        let number = Value::Int(run as i64);
-        pairs.push(pair(alloc, rest[0].copy(alloc)?, number)?)?;
+        let first = &rest[0];
+        let run = run_of_value(first, rest);
+        pairs.push(pair_of_count(alloc, first, run as i64)?)?;
         at += run;
     }
     Ok(pairs)
+}
+
+/// The pair of a value and how often it is there.
+fn pair_of_count(alloc: Global, value: &Value, times: i64) -> Result<Value, AllocError>
+    ensures { IfOk result (λ p. p ≡ pair_of value.now (Value.Int times)) }
+{
+    pair(alloc, value.copy(alloc)?, Value::Int(times))
 }

@@ -24,7 +24,8 @@ pub fn bags_law()
 pub fn ascending_law()
     ensures counted { (bag : List Value) → IsSorted value_cmp (counted bag) }
     ensures joined { (left right : List Value) → IsSorted value_cmp (joined left right) }
-    ensures greatest { (n : ℕ) (bag : List Value) → IsSorted value_cmp (greatest n (bag_of bag)) }
+    ensures greatest { (n : ℕ) (bag : List Value) →
+        IsSorted value_cmp (greatest n (bag_of bag)) }
 {}
 
 /// The counts of a bag are a table of ints, the join of two tables is a table of both sides, and
