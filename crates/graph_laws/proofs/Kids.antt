@@ -1,5 +1,5 @@
 -- A kid, and a sibling, keep what a graph means.
-use Rattle.std.proofs.Common.{◌≡◌, ℕ, ◌/◌, ◌<◌, Bool, true, false, cond, eqb, List, Some, refl, sym, ap, ◌∙◌, arith}
+use Rattle.std.proofs.Common.{◌≡◌, ℕ, ◌/◌, ◌<◌, Bool, true, false, cond, eqb, List, Some, refl, sym, ap, ◌∙◌, subst, arith}
 use Rattle.std.proofs.lemmas.Bool.{eqb-true, eq-eqb}
 use Rattle.std.specs.List.{AllByRecursion}
 use Rattle.exec_graph.specs.Forests.{Forest, numbered}
@@ -9,7 +9,11 @@ use Rattle.graph_laws.specs.Kids.{number_in, moved_out, refitted, named_by, kept
 use Rattle.exec_graph.specs.Readers.{is_read}
 use Rattle.exec_graph.proofs.Entries.{all_found}
 use Rattle.graph_laws.proofs.Changes.{node_at-without_other}
-use Rattle.graph_laws.proofs.Joining.{there_at}
+use Rattle.flume_types.specs.declared.types.Ty.{Ty}
+use Rattle.exec_graph.specs.Typing.{ForestTyped, KeepsTypes}
+use Rattle.graph_laws.proofs.TypedForests.{typed_beside, typed_grafted}
+use Rattle.graph_laws.proofs.TypedGraphs.{KeepsTypes-joined, KeepsTypes-refitted}
+use Rattle.graph_laws.proofs.Joining.{joined_values, own_stays, there_at}
 use Rattle.flume_value.proofs.EachLemmas.{Each-both}
 use Rattle.exec_graph.proofs.Numbered.{numbered_differ}
 use Rattle.graph_laws.proofs.NumberedHas.{numbered_has}
@@ -36,6 +40,12 @@ KeepsMeaning-then g h i a b w m meets =
       },
     )
 
+-- a rewrite that keeps all
+pub record IsKept (g h : Graph) : Type 0 where
+  pub sound : IsSound h
+  pub keeps : KeepsMeaning g h
+  pub types : KeepsTypes g h
+
 -- ---- graphs
 -- each read place of the node is kept
 held_by : (g : Graph) (n : ℕ) (c : Place) (f new : Forest) (r : ℕ → ℕ)
@@ -48,6 +58,7 @@ held_by g n c f new r at h x t i e = h x.out (there_at g.nodes x n c f e at t)
 pub record Refits (g : Graph) (n : ℕ) (c : Place) (f new : Forest) (r : ℕ → ℕ) : Type 0 where
   pub sound : IsSound (refitted g n c new r)
   pub keeps : KeepsMeaning g (refitted g n c new r)
+  pub types : KeepsTypes g (refitted g n c new r)
   pub here : node_at (refitted g n c new r).nodes n ≡ Some (Pdo c new)
 
 lower : (g : Graph) (n : ℕ) (c : Place) (f : Forest) → IsSound g
@@ -80,6 +91,7 @@ refits g n c f new r ok at s d h =
           (λ e. AllByRecursion H (reads e.node)) (λ e a b. held (reads e.node) a b) g.nodes ok.there
           (nodes_read g)) (held g.outputs ok.told (outputs_read g));
       keeps = KeepsMeaning-refitted g n c f new r ok at s;
+      types = KeepsTypes-refitted g n c f new r ok at s;
       here = node_at-map (moved_out n r) (set_node g.nodes n (Pdo c new)) n
           ∙ ap (mapped (moved_out n r)) (node_at-set_same g.nodes n (Pdo c new) (Pdo c f) at)
           ∙ ap (λ (x : Place). Some (Pdo x new)) (stays_out n r c (lower g n c f ok at));
@@ -92,8 +104,7 @@ other_at g n q c d new h r apart at = node_at-map (moved_out n r) (set_node g.no
     ∙ ap (mapped (moved_out n r)) (node_at-set_other g.nodes n q (Pdo c new) (Pdo d h) apart at)
 
 pub renews : (g : Graph) (n : ℕ) (c : Place) (f : Forest) → IsSound g
-    → node_at g.nodes n ≡ Some (Pdo c f) → IsSound (renewed g n c f)
-    × KeepsMeaning g (renewed g n c f)
+    → node_at g.nodes n ≡ Some (Pdo c f) → IsKept g (renewed g n c f)
 renews g n c f ok at =
     let keep : ℕ → Bool = λ j. is_read g (place n j) in
     let k : Forest = kept_by keep f in
@@ -105,7 +116,11 @@ renews g n c f ok at =
     let b : Refits h n c k (numbered 0 k) (λ j. number_in 0 k j) =
     refits h n c k (numbered 0 k) (λ j. number_in 0 k j) a.sound a.here (refit_numbered n k dk)
     (numbered_differ 0 k) (λ j o i. numbered_has 0 k j o) in
-    (b.sound, KeepsMeaning-then g h (renewed g n c f) a.keeps b.keeps)
+    record {
+      sound = b.sound;
+      keeps = KeepsMeaning-then g h (renewed g n c f) a.keeps b.keeps;
+      types = λ s t. b.types s (a.types s t);
+    }
 
 even_back : (j : ℕ) → (even j) / 2 ≡ j
 even_back j = omega arith
@@ -132,8 +147,7 @@ joined_here g p q c d f h new can away =
     by false e = refl
 
 pub kid_sound : (g : Graph) (p k q : ℕ) (c : Place) (f h : Forest) → IsSound g
-    → CanKid g p k q c f h → IsSound (with_kid g p k q c f h)
-    × KeepsMeaning g (with_kid g p k q c f h)
+    → CanKid g p k q c f h → IsKept g (with_kid g p k q c f h)
 kid_sound g p k q c f h ok can =
     let r : ℕ → ℕ = ok.ranked.0 in
     let c_p : r c.node < r p = reads_lower g p c f r can.keeper ok.ranked.1 in
@@ -180,16 +194,23 @@ kid_sound g p k q c f h ok can =
     let g3 : Graph = as_kid g2 p q c (even k) near far in
     let p3 : node_at g3.nodes p ≡ Some (Pdo c (grafted (even k) far near)) =
     joined_here g2 p q c (place p (even k)) near far (grafted (even k) far near) join c_q in
-    let e = renews g3 p c (grafted (even k) far near) good.ok p3 in (
-      e.0,
-      KeepsMeaning-then g g1 (with_kid g p k q c f h) a.keeps
+    let joined_types : KeepsTypes g2 g3 =
+    KeepsTypes-joined g2 p q c (place p (even k)) near far (grafted (even k) far near) b.sound join
+    (λ s types x y. let m = joined_values types p q far in
+    typed_grafted s m p (even k) (types c) near far x
+    (subst (λ (t : Ty). ForestTyped s m p t far)
+    (sym (own_stays g2 types p q c (place p (even k)) near far join (even k) has_2k)) y)) in
+    let e = renews g3 p c (grafted (even k) far near) good.ok p3 in
+    record {
+      sound = e.sound;
+      keeps = KeepsMeaning-then g g1 (with_kid g p k q c f h) a.keeps
           (KeepsMeaning-then g1 g2 (with_kid g p k q c f h) b.keeps
-          (KeepsMeaning-then g2 g3 (with_kid g p k q c f h) good.keeps e.1)),
-    )
+          (KeepsMeaning-then g2 g3 (with_kid g p k q c f h) good.keeps e.keeps));
+      types = λ s t. e.types s (joined_types s (b.types s (a.types s t)));
+    }
 
 pub sibling_sound : (g : Graph) (p q : ℕ) (c : Place) (f h : Forest) → IsSound g
-    → CanPair g p q c f h → IsSound (with_sibling g p q c f h)
-    × KeepsMeaning g (with_sibling g p q c f h)
+    → CanPair g p q c f h → IsKept g (with_sibling g p q c f h)
 sibling_sound g p q c f h ok can =
     let c_p : c.node ≡ p → ⊥ = lower g p c f ok can.keeper in
     let c_q : c.node ≡ q → ⊥ = lower g q c h ok can.other in
@@ -227,12 +248,17 @@ sibling_sound g p q c f h ok can =
     let g3 : Graph = as_sibling g2 p q c near far in
     let p3 : node_at g3.nodes p ≡ Some (Pdo c (beside near far)) =
     joined_here g2 p q c c near far (beside near far) join c_q in
-    let e = renews g3 p c (beside near far) good.ok p3 in (
-      e.0,
-      KeepsMeaning-then g g1 (with_sibling g p q c f h) a.keeps
+    let joined_types : KeepsTypes g2 g3 =
+    KeepsTypes-joined g2 p q c c near far (beside near far) b.sound join
+    (λ s types x y. typed_beside s (joined_values types p q far) p (types c) near far x y) in
+    let e = renews g3 p c (beside near far) good.ok p3 in
+    record {
+      sound = e.sound;
+      keeps = KeepsMeaning-then g g1 (with_sibling g p q c f h) a.keeps
           (KeepsMeaning-then g1 g2 (with_sibling g p q c f h) b.keeps
-          (KeepsMeaning-then g2 g3 (with_sibling g p q c f h) good.keeps e.1)),
-    )
+          (KeepsMeaning-then g2 g3 (with_sibling g p q c f h) good.keeps e.keeps));
+      types = λ s t. e.types s (joined_types s (b.types s (a.types s t)));
+    }
 
 -- ---- as the laws say it
 
@@ -240,10 +266,10 @@ pub same_kid : (g : Graph) (p k q : ℕ) (c : Place) (f h : Forest) → IsSound 
     → CanKid g p k q c f h → SameMeaning g (with_kid g p k q c f h)
 same_kid g p k q c f h ok can =
     let e = kid_sound g p k q c f h ok can in
-    SameMeaning-from_kept g (with_kid g p k q c f h) ok e.0 e.1
+    SameMeaning-from_kept g (with_kid g p k q c f h) ok e.sound e.keeps
 
 pub same_sibling : (g : Graph) (p q : ℕ) (c : Place) (f h : Forest) → IsSound g
     → CanPair g p q c f h → SameMeaning g (with_sibling g p q c f h)
 same_sibling g p q c f h ok can =
     let e = sibling_sound g p q c f h ok can in
-    SameMeaning-from_kept g (with_sibling g p q c f h) ok e.0 e.1
+    SameMeaning-from_kept g (with_sibling g p q c f h) ok e.sound e.keeps

@@ -4,7 +4,9 @@ pub mod Disjoint
 pub mod Wellness
 pub mod Numbering
 pub mod NumberedHas
+pub mod TypedForests
 pub mod Refitting
+pub mod TypedGraphs
 pub mod ReadPlaces
 pub mod Renaming
 pub mod Kids

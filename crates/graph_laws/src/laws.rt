@@ -6,7 +6,7 @@ ghost use Rattle.exec_graph.specs.declared.graph.Graph.{Graph};
 ghost use Rattle.exec_graph.specs.declared.graph.Place.{Place};
 ghost use Rattle.exec_graph.specs.Forests.{Forest, Label};
 ghost use Rattle.exec_graph.specs.Meaning.{IsSound, KeepsMeaning, SameMeaning, through, total, step_own, step_traps};
-ghost use Rattle.exec_graph.specs.Typing.{IsTyped, Signatures};
+ghost use Rattle.exec_graph.specs.Typing.{KeepsTypes};
 ghost use Rattle.exec_graph.specs.Wellformed.{IsGraphOk};
 ghost use Rattle.exec_graph.specs.World.{World};
 ghost use Rattle.flume_collection.specs.Collection.{Collection, together};
@@ -23,8 +23,8 @@ pub fn lift_law()
     ensures one_same { (n : ℕ) (g : Graph) → IsGraphOk g → SameMeaning g (lifted_at n g) }
     ensures marks { (marks : ℕ → Option Comb → Option Comb) (g : Graph) →
         KeepsMeaning g (remarked marks g) }
-    ensures typed { (marks : ℕ → Option Comb → Option Comb) (s : Signatures) (g : Graph) →
-        IsTyped s g → IsTyped s (remarked marks g) }
+    ensures typed { (marks : ℕ → Option Comb → Option Comb) (g : Graph) →
+        KeepsTypes g (remarked marks g) }
 {}
 
 /// Where a Pdo reads an output of another, its roots may become kids of the step with that output:
@@ -36,6 +36,8 @@ pub fn kid_law()
         CanKid g p k q c f h → KeepsMeaning g (with_kid g p k q c f h) }
     ensures same { (g : Graph) (p k q : ℕ) (c : Place) (f h : Forest) → IsSound g →
         CanKid g p k q c f h → SameMeaning g (with_kid g p k q c f h) }
+    ensures typed { (g : Graph) (p k q : ℕ) (c : Place) (f h : Forest) → IsSound g →
+        CanKid g p k q c f h → KeepsTypes g (with_kid g p k q c f h) }
 {}
 
 /// Where two Pdos read one collection, the roots of the one may stand behind those of the other: a
@@ -47,6 +49,8 @@ pub fn sibling_law()
         CanPair g p q c f h → KeepsMeaning g (with_sibling g p q c f h) }
     ensures same { (g : Graph) (p q : ℕ) (c : Place) (f h : Forest) → IsSound g →
         CanPair g p q c f h → SameMeaning g (with_sibling g p q c f h) }
+    ensures typed { (g : Graph) (p q : ℕ) (c : Place) (f h : Forest) → IsSound g →
+        CanPair g p q c f h → KeepsTypes g (with_sibling g p q c f h) }
 {}
 
 /// Where a rewrite keeps the meaning, and so does the next, both together do.

@@ -2,10 +2,13 @@ use Rattle.graph_laws.proofs.Kids.{kid_sound, same_kid}
 use Rattle.graph_laws.proofs.laws.kid_law.Goals as goal
 
 pub returns-clause-sound : goal.returns-clause-sound
-returns-clause-sound c = λ g p k q at f h ok can. (kid_sound g p k q at f h ok can).0
+returns-clause-sound c = λ g p k q at f h ok can. (kid_sound g p k q at f h ok can).sound
 
 pub returns-clause-kept : goal.returns-clause-kept
-returns-clause-kept c = λ g p k q at f h ok can. (kid_sound g p k q at f h ok can).1
+returns-clause-kept c = λ g p k q at f h ok can. (kid_sound g p k q at f h ok can).keeps
 
 pub returns-clause-same : goal.returns-clause-same
 returns-clause-same c = same_kid
+
+pub returns-clause-typed : goal.returns-clause-typed
+returns-clause-typed c = λ g p k q at f h ok can. (kid_sound g p k q at f h ok can).types
