@@ -69,7 +69,7 @@ top_nodes many origin n input =
 -- how many nodes stand before the last of a collection
 abbrev pub before_last : Made → ℕ
 before_last (made.Input file columns) = 0
-before_last (made.Do source function) = 0
+before_last (made.Do source function output) = 0
 before_last (made.Group source) = 0
 before_last (made.Combine source by) = 0
 before_last (made.Flatten sources) = 0
@@ -86,7 +86,7 @@ inputs_of _ = 0
 -- the script, and `source` is the number of the next input
 abbrev pub made_nodes : (ℕ → Place) → ℕ → ℕ → ℕ → Made → List Entry
 made_nodes gives origin source n (made.Input file columns) = entry n (Source source) ∷ []
-made_nodes gives origin source n (made.Do input function) =
+made_nodes gives origin source n (made.Do input function output) =
     entry n (last_step origin (does.Call function) (gives input)) ∷ []
 made_nodes gives origin source n (made.Group input) =
     entry n (Gbk (gives input) origin true None) ∷ []

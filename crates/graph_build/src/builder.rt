@@ -133,7 +133,11 @@ fn push_operation(
     } = start;
     match made {
         Made::Input { .. } => push_node(nodes, node, Node::Source(source)),
-        Made::Do { source, function } => {
+        Made::Do {
+            source,
+            function,
+            ..
+        } => {
             let does = Does::Call(number_of(*function)?);
             let input = place_in(giving, *source);
             push_last_step(alloc, start, does, input, nodes)
