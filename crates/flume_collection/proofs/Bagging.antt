@@ -1,7 +1,7 @@
 use Rattle.std.proofs.Common.{◌≡◌, Bool, true, false, cond, List, [], ◌∷◌, ◌++◌, refl, sym, ap, ◌∙◌, subst}
 use Rattle.std.specs.List.{flat_map}
 use Rattle.std.proofs.lemmas.List.Concat.{flat_map-append}
-use Rattle.exec_graph.specs.Sets.{IsOrder, put_new, gather, set_of}
+use Rattle.flume_collection.specs.Sets.{IsOrder, put_new, gather, set_of}
 
 -- one element more, and all of a list put in
 abbrev pub put_by : {X : Type 0} → (X → X → Bool) → X → List X → List X
