@@ -75,12 +75,18 @@ fn combine_one(
         ++ map (trap_named origin) (traps_of_each (combined_of by) (group.now ∷ []))) }
 {
     match combine_group(alloc, by, group) {
-        Ok(value) => values.push(value),
-        Err(KeyFault::Trap { kind, key }) => traps.push(Trap {
-            origin,
-            element: key,
-            kind,
-        }),
+        Ok(value) => {
+            values.push(value)?;
+            Ok(())
+        }
+        Err(KeyFault::Trap { kind, key }) => {
+            traps.push(Trap {
+                origin,
+                element: key,
+                kind,
+            })?;
+            Ok(())
+        }
         Err(KeyFault::Memory) => Err(AllocError),
     }
 }

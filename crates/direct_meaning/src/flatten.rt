@@ -1,11 +1,10 @@
 // Collections together.
-ghost use Rattle.std.specs.Prelude.{◌≡◌, ◌++◌, All, IfOk, OnOk, Some, slice_get};
+ghost use Rattle.std.specs.Prelude.{◌≡◌, ◌++◌, IfOk, OnOk};
 ghost use Rattle.std.specs.List.{flat_map, list_any};
 ghost use Rattle.flume_value.specs.Bag.{bag_of};
-ghost use Rattle.direct_meaning.specs.declared.kept.Kept.{Kept as Kept_};
-ghost use Rattle.direct_meaning.specs.inner.Kept.{members_at, trapped_at};
+ghost use Rattle.direct_meaning.specs.inner.Kept.{is_trapped as trapped_in, kept_in, members_of};
 
-use crate::kept::{Kept, kept_at};
+use crate::kept::{Kept, find};
 use flume_value::{Value, copy_all, sorted};
 use std::alloc::{AllocError, Global};
 
@@ -16,35 +15,46 @@ pub(crate) fn together(
     table: &[Option<Kept>],
     sources: &[usize],
 ) -> Result<Kept, AllocError>
-    requires { All (λ source. (kept : Kept_) × (slice_get table.now source ≡ Some (Some kept)))
-        sources.now }
     ensures members { IfOk result (λ kept. kept.members.items
-        ≡ bag_of (flat_map (λ source. members_at (slice_get table.now source)) sources.now)) }
+        ≡ bag_of (flat_map (λ source. members_of (kept_in table.now source)) sources.now)) }
     ensures trapped { IfOk result (λ kept. kept.trapped
-        ≡ list_any (λ source. trapped_at (slice_get table.now source)) sources.now) }
-{
-    let members = sorted(all_members(alloc, table, sources)?)?;
-    let trapped = sources
-        .iter()
-        .any(|source| kept_at(table, *source).trapped);
-    Ok(Kept { members, trapped })
-}
-
-/// Copies of the members of the collections of these numbers, one collection after another.
-fn all_members(
-    alloc: Global,
-    table: &[Option<Kept>],
-    sources: &[usize],
-) -> Result<Vec<Value>, AllocError>
-    requires { All (λ source. (kept : Kept_) × (slice_get table.now source ≡ Some (Some kept)))
-        sources.now }
-    ensures { IfOk result (λ all. all.items
-        ≡ flat_map (λ source. members_at (slice_get table.now source)) sources.now) }
+        ≡ list_any (λ source. trapped_in (kept_in table.now source)) sources.now) }
 {
     let mut all = Vec::new(alloc);
     for source in sources {
-        let members = kept_at(table, *source).members.as_slice();
-        all.append(&mut copy_all(alloc, members)?.into_vec())?;
+        append_members(alloc, table, *source, &mut all)?;
     }
-    Ok(all)
+    Ok(Kept {
+        members: sorted(all)?,
+        trapped: sources.iter().any(|source| is_trapped(table, *source)),
+    })
+}
+
+/// Puts copies of the members of a collection behind others.
+fn append_members(
+    alloc: Global,
+    table: &[Option<Kept>],
+    source: usize,
+    all: &mut Vec<Value>,
+) -> Result<(), AllocError>
+    ensures { OnOk result (all.new.items
+        ≡ all.old.items ++ members_of (kept_in table.now source)) }
+{
+    match find(table, source) {
+        Some(kept) => {
+            all.append(&mut copy_all(alloc, kept.members.as_slice())?.into_vec())?;
+            Ok(())
+        }
+        None => Ok(()),
+    }
+}
+
+/// Whether a trap is behind a collection.
+fn is_trapped(table: &[Option<Kept>], source: usize) -> bool
+    ensures { result ≡ trapped_in (kept_in table.now source) }
+{
+    match find(table, source) {
+        Some(kept) => kept.trapped,
+        None => false,
+    }
 }

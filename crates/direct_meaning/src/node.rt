@@ -1,8 +1,9 @@
 // What a node makes.
-ghost use Rattle.std.specs.Prelude.{◌≡◌, ℕ, ◌<◌, ◌^◌, ◌++◌, ◌∷◌, [], false, IfOk, IsTrue, List, Some, length};
+ghost use Rattle.std.specs.Prelude.{◌≡◌, ℕ, ◌+◌, ◌<◌, ◌^◌, ◌++◌, ◌∷◌, [], false, IfOk, IsTrue, List, Some, length};
 ghost use Rattle.std.specs.Vec.Iter.{into_iter_items};
 ghost use Rattle.flume_value.specs.Bag.{bag_of};
 ghost use Rattle.flume_value.specs.declared.value.Value.{Value as Value_};
+ghost use Rattle.script_laws.specs.WellFormed.{IsWellFormed};
 ghost use Rattle.direct_meaning.specs.Needed.{is_needed};
 ghost use Rattle.direct_meaning.specs.inner.Stands.{Stands};
 
@@ -27,6 +28,7 @@ pub(crate) fn make(
     inputs: &mut IntoIter<Items>,
     traps: &mut Vec<Trap>,
 ) -> Result<Kept, AllocError>
+    requires well_formed { IsWellFormed program.now.script }
     requires stands { (rows : List (List Value_))
         × Stands program.now.script rows number (into_iter_items inputs.old) table.now
             traps.old.items }

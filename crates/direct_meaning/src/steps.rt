@@ -1,5 +1,5 @@
 // What steps make of whole collections.
-ghost use Rattle.std.specs.Prelude.{◌≡◌, ◌||◌, [], All, IfOk};
+ghost use Rattle.std.specs.Prelude.{◌≡◌, ◌||◌, [], false, All, IfOk};
 ghost use Rattle.std.specs.List.Sorted.{IsSorted};
 ghost use Rattle.flume_value.specs.Order.{value_cmp};
 ghost use Rattle.flume_value.specs.Bag.{bag_of};
@@ -39,7 +39,7 @@ pub(crate) fn counted(alloc: Global, source: &Kept) -> Result<Kept, AllocError>
     ensures members { IfOk result (λ kept. kept.members.items
         ≡ unless_behind source.now.trapped (counted_of source.now.members.items)) }
     ensures trapped { IfOk result (λ kept. kept.trapped ≡ source.now.trapped) }
-    ensures through { counted_traps source.now.members.items ≡ [] }
+    ensures through { source.now.trapped ≡ false → counted_traps source.now.members.items ≡ [] }
 {
     let members = if source.trapped {
         Vec::new(alloc)

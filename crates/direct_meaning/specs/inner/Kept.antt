@@ -1,6 +1,6 @@
 -- What is kept of collections: their members, and whether a trap is behind them.
-use Rattle.std.specs.Prelude.{◌≡◌, Bool, true, false, List, [], ◌∷◌, Option, Some, None, ⊤, map}
-use Rattle.std.specs.List.{AllZip}
+use Rattle.std.specs.Prelude.{◌≡◌, ℕ, Bool, true, false, List, [], ◌∷◌, Option, Some, None, ⊤, slice_get}
+use Rattle.std.specs.Option.{option_flatten}
 use Rattle.flume_value.specs.declared.value.Value.{Value}
 use Rattle.flume_collection.specs.Collection.{Collection}
 use Rattle.flume_collection.specs.declared.trap.Trap.{Trap}
@@ -28,15 +28,16 @@ KeepsAny (Some kept) (Some c) = Keeps kept c
 
 -- ---- what is kept at a place, or nothing
 
-abbrev pub members_at : Option (Option Kept) → List Value
-members_at None = []
-members_at (Some None) = []
-members_at (Some (Some kept)) = kept.members.items
+abbrev pub kept_in : List (Option Kept) → ℕ → Option Kept
+kept_in table number = option_flatten (slice_get table number)
 
-abbrev pub trapped_at : Option (Option Kept) → Bool
-trapped_at None = false
-trapped_at (Some None) = false
-trapped_at (Some (Some kept)) = kept.trapped
+abbrev pub members_of : Option Kept → List Value
+members_of None = []
+members_of (Some kept) = kept.members.items
+
+abbrev pub is_trapped : Option Kept → Bool
+is_trapped None = false
+is_trapped (Some kept) = kept.trapped
 
 -- the members are kept, where there are any
 abbrev pub bag_kept : Option Kept → Option (List Value)
