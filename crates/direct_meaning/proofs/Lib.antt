@@ -9,3 +9,4 @@ pub mod KeepLemmas
 pub mod CombineLemmas
 pub mod ArmLemmas
 pub mod ResultLemmas
+pub mod CallLemmas

@@ -103,7 +103,7 @@ module _ (script : Script) (well : IsWellFormed script) where
       let wanted = wanted_from script (suc (length before)) rest in
       let rows = wanted_needed script (length before) entry rest inputs needed have in
       let same = as_many script before table are in
-      let it = makes script before table are (length table) m entry.1.type inputs wanted fit.0 rows
+      let it = makes script before table are well.functions (length table) m entry.1.type inputs wanted fit.0 rows
       (reads_needed script well before rest entry split needed) in
       let behind = rows_behind m entry.1.type inputs wanted rows in
       let longer = one_longer before entry in

@@ -204,7 +204,7 @@ module _ (script : Script) (well : IsWellFormed script) (inputs left : List (Lis
     own_rows = wanted_needed script number entry behind.others left needed rows
 
     made : Makes script number entry.1.made left stands.table entry.1.type
-    made = makes script stands.before stands.table stands.are number entry.1.made entry.1.type left
+    made = makes script stands.before stands.table stands.are well.functions number entry.1.made entry.1.type left
         (wanted_from script (suc number) behind.others) fit.0 own_rows reads
 
     is_of : (c : Collection) → made_as script number entry.1.made left stands.table ≡ Some c

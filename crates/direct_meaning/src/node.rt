@@ -7,7 +7,7 @@ ghost use Rattle.script_laws.specs.WellFormed.{IsWellFormed};
 ghost use Rattle.direct_meaning.specs.Needed.{is_needed};
 ghost use Rattle.direct_meaning.specs.inner.Stands.{Stands};
 
-use crate::calls::called;
+use crate::calls::done;
 use crate::combining::combined;
 use crate::flatten::together;
 use crate::kept::{Kept, kept_at};
@@ -43,8 +43,13 @@ pub(crate) fn make(
 {
     match &program.node(number).made {
         Made::Input { .. } => rows(inputs),
-        Made::Do { source, function } => {
-            called(alloc, program, number, *function, kept_at(table, *source), traps)
+        Made::Do {
+            source,
+            function,
+            output,
+        } => {
+            let source = kept_at(table, *source);
+            done(alloc, program, number, *function, *output, source, traps)
         }
         Made::Group { source } => grouped(alloc, kept_at(table, *source)),
         Made::Combine { source, by } => {

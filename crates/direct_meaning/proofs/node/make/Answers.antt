@@ -1,10 +1,13 @@
-use Rattle.std.proofs.Common.{◌≡◌, ℕ, ◌+◌, ◌++◌, ◌∷◌, [], List, Some, subst, sym}
+use Rattle.std.proofs.Common.{◌≡◌, ℕ, ◌+◌, ◌++◌, ◌∷◌, ◌∙◌, [], List, Some, ap, subst, sym}
+use Rattle.std.specs.List.{flat_map, list_any}
 use Rattle.std.specs.Vec.Iter.{into_iter_items}
+use Rattle.flume_value.specs.Bag.{bag_of}
 use Rattle.flume_collection.specs.declared.trap.Trap.{Trap}
 use Rattle.script_check.specs.declared.made.Made.TheVariants as made
 use Rattle.direct_meaning.proofs.ArmLemmas.{any_ascending, combine_goes, combine_read, count_goes, count_read, flatten_goes, group_goes, group_read, groups_read, here_at, input_goes, input_left, join_goes, left_read, pairs_read, right_read, table_ascending, top_goes, top_read}
 use Rattle.direct_meaning.proofs.KeepLemmas.{own_combined}
 use Rattle.direct_meaning.proofs.ResultLemmas.{if_all, if_both}
+use Rattle.direct_meaning.specs.inner.Kept.{is_trapped, kept_in, members_of}
 use Rattle.direct_meaning.specs.inner.Stands.{Stands}
 use Rattle.direct_meaning.proofs.node.make.Goals as goal
 
@@ -103,7 +106,15 @@ pub returns-in-Flatten : goal.returns-in-Flatten
 returns-in-Flatten c rows stands =
     let here = here_at c.args.program.now.known.types c.node.result.now
     (made.Flatten c.in-Flatten.sources) c.requires.well_formed stands c.requires.needed
-    c.node.ensures.is c.in-Flatten.is in ?
+    c.node.ensures.is c.in-Flatten.is in
+    if_both c.together.result _ _ _
+    (λ kept members trapped.
+    flatten_goes c.in-Flatten.sources here kept
+    (members ∙ ap (λ (l : List ℕ).
+    bag_of (flat_map (λ source. members_of (kept_in c.args.table.now source)) l)) c.as_slice.ensures)
+    (trapped ∙ ap (λ (l : List ℕ).
+    list_any (λ source. is_trapped (kept_in c.args.table.now source)) l) c.as_slice.ensures))
+    c.together.ensures.members c.together.ensures.trapped
 
 -- ---- counts
 
@@ -220,14 +231,3 @@ returns-in-Top c rows stands =
     (top_goes c.in-Top.number c.in-Top.source here c.kept_at-in-Top.result.now
     c.kept_at-in-Top.ensures)
     c.topped.ensures.members c.topped.ensures.trapped
-
--- ---- functions
-
-pub kept_at-requires : goal.kept_at-requires
-kept_at-requires c = ?
-
-pub called-requires : goal.called-requires
-called-requires c = ?
-
-pub returns-in-Do : goal.returns-in-Do
-returns-in-Do c = ?
