@@ -80,7 +80,7 @@ module _ (given : Value → Result Value Kind) where
         | Err kind ↦ Rises-rows ks c.1
       ]
 
-rows_sorted : (given : Value → Result Value Kind) (ks : List Value)
+pub rows_sorted : (given : Value → Result Value Kind) (ks : List Value)
     → IsSorted value_cmp (flat_map (λ k. combined_pair k (given k)) (distinct (bag_of ks)))
 rows_sorted given ks =
     sorted_from (flat_map (λ k. combined_pair k (given k)) (distinct (bag_of ks)))

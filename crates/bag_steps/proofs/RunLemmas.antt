@@ -80,7 +80,7 @@ distinct_bag-ahead k run rest same above other some =
 
 -- ---- how often values are in it
 
-times-cons : (x : Value) (xs : List Value) (v : Value)
+pub times-cons : (x : Value) (xs : List Value) (v : Value)
     → times (x ∷ xs) v ≡ cond (value_eq x v) 1 0 + times xs v
 times-cons x xs v = sum_by-cons (λ y. cond (value_eq y v) 1 0) x xs
 

@@ -1,0 +1,4 @@
+pub mod Counting
+pub mod GroupRows
+pub mod Sides
+pub mod Tops

@@ -1,0 +1,55 @@
+ghost use Rattle.std.specs.Prelude.{◌≡◌, ℕ, List, [], ◌++◌, Result, map};
+ghost use Rattle.std.specs.List.{flat_map};
+ghost use Rattle.flume_value.specs.declared.fault.Kind.{Kind};
+ghost use Rattle.flume_value.specs.declared.value.Value.{Value};
+ghost use Rattle.flume_value.specs.Bag.{bag_of};
+ghost use Rattle.bag_groups.specs.Pairs.{pairs_of};
+ghost use Rattle.bag_groups.specs.Groups.{grouped, keys_of, values_of};
+ghost use Rattle.bag_groups.specs.Combining.{combined_each, combined_pair, trapped_key, traps_of_each};
+ghost use Rattle.combine_table.specs.declared.comb.Comb.TheVariants as by;
+ghost use Rattle.combine_table.specs.Combinations.{combined, greatest};
+ghost use Rattle.bag_steps.specs.Counts.{counted, counted_traps};
+ghost use Rattle.bag_steps.specs.Joins.{joined};
+ghost use Rattle.bag_step_laws.specs.Derived.{listed, marked, split, under_zero, with_one};
+
+/// What groups come to where they are combined, and which of them trap, goes key by key.
+pub fn groups_law()
+    ensures combined { (f : List Value → Result Value Kind) (pairs : List Value) →
+        combined_each f (grouped pairs)
+        ≡ flat_map (λ k. combined_pair k (f (values_of k (pairs_of pairs))))
+        (keys_of (pairs_of pairs)) }
+    ensures traps { (f : List Value → Result Value Kind) (pairs : List Value) →
+        traps_of_each f (grouped pairs)
+        ≡ flat_map (λ k. trapped_key k (f (values_of k (pairs_of pairs))))
+        (keys_of (pairs_of pairs)) }
+{}
+
+/// The counts of a bag are the sums of as many ones.
+pub fn count_law()
+    ensures counts { (bag : List Value) →
+        combined_each (combined by.Sum) (grouped (map with_one bag)) ≡ counted bag }
+    ensures traps { (bag : List Value) →
+        traps_of_each (combined by.Sum) (grouped (map with_one bag)) ≡ counted_traps bag }
+{}
+
+/// The join of two bags of pairs is that of the groups of both together, split by their marks.
+pub fn join_law()
+    ensures rows { (left right : List Value) →
+        flat_map split (grouped (marked left right)) ≡ joined left right }
+{}
+
+/// The greatest members of a bag are those of the one group that has them all.
+pub fn top_law()
+    ensures members { (n : ℕ) (bag : List Value) →
+        flat_map listed (combined_each (combined (by.Top n)) (grouped (map under_zero bag)))
+        ≡ greatest n (bag_of bag) }
+    ensures through { (n : ℕ) (bag : List Value) →
+        traps_of_each (combined (by.Top n)) (grouped (map under_zero bag)) ≡ [] }
+{}
+
+/// What a function gives for the members of two bags together is what it gives for each bag,
+/// together.
+pub fn parts_law()
+    ensures together { (f : Value → List Value) (xs ys : List Value) →
+        bag_of (flat_map f (xs ++ ys)) ≡ bag_of (bag_of (flat_map f xs) ++ bag_of (flat_map f ys)) }
+{}
