@@ -1,103 +1,94 @@
--- The tables that a program groups, and those that it combines to.
-use Rattle.std.proofs.Common.{◌≡◌, List, [], ◌∷◌, Option, Some, None, ap, sym, ◌∙◌, subst, codes}
-use Rattle.combine_table.specs.declared.comb.Comb.{Comb}
-use Rattle.combine_table.specs.declared.comb.Comb.TheVariants as by
-use Rattle.flume_types.specs.Equality.{type_eq as is_same}
-use Rattle.flume_program.proofs.OptionLemmas.{picked}
-use Rattle.flume_program.specs.Accepted.{Combines, CombinesPairs}
-use Rattle.flume_program.specs.Combiners.{combined_type}
-use Rattle.flume_program.specs.declared.program.Combination.{Combination}
-use Rattle.flume_types.proofs.SameLemmas.{tells_apart}
-use Rattle.flume_types.specs.Tables.{table_of}
-use Rattle.flume_types.specs.declared.types.Field.{Field}
-use Rattle.flume_types.specs.declared.types.Ty.{Ty, Ty-F, out-Ty}
-use Rattle.flume_types.specs.declared.types.Ty.TheVariants as ty
-use Rattle.keyed_steps.specs.Types.{TakesType, gives_type}
+-- Collections that are made, by their numbers.
+use Rattle.std.proofs.Common.{◌≡◌, ℕ, suc, ◌+◌, ◌<◌, ◌≤◌, Bool, true, false, List, [], ◌∷◌, ◌++◌, length, Option, Some, None, slice_get, refl, sym, ap, ◌∙◌, subst, arith, below_more, length-append}
+use Rattle.std.specs.Prelude.{IfSome, is_some}
+use Rattle.std.specs.List.{AllByRecursion as Each, AllZip, Contains}
+use Rattle.std.specs.Option.{option_and_then, option_flatten, option_map}
+use Rattle.flume_collection.proofs.Members.{at_head, at_tail}
+use Rattle.flume_collection.specs.Collection.{Collection}
+use Rattle.flume_types.specs.declared.types.Ty.{Ty}
+use Rattle.written_types.specs.Named.{Named}
+use Rattle.script_check.specs.Script.{Node, Script}
+use Rattle.script_laws.specs.WellFormed.{members_at}
+use Rattle.direct_meaning.proofs.PlaceLemmas.{at_end, at_front, mapped, zip_at, zip_length, zip_more}
+use Rattle.direct_meaning.specs.Direct.{all_made, made_at}
+use Rattle.direct_meaning.specs.Made.{AreMade, IsCollectionOf, IsMadeFor}
+use Rattle.direct_meaning.specs.Needed.{is_needed}
 
--- ---- a table has one type of keys and one of values, and a list one of members
+-- a collection is made under that number, of members of that type
+pub record IsMadeAt (table : List (Option Collection)) (number : ℕ) (type : Ty) : Type 0 where
+  pub collection : Collection
+  pub made : made_at table number ≡ Some collection
+  pub is : IsCollectionOf type collection
 
-abbrev fields_in : Ty-F Ty → List (Field Ty)
-fields_in (Ty-F.Rec fields) = fields
-fields_in _ = []
+some_of : (table : List (Option Collection)) (number : ℕ) (type : Ty) (entry : List ℕ × Node)
+    → entry.1.type ≡ type → (made : Option Collection) → made_at table number ≡ made
+    → IsMadeFor entry made → is_some made ≡ true → IsMadeAt table number type
+some_of table number type entry same None at is some = cc
+some_of table number type entry same (Some c) at is some = record {
+  collection = c;
+  made = at;
+  is = subst (λ (t : Ty). IsCollectionOf t c) same is;
+}
 
-abbrev member_in : Ty-F Ty → Ty
-member_in (Ty-F.List member) = member
-member_in _ = ty.Int
+module _ (script : Script) (before : Named Node) (table : List (Option Collection))
+    (are : AreMade script before table) where
+  -- the collection of an earlier node that is needed
+  pub found : (number : ℕ) (type : Ty) → members_at before number ≡ Some type
+      → number < length before → is_needed script number ≡ true → IsMadeAt table number type
+  found number type reads below needed =
+      let node = mapped (λ (entry : List ℕ × Node). entry.1.type) (slice_get before number) type
+      reads in
+      let at = zip_at IsMadeFor before table are.each number node.0 node.1 in
+      let made : made_at table number ≡ at.0 = ap option_flatten at.1 in
+      some_of table number type node.0 node.2 at.0 made at.2
+      (ap is_some (sym made) ∙ (are.needed number below ∙ needed))
 
-abbrev first_type : List (Field Ty) → Ty
-first_type [] = ty.Int
-first_type (field ∷ fields) = field.ty
+  pub as_many : length table ≡ length before
+  as_many = sym (zip_length IsMadeFor before table are.each)
 
-abbrev second_type : List (Field Ty) → Ty
-second_type [] = ty.Int
-second_type (field ∷ fields) = first_type fields
+  -- what is made under a number, with one more behind
+  front : (number : ℕ) (last : Option Collection) → number < length before
+      → made_at (table ++ last ∷ []) number ≡ made_at table number
+  front number last below =
+      ap option_flatten (at_front table last number (omega (arith, as_many)))
 
-abbrev fields_of : Ty → Ty → List (Field Ty)
-fields_of key value =
-    record { name = codes "key"; ty = key } ∷ record { name = codes "value"; ty = value } ∷ []
+  end : (last : Option Collection) (number : ℕ) → number ≡ length before
+      → made_at (table ++ last ∷ []) number ≡ last
+  end last number is =
+      ap (λ n. made_at (table ++ last ∷ []) n) (is ∙ sym as_many)
+      ∙ ap option_flatten (at_end table last [])
 
-same_fields : (xs ys : List (Field Ty)) → ty.Rec xs ≡ ty.Rec ys → xs ≡ ys
-same_fields xs ys same = ap fields_in (sym (ty.outs-Rec xs) ∙ (ap out-Ty same ∙ ty.outs-Rec ys))
+  -- one more node, with what it makes where it is needed
+  pub more_made : (entry : List ℕ × Node) (last : Option Collection) → IsMadeFor entry last
+      → is_some last ≡ is_needed script (length before)
+      → AreMade script (before ++ entry ∷ []) (table ++ last ∷ [])
+  more_made entry last is needed = record {
+    each = zip_more IsMadeFor before table entry last are.each is;
+    needed = λ number below.
+        below_more (λ n. is_some (made_at (table ++ last ∷ []) n) ≡ is_needed script n)
+        (length before) (λ n earlier. ap is_some (front n last earlier) ∙ are.needed n earlier)
+        (ap is_some (end last (length before) refl) ∙ needed) number
+        (omega (arith, length-append before (entry ∷ [])));
+  }
 
-same_member : (t u : Ty) → ty.List t ≡ ty.List u → t ≡ u
-same_member t u same = ap member_in (sym (ty.outs-List t) ∙ (ap out-Ty same ∙ ty.outs-List u))
+-- ---- several
 
-same_key : (k v l w : Ty) → table_of k v ≡ table_of l w → k ≡ l
-same_key k v l w same = ap first_type (same_fields (fields_of k v) (fields_of l w) same)
+pub record AllMadeAt (table : List (Option Collection)) (numbers : List ℕ) (type : Ty)
+    : Type 0 where
+  pub collections : List Collection
+  pub made : all_made table numbers ≡ Some collections
+  pub are : Each (IsCollectionOf type) collections
 
-same_value : (k v l w : Ty) → table_of k v ≡ table_of l w → v ≡ w
-same_value k v l w same = ap second_type (same_fields (fields_of k v) (fields_of l w) same)
-
-some_is : (t u : Ty) → Some t ≡ Some u → t ≡ u
-some_is t u same = cc
-
--- ---- combiners
-
--- where members of a type combine to those of another, the combiner takes them, and gives these
-taken : (comb : Comb) (t u : Ty) → combined_type comb t ≡ Some u
-    → TakesType comb t × (u ≡ gives_type comb t)
-taken by.Sum t u is =
-    let same = picked (is_same t ty.Int) ty.Int u is in (tells_apart t ty.Int same.0, sym same.1)
-taken by.Count t u is = (tt, sym (some_is ty.Int u is))
-taken by.Min t u is = (tt, sym (some_is t u is))
-taken by.Max t u is = (tt, sym (some_is t u is))
-taken by.All t u is =
-    let same = picked (is_same t ty.Bool) ty.Bool u is in (tells_apart t ty.Bool same.0, sym same.1)
-taken by.Any t u is =
-    let same = picked (is_same t ty.Bool) ty.Bool u is in (tells_apart t ty.Bool same.0, sym same.1)
-taken (by.Top n) t u is = (tt, sym (some_is (ty.List t) u is))
-
--- The type is a table whose values the combination takes, and it makes a table of what it gives.
-pub record Tables (made : Combination) (type : Ty) : Type 0 where
-  pub key : Ty
-  pub value : Ty
-  pub of : type ≡ table_of key value
-  pub takes : TakesType made.combiner value
-  pub gives : made.ty ≡ table_of key (gives_type made.combiner value)
-
-tables : (made : Combination) (type groups : Ty) → Combines made type groups → Tables made type
-tables made type groups combines =
-    let grouped = combines.0 in
-    let combined = combines.1 in
-    let source = some_is type (table_of grouped.0 grouped.1) grouped.2 in
-    let both : table_of grouped.0 (ty.List grouped.1) ≡ table_of combined.0 (ty.List combined.1)
-    = sym grouped.3 ∙ some_is groups (table_of combined.0 (ty.List combined.1)) combined.3 in
-    let key = same_key grouped.0 (ty.List grouped.1) combined.0 (ty.List combined.1) both in
-    let value = same_member grouped.1 combined.1
-    (same_value grouped.0 (ty.List grouped.1) combined.0 (ty.List combined.1) both) in
-    let gives = taken made.combiner combined.1 combined.2 combined.4 in
+pub all_found : (table : List (Option Collection)) (type : Ty) (numbers : List ℕ)
+    → ((number : ℕ) → Contains numbers number → IsMadeAt table number type)
+    → AllMadeAt table numbers type
+all_found table type [] each = record { collections = []; made = refl; are = tt }
+all_found table type (number ∷ numbers) each =
+    let first = each number (at_head number numbers) in
+    let rest = all_found table type numbers (λ n is. each n (at_tail number numbers n is)) in
     record {
-      key = combined.0;
-      value = combined.1;
-      of = source ∙ (λ i. table_of (key i) (value i));
-      takes = gives.0;
-      gives = combined.5 ∙ ap (table_of combined.0) gives.1;
+      collections = first.collection ∷ rest.collections;
+      made = λ i.
+          option_and_then (λ c. option_map (λ cs. c ∷ cs) (rest.made i)) (first.made i);
+      are = (first.is, rest.are);
     }
-
--- a combination of pairs of this type
-pub tables_of : (combination : Option Combination) (type : Ty) (made : Combination)
-    → combination ≡ Some made → CombinesPairs combination type → Tables made type
-tables_of None type made some combines = absurd (cc)
-tables_of (Some own) type made some combines =
-    let same : own ≡ made = cc in
-    subst (λ (c : Combination). Tables c type) same (tables own type combines.0 combines.1)

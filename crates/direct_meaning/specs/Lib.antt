@@ -1,5 +1,6 @@
+pub mod Needed
 pub mod Calls
 pub mod Direct
-pub mod Evaluated
-pub mod Least
+pub mod Inputs
+pub mod Made
 pub mod inner

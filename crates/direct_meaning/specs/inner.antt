@@ -1,1 +1,3 @@
-pub mod Emitted
+pub mod Kept
+pub mod Slots
+pub mod Stands

@@ -1,65 +1,136 @@
-// Calls of a function on elements, one after another.
-ghost use Rattle.std.specs.Prelude.{◌≡◌, IfErr, IfOk, IsTrue};
-ghost use Rattle.dofn_eval.specs.Outcome.{Gives};
-ghost use Rattle.dofn_eval.specs.Run.{means};
-ghost use Rattle.flume_types.specs.Typing.{AllHave, has_type};
-ghost use Rattle.direct_meaning.specs.Calls.{AllAnswer, EmitAll, IsTrapAt, IsTrapOf};
+// The calls of a function on the members of a collection.
+ghost use Rattle.std.specs.Prelude.{◌≡◌, ◌-◌, ◌<◌, ◌^◌, ◌||◌, ◌++◌, All, IfOk, OnOk, Some, length, slice_get};
+ghost use Rattle.std.specs.List.{flat_map};
+ghost use Rattle.flume_value.specs.Bag.{bag_of};
+ghost use Rattle.dofn_eval.specs.Function.{Accepts};
+ghost use Rattle.flume_types.specs.Typing.{AllHave};
+ghost use Rattle.script_check.specs.Script.{Function as Function_};
+ghost use Rattle.script_laws.specs.WellFormed.{function_at};
+ghost use Rattle.flume_collection.specs.Calls.{or_none};
+ghost use Rattle.direct_meaning.specs.inner.Kept.{has_traps};
+ghost use Rattle.direct_meaning.specs.inner.Slots.{IsDone, emitted_by, slots_answer, trapped_by};
 
-use dofn_eval::{Fun, call};
-use flume_value::{CallFault, Items, Kind, Value, copy};
+use crate::kept::Kept;
+use dofn_eval::{Fun, Lists, call};
+use flume_collection::Trap;
+use flume_value::{CallFault, Items, Pile, Value, sorted};
+use script_check::Program;
 use std::alloc::{AllocError, Global};
 
-/// Why not all calls went through.
-#[derive(Debug, Drop)]
-pub enum ElementFault {
-    /// A call traps: why, and what it was called with.
-    Trap { kind: Kind, element: Value },
-    /// A growth found no memory.
-    Memory,
-}
-
-impl From<AllocError> for ElementFault {
-    ghost use Rattle.std.specs.Prelude.{◌≡◌};
-    ghost use Rattle.direct_meaning.specs.declared.calls.ElementFault.TheVariants.{Memory};
-
-    ghost from_gives = { λ _ fault. fault ≡ Memory };
-
-    fn from(_e: AllocError) -> ElementFault {
-        ElementFault::Memory
-    }
-}
-
-/// What the calls emit, one after another, each value of the function's type; or a call that traps.
-pub fn emit_all(alloc: Global, fun: &Fun, elements: &[Value]) -> Result<Vec<Value>, ElementFault>
-    requires { AllHave fun.now.takes elements.now }
-    ensures emitted { IfOk result (λ values. EmitAll fun.now elements.now values.items) }
-    ensures typed { IfOk result (λ values. AllHave fun.now.gives values.items) }
-    ensures trap { IfErr result (IsTrapOf fun.now elements.now) }
-    ensures answers { AllAnswer fun.now elements.now }
+/// What a function of a program emits to one output, called on the members of a collection. The
+/// traps go behind those found.
+pub(crate) fn done(
+    alloc: Global,
+    program: &Program,
+    number: usize,
+    function: usize,
+    output: usize,
+    source: &Kept,
+    traps: &mut Vec<Trap>,
+) -> Result<Kept, AllocError>
+    requires few { number < 2 ^ 32 }
+    requires below { function < length program.now.script.functions }
+    requires typed { (f : Function_) → function_at program.now.script.functions function ≡ Some f
+        → AllHave f.signature.takes source.now.members.items }
+    ensures { (f : Function_) → function_at program.now.script.functions function ≡ Some f
+        → IsDone (number - output) output f source.now traps.old.items result traps.new.items }
 {
-    // that the body is well typed says that each call has an answer
-    let _ = fun.body();
+    let origin = number.saturating_sub(output) as u32;
+    called(alloc, origin, &program.function(function).fun, output, source, traps)
+}
+
+/// What the calls of a function on the members of a collection emit to one output. Their traps go
+/// behind those found.
+fn called(
+    alloc: Global,
+    origin: u32,
+    fun: &Fun,
+    output: usize,
+    source: &Kept,
+    traps: &mut Vec<Trap>,
+) -> Result<Kept, AllocError>
+    requires { All (Accepts fun.now) source.now.members.items }
+    ensures members { IfOk result (λ kept. kept.members.items ≡ bag_of (flat_map
+        (λ element. emitted_by output (slots_answer fun.now element)) source.now.members.items)) }
+    ensures traps { OnOk result (traps.new.items ≡ traps.old.items ++ flat_map
+        (λ element. trapped_by origin (slots_answer fun.now element)) source.now.members.items) }
+    ensures trapped { IfOk result (λ kept. kept.trapped ≡ (source.now.trapped || has_traps (flat_map
+        (λ element. trapped_by origin (slots_answer fun.now element))
+        source.now.members.items))) }
+{
+    let before = traps.len();
+    let values = call_all(alloc, origin, fun, output, source.members.as_slice(), traps)?;
+    Ok(Kept {
+        members: sorted(values)?,
+        trapped: source.trapped || before < traps.len(),
+    })
+}
+
+/// What the calls emit, one after another.
+fn call_all(
+    alloc: Global,
+    origin: u32,
+    fun: &Fun,
+    output: usize,
+    elements: &[Value],
+    traps: &mut Vec<Trap>,
+) -> Result<Vec<Value>, AllocError>
+    requires { All (Accepts fun.now) elements.now }
+    ensures values { IfOk result (λ values. values.items
+        ≡ flat_map (λ element. emitted_by output (slots_answer fun.now element)) elements.now) }
+    ensures traps { OnOk result (traps.new.items ≡ traps.old.items
+        ++ flat_map (λ element. trapped_by origin (slots_answer fun.now element)) elements.now) }
+{
     let mut values = Vec::new(alloc);
     for element in elements {
-        let emissions = emit(alloc, fun, element)?;
-        values.append(&mut emissions.into_vec())?;
+        call_one(alloc, origin, fun, output, element, &mut values, traps)?;
     }
     Ok(values)
 }
 
-// What the call on an element emits.
-fn emit(alloc: Global, fun: &Fun, element: &Value) -> Result<Items, ElementFault>
-    requires { IsTrue (has_type element.now fun.now.takes) }
-    ensures emitted { IfOk result (λ values. means fun.now.body element.now ≡ Gives values) }
-    ensures typed { IfOk result (AllHave fun.now.gives) }
-    ensures trap { IfErr result (IsTrapAt fun.now element.now) }
+/// Puts what the call emits behind the values, or its trap behind the traps.
+fn call_one(
+    alloc: Global,
+    origin: u32,
+    fun: &Fun,
+    output: usize,
+    element: &Value,
+    values: &mut Vec<Value>,
+    traps: &mut Vec<Trap>,
+) -> Result<(), AllocError>
+    requires { Accepts fun.now element.now }
+    ensures values { OnOk result (values.new.items
+        ≡ values.old.items ++ emitted_by output (slots_answer fun.now element.now)) }
+    ensures traps { OnOk result (traps.new.items
+        ≡ traps.old.items ++ trapped_by origin (slots_answer fun.now element.now)) }
 {
     match call(alloc, fun, element) {
-        Ok(emissions) => Ok(emissions),
-        Err(CallFault::Trap(kind)) => Err(ElementFault::Trap {
-            kind,
-            element: copy(alloc, element)?,
-        }),
-        Err(CallFault::Memory) => Err(ElementFault::Memory),
+        Ok(lists) => {
+            values.append(&mut emitted(alloc, lists, output).into_vec())?;
+            Ok(())
+        }
+        Err(CallFault::Trap(kind)) => {
+            traps.push(Trap {
+                origin,
+                element: element.copy(alloc)?,
+                kind,
+            })?;
+            Ok(())
+        }
+        Err(CallFault::Memory) => Err(AllocError),
     }
+}
+
+/// What was emitted to the output of that number, if there is one.
+fn emitted(alloc: Global, lists: Lists, output: usize) -> Items
+    ensures { result ≡ or_none (slice_get lists output) }
+{
+    let (first, mut others) = lists.into_parts();
+    if output == 0 {
+        return first;
+    }
+    if output <= others.len() {
+        return others.swap_remove(output - 1);
+    }
+    Pile::new(alloc)
 }

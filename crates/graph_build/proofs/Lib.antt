@@ -1,0 +1,3 @@
+pub mod WantedLemmas
+pub mod StepLemmas
+pub mod OriginLemmas

@@ -1,0 +1,34 @@
+-- One collection more: of the collections that nodes are built for.
+use Rattle.std.proofs.Common.{◌≡◌, ℕ, ◌+◌, ◌<◌, List, [], ◌∷◌, ◌++◌, length, get_or, drop, ap, ◌∙◌, sym, append_assoc, append-nil, add-one, drop-cons}
+use Rattle.std.specs.Prelude.{Option, Some, None}
+use Rattle.script_check.specs.declared.made.Made.{Made}
+use Rattle.script_check.specs.Script.{Script}
+use Rattle.graph_build.specs.Origins.{origins_at, origins_from}
+use Rattle.graph_build.specs.Wanted.{wanted, wanted_at}
+use Rattle.graph_build.proofs.StepLemmas.{all_dropped}
+use Rattle.graph_build.proofs.WantedLemmas.{wanted_length}
+
+origins_step : (ws : List (Option Made)) (i : ℕ) → i < length ws
+    → origins_from i (drop i ws)
+    ≡ origins_at i (get_or ws i None) ++ origins_from (i + 1) (drop (i + 1) ws)
+origins_step ws i h = rw (add-one, drop-cons ws i None)
+
+-- one more is done
+pub origins_next : (script : Script) (done more all : List ℕ) (i : ℕ)
+    → i < length script.nodes
+    → more ≡ done ++ origins_at i (wanted_at script i)
+    → done ++ origins_from i (drop i (wanted script)) ≡ all
+    → more ++ origins_from (i + 1) (drop (i + 1) (wanted script)) ≡ all
+origins_next script done more all i below pushed h =
+    let fits : i < length (wanted script) = rw wanted_length below in
+    rw (pushed, append_assoc)
+    (ap (λ rest. done ++ rest) (sym (origins_step (wanted script) i fits)) ∙ h)
+
+-- all is done
+pub origins_all : (script : Script) (done all : List ℕ) (i : ℕ) → i ≡ length script.nodes
+    → done ++ origins_from i (drop i (wanted script)) ≡ all → done ≡ all
+origins_all script done all i end h =
+    sym (append-nil done)
+    ∙ ap (λ rest. done ++ origins_from i rest)
+    (sym (all_dropped (wanted script) i (end ∙ sym (wanted_length script))))
+    ∙ h

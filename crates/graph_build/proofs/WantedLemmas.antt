@@ -1,0 +1,51 @@
+-- How the collection of a number is made, where it is needed.
+use Rattle.std.proofs.Common.{◌≡◌, ℕ, suc, zero, ◌+◌, ◌<◌, Bool, true, false, List, [], ◌∷◌, length, get_or, refl, arith, ap, ◌∙◌, sym, subst, add-zero}
+use Rattle.std.specs.Prelude.{Option, Some, None, if◌then◌else◌, slice_get}
+use Rattle.std.specs.Option.{option_map}
+use Rattle.written_types.specs.Named.{Named}
+use Rattle.script_check.specs.declared.made.Made.{Made}
+use Rattle.script_check.specs.Script.{Node, Script}
+use Rattle.graph_build.specs.Wanted.{is_needed, wanted, wanted_from, wanted_at}
+
+-- how a node is made, where it is needed
+abbrev pub where_needed : Script → ℕ → Node → Option Made
+where_needed script i node = if is_needed script i then Some node.made else None
+
+found : (script : Script) (k i : ℕ) (nodes : Named Node) (node : Node)
+    → option_map (λ entry. entry.1) (slice_get nodes i) ≡ Some node
+    → get_or (wanted_from script k nodes) i None ≡ where_needed script (k + i) node
+found script k i [] node h = cc
+found script k zero (entry ∷ nodes) node h =
+    let e : entry.1 ≡ node = cc in
+    rw add-zero (ap (where_needed script k) e)
+found script k (suc i) (entry ∷ nodes) node h =
+    let e : suc k + i ≡ k + suc i = omega arith in
+    subst (λ n. get_or (wanted_from script (suc k) nodes) i None ≡ where_needed script n node) e
+    (found script (suc k) i nodes node h)
+
+at_zero : (i : ℕ) → 0 + i ≡ i
+at_zero i = omega arith
+
+pub wanted_needed : (script : Script) (i : ℕ) (node : Node)
+    → option_map (λ entry. entry.1) (slice_get script.nodes i) ≡ Some node
+    → true ≡ is_needed script i → Some node.made ≡ wanted_at script i
+wanted_needed script i node h needed =
+    sym (found script 0 i script.nodes node h
+    ∙ ap (λ n. where_needed script n node) (at_zero i)
+    ∙ ap (λ b. if b then Some node.made else None) (sym needed))
+
+pub wanted_needless : (script : Script) (i : ℕ) (node : Node)
+    → option_map (λ entry. entry.1) (slice_get script.nodes i) ≡ Some node
+    → false ≡ is_needed script i → None ≡ wanted_at script i
+wanted_needless script i node h needless =
+    sym (found script 0 i script.nodes node h
+    ∙ ap (λ n. where_needed script n node) (at_zero i)
+    ∙ ap (λ b. if b then Some node.made else None) (sym needless))
+
+all_wanted : (script : Script) (k : ℕ) (nodes : Named Node)
+    → length (wanted_from script k nodes) ≡ length nodes
+all_wanted script k [] = refl
+all_wanted script k (entry ∷ nodes) = ap suc (all_wanted script (suc k) nodes)
+
+pub wanted_length : (script : Script) → length (wanted script) ≡ length script.nodes
+wanted_length script = all_wanted script 0 script.nodes

@@ -1,0 +1,9 @@
+use Rattle.std.proofs.Common.{◌≡◌, ◌++◌, drop}
+use Rattle.std.specs.Prelude.{map}
+use Rattle.graph_build.specs.Graphs.{place_in}
+use Rattle.graph_build.proofs.builder.places_in.Given as goal
+
+abbrev pub invariant-loop-source : goal.invariant-loop-source
+invariant-loop-source l =
+    l.places ++ map (place_in l.giving) (drop l.source-index l.sources)
+    ≡ map (place_in l.giving) l.sources

@@ -1,0 +1,4 @@
+pub mod Wanted
+pub mod Nodes
+pub mod Graphs
+pub mod Origins

@@ -1,0 +1,100 @@
+-- The graph nodes that make a collection of a script, of which the last gives it. Each has the
+-- collection as its origin, and numbers one after another.
+use Rattle.std.specs.Prelude.{ℕ, ◌+◌, Bool, true, false, List, [], ◌∷◌, map, Some, None}
+use Rattle.combine_table.specs.declared.comb.Comb.TheVariants as by
+use Rattle.exec_graph.specs.declared.graph.Entry.{Entry}
+use Rattle.exec_graph.specs.declared.graph.Node.{Node}
+use Rattle.exec_graph.specs.declared.graph.Node.TheVariants.{Source, Flatten, Pdo, Gbk}
+use Rattle.exec_graph.specs.declared.graph.Place.{Place}
+use Rattle.exec_graph.specs.declared.step.Does.{Does}
+use Rattle.exec_graph.specs.declared.step.Does.TheVariants as does
+use Rattle.exec_graph.specs.Forests.{Forest, Bare, Grow}
+use Rattle.exec_graph.specs.Meaning.{place}
+use Rattle.script_check.specs.declared.made.Made.{Made}
+use Rattle.script_check.specs.declared.made.Made.TheVariants as made
+
+-- ---- one node
+
+abbrev pub entry : ℕ → Node → Entry
+entry number node = record { number = number; node = node }
+
+-- one step, whose one output is number 0
+abbrev pub one_step : ℕ → Bool → Does → Forest
+one_step origin last does =
+    Grow (record { origin = origin; last = last; does = does; at = 0; out = Some 0 }) Bare Bare
+
+-- a step of a collection, and the step that gives it
+abbrev pub step : ℕ → Does → Place → Node
+step origin does input = Pdo input (one_step origin false does)
+
+abbrev pub last_step : ℕ → Does → Place → Node
+last_step origin does input = Pdo input (one_step origin true does)
+
+-- the groups behind the last step of a collection
+abbrev pub groups : ℕ → Place → Node
+groups origin input = Gbk input origin false None
+
+-- what node n gives
+abbrev pub first_of : ℕ → Place
+first_of n = place n 0
+
+-- ---- the nodes of derived operations, from number n on
+
+-- each member with 1, in groups, with the sum of its ones
+abbrev pub count_nodes : ℕ → ℕ → Place → List Entry
+count_nodes origin n input =
+    entry n (step origin does.Pair input)
+    ∷ entry (n + 1) (groups origin (first_of n))
+    ∷ entry (n + 2) (last_step origin (does.Combine by.Sum) (first_of (n + 1))) ∷ []
+
+-- the values of both sides told apart, together, in groups, with the sides of each group apart
+abbrev pub join_nodes : ℕ → ℕ → Place → Place → List Entry
+join_nodes origin n left right =
+    entry n (step origin does.TagLeft left)
+    ∷ entry (n + 1) (step origin does.TagRight right)
+    ∷ entry (n + 2) (Flatten (first_of n ∷ first_of (n + 1) ∷ []))
+    ∷ entry (n + 3) (groups origin (first_of (n + 2)))
+    ∷ entry (n + 4) (last_step origin does.Split (first_of (n + 3))) ∷ []
+
+-- all members under one key, in one group, its greatest ones, and these alone
+abbrev pub top_nodes : ℕ → ℕ → ℕ → Place → List Entry
+top_nodes many origin n input =
+    entry n (step origin does.Solo input)
+    ∷ entry (n + 1) (groups origin (first_of n))
+    ∷ entry (n + 2) (step origin (does.Combine (by.Top many)) (first_of (n + 1)))
+    ∷ entry (n + 3) (last_step origin does.Spread (first_of (n + 2))) ∷ []
+
+-- ---- the nodes of any collection
+
+-- how many nodes stand before the last of a collection
+abbrev pub before_last : Made → ℕ
+before_last (made.Input file columns) = 0
+before_last (made.Do source function output) = 0
+before_last (made.Group source) = 0
+before_last (made.Combine source by) = 0
+before_last (made.Flatten sources) = 0
+before_last (made.Count source) = 2
+before_last (made.Join left right) = 4
+before_last (made.Top number source) = 3
+
+-- how many sources a collection has
+abbrev pub inputs_of : Made → ℕ
+inputs_of (made.Input file columns) = 1
+inputs_of _ = 0
+
+-- the nodes of the collection `origin` from number n on, where these places give the collections of
+-- the script, and `source` is the number of the next input
+abbrev pub made_nodes : (ℕ → Place) → ℕ → ℕ → ℕ → Made → List Entry
+made_nodes gives origin source n (made.Input file columns) = entry n (Source source) ∷ []
+made_nodes gives origin source n (made.Do input function output) =
+    entry n (last_step origin (does.Call function) (gives input)) ∷ []
+made_nodes gives origin source n (made.Group input) =
+    entry n (Gbk (gives input) origin true None) ∷ []
+made_nodes gives origin source n (made.Combine input by) =
+    entry n (last_step origin (does.Combine by) (gives input)) ∷ []
+made_nodes gives origin source n (made.Flatten inputs) =
+    entry n (Flatten (map gives inputs)) ∷ []
+made_nodes gives origin source n (made.Count input) = count_nodes origin n (gives input)
+made_nodes gives origin source n (made.Join left right) =
+    join_nodes origin n (gives left) (gives right)
+made_nodes gives origin source n (made.Top many input) = top_nodes many origin n (gives input)

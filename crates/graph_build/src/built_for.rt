@@ -1,0 +1,44 @@
+ghost use Rattle.std.specs.Prelude.{◌≡◌, ◌+◌, ◌<◌, ◌++◌, length, replicate, IfOk, OnOk};
+ghost use Rattle.graph_build.specs.Origins as spec;
+ghost use Rattle.graph_build.specs.Wanted.{wanted_at as wanted_in};
+
+use crate::numbers::{before_last, number_of};
+use crate::wanted::wanted_at;
+use script_check::Program;
+use std::alloc::{AllocError, Global};
+
+/// By the number of each node of the program's graph, the number of the collection that the node is
+/// built for.
+pub fn origins(alloc: Global, program: &Program) -> Result<Vec<u32>, AllocError>
+    ensures { IfOk result (λ origins. origins.items ≡ spec.origins_of program.now.script) }
+{
+    let count = number_of(program.node_count())?;
+    let mut origins = Vec::new(alloc);
+    for origin in 0..count {
+        push_origins(program, origin, &mut origins)?;
+    }
+    Ok(origins)
+}
+
+/// Adds a collection, once for each of its nodes.
+fn push_origins(program: &Program, origin: u32, origins: &mut Vec<u32>) -> Result<(), AllocError>
+    requires { origin < length program.now.script.nodes }
+    ensures { OnOk result (origins.new.items
+        ≡ origins.old.items
+        ++ spec.origins_at origin (wanted_in program.now.script origin)) }
+{
+    match wanted_at(program, origin) {
+        None => Ok(()),
+        Some(made) => push_times(before_last(made) + 1, origin, origins),
+    }
+}
+
+/// Adds a number so many times.
+fn push_times(times: u32, number: u32, numbers: &mut Vec<u32>) -> Result<(), AllocError>
+    ensures { OnOk result (numbers.new.items ≡ numbers.old.items ++ replicate times number) }
+{
+    for _time in 0..times {
+        numbers.push(number)?;
+    }
+    Ok(())
+}

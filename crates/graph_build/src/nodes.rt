@@ -1,0 +1,58 @@
+ghost use Rattle.std.specs.Prelude.{◌≡◌, [], ◌∷◌, ◌++◌, Some, IfOk, OnOk};
+ghost use Rattle.exec_graph.specs.declared.graph.Node.TheVariants.{Pdo};
+ghost use Rattle.exec_graph.specs.Forests.{Bare, grown};
+ghost use Rattle.exec_graph.specs.Twigs.{twig};
+ghost use Rattle.graph_build.specs.Nodes as spec;
+
+use exec_graph::{Does, Entry, Node, Output, Place, Roots, Step};
+use flume_value::Pile;
+use std::alloc::{AllocError, Global};
+
+/// Adds a node under its number.
+pub(crate) fn push_node(nodes: &mut Pile<Entry>, number: u32, node: Node) -> Result<(), AllocError>
+    ensures { OnOk result (nodes.new ≡ nodes.old ++ spec.entry number node ∷ []) }
+{
+    nodes.push(Entry { number, node })
+}
+
+/// The step of a collection that does not give it.
+pub(crate) fn step(alloc: Global, origin: u32, does: Does, input: Place) -> Result<Node, AllocError>
+    ensures { IfOk result (λ node. node ≡ spec.step origin does input) }
+{
+    let step = Step::new(origin, false, does, first_output(alloc), Vec::new(alloc));
+    only(alloc, input, step)
+}
+
+/// The step that gives a collection.
+pub(crate) fn last_step(
+    alloc: Global,
+    origin: u32,
+    does: Does,
+    input: Place,
+) -> Result<Node, AllocError>
+    ensures { IfOk result (λ node. node ≡ spec.last_step origin does input) }
+{
+    let step = Step::new(origin, true, does, first_output(alloc), Vec::new(alloc));
+    only(alloc, input, step)
+}
+
+/// The groups behind a step of a collection.
+pub(crate) fn groups(origin: u32, input: Place) -> Node
+    ensures { result ≡ spec.groups origin input }
+{
+    Node::Gbk(input, origin, false, None)
+}
+
+fn first_output(alloc: Global) -> Output
+    ensures { twig result ≡ record { out = Some 0; kids = Bare } }
+{
+    Output::new(Some(0), Vec::new(alloc))
+}
+
+fn only(alloc: Global, input: Place, step: Step) -> Result<Node, AllocError>
+    ensures { IfOk result (λ node. node ≡ Pdo input (grown (step ∷ []))) }
+{
+    let mut steps = Vec::new(alloc);
+    steps.push(step)?;
+    Ok(Node::Pdo(input, Roots::new(steps)))
+}

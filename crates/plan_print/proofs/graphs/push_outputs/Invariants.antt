@@ -1,0 +1,10 @@
+use Rattle.std.proofs.Common.{◌≡◌, ◌++◌, drop}
+use Rattle.plan_print.specs.GraphText.{output_lines}
+use Rattle.plan_print.proofs.graphs.push_outputs.Given as goal
+
+abbrev pub invariant-loop-number : goal.invariant-loop-number
+invariant-loop-number l =
+    l.text.items
+    ++ output_lines l.program.script (drop l.number l.program.script.outputs)
+    (drop l.number l.places)
+    ≡ l.initial.text.items ++ output_lines l.program.script l.program.script.outputs l.places

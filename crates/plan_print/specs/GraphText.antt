@@ -1,0 +1,68 @@
+-- The text of an execution graph: a line for each node, and for each output of the script.
+use Rattle.std.specs.Prelude.{ℕ, ◌==◌, List, [], ◌∷◌, ◌++◌, codes, decimal, if◌then◌else◌, slice_index}
+use Rattle.std.specs.List.{flat_map}
+use Rattle.exec_graph.specs.declared.graph.Entry.{Entry}
+use Rattle.exec_graph.specs.declared.graph.Graph.{Graph}
+use Rattle.exec_graph.specs.declared.graph.Node.{Node}
+use Rattle.exec_graph.specs.declared.graph.Node.TheVariants.{Source, Flatten, Pdo, Gbk}
+use Rattle.exec_graph.specs.declared.graph.Place.{Place}
+use Rattle.exec_graph.specs.Forests.{Forest, Bare, Grow}
+use Rattle.graph_build.specs.Origins.{origins_of}
+use Rattle.printing.specs.Printed.{quoted}
+use Rattle.script_check.specs.declared.made.Output.{Output}
+use Rattle.script_check.specs.Script.{Script}
+use Rattle.written_types.specs.Named.{Named}
+use Rattle.plan_print.specs.Names.{name_at}
+use Rattle.plan_print.specs.Steps.{step_text}
+
+-- what a node gives: the first output by the number of the node alone
+abbrev pub place_text : Place → List ℕ
+place_text place =
+    if place.out == 0 then decimal place.node
+    else decimal place.node ++ (codes "." ++ decimal place.out)
+
+-- the one step of a forest
+abbrev pub root_text : Script → Forest → List ℕ
+root_text script Bare = []
+root_text script (Grow step kids rest) = step_text script step.origin step.does
+
+abbrev pub input_text : Place → List ℕ
+input_text place = place_text place ++ codes " "
+
+-- the node of the collection `origin`, behind its number
+abbrev pub node_text : Script → ℕ → Node → List ℕ
+node_text script origin (Source input) = codes "source " ++ name_at script.nodes origin
+node_text script origin (Flatten inputs) =
+    codes "flatten " ++ (flat_map input_text inputs ++ name_at script.nodes origin)
+node_text script origin (Pdo input steps) =
+    codes "do " ++ (input_text input ++ root_text script steps)
+node_text script origin (Gbk input group last lifted) =
+    codes "group " ++ (input_text input ++ name_at script.nodes group)
+
+-- the line of a node, where the nodes are built for these collections
+abbrev pub node_line : Script → List ℕ → Entry → List ℕ
+node_line script origins entry =
+    decimal entry.number
+    ++ (codes " "
+    ++ (node_text script (slice_index origins entry.number) entry.node ++ codes "\n"))
+
+-- the line of an output that is read there
+abbrev pub output_line : Script → List ℕ × Output → Place → List ℕ
+output_line script output place =
+    codes "output "
+    ++ (name_at script.nodes output.1.reads
+    ++ (codes " reads "
+    ++ (place_text place ++ (codes " to " ++ (quoted output.0 ++ codes "\n")))))
+
+abbrev pub output_lines : Script → Named Output → List Place → List ℕ
+output_lines script [] places = []
+output_lines script (output ∷ outputs) [] = []
+output_lines script (output ∷ outputs) (place ∷ places) =
+    output_line script output place ++ output_lines script outputs places
+
+-- the text of the graph that is built of a script, whose names it prints
+abbrev pub graph_text : Script → Graph → List ℕ
+graph_text script graph =
+    codes "graph\n"
+    ++ (flat_map (node_line script (origins_of script)) graph.nodes
+    ++ output_lines script script.outputs graph.outputs)

@@ -1,0 +1,34 @@
+-- How a step is printed.
+use Rattle.std.specs.Prelude.{ℕ, List, ◌++◌, codes, decimal}
+use Rattle.combine_table.specs.declared.comb.Comb.{Comb}
+use Rattle.combine_table.specs.declared.comb.Comb.TheVariants as by
+use Rattle.exec_graph.specs.declared.step.Does.{Does}
+use Rattle.exec_graph.specs.declared.step.Does.TheVariants as does
+use Rattle.script_check.specs.Script.{Script}
+use Rattle.plan_print.specs.Names.{name_at}
+
+-- the name of a combiner
+abbrev pub combiner_text : Comb → List ℕ
+combiner_text by.Sum = codes "sum"
+combiner_text by.Count = codes "count"
+combiner_text by.Min = codes "min"
+combiner_text by.Max = codes "max"
+combiner_text by.All = codes "all"
+combiner_text by.Any = codes "any"
+combiner_text (by.Top n) = codes "top " ++ decimal n
+
+-- what a step does: the name of the script's function, or that of a derived one behind `%`
+abbrev pub does_text : Script → Does → List ℕ
+does_text script (does.Call function) = name_at script.functions function
+does_text script (does.Combine combiner) = codes "%" ++ combiner_text combiner
+does_text script does.Pair = codes "%pair"
+does_text script does.TagLeft = codes "%tagleft"
+does_text script does.TagRight = codes "%tagright"
+does_text script does.Split = codes "%split"
+does_text script does.Solo = codes "%solo"
+does_text script does.Spread = codes "%spread"
+
+-- a step of the collection `origin`
+abbrev pub step_text : Script → ℕ → Does → List ℕ
+step_text script origin does =
+    name_at script.nodes origin ++ (codes ":" ++ does_text script does)

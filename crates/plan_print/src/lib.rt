@@ -1,0 +1,14 @@
+//! The texts of execution graphs and plans.
+//!
+//! A graph names inputs, functions and collections by number; its text prints the names that a
+//! program has for them. `graph_text` is the text of the graph that is built of the program
+//! (specs/GraphText.antt): a line for each node, in which a Pdo has one step, and a line for each
+//! output of the script.
+#![tactic(auto)]
+
+mod graphs;
+mod names;
+mod steps;
+
+pub use graphs::graph_text;
+pub use steps::push_combiner;
