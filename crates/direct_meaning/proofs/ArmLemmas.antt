@@ -1,5 +1,5 @@
 -- Each way in which a node is made, from what is kept before it to what is kept behind it.
-use Rattle.std.proofs.Common.{◌≡◌, ℕ, suc, ◌+◌, ◌<◌, ◌||◌, Bool, true, false, List, [], ◌∷◌, ◌++◌, length, map, Option, Some, None, slice_get, refl, sym, ap, ◌∙◌, subst, append-nil, arith}
+use Rattle.std.proofs.Common.{◌≡◌, ℕ, suc, ◌+◌, ◌-◌, ◌<◌, ◌||◌, Bool, true, false, List, [], ◌∷◌, ◌++◌, length, map, Option, Some, None, slice_get, refl, sym, ap, ◌∙◌, subst, append-nil, arith}
 use Rattle.std.specs.Prelude.{All}
 use Rattle.std.specs.List.{Contains, flat_map, list_any}
 use Rattle.std.specs.List.Sorted.{IsSorted}
@@ -25,21 +25,26 @@ use Rattle.keyed_steps.specs.Keyed.{IsGroup}
 use Rattle.flume_collection.proofs.Members.{at_head, at_tail}
 use Rattle.flume_collection.specs.Collection.{Collection, by_key, together}
 use Rattle.flume_collection.specs.declared.trap.Trap.{Trap}
+use Rattle.written_types.specs.Named.{Named}
 use Rattle.script_check.specs.Operations.{combined_type}
 use Rattle.script_check.specs.declared.made.Made.{Made}
 use Rattle.script_check.specs.declared.made.Made.TheVariants as made
 use Rattle.script_check.specs.Program.{node_in}
-use Rattle.script_check.specs.Script.{Node, Script}
+use Rattle.script_check.specs.Script.{Function, Node, Script}
 use Rattle.script_check.specs.declared.made.Node.{Node as HeldNode}
-use Rattle.script_laws.specs.WellFormed.{Fits, IsWellFormed, members_at}
-use Rattle.direct_meaning.proofs.KeepLemmas.{GoesThrough, by_key_kept, by_key_own, combined_kept, combined_own, counted_kept, counted_own, joined_kept, joined_own, own_combined, top_kept, top_own, Stood, all_stand, together_kept, together_own}
+use Rattle.script_laws.specs.WellFormed.{Fits, IsWellFormed, IsWellTyped, function_at, members_at}
+use Rattle.direct_meaning.proofs.CallLemmas.{calls_answered}
+use Rattle.direct_meaning.proofs.MakeLemmas.{well_typed}
+use Rattle.direct_meaning.proofs.KeepLemmas.{GoesThrough, called_kept, called_own, by_key_kept, by_key_own, combined_kept, combined_own, counted_kept, counted_own, joined_kept, joined_own, own_combined, top_kept, top_own, Stood, all_stand, together_kept, together_own}
+use Rattle.direct_meaning.proofs.PlaceLemmas.{mapped, within}
 use Rattle.direct_meaning.proofs.StandLemmas.{HasOwn, IsNodeAt, Source, at_node, fits, goes, behind, held_ascending, held_typed, keeps, own_rows, source_of}
 use Rattle.direct_meaning.proofs.TypeLemmas.{taken}
-use Rattle.direct_meaning.specs.Direct.{combined_by, counted_by, inputs_behind, joined_by, made_as, rows_as, top_by}
+use Rattle.direct_meaning.specs.Direct.{called_by, combined_by, counted_by, done_at, done_by, inputs_behind, joined_by, made_as, rows_as, top_by}
 use Rattle.direct_meaning.specs.Inputs.{HaveRows, Wanted, wanted_by}
 use Rattle.direct_meaning.specs.Needed.{is_needed, operands}
 use Rattle.direct_meaning.specs.declared.kept.Kept.{Kept}
 use Rattle.direct_meaning.specs.inner.Kept.{Keeps, has_traps, is_trapped, kept_in, members_of, unless_behind}
+use Rattle.direct_meaning.specs.inner.Slots.{IsDoneBy, traps_on}
 use Rattle.direct_meaning.specs.inner.Stands.{Stands, wanted_from}
 
 -- ---- what is kept of what nodes read
@@ -64,7 +69,23 @@ module _ (kept : List (Option Kept)) (table : List (Option Collection)) (number 
     pub suits : combined_type by member ≡ Some value
     pub source : Source kept table number (table_of key (ty.List member))
 
+  -- members that a function of a script takes
+  pub record CalledRead (script : Script) (called output : ℕ) : Type 0 where
+    pub function : Function
+    pub at : function_at script.functions called ≡ Some function
+    pub typed : IsWellTyped function
+    pub source : Source kept table number function.signature.takes
+
   module _ (held : Kept) (at : slice_get kept number ≡ Some (Some held)) where
+    pub called_read : (script : Script) (called output : ℕ) (it : CalledRead script called output)
+        → (f : Function) → function_at script.functions called ≡ Some f
+        → AllHave f.signature.takes held.members.items
+    called_read script called output it f f_at =
+        let both : Some it.function ≡ Some f = sym it.at ∙ f_at in
+        let same : it.function ≡ f = cc in
+        subst (λ (g : Function). AllHave g.signature.takes held.members.items) same
+        (held_typed kept table number it.function.signature.takes it.source held at)
+
     pub pairs_read : TableRead → All IsPair held.members.items
     pairs_read it =
         all_pairs it.key it.value held.members.items
@@ -81,6 +102,12 @@ module _ (kept : List (Option Kept)) (table : List (Option Collection)) (number 
     groups_read by it =
         all_suited by it.key it.member held.members.items (taken by it.member it.value it.suits).0
         (held_typed kept table number (table_of it.key (ty.List it.member)) it.source held at)
+
+pub function_within : (functions : Named Function) (number : ℕ) (function : Function)
+    → function_at functions number ≡ Some function → number < length functions
+function_within functions number function at =
+    let entry = mapped (λ (e : List ℕ × Function). e.1) (slice_get functions number) function at in
+    within functions number entry.0 entry.1
 
 some_rows : (wanted : Wanted) (others : List Wanted) (left : List (List Value))
     → HaveRows (wanted ∷ others) left → 0 < length left
@@ -173,6 +200,51 @@ module _ {script : Script} {inputs left : List (List Value)} {number : ℕ}
       (goes_quietly m here (rows_as rows)
       (ap (λ (l : List (List Value)). made_as script number m l here.stands.table) first) result
       (record { members = members; trapped = trapped }) refl)
+
+  -- ---- calls
+
+  pub do_read : (source called output : ℕ)
+      → (here : Here script inputs left number kept traps (made.Do source called output))
+      → CalledRead kept here.stands.table source script called output
+  do_read source called output here =
+      let m = made.Do source called output in
+      let it = fits_so m here in
+      record {
+        function = it.function;
+        at = it.calls;
+        typed = well_typed script here.well.functions called it.function it.calls;
+        source = reads_so m here source (at_head source []) it.function.signature.takes it.takes;
+      }
+
+  pub do_goes : (source called output : ℕ)
+      → (here : Here script inputs left number kept traps (made.Do source called output))
+      → (held : Kept) → slice_get kept source ≡ Some (Some held) → (result : Kept)
+      (after : List Trap)
+      → IsDoneBy (number - output) output (do_read source called output here).function held result
+      traps after
+      → Stands script inputs (number + 1) left (kept ++ Some result ∷ []) after
+  do_goes source called output here held held_at result after done =
+      let m = made.Do source called output in
+      let it = do_read source called output here in
+      let f = it.function in
+      let from = it.source.from in
+      let c = from.collection in
+      let origin = number - output in
+      let held_keeps = keeps kept here.stands.table source f.signature.takes it.source held held_at
+      in
+      let all = calls_answered f it.typed c.bag from.is.typed in
+      subst (λ (l : List Trap).
+      Stands script inputs (number + 1) left (kept ++ Some result ∷ []) l) (sym done.found)
+      (goes_so m here (called_by origin output c.traps all.calls)
+      (ap (option_and_then
+      (λ (g : Function). done_at origin output g source here.stands.table)) it.at
+      ∙ (ap (option_and_then (done_by origin output f)) from.made
+      ∙ ap (option_map (called_by origin output c.traps)) all.are))
+      result
+      (called_kept origin output f all.calls result held c traps after held_keeps all.are done)
+      (traps_on origin f held.members.items)
+      (called_own here.stands.table source origin output f all.calls held c from.made held_keeps
+      all.are))
 
   -- ---- groups
 

@@ -29,7 +29,9 @@ use Rattle.direct_meaning.proofs.TypeLemmas.{set_again}
 use Rattle.direct_meaning.specs.Calls.{answer_of, answered, calls_on}
 use Rattle.direct_meaning.specs.Direct.{called_by, done_by}
 use Rattle.direct_meaning.specs.Made.{IsCollectionOf}
-use Rattle.direct_meaning.specs.inner.Slots.{emitted_by, slots_answer, trapped_by}
+use Rattle.direct_meaning.specs.declared.kept.Kept.{Kept}
+use Rattle.direct_meaning.specs.inner.Kept.{has_traps}
+use Rattle.direct_meaning.specs.inner.Slots.{IsDoneBy, emitted_by, slots_answer, trapped_by}
 
 -- ---- an answer
 
@@ -67,7 +69,7 @@ answers function typed x has =
 -- the same by slots
 pub same_answer : (fun : Fun) (function : Function) → Does fun function → (x : Value)
     → answer_of function x ≡ slots_answer fun x
-unfolding answer_of, slots_answer
+unfolding answer_of slots_answer
 same_answer fun function does x =
     ap (answered x)
     (ap (λ (n : ℕ).
@@ -206,3 +208,23 @@ calls_answered function typed elements have =
     each_answers [] each = tt
     each_answers (x ∷ xs) each =
         (answers function typed x each.0, each_answers xs each.1)
+
+-- what is done by slots is done by names
+pub done_by_slots : (origin output : ℕ) (fun : Fun) (function : Function) → Does fun function
+    → (source result : Kept) (before after : List Trap)
+    → result.members.items
+    ≡ bag_of (flat_map (λ x. emitted_by output (slots_answer fun x)) source.members.items)
+    → after ≡ before ++ flat_map (λ x. trapped_by origin (slots_answer fun x)) source.members.items
+    → result.trapped ≡ (source.trapped || has_traps
+    (flat_map (λ x. trapped_by origin (slots_answer fun x)) source.members.items))
+    → IsDoneBy origin output function source result before after
+done_by_slots origin output fun function does source result before after members found trapped =
+    let same = λ (x : Value). sym (same_answer fun function does x) in
+    record {
+      members = members ∙ (λ i.
+          bag_of (flat_map (λ x. emitted_by output (same x i)) source.members.items));
+      found = found ∙ (λ i.
+          before ++ flat_map (λ x. trapped_by origin (same x i)) source.members.items);
+      trapped = trapped ∙ (λ i. source.trapped || has_traps
+          (flat_map (λ x. trapped_by origin (same x i)) source.members.items));
+    }

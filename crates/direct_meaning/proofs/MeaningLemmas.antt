@@ -1,6 +1,6 @@
 -- A well-formed script over rows of its inputs has a meaning.
 use Rattle.std.proofs.Common.{◌≡◌, ℕ, zero, suc, ◌+◌, ◌<◌, Bool, true, false, cond, List, [], ◌∷◌, ◌++◌, length, Option, Some, None, if◌then◌else◌, refl, sym, ap, ◌∙◌, subst, arith, append_assoc, append-nil, length-append}
-use Rattle.std.specs.List.{Contains, filter, flat_map}
+use Rattle.std.specs.List.{AllByRecursion as Each, Contains, filter, flat_map}
 use Rattle.std.specs.Option.{option_and_then}
 use Rattle.flume_collection.specs.Collection.{Collection}
 use Rattle.flume_value.specs.declared.value.Value.{Value}
@@ -72,6 +72,11 @@ pub reads_needed : (script : Script) → IsWellFormed script → (before rest : 
     → is_needed script (length before) ≡ true → (n : ℕ) → Contains (operands entry.1.made) n
     → is_needed script n ≡ true
 reads_needed script well before rest entry split needed n reads = ?
+
+-- what outputs read is needed
+pub outputs_needed : (script : Script) → IsWellFormed script
+    → Each (λ entry. is_needed script entry.1.reads ≡ true) script.outputs
+outputs_needed script well = ?
 
 one_longer : (before : Named Node) (entry : List ℕ × Node)
     → length (before ++ entry ∷ []) ≡ suc (length before)

@@ -4,3 +4,4 @@ pub mod Direct
 pub mod Inputs
 pub mod Made
 pub mod inner
+pub mod Evaluated

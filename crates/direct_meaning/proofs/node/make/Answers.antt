@@ -1,10 +1,11 @@
 use Rattle.std.proofs.Common.{◌≡◌, ℕ, ◌+◌, ◌++◌, ◌∷◌, ◌∙◌, [], List, Some, ap, subst, sym}
 use Rattle.std.specs.List.{flat_map, list_any}
 use Rattle.std.specs.Vec.Iter.{into_iter_items}
+use Rattle.std.proofs.lemmas.Result.{IfOk-weaker}
 use Rattle.flume_value.specs.Bag.{bag_of}
 use Rattle.flume_collection.specs.declared.trap.Trap.{Trap}
 use Rattle.script_check.specs.declared.made.Made.TheVariants as made
-use Rattle.direct_meaning.proofs.ArmLemmas.{any_ascending, combine_goes, combine_read, count_goes, count_read, flatten_goes, group_goes, group_read, groups_read, here_at, input_goes, input_left, join_goes, left_read, pairs_read, right_read, table_ascending, top_goes, top_read}
+use Rattle.direct_meaning.proofs.ArmLemmas.{any_ascending, called_read, combine_goes, combine_read, count_goes, count_read, do_goes, do_read, flatten_goes, function_within, group_goes, group_read, groups_read, here_at, input_goes, input_left, join_goes, left_read, pairs_read, right_read, table_ascending, top_goes, top_read}
 use Rattle.direct_meaning.proofs.KeepLemmas.{own_combined}
 use Rattle.direct_meaning.proofs.ResultLemmas.{if_all, if_both}
 use Rattle.direct_meaning.specs.inner.Kept.{is_trapped, kept_in, members_of}
@@ -33,8 +34,8 @@ returns-in-Input c rows stands =
 
 -- ---- groups
 
-pub kept_at-requires-in-Group : goal.kept_at-requires-in-Group
-kept_at-requires-in-Group c =
+pub kept_at-requires : goal.kept_at-requires
+kept_at-requires c =
     let here = here_at c.args.program.now.known.types c.node.result.now
     (made.Group c.in-Group.source) c.requires.well_formed c.requires.stands.1 c.requires.needed
     c.node.ensures.is c.in-Group.is in
@@ -46,7 +47,7 @@ grouped-requires-clause-pairs c =
     (made.Group c.in-Group.source) c.requires.well_formed c.requires.stands.1 c.requires.needed
     c.node.ensures.is c.in-Group.is in
     pairs_read c.args.table.now here.stands.table c.in-Group.source
-    c.kept_at-in-Group.result.now c.kept_at-in-Group.ensures (group_read c.in-Group.source here)
+    c.kept_at.result.now c.kept_at.ensures (group_read c.in-Group.source here)
 
 pub grouped-requires-clause-ascending : goal.grouped-requires-clause-ascending
 grouped-requires-clause-ascending c =
@@ -54,7 +55,7 @@ grouped-requires-clause-ascending c =
     (made.Group c.in-Group.source) c.requires.well_formed c.requires.stands.1 c.requires.needed
     c.node.ensures.is c.in-Group.is in
     table_ascending c.args.table.now here.stands.table c.in-Group.source
-    c.kept_at-in-Group.result.now c.kept_at-in-Group.ensures (group_read c.in-Group.source here)
+    c.kept_at.result.now c.kept_at.ensures (group_read c.in-Group.source here)
 
 pub returns-in-Group : goal.returns-in-Group
 returns-in-Group c rows stands =
@@ -62,7 +63,7 @@ returns-in-Group c rows stands =
     (made.Group c.in-Group.source) c.requires.well_formed stands c.requires.needed
     c.node.ensures.is c.in-Group.is in
     if_both c.grouped.result _ _ _
-    (group_goes c.in-Group.source here c.kept_at-in-Group.result.now c.kept_at-in-Group.ensures)
+    (group_goes c.in-Group.source here c.kept_at.result.now c.kept_at.ensures)
     c.grouped.ensures.members c.grouped.ensures.trapped
 
 -- ---- combinations
@@ -231,3 +232,42 @@ returns-in-Top c rows stands =
     (top_goes c.in-Top.number c.in-Top.source here c.kept_at-in-Top.result.now
     c.kept_at-in-Top.ensures)
     c.topped.ensures.members c.topped.ensures.trapped
+
+-- ---- calls
+
+pub kept_at-source-requires : goal.kept_at-source-requires
+kept_at-source-requires c =
+    let here = here_at c.args.program.now.known.types c.node.result.now
+    (made.Do c.in-Do.source c.in-Do.function c.in-Do.output) c.requires.well_formed
+    c.requires.stands.1 c.requires.needed c.node.ensures.is c.in-Do.is in
+    let it = (do_read c.in-Do.source c.in-Do.function c.in-Do.output here).source in
+    (it.held, it.at)
+
+pub done-requires-clause-below : goal.done-requires-clause-below
+done-requires-clause-below c =
+    let here = here_at c.args.program.now.known.types c.node.result.now
+    (made.Do c.in-Do.source c.in-Do.function c.in-Do.output) c.requires.well_formed
+    c.requires.stands.1 c.requires.needed c.node.ensures.is c.in-Do.is in
+    let it = do_read c.in-Do.source c.in-Do.function c.in-Do.output here in
+    function_within c.args.program.now.script.functions c.in-Do.function it.function it.at
+
+pub done-requires-clause-typed : goal.done-requires-clause-typed
+done-requires-clause-typed c =
+    let here = here_at c.args.program.now.known.types c.node.result.now
+    (made.Do c.in-Do.source c.in-Do.function c.in-Do.output) c.requires.well_formed
+    c.requires.stands.1 c.requires.needed c.node.ensures.is c.in-Do.is in
+    called_read c.args.table.now here.stands.table c.in-Do.source c.kept_at-source.result.now
+    c.kept_at-source.ensures c.args.program.now.script c.in-Do.function c.in-Do.output
+    (do_read c.in-Do.source c.in-Do.function c.in-Do.output here)
+
+pub returns-in-Do : goal.returns-in-Do
+returns-in-Do c rows stands =
+    let here = here_at c.args.program.now.known.types c.node.result.now
+    (made.Do c.in-Do.source c.in-Do.function c.in-Do.output) c.requires.well_formed stands
+    c.requires.needed c.node.ensures.is c.in-Do.is in
+    let it = do_read c.in-Do.source c.in-Do.function c.in-Do.output here in
+    IfOk-weaker c.done.result _ _
+    (λ kept done.
+    do_goes c.in-Do.source c.in-Do.function c.in-Do.output here c.kept_at-source.result.now
+    c.kept_at-source.ensures kept c.done.new.traps.items done)
+    (c.done.ensures it.function it.at)
