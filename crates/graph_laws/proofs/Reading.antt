@@ -86,7 +86,8 @@ those_set t (d ∷ es) n x y h e = by (eqb d.number n) refl h (λ i. those_set t
     by true q i f = let same : d.node ≡ y = cc in
         let is : t x ≡ t d.node = e ∙ ap t (sym same) in
         ap (λ b. cond b (n ∷ those t es) (those t es)) is
-        ∙ ap (λ (m : ℕ). cond (t d.node) (m ∷ those t es) (those t es)) (sym (eqb-true d.number n q))
+        ∙ ap (λ (m : ℕ). cond (t d.node) (m ∷ those t es) (those t es)) (sym
+            (eqb-true d.number n q))
     by false q i f = ap (λ l. cond (t d.node) (d.number ∷ l) l) (f i)
 
 pub those_without : (t : Node → Bool) (es : List Entry) (n : ℕ) (y : Node)
