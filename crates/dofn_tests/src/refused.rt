@@ -1,5 +1,4 @@
-use crate::answers::{Answer, answer_of, ints, row};
-use flume_types::Ty;
+use crate::answers::{Answer, answer_on_row, ints};
 use std::test::Fail;
 
 #[test]
@@ -36,10 +35,7 @@ fn ill_typed_bodies_are_refused(rt: HostRuntime) -> Result<(), Fail> {
         b"let y = concat(x.a, x.all)",
     ];
     for body in table {
-        assert_eq!(rt;
-            answer_of(alloc, body, 1, row(alloc)?, Ty::Text)?,
-            Answer::Refused
-        );
+        assert_eq!(rt; answer_on_row(alloc, body, 1, b"text")?, Answer::Refused);
     }
     Ok(())
 }
@@ -66,7 +62,7 @@ fn limits_of_numbers_and_of_depth(rt: HostRuntime) -> Result<(), Fail> {
             Some(n) => Answer::Emits(ints(alloc, &[n])?),
             None => Answer::Refused,
         };
-        assert_eq!(rt; answer_of(alloc, body, 1, row(alloc)?, Ty::Int)?, wanted);
+        assert_eq!(rt; answer_on_row(alloc, body, 1, b"int")?, wanted);
     }
     Ok(())
 }
