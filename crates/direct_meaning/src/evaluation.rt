@@ -1,5 +1,5 @@
 // The direct evaluation of a program.
-ghost use Rattle.std.specs.Prelude.{◌≡◌, ◌≤◌, IfOk, length};
+ghost use Rattle.std.specs.Prelude.{IfOk};
 ghost use Rattle.script_laws.specs.WellFormed.{IsWellFormed};
 ghost use Rattle.direct_meaning.specs.Evaluated.{IsDirect};
 ghost use Rattle.direct_meaning.specs.Inputs.{AreInputs};
@@ -14,7 +14,6 @@ use std::alloc::{AllocError, Global};
 /// Evaluates a program over the rows of its needed inputs, node by node.
 pub fn direct(alloc: Global, program: &Program, inputs: Pile<Items>) -> Result<Direct, AllocError>
     requires well_formed { IsWellFormed program.now.script }
-    requires few { length program.now.script.nodes ≤ 256 }
     requires inputs { AreInputs program.now.script inputs }
     ensures { IfOk result (IsDirect program.now.script inputs) }
 {
