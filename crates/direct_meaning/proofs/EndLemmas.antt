@@ -23,7 +23,7 @@ use Rattle.direct_meaning.specs.Direct.{collections, made_at, meaning, sizes_of,
 use Rattle.direct_meaning.specs.Evaluated.{IsDirect, IsWritten, bag_at}
 use Rattle.direct_meaning.specs.Inputs.{AreInputs, HaveRows}
 use Rattle.direct_meaning.specs.Made.{AreMade}
-use Rattle.direct_meaning.specs.Needed.{is_needed}
+use Rattle.script_check.specs.Needed.{is_needed}
 use Rattle.direct_meaning.specs.declared.kept.Kept.{Kept}
 use Rattle.direct_meaning.specs.declared.told.Direct.{Direct}
 use Rattle.direct_meaning.specs.inner.Kept.{KeepsAny, bag_kept, sizes_kept}

@@ -4,7 +4,6 @@ ghost use Rattle.script_laws.specs.WellFormed.{IsWellFormed};
 ghost use Rattle.direct_meaning.specs.Evaluated.{IsDirect};
 ghost use Rattle.direct_meaning.specs.Inputs.{AreInputs};
 
-use crate::needed::is_needed;
 use crate::node::make;
 use crate::told::{Direct, told};
 use flume_value::{Items, Pile};
@@ -21,7 +20,7 @@ pub fn direct(alloc: Global, program: &Program, inputs: Pile<Items>) -> Result<D
     let mut traps = Vec::new(alloc);
     let mut table = Vec::new(alloc);
     for number in 0..program.node_count() {
-        let kept = if is_needed(program, number) {
+        let kept = if program.is_needed(number) {
             let kept = make(alloc, program, number, table.as_slice(), &mut rows, &mut traps)?;
             Some(kept)
         } else {
