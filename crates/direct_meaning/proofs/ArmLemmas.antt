@@ -1,5 +1,5 @@
 -- Each way in which a node is made, from what is kept before it to what is kept behind it.
-use Rattle.std.proofs.Common.{◌≡◌, ℕ, suc, ◌+◌, ◌-◌, ◌<◌, ◌||◌, Bool, true, false, List, [], ◌∷◌, ◌++◌, length, map, Option, Some, None, slice_get, refl, sym, ap, ◌∙◌, subst, append-nil, arith}
+use Rattle.std.proofs.Common.{◌≡◌, ℕ, suc, ◌+◌, ◌-◌, ◌<◌, ◌||◌, true, false, List, [], ◌∷◌, ◌++◌, length, Option, Some, slice_get, refl, sym, ap, ◌∙◌, subst, append-nil, arith}
 use Rattle.std.specs.Prelude.{All}
 use Rattle.std.specs.List.{Contains, flat_map, list_any}
 use Rattle.std.specs.List.Sorted.{IsSorted}
@@ -16,7 +16,7 @@ use Rattle.flume_types.specs.declared.types.Ty.TheVariants as ty
 use Rattle.bag_groups.specs.Combining.{combined_each}
 use Rattle.bag_groups.specs.Groups.{grouped}
 use Rattle.bag_groups.specs.Pairs.{IsPair}
-use Rattle.bag_steps.specs.Counts.{counted, counted_traps}
+use Rattle.bag_steps.specs.Counts.{counted}
 use Rattle.bag_steps.specs.Joins.{joined}
 use Rattle.combine_table.specs.Combinations.{combined, greatest}
 use Rattle.combine_table.specs.declared.comb.Comb.{Comb}
@@ -35,7 +35,7 @@ use Rattle.script_check.specs.declared.made.Node.{Node as HeldNode}
 use Rattle.script_laws.specs.WellFormed.{Fits, IsWellFormed, IsWellTyped, function_at, members_at}
 use Rattle.direct_meaning.proofs.CallLemmas.{calls_answered}
 use Rattle.direct_meaning.proofs.MakeLemmas.{well_typed}
-use Rattle.direct_meaning.proofs.KeepLemmas.{GoesThrough, called_kept, called_own, by_key_kept, by_key_own, combined_kept, combined_own, counted_kept, counted_own, joined_kept, joined_own, own_combined, top_kept, top_own, Stood, all_stand, together_kept, together_own}
+use Rattle.direct_meaning.proofs.KeepLemmas.{GoesThrough, called_kept, called_own, by_key_kept, by_key_own, combined_kept, combined_own, counted_kept, counted_own, joined_kept, joined_own, own_combined, top_kept, top_own, all_stand, together_kept, together_own}
 use Rattle.direct_meaning.proofs.PlaceLemmas.{mapped, within}
 use Rattle.direct_meaning.proofs.StandLemmas.{HasOwn, IsNodeAt, Source, at_node, fits, goes, behind, held_ascending, held_typed, keeps, own_rows, source_of}
 use Rattle.direct_meaning.proofs.TypeLemmas.{taken}
@@ -160,10 +160,10 @@ module _ {script : Script} {inputs left : List (List Value)} {number : ℕ}
     goes_so : (c : Collection) → made_as script number m left here.stands.table ≡ Some c
         → (result : Kept) → Keeps result c → (own : List Trap) → HasOwn here.stands.table own c
         → Stands script inputs (number + 1) (inputs_behind m left)
-          (kept ++ Some result ∷ []) (traps ++ own)
+        (kept ++ Some result ∷ []) (traps ++ own)
     goes_so c made_so result keeps own has =
         subst (λ (o : Made). Stands script inputs (number + 1) (inputs_behind o left)
-          (kept ++ Some result ∷ []) (traps ++ own)) here.node.made
+        (kept ++ Some result ∷ []) (traps ++ own)) here.node.made
         (goes script here.well inputs left number kept traps here.stands here.node.entry here.node.at here.needed c
         (ap (λ (o : Made). made_as script number o left here.stands.table) here.node.made ∙ made_so)
         result keeps own has)
@@ -171,10 +171,10 @@ module _ {script : Script} {inputs left : List (List Value)} {number : ℕ}
     goes_quietly : (c : Collection) → made_as script number m left here.stands.table ≡ Some c
         → (result : Kept) → Keeps result c → HasOwn here.stands.table [] c
         → Stands script inputs (number + 1) (inputs_behind m left)
-          (kept ++ Some result ∷ []) traps
+        (kept ++ Some result ∷ []) traps
     goes_quietly c made_so result keeps has =
         subst (λ (l : List Trap). Stands script inputs (number + 1) (inputs_behind m left)
-          (kept ++ Some result ∷ []) l) (append-nil traps)
+        (kept ++ Some result ∷ []) l) (append-nil traps)
         (goes_so c made_so result keeps [] has)
 
   -- ---- inputs
@@ -191,12 +191,12 @@ module _ {script : Script} {inputs left : List (List Value)} {number : ℕ}
       → (here : Here script inputs left number kept traps (made.Input file columns)) → (rows : List Value) (more : List (List Value))
       → left ≡ rows ∷ more → (result : Kept) → result.members.items ≡ bag_of rows
       → result.trapped ≡ false → Stands script inputs (number + 1) more
-          (kept ++ Some result ∷ []) traps
+      (kept ++ Some result ∷ []) traps
   input_goes file columns here rows more first result members trapped =
       let m = made.Input file columns in
       let taken : inputs_behind m left ≡ more = ap (inputs_behind m) first in
       subst (λ (l : List (List Value)). Stands script inputs (number + 1) l
-          (kept ++ Some result ∷ []) traps) taken
+      (kept ++ Some result ∷ []) traps) taken
       (goes_quietly m here (rows_as rows)
       (ap (λ (l : List (List Value)). made_as script number m l here.stands.table) first) result
       (record { members = members; trapped = trapped }) refl)
@@ -262,7 +262,7 @@ module _ {script : Script} {inputs left : List (List Value)} {number : ℕ}
       → slice_get kept source ≡ Some (Some held) → (result : Kept)
       → result.members.items ≡ unless_behind held.trapped (grouped held.members.items)
       → result.trapped ≡ held.trapped → Stands script inputs (number + 1) left
-          (kept ++ Some result ∷ []) traps
+      (kept ++ Some result ∷ []) traps
   group_goes source here held held_at result members trapped =
       let it = group_read source here in
       let from = it.source.from in
@@ -292,7 +292,7 @@ module _ {script : Script} {inputs left : List (List Value)} {number : ℕ}
       → result.members.items ≡ combined_each (combined by) held.members.items
       → result.trapped ≡ (held.trapped || has_traps (own_combined number by held.members.items))
       → Stands script inputs (number + 1) left
-          (kept ++ Some result ∷ []) (traps ++ own_combined number by held.members.items)
+      (kept ++ Some result ∷ []) (traps ++ own_combined number by held.members.items)
   combine_goes source by here held held_at result members trapped =
       let it = combine_read source by here in
       let from = it.source.from in
@@ -319,7 +319,7 @@ module _ {script : Script} {inputs left : List (List Value)} {number : ℕ}
       ≡ bag_of (flat_map (λ source. members_of (kept_in kept source)) sources)
       → result.trapped ≡ list_any (λ source. is_trapped (kept_in kept source)) sources
       → Stands script inputs (number + 1) left
-          (kept ++ Some result ∷ []) traps
+      (kept ++ Some result ∷ []) traps
   flatten_goes sources here result members trapped =
       let stood = all_stand kept here.stands.table here.node.entry.1.type sources (flatten_read sources here) in
       goes_quietly (made.Flatten sources) here (together stood.collections)
@@ -341,7 +341,7 @@ module _ {script : Script} {inputs left : List (List Value)} {number : ℕ}
       → slice_get kept source ≡ Some (Some held) → (result : Kept)
       → result.members.items ≡ unless_behind held.trapped (counted held.members.items)
       → result.trapped ≡ held.trapped → GoesThrough held → Stands script inputs (number + 1) left
-          (kept ++ Some result ∷ []) traps
+      (kept ++ Some result ∷ []) traps
   count_goes source here held held_at result members trapped through =
       let it = count_read source here in
       let from = it.source.from in
@@ -380,7 +380,7 @@ module _ {script : Script} {inputs left : List (List Value)} {number : ℕ}
         → result.members.items ≡ unless_behind (held.trapped || more.trapped)
         (joined held.members.items more.members.items)
         → result.trapped ≡ (held.trapped || more.trapped) → Stands script inputs (number + 1) left
-          (kept ++ Some result ∷ []) traps
+        (kept ++ Some result ∷ []) traps
     join_goes held more held_at more_at result members trapped =
         let lefts = left_read in
         let rights = right_read in
@@ -411,7 +411,7 @@ module _ {script : Script} {inputs left : List (List Value)} {number : ℕ}
       → result.members.items
       ≡ unless_behind held.trapped (greatest many (bag_of held.members.items))
       → result.trapped ≡ held.trapped → Stands script inputs (number + 1) left
-          (kept ++ Some result ∷ []) traps
+      (kept ++ Some result ∷ []) traps
   top_goes many source here held held_at result members trapped =
       let it = top_read many source here in
       let from = it.source.from in

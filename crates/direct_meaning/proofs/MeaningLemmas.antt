@@ -1,5 +1,5 @@
 -- A well-formed script over rows of its inputs has a meaning.
-use Rattle.std.proofs.Common.{◌≡◌, ℕ, zero, suc, ◌+◌, ◌<◌, Bool, true, false, cond, List, [], ◌∷◌, ◌++◌, length, Option, Some, None, if◌then◌else◌, map, slice_get, refl, sym, ap, ◌∙◌, subst, arith, append_assoc, append-nil, length-append}
+use Rattle.std.proofs.Common.{◌≡◌, ℕ, zero, suc, Bool, true, false, cond, List, [], ◌∷◌, ◌++◌, length, Option, Some, None, if◌then◌else◌, map, slice_get, refl, sym, ap, ◌∙◌, subst, arith, append_assoc, append-nil, length-append}
 use Rattle.std.specs.Prelude.{IsSomeAnd}
 use Rattle.std.specs.List.{AllByRecursion as Each, Contains, filter, flat_map}
 use Rattle.std.specs.Option.{option_and_then}
@@ -11,13 +11,13 @@ use Rattle.script_check.specs.declared.made.Made.{Made}
 use Rattle.script_check.specs.declared.made.Output.{Output}
 use Rattle.script_check.specs.Script.{Node, Script}
 use Rattle.script_laws.proofs.NeededLemmas.{needed_law}
-use Rattle.script_laws.specs.WellFormed.{AllFit, Fits, IsWellFormed}
-use Rattle.direct_meaning.proofs.MakeLemmas.{Makes, makes, rows_behind}
+use Rattle.script_laws.specs.WellFormed.{AllFit, IsWellFormed}
+use Rattle.direct_meaning.proofs.MakeLemmas.{makes, rows_behind}
 use Rattle.direct_meaning.proofs.PlaceLemmas.{at_end}
 use Rattle.direct_meaning.proofs.TableLemmas.{as_many, more_made}
-use Rattle.direct_meaning.specs.Direct.{collections, inputs_behind, made_as, meaning}
+use Rattle.direct_meaning.specs.Direct.{collections, inputs_behind, made_as}
 use Rattle.direct_meaning.specs.Inputs.{AreInputs, HaveRows, Wanted, wanted_by}
-use Rattle.direct_meaning.specs.Made.{AreMade, IsCollectionOf}
+use Rattle.direct_meaning.specs.Made.{AreMade}
 use Rattle.script_check.specs.Needed.{is_needed, numbered, operands, outputs_read}
 use Rattle.direct_meaning.specs.inner.Stands.{wanted_from}
 
@@ -101,10 +101,11 @@ each_read : (script : Script) → IsWellFormed script → (outputs : Named Outpu
     → Each (λ entry. is_needed script entry.1.reads ≡ true) outputs
 each_read script well [] among = tt
 each_read script well (entry ∷ outputs) among =
-    let others = map (λ (e : List ℕ × Output). e.1.reads) outputs in
-    ((needed_law script well entry.1.reads).1
-    ([], among entry.1.reads (at_head entry.1.reads others)),
-    each_read script well outputs (λ n is. among n (at_tail entry.1.reads others n is)))
+    let others = map (λ (e : List ℕ × Output). e.1.reads) outputs in (
+      (needed_law script well entry.1.reads).1
+          ([], among entry.1.reads (at_head entry.1.reads others)),
+      each_read script well outputs (λ n is. among n (at_tail entry.1.reads others n is)),
+    )
 
 pub outputs_needed : (script : Script) → IsWellFormed script
     → Each (λ entry. is_needed script entry.1.reads ≡ true) script.outputs

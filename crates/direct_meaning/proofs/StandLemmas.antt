@@ -1,6 +1,5 @@
 -- How an evaluation stands before a node, and behind it.
-use Rattle.std.proofs.Common.{◌≡◌, ℕ, zero, suc, ◌+◌, ◌<◌, Bool, true, false, List, [], ◌∷◌, ◌++◌, length, Option, Some, None, slice_get, refl, sym, ap, ◌∙◌, subst, arith, append_assoc, append-nil, length-append, add-one}
-use Rattle.std.specs.Prelude.{All}
+use Rattle.std.proofs.Common.{◌≡◌, ℕ, suc, ◌+◌, true, false, List, [], ◌∷◌, ◌++◌, length, Option, Some, None, slice_get, sym, ap, ◌∙◌, subst, arith, append_assoc, append-nil, length-append, add-one}
 use Rattle.std.specs.List.{AllZip, Contains, flat_map}
 use Rattle.std.specs.List.Sorted.{IsSorted}
 use Rattle.std.specs.Option.{option_flatten, option_map}
@@ -23,9 +22,9 @@ use Rattle.direct_meaning.proofs.MeaningLemmas.{next_needed, next_unneeded, read
 use Rattle.direct_meaning.proofs.PlaceLemmas.{mapped, zip_back, zip_more}
 use Rattle.direct_meaning.proofs.TableLemmas.{IsMadeAt, as_many, more_made}
 use Rattle.direct_meaning.proofs.TrapLemmas.{same_front}
-use Rattle.direct_meaning.specs.Direct.{collections, inputs_behind, made_as, made_at, meaning, traps_behind, traps_of}
+use Rattle.direct_meaning.specs.Direct.{collections, inputs_behind, made_as, meaning, traps_behind, traps_of}
 use Rattle.direct_meaning.specs.Inputs.{HaveRows, wanted_by}
-use Rattle.direct_meaning.specs.Made.{AreMade, IsCollectionOf}
+use Rattle.direct_meaning.specs.Made.{IsCollectionOf}
 use Rattle.script_check.specs.Needed.{is_needed, operands}
 use Rattle.direct_meaning.specs.declared.kept.Kept.{Kept}
 use Rattle.direct_meaning.specs.inner.Kept.{Keeps, KeepsAny}

@@ -1,4 +1,4 @@
-use Rattle.std.proofs.Common.{◌≡◌, ℕ, ◌+◌, ◌++◌, ◌∷◌, ◌∙◌, [], List, Some, ap, subst, sym}
+use Rattle.std.proofs.Common.{ℕ, ◌+◌, ◌++◌, ◌∷◌, ◌∙◌, [], List, Some, ap, subst, sym}
 use Rattle.std.specs.List.{flat_map, list_any}
 use Rattle.std.specs.Vec.Iter.{into_iter_items}
 use Rattle.std.proofs.lemmas.Result.{IfOk-weaker}
@@ -6,7 +6,6 @@ use Rattle.flume_value.specs.Bag.{bag_of}
 use Rattle.flume_collection.specs.declared.trap.Trap.{Trap}
 use Rattle.script_check.specs.declared.made.Made.TheVariants as made
 use Rattle.direct_meaning.proofs.ArmLemmas.{any_ascending, called_read, combine_goes, combine_read, count_goes, count_read, do_goes, do_read, flatten_goes, function_within, group_goes, group_read, groups_read, here_at, input_goes, input_left, join_goes, left_read, pairs_read, right_read, table_ascending, top_goes, top_read}
-use Rattle.direct_meaning.proofs.KeepLemmas.{own_combined}
 use Rattle.direct_meaning.proofs.ResultLemmas.{if_all, if_both}
 use Rattle.direct_meaning.specs.inner.Kept.{is_trapped, kept_in, members_of}
 use Rattle.direct_meaning.specs.inner.Stands.{Stands}
