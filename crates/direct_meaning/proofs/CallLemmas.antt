@@ -108,7 +108,8 @@ all_answered gives answer (x ∷ elements) each =
     record {
       calls = first.called ∷ rest.calls;
       are = λ i.
-          option_and_then (λ called. option_map (λ calls. called ∷ calls) (rest.are i)) (first.is i);
+          option_and_then (λ called. option_map (λ calls. called ∷ calls) (rest.are i))
+          (first.is i);
       have = (first.has, rest.have);
     }
 

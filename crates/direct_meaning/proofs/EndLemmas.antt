@@ -70,7 +70,8 @@ none_behind before (x ∷ rest) same =
 
 no_rows : (script : Script) (number : ℕ) (left : List (List Value)) (rest : Named Node)
     (table : List (Option Collection)) → rest ≡ []
-    → HaveRows (wanted_from script number rest) left → collections script rest left table ≡ Some table
+    → HaveRows (wanted_from script number rest) left
+    → collections script rest left table ≡ Some table
 no_rows script number [] [] table end have = refl
 no_rows script number (rows ∷ left) [] table end have = absurd have
 no_rows script number left (entry ∷ rest) table end have = cc
@@ -87,7 +88,8 @@ ends script inputs left number kept traps last stands =
     ∙ (ap (λ (l : Named Node). stands.before ++ l) (sym end) ∙ stands.split) in
     record {
       table = stands.table;
-      means = sym stands.ahead ∙ no_rows script number left stands.rest stands.table end stands.rows;
+      means = sym stands.ahead
+          ∙ no_rows script number left stands.rest stands.table end stands.rows;
       are = subst (λ (nodes : Named Node). AreMade script nodes stands.table) whole stands.are;
       keeps = stands.keeps;
       found = stands.found;

@@ -266,7 +266,8 @@ pub together_kept : (kept : List (Option Kept)) (table : List (Option Collection
 together_kept kept table numbers stood result members trapped = record {
   members = members ∙ ap bag_of stood.members;
   trapped = trapped
-      ∙ (stood.trapped ∙ sym (traps-set (flat_map (λ (c : Collection). c.traps) stood.collections)));
+      ∙ (stood.trapped
+      ∙ sym (traps-set (flat_map (λ (c : Collection). c.traps) stood.collections)));
 }
 
 pub together_own : (kept : List (Option Kept)) (table : List (Option Collection))

@@ -110,17 +110,19 @@ module _ (script : Script) (before : Named Node) (table : List (Option Collectio
       }
 
   -- what a needed node makes
-  pub makes : All (λ entry. IsWellTyped entry.1) script.functions → (number : ℕ) (m : Made) (type : Ty) (inputs : List (List Value))
+  pub makes : All (λ entry. IsWellTyped entry.1) script.functions → (number : ℕ) (m : Made)
+      (type : Ty) (inputs : List (List Value))
       (wanted : List Wanted) → Fits script.functions before m type
       → HaveRows (wanted_by m type ++ wanted) inputs
       → ((n : ℕ) → Contains (operands m) n → is_needed script n ≡ true)
       → Makes script number m inputs table type
   makes typed number (made.Input file columns) type [] wanted fits have needed = absurd have
-  makes typed number (made.Input file columns) type (rows ∷ inputs) wanted fits have needed = record {
-    collection = rows_as rows;
-    made = refl;
-    is = rows_are type rows have.0;
-  }
+  makes typed number (made.Input file columns) type (rows ∷ inputs) wanted fits have needed =
+      record {
+        collection = rows_as rows;
+        made = refl;
+        is = rows_are type rows have.0;
+      }
   makes typed number (made.Do source called output) type inputs wanted fits have needed =
       let m = made.Do source called output in
       done_makes number source called output type inputs fits.function

@@ -25,7 +25,8 @@ use Rattle.direct_meaning.specs.inner.Stands.{wanted_from}
 abbrev wanted_if : Bool → Script → ℕ → List ℕ × Node → Named Node → List Wanted
 wanted_if needed script number entry rest =
     flat_map (λ it. wanted_by it.1.1.made it.1.1.type)
-    (cond needed ((number, entry) ∷ filter (λ it. is_needed script it.0) (numbered (suc number) rest))
+    (cond needed
+    ((number, entry) ∷ filter (λ it. is_needed script it.0) (numbered (suc number) rest))
     (filter (λ it. is_needed script it.0) (numbered (suc number) rest)))
 
 pub wanted_needed : (script : Script) (number : ℕ) (entry : List ℕ × Node) (rest : Named Node)
@@ -141,7 +142,8 @@ module _ (script : Script) (well : IsWellFormed script) where
       let wanted = wanted_from script (suc (length before)) rest in
       let rows = wanted_needed script (length before) entry rest inputs needed have in
       let same = as_many script before table are in
-      let it = makes script before table are well.functions (length table) m entry.1.type inputs wanted fit.0 rows
+      let it = makes script before table are well.functions (length table) m entry.1.type inputs
+      wanted fit.0 rows
       (reads_needed script well before rest entry split needed) in
       let behind = rows_behind m entry.1.type inputs wanted rows in
       let longer = one_longer before entry in

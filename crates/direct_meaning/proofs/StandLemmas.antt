@@ -169,10 +169,12 @@ module _ (script : Script) (well : IsWellFormed script) (inputs left : List (Lis
   all_split : (stands.before ++ entry ∷ []) ++ behind.others ≡ script.nodes
   all_split = append_assoc stands.before (entry ∷ []) behind.others ∙ split
 
-  wanted_next : (more : List (List Value)) → HaveRows (wanted_from script (suc number) behind.others) more
+  wanted_next : (more : List (List Value))
+      → HaveRows (wanted_from script (suc number) behind.others) more
       → HaveRows (wanted_from script (number + 1) behind.others) more
   wanted_next more have =
-      subst (λ (n : ℕ). HaveRows (wanted_from script n behind.others) more) (sym (add-one number)) have
+      subst (λ (n : ℕ). HaveRows (wanted_from script n behind.others) more)
+      (sym (add-one number)) have
 
   -- behind a node that is not needed
   pub passes : is_needed script number ≡ false
@@ -203,7 +205,8 @@ module _ (script : Script) (well : IsWellFormed script) (inputs left : List (Lis
     own_rows = wanted_needed script number entry behind.others left needed rows
 
     made : Makes script number entry.1.made left stands.table entry.1.type
-    made = makes script stands.before stands.table stands.are well.functions number entry.1.made entry.1.type left
+    made = makes script stands.before stands.table stands.are well.functions number entry.1.made
+        entry.1.type left
         (wanted_from script (suc number) behind.others) fit.0 own_rows reads
 
     is_of : (c : Collection) → made_as script number entry.1.made left stands.table ≡ Some c
