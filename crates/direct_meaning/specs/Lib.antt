@@ -1,4 +1,3 @@
-pub mod Needed
 pub mod Calls
 pub mod Direct
 pub mod Inputs

@@ -8,7 +8,6 @@ mod evaluation;
 mod flatten;
 mod kept;
 mod laws;
-mod needed;
 mod node;
 mod steps;
 mod told;
