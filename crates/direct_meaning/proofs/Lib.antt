@@ -1,5 +1,1 @@
-pub mod CallLemmas
-pub mod LeastLemmas
-pub mod ScriptLemmas
-pub mod ProgramLemmas
-pub mod TableLemmas
+

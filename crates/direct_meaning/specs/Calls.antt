@@ -1,34 +1,27 @@
--- Calls of a function with slots that all go through.
-use Rattle.std.specs.Prelude.{◌≡◌, IsOk, List, Some, ⊤}
-use Rattle.std.specs.List.{All, Contains}
-use Rattle.dofn_eval.specs.Answer.{Answer, answered}
-use Rattle.dofn_eval.specs.Function.{Function as Slots}
-use Rattle.dofn_eval.specs.Outcome.{Traps}
-use Rattle.dofn_eval.specs.Run.{means}
+-- The calls of a function on values, by the meaning of its parsed body.
+use Rattle.std.specs.Prelude.{List, [], ◌∷◌, Option, Some, None, Ok, Err, option_map, option_and_then}
 use Rattle.flume_value.specs.declared.value.Value.{Value}
-use Rattle.direct_meaning.specs.Direct.{Call, all_emitted, calls_on}
-use Rattle.direct_meaning.specs.declared.calls.ElementFault.{ElementFault}
-use Rattle.direct_meaning.specs.declared.calls.ElementFault.TheVariants.{Trap, Memory}
+use Rattle.dofn_eval.specs.Outcome.{Outcome, Gives, Traps, Stuck}
+use Rattle.body_check.specs.Call.{means}
+use Rattle.script_check.specs.Script.{Function}
+use Rattle.flume_collection.specs.Calls.{Called}
 
--- each of these elements' calls has an answer
-abbrev pub AllAnswer : Slots → List Value → Type 0
-AllAnswer slots elements =
-    All (λ element. (answer : Answer)
-    × (answered (means slots.body element) ≡ Some answer)) elements
+-- what a call that comes to this answers: a trap names the call's element; what is stuck answers
+-- nothing
+abbrev pub answered : Value → Outcome (List Value) → Option Called
+answered element (Gives outputs) = Some (Ok (outputs ∷ []))
+answered element (Traps kind) = Some (Err (kind, element))
+answered element Stuck = None
 
--- the calls on these elements emit these values, one after another, and none traps
-abbrev pub EmitAll : Slots → List Value → List Value → Type 0
-EmitAll slots elements values =
-    (calls : List Call) × (calls_on (means slots.body) elements ≡ Some calls)
-    × (values ≡ all_emitted calls) × All (λ call. IsOk call.1) calls
+-- what a call of a function on an element answers, by the meaning of its body
+unfoldable pub answer_of : Function → Value → Option Called
+answer_of function element =
+    answered element
+    (means function.types function.argument function.signature.takes function.body element)
 
--- the fault names one of these elements, on which the call traps so; or want of memory
-abbrev pub IsTrapOf : Slots → List Value → ElementFault → Type 0
-IsTrapOf slots elements (Trap kind element) =
-    Contains elements element × (means slots.body element ≡ Traps kind)
-IsTrapOf slots elements Memory = ⊤
-
--- the fault is that the call on this element traps so, or want of memory
-abbrev pub IsTrapAt : Slots → Value → ElementFault → Type 0
-IsTrapAt slots element (Trap kind at) = (at ≡ element) × (means slots.body element ≡ Traps kind)
-IsTrapAt slots element Memory = ⊤
+-- the answers of the calls on these elements, in order; none where one of them has no answer
+abbrev pub calls_on : (Value → Option Called) → List Value → Option (List Called)
+calls_on answer [] = Some []
+calls_on answer (element ∷ elements) =
+    option_and_then (λ called. option_map (λ calls. called ∷ calls) (calls_on answer elements))
+    (answer element)

@@ -1,161 +1,174 @@
--- The direct meaning of a script: for each needed statement that makes a collection, the bag of its
--- members and the traps of its calls.
-use Rattle.std.specs.Prelude.{◌==◌, ◌||◌, ◌^◌, ◌-◌, ℕ, Bool, true, false, List, [], ◌∷◌, ◌++◌, length, map, min, drop, Option, Some, None, Ok, Err, option_map, option_and_then, if◌then◌else◌}
-use Rattle.std.specs.List.{flat_map}
-use Rattle.bag_groups.specs.Combining.{combined_each, traps_of_each}
-use Rattle.bag_groups.specs.Groups.{distinct, grouped}
-use Rattle.combine_table.specs.Combinations.{combined}
-use Rattle.combine_table.specs.declared.comb.Comb.{Comb}
-use Rattle.flume_types.specs.declared.types.Ty.{Ty}
+-- The direct meaning of a script: a collection for each of its needed nodes, by one equation for
+-- each way in which a collection is made. It knows no order of members, no parts and no graph.
+use Rattle.std.specs.Prelude.{ℕ, ◌-◌, ◌^◌, List, [], ◌∷◌, ◌++◌, length, map, min, Option, Some, None, option_map, option_and_then, if◌then◌else◌}
+use Rattle.std.specs.List.{flat_map, slice_get}
+use Rattle.std.specs.Option.{option_flatten}
 use Rattle.flume_value.specs.Bag.{bag_of}
 use Rattle.flume_value.specs.declared.value.Value.{Value}
-use Rattle.flume_value.specs.declared.fault.Kind.{Kind}
-use Rattle.dofn_check.specs.Call.{Function, means}
-use Rattle.dofn_eval.specs.Answer.{Answer, answered}
-use Rattle.dofn_eval.specs.Outcome.{Outcome}
-use Rattle.flume_program.specs.Needed.{needed_nodes}
-use Rattle.flume_program.specs.Script.{Operation, Input, Do, Group, Combine, Node, Script, element_type}
+use Rattle.flume_types.specs.declared.types.Ty.{Ty}
+use Rattle.bag_groups.specs.Combining.{combined_each, traps_of_each}
+use Rattle.combine_table.specs.Combinations.{combined, greatest}
+use Rattle.combine_table.specs.declared.comb.Comb.{Comb}
+use Rattle.bag_steps.specs.Counts.{counted, counted_traps}
+use Rattle.bag_steps.specs.Joins.{joined}
+use Rattle.flume_collection.specs.Calls.{Called, emissions, trap_named, trap_of}
+use Rattle.flume_collection.specs.Collection.{Collection, by_key, together, unless_trapped}
+use Rattle.flume_collection.specs.Traps.{trap_set}
+use Rattle.flume_collection.specs.declared.trap.Trap.{Trap}
+use Rattle.written_types.specs.Named.{Named}
+use Rattle.script_check.specs.declared.made.Made.{Made}
+use Rattle.script_check.specs.declared.made.Made.TheVariants as made
+use Rattle.script_check.specs.Script.{Function, Node, Script}
+use Rattle.script_laws.specs.WellFormed.{function_at}
+use Rattle.direct_meaning.specs.Calls.{answer_of, calls_on}
+use Rattle.direct_meaning.specs.Needed.{is_needed}
 
--- a call that traps: the number of the collection that it was to make a part of, why, and on which
--- element; where a list is combined, the element is its key
-pub record Trap : Type 0 where
-  pub origin : ℕ
-  pub kind : Kind
-  pub element : Value
+-- ---- one equation for each way in which a collection is made
 
--- A collection: its number and its name, the type of its members, and these as a bag, which is
--- their ascending list; the traps of the calls that made it, each once; and whether one of them or
--- of those of a collection behind it trapped.
-pub record Collection : Type 0 where
-  pub number : ℕ
-  pub name : List ℕ
-  pub type : Ty
-  pub bag : List Value
-  pub traps : List Trap
-  pub trapped : Bool
+-- from the rows of an input
+abbrev pub rows_as : List Value → Collection
+rows_as rows = record { bag = bag_of rows; traps = [] }
 
--- the collection of that number among those made
-abbrev pub collection_at : List Collection → ℕ → Option Collection
-collection_at [] number = None
-collection_at (collection ∷ made) number =
-    if collection.number == number then Some collection else collection_at made number
-
-abbrev pub has_traps : List Trap → Bool
-has_traps [] = false
-has_traps (trap ∷ traps) = true
-
--- what a statement makes of its number: these members and these traps, behind traps or not
-abbrev pub collection_of : ℕ × Node → List Value → List Trap → Bool → Collection
-collection_of it bag traps behind = record {
-  number = it.0;
-  name = it.1.name;
-  type = element_type it.1.operation;
-  bag = bag;
-  traps = traps;
-  trapped = behind || has_traps traps;
+-- what calls give to the output of that place, behind these traps
+abbrev pub called_by : ℕ → ℕ → List Trap → List Called → Collection
+called_by origin output traps calls = record {
+  bag = bag_of (flat_map (emissions output) calls);
+  traps = trap_set (traps ++ flat_map (trap_of origin) calls);
 }
 
--- ---- calls
+-- what a function, called on each member, gives to its output of that place: what the calls emit
+-- to it that do not trap. The origin is the number of the statement's first name.
+abbrev pub done_by : ℕ → ℕ → Function → Collection → Option Collection
+done_by origin output function c =
+    option_map (called_by origin output c.traps) (calls_on (answer_of function) c.bag)
 
--- a call: its element, and what it answers
-abbrev pub Call : Type 0
-Call = Value × Answer
+-- each group with its list combined, but those that trap
+abbrev pub combined_by : ℕ → Comb → Collection → Collection
+combined_by origin comb c = record {
+  bag = combined_each (combined comb) c.bag;
+  traps = trap_set (c.traps ++ map (trap_named origin) (traps_of_each (combined comb) c.bag));
+}
 
--- the calls on these elements, in order; none where one of them has no answer
-abbrev pub calls_on : (Value → Outcome (List Value)) → List Value → Option (List Call)
-calls_on meaning [] = Some []
-calls_on meaning (element ∷ elements) =
-    option_and_then
-    (λ answer. option_map (λ calls. (element, answer) ∷ calls) (calls_on meaning elements))
-    (answered (meaning element))
+-- the distinct members with how often each occurs, and the traps of those that are too many; where
+-- a trap is behind them there are none
+abbrev pub counts_behind : ℕ → List Trap → List Value → Collection
+counts_behind origin [] bag = record {
+  bag = counted bag;
+  traps = trap_set (map (trap_named origin) (counted_traps bag));
+}
+counts_behind origin (trap ∷ traps) bag = record { bag = []; traps = trap ∷ traps }
 
--- what an answer emits: nothing where it is a trap
-abbrev pub emissions : Answer → List Value
-emissions (Ok values) = values
-emissions (Err kind) = []
+abbrev pub counted_by : ℕ → Collection → Collection
+counted_by origin c = counts_behind origin c.traps c.bag
 
--- the trap of an answer, where it is one
-abbrev pub trap_of : ℕ → Value → Answer → List Trap
-trap_of origin element (Ok values) = []
-trap_of origin element (Err kind) = record { origin = origin; kind = kind; element = element } ∷ []
+-- both sides of each key of two tables; none where a trap is behind either
+abbrev pub joined_by : Collection → Collection → Collection
+joined_by a b = record {
+  bag = unless_trapped (a.traps ++ b.traps) (joined a.bag b.bag);
+  traps = trap_set (a.traps ++ b.traps);
+}
 
--- what calls emit, one after another
-abbrev pub all_emitted : List Call → List Value
-all_emitted calls = flat_map (λ call. emissions call.1) calls
+-- so many of the greatest members; none where a trap is behind them
+abbrev pub top_by : ℕ → Collection → Collection
+top_by number c = record {
+  bag = unless_trapped c.traps (greatest number c.bag);
+  traps = c.traps;
+}
 
--- the traps of calls
-abbrev pub all_traps : ℕ → List Call → List Trap
-all_traps origin calls = flat_map (λ call. trap_of origin call.0 call.1) calls
+-- ---- all nodes of a script
 
--- ---- statements
+-- the collection of that number, where it is made
+abbrev pub made_at : List (Option Collection) → ℕ → Option Collection
+made_at table number = option_flatten (slice_get table number)
 
--- what `do` makes: the emissions of the calls on all members, and the traps of these
-abbrev pub done_by : ℕ × Node → Function → Collection → Option Collection
-done_by it function source =
-    option_and_then (λ calls. option_map (λ once.
-    collection_of it (bag_of (all_emitted calls)) (all_traps it.0 once) source.trapped)
-    (calls_on (means function) (distinct source.bag)))
-    (calls_on (means function) source.bag)
+-- the collections of these numbers; none where one of them is not made
+abbrev pub all_made : List (Option Collection) → List ℕ → Option (List Collection)
+all_made table [] = Some []
+all_made table (number ∷ numbers) =
+    option_and_then (λ c. option_map (λ cs. c ∷ cs) (all_made table numbers))
+    (made_at table number)
 
--- the groups of a bag of pairs; nothing where a trap stands behind it
-abbrev pub groups_of : Bool → List Value → List Value
-groups_of trapped bag = if trapped then [] else grouped bag
+-- what a function makes of the collection of a number
+abbrev pub done_at : ℕ → ℕ → Function → ℕ → List (Option Collection) → Option Collection
+done_at origin output function source table =
+    option_and_then (done_by origin output function) (made_at table source)
 
--- what `group` makes: one member for each key, with the ascending list of its values
-abbrev pub grouped_by : ℕ × Node → Collection → Collection
-grouped_by it source = collection_of it (groups_of source.trapped source.bag) [] source.trapped
+-- the join of the collections of two numbers
+abbrev pub joined_at : ℕ → ℕ → List (Option Collection) → Option Collection
+joined_at left right table =
+    option_and_then (λ a. option_map (joined_by a) (made_at table right)) (made_at table left)
 
--- the trap of a key
-abbrev pub key_trap : ℕ → Kind × Value → Trap
-key_trap origin pair = record { origin = origin; kind = pair.0; element = pair.1 }
+-- what the node of that number makes of the rows of the inputs to come and of the collections made
+-- before it; there is none where it reads what is not made, or where a call has no answer
+abbrev pub made_as : Script → ℕ → Made → List (List Value) → List (Option Collection)
+    → Option Collection
+made_as script number (made.Input file columns) [] table = None
+made_as script number (made.Input file columns) (rows ∷ inputs) table = Some (rows_as rows)
+made_as script number (made.Do source called) inputs table =
+    option_and_then (λ function. done_at number 0 function source table)
+    (function_at script.functions called)
+made_as script number (made.Group source) inputs table =
+    option_map by_key (made_at table source)
+made_as script number (made.Combine source by) inputs table =
+    option_map (combined_by number by) (made_at table source)
+made_as script number (made.Flatten sources) inputs table =
+    option_map together (all_made table sources)
+made_as script number (made.Count source) inputs table =
+    option_map (counted_by number) (made_at table source)
+made_as script number (made.Join left right) inputs table = joined_at left right table
+made_as script number (made.Top many source) inputs table =
+    option_map (top_by many) (made_at table source)
 
--- what `combine` makes: each member with its list combined, but those that trap
-abbrev pub combined_by : ℕ × Node → Comb → Collection → Collection
-combined_by it combiner source =
-    collection_of it (combined_each (combined combiner) source.bag)
-    (map (key_trap it.0) (traps_of_each (combined combiner) source.bag)) source.trapped
+-- the inputs to come behind a node
+abbrev pub inputs_behind : Made → List (List Value) → List (List Value)
+inputs_behind (made.Input file columns) [] = []
+inputs_behind (made.Input file columns) (rows ∷ inputs) = inputs
+inputs_behind (made.Do source called) inputs = inputs
+inputs_behind (made.Group source) inputs = inputs
+inputs_behind (made.Combine source by) inputs = inputs
+inputs_behind (made.Flatten sources) inputs = inputs
+inputs_behind (made.Count source) inputs = inputs
+inputs_behind (made.Join left right) inputs = inputs
+inputs_behind (made.Top many source) inputs = inputs
 
--- what a statement makes of the rows of the inputs to come and of the collections made before it
-abbrev pub made_as : ℕ × Node → Operation → List (List Value) → List Collection → Option Collection
-made_as it (Input file type) [] made = None
-made_as it (Input file type) (rows ∷ inputs) made = Some (collection_of it (bag_of rows) [] false)
-made_as it (Do source function) inputs made =
-    option_and_then (done_by it function) (collection_at made source)
-made_as it (Group source type) inputs made = option_map (grouped_by it) (collection_at made source)
-made_as it (Combine source combiner type) inputs made =
-    option_map (combined_by it combiner) (collection_at made source)
+-- nodes in order, behind those that made this table: one that is not needed makes nothing
+abbrev pub collections : Script → Named Node → List (List Value) → List (Option Collection)
+    → Option (List (Option Collection))
+collections script [] [] table = Some table
+collections script [] (rows ∷ inputs) table = None
+collections script (entry ∷ nodes) inputs table =
+    if is_needed script (length table)
+    then option_and_then (λ c.
+    collections script nodes (inputs_behind entry.1.made inputs) (table ++ Some c ∷ []))
+    (made_as script (length table) entry.1.made inputs table)
+    else collections script nodes inputs (table ++ None ∷ [])
 
--- the inputs to come behind a statement
-abbrev pub inputs_behind : Operation → List (List Value) → List (List Value)
-inputs_behind (Input file type) inputs = drop 1 inputs
-inputs_behind (Do source function) inputs = inputs
-inputs_behind (Group source type) inputs = inputs
-inputs_behind (Combine source combiner type) inputs = inputs
+-- The direct meaning of a script over the rows of its needed inputs, in their order: by number, the
+-- collection of each needed node. There is none where the rows are not of as many inputs.
+abbrev pub meaning : Script → List (List Value) → Option (List (Option Collection))
+meaning script inputs = collections script script.nodes inputs []
 
--- the collections of statements, in order, behind those made before them
-abbrev pub collections : List (ℕ × Node) → List (List Value) → List Collection →
-    Option (List Collection)
-collections [] [] made = Some made
-collections [] (rows ∷ inputs) made = None
-collections (it ∷ nodes) inputs made =
-    option_and_then (λ collection.
-    collections nodes (inputs_behind it.1.operation inputs) (made ++ collection ∷ []))
-    (made_as it it.1.operation inputs made)
+-- ---- what is told of it
 
--- The direct meaning of a script over the rows of the inputs that a run reads, in their order: a
--- collection for each needed statement. There is none where a statement reads one that is not made,
--- where the rows are not of as many inputs, or where a call has no answer.
-abbrev pub meaning : Script → List (List Value) → Option (List Collection)
-meaning script inputs = collections (needed_nodes script) inputs []
+-- the traps behind a collection that is made
+abbrev pub traps_behind : Option Collection → List Trap
+traps_behind None = []
+traps_behind (Some c) = c.traps
+
+-- the traps of a script: those behind all that is made
+abbrev pub traps_of : List (Option Collection) → List Trap
+traps_of made = trap_set (flat_map traps_behind made)
 
 -- how many members a collection has, as far as 64 bits count
 abbrev pub size_of : Collection → ℕ
-size_of collection = min (length collection.bag) (2 ^ 64 - 1)
+size_of c = min (length c.bag) (2 ^ 64 - 1)
 
--- the script's traps: those of the needed statements, in order of the script, each once
-abbrev pub traps_of : List Collection → List Trap
-traps_of made = flat_map (λ collection. collection.traps) made
+-- the name and the size of each collection that is made, in order
+abbrev pub sizes_from : Named Node → List (Option Collection) → List (List ℕ × ℕ)
+sizes_from [] made = []
+sizes_from (entry ∷ nodes) [] = []
+sizes_from (entry ∷ nodes) (None ∷ made) = sizes_from nodes made
+sizes_from (entry ∷ nodes) (Some c ∷ made) = (entry.0, size_of c) ∷ sizes_from nodes made
 
--- the name and the size of each collection, in order
-abbrev pub sizes_of : List Collection → List (List ℕ × ℕ)
-sizes_of made = map (λ collection. (collection.name, size_of collection)) made
+abbrev pub sizes_of : Script → List (Option Collection) → List (List ℕ × ℕ)
+sizes_of script made = sizes_from script.nodes made

@@ -1,5 +1,5 @@
+pub mod Needed
 pub mod Calls
 pub mod Direct
-pub mod Evaluated
-pub mod Least
-pub mod inner
+pub mod Inputs
+pub mod Made
