@@ -1,0 +1,4 @@
+pub mod Sets
+pub mod Traps
+pub mod Collection
+pub mod Calls
