@@ -1,0 +1,9 @@
+pub mod BagRows
+pub mod CountSteps
+pub mod GroupSteps
+pub mod JoinSteps
+pub mod KeyRuns
+pub mod Loops
+pub mod RowOrder
+pub mod RunLemmas
+pub mod TypedRows

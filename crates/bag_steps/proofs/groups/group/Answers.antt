@@ -1,0 +1,34 @@
+use Rattle.std.proofs.Common.{refl}
+use Rattle.std.proofs.lemmas.List.{take_rest}
+use Rattle.bag_groups.specs.Groups.{grouped}
+use Rattle.bag_groups.proofs.Grouping.{grouped-IsSorted}
+use Rattle.bag_steps.proofs.GroupSteps.{group_more, nothing_left, run_within, settled_as, sorted_as}
+use Rattle.bag_steps.proofs.groups.group.Goals as goal
+
+pub loop-at-preserved : goal.loop-at-preserved
+loop-at-preserved c = record {
+  within =
+      run_within c.args.pairs.now _ c.loop-at.at c.run_of_key-run.result c.key-first.result.now
+      c.index-rest-0.result c.requires.pairs c.requires.ascending c.loop-at-test.true
+      (take_rest c.args.pairs.now c.loop-at.at) c.index-rest-0.is c.key-first.ensures
+      c.run_of_key-run.ensures;
+  all =
+      group_more c.args.pairs.now _ c.loop-at.at c.run_of_key-run.result c.key-first.result.now
+      c.index-rest-0.result c.requires.pairs c.requires.ascending c.loop-at-test.true
+      (take_rest c.args.pairs.now c.loop-at.at) c.index-rest-0.is c.key-first.ensures
+      c.run_of_key-run.ensures _ c.loop-at.groups.items c.push.new.self.items
+      c.in_ok-group_of_run.field-0 refl c.in_ok-group_of_run.ensures c.loop-at.invariant.all
+      c.in_ok-push.ensures.items;
+}
+
+pub returns-clause-ascending : goal.returns-clause-ascending
+returns-clause-ascending c =
+    sorted_as c.loop-at.groups.items (grouped c.args.pairs.now)
+    (nothing_left grouped c.args.pairs.now c.loop-at.groups.items c.loop-at.at refl
+    c.loop-at-test.false c.loop-at.invariant.all) (grouped-IsSorted c.args.pairs.now)
+
+pub returns-clause-bag : goal.returns-clause-bag
+returns-clause-bag c =
+    settled_as c.loop-at.groups.items (grouped c.args.pairs.now)
+    (nothing_left grouped c.args.pairs.now c.loop-at.groups.items c.loop-at.at refl
+    c.loop-at-test.false c.loop-at.invariant.all) (grouped-IsSorted c.args.pairs.now)

@@ -1,0 +1,12 @@
+use Rattle.std.proofs.Common.{◌≡◌, ◌++◌, ◌≤◌, ◌-◌, drop, length}
+use Rattle.bag_groups.specs.Groups.{grouped}
+use Rattle.bag_steps.proofs.groups.group.Given as goal
+
+abbrev pub invariant-loop-at : goal.invariant-loop-at
+invariant-loop-at l = record {
+  within : l.at ≤ length l.pairs;
+  all : grouped l.pairs ≡ l.groups.items ++ grouped (drop l.at l.pairs);
+}
+
+abbrev pub decreases-loop-at : goal.decreases-loop-at
+decreases-loop-at l = length l.pairs - l.at

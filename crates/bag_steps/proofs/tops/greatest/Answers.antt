@@ -1,0 +1,25 @@
+use Rattle.std.proofs.Common.{arith}
+use Rattle.flume_value.specs.Bag.{bag_of}
+use Rattle.combine_table.specs.Combinations.{greatest as greatest_of}
+use Rattle.bag_steps.proofs.GroupSteps.{settled_as, sorted_as}
+use Rattle.bag_steps.proofs.RowOrder.{greatest-IsSorted, greatest_is}
+use Rattle.bag_steps.proofs.tops.greatest.Goals as goal
+
+pub returns-clause-greatest : goal.returns-clause-greatest
+returns-clause-greatest c =
+    greatest_is c.args.n c.saturating_sub-rest.result c.args.bag.now c.in_ok-copy_all.field-0
+    c.into_vec.result.items c.requires c.into_vec.ensures c.in_ok-copy_all.ensures (omega arith)
+
+pub returns-clause-ascending : goal.returns-clause-ascending
+returns-clause-ascending c =
+    sorted_as c.into_vec.result.items (greatest_of c.args.n (bag_of c.args.bag.now))
+    (greatest_is c.args.n c.saturating_sub-rest.result c.args.bag.now c.in_ok-copy_all.field-0
+    c.into_vec.result.items c.requires c.into_vec.ensures c.in_ok-copy_all.ensures (omega arith))
+    (greatest-IsSorted c.args.n c.args.bag.now)
+
+pub returns-clause-bag : goal.returns-clause-bag
+returns-clause-bag c =
+    settled_as c.into_vec.result.items (greatest_of c.args.n (bag_of c.args.bag.now))
+    (greatest_is c.args.n c.saturating_sub-rest.result c.args.bag.now c.in_ok-copy_all.field-0
+    c.into_vec.result.items c.requires c.into_vec.ensures c.in_ok-copy_all.ensures (omega arith))
+    (greatest-IsSorted c.args.n c.args.bag.now)

@@ -1,0 +1,39 @@
+ghost use Rattle.std.specs.Prelude.{◌≡◌, [], IfOk};
+ghost use Rattle.std.specs.List.Sorted.{IsSorted};
+ghost use Rattle.flume_value.specs.Order.{value_cmp};
+ghost use Rattle.flume_value.specs.Bag.{bag_of};
+ghost use Rattle.bag_groups.specs.Pairs.{pair as pair_of};
+ghost use Rattle.bag_steps.specs.Counts.{counted, counted_traps};
+
+use crate::runs::run_of_value;
+use bag_groups::pair;
+use flume_value::Value;
+use std::alloc::{AllocError, Global};
+
+/// For each distinct value of the ascending bag the pair of it and how often it is there. It copies
+/// each distinct value once. No count of a bag that is held in memory overflows.
+pub fn count(alloc: Global, bag: &[Value]) -> Result<Vec<Value>, AllocError>
+    requires { IsSorted value_cmp bag.now }
+    ensures counted { IfOk result (λ pairs. pairs.items ≡ counted bag.now) }
+    ensures through { counted_traps bag.now ≡ [] }
+    ensures ascending { IfOk result (λ pairs. IsSorted value_cmp pairs.items) }
+    ensures bag { IfOk result (λ pairs. bag_of pairs.items ≡ pairs.items) }
+{
+    let mut pairs = Vec::new(alloc);
+    let mut at = 0;
+    while at < bag.len() {
+        let rest = &bag[at..];
+        let first = &rest[0];
+        let run = run_of_value(first, rest);
+        pairs.push(pair_of_count(alloc, first, run as i64)?)?;
+        at += run;
+    }
+    Ok(pairs)
+}
+
+/// The pair of a value and how often it is there.
+fn pair_of_count(alloc: Global, value: &Value, times: i64) -> Result<Value, AllocError>
+    ensures { IfOk result (λ p. p ≡ pair_of value.now (Value.Int times)) }
+{
+    pair(alloc, value.copy(alloc)?, Value::Int(times))
+}
