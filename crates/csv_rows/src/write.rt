@@ -29,23 +29,25 @@ pub fn text(alloc: Global, values: &Items, ty: &Ty) -> Result<Vec<u8>, AllocErro
     requires typed { All (λ value. IsTrue (has_type value ty.now)) values.now }
     ensures { IfOk result (λ text. text_of (bag_of values.now) ty.now ≡ Some text.items) }
 {
+    let bag = ascending(alloc, values.as_slice())?;
     match columns(alloc, ty) {
-        Ok(columns) => text_under_columns(alloc, values, columns.as_slice()),
+        Ok(columns) => write_table(alloc, columns.as_slice(), &bag),
         Err(ColumnFault::Memory) => Err(AllocError),
         Err(ColumnFault::NotFlat) => unreachable!(),
     }
 }
 
-/// The same for a type whose columns are these.
+/// The text of values of a type whose columns are these: a header, and a row for each value, in
+/// this order.
 pub fn text_under_columns(
     alloc: Global,
-    values: &Items,
+    values: &[Value],
     columns: &[Column],
 ) -> Result<Vec<u8>, AllocError>
-    ensures { IfOk result (λ text. text.items ≡ table_text columns.now (bag_of values.now)) }
+    ensures { IfOk result (λ text. text.items ≡ table_text columns.now values.now) }
 {
-    let bag = ascending(alloc, values.as_slice())?;
-    write_table(alloc, columns, &bag)
+    let values: Vec<&Value> = values.iter().collect(alloc)?;
+    write_table(alloc, columns, &values)
 }
 
 /// The text of a header and of a row for each value, in this order.
