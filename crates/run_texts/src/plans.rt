@@ -54,7 +54,7 @@ fn do_plan(alloc: Global, program: &Program) -> Result<Option<Vec<u8>>, AllocErr
     }
     match do_names(program) {
         Some(names) => {
-            let text = do_text(alloc, names, program.output_file(0).as_bytes())?;
+            let text = do_text(alloc, &names, program.output_file(0).as_bytes())?;
             Ok(Some(text))
         }
         None => Ok(None),
@@ -76,7 +76,7 @@ fn combine_plan(alloc: Global, program: &Program) -> Result<Option<Vec<u8>>, All
     match combine_names(program) {
         Some(behind) => {
             let file = program.output_file(0).as_bytes();
-            let text = combine_text(alloc, names, behind, file)?;
+            let text = combine_text(alloc, &names, &behind, file)?;
             Ok(Some(text))
         }
         None => Ok(None),
@@ -136,8 +136,8 @@ fn is_group_of_second(made: &Made) -> bool
     }
 }
 
-fn do_text(alloc: Global, names: DoNames<'_>, file: &[u8]) -> Result<Vec<u8>, AllocError>
-    ensures { IfOk result (λ text. text.items ≡ spec.do_text (do_names_in names) file.now) }
+fn do_text(alloc: Global, names: &DoNames<'_>, file: &[u8]) -> Result<Vec<u8>, AllocError>
+    ensures { IfOk result (λ text. text.items ≡ spec.do_text (do_names_in names.now) file.now) }
 {
     let file = quoted_name(alloc, file)?;
     joined(
@@ -168,12 +168,12 @@ fn do_text(alloc: Global, names: DoNames<'_>, file: &[u8]) -> Result<Vec<u8>, Al
 
 fn combine_text(
     alloc: Global,
-    names: DoNames<'_>,
-    behind: CombineNames<'_>,
+    names: &DoNames<'_>,
+    behind: &CombineNames<'_>,
     file: &[u8],
 ) -> Result<Vec<u8>, AllocError>
     ensures { IfOk result (λ text. text.items ≡
-        spec.combine_text (do_names_in names) (combine_names_in behind) file.now) }
+        spec.combine_text (do_names_in names.now) (combine_names_in behind.now) file.now) }
 {
     let combiner = combiner_text(alloc, behind.combiner)?;
     let file = quoted_name(alloc, file)?;

@@ -11,9 +11,9 @@ pub fn push_size(text: &mut Vec<u8>, name: &[u8], size: u64) -> Result<(), Alloc
 {
     let mut digits = Buffer::new();
     let size = digits.format(size).as_bytes();
-    let pieces: [&[u8]; 5] = [b"size ", name, b" ", size, b"\n"];
-    for piece in pieces {
-        text.extend_from_slice(piece)?;
-    }
-    Ok(())
+    text.extend_from_slice(b"size ")?;
+    text.extend_from_slice(name)?;
+    text.extend_from_slice(b" ")?;
+    text.extend_from_slice(size)?;
+    text.extend_from_slice(b"\n")
 }
