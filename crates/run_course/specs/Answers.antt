@@ -1,5 +1,5 @@
 -- Each answer of a call: its cause, and what stands afterwards.
-use Rattle.std.specs.Prelude.{◌≡◌, ◌++◌, ℕ, List, Some, None, Err, slice_get, ⊤}
+use Rattle.std.specs.Prelude.{◌≡◌, ◌++◌, ℕ, List, Option, Some, None, Err, slice_get, ⊤}
 use Rattle.std.specs.List.{Contains}
 use Rattle.std.specs.Option.{option_map}
 use Rattle.csv_rows.specs.Rows.{rows_of}
@@ -26,7 +26,7 @@ use Rattle.run_texts.specs.declared.status.Status.TheVariants.{Done, Usage, Scri
 use Rattle.script_check.specs.Script.{Script}
 use Rattle.run_course.specs.Accepted.{IsRefusedBy}
 use Rattle.run_course.specs.Asked.{AskFor, IsAbove, IsAskedFor, IsMissing, IsTurnOf, Loads, Reads}
-use Rattle.run_course.specs.Words.{asked}
+use Rattle.run_course.specs.Words.{asked_for}
 use Rattle.run_course.specs.World.{World}
 use Rattle.run_course.specs.Written.{IsMeant, IsWritten, Table}
 use Rattle.run_course.specs.declared.limits.TheConstants.{SCRIPT_LIMIT, INPUT_LIMIT, TRIES}
@@ -107,7 +107,7 @@ IsTrap origin kind element words before after =
 
 -- Usage: the words ask for nothing
 abbrev pub IsUsage : List (List ℕ) → Type 0
-IsUsage words = asked words ≡ None
+IsUsage words = asked_for words ≡ None
 
 -- NoFile: it is the file's turn, and the source has none of that name
 abbrev pub IsNoFile : List ℕ → List (List ℕ) → Seen (List NamedBytes) → Type 0

@@ -7,7 +7,7 @@ use Rattle.outside.specs.Files.{bytes_of}
 use Rattle.outside.specs.declared.file.File.{File}
 use Rattle.script_check.specs.Script.{Script}
 use Rattle.run_course.specs.Accepted.{Accepted, is_taken}
-use Rattle.run_course.specs.Words.{asked}
+use Rattle.run_course.specs.Words.{asked_for}
 use Rattle.run_course.specs.declared.limits.TheConstants.{SCRIPT_LIMIT, INPUT_LIMIT}
 use Rattle.run_course.specs.declared.words.Command.{Command}
 use Rattle.run_course.specs.declared.words.Command.TheVariants.{Check, Direct, Run}
@@ -28,7 +28,7 @@ IsMissing told name = IfSome told (λ files. bytes_of files name ≡ None)
 
 -- the words ask for this command on the script of that name
 abbrev pub AskFor : List (List ℕ) → Command → List ℕ → Type 0
-AskFor words command name = asked words ≡ Some (record { command = command; script = name })
+AskFor words command name = asked_for words ≡ Some (record { command = command; script = name })
 
 -- the words ask for this command on a script whose bytes are accepted as this script, which the
 -- command takes

@@ -28,9 +28,9 @@ pub record Asked : Type 0 where
   pub script : List ℕ
 
 -- what the words ask for: behind the program's name stand a command and a script, and no more
-abbrev pub asked : List (List ℕ) → Option Asked
-asked (program ∷ command ∷ script ∷ []) =
+abbrev pub asked_for : List (List ℕ) → Option Asked
+asked_for (program ∷ command ∷ script ∷ []) =
     if is_operand script
     then option_map (λ command. record { command = command; script = script }) (command_of command)
     else None
-asked words = None
+asked_for words = None

@@ -14,7 +14,7 @@ ghost use Rattle.run_course.specs.inner.Course.{Delivers, IsCommandStop, IsMeani
 use crate::evaluation::{Written, written_meaning};
 use crate::loading::{rows_of_inputs, script_of};
 use crate::stop::Stop;
-use crate::words::{Command, asked};
+use crate::words::{Command, asked_for};
 use flume_grammar::ScriptKind;
 use flume_value::Str;
 use outside::{Output, Screen, Shelf, Source, save_all, say};
@@ -87,7 +87,7 @@ fn prepare<R: Source>(alloc: Global, words: &[String], source: &mut R) -> Result
     ensures files { R.files source.new ≡ R.files source.old }
     ensures later { R.faults source.old ≤ R.faults source.new }
 {
-    let Some(asked) = asked(words) else {
+    let Some(asked) = asked_for(words) else {
         return Err(Stop::Refused(Status::Usage));
     };
     let program = script_of(alloc, asked.script, source)?;

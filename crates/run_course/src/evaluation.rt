@@ -1,14 +1,16 @@
 // What the meaning of a script writes, or why it writes nothing.
-ghost use Rattle.std.specs.Prelude.{◌≡◌, ◌<◌, IfErr, IfOk, map, length};
+ghost use Rattle.std.specs.Prelude.{◌≡◌, ◌<◌, ◌++◌, IfErr, IfOk, OnOk, Some, codes, length, map, slice_get};
 ghost use Rattle.direct_meaning.specs.Inputs.{AreInputs};
 ghost use Rattle.outside.specs.Saves.{output_file};
+ghost use Rattle.run_texts.specs.Texts.{NamedOutput, size_lines};
 ghost use Rattle.script_laws.specs.WellFormed.{IsWellFormed};
-ghost use Rattle.run_course.specs.inner.Course.{Gives, IsNamed, IsStop};
+ghost use Rattle.run_course.specs.inner.Course.{AreFiles, AreReady, Gives, IsFileOf, IsNamed, IsStop, IsTrapOf};
 
 use crate::stop::{Stop, Trapped};
 use csv_rows::text_under_columns;
-use direct_meaning::{Direct, direct};
-use flume_value::{Items, Pile};
+use direct_meaning::{Direct, evaluate};
+use flume_collection::Trap;
+use flume_value::{Items, Pile, Str};
 use outside::Output;
 use run_texts::push_size;
 use script_check::Program;
@@ -36,6 +38,104 @@ pub fn written_meaning(
         (map output_file it.outputs.items) it.screen.items) }
     ensures stop { IfErr result (IsStop program.now.script inputs) }
 {
-    let it = direct(alloc, program, inputs)?;
-    todo!()
+    let Direct { bags, sizes, traps } = evaluate(alloc, program, inputs)?;
+    match first(traps) {
+        Some(trap) => Err(trapped(alloc, program, trap)?),
+        None => Ok(write_out(alloc, program, &bags, &sizes, front)?),
+    }
+}
+
+// The first of some traps, which is the least where they are a set.
+fn first(mut traps: Vec<Trap>) -> Option<Trap>
+    ensures { result ≡ slice_get traps.items 0 }
+{
+    if traps.is_empty() {
+        return None;
+    }
+    Some(traps.swap_remove(0))
+}
+
+// A trap, with the name of its collection.
+fn trapped(alloc: Global, program: &Program, trap: Trap) -> Result<Stop, AllocError>
+    requires within { trap.origin < length program.now.script.nodes }
+    ensures { IfOk result (IsTrapOf program.now.script trap) }
+{
+    let name = program.node_name(trap.origin as usize).copy(alloc)?;
+    Ok(Stop::Trapped(Trapped { trap, name }))
+}
+
+// The files of the outputs, and the sizes behind the text that stands first.
+fn write_out(
+    alloc: Global,
+    program: &Program,
+    bags: &[Option<Items>],
+    sizes: &[(Str, u64)],
+    front: Vec<u8>,
+) -> Result<Written, AllocError>
+    requires named { IsNamed program.now.script }
+    requires bags { AreReady program.now.script bags.now }
+    ensures files { IfOk result (λ it.
+        AreFiles bags.now program.now.script.outputs (map output_file it.outputs.items)) }
+    ensures text { IfOk result (λ it.
+        it.screen.items ≡ front.items ++ (size_lines sizes.now ++ codes "done\n")) }
+{
+    let outputs = output_files(alloc, program, bags)?;
+    let mut screen = front;
+    push_sizes(&mut screen, sizes)?;
+    screen.extend_from_slice(b"done\n")?;
+    Ok(Written { outputs, screen })
+}
+
+fn output_files(
+    alloc: Global,
+    program: &Program,
+    bags: &[Option<Items>],
+) -> Result<Vec<Output>, AllocError>
+    requires named { IsNamed program.now.script }
+    requires bags { AreReady program.now.script bags.now }
+    ensures { IfOk result (λ files.
+        AreFiles bags.now program.now.script.outputs (map output_file files.items)) }
+{
+    let mut files = Vec::new(alloc);
+    for number in 0..program.output_count() {
+        files.push(output_at(alloc, program, number, bags)?)?;
+    }
+    Ok(files)
+}
+
+// The file of one output.
+fn output_at(
+    alloc: Global,
+    program: &Program,
+    number: usize,
+    bags: &[Option<Items>],
+) -> Result<Output, AllocError>
+    requires within { number < length program.now.script.outputs }
+    requires named { IsNamed program.now.script }
+    requires bags { AreReady program.now.script bags.now }
+    ensures { IfOk result (λ file. (output : NamedOutput) →
+        slice_get program.now.script.outputs number ≡ Some output →
+        IsFileOf bags.now output (output_file file)) }
+{
+    let output = program.output(number);
+    let Some(Some(bag)) = bags.get(output.reads) else {
+        unreachable!();
+    };
+    let text = text_under_columns(alloc, bag.as_slice(), output.columns.as_slice())?;
+    let Ok(name) = str::from_utf8(program.output_file(number).as_bytes()) else {
+        unreachable!();
+    };
+    Ok(Output {
+        name: String::from_str(alloc, name)?,
+        text,
+    })
+}
+
+fn push_sizes(text: &mut Vec<u8>, sizes: &[(Str, u64)]) -> Result<(), AllocError>
+    ensures { OnOk result (text.new.items ≡ text.old.items ++ size_lines sizes.now) }
+{
+    for (name, size) in sizes {
+        push_size(text, name.as_bytes(), *size)?;
+    }
+    Ok(())
 }

@@ -87,7 +87,10 @@ fn add_rows<R: Source>(
         (seen R.files R.faults source.new) (inputs_of program.now.script)) }
     ensures later { R.faults source.old ≤ R.faults source.new }
 {
-    if !program.is_needed(number) {
+    let Ok(needed) = direct_meaning::is_needed(program, number) else {
+        return Err(Status::WantOfMemory);
+    };
+    if !needed {
         return Ok(());
     }
     match &program.node(number).made {

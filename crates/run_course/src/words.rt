@@ -23,8 +23,8 @@ pub struct Asked<'a> {
 }
 
 /// What the words ask for: behind the program's name stand a command and a script, and no more.
-pub fn asked(words: &[String]) -> Option<Asked<'_>>
-    ensures { option_map asked_in result ≡ spec.asked (map string_bytes words.now) }
+pub fn asked_for(words: &[String]) -> Option<Asked<'_>>
+    ensures { option_map asked_in result ≡ spec.asked_for (map string_bytes words.now) }
 {
     match words {
         [_, command, script] if is_operand(script.as_str()) => {

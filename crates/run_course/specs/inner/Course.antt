@@ -1,14 +1,17 @@
 -- The parts of the course of a call.
-use Rattle.std.specs.Prelude.{◌≡◌, ◌⊎◌, ℕ, List, [], ◌∷◌, ◌++◌, IsFalse, IsTrue, codes, drop, Option, Some, Err, IsUtf8, ⊤}
-use Rattle.std.specs.List.{All, filter, flat_map}
+use Rattle.std.specs.Prelude.{◌≡◌, ◌⊎◌, ℕ, List, [], ◌∷◌, ◌++◌, IsFalse, IsTrue, codes, drop, Option, Some, Err, IsSome, IsUtf8, ⊤}
+use Rattle.std.specs.List.{All, AllZip, filter, flat_map}
 use Rattle.csv_rows.specs.Rows.{rows_of}
+use Rattle.csv_rows.specs.Text.{table_text}
 use Rattle.csv_rows.specs.declared.fault.RowFault.{RowFault}
 use Rattle.csv_rows.specs.declared.fault.RowFault.TheVariants.{Bad}
 use Rattle.csv_rows.specs.declared.fault.RowFault.TheVariants as row_fault
 use Rattle.direct_meaning.specs.Direct.{meaning, sizes_of, traps_of}
+use Rattle.direct_meaning.specs.Evaluated.{bag_at}
 use Rattle.direct_meaning.specs.Inputs.{HaveRows, Wanted, inputs_of, wanted_by}
 use Rattle.direct_meaning.specs.Needed.{is_needed, numbered}
 use Rattle.flume_collection.specs.Traps.{IsLeast}
+use Rattle.flume_collection.specs.declared.trap.Trap.{Trap}
 use Rattle.flume_grammar.specs.declared.fault.ScriptFault.{ScriptFault}
 use Rattle.flume_grammar.specs.declared.fault.ScriptFault.TheVariants as script_fault
 use Rattle.flume_grammar.specs.declared.fault.ScriptKind.TheVariants.{Syntax}
@@ -27,6 +30,7 @@ use Rattle.run_texts.specs.declared.status.Status.{Status}
 use Rattle.run_texts.specs.declared.status.Status.TheVariants.{Done, WriteFault, ScriptRefused, InputRefused, ReadFault, WantOfMemory, TooLong, NoFile}
 use Rattle.script_check.specs.declared.made.Made.{Made}
 use Rattle.script_check.specs.declared.made.Made.TheVariants as made
+use Rattle.script_check.specs.declared.made.Output.{Output}
 use Rattle.script_check.specs.Script.{Node, Script}
 use Rattle.written_types.specs.Named.{Named}
 use Rattle.run_course.specs.Accepted.{Accepted, Refused, is_taken}
@@ -153,6 +157,27 @@ pub record TrapsAt (script : Script) (rows : List (List Value)) (trap : Trapped)
   pub means : meaning script rows ≡ Some table
   pub least : IsLeast (traps_of table) trap.trap
   pub named : name_at script trap.trap.origin ≡ Some trap.name
+
+-- each output reads members that are there
+abbrev pub AreReady : Script → List (Option (List Value)) → Type 0
+AreReady script bags = All (λ entry. IsSome (bag_at bags entry.1.reads)) script.outputs
+
+-- the file is of this output: the text of the members that it reads, under its columns
+abbrev pub IsFileOf : List (Option (List Value)) → List ℕ × Output → NamedBytes → Type 0
+IsFileOf bags output file =
+    (bag : List Value) × (bag_at bags output.1.reads ≡ Some bag)
+    × (file ≡ record { name = output.0; bytes = table_text output.1.columns bag })
+
+-- the files are of these outputs, in order
+abbrev pub AreFiles : List (Option (List Value)) → List (List ℕ × Output) → List NamedBytes →
+    Type 0
+AreFiles bags outputs files = AllZip (IsFileOf bags) outputs files
+
+-- what stops is this trap, with the name of its collection
+abbrev pub IsTrapOf : Script → Trap → Stop → Type 0
+IsTrapOf script trap (stop.Refused status) = ⊥
+IsTrapOf script trap (stop.Trapped it) =
+    (it.trap ≡ trap) × (name_at script trap.origin ≡ Some it.name)
 
 -- why nothing is written of a script: no memory was found, or a call traps
 abbrev pub IsStop : Script → List (List Value) → Stop → Type 0

@@ -1,0 +1,196 @@
+-- Inputs, as they are read node by node.
+use Rattle.std.proofs.Common.{◌≡◌, ℕ, suc, zero, ◌<◌, Bool, true, false, List, [], ◌∷◌, ◌++◌, drop, length, Option, Some, None, slice_get, ap, sym, ◌∙◌, refl, subst, append_assoc, arith}
+use Rattle.std.specs.List.{filter, flat_map}
+use Rattle.std.specs.Option.{option_map}
+use Rattle.std.proofs.lemmas.List.{drop_all}
+use Rattle.direct_meaning.specs.Inputs.{AreInputs, HaveRows, Wanted, inputs_of, wanted_by}
+use Rattle.direct_meaning.specs.Needed.{is_needed, numbered}
+use Rattle.flume_types.specs.Columns.{input_columns_of}
+use Rattle.flume_types.specs.Typing.{AllHave}
+use Rattle.flume_types.specs.declared.column.Column.{Column}
+use Rattle.flume_value.specs.declared.value.Value.{Value}
+use Rattle.outside.specs.Seen.{Seen}
+use Rattle.outside.specs.declared.file.File.{File as NamedBytes}
+use Rattle.run_texts.specs.declared.status.Status.{Status}
+use Rattle.script_check.specs.declared.made.Made.{Made}
+use Rattle.script_check.specs.declared.made.Made.TheVariants as made
+use Rattle.script_check.specs.Script.{Function, Node, Script}
+use Rattle.script_laws.specs.WellFormed.{AllFit, Fits, IsWellFormed}
+use Rattle.written_types.specs.Named.{Named}
+use Rattle.run_course.specs.Asked.{AllHaveRows, HasRows}
+use Rattle.run_course.specs.inner.Course.{HasRead, IsInputCause, IsInputsCause, inputs_from}
+
+abbrev Told : Type 0
+Told = Option (List NamedBytes)
+
+abbrev Entry : Type 0
+Entry = List ℕ × Node
+
+-- the input that a node is
+abbrev wanted : Entry → List Wanted
+wanted entry = wanted_by entry.1.made entry.1.type
+
+dropped : {A : Type 0} (xs : List A) (k : ℕ) (x : A) → slice_get xs k ≡ Some x
+    → drop k xs ≡ x ∷ drop (suc k) xs
+dropped [] k x is = absurd (cc)
+dropped (y ∷ xs) 0 x is = let same : y ≡ x = cc in ap (λ h. h ∷ xs) same
+dropped (y ∷ xs) (suc k) x is = dropped xs k x is
+
+-- ---- one node
+
+inputs_here : (needed : Bool) (own rest : List Wanted) → List Wanted
+inputs_here true own rest = own ++ rest
+inputs_here false own rest = rest
+
+numbered_inputs : (script : Script) (number : ℕ) (entry : Entry) (nodes : Named Node)
+    (needed : Bool) → is_needed script number ≡ needed
+    → inputs_from script number (entry ∷ nodes)
+    ≡ inputs_here needed (wanted entry) (inputs_from script (suc number) nodes)
+numbered_inputs script number entry nodes true is = rw is refl
+numbered_inputs script number entry nodes false is = rw is refl
+
+-- the inputs from a node on, where that is the one of this number
+from_node : (script : Script) (number : ℕ) (entry : Entry) (needed : Bool)
+    → slice_get script.nodes number ≡ Some entry → is_needed script number ≡ needed
+    → inputs_from script number (drop number script.nodes)
+    ≡ inputs_here needed (wanted entry)
+    (inputs_from script (suc number) (drop (suc number) script.nodes))
+from_node script number entry needed found is =
+    ap (inputs_from script number) (dropped script.nodes number entry found)
+    ∙ numbered_inputs script number entry (drop (suc number) script.nodes) needed is
+
+-- ---- rows of several inputs
+
+more_rows : (told : Told) (done : List Wanted) (it : Wanted) (rows : List (List Value))
+    (own : List Value) → AllHaveRows told done rows → HasRows told it own
+    → AllHaveRows told (done ++ it ∷ []) (rows ++ own ∷ [])
+more_rows told [] it [] own all has = (has, tt)
+more_rows told [] it (r ∷ rows) own all has = absurd all
+more_rows told (w ∷ done) it [] own all has = absurd all
+more_rows told (w ∷ done) it (r ∷ rows) own all has =
+    (all.0, more_rows told done it rows own all.1 has)
+
+more_typed : (done : List Wanted) (it : Wanted) (rows : List (List Value)) (own : List Value)
+    → HaveRows done rows → AllHave it.type own → HaveRows (done ++ it ∷ []) (rows ++ own ∷ [])
+more_typed [] it [] own all has = (has, tt)
+more_typed [] it (r ∷ rows) own all has = absurd all
+more_typed (w ∷ done) it [] own all has = absurd all
+more_typed (w ∷ done) it (r ∷ rows) own all has =
+    (all.0, more_typed done it rows own all.1 has)
+
+-- ---- what was read
+
+pub none_read : (told : Told) (script : Script) → HasRead told script 0 []
+none_read told script = ([], refl, tt, tt)
+
+nothing_behind : (script : Script) (number : ℕ) → inputs_from script number [] ≡ []
+nothing_behind script number = refl
+
+append_nil : {A : Type 0} (xs : List A) → xs ++ [] ≡ xs
+append_nil xs = grind
+
+all_done : (script : Script) (done : List Wanted)
+    → inputs_of script
+    ≡ done ++ inputs_from script (length script.nodes) (drop (length script.nodes) script.nodes)
+    → inputs_of script ≡ done
+all_done script done is =
+    is
+    ∙ (ap (λ (nodes : Named Node). done ++ inputs_from script (length script.nodes) nodes)
+    (drop_all (length script.nodes) script.nodes (omega arith)) ∙ append_nil done)
+
+pub all_read : (told : Told) (script : Script) (rows : List (List Value))
+    → HasRead told script (length script.nodes) rows
+    → AllHaveRows told (inputs_of script) rows × AreInputs script rows
+all_read told script rows read =
+    let same = sym (all_done script read.0 read.1) in
+    (subst (λ (l : List Wanted). AllHaveRows told l rows) same read.2,
+    subst (λ (l : List Wanted). HaveRows l rows) same read.3)
+
+-- a node that is not needed
+pub passes : (told : Told) (script : Script) (number : ℕ) (rows : List (List Value)) (entry : Entry)
+    → slice_get script.nodes number ≡ Some entry → is_needed script number ≡ false
+    → HasRead told script number rows → HasRead told script (suc number) rows
+passes told script number rows entry found unneeded read =
+    (read.0, read.1 ∙ ap (λ l. read.0 ++ l) (from_node script number entry false found unneeded),
+    read.2, read.3)
+
+-- a node that is no input
+pub passes_other : (told : Told) (script : Script) (number : ℕ) (rows : List (List Value))
+    (entry : Entry) → slice_get script.nodes number ≡ Some entry
+    → is_needed script number ≡ true → wanted entry ≡ []
+    → HasRead told script number rows → HasRead told script (suc number) rows
+passes_other told script number rows entry found needed other read =
+    let behind = inputs_from script (suc number) (drop (suc number) script.nodes) in
+    (read.0,
+    read.1 ∙ ap (λ l. read.0 ++ l)
+    (from_node script number entry true found needed ∙ ap (λ own. own ++ behind) other),
+    read.2, read.3)
+
+-- the inputs, where this node is one of them
+turns : (script : Script) (number : ℕ) (entry : Entry) (it : Wanted) (done : List Wanted)
+    → slice_get script.nodes number ≡ Some entry → is_needed script number ≡ true
+    → wanted entry ≡ it ∷ []
+    → inputs_of script ≡ done ++ inputs_from script number (drop number script.nodes)
+    → inputs_of script
+    ≡ done ++ it ∷ inputs_from script (suc number) (drop (suc number) script.nodes)
+turns script number entry it done found needed is read =
+    let behind = inputs_from script (suc number) (drop (suc number) script.nodes) in
+    read ∙ ap (λ l. done ++ l)
+    (from_node script number entry true found needed ∙ ap (λ own. own ++ behind) is)
+
+-- one input more
+pub reads_more : (told : Told) (script : Script) (number : ℕ) (rows : List (List Value))
+    (entry : Entry) (it : Wanted) (own : List Value)
+    → slice_get script.nodes number ≡ Some entry → is_needed script number ≡ true
+    → wanted entry ≡ it ∷ [] → HasRows told it own → AllHave it.type own
+    → HasRead told script number rows → HasRead told script (suc number) (rows ++ own ∷ [])
+reads_more told script number rows entry it own found needed is has typed read =
+    let behind = inputs_from script (suc number) (drop (suc number) script.nodes) in
+    (read.0 ++ it ∷ [],
+    turns script number entry it read.0 found needed is read.1
+    ∙ sym (append_assoc read.0 (it ∷ []) behind),
+    more_rows told read.0 it rows own read.2 has,
+    more_typed read.0 it rows own read.3 typed)
+
+-- why an input has no rows is why the inputs have none
+pub stops_at : (before after : Seen (List NamedBytes)) (script : Script) (number : ℕ)
+    (rows : List (List Value)) (entry : Entry) (it : Wanted) (status : Status)
+    → slice_get script.nodes number ≡ Some entry → is_needed script number ≡ true
+    → wanted entry ≡ it ∷ [] → HasRead before.told script number rows
+    → IsInputCause before after it status
+    → IsInputsCause before after (inputs_of script) status
+stops_at before after script number rows entry it status found needed is read cause =
+    (read.0, it, inputs_from script (suc number) (drop (suc number) script.nodes), rows,
+    turns script number entry it read.0 found needed is read.1, read.2, cause)
+
+-- ---- the columns of an input
+
+input_fits : (functions : Named Function) (before nodes : Named Node) (number : ℕ) (entry : Entry)
+    (file : List ℕ) (columns : List Column) → AllFit functions before nodes
+    → slice_get nodes number ≡ Some entry → entry.1.made ≡ made.Input file columns
+    → input_columns_of entry.1.type ≡ Some columns
+input_fits functions before [] number entry file columns fits found is = absurd (cc)
+input_fits functions before (e ∷ nodes) 0 entry file columns fits found is =
+    let same : e ≡ entry = cc in
+    let first = subst (λ (m : Made). Fits functions before m entry.1.type) is
+    (subst (λ (x : Entry). Fits functions before x.1.made x.1.type) same fits.0) in
+    first
+input_fits functions before (e ∷ nodes) (suc number) entry file columns fits found is =
+    input_fits functions (before ++ e ∷ []) nodes number entry file columns fits.1 found is
+
+pub columns_fit : (script : Script) (number : ℕ) (entry : Entry) (file : List ℕ)
+    (columns : List Column) → IsWellFormed script → slice_get script.nodes number ≡ Some entry
+    → entry.1.made ≡ made.Input file columns → input_columns_of entry.1.type ≡ Some columns
+columns_fit script number entry file columns well found is =
+    input_fits script.functions [] script.nodes number entry file columns well.nodes found is
+
+-- what stands at a number's place
+pub at_place : (nodes : Named Node) (number : ℕ) (node : Node)
+    → option_map (λ (entry : Entry). entry.1) (slice_get nodes number) ≡ Some node
+    → (entry : Entry) × (slice_get nodes number ≡ Some entry) × (entry.1 ≡ node)
+at_place nodes number node is = by (slice_get nodes number) is
+  where
+    by : (found : Option Entry) → option_map (λ (entry : Entry). entry.1) found ≡ Some node
+        → (entry : Entry) × (found ≡ Some entry) × (entry.1 ≡ node)
+    by None e = absurd (cc)
+    by (Some entry) e = (entry, refl, cc)
