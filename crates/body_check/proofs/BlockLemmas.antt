@@ -5,6 +5,7 @@ use Rattle.flume_types.specs.declared.types.Ty.{Ty}
 use Rattle.dofn_eval.specs.declared.stmt.Stmt.{Stmt}
 use Rattle.dofn_eval.specs.Outcome.{Outcome, Gives, then}
 use Rattle.dofn_eval.specs.Run as slots
+use Rattle.dofn_eval.specs.Run.{Emissions}
 use Rattle.dofn_eval.specs.Typed.{BlockTyped}
 use Rattle.written_types.specs.Answer.{Checked, ◌>>=◌}
 use Rattle.expression_check.specs.Sight.{Sight}
@@ -21,42 +22,42 @@ abbrev pub Doing : Type 0
 Doing = State → Outcome State
 
 -- the statement's slots are well typed in front of others, and do what it does
-abbrev pub IsPlaced : Ty → Sight → Checked Placed → Checked Sight → Doing → Type 0
+abbrev pub IsPlaced : List Ty → Sight → Checked Placed → Checked Sight → Doing → Type 0
 IsPlaced gives s (Err f) next does = next ≡ Err f
 IsPlaced gives s (Ok x) next does =
     (next ≡ Ok x.1)
     × (x.1.known ≡ s.known)
     × ((rest : List Stmt) → BlockTyped (types x.1.names) rest gives
     → BlockTyped (types s.names) (x.0 ∷ rest) gives)
-    × ((vs out : List Value) → does (state (bound s.names vs) out)
+    × ((vs : List Value) (out : Emissions) → does (state (bound s.names vs) out)
     ≡ named x.1.names (slots.run_one x.0 (slots.state vs out)))
 
 -- the same of statements one after another
-abbrev pub ArePlaced : Ty → Sight → List Stmt → Checked (List Stmt × Sight) → Checked Sight
+abbrev pub ArePlaced : List Ty → Sight → List Stmt → Checked (List Stmt × Sight) → Checked Sight
     → Doing →
     Type 0
 ArePlaced gives s ks (Err f) next does = next ≡ Err f
 ArePlaced gives s ks (Ok x) next does =
     (more : List Stmt) × (x.0 ≡ ks ++ more) × (next ≡ Ok x.1) × BlockTyped
     (types s.names) more gives
-    × ((vs out : List Value) → does (state (bound s.names vs) out)
+    × ((vs : List Value) (out : Emissions) → does (state (bound s.names vs) out)
     ≡ named x.1.names (slots.run_all slots.run_one more (slots.state vs out)))
 
 -- a block by itself
-abbrev pub IsBlock : Ty → Sight → Checked (List Stmt) → Checked Sight → Emits → Type 0
+abbrev pub IsBlock : List Ty → Sight → Checked (List Stmt) → Checked Sight → Emits → Type 0
 IsBlock gives s (Err f) next emits = next ≡ Err f
 IsBlock gives s (Ok ks) next emits =
     ((end : Sight) × (next ≡ Ok end)) × BlockTyped (types s.names) ks gives
-    × ((vs out : List Value) → emits (bound s.names vs) out ≡ slots.run ks vs out)
+    × ((vs : List Value) (out : Emissions) → emits (bound s.names vs) out ≡ slots.run ks vs out)
 
 -- a block in which other names are in sight
-abbrev pub IsInside : Ty → Sight → InBlock → (Sight → Checked Sight) → Emits → Type 0
+abbrev pub IsInside : List Ty → Sight → InBlock → (Sight → Checked Sight) → Emits → Type 0
 IsInside gives s found next emits =
     (inner : Sight) → inner.known ≡ s.known → IsBlock gives inner (found inner) (next inner) emits
 
 -- ---- the statements of a block
 
-module _ (gives : Ty) (s : Sight) (ks : List Stmt) where
+module _ (gives : List Ty) (s : Sight) (ks : List Stmt) where
   first_of : (x : Placed) (next : Checked Sight) (does : Doing)
       (found : Checked (List Stmt × Sight)) (last : Sight → Checked Sight) (rest : Doing)
       → IsPlaced gives s (Ok x) next does
@@ -84,7 +85,7 @@ module _ (gives : Ty) (s : Sight) (ks : List Stmt) where
   next_of (Ok x) next does found last rest h r =
       first_of x next does (found x.1 (ks ++ x.0 ∷ [])) last rest h (r x.1 (ks ++ x.0 ∷ []) h.1)
 
-pub as_block : (gives : Ty) (s : Sight) (o : Checked (List Stmt × Sight)) (next : Checked Sight)
+pub as_block : (gives : List Ty) (s : Sight) (o : Checked (List Stmt × Sight)) (next : Checked Sight)
     (does : Doing) → ArePlaced gives s [] o next does
     → IsBlock gives s (o >>= λ all. Ok all.0) next
     (λ env out. then (does (state env out)) (λ st. Gives st.out))

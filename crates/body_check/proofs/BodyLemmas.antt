@@ -1,16 +1,18 @@
 -- The slots of a body are well typed, and emit what it emits.
-use Rattle.std.proofs.Common.{◌≡◌, ℕ, true, Ok, List, [], ◌∷◌, map, refl, sym, ◌∙◌, subst, append-nil}
+use Rattle.std.proofs.Common.{◌≡◌, ℕ, true, Option, Some, None, Ok, List, [], ◌∷◌, map, slice_get, refl, sym, ◌∙◌, subst, append-nil}
 use Rattle.flume_types.specs.declared.types.Ty.{Ty, out-Ty}
 use Rattle.flume_types.specs.declared.types.Ty.TheVariants as ty
 use Rattle.flume_types.proofs.SameLemmas.{tells_apart}
-use Rattle.flume_grammar.specs.declared.fault.ScriptKind.TheVariants.{Mistyped}
+use Rattle.flume_grammar.specs.declared.fault.ScriptKind.TheVariants.{BadNumber, Mistyped}
 use Rattle.flume_grammar.specs.declared.tree.Expr.{Expr}
 use Rattle.flume_grammar.specs.declared.tree.Body.{Body, Body-F, out-Body, roll-Body, out-roll-Body, map-Body, ind-Body}
 use Rattle.dofn_eval.specs.declared.stmt.Stmt.{Stmt}
-use Rattle.dofn_eval.specs.Outcome.{Gives}
+use Rattle.dofn_eval.specs.declared.stmt.Stmt.TheVariants as stmt
+use Rattle.dofn_eval.specs.Outcome.{Gives, then}
+use Rattle.dofn_eval.specs.Run.{emitted_to}
 use Rattle.dofn_eval.specs.Typed as typing
 use Rattle.dofn_eval.specs.Typed.{BlockTyped}
-use Rattle.written_types.specs.Answer.{Checked, ◌>>=◌, unless}
+use Rattle.written_types.specs.Answer.{Checked, ◌>>=◌, unless, or_fault}
 use Rattle.written_types.specs.Named.{Named, fresh}
 use Rattle.expression_check.specs.Sight.{Sight}
 use Rattle.expression_check.specs.Types.{is_same, is_bool, type_of}
@@ -20,8 +22,8 @@ use Rattle.expression_check.specs.Right.{IsRight}
 use Rattle.expression_check.proofs.TypeLemmas.{bool_is}
 use Rattle.expression_check.proofs.RightLemmas.{right}
 use Rattle.body_check.specs.Bodies.{after_all, layer_after, after as sight_after}
-use Rattle.body_check.specs.Call.{run_all, block, layer_emitted, emitted_in}
-use Rattle.body_check.specs.inner.Slots.{Placed, block_slots, block as block_of, layer_placed, placed_of}
+use Rattle.body_check.specs.Call.{run_all, block, after, layer_emitted, emitted_in}
+use Rattle.body_check.specs.inner.Slots.{Placed, slots_as, block_slots, block as block_of, layer_placed, placed_of}
 use Rattle.body_check.proofs.FormLemmas.{emitted_in-step, after-step}
 use Rattle.body_check.proofs.PlacedLemmas.{placed_of-step}
 use Rattle.body_check.proofs.BlockLemmas.{Doing, IsPlaced, ArePlaced, IsBlock, next_of, as_block}
@@ -29,7 +31,7 @@ use Rattle.body_check.proofs.StatementLemmas.{assoc, renamed, as_right, let_by, 
 
 -- ---- every body
 
-module _ (known : Named Ty) (gives : Ty) where
+module _ (known : Named Ty) (gives : List Ty) where
   right_in : (line : ℕ) (e : Expr) (s : Sight) → s.known ≡ known
       → IsRight s.names (slots_of line e s) (type_of line e s) (given_in line known e)
   right_in line e s is =
@@ -68,6 +70,23 @@ module _ (known : Named Ty) (gives : Ty) where
   same_of : (t u : Ty) → is_same t u ≡ true → t ≡ u
   same_of t u e = tells_apart t u e
 
+  emit_form : (line : ℕ) (e : Expr) (s : Sight) → s.known ≡ known → (n : ℕ) (o : Option Ty)
+      → slice_get gives n ≡ o
+      → IsPlaced gives s
+      (or_fault line BadNumber o >>= λ wanted. slots_as line (λ t. is_same t wanted) e s
+      >>= λ slots. Ok (stmt.Emit n slots, s))
+      (or_fault line BadNumber o >>= λ wanted. type_of line e s
+      >>= λ t. unless line Mistyped (is_same t wanted) >>= λ same. Ok s)
+      (λ st. after st.env (then (given_in line known e st.env) (λ x. emitted_to n x.1 st.out)))
+  emit_form line e s is n None at = refl
+  emit_form line e s is n (Some wanted) at =
+      renamed gives s _ _ _ _
+      (assoc (type_of line e s) (λ t. unless line Mistyped (is_same t wanted)) (λ same. Ok s))
+      (emit_by line gives s n wanted at (λ t. is_same t wanted) (λ t. same_of t wanted) _ _
+      (given_in line known e)
+      (as_right line (λ t. is_same t wanted) wanted (λ t. same_of t wanted) s.names _ _
+      (given_in line known e) (right_in line e s is)))
+
   by_form : (y : Body-F ((b : Body) × RightBody b)) (s : Sight) → s.known ≡ known
       → IsPlaced gives s
       (layer_placed gives (placed_of gives) (map-Body ((b : Body) × RightBody b) Body plain y) s)
@@ -76,13 +95,7 @@ module _ (known : Named Ty) (gives : Ty) where
   by_form (Body-F.Let line name e) s is =
       let_by line gives s name (fresh line name s.names) _ _ (given_in line known e)
       (right_in line e s is)
-  by_form (Body-F.Emit line e) s is =
-      renamed gives s _ _ _ _
-      (assoc (type_of line e s) (λ t. unless line Mistyped (is_same t gives)) (λ same. Ok s))
-      (emit_by line gives s (λ t. is_same t gives) (λ t. same_of t gives) _ _
-      (given_in line known e)
-      (as_right line (λ t. is_same t gives) gives (λ t. same_of t gives) s.names _ _
-      (given_in line known e) (right_in line e s is)))
+  by_form (Body-F.Emit line e) s is = emit_form line e s is 0 (slice_get gives 0) refl
   by_form (Body-F.If line e a b) s is =
       renamed gives s _ _ _ _
       (assoc (type_of line e s) (λ t. unless line Mistyped (is_bool (out-Ty t)))

@@ -52,7 +52,7 @@ module _ (known : Named Ty) where
       ap (λ f. f s) (fold_out-Body (State → Outcome State) (layer_emitted known (λ m. m)) b)
       ∙ body_mapped (emitted_in known) (out-Body b) s
 
-module _ (gives : Ty) where
+module _ (gives : List Ty) where
   names_mapped : (f : Body → Sight → Checked Sight) (x : Body-F Body) (s : Sight)
       → layer_after gives (λ m. m) (map-Body Body (Sight → Checked Sight) f x) s
       ≡ layer_after gives f x s

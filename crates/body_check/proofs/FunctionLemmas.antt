@@ -1,5 +1,5 @@
 -- A body that has slots keeps the rules, is well typed, and means what its slots do.
-use Rattle.std.proofs.Common.{◌≡◌, ℕ, Ok, Err, Result, IfOk, List, [], ◌∷◌, refl, sym, ap, subst}
+use Rattle.std.proofs.Common.{◌≡◌, ℕ, Ok, Err, Result, IfOk, List, [], ◌∷◌, refl, length, replicate, map, sym, ap, subst}
 use Rattle.flume_value.specs.declared.value.Value.{Value}
 use Rattle.flume_types.specs.declared.types.Ty.{Ty}
 use Rattle.flume_types.specs.Typing.{Has}
@@ -22,7 +22,7 @@ use Rattle.body_check.specs.inner.Slots.{placed_of, block as block_of}
 use Rattle.body_check.proofs.BlockLemmas.{IsBlock}
 use Rattle.body_check.proofs.BodyLemmas.{right_block}
 
-module _ (known : Named Ty) (argument : List ℕ) (takes gives : Ty) (body : List Body) where
+module _ (known : Named Ty) (argument : List ℕ) (takes : Ty) (gives : List Ty) (body : List Body) where
   abbrev start : Sight
   start = at_start known argument takes
 
@@ -37,7 +37,8 @@ module _ (known : Named Ty) (argument : List ℕ) (takes gives : Ty) (body : Lis
   pub record IsFunction (ks : List Stmt) : Type 0 where
     pub rules : body_of known argument takes gives body ≡ Ok tt
     pub typed : BlockTyped (takes ∷ []) ks gives
-    pub same : (x : Value) → means known argument takes body x ≡ slots_mean ks x
+    pub same : (outputs : ℕ) (x : Value)
+        → means known outputs argument takes body x ≡ slots_mean outputs ks x
 
   pub function_is : (ks : List Stmt) → slots ≡ Ok ks → IsFunction ks
   function_is ks e =
@@ -45,7 +46,7 @@ module _ (known : Named Ty) (argument : List ℕ) (takes gives : Ty) (body : Lis
       record {
         rules = ap (λ o. o >>= λ end. Ok tt) h.0.1;
         typed = h.1;
-        same = λ x. h.2 (x ∷ []) [];
+        same = λ outputs x. h.2 (x ∷ []) (replicate outputs []);
       }
 
   no_function : (f : ScriptFault) → slots ≡ Err f → body_of known argument takes gives body ≡ Err f
@@ -64,35 +65,36 @@ module _ (known : Named Ty) (argument : List ℕ) (takes gives : Ty) (body : Lis
   is_typed (Err e) h = tt
 
   pub means_same : (r : Result (List Stmt) ScriptFault) → Gives (λ k. k) r slots
-      → IfOk r (λ ks. (x : Value) → means known argument takes body x ≡ slots_mean ks x)
+      → IfOk r (λ ks. (outputs : ℕ) (x : Value)
+      → means known outputs argument takes body x ≡ slots_mean outputs ks x)
   means_same (Ok ks) h = (function_is ks h).same
   means_same (Err e) h = tt
 
   answered_by : (x : Value) (o : Checked (List Stmt)) → slots ≡ o
       → body_of known argument takes gives body ≡ Ok tt → Has takes x
-      → HasAnswer gives (means known argument takes body x)
+      → HasAnswer gives (means known (length gives) argument takes body x)
   answered_by x (Ok ks) e rules has =
       let h = function_is ks e in
-      subst (HasAnswer gives) (sym (h.same x)) (answered_call takes gives ks x h.typed has)
+      subst (HasAnswer gives) (sym (h.same (length gives) x)) (answered_call takes gives ks x h.typed has)
   answered_by x (Err f) e rules has =
       let wrong = no_function f e in
       cc
 
   pub answered : (x : Value) → body_of known argument takes gives body ≡ Ok tt → Has takes x
-      → HasAnswer gives (means known argument takes body x)
+      → HasAnswer gives (means known (length gives) argument takes body x)
   answered x rules has = answered_by x slots refl rules has
 
 -- the same where the types and the names are those that stood before
 pub started : (f : InBody) (r : Result (List Stmt) ScriptFault) (known : Named Ty)
-    (types : List Ty) (argument : List ℕ) (takes gives : ℕ) (body : List Body) → f.types ≡ types
-    → f.sight.known ≡ known → f.gives ≡ type_at types gives
+    (types : List Ty) (argument : List ℕ) (takes : ℕ) (gives : List ℕ) (body : List Body)
+    → f.types ≡ types → f.sight.known ≡ known → f.gives ≡ map (type_at types) gives
     → Gives (λ k. k) r (block_of (placed_of f.gives) body
     (at_start f.sight.known argument (type_at f.types takes)))
-    → Gives (λ k. k) r (slots known argument (type_at types takes) (type_at types gives) body)
+    → Gives (λ k. k) r (slots known argument (type_at types takes) (map (type_at types) gives) body)
 started f r known types argument takes gives body t n g h =
-    subst (λ ts. Gives (λ k. k) r (block_of (placed_of (type_at types gives)) body
+    subst (λ ts. Gives (λ k. k) r (block_of (placed_of (map (type_at types) gives)) body
     (at_start known argument (type_at ts takes)))) t
-    (subst (λ names. Gives (λ k. k) r (block_of (placed_of (type_at types gives)) body
+    (subst (λ names. Gives (λ k. k) r (block_of (placed_of (map (type_at types) gives)) body
     (at_start names argument (type_at f.types takes)))) n
-    (subst (λ type. Gives (λ k. k) r (block_of (placed_of type) body
+    (subst (λ given. Gives (λ k. k) r (block_of (placed_of given) body
     (at_start f.sight.known argument (type_at f.types takes)))) g h))

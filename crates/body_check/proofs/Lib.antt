@@ -1,6 +1,7 @@
 pub mod BlockLemmas
 pub mod BodyLemmas
 pub mod FormLemmas
+pub mod FrameLemmas
 pub mod FunctionLemmas
 pub mod GoesLemmas
 pub mod PlacedLemmas

@@ -20,7 +20,7 @@ block_mapped : {X : Type 0} (f : X → Sight → Checked Placed) (xs : List X) (
     → block (λ m. m) (map f xs) s ≡ block f xs s
 block_mapped f xs s = ap (λ o. o >>= λ all. Ok all.0) (slots_mapped f xs s [])
 
-module _ (gives : Ty) where
+module _ (gives : List Ty) where
   mapped : (f : Body → Sight → Checked Placed) (x : Body-F Body) (s : Sight)
       → layer_placed gives (λ m. m) (map-Body Body (Sight → Checked Placed) f x) s
       ≡ layer_placed gives f x s
@@ -48,7 +48,7 @@ module _ (gives : Ty) where
   placed-Let line name e s = at _ _ s (body.outs-Let line name e)
 
   pub placed-Emit : (line : ℕ) (e : Expr) (s : Sight)
-      → placed_of gives (body.Emit line e) s ≡ emit_slots line gives e s
+      → placed_of gives (body.Emit line e) s ≡ emit_slots line gives 0 e s
   placed-Emit line e s = at _ _ s (body.outs-Emit line e)
 
   pub placed-If : (line : ℕ) (e : Expr) (a b : List Body) (s : Sight)

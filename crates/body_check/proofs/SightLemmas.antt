@@ -37,7 +37,7 @@ behind-twice a b c first second =
     ∙ sym (drop-drop (length b - length a) (length c - length b) c)
     ∙ ap (drop (length b - length a)) second ∙ first
 
-pub next-placed : (gives : Ty) (statements : List Body) (i : ℕ) (statement : Body) (s : Sight)
+pub next-placed : (gives : List Ty) (statements : List Body) (i : ℕ) (statement : Body) (s : Sight)
     (slots : List Stmt) (x : Placed) → i < length statements
     → statement ≡ get_or statements i statement → placed_of gives statement s ≡ Ok x
     → block_slots (placed_of gives) (drop (i + 1) statements) x.1 (slots ++ x.0 ∷ [])

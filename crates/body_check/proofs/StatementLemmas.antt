@@ -1,5 +1,5 @@
 -- The slots of each form of statement are right where those of its parts are.
-use Rattle.std.proofs.Common.{◌≡◌, ℕ, Bool, true, false, Option, Some, None, Ok, Err, List, [], ◌∷◌, ◌++◌, refl, sym, ap, ◌∙◌, subst}
+use Rattle.std.proofs.Common.{◌≡◌, ℕ, Bool, true, false, Option, Some, None, Ok, Err, List, ◌∷◌, refl, sym, ap, ◌∙◌, subst, slice_get}
 use Rattle.flume_value.specs.declared.value.Value.{Value}
 use Rattle.flume_types.specs.declared.types.Ty.{Ty}
 use Rattle.flume_types.specs.declared.types.Ty.TheVariants as ty
@@ -12,6 +12,7 @@ use Rattle.dofn_eval.specs.Outcome.{Gives, then}
 use Rattle.dofn_eval.specs.Operations.{chosen}
 use Rattle.dofn_eval.specs.Meaning.{value_of}
 use Rattle.dofn_eval.specs.Run as slots
+use Rattle.dofn_eval.specs.Run.{emitted_to}
 use Rattle.dofn_eval.specs.Typed as typing
 use Rattle.dofn_eval.specs.Typed.{BlockTyped}
 use Rattle.dofn_eval.proofs.MeaningLemmas.{run_one-Let, run_one-Emit, run_one-If, run_one-For, run_one-Case}
@@ -34,7 +35,7 @@ pub assoc : {A B C : Type 0} (o : Checked A) (f : A → Checked B) (g : B → Ch
 assoc (Err e) f g = refl
 assoc (Ok a) f g = refl
 
-pub renamed : (gives : Ty) (s : Sight) (o : Checked Placed) (next other : Checked Sight)
+pub renamed : (gives : List Ty) (s : Sight) (o : Checked Placed) (next other : Checked Sight)
     (does : Doing)
     → next ≡ other → IsPlaced gives s o other does → IsPlaced gives s o next does
 renamed gives s (Err f) next other does e h = e ∙ h
@@ -72,7 +73,7 @@ module _ (line : ℕ) (test : Ty → Bool) (wanted : Ty) (is : (t : Ty) → test
   as_right (Err f) type given h = ap tested h
   as_right (Ok x) type given h = as_test (test x.1) x type given refl h
 
-module _ (line : ℕ) (gives : Ty) (s : Sight) where
+module _ (line : ℕ) (gives : List Ty) (s : Sight) where
   pub let_by : (name : List ℕ) (u : Checked (Unit {0})) (o : Checked Typed) (type : Checked Ty)
       (given : Giving) → IsRight s.names o type given
       → IsPlaced gives s ((u >>= λ new. o) >>= λ x. Ok (stmt.Let x.0, with_name name x.1 s))
@@ -89,19 +90,20 @@ module _ (line : ℕ) (gives : Ty) (s : Sight) where
         ∙ ap (named ((name, x.1) ∷ s.names)) (sym (run_one-Let x.0 (slots.state vs out))),
   )
 
-  pub emit_by : (test : Ty → Bool) (is : (t : Ty) → test t ≡ true → t ≡ gives) (o : Checked Slots)
-      (type : Checked Ty) (given : Giving) → IsAs line test gives is s.names o type given
-      → IsPlaced gives s (o >>= λ k. Ok (stmt.Emit k, s))
-      (tested line test gives is s.names type >>= λ same. Ok s)
-      (λ st. then (given st.env) (λ x. Gives (state st.env (st.out ++ x.1 ∷ []))))
-  emit_by test is (Err f) type given h = ap (λ o. o >>= λ same. Ok s) h
-  emit_by test is (Ok k) type given h = (
+  pub emit_by : (n : ℕ) (wanted : Ty) → slice_get gives n ≡ Some wanted → (test : Ty → Bool)
+      (is : (t : Ty) → test t ≡ true → t ≡ wanted) (o : Checked Slots) (type : Checked Ty)
+      (given : Giving) → IsAs line test wanted is s.names o type given
+      → IsPlaced gives s (o >>= λ k. Ok (stmt.Emit n k, s))
+      (tested line test wanted is s.names type >>= λ same. Ok s)
+      (λ st. after st.env (then (given st.env) (λ x. emitted_to n x.1 st.out)))
+  emit_by n wanted at test is (Err f) type given h = ap (λ o. o >>= λ same. Ok s) h
+  emit_by n wanted at test is (Ok k) type given h = (
     ap (λ o. o >>= λ same. Ok s) h.0,
     refl,
-    λ rest td. typing.emits h.1 td,
-    λ vs out. ap (λ o. then o (λ x. Gives (state (bound s.names vs) (out ++ x.1 ∷ [])))) (h.2 vs)
-        ∙ emit_goes s.names gives vs out (value_of k vs)
-        ∙ ap (named s.names) (sym (run_one-Emit k (slots.state vs out))),
+    λ rest td. typing.emits n at h.1 td,
+    λ vs out. ap (λ o. after (bound s.names vs) (then o (λ x. emitted_to n x.1 out))) (h.2 vs)
+        ∙ emit_goes s.names wanted vs out n (value_of k vs)
+        ∙ ap (named s.names) (sym (run_one-Emit n k (slots.state vs out))),
   )
 
   pub if_by : (test : Ty → Bool) (is : (t : Ty) → test t ≡ true → t ≡ ty.Bool) (o : Checked Slots)

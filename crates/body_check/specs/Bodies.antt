@@ -1,8 +1,8 @@
 -- The rules of a function's body, or its first fault, on the line of the innermost statement.
-use Rattle.std.specs.Prelude.{ℕ, List, [], ◌∷◌, Ok}
+use Rattle.std.specs.Prelude.{ℕ, List, [], ◌∷◌, Ok, slice_get}
 use Rattle.flume_types.specs.declared.types.Ty.{Ty, out-Ty}
 use Rattle.flume_grammar.specs.declared.tree.Body.{Body, Body-F, fold-Body}
-use Rattle.flume_grammar.specs.declared.fault.ScriptKind.TheVariants.{Mistyped}
+use Rattle.flume_grammar.specs.declared.fault.ScriptKind.TheVariants.{BadNumber, Mistyped}
 use Rattle.written_types.specs.Answer.{Checked, ◌>>=◌, unless, or_fault}
 use Rattle.written_types.specs.Named.{Named, fresh}
 use Rattle.expression_check.specs.Sight.{Sight, with_name}
@@ -16,8 +16,8 @@ after_all f (statement ∷ rest) s = do
   next ← f statement s
   after_all f rest next
 
--- what the function emits has this type
-module _ (gives : Ty) where
+-- what the function emits to each output has its type, of these
+module _ (gives : List Ty) where
   -- what is in sight after each form of statement
   abbrev pub layer_after : {X : Type 0} → (X → Sight → Checked Sight) →
       Body-F X → Sight → Checked Sight
@@ -26,8 +26,9 @@ module _ (gives : Ty) where
     t ← type_of line e s
     Ok (with_name name t s)
   layer_after f (Body-F.Emit line e) s = do
+    wanted ← or_fault line BadNumber (slice_get gives 0)
     t ← type_of line e s
-    same ← unless line Mistyped (is_same t gives)
+    same ← unless line Mistyped (is_same t wanted)
     Ok s
   layer_after f (Body-F.If line e a b) s = do
     t ← type_of line e s
@@ -58,8 +59,9 @@ module _ (gives : Ty) where
 abbrev pub at_start : Named Ty → List ℕ → Ty → Sight
 at_start known argument takes = record { known = known; names = (argument, takes) ∷ [] }
 
--- the first fault of the body of a function that takes and gives values of these types
-abbrev pub body_of : Named Ty → List ℕ → Ty → Ty → List Body → Checked (Unit {0})
+-- the first fault of the body of a function that takes and gives values of these types, one for
+-- each output
+abbrev pub body_of : Named Ty → List ℕ → Ty → List Ty → List Body → Checked (Unit {0})
 body_of known argument takes gives body = do
   end ← after_all (after gives) body (at_start known argument takes)
   Ok tt

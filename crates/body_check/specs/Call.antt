@@ -1,22 +1,24 @@
 -- The meaning of a call: what a body emits where names stand for values, by one equation for each
--- form of statement.
-use Rattle.std.specs.Prelude.{ℕ, Option, Some, None, List, [], ◌∷◌, ◌++◌}
+-- form of statement. `emit` emits to the first output.
+use Rattle.std.specs.Prelude.{ℕ, Option, Some, None, List, [], ◌∷◌, replicate}
 use Rattle.flume_value.specs.declared.value.Value.{Value}
 use Rattle.flume_value.specs.Parts.{members_of, left_of, right_of}
 use Rattle.flume_types.specs.declared.types.Ty.{Ty}
 use Rattle.flume_grammar.specs.declared.tree.Body.{Body, Body-F, fold-Body}
 use Rattle.dofn_eval.specs.Outcome.{Outcome, Gives, Stuck, then, with_part}
 use Rattle.dofn_eval.specs.Operations.{chosen}
+use Rattle.dofn_eval.specs.Run.{Emissions, emitted_to}
 use Rattle.written_types.specs.Named.{Named}
 use Rattle.expression_check.specs.Fields.{member_type, side_types}
 use Rattle.expression_check.specs.Given.{Thing, Environment, valued, given_in}
 
 -- what a statement finds and leaves: what names stand for, the newest first, and what was emitted
+-- to each output
 pub record State : Type 0 where
   pub env : Environment
-  pub out : List Value
+  pub out : Emissions
 
-abbrev pub state : Environment → List Value → State
+abbrev pub state : Environment → Emissions → State
 state env out = record { env = env; out = out }
 
 -- statements one after another
@@ -26,7 +28,7 @@ run_all f (x ∷ xs) s = then (f x s) (run_all f xs)
 
 -- what a block emits in an environment, behind what was emitted so far
 abbrev pub Emits : Type 0
-Emits = Environment → List Value → Outcome (List Value)
+Emits = Environment → Emissions → Outcome Emissions
 
 -- what a block names ends with it
 abbrev pub block : {X : Type 0} → (X → State → Outcome State) → List X → Emits
@@ -57,7 +59,7 @@ by_side f left g right thing env out =
     (λ types. side f left g right types (left_of thing.1) (right_of thing.1) env out)
 
 -- goes on with the names from before
-abbrev pub after : Environment → Outcome (List Value) → Outcome State
+abbrev pub after : Environment → Outcome Emissions → Outcome State
 after env o = then o (λ out. Gives (state env out))
 
 -- names of types stand for these
@@ -68,7 +70,7 @@ module _ (known : Named Ty) where
   layer_emitted f (Body-F.Let line name e) s =
       then (given_in line known e s.env) (λ x. Gives (state ((name, x) ∷ s.env) s.out))
   layer_emitted f (Body-F.Emit line e) s =
-      then (given_in line known e s.env) (λ x. Gives (state s.env (s.out ++ x.1 ∷ [])))
+      after s.env (then (given_in line known e s.env) (λ x. emitted_to 0 x.1 s.out))
   layer_emitted f (Body-F.If line e a b) s =
       after s.env
       (chosen (valued (given_in line known e s.env))
@@ -84,7 +86,8 @@ module _ (known : Named Ty) where
   abbrev pub emitted_in : Body → State → Outcome State
   emitted_in = fold-Body (State → Outcome State) (layer_emitted (λ m. m))
 
-  -- the meaning of a call: the emissions of the body, with the argument, of its type, under its
-  -- name
-  abbrev pub means : List ℕ → Ty → List Body → Value → Outcome (List Value)
-  means argument takes body x = block emitted_in body ((argument, (takes, x)) ∷ []) []
+  -- the meaning of a call: the emissions of the body, one list for each of so many outputs, with
+  -- the argument, of its type, under its name
+  abbrev pub means : ℕ → List ℕ → Ty → List Body → Value → Outcome Emissions
+  means outputs argument takes body x =
+      block emitted_in body ((argument, (takes, x)) ∷ []) (replicate outputs [])

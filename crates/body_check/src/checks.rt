@@ -1,16 +1,18 @@
-ghost use Rattle.std.specs.Prelude.{◌≡◌, ◌<◌, [], ◌∷◌, length, IfOk};
+ghost use Rattle.std.specs.Prelude.{◌≡◌, ℕ, ◌≤◌, ◌<◌, [], ◌∷◌, length, map, IfOk};
 ghost use Rattle.flume_value.specs.declared.value.Value.{Value as Value_};
 ghost use Rattle.dofn_eval.specs.Run.{means as slots_mean};
 ghost use Rattle.dofn_eval.specs.Typed.{BlockTyped};
+ghost use Rattle.dofn_eval.specs.Function.{FunTyped};
 ghost use Rattle.type_table.specs.Table.{type_at, Extends};
 ghost use Rattle.written_types.specs.Answer.{Gives};
+ghost use Rattle.expression_check.specs.Held.{AreTypes};
 ghost use Rattle.body_check.specs.Bodies.{at_start, body_of};
 ghost use Rattle.body_check.specs.Call.{means};
 ghost use Rattle.body_check.specs.inner.Slots as spec;
 
 use crate::frame::Frame;
 use crate::statements::block;
-use dofn_eval::Block;
+use dofn_eval::{Block, Fun};
 use expression_check::Scope;
 use flume_grammar::{Body, ScriptFault};
 use flume_value::Str;
@@ -19,27 +21,54 @@ use std::mem::replace;
 use type_table::TypeId;
 use written_types::TypeNames;
 
-/// The body of a function that takes and gives values of these types, with slots in place of
-/// names; or its first fault, on the line of the innermost statement. The argument's name is in
-/// sight of the body. Every name of a type keeps its type.
+/// The function that takes and gives values of these types, one for each output, by this body,
+/// with slots in place of names; or its first fault, on the line of the innermost statement. The
+/// argument's name is in sight of the body. Every name of a type keeps its type.
 pub fn check_body(
     alloc: Global,
     known: &mut TypeNames,
     argument: &Str,
     takes: TypeId,
-    gives: TypeId,
+    gives: &[TypeId],
+    body: &[Body],
+) -> Result<Fun, ScriptFault>
+    requires takes { takes < length known.old.types }
+    requires gives { AreTypes (length known.old.types) gives.now }
+    requires some { 1 ≤ length gives.now }
+    requires most { length gives.now ≤ 8 }
+    ensures gives { Gives (λ _. tt) result (body_of known.old.names argument.now
+        (type_at known.old.types takes) (map (type_at known.old.types) gives.now) body.now) }
+    ensures typed { IfOk result (λ fun. FunTyped (type_at known.old.types takes)
+        (map (type_at known.old.types) gives.now) fun) }
+    // A call of it means what the body means, where names stand for values.
+    ensures same { IfOk result (λ fun. (x : Value_) →
+        means known.old.names fun.outputs argument.now (type_at known.old.types takes) body.now x
+        ≡ slots_mean fun.outputs fun.body x) }
+    ensures extends { Extends known.old.types known.new.types }
+    ensures names { known.new.names ≡ known.old.names }
+{
+    let block = block_of(alloc, known, argument, takes, gives, body)?;
+    Ok(Fun::new(gives.len(), block))
+}
+
+/// The slots of a function's body.
+fn block_of(
+    alloc: Global,
+    known: &mut TypeNames,
+    argument: &Str,
+    takes: TypeId,
+    gives: &[TypeId],
     body: &[Body],
 ) -> Result<Block, ScriptFault>
     requires takes { takes < length known.old.types }
-    requires gives { gives < length known.old.types }
+    requires gives { AreTypes (length known.old.types) gives.now }
     ensures gives { Gives (λ _. tt) result (body_of known.old.names argument.now
-        (type_at known.old.types takes) (type_at known.old.types gives) body.now) }
+        (type_at known.old.types takes) (map (type_at known.old.types) gives.now) body.now) }
     ensures typed { IfOk result (λ block. BlockTyped (type_at known.old.types takes ∷ []) block
-        (type_at known.old.types gives)) }
-    // A call of it means what the body means, where names stand for values.
-    ensures same { IfOk result (λ block. (x : Value_) →
-        means known.old.names argument.now (type_at known.old.types takes) body.now x
-        ≡ slots_mean block x) }
+        (map (type_at known.old.types) gives.now)) }
+    ensures same { IfOk result (λ block. (outputs : ℕ) (x : Value_) →
+        means known.old.names outputs argument.now (type_at known.old.types takes) body.now x
+        ≡ slots_mean outputs block x) }
     ensures extends { Extends known.old.types known.new.types }
     ensures names { known.new.names ≡ known.old.names }
 {
@@ -56,7 +85,7 @@ fn slots_of(
     argument: &Str,
     takes: TypeId,
     body: &[Body],
-    frame: &mut Frame,
+    frame: &mut Frame<'_>,
 ) -> Result<Block, ScriptFault>
     requires takes { takes < length frame.old.types }
     requires names { frame.old.sight.names ≡ [] }

@@ -1,10 +1,14 @@
-ghost use Rattle.std.specs.Prelude.{◌≡◌, ◌<◌, ◌-◌, None, length, drop, is_some, IfOk, OnOk};
+#![tactic(auto, using(crate::proofs::FrameLemmas::frame_rules))]
+
+ghost use Rattle.std.specs.Prelude.{◌≡◌, ◌<◌, ◌-◌, None, length, map, drop, slice_get};
+ghost use Rattle.std.specs.Prelude.{is_some, IfOk, IfSome, OnOk};
+ghost use Rattle.std.specs.Option.{option_map};
 ghost use Rattle.type_table.specs.Table.{type_at, Extends};
 ghost use Rattle.written_types.specs.Answer.{Gives};
 ghost use Rattle.written_types.specs.Named.{find};
 ghost use Rattle.expression_check.specs.Sight.{with_name};
 ghost use Rattle.expression_check.specs.Slots.{slots_of, typed};
-ghost use Rattle.expression_check.specs.Types.{is_same};
+ghost use Rattle.expression_check.specs.Held.{AreTypes};
 
 use expression_check::{Scope, Typed, resolve};
 use flume_grammar::{Expr, ScriptFault};
@@ -13,15 +17,16 @@ use std::alloc::{AllocError, Global};
 use std::marker::Model;
 use type_table::{TypeId, Types};
 
-/// What is in sight of a statement, and the type of what the function emits.
+/// What is in sight of a statement, and the types of what the function emits to its outputs.
 #[derive(Drop)]
-pub struct Frame {
+pub struct Frame<'a> {
     scope: Scope,
-    gives: TypeId,
+    gives: &'a [TypeId],
 }
 
-impl Model for Frame {
-    ghost use Rattle.std.specs.Prelude.{◌<◌, length};
+impl<'a> Model for Frame<'a> {
+    ghost use Rattle.std.specs.Prelude.{length};
+    ghost use Rattle.expression_check.specs.Held.{AreTypes};
     ghost use Rattle.std.specs.Coded.{codes};
     ghost use Rattle.flume_types.specs.contracts.types.Ty as coded_types;
     ghost use Rattle.body_check.specs.inner.Frames.{InBody, in_body};
@@ -30,26 +35,26 @@ impl Model for Frame {
 
     ghost coded = { Prim.hlevel (codes, coded_types.the_row.coded) };
 
-    ghost view = { λ f. in_body f.scope f.gives };
+    ghost view = { λ f. in_body f.scope f.gives.now };
 
-    ghost invariant = { λ f. f.gives < length f.scope.types };
+    ghost invariant = { λ f. AreTypes (length f.scope.types) f.gives.now };
 }
 
-impl Frame {
-    /// A function that emits values of this type.
-    pub fn new(scope: Scope, gives: TypeId) -> Frame
-        requires { gives < length scope.types }
+impl<'a> Frame<'a> {
+    /// A function that emits values of these types, one for each output.
+    pub fn new(scope: Scope, gives: &'a [TypeId]) -> Frame<'a>
+        requires { AreTypes (length scope.types) gives.now }
         ensures types { result.types ≡ scope.types }
         ensures sight { result.sight ≡ scope.sight }
-        ensures emits { result.gives ≡ type_at scope.types gives }
+        ensures emits { result.gives ≡ map (type_at scope.types) gives.now }
     {
         Frame { scope, gives }
     }
 
     /// What is in sight.
     pub fn into_scope(self) -> Scope
-        ensures types { result.types ≡ self.types }
-        ensures sight { result.sight ≡ self.sight }
+        ensures types { result.types ≡ self.entry.types }
+        ensures sight { result.sight ≡ self.entry.sight }
     {
         let Frame { scope, gives: _ } = self;
         scope
@@ -62,12 +67,16 @@ impl Frame {
         self.scope.types()
     }
 
-    /// Whether the function emits values of this type.
-    pub fn emits(&self, id: TypeId) -> bool
-        requires { id < length self.now.types }
-        ensures { result ≡ is_same (type_at self.now.types id) self.now.gives }
+    /// The type of what the function emits to the output of this number, if there is one.
+    pub fn output(&self, output: usize) -> Option<TypeId>
+        ensures found { option_map (type_at self.now.types) result
+            ≡ slice_get self.now.gives output }
+        ensures within { IfSome result (λ id. id < length self.now.types) }
     {
-        self.scope.types().same(id, self.gives)
+        match self.gives.get(output) {
+            Some(id) => Some(*id),
+            None => None,
+        }
     }
 
     /// The expression with slots in place of names, and its type; or its first fault.

@@ -1,4 +1,4 @@
-ghost use Rattle.std.specs.Prelude.{◌≡◌, ℕ, List, Ok};
+ghost use Rattle.std.specs.Prelude.{◌≡◌, ℕ, List, length, Ok};
 ghost use Rattle.flume_value.specs.declared.value.Value.{Value as Value_};
 ghost use Rattle.flume_types.specs.declared.types.Ty.{Ty as Ty_};
 ghost use Rattle.flume_types.specs.Typing.{Has};
@@ -10,16 +10,17 @@ ghost use Rattle.body_check.specs.Bodies.{layer_after, after, body_of};
 ghost use Rattle.body_check.specs.Call.{State, layer_emitted, emitted_in, means};
 
 /// A call of a function whose body keeps the rules, on a value of its argument's type, has an
-/// answer: what it emits, each of the result's type, or its trap.
+/// answer: what it emits to each output, of that output's type, or its trap.
 pub fn call_law()
-    ensures { (known : Named Ty_) (argument : List ℕ) (takes gives : Ty_) (body : List Body_)
-        (x : Value_) → body_of known argument takes gives body ≡ Ok tt → Has takes x →
-        HasAnswer gives (means known argument takes body x) }
+    ensures { (known : Named Ty_) (argument : List ℕ) (takes : Ty_) (gives : List Ty_)
+        (body : List Body_) (x : Value_) →
+        body_of known argument takes gives body ≡ Ok tt → Has takes x →
+        HasAnswer gives (means known (length gives) argument takes body x) }
 {}
 
 /// The rules and the meaning of a statement: the equation of each form.
 pub fn statement_law()
-    ensures rules { (gives : Ty_) (b : Body_) (s : Sight) →
+    ensures rules { (gives : List Ty_) (b : Body_) (s : Sight) →
         after gives b s ≡ layer_after gives (after gives) (out-Body b) s }
     ensures meaning { (known : Named Ty_) (b : Body_) (s : State) →
         emitted_in known b s ≡ layer_emitted known (emitted_in known) (out-Body b) s }

@@ -1,7 +1,8 @@
-ghost use Rattle.std.specs.Prelude.{◌≡◌, ◌<◌, [], None, length, IfOk, OnOk};
+ghost use Rattle.std.specs.Prelude.{◌≡◌, ◌<◌, [], None, length, slice_get, IfOk, OnOk};
+ghost use Rattle.flume_grammar.specs.declared.fault.ScriptKind.TheVariants.{BadNumber as Bad};
 ghost use Rattle.flume_types.specs.declared.types.Ty.{out-Ty};
 ghost use Rattle.type_table.specs.Table.{type_at, Extends};
-ghost use Rattle.written_types.specs.Answer.{Gives};
+ghost use Rattle.written_types.specs.Answer.{Gives, or_fault};
 ghost use Rattle.written_types.specs.Named.{find, fresh};
 ghost use Rattle.expression_check.specs.Sight.{with_name};
 ghost use Rattle.expression_check.specs.Slots.{typed};
@@ -42,7 +43,11 @@ struct SideNames<'a> {
 
 /// Statements with slots in place of names; or their first fault. What they name stays in sight.
 #[cycle(block)]
-pub fn block(alloc: Global, statements: &[Body], frame: &mut Frame) -> Result<Block, ScriptFault>
+pub fn block(
+    alloc: Global,
+    statements: &[Body],
+    frame: &mut Frame<'_>,
+) -> Result<Block, ScriptFault>
     ensures gives { Gives (λ k. (k, frame.new.sight)) result
         (spec.block_slots (placed_of frame.old.gives) statements.now frame.old.sight []) }
     ensures extends { Extends frame.old.types frame.new.types }
@@ -61,7 +66,7 @@ pub fn block(alloc: Global, statements: &[Body], frame: &mut Frame) -> Result<Bl
 // One statement with slots in place of names. What it names stays in sight.
 #[cycle(block)]
 #[tactic(auto, using(crate::proofs::PlacedLemmas::placed_rules))]
-fn placed(alloc: Global, statement: &Body, frame: &mut Frame) -> Result<Stmt, ScriptFault>
+fn placed(alloc: Global, statement: &Body, frame: &mut Frame<'_>) -> Result<Stmt, ScriptFault>
     ensures gives { Gives (λ k. (k, frame.new.sight)) result
         (placed_of frame.old.gives statement.now frame.old.sight) }
     ensures extends { Extends frame.old.types frame.new.types }
@@ -71,7 +76,7 @@ fn placed(alloc: Global, statement: &Body, frame: &mut Frame) -> Result<Stmt, Sc
 {
     match statement {
         Body::Let(line, name, e) => place_let(alloc, *line, name, e, frame),
-        Body::Emit(line, e) => place_emit(alloc, *line, e, frame),
+        Body::Emit(line, e) => place_emit(alloc, *line, 0, e, frame),
         Body::If(line, e, a, b) => {
             let blocks = Branches {
                 first: a,
@@ -96,7 +101,7 @@ fn place_let(
     line: u32,
     name: &Str,
     e: &Expr,
-    frame: &mut Frame,
+    frame: &mut Frame<'_>,
 ) -> Result<Stmt, ScriptFault>
     ensures gives { Gives (λ k. (k, frame.new.sight)) result
         (spec.let_slots line name.now e.now frame.old.sight) }
@@ -111,18 +116,37 @@ fn place_let(
     Ok(Stmt::Let(x.expr))
 }
 
-fn place_emit(alloc: Global, line: u32, e: &Expr, frame: &mut Frame) -> Result<Stmt, ScriptFault>
+fn place_emit(
+    alloc: Global,
+    line: u32,
+    output: usize,
+    e: &Expr,
+    frame: &mut Frame<'_>,
+) -> Result<Stmt, ScriptFault>
     ensures gives { Gives (λ k. (k, frame.new.sight)) result
-        (spec.emit_slots line frame.old.gives e.now frame.old.sight) }
+        (spec.emit_slots line frame.old.gives output e.now frame.old.sight) }
     ensures extends { Extends frame.old.types frame.new.types }
     ensures sight { frame.new.sight ≡ frame.old.sight }
     ensures emits { frame.new.gives ≡ frame.old.gives }
 {
+    let wanted = wanted(line, output, frame)?;
     let x = frame.resolve(alloc, line, e)?;
-    if frame.emits(x.ty) {
-        Ok(Stmt::Emit(x.expr))
+    if frame.types().same(x.ty, wanted) {
+        Ok(Stmt::Emit(output, x.expr))
     } else {
         Err(refused(line, ScriptKind::Mistyped))
+    }
+}
+
+// The type of what is emitted to the output of this number.
+fn wanted(line: u32, output: usize, frame: &Frame<'_>) -> Result<TypeId, ScriptFault>
+    ensures gives { Gives (type_at frame.now.types) result
+        (or_fault line Bad (slice_get frame.now.gives output)) }
+    ensures within { IfOk result (λ id. id < length frame.now.types) }
+{
+    match frame.output(output) {
+        Some(id) => Ok(id),
+        None => Err(refused(line, ScriptKind::BadNumber)),
     }
 }
 
@@ -132,7 +156,7 @@ fn place_if(
     line: u32,
     e: &Expr,
     blocks: Branches<'_>,
-    frame: &mut Frame,
+    frame: &mut Frame<'_>,
 ) -> Result<Stmt, ScriptFault>
     ensures gives { Gives (λ k. (k, frame.new.sight)) result (spec.if_slots line e.now
         (spec.block (placed_of frame.old.gives) blocks.entry.first.now)
@@ -155,7 +179,7 @@ fn place_for(
     name: &Str,
     e: &Expr,
     body: &Pile<Body>,
-    frame: &mut Frame,
+    frame: &mut Frame<'_>,
 ) -> Result<Stmt, ScriptFault>
     ensures gives { Gives (λ k. (k, frame.new.sight)) result (spec.for_slots line name.now e.now
         (spec.block (placed_of frame.old.gives) body.now) frame.old.sight) }
@@ -177,7 +201,7 @@ fn place_case(
     e: &Expr,
     names: SideNames<'_>,
     blocks: Branches<'_>,
-    frame: &mut Frame,
+    frame: &mut Frame<'_>,
 ) -> Result<Stmt, ScriptFault>
     ensures gives { Gives (λ k. (k, frame.new.sight)) result (spec.case_slots line e.now
         names.entry.left.now (spec.block (placed_of frame.old.gives) blocks.entry.first.now)
@@ -202,7 +226,7 @@ fn both_sides(
     sides: Sides,
     names: SideNames<'_>,
     blocks: Branches<'_>,
-    frame: &mut Frame,
+    frame: &mut Frame<'_>,
 ) -> Result<BothBlocks, ScriptFault>
     requires left { sides.left < length frame.old.types }
     requires right { sides.right < length frame.old.types }
@@ -229,7 +253,7 @@ fn of_side(
     name: &Str,
     id: TypeId,
     body: &Pile<Body>,
-    frame: &mut Frame,
+    frame: &mut Frame<'_>,
 ) -> Result<Block, ScriptFault>
     requires { id < length frame.old.types }
     ensures gives { Gives (λ k. k) result (spec.side_slots line name.now
@@ -251,7 +275,7 @@ fn named(
     name: &Str,
     id: TypeId,
     body: &Pile<Body>,
-    frame: &mut Frame,
+    frame: &mut Frame<'_>,
 ) -> Result<Block, ScriptFault>
     requires new { find name.now frame.old.sight.names ≡ None }
     requires within { id < length frame.old.types }
@@ -272,7 +296,7 @@ fn named(
 
 // A block by itself: what it names ends with it.
 #[cycle(block)]
-fn inner(alloc: Global, body: &Pile<Body>, frame: &mut Frame) -> Result<Block, ScriptFault>
+fn inner(alloc: Global, body: &Pile<Body>, frame: &mut Frame<'_>) -> Result<Block, ScriptFault>
     ensures gives { Gives (λ k. k) result
         (spec.block (placed_of frame.old.gives) body.now frame.old.sight) }
     ensures extends { Extends frame.old.types frame.new.types }
@@ -287,7 +311,7 @@ fn inner(alloc: Global, body: &Pile<Body>, frame: &mut Frame) -> Result<Block, S
 }
 
 // The slots of a test.
-fn truth(alloc: Global, line: u32, e: &Expr, frame: &mut Frame) -> Result<Slots, ScriptFault>
+fn truth(alloc: Global, line: u32, e: &Expr, frame: &mut Frame<'_>) -> Result<Slots, ScriptFault>
     ensures gives { Gives (λ k. k) result
         (spec.slots_as line (λ t. is_bool_type (out-Ty t)) e.now frame.old.sight) }
     ensures extends { Extends frame.old.types frame.new.types }
@@ -308,7 +332,7 @@ fn new_value(
     line: u32,
     name: &Str,
     e: &Expr,
-    frame: &mut Frame,
+    frame: &mut Frame<'_>,
 ) -> Result<Typed, ScriptFault>
     ensures gives { Gives (typed frame.new.types) result
         (spec.new_value line name.now e.now frame.old.sight) }
@@ -323,7 +347,7 @@ fn new_value(
 }
 
 // A name that is not in sight yet.
-fn unseen(line: u32, name: &Str, frame: &Frame) -> Result<(), ScriptFault>
+fn unseen(line: u32, name: &Str, frame: &Frame<'_>) -> Result<(), ScriptFault>
     ensures gives { Gives (λ _. tt) result (fresh line name.now frame.now.sight.names) }
     ensures new { OnOk result (find name.now frame.now.sight.names ≡ None) }
 {

@@ -42,7 +42,7 @@ fn check(
     let takes = whole_type(alloc, line, &function.takes, known)?;
     let gives = whole_type(alloc, line, &function.gives, known)?;
     let body = function.body.as_slice();
-    check_body(alloc, known, &function.argument, takes, gives, body)?;
+    check_body(alloc, known, &function.argument, takes, &[gives], body)?;
     Ok(())
 }
 

@@ -43,7 +43,14 @@ fn is_made(program: &Program, number: usize) -> bool {
     }
     match (number, &program.node(number).made) {
         (0, Made::Input { file, columns }) => file.is(b"in.csv") && columns.len() == 2,
-        (1, Made::Do { source, function }) => *source == 0 && *function == 0,
+        (
+            1,
+            Made::Do {
+                source,
+                function,
+                output,
+            },
+        ) => *source == 0 && *function == 0 && *output == 0,
         (2, Made::Group { source }) => *source == 1,
         (3, Made::Combine { source, by }) => *source == 2 && *by == Comb::Top(3),
         (4, Made::Flatten { sources }) => sources.as_slice() == [1, 1].as_slice(),
@@ -60,18 +67,24 @@ fn functions_and_types(rt: HostRuntime) -> Result<(), Fail> {
     let program = checked(alloc, SCRIPT)?;
     assert_eq!(rt; program.function_count(), 2);
     if program.function_count() == 2 && 1 < program.node_count() {
-        let pair = program.function(0).signature;
-        let same = program.function(1).signature;
+        let pair = &program.function(0).signature;
+        let same = &program.function(1).signature;
         assert_eq!(rt; program.function_name(0).as_bytes(), b"pair".as_slice());
         assert_eq!(rt; program.function_name(1).as_bytes(), b"same".as_slice());
         assert!(rt; program.function(0).argument.is(b"x"));
         assert_eq!(rt; program.function(0).type_names, 1);
         assert_eq!(rt; program.function(1).body.len(), 1);
-        assert_eq!(rt; program.function(1).block.len(), 1);
+        assert_eq!(rt; program.function(1).fun.body().len(), 1);
+        assert_eq!(rt; program.function(1).fun.outputs(), 1);
         assert_eq!(rt; (pair.scale, same.scale), (300, 100));
-        assert!(rt; program.types().same(pair.takes, same.gives));
-        assert!(rt; program.types().same(pair.gives, program.node(1).ty));
-        assert!(rt; matches!(program.types().shape(pair.gives), Shape::Rec(_)));
+        match (pair.gives.as_slice(), same.gives.as_slice()) {
+            ([pairs], [rows]) => {
+                assert!(rt; program.types().same(pair.takes, *rows));
+                assert!(rt; program.types().same(*pairs, program.node(1).ty));
+                assert!(rt; matches!(program.types().shape(*pairs), Shape::Rec(_)));
+            }
+            _ => assert!(rt; false),
+        }
     }
     Ok(())
 }

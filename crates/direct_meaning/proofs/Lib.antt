@@ -1,1 +1,12 @@
-
+pub mod PlaceLemmas
+pub mod TypeLemmas
+pub mod TrapLemmas
+pub mod TableLemmas
+pub mod MakeLemmas
+pub mod MeaningLemmas
+pub mod StandLemmas
+pub mod KeepLemmas
+pub mod CombineLemmas
+pub mod ArmLemmas
+pub mod ResultLemmas
+pub mod CallLemmas

@@ -1,5 +1,5 @@
 -- The calls of a function on values, by the meaning of its parsed body.
-use Rattle.std.specs.Prelude.{List, [], ◌∷◌, Option, Some, None, Ok, Err, option_map, option_and_then}
+use Rattle.std.specs.Prelude.{List, [], ◌∷◌, Option, Some, None, Ok, Err, length, option_map, option_and_then}
 use Rattle.flume_value.specs.declared.value.Value.{Value}
 use Rattle.dofn_eval.specs.Outcome.{Outcome, Gives, Traps, Stuck}
 use Rattle.body_check.specs.Call.{means}
@@ -8,8 +8,8 @@ use Rattle.flume_collection.specs.Calls.{Called}
 
 -- what a call that comes to this answers: a trap names the call's element; what is stuck answers
 -- nothing
-abbrev pub answered : Value → Outcome (List Value) → Option Called
-answered element (Gives outputs) = Some (Ok (outputs ∷ []))
+abbrev pub answered : Value → Outcome (List (List Value)) → Option Called
+answered element (Gives outputs) = Some (Ok outputs)
 answered element (Traps kind) = Some (Err (kind, element))
 answered element Stuck = None
 
@@ -17,7 +17,8 @@ answered element Stuck = None
 unfoldable pub answer_of : Function → Value → Option Called
 answer_of function element =
     answered element
-    (means function.types function.argument function.signature.takes function.body element)
+    (means function.types (length function.signature.gives) function.argument
+    function.signature.takes function.body element)
 
 -- the answers of the calls on these elements, in order; none where one of them has no answer
 abbrev pub calls_on : (Value → Option Called) → List Value → Option (List Called)

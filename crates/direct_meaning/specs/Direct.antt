@@ -104,8 +104,8 @@ abbrev pub made_as : Script → ℕ → Made → List (List Value) → List (Opt
     → Option Collection
 made_as script number (made.Input file columns) [] table = None
 made_as script number (made.Input file columns) (rows ∷ inputs) table = Some (rows_as rows)
-made_as script number (made.Do source called) inputs table =
-    option_and_then (λ function. done_at number 0 function source table)
+made_as script number (made.Do source called output) inputs table =
+    option_and_then (λ function. done_at (number - output) output function source table)
     (function_at script.functions called)
 made_as script number (made.Group source) inputs table =
     option_map by_key (made_at table source)
@@ -123,7 +123,7 @@ made_as script number (made.Top many source) inputs table =
 abbrev pub inputs_behind : Made → List (List Value) → List (List Value)
 inputs_behind (made.Input file columns) [] = []
 inputs_behind (made.Input file columns) (rows ∷ inputs) = inputs
-inputs_behind (made.Do source called) inputs = inputs
+inputs_behind (made.Do source called output) inputs = inputs
 inputs_behind (made.Group source) inputs = inputs
 inputs_behind (made.Combine source by) inputs = inputs
 inputs_behind (made.Flatten sources) inputs = inputs

@@ -3,3 +3,4 @@ pub mod Calls
 pub mod Direct
 pub mod Inputs
 pub mod Made
+pub mod inner

@@ -9,7 +9,7 @@ use Rattle.script_check.specs.Script.{Node, Script}
 
 abbrev pub operands : Made → List ℕ
 operands (made.Input file columns) = []
-operands (made.Do source function) = source ∷ []
+operands (made.Do source function output) = source ∷ []
 operands (made.Group source) = source ∷ []
 operands (made.Combine source by) = source ∷ []
 operands (made.Flatten sources) = sources

@@ -1,3 +1,10 @@
 //! The direct meaning of a script (specs/Direct.antt): for each needed node, the bag of its members
 //! and the traps behind it; and the evaluation of a program that comes to it, node by node.
 #![tactic(auto)]
+
+mod calls;
+mod combining;
+mod flatten;
+mod kept;
+mod node;
+mod steps;

@@ -1,25 +1,31 @@
-ghost use Rattle.std.specs.Prelude.{◌≡◌, IfOk, IfErr};
-ghost use Rattle.flume_types.specs.Typing.{Has, AllHave};
+ghost use Rattle.std.specs.Prelude.{◌≡◌, List, IfOk, IfErr};
+ghost use Rattle.flume_types.specs.declared.types.Ty.{Ty as Ty_};
+ghost use Rattle.flume_types.specs.Typing.{Has};
 ghost use Rattle.dofn_eval.specs.Outcome.{Gives, IsFault};
 ghost use Rattle.dofn_eval.specs.Run.{means};
+ghost use Rattle.dofn_eval.specs.Answer.{OutputsHave};
+ghost use Rattle.dofn_eval.specs.Function.{FunTyped, Accepts};
 
 use crate::fun::Fun;
+use crate::lists::Lists;
 use crate::scope::Scope;
 use crate::statements::run_block;
-use flume_value::{CallFault, Items, Pile, Value};
+use flume_value::{CallFault, Value};
 use std::alloc::Global;
 
-/// The emissions of a call, in order, or the trap that ends it. A call that traps emits nothing.
-#[tactic(auto, using(crate::proofs::Sound::safe_call))]
-pub fn call(alloc: Global, f: &Fun, x: &Value) -> Result<Items, CallFault>
-    requires { Has f.now.takes x.now }
-    ensures ok { IfOk result (λ emissions. means f.now.body x.now ≡ Gives emissions) }
-    ensures trap { IfErr result (λ fault. IsFault (means f.now.body x.now) fault) }
-    ensures typed { IfOk result (λ emissions. AllHave f.now.gives emissions) }
+/// The emissions of a call to each output, in order, or the trap that ends it. A call that traps
+/// emits nothing.
+pub fn call(alloc: Global, f: &Fun, x: &Value) -> Result<Lists, CallFault>
+    requires { Accepts f.now x.now }
+    ensures ok { IfOk result (λ lists. means f.now.outputs f.now.body x.now ≡ Gives lists) }
+    ensures trap { IfErr result (λ fault. IsFault (means f.now.outputs f.now.body x.now) fault) }
+    // At whatever types the function is well typed.
+    ensures typed { (takes : Ty_) (gives : List Ty_) → FunTyped takes gives f.now →
+        Has takes x.now → IfOk result (λ lists. OutputsHave gives lists) }
 {
     let end = Scope::Empty;
     let scope = Scope::Bound(x, &end);
-    let mut out = Vec::new(alloc);
+    let mut out = Lists::new(alloc, f.outputs())?;
     run_block(alloc, f.body(), &scope, &mut out)?;
-    Ok(Pile::from_vec(out))
+    Ok(out)
 }

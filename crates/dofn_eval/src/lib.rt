@@ -2,10 +2,11 @@
 //!
 //! A function's body is a `Block` of `Stmt`s over `Expr`s, in which every name is a slot: a
 //! variable is its place among the values in scope, the newest first, and a field is its place
-//! in its record. `means` says what a body emits on an argument, form by form, or why it traps.
-//! `Fun` keeps in its type that its body is well typed. So a call of one on a value of its
-//! argument's type meets no operand of another type, and what it emits has its result's type;
-//! `call` gives exactly those emissions, in order, or that trap.
+//! in its record. `means` says what a body emits to each output on an argument, form by form, or
+//! why it traps. `Fun` keeps in its type that its body is well typed, at some types of its argument
+//! and its outputs. So a call of one on a value of its argument's type meets no operand of another
+//! type, and what it emits to an output has that output's type; `call` gives exactly those
+//! emissions as `Lists`, one list an output, in order, or that trap.
 #![tactic(auto)]
 
 mod arithmetic;
@@ -14,6 +15,7 @@ mod evaluate;
 mod expr;
 mod fun;
 mod laws;
+mod lists;
 mod operand;
 mod parts;
 mod scope;
@@ -25,4 +27,5 @@ pub use calls::call;
 pub use expr::{Arithmetic, Binary, Comparison, Expr, Unary};
 pub use fun::Fun;
 pub use laws::{call_law, expression_law, statement_law};
+pub use lists::Lists;
 pub use stmt::{Block, Stmt};

@@ -147,17 +147,17 @@ there_places es cs up a = true_all (is_given es) cs
 
 node_there : (es : List Entry) (x : Node) → Ascends es → reads_given es x ≡ true
     → AllByRecursion (IsThere es) (reads x)
-node_there es (Source r t) up h = tt
-node_there es (Flatten ty ins) up h = places_there es ins up h
+node_there es (Source r) up h = tt
+node_there es (Flatten ins) up h = places_there es ins up h
 node_there es (Pdo c f) up h = (sym (given_there es c up) ∙ h, tt)
-node_there es (Gbk c o l k tb) up h = (sym (given_there es c up) ∙ h, tt)
+node_there es (Gbk c o l k) up h = (sym (given_there es c up) ∙ h, tt)
 
 there_node : (es : List Entry) (x : Node) → Ascends es → AllByRecursion (IsThere es) (reads x)
     → reads_given es x ≡ true
-there_node es (Source r t) up a = refl
-there_node es (Flatten ty ins) up a = there_places es ins up a
+there_node es (Source r) up a = refl
+there_node es (Flatten ins) up a = there_places es ins up a
 there_node es (Pdo c f) up a = given_there es c up ∙ a.0
-there_node es (Gbk c o l k tb) up a = given_there es c up ∙ a.0
+there_node es (Gbk c o l k) up a = given_there es c up ∙ a.0
 
 pub nodes_there : (es : List Entry) → Ascends es → list_all (λ e. reads_given es e.node) es ≡ true
     → AllByRecursion (λ e. AllByRecursion (IsThere es) (reads e.node)) es

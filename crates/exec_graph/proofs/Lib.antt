@@ -1,11 +1,10 @@
 pub mod Bools
-pub mod Bagging
-pub mod Orders
 pub mod Entries
 pub mod Solving
 pub mod Numbered
 pub mod Soundness
 pub mod StepFacts
+pub mod Derived
 pub mod Typed
 pub mod Walks
 pub mod Spotting

@@ -3,9 +3,11 @@ use Rattle.std.proofs.Common.{◌≡◌, ℕ, ◌+◌, ◌<◌, ◌≤◌, Bool,
 use Rattle.std.proofs.lemmas.Bool.{eqb-true, eq-eqb, false≢true}
 use Rattle.std.proofs.lemmas.Bool.Decides.{nat_tests}
 use Rattle.std.specs.List.{AllByRecursion}
-use Rattle.exec_graph.specs.Meaning.{Rows, Collection, together, by_key, total, step_own, step_traps, own, traps, Agrees, KeepsMeaning, SameMeaning, through, place, IsKept, FitsForest, Holds, Meets, node_at, reads, is_out, has_out, gives, gives_at, IsThere, AllDiffer, OutsDiffer, HasOuts, IsRankedBy, IsSound, first, out_of, or_nothing, value, value_at, solve, collection}
-use Rattle.exec_graph.specs.Traps.{trap_le}
-use Rattle.exec_graph.specs.Sets.{put_new, gather}
+use Rattle.exec_graph.specs.Meaning.{total, step_own, step_traps, own, traps, Agrees, KeepsMeaning, SameMeaning, through, place, IsKept, FitsForest, Holds, Meets, node_at, reads, is_out, has_out, gives, gives_at, IsThere, AllDiffer, OutsDiffer, HasOuts, IsRankedBy, IsSound, first, out_of, or_nothing, value, value_at, solve, collection}
+use Rattle.flume_collection.specs.Collection.{Collection, together, by_key}
+use Rattle.exec_graph.specs.World.{World}
+use Rattle.flume_collection.specs.Traps.{trap_le}
+use Rattle.flume_collection.specs.Sets.{put_new, gather}
 use Rattle.exec_graph.specs.Forests.{Label, Forest, Bare, Grow}
 use Rattle.exec_graph.proofs.Entries.{all_three, all_found, map_alike, flat_map_alike}
 use Rattle.exec_graph.proofs.Bools.{or_left, or_right, or_false, or_cases, not_here}
@@ -29,48 +31,51 @@ pair_found None b true y h f g = let r = f refl in
 pair_found None b false y h f g = g h
 pair_found (Some c) b x y h f g = (c, refl)
 
-out_found_by : (v : Collection) (l : Label) (kids rest : Forest) (j : ℕ) (b : Bool)
+out_found_by : (w : World) (v : Collection) (l : Label) (kids rest : Forest) (j : ℕ) (b : Bool)
     → (b || (has_out j kids || has_out j rest)) ≡ true
-    → (has_out j kids ≡ true → (u : Collection) × (out_of (through l v) kids j ≡ Some u))
-    → (has_out j rest ≡ true → (u : Collection) × (out_of v rest j ≡ Some u)) → (u : Collection)
-    × (cond b (Some (through l v)) (first (out_of (through l v) kids j) (out_of v rest j)) ≡ Some u)
-out_found_by v l kids rest j true h f g = (through l v, refl)
-out_found_by v l kids rest j false h f g = pair_found (out_of (through l v) kids j)
-    (out_of v rest j) (has_out j kids) (has_out j rest) h f g
+    → (has_out j kids ≡ true → (u : Collection) × (out_of w (through w l v) kids j ≡ Some u))
+    → (has_out j rest ≡ true → (u : Collection) × (out_of w v rest j ≡ Some u)) → (u : Collection)
+    × (cond b (Some (through w l v)) (first (out_of w (through w l v) kids j) (out_of w v rest j))
+        ≡ Some u)
+out_found_by w v l kids rest j true h f g = (through w l v, refl)
+out_found_by w v l kids rest j false h f g = pair_found (out_of w (through w l v) kids j)
+    (out_of w v rest j) (has_out j kids) (has_out j rest) h f g
 
 -- ---- forests
 -- a step keeps the output exactly where it is found
-out_found : (v : Collection) (f : Forest) (j : ℕ) → has_out j f ≡ true → (u : Collection)
-    × (out_of v f j ≡ Some u)
-out_found v Bare j h = absurd (false≢true h)
-out_found v (Grow l kids rest) j h = out_found_by v l kids rest j (is_out l.out j) h
-    (λ i. out_found (through l v) kids j i) (λ i. out_found v rest j i)
+out_found : (w : World) (v : Collection) (f : Forest) (j : ℕ) → has_out j f ≡ true →
+    (u : Collection)
+    × (out_of w v f j ≡ Some u)
+out_found w v Bare j h = absurd (false≢true h)
+out_found w v (Grow l kids rest) j h = out_found_by w v l kids rest j (is_out l.out j) h
+    (λ i. out_found w (through w l v) kids j i) (λ i. out_found w v rest j i)
 
-out_lacks : (v : Collection) (f : Forest) (j : ℕ) → has_out j f ≡ false → out_of v f j ≡ None
-out_lacks v Bare j h = refl
-out_lacks v (Grow l kids rest) j h =
+out_lacks : (w : World) (v : Collection) (f : Forest) (j : ℕ) → has_out j f ≡ false → out_of w v f j
+    ≡ None
+out_lacks w v Bare j h = refl
+out_lacks w v (Grow l kids rest) j h =
     let p = or_false (is_out l.out j) (has_out j kids || has_out j rest) h in
     let q = or_false (has_out j kids) (has_out j rest) p.1 in
-    rw (p.0, out_lacks (through l v) kids j q.0, out_lacks v rest j q.1) refl
+    rw (p.0, out_lacks w (through w l v) kids j q.0, out_lacks w v rest j q.1) refl
 
-kids_out : (v : Collection) (l : Label) (kids rest : Forest) (j : ℕ)
+kids_out : (w : World) (v : Collection) (l : Label) (kids rest : Forest) (j : ℕ)
     → ((j : ℕ) → is_out l.out j ≡ true → (has_out j kids || has_out j rest) ≡ false)
-    → has_out j kids ≡ true → out_of v (Grow l kids rest) j ≡ out_of (through l v) kids j
-kids_out v l kids rest j d h =
+    → has_out j kids ≡ true → out_of w v (Grow l kids rest) j ≡ out_of w (through w l v) kids j
+kids_out w v l kids rest j d h =
     let e : is_out l.out j ≡ false = not_here (is_out l.out j) (has_out j kids || has_out j rest)
     (d j) (or_left (has_out j kids) (has_out j rest) h) in
-    let r = out_found (through l v) kids j h in
-    rw e (first_found (out_of (through l v) kids j) (out_of v rest j) r.0 r.1 ∙ sym r.1)
+    let r = out_found w (through w l v) kids j h in
+    rw e (first_found (out_of w (through w l v) kids j) (out_of w v rest j) r.0 r.1 ∙ sym r.1)
 
-rest_out : (v : Collection) (l : Label) (kids rest : Forest) (j : ℕ)
+rest_out : (w : World) (v : Collection) (l : Label) (kids rest : Forest) (j : ℕ)
     → ((j : ℕ) → is_out l.out j ≡ true → (has_out j kids || has_out j rest) ≡ false)
     → ((j : ℕ) → has_out j kids ≡ true → has_out j rest ≡ false) → has_out j rest ≡ true
-    → out_of v (Grow l kids rest) j ≡ out_of v rest j
-rest_out v l kids rest j d a h =
+    → out_of w v (Grow l kids rest) j ≡ out_of w v rest j
+rest_out w v l kids rest j d a h =
     let e : is_out l.out j ≡ false = not_here (is_out l.out j) (has_out j kids || has_out j rest)
     (d j) (or_right (has_out j kids) (has_out j rest) h) in
-    let n : out_of (through l v) kids j ≡ None =
-    out_lacks (through l v) kids j (not_here (has_out j kids) (has_out j rest) (a j) h) in
+    let n : out_of w (through w l v) kids j ≡ None =
+    out_lacks w (through w l v) kids j (not_here (has_out j kids) (has_out j rest) (a j) h) in
     rw (e, n) refl
 
 kept_from : (m : Place → Collection) (n : ℕ) (v : Collection) (o : Option ℕ) (u : Collection)
@@ -78,28 +83,31 @@ kept_from : (m : Place → Collection) (n : ℕ) (v : Collection) (o : Option �
 kept_from m n v None u h = tt
 kept_from m n v (Some j) u h = h j (eq-eqb j j refl)
 
-here_out : (v : Collection) (l : Label) (kids rest : Forest) (j : ℕ) (b : Bool) → b ≡ true
-    → cond b (Some (through l v)) (first (out_of (through l v) kids j) (out_of v rest j))
-    ≡ Some (through l v)
-here_out v l kids rest j true h = refl
-here_out v l kids rest j false h = absurd (false≢true h)
+here_out : (w : World) (v : Collection) (l : Label) (kids rest : Forest) (j : ℕ) (b : Bool) → b
+    ≡ true
+    → cond b (Some (through w l v)) (first (out_of w (through w l v) kids j) (out_of w v rest j))
+    ≡ Some (through w l v)
+here_out w v l kids rest j true h = refl
+here_out w v l kids rest j false h = absurd (false≢true h)
 
 -- what the function finds at each output holds of the forest
-fits_from : (m : Place → Collection) (n : ℕ) (v : Collection) (f : Forest) → OutsDiffer f
-    → ((j : ℕ) → has_out j f ≡ true → m (place n j) ≡ or_nothing (out_of v f j))
-    → FitsForest m n v f
-fits_from m n v Bare d h = tt
-fits_from m n v (Grow l kids rest) d h = (
-  kept_from m n v l.out (through l v) (λ j i. h j
+fits_from : (w : World) (m : Place → Collection) (n : ℕ) (v : Collection) (f : Forest)
+    → OutsDiffer f
+    → ((j : ℕ) → has_out j f ≡ true → m (place n j) ≡ or_nothing (out_of w v f j))
+    → FitsForest w m n v f
+fits_from w m n v Bare d h = tt
+fits_from w m n v (Grow l kids rest) d h = (
+  kept_from m n v l.out (through w l v) (λ j i. h j
       (or_left (is_out l.out j) (has_out j kids || has_out j rest) i)
-      ∙ ap or_nothing (here_out v l kids rest j (is_out l.out j) i)),
-  fits_from m n (through l v) kids d.2 (λ j i. h j
+      ∙ ap or_nothing (here_out w v l kids rest j (is_out l.out j) i)),
+  fits_from w m n (through w l v) kids d.2 (λ j i. h j
       (or_right (is_out l.out j) (has_out j kids || has_out j rest)
       (or_left (has_out j kids) (has_out j rest) i))
-      ∙ ap or_nothing (kids_out v l kids rest j d.0 i)),
-  fits_from m n v rest d.3 (λ j i. h j (or_right (is_out l.out j) (has_out j kids || has_out j rest)
+      ∙ ap or_nothing (kids_out w v l kids rest j d.0 i)),
+  fits_from w m n v rest d.3 (λ j i. h j (or_right (is_out l.out j)
+      (has_out j kids || has_out j rest)
       (or_right (has_out j kids) (has_out j rest) i))
-      ∙ ap or_nothing (rest_out v l kids rest j d.0 d.1 i)),
+      ∙ ap or_nothing (rest_out w v l kids rest j d.0 d.1 i)),
 )
 
 -- a forest at one value has one value at each output
@@ -114,37 +122,38 @@ kept_same m k n j None u h a b = absurd (false≢true h)
 kept_same m k n j (Some i) u h a b = ap (λ (e : ℕ). k (place n e)) (sym (eqb-true i j h)) ∙ b
     ∙ sym a ∙ ap (λ (e : ℕ). m (place n e)) (eqb-true i j h)
 
-one_value : (m k : Place → Collection) (n : ℕ) (v : Collection) (f : Forest) (j : ℕ)
-    → FitsForest m n v f → FitsForest k n v f → has_out j f ≡ true → k (place n j) ≡ m (place n j)
-one_value m k n v Bare j a b h = absurd (false≢true h)
-one_value m k n v (Grow l kids rest) j a b h =
+one_value : (w : World) (m k : Place → Collection) (n : ℕ) (v : Collection) (f : Forest) (j : ℕ)
+    → FitsForest w m n v f → FitsForest w k n v f → has_out j f ≡ true → k (place n j) ≡ m
+        (place n j)
+one_value w m k n v Bare j a b h = absurd (false≢true h)
+one_value w m k n v (Grow l kids rest) j a b h =
     elim (or_cases (is_out l.out j) (has_out j kids || has_out j rest) h) [
-      | inl i ↦ kept_same m k n j l.out (through l v) i a.0 b.0
+      | inl i ↦ kept_same m k n j l.out (through w l v) i a.0 b.0
       | inr i ↦ elim (or_cases (has_out j kids) (has_out j rest) i) [
-        | inl e ↦ one_value m k n (through l v) kids j a.1 b.1 e
-        | inr e ↦ one_value m k n v rest j a.2 b.2 e
+        | inl e ↦ one_value w m k n (through w l v) kids j a.1 b.1 e
+        | inr e ↦ one_value w m k n v rest j a.2 b.2 e
       ]
     ]
 
 -- ---- graphs
-pub solve_next : (w : Rows) (es : List Entry) (k : ℕ) (c : Place)
+pub solve_next : (w : World) (es : List Entry) (k : ℕ) (c : Place)
     → solve w es (suc k) c ≡ value_at w (solve w es k) (node_at es c.node) c.out
 unfolding solve
 solve_next w es k c = refl
 
-pub collection_is : (w : Rows) (g : Graph) (c : Place)
+pub collection_is : (w : World) (g : Graph) (c : Place)
     → collection w g c ≡ solve w g.nodes (suc (length g.nodes)) c
 unfolding collection
 collection_is w g c = refl
 
-value_alike : (w : Rows) (m k : Place → Collection) (x : Node) (j : ℕ)
+value_alike : (w : World) (m k : Place → Collection) (x : Node) (j : ℕ)
     → AllByRecursion (λ c. k c ≡ m c) (reads x) → value w k x j ≡ value w m x j
-value_alike w m k (Source r t) j h = refl
-value_alike w m k (Flatten ty ins) j h = ap together (map_alike m k ins h)
-value_alike w m k (Pdo c f) j h = ap (λ (v : Collection). or_nothing (out_of v f j)) h.0
-value_alike w m k (Gbk c o l i tb) j h = ap (by_key) h.0
+value_alike w m k (Source r) j h = refl
+value_alike w m k (Flatten ins) j h = ap together (map_alike m k ins h)
+value_alike w m k (Pdo c f) j h = ap (λ (v : Collection). or_nothing (out_of w v f j)) h.0
+value_alike w m k (Gbk c o l i) j h = ap (by_key) h.0
 
-at_alike : (w : Rows) (m k : Place → Collection) (o : Option Node) (j : ℕ)
+at_alike : (w : World) (m k : Place → Collection) (o : Option Node) (j : ℕ)
     → ((x : Node) → o ≡ Some x → AllByRecursion (λ c. k c ≡ m c) (reads x))
     → value_at w k o j ≡ value_at w m o j
 at_alike w m k None j f = refl
@@ -155,7 +164,7 @@ pub ranked_at : (r : ℕ → ℕ) (es : List Entry) (n : ℕ) (x : Node) → IsR
 ranked_at r es n x a h = all_found (λ e. AllByRecursion (λ d. r d.node < r e.number) (reads e.node))
     es n x h a
 
-stable : (w : Rows) (r : ℕ → ℕ) (es : List Entry) → IsRankedBy r es → (k j : ℕ) (c : Place)
+stable : (w : World) (r : ℕ → ℕ) (es : List Entry) → IsRankedBy r es → (k j : ℕ) (c : Place)
     → r c.node < k → r c.node < j → solve w es k c ≡ solve w es j c
 stable w r es ra zero j c p q = absurd (omega arith)
 stable w r es ra (suc k) zero c p q = absurd (omega arith)
@@ -261,15 +270,15 @@ short_ranked r all (e ∷ es) t a = (
 )
 
 -- where m is at each output what the node gives there, it holds of the node
-holds_from : (w : Rows) (m : Place → Collection) (n : ℕ) (x : Node) → HasOuts x
+holds_from : (w : World) (m : Place → Collection) (n : ℕ) (x : Node) → HasOuts x
     → ((j : ℕ) → m (place n j) ≡ value w m x j) → Holds w m n x
-holds_from w m n (Source r t) o h = h 0
-holds_from w m n (Flatten ty ins) o h = h 0
-holds_from w m n (Pdo c f) o h = fits_from m n (m c) f o (λ j _. h j)
-holds_from w m n (Gbk c i l k tb) o h = h 0
+holds_from w m n (Source r) o h = h 0
+holds_from w m n (Flatten ins) o h = h 0
+holds_from w m n (Pdo c f) o h = fits_from w m n (m c) f o (λ j _. h j)
+holds_from w m n (Gbk c i l k) o h = h 0
 
 -- there is a meaning
-pub collection_meets : (w : Rows) (g : Graph) → IsSound g → Meets w g.nodes (collection w g)
+pub collection_meets : (w : World) (g : Graph) → IsSound g → Meets w g.nodes (collection w g)
 collection_meets w g ok =
     let es : List Entry = g.nodes in
     let m : Place → Collection = collection w g in
@@ -288,17 +297,17 @@ collection_meets w g ok =
     (each_found es ok.differ) ok.outs
 
 -- there is no other
-holds_one : (w : Rows) (m k : Place → Collection) (n j : ℕ) (x : Node) → gives x j ≡ true
+holds_one : (w : World) (m k : Place → Collection) (n j : ℕ) (x : Node) → gives x j ≡ true
     → AllByRecursion (λ c. k c ≡ m c) (reads x) → Holds w m n x → Holds w k n x
     → k (place n j) ≡ m (place n j)
-holds_one w m k n j (Source r t) g a h i = rw (eqb-true j 0 g) (i ∙ sym h)
-holds_one w m k n j (Flatten ty ins) g a h i =
+holds_one w m k n j (Source r) g a h i = rw (eqb-true j 0 g) (i ∙ sym h)
+holds_one w m k n j (Flatten ins) g a h i =
     rw (eqb-true j 0 g) (i ∙ ap together (map_alike m k ins a) ∙ sym h)
-holds_one w m k n j (Pdo c f) g a h i = one_value m k n (m c) f j h
-    (subst (λ (v : Collection). FitsForest k n v f) a.0 i) g
-holds_one w m k n j (Gbk c o l e tb) g a h i = rw (eqb-true j 0 g) (i ∙ ap (by_key) a.0 ∙ sym h)
+holds_one w m k n j (Pdo c f) g a h i = one_value w m k n (m c) f j h
+    (subst (λ (v : Collection). FitsForest w k n v f) a.0 i) g
+holds_one w m k n j (Gbk c o l e) g a h i = rw (eqb-true j 0 g) (i ∙ ap (by_key) a.0 ∙ sym h)
 
-only : (w : Rows) (g : Graph) (m k : Place → Collection) → IsSound g → Meets w g.nodes m
+only : (w : World) (g : Graph) (m k : Place → Collection) → IsSound g → Meets w g.nodes m
     → Meets w g.nodes k → (r : ℕ → ℕ) → IsRankedBy r g.nodes → (fuel : ℕ) (c : Place)
     → r c.node < fuel → IsThere g.nodes c → k c ≡ m c
 only w g m k ok h i r ra zero c p t = absurd (omega arith)
@@ -314,30 +323,32 @@ only w g m k ok h i r ra (suc fuel) c p t =
     (all_found (λ e. Holds w m e.number e.node) g.nodes c.node x.0 x.1 h)
     (all_found (λ e. Holds w k e.number e.node) g.nodes c.node x.0 x.1 i)
 
-pub only_meaning : (w : Rows) (g : Graph) (m k : Place → Collection) → IsSound g → Meets w g.nodes m
+pub only_meaning : (w : World) (g : Graph) (m k : Place → Collection) → IsSound g
+    → Meets w g.nodes m
     → Meets w g.nodes k → (c : Place) → IsThere g.nodes c → k c ≡ m c
 only_meaning w g m k ok h i c t = only w g m k ok h i ok.ranked.0 ok.ranked.1
     (suc (ok.ranked.0 c.node)) c (omega arith) t
 
 -- two meanings look the same
-own-alike : (k m : Place → Collection) (i : ℕ) (x : Node)
-    → AllByRecursion (λ c. k c ≡ m c) (reads x) → own k i x ≡ own m i x
-own-alike k m i (Source s t) a = refl
-own-alike k m i (Flatten ty ins) a = refl
-own-alike k m i (Pdo c f) a = ap (λ (v : Collection). total (step_own i) v f) a.0
-own-alike k m i (Gbk c o l e tb) a = ap (λ (v : Collection). cond (l && eqb o i) (by_key v).bag [])
+own-alike : (w : World) (k m : Place → Collection) (i : ℕ) (x : Node)
+    → AllByRecursion (λ c. k c ≡ m c) (reads x) → own w k i x ≡ own w m i x
+own-alike w k m i (Source s) a = refl
+own-alike w k m i (Flatten ins) a = refl
+own-alike w k m i (Pdo c f) a = ap (λ (v : Collection). total w (step_own w i) v f) a.0
+own-alike w k m i (Gbk c o l e) a = ap (λ (v : Collection). cond (l && eqb o i) (by_key v).bag [])
     a.0
 
-traps-alike : (k m : Place → Collection) (x : Node) → AllByRecursion (λ c. k c ≡ m c) (reads x)
-    → traps k x ≡ traps m x
-traps-alike k m (Source s t) a = refl
-traps-alike k m (Flatten ty ins) a = ap (λ (cs : List Collection). (together cs).traps)
+traps-alike : (w : World) (k m : Place → Collection) (x : Node) → AllByRecursion (λ c. k c ≡ m c)
+    (reads x)
+    → traps w k x ≡ traps w m x
+traps-alike w k m (Source s) a = refl
+traps-alike w k m (Flatten ins) a = ap (λ (cs : List Collection). (together cs).traps)
     (map_alike m k ins a)
-traps-alike k m (Pdo c f) a = ap (λ (v : Collection). total (step_traps) v f) a.0
-traps-alike k m (Gbk c o l e tb) a = ap (λ (v : Collection). v.traps) a.0
+traps-alike w k m (Pdo c f) a = ap (λ (v : Collection). total w (step_traps w) v f) a.0
+traps-alike w k m (Gbk c o l e) a = ap (λ (v : Collection). v.traps) a.0
 
-pub Agrees-self : (w : Rows) (g : Graph) (m k : Place → Collection) → IsSound g → Meets w g.nodes m
-    → Meets w g.nodes k → Agrees g g m k
+pub Agrees-self : (w : World) (g : Graph) (m k : Place → Collection) → IsSound g → Meets w g.nodes m
+    → Meets w g.nodes k → Agrees w g g m k
 Agrees-self w g m k ok h i =
     let same : (cs : List Place) → AllByRecursion (IsThere g.nodes) cs
     → AllByRecursion (λ c. k c ≡ m c) cs =
@@ -346,15 +357,15 @@ Agrees-self w g m k ok h i =
     record {
       outputs = sym (map_alike m k g.outputs (same g.outputs ok.told));
       own = λ n. sym (ap (λ (l : List Value). bag_of l)
-          (flat_map_alike (λ e. own k n e.node) (λ e. own m n e.node) g.nodes
+          (flat_map_alike (λ e. own w k n e.node) (λ e. own w m n e.node) g.nodes
           (Each-weaker (λ (e : Entry). AllByRecursion (IsThere g.nodes) (reads e.node))
-          (λ e. own k n e.node ≡ own m n e.node)
-          (λ e a. own-alike k m n e.node (same (reads e.node) a)) g.nodes ok.there)));
+          (λ e. own w k n e.node ≡ own w m n e.node)
+          (λ e a. own-alike w k m n e.node (same (reads e.node) a)) g.nodes ok.there)));
       traps = sym (ap (λ l. gather (put_new trap_le) l [])
-          (flat_map_alike (λ e. traps k e.node) (λ e. traps m e.node) g.nodes
+          (flat_map_alike (λ e. traps w k e.node) (λ e. traps w m e.node) g.nodes
           (Each-weaker (λ (e : Entry). AllByRecursion (IsThere g.nodes) (reads e.node))
-          (λ e. traps k e.node ≡ traps m e.node)
-          (λ e a. traps-alike k m e.node (same (reads e.node) a)) g.nodes ok.there)));
+          (λ e. traps w k e.node ≡ traps w m e.node)
+          (λ e a. traps-alike w k m e.node (same (reads e.node) a)) g.nodes ok.there)));
     }
 
 -- what a pass has to show is what a reader wants

@@ -5,7 +5,9 @@ use Rattle.exec_graph.specs.declared.graph.Node.TheVariants.{Source, Flatten, Pd
 use Rattle.exec_graph.specs.declared.graph.Entry.{Entry}
 use Rattle.exec_graph.specs.declared.graph.Graph.{Graph}
 use Rattle.exec_graph.specs.declared.graph.Place.{Place}
-use Rattle.exec_graph.specs.Meaning.{Rows, Collection, Meets, IsThere, collection, AllDiffer, HasOuts, OutsDiffer, IsSound, KeepsMeaning, SameMeaning}
+use Rattle.exec_graph.specs.Meaning.{Meets, IsThere, collection, AllDiffer, HasOuts, OutsDiffer, IsSound, KeepsMeaning, SameMeaning}
+use Rattle.flume_collection.specs.Collection.{Collection}
+use Rattle.exec_graph.specs.World.{World}
 use Rattle.exec_graph.specs.Wellformed.{Ascends, IsNodeOk, IsGraphOk}
 use Rattle.exec_graph.proofs.Numbered.{numbered_differ}
 use Rattle.exec_graph.proofs.Solving.{SameMeaning-from_kept, collection_meets, only_meaning}
@@ -20,10 +22,10 @@ differ_ascends (e ∷ es) a = (
 )
 
 outs_ok : (g : Graph) (n : ℕ) (x : Node) → IsNodeOk g n x → HasOuts x
-outs_ok g n (Source r t) h = tt
-outs_ok g n (Flatten ty ins) h = tt
+outs_ok g n (Source r) h = tt
+outs_ok g n (Flatten ins) h = tt
 outs_ok g n (Pdo c f) h = subst OutsDiffer h.order (numbered_differ 0 f)
-outs_ok g n (Gbk c o l k tb) h = tt
+outs_ok g n (Gbk c o l k) h = tt
 
 pub IsSound-ok : (g : Graph) → IsGraphOk g → IsSound g
 IsSound-ok g ok = record {
@@ -41,7 +43,7 @@ pub SameMeaning-kept : (g h : Graph) → IsGraphOk g → IsGraphOk h → KeepsMe
 SameMeaning-kept g h a b k = SameMeaning-from_kept g h (IsSound-ok g a) (IsSound-ok h b) k
 
 -- no other assignment meets the equations
-pub one_meaning : (w : Rows) (g : Graph) (m : Place → Collection) → IsSound g → Meets w g.nodes m
+pub one_meaning : (w : World) (g : Graph) (m : Place → Collection) → IsSound g → Meets w g.nodes m
     → (c : Place) → IsThere g.nodes c → m c ≡ collection w g c
 one_meaning w g m ok h c t =
     only_meaning w g (collection w g) m ok (collection_meets w g ok) h c t

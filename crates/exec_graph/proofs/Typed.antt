@@ -1,44 +1,45 @@
--- What a typed step emits of a value of its type has the type that it gives.
-use Rattle.std.proofs.Common.{Bool, true, false, cond, Option, Some, None, ◌<◌, map, sym, eqb, arith}
-use Rattle.std.specs.List.{cons_option, flat_map, AllByRecursion, AllByRecursion as Each}
-use Rattle.bag_groups.specs.Groups.{grouped}
-use Rattle.exec_graph.specs.declared.step.Table.{Table}
-use Rattle.exec_graph.specs.Traps.{Trap}
-use Rattle.exec_graph.proofs.Entries.{all_found}
-use Rattle.exec_graph.specs.Calls.{emitted, called, of_call, of_combine, of_group, emissions, emitted_by}
-use Rattle.exec_graph.specs.Forests.{Label, Forest, Bare, Grow}
-use Rattle.exec_graph.specs.Meaning.{Rows, Collection, collection, through, unless_trapped, place, FitsForest, Holds, Meets, node_at, reads, IsRankedBy, is_out, has_out}
-use Rattle.exec_graph.specs.Typing.{IsTypedForest, IsTypedNode, out_type, at_zero, type_at, type_of, pairs_of, groups_of, takes_of, gives_of, IsApt, IsCallable, AreCallable, IsNodeCallable, RowsHave, IsTypedRun}
-use Rattle.exec_graph.specs.declared.graph.Node.{Node}
-use Rattle.exec_graph.specs.declared.graph.Node.TheVariants.{Source, Flatten, Pdo, Gbk}
-use Rattle.exec_graph.specs.declared.graph.Entry.{Entry}
-use Rattle.std.proofs.lemmas.Bool.{eqb-true}
-use Rattle.flume_value.specs.Bag.{bag_of}
-use Rattle.flume_value.proofs.BagLemmas.{Each-bag_of}
-use Rattle.exec_graph.specs.declared.graph.Place.{Place}
-use Rattle.std.proofs.Common.{◌≡◌, ℕ, zero, suc, List, [], ◌∷◌, Result, Ok, Err, refl, subst, append-nil}
+-- In a graph whose types fit, over a typed world, each member of a collection has its type.
+use Rattle.std.proofs.Common.{◌≡◌, ℕ, zero, suc, ◌<◌, true, eqb, ◌||◌, List, [], ◌∷◌, map, Option, Some, None, Result, Ok, Err, inl, inr, sym, subst, arith, append-nil}
+use Rattle.std.specs.List.{AllByRecursion as Each, AllZip, cons_option, flat_map, slice_get}
+use Rattle.std.proofs.lemmas.Bool.{eqb-true, false≢true}
+use Rattle.std.proofs.lemmas.List.Elements.{All-from_recursion}
 use Rattle.flume_value.specs.declared.value.Value.{Value}
 use Rattle.flume_value.specs.declared.fault.Kind.{Kind}
-use Rattle.std.proofs.lemmas.List.Elements.{All-from_recursion}
+use Rattle.flume_value.specs.Bag.{bag_of}
+use Rattle.flume_value.proofs.BagLemmas.{Each-bag_of}
 use Rattle.flume_value.proofs.EachLemmas.{each_from, Each-append, Each-both}
 use Rattle.flume_types.specs.declared.types.Ty.{Ty}
-use Rattle.dofn_eval.specs.Outcome.{Outcome, Gives, Traps, Stuck}
-use Rattle.dofn_eval.specs.Run.{means}
+use Rattle.flume_types.specs.declared.types.Ty.TheVariants as type
+use Rattle.flume_types.specs.Tables.{table_of}
 use Rattle.flume_types.specs.Typing.{Has, AllHave}
-use Rattle.dofn_eval.proofs.Sound.{typed_call}
 use Rattle.bag_groups.specs.Combining.{combined_pair, group_of}
+use Rattle.bag_groups.specs.Groups.{grouped}
 use Rattle.combine_table.specs.declared.comb.Comb.{Comb}
 use Rattle.combine_table.specs.Combinations.{combined}
+use Rattle.keyed_steps.specs.Types.{gives_type}
 use Rattle.keyed_steps.proofs.TypedFacts.{combined_pairs_have, groups_have}
+use Rattle.flume_collection.specs.declared.trap.Trap.{Trap}
+use Rattle.flume_collection.specs.Collection.{Collection, unless_trapped}
+use Rattle.flume_collection.specs.Calls.{Called, emissions}
 use Rattle.exec_graph.specs.declared.step.Does.{Does}
 use Rattle.exec_graph.specs.declared.step.Does.TheVariants as does
+use Rattle.exec_graph.specs.declared.graph.Place.{Place}
+use Rattle.exec_graph.specs.declared.graph.Node.{Node}
+use Rattle.exec_graph.specs.declared.graph.Node.TheVariants.{Source, Flatten, Pdo, Gbk}
 use Rattle.exec_graph.specs.declared.graph.Graph.{Graph}
-use Rattle.exec_graph.specs.Wellformed.{IsGraphOk}
-use Rattle.exec_graph.proofs.Solving.{collection_meets, kept_value}
-use Rattle.exec_graph.proofs.Soundness.{IsSound-ok}
+use Rattle.exec_graph.specs.World.{World}
+use Rattle.exec_graph.specs.Calls.{called, emitted, given, of_combine, of_group}
+use Rattle.exec_graph.specs.Forests.{Label, Forest, Bare, Grow}
+use Rattle.exec_graph.specs.Meaning.{collection, through, place, is_out, has_out, FitsForest, Holds, Meets, IsThere, IsRankedBy, IsSound, gives, reads}
+use Rattle.exec_graph.specs.Typing.{Signatures, StepTyped, OutTyped, ForestTyped, NodeTyped, IsTypedBy, IsWorldTyped, IsCombined, IsGrouped, Answers}
+use Rattle.exec_graph.proofs.Entries.{all_found}
+use Rattle.exec_graph.proofs.Bools.{or_cases}
+use Rattle.exec_graph.proofs.Derived.{with_one_typed, under_zero_typed, left_typed, right_typed, split_typed, spread_typed}
+use Rattle.exec_graph.proofs.Solving.{collection_meets, kept_value, ranked_at, there_found}
 
+-- ---- one call
 one_list : (t : Ty) (vs : List Value) (n : ℕ) → Each (Has t) vs
-    → Each (Has t) (emissions n (Ok (vs ∷ [])))
+    → Each (Has t) (emissions n (given vs))
 one_list t vs zero h = h
 one_list t vs (suc n) h = tt
 
@@ -46,11 +47,20 @@ no_list : (t : Ty) (n : ℕ) → Each (Has t) (emissions n (Ok []))
 no_list t zero = tt
 no_list t (suc n) = tt
 
-call_typed : (t : Ty) (n : ℕ) (x : Value) (o : Outcome (List Value))
-    → ((vs : List Value) → o ≡ Gives vs → AllHave t vs) → Each (Has t) (emissions n (of_call x o))
-call_typed t n x (Gives vs) h = one_list t vs n (each_from (Has t) vs (h vs refl))
-call_typed t n x (Traps kind) h = tt
-call_typed t n x Stuck h = no_list t n
+output_typed : (gives : List Ty) (outputs : List (List Value)) (n : ℕ) (u : Ty)
+    → AllZip AllHave gives outputs → slice_get gives n ≡ Some u
+    → Each (Has u) (emissions n (Ok outputs))
+output_typed [] outputs n u a e = cc
+output_typed (t ∷ ts) [] n u a e = absurd a
+output_typed (t ∷ ts) (vs ∷ more) zero u a e =
+    let same : t ≡ u = cc in
+    subst (λ r. Each (Has r) vs) same (each_from (Has t) vs a.0)
+output_typed (t ∷ ts) (vs ∷ more) (suc n) u a e = output_typed ts more n u a.1 e
+
+answer_typed : (gives : List Ty) (c : Called) (n : ℕ) (u : Ty) → Answers gives c
+    → slice_get gives n ≡ Some u → Each (Has u) (emissions n c)
+answer_typed gives (Ok outputs) n u a e = output_typed gives outputs n u a e
+answer_typed gives (Err trap) n u a e = tt
 
 combine_typed : (t : Ty) (n : ℕ) (k : Value) (r : Result Value Kind)
     → Each (Has t) (combined_pair k r) → Each (Has t) (emissions n (of_combine k r))
@@ -70,160 +80,147 @@ group_typed t n c (Some g) h =
     let r : Result Value Kind = combined c (bag_of g.1) in
     combine_typed t n g.0 r (subst (Each (Has t)) (append-nil (combined_pair g.0 r)) h)
 
-pub step_typed : (d : Does) (n : ℕ) (x : Value) → IsCallable d → IsApt d → Has (takes_of d) x
-    → Each (Has (gives_of d n)) (emitted_by d n x)
-unfolding emitted_by called
-step_typed (does.Call f) n x c a h = call_typed f.gives n x (means f.body x)
-    (λ vs e. typed_call f.takes f.gives f.body x vs c h e)
-step_typed (does.Combine k tb) n x c a h =
-    let g : Does = does.Combine k tb in
-    group_typed (gives_of g n) n k (group_of x)
-    (combined_pairs_have k tb.key tb.value (x ∷ []) (h, tt))
+combined_typed : (c : Comb) (t u : Ty) (n : ℕ) → IsCombined c t u → (x : Value) → Has t x
+    → Each (Has u) (emissions n (of_group c (group_of x)))
+combined_typed c t u n s x h =
+    subst (λ r. Each (Has r) (emissions n (of_group c (group_of x)))) (sym s.gives)
+    (group_typed (table_of s.key (gives_type c s.value)) n c (group_of x)
+    (combined_pairs_have c s.key s.value (x ∷ []) (subst (λ r. Has r x) s.takes h, tt)))
 
+-- what a typed step emits of a value of its type has the type that it gives
+pub step_typed : (s : Signatures) (w : World) → IsWorldTyped s w → (d : Does) (n : ℕ) (t u : Ty)
+    → StepTyped s d n t u → (x : Value) → Has t x → Each (Has u) (emissions n (called w d x))
+unfolding called
+step_typed s w world (does.Call f) n t u a x h =
+    answer_typed (s.gives f) (w.called f x) n u
+    (world.called f x (subst (λ r. Has r x) a.0 h)) a.1
+step_typed s w world (does.Combine c) n t u a x h = combined_typed c t u n a.1 x h
+step_typed s w world does.Pair n t u a x h = one_list u _ n (with_one_typed t u a.1 x h)
+step_typed s w world does.TagLeft n t u a x h = one_list u _ n (left_typed t u a.1 x h)
+step_typed s w world does.TagRight n t u a x h = one_list u _ n (right_typed t u a.1 x h)
+step_typed s w world does.Split n t u a x h = one_list u _ n (split_typed t u a.1 x h)
+step_typed s w world does.Solo n t u a x h = one_list u _ n (under_zero_typed t u a.1 x h)
+step_typed s w world does.Spread n t u a x h = one_list u _ n (spread_typed t u a.1 x h)
+
+-- ---- collections
 each_flat : (P Q : Value → Type 0) (f : Value → List Value) → ((x : Value) → P x → Each Q (f x))
     → (xs : List Value) → Each P xs → Each Q (flat_map f xs)
 each_flat P Q f h [] a = tt
 each_flat P Q f h (x ∷ xs) a = Each-append Q (f x) (flat_map f xs) (h x a.0)
     (each_flat P Q f h xs a.1)
 
-pub through_typed : (l : Label) (v : Collection) → IsCallable l.does → IsApt l.does
-    → Each (Has (takes_of l.does)) v.bag → Each (Has (gives_of l.does l.at)) (through l v).bag
-through_typed l v c a h = Each-bag_of (Has (gives_of l.does l.at)) (flat_map (emitted l) v.bag)
-    (each_flat (Has (takes_of l.does)) (Has (gives_of l.does l.at)) (emitted l)
-    (λ x q. step_typed l.does l.at x c a q) v.bag h)
+through_typed : (s : Signatures) (w : World) → IsWorldTyped s w → (l : Label) (v : Collection)
+    (t u : Ty) → StepTyped s l.does l.at t u → Each (Has t) v.bag
+    → Each (Has u) (through w l v).bag
+through_typed s w world l v t u a h =
+    Each-bag_of (Has u) (flat_map (emitted w l) v.bag)
+    (each_flat (Has t) (Has u) (emitted w l)
+    (λ x i. step_typed s w world l.does l.at t u a x i) v.bag h)
 
-same_some : (t u : Ty) → Some t ≡ Some u → t ≡ u
-same_some t u e = cc
+-- an output of a step has the type that the step gives
+out_has : (m : Place → Collection) (types : Place → Ty) (n j : ℕ) (o : Option ℕ) (u : Ty)
+    → is_out o j ≡ true → OutTyped types n o u → Each (Has u) (m (place n j)).bag
+    → Each (Has (types (place n j))) (m (place n j)).bag
+out_has m types n j None u e a h = absurd (false≢true e)
+out_has m types n j (Some i) u e a h =
+    subst (λ (k : ℕ). Each (Has (types (place n k))) (m (place n j)).bag) (eqb-true i j e)
+    (subst (λ (r : Ty). Each (Has r) (m (place n j)).bag) (sym a) h)
 
-pub forest_typed : (m : Place → Collection) (n : ℕ) (v : Collection) (t : Ty) (f : Forest) (j : ℕ)
-    (u : Ty) → AreCallable f → IsTypedForest (Some t) f → FitsForest m n v f → Each (Has t) v.bag
-    → out_type f j ≡ Some u → Each (Has u) (m (place n j)).bag
-forest_typed m n v t Bare j u c a fits h e = let bad : ⊥ = cc in absurd bad
-forest_typed m n v t (Grow l kids rest) j u c a fits h e =
-    let is : t ≡ takes_of l.does = same_some t (takes_of l.does) a.0 in
-    let now : Each (Has (gives_of l.does l.at)) (through l v).bag =
-    through_typed l v c.0 a.1 (subst (λ (s : Ty). Each (Has s) v.bag) is h) in
-    by (forest_typed m n (through l v) (gives_of l.does l.at) kids j u c.1 a.2 fits.1 now)
-    (forest_typed m n v t rest j u c.2 a.3 fits.2 h) now (is_out l.out j) (has_out j kids) refl
-    e
-  where
-    by : (out_type kids j ≡ Some u → Each (Has u) (m (place n j)).bag)
-        → (out_type rest j ≡ Some u → Each (Has u) (m (place n j)).bag)
-        → Each (Has (gives_of l.does l.at)) (through l v).bag → (r s : Bool) → is_out l.out j ≡ r
-        → cond r (Some (gives_of l.does l.at)) (cond s (out_type kids j) (out_type rest j)) ≡ Some u
-        → Each (Has u) (m (place n j)).bag
-    by f g now true s q i = subst (λ (x : Ty). Each (Has x) (m (place n j)).bag)
-        (same_some (gives_of l.does l.at) u i)
-        (subst (λ (x : Collection). Each (Has (gives_of l.does l.at)) x.bag)
-        (sym (kept_value m n j l.out (through l v) q fits.0)) now)
-    by f g now false true q i = f i
-    by f g now false false q i = g i
+forest_typed : (s : Signatures) (w : World) → IsWorldTyped s w → (types : Place → Ty)
+    (m : Place → Collection) (n : ℕ) (v : Collection) (t : Ty) (f : Forest) (j : ℕ)
+    → ForestTyped s types n t f → FitsForest w m n v f → Each (Has t) v.bag
+    → has_out j f ≡ true → Each (Has (types (place n j))) (m (place n j)).bag
+forest_typed s w world types m n v t Bare j a fits h e = absurd (false≢true e)
+forest_typed s w world types m n v t (Grow l kids rest) j a fits h e =
+    let u : Ty = a.0.0 in
+    let now : Each (Has u) (through w l v).bag = through_typed s w world l v t u a.0.1 h in
+    elim (or_cases (is_out l.out j) (has_out j kids || has_out j rest) e) [
+      | inl i ↦ out_has m types n j l.out u i a.0.2
+          (subst (λ (c : Collection). Each (Has u) c.bag)
+          (sym (kept_value m n j l.out (through w l v) i fits.0)) now)
+      | inr i ↦ elim (or_cases (has_out j kids) (has_out j rest) i) [
+        | inl q ↦ forest_typed s w world types m n (through w l v) u kids j a.0.3 fits.1 now q
+        | inr q ↦ forest_typed s w world types m n v t rest j a.1 fits.2 h q
+      ]
+    ]
 
-abbrev Good : List Entry → (Place → Collection) → Place → Type 0
-Good es m d = (t : Ty) → type_of es d ≡ Some t → Each (Has t) (m d).bag
-
-zero_type : (j : ℕ) (s t : Ty) → at_zero j s ≡ Some t → (j ≡ 0) × (s ≡ t)
-zero_type j s t e = by (eqb j 0) refl e
-  where
-    by : (b : Bool) → eqb j 0 ≡ b → cond b (Some s) None ≡ Some t → (j ≡ 0) × (s ≡ t)
-    by true q i = (eqb-true j 0 q, same_some s t i)
-    by false q i = let bad : ⊥ = cc in absurd bad
+abbrev Good : (Place → Ty) → (Place → Collection) → Place → Type 0
+Good types m c = Each (Has (types c)) (m c).bag
 
 flat_good : (t : Ty) (m : Place → Collection) (cs : List Place)
-    → AllByRecursion (λ d. Each (Has t) (m d).bag) cs
+    → Each (λ d. Each (Has t) (m d).bag) cs
     → Each (Has t) (flat_map (λ (c : Collection). c.bag) (map m cs))
 flat_good t m [] a = tt
 flat_good t m (d ∷ ds) a = Each-append (Has t) (m d).bag
     (flat_map (λ (c : Collection). c.bag) (map m ds)) a.0 (flat_good t m ds a.1)
 
-keyed_good : (tb : Table) (b : List Value) (ts : List Trap) → Each (Has (pairs_of tb)) b
-    → Each (Has (groups_of tb)) (unless_trapped ts (grouped b))
-keyed_good tb b [] h = groups_have tb.key tb.value b h
-keyed_good tb b (t ∷ ts) h = tt
+keyed_good : (key value : Ty) (b : List Value) (ts : List Trap)
+    → Each (Has (table_of key value)) b
+    → Each (Has (table_of key (type.List value))) (unless_trapped ts (grouped b))
+keyed_good key value b [] h = groups_have key value b h
+keyed_good key value b (t ∷ ts) h = tt
 
-pdo_good : (es : List Entry) (m : Place → Collection) (n j : ℕ) (d : Place) (f : Forest) (u : Ty)
-    (o : Option Ty) → type_of es d ≡ o → AreCallable f → IsTypedForest o f → FitsForest m n (m d) f
-    → Good es m d → out_type f j ≡ Some u → Each (Has u) (m (place n j)).bag
-pdo_good es m n j d f u (Some s) q c a fits g e = forest_typed m n (m d) s f j u c a fits (g s q) e
-pdo_good es m n j d Bare u None q c a fits g e = let bad : ⊥ = cc in absurd bad
-pdo_good es m n j d (Grow l kids rest) u None q c a fits g e =
-    let z : None ≡ Some (takes_of l.does) = a.0 in let bad : ⊥ = cc in absurd bad
+gbk_good : (t u : Ty) (v : Collection) → IsGrouped t u → Each (Has t) v.bag
+    → Each (Has u) (unless_trapped v.traps (grouped v.bag))
+gbk_good t u v s h =
+    subst (λ r. Each (Has r) (unless_trapped v.traps (grouped v.bag))) (sym s.gives)
+    (keyed_good s.key s.value v.bag v.traps (subst (λ r. Each (Has r) v.bag) s.takes h))
 
-at_place : (m : Place → Collection) (c : Place) (s t : Ty) → at_zero c.out s ≡ Some t
-    → Each (Has s) (m (place c.node 0)).bag → Each (Has t) (m c).bag
-at_place m c s t e h =
-    let z = zero_type c.out s t e in
-    subst (λ (u : Ty). Each (Has u) (m c).bag) z.1
-    (subst (λ (j : ℕ). Each (Has s) (m (place c.node j)).bag) (sym z.0) h)
+-- the only output of a node that is no Pdo
+first_good : (types : Place → Ty) (m : Place → Collection) (n j : ℕ) → eqb j 0 ≡ true
+    → Good types m (place n 0) → Good types m (place n j)
+first_good types m n j e h =
+    subst (λ (k : ℕ). Good types m (place n k)) (sym (eqb-true j 0 e)) h
 
-node_good : (w : Rows) (es : List Entry) (m : Place → Collection) (c : Place) (x : Node)
-    → Holds w m c.node x → IsTypedNode es x → IsNodeCallable x → RowsHave w x
-    → AllByRecursion (Good es m) (reads x) → (t : Ty) → type_at (Some x) c.out ≡ Some t
-    → Each (Has t) (m c).bag
-node_good w es m c (Source r s) h a k rows g t e =
-    at_place m c s t e (subst (λ (v : Collection). Each (Has s) v.bag) (sym h)
-    (Each-bag_of (Has s) (w r) (each_from (Has s) (w r) rows)))
-node_good w es m c (Flatten ty ins) h a k rows g t e =
-    at_place m c ty t e (subst (λ (v : Collection). Each (Has ty) v.bag) (sym h)
-    (Each-bag_of (Has ty) (flat_map (λ (v : Collection). v.bag) (map m ins))
-    (flat_good ty m ins (Each-both (λ d. type_of es d ≡ Some ty) (Good es m)
-    (λ d. Each (Has ty) (m d).bag) (λ d q f. f ty q) ins a g))))
-node_good w es m c (Pdo d f) h a k rows g t e =
-    pdo_good es m c.node c.out d f t (type_of es d) refl k a h g.0 e
-node_good w es m c (Gbk d o l i tb) h a k rows g t e =
-    at_place m c (groups_of tb) t e (subst (λ (v : Collection). Each (Has (groups_of tb)) v.bag)
-    (sym h) (keyed_good tb (m d).bag (m d).traps (g.0 (pairs_of tb) a)))
+made_good : (types : Place → Ty) (m : Place → Collection) (n j : ℕ) (v : Collection)
+    → eqb j 0 ≡ true → m (place n 0) ≡ v → Each (Has (types (place n 0))) v.bag
+    → Good types m (place n j)
+made_good types m n j v e is h = first_good types m n j e
+    (subst (λ (c : Collection). Each (Has (types (place n 0))) c.bag) (sym is) h)
 
--- what a typed graph over typed rows needs, and what it then has
-record IsRun (w : Rows) (es : List Entry) (m : Place → Collection) (r : ℕ → ℕ) : Type 0 where
-  pub meets : Meets w es m
-  pub ranked : IsRankedBy r es
-  pub typed : AllByRecursion (λ e. IsTypedNode es e.node) es
-  pub callable : AllByRecursion (λ e. IsNodeCallable e.node) es
-  pub rows : AllByRecursion (λ e. RowsHave w e.node) es
+node_good : (s : Signatures) (w : World) → IsWorldTyped s w → (types : Place → Ty)
+    (m : Place → Collection) (n j : ℕ) (x : Node) → NodeTyped s types n x → Holds w m n x
+    → Each (Good types m) (reads x) → gives x j ≡ true → Good types m (place n j)
+node_good s w world types m n j (Source r) a h g e =
+    made_good types m n j _ e h
+    (Each-bag_of (Has (types (place n 0))) (w.rows r)
+    (subst (λ t. Each (Has t) (w.rows r)) (sym a)
+    (each_from (Has (s.inputs r)) (w.rows r) (world.rows r))))
+node_good s w world types m n j (Flatten ins) a h g e =
+    let t : Ty = types (place n 0) in
+    made_good types m n j _ e h
+    (Each-bag_of (Has t) (flat_map (λ (v : Collection). v.bag) (map m ins))
+    (flat_good t m ins (Each-both (λ c. types c ≡ t) (Good types m)
+    (λ c. Each (Has t) (m c).bag)
+    (λ c q i. subst (λ (r : Ty). Each (Has r) (m c).bag) q i) ins a g)))
+node_good s w world types m n j (Pdo c f) a h g e =
+    forest_typed s w world types m n (m c) (types c) f j a h g.0 e
+node_good s w world types m n j (Gbk c o l k) a h g e =
+    made_good types m n j _ e h (gbk_good (types c) (types (place n 0)) (m c) a g.0)
 
-all_low : (es : List Entry) (m : Place → Collection) (r : ℕ → ℕ) (n k : ℕ) → r n < suc k
-    → ((d : Place) → r d.node < k → Good es m d) → (cs : List Place)
-    → AllByRecursion (λ (d : Place). r d.node < r n) cs → AllByRecursion (Good es m) cs
-all_low es m r n k l g [] a = tt
-all_low es m r n k l g (d ∷ ds) a = (
-  g d (let x = a.0 in omega arith),
-  all_low es m r n k l g ds a.1,
-)
-
-typed_below : (w : Rows) (es : List Entry) (m : Place → Collection) (r : ℕ → ℕ) → IsRun w es m r
-    → (k : ℕ) (c : Place) → r c.node < k → Good es m c
-typed_below w es m r run zero c l t e = absurd (omega arith)
-typed_below w es m r run (suc k) c l t e = by (λ d q. typed_below w es m r run k d q)
-    (node_at es c.node) refl e
-  where
-    by : ((d : Place) → r d.node < k → Good es m d) → (o : Option Node) → node_at es c.node ≡ o
-        → type_at o c.out ≡ Some t → Each (Has t) (m c).bag
-    by g None q i = let bad : ⊥ = cc in absurd bad
-    by g (Some x) q i =
-        node_good w es m c x (all_found (λ e. Holds w m e.number e.node) es c.node x q run.meets)
-        (all_found (λ e. IsTypedNode es e.node) es c.node x q run.typed)
-        (all_found (λ e. IsNodeCallable e.node) es c.node x q run.callable)
-        (all_found (λ e. RowsHave w e.node) es c.node x q run.rows)
-        (all_low es m r c.node k l g (reads x)
-        (all_found (λ (e : Entry). AllByRecursion (λ (d : Place). r d.node < r e.number)
-        (reads e.node)) es c.node x q run.ranked)) t i
+-- ---- graphs
+typed_below : (s : Signatures) (w : World) → IsWorldTyped s w → (g : Graph) → IsSound g
+    → (types : Place → Ty) → IsTypedBy s g types → (m : Place → Collection) → Meets w g.nodes m
+    → (r : ℕ → ℕ) → IsRankedBy r g.nodes → (k : ℕ) (c : Place) → r c.node < k
+    → IsThere g.nodes c → Good types m c
+typed_below s w world g ok types a m h r ranked zero c l t = absurd (omega arith)
+typed_below s w world g ok types a m h r ranked (suc k) c l t =
+    let x = there_found g.nodes c t in
+    let reads_there : Each (IsThere g.nodes) (reads x.0) =
+    all_found (λ e. Each (IsThere g.nodes) (reads e.node)) g.nodes c.node x.0 x.1 ok.there in
+    node_good s w world types m c.node c.out x.0
+    (all_found (λ e. NodeTyped s types e.number e.node) g.nodes c.node x.0 x.1 a)
+    (all_found (λ e. Holds w m e.number e.node) g.nodes c.node x.0 x.1 h)
+    (Each-both (λ (d : Place). r d.node < r c.node) (IsThere g.nodes) (Good types m)
+    (λ d u v. typed_below s w world g ok types a m h r ranked k d (omega arith) v) (reads x.0)
+    (ranked_at r g.nodes c.node x.0 ranked x.1) reads_there) x.2
 
 -- each member of a collection has the collection's type
-members_typed : (w : Rows) (es : List Entry) (m : Place → Collection) (r : ℕ → ℕ) → IsRun w es m r
-    → (c : Place) (t : Ty) → type_of es c ≡ Some t → Each (Has t) (m c).bag
-members_typed w es m r run c t e = typed_below w es m r run (suc (r c.node)) c (omega arith) t e
-
-pub members_have : (w : Rows) (g : Graph) → IsGraphOk g → IsTypedRun w g.nodes
-    → (c : Place) (t : Ty) → type_of g.nodes c ≡ Some t → AllHave t (collection w g c).bag
-members_have w g ok run c t e =
+pub members_have : (s : Signatures) (w : World) (g : Graph) (types : Place → Ty) → IsSound g
+    → IsTypedBy s g types → IsWorldTyped s w → (c : Place) → IsThere g.nodes c
+    → AllHave (types c) (collection w g c).bag
+members_have s w g types ok a world c t =
     let m : Place → Collection = collection w g in
-    let all : IsRun w g.nodes m ok.founded.ranked.0 =
-    record {
-      meets = collection_meets w g (IsSound-ok g ok);
-      ranked = ok.founded.ranked.1;
-      typed = ok.typed;
-      callable = run.callable;
-      rows = run.rows_have;
-    } in
-    All-from_recursion (Has t) (m c).bag (members_typed w g.nodes m ok.founded.ranked.0 all c t e)
+    All-from_recursion (Has (types c)) (m c).bag
+    (typed_below s w world g ok types a m (collection_meets w g ok) ok.ranked.0 ok.ranked.1
+    (suc (ok.ranked.0 c.node)) c (omega arith) t)

@@ -1,7 +1,7 @@
 pub mod Forests
 pub mod Twigs
-pub mod Traps
-pub mod Sets
+pub mod World
+pub mod Derived
 pub mod Calls
 pub mod Meaning
 pub mod Readers

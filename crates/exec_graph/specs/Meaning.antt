@@ -5,9 +5,12 @@ use Rattle.std.proofs.Common.{zero, suc}
 use Rattle.std.specs.List.{flat_map, AllByRecursion}
 use Rattle.flume_value.specs.declared.value.Value.{Value}
 use Rattle.flume_value.specs.Bag.{bag_of}
-use Rattle.bag_groups.specs.Groups.{grouped}
-use Rattle.exec_graph.specs.Traps.{Trap, trap_set}
-use Rattle.exec_graph.specs.Calls.{emitted, trapped, is_own}
+use Rattle.flume_collection.specs.declared.trap.Trap.{Trap}
+use Rattle.flume_collection.specs.Traps.{trap_set}
+use Rattle.flume_collection.specs.Collection.{Collection, together, by_key}
+use Rattle.flume_collection.specs.Calls.{passed}
+use Rattle.exec_graph.specs.World.{World}
+use Rattle.exec_graph.specs.Calls.{called, emitted, is_own}
 use Rattle.exec_graph.specs.Forests.{Label, Forest, Bare, Grow}
 use Rattle.exec_graph.specs.declared.graph.Place.{Place}
 use Rattle.exec_graph.specs.declared.graph.Node.{Node}
@@ -15,38 +18,9 @@ use Rattle.exec_graph.specs.declared.graph.Node.TheVariants.{Source, Flatten, Pd
 use Rattle.exec_graph.specs.declared.graph.Entry.{Entry}
 use Rattle.exec_graph.specs.declared.graph.Graph.{Graph}
 
--- the rows of each input
-abbrev pub Rows : Type 0
-Rows = ℕ → List Value
-
--- a collection: its bag, and the set of the traps behind it
-pub record Collection : Type 0 where
-  pub bag : List Value
-  pub traps : List Trap
-
--- ---- what a node gives
-
 -- what a step gives of a collection
-abbrev pub through : Label → Collection → Collection
-through l c = record {
-  bag = bag_of (flat_map (emitted l) c.bag);
-  traps = trap_set (c.traps ++ flat_map (trapped l) c.bag);
-}
-
--- collections together
-abbrev pub together : List Collection → Collection
-together cs = record {
-  bag = bag_of (flat_map (λ c. c.bag) cs);
-  traps = trap_set (flat_map (λ c. c.traps) cs);
-}
-
-abbrev pub unless_trapped : List Trap → List Value → List Value
-unless_trapped [] b = b
-unless_trapped (t ∷ ts) b = []
-
--- the groups of the pairs; none where a trap is behind them
-abbrev pub by_key : Collection → Collection
-by_key c = record { bag = unless_trapped c.traps (grouped c.bag); traps = c.traps }
+abbrev pub through : World → Label → Collection → Collection
+through w l c = passed l.origin l.at (called w l.does) c
 
 -- ---- the equation of a node
 
@@ -59,58 +33,59 @@ IsKept m n None u = Unit {0}
 IsKept m n (Some j) u = m (place n j) ≡ u
 
 -- m says of all kept outputs of a forest over v what their steps give
-abbrev pub FitsForest : (Place → Collection) → ℕ → Collection → Forest → Type 0
-FitsForest m n v Bare = Unit {0}
-FitsForest m n v (Grow l kids rest) =
-    IsKept m n l.out (through l v)
-    × FitsForest m n (through l v) kids × FitsForest m n v rest
+abbrev pub FitsForest : World → (Place → Collection) → ℕ → Collection → Forest → Type 0
+FitsForest w m n v Bare = Unit {0}
+FitsForest w m n v (Grow l kids rest) =
+    IsKept m n l.out (through w l v)
+    × FitsForest w m n (through w l v) kids × FitsForest w m n v rest
 
 -- m says of the outputs of node n what the node gives
-abbrev pub Holds : Rows → (Place → Collection) → ℕ → Node → Type 0
-Holds rows m n (Source r t) = m (place n 0) ≡ record { bag = bag_of (rows r); traps = [] }
-Holds rows m n (Flatten ty ins) = m (place n 0) ≡ together (map m ins)
-Holds rows m n (Pdo c f) = FitsForest m n (m c) f
-Holds rows m n (Gbk c o l k tb) = m (place n 0) ≡ by_key (m c)
+abbrev pub Holds : World → (Place → Collection) → ℕ → Node → Type 0
+Holds w m n (Source r) = m (place n 0) ≡ record { bag = bag_of (w.rows r); traps = [] }
+Holds w m n (Flatten ins) = m (place n 0) ≡ together (map m ins)
+Holds w m n (Pdo c f) = FitsForest w m n (m c) f
+Holds w m n (Gbk c o l k) = m (place n 0) ≡ by_key (m c)
 
 -- m meets the equation of each node
-abbrev pub Meets : Rows → List Entry → (Place → Collection) → Type 0
-Meets rows es m = AllByRecursion (λ e. Holds rows m e.number e.node) es
+abbrev pub Meets : World → List Entry → (Place → Collection) → Type 0
+Meets w es m = AllByRecursion (λ e. Holds w m e.number e.node) es
 
 -- ---- what is seen of a graph: script outputs, the bags of script nodes, and all traps
 
 -- what the steps of a forest add up to, by what a step gives where it is given a collection
-abbrev pub total : {Y : Type 0} → (Collection → Label → List Y) → Collection → Forest → List Y
-total p v Bare = []
-total p v (Grow l kids rest) =
-    p v l ++ (total p (through l v) kids ++ total p v rest)
+abbrev pub total : {Y : Type 0} → World → (Collection → Label → List Y) → Collection → Forest
+    → List Y
+total w p v Bare = []
+total w p v (Grow l kids rest) =
+    p v l ++ (total w p (through w l v) kids ++ total w p v rest)
 
 -- what a step adds to the bag of script node i
-abbrev pub step_own : ℕ → Collection → Label → List Value
-step_own i v l = cond (is_own i l) (flat_map (emitted l) v.bag) []
+abbrev pub step_own : World → ℕ → Collection → Label → List Value
+step_own w i v l = cond (is_own i l) (flat_map (emitted w l) v.bag) []
 
-abbrev pub step_traps : Collection → Label → List Trap
-step_traps v l = (through l v).traps
+abbrev pub step_traps : World → Collection → Label → List Trap
+step_traps w v l = (through w l v).traps
 
 -- what a node adds to the bag of script node i
-abbrev pub own : (Place → Collection) → ℕ → Node → List Value
-own m i (Source r t) = []
-own m i (Flatten ty ins) = []
-own m i (Pdo c f) = total (step_own i) (m c) f
-own m i (Gbk c o l k tb) = cond (l && (o == i)) (by_key (m c)).bag []
+abbrev pub own : World → (Place → Collection) → ℕ → Node → List Value
+own w m i (Source r) = []
+own w m i (Flatten ins) = []
+own w m i (Pdo c f) = total w (step_own w i) (m c) f
+own w m i (Gbk c o l k) = cond (l && (o == i)) (by_key (m c)).bag []
 
-abbrev pub traps : (Place → Collection) → Node → List Trap
-traps m (Source r t) = []
-traps m (Flatten ty ins) = (together (map m ins)).traps
-traps m (Pdo c f) = total (step_traps) (m c) f
-traps m (Gbk c o l k tb) = (m c).traps
+abbrev pub traps : World → (Place → Collection) → Node → List Trap
+traps w m (Source r) = []
+traps w m (Flatten ins) = (together (map m ins)).traps
+traps w m (Pdo c f) = total w (step_traps w) (m c) f
+traps w m (Gbk c o l k) = (m c).traps
 
 -- the bag of script node i
-abbrev pub own_bag : (Place → Collection) → List Entry → ℕ → List Value
-own_bag m es i = bag_of (flat_map (λ e. own m i e.node) es)
+abbrev pub own_bag : World → (Place → Collection) → List Entry → ℕ → List Value
+own_bag w m es i = bag_of (flat_map (λ e. own w m i e.node) es)
 
 -- the traps of all collections and steps
-abbrev pub all_traps : (Place → Collection) → List Entry → List Trap
-all_traps m es = trap_set (flat_map (λ e. traps m e.node) es)
+abbrev pub all_traps : World → (Place → Collection) → List Entry → List Trap
+all_traps w m es = trap_set (flat_map (λ e. traps w m e.node) es)
 
 -- ---- what is there
 
@@ -120,10 +95,10 @@ node_at (e ∷ es) n = cond (e.number == n) (Some e.node) (node_at es n)
 
 -- the collections that a node reads
 abbrev pub reads : Node → List Place
-reads (Source r t) = []
-reads (Flatten ty ins) = ins
+reads (Source r) = []
+reads (Flatten ins) = ins
 reads (Pdo c f) = c ∷ []
-reads (Gbk c o l k tb) = c ∷ []
+reads (Gbk c o l k) = c ∷ []
 
 abbrev pub is_out : Option ℕ → ℕ → Bool
 is_out None j = false
@@ -136,10 +111,10 @@ has_out j (Grow l kids rest) = is_out l.out j || (has_out j kids || has_out j re
 
 -- whether a node has the output j
 abbrev pub gives : Node → ℕ → Bool
-gives (Source r t) j = j == 0
-gives (Flatten ty ins) j = j == 0
+gives (Source r) j = j == 0
+gives (Flatten ins) j = j == 0
 gives (Pdo c f) j = has_out j f
-gives (Gbk c o l k tb) j = j == 0
+gives (Gbk c o l k) j = j == 0
 
 abbrev pub gives_at : Option Node → ℕ → Bool
 gives_at None j = false
@@ -162,10 +137,10 @@ OutsDiffer (Grow l kids rest) =
     × OutsDiffer kids × OutsDiffer rest
 
 abbrev pub HasOuts : Node → Type 0
-HasOuts (Source r t) = Unit {0}
-HasOuts (Flatten ty ins) = Unit {0}
+HasOuts (Source r) = Unit {0}
+HasOuts (Flatten ins) = Unit {0}
 HasOuts (Pdo c f) = OutsDiffer f
-HasOuts (Gbk c o l k tb) = Unit {0}
+HasOuts (Gbk c o l k) = Unit {0}
 
 -- each node reads nodes of lower rank alone, so that no path returns to its node
 abbrev pub IsRankedBy : (ℕ → ℕ) → List Entry → Type 0
@@ -190,49 +165,49 @@ first None o = o
 first (Some c) o = Some c
 
 -- what the step with the output j gives
-abbrev pub out_of : Collection → Forest → ℕ → Option Collection
-out_of v Bare j = None
-out_of v (Grow l kids rest) j =
-    cond (is_out l.out j) (Some (through l v))
-    (first (out_of (through l v) kids j) (out_of v rest j))
+abbrev pub out_of : World → Collection → Forest → ℕ → Option Collection
+out_of w v Bare j = None
+out_of w v (Grow l kids rest) j =
+    cond (is_out l.out j) (Some (through w l v))
+    (first (out_of w (through w l v) kids j) (out_of w v rest j))
 
 abbrev pub or_nothing : Option Collection → Collection
 or_nothing None = nothing
 or_nothing (Some c) = c
 
 -- what a node gives to its output j
-abbrev pub value : Rows → (Place → Collection) → Node → ℕ → Collection
-value rows m (Source r t) j = record { bag = bag_of (rows r); traps = [] }
-value rows m (Flatten ty ins) j = together (map m ins)
-value rows m (Pdo c f) j = or_nothing (out_of (m c) f j)
-value rows m (Gbk c o l k tb) j = by_key (m c)
+abbrev pub value : World → (Place → Collection) → Node → ℕ → Collection
+value w m (Source r) j = record { bag = bag_of (w.rows r); traps = [] }
+value w m (Flatten ins) j = together (map m ins)
+value w m (Pdo c f) j = or_nothing (out_of w (m c) f j)
+value w m (Gbk c o l k) j = by_key (m c)
 
-abbrev pub value_at : Rows → (Place → Collection) → Option Node → ℕ → Collection
-value_at rows m None j = nothing
-value_at rows m (Some x) j = value rows m x j
+abbrev pub value_at : World → (Place → Collection) → Option Node → ℕ → Collection
+value_at w m None j = nothing
+value_at w m (Some x) j = value w m x j
 
 -- what is known after some turns
-unfoldable pub solve : Rows → List Entry → ℕ → Place → Collection
-solve rows es zero c = nothing
-solve rows es (suc turns) c = value_at rows (solve rows es turns) (node_at es c.node) c.out
+unfoldable pub solve : World → List Entry → ℕ → Place → Collection
+solve w es zero c = nothing
+solve w es (suc turns) c = value_at w (solve w es turns) (node_at es c.node) c.out
 
 -- bag and traps of a collection: as many turns as there are nodes are enough
-unfoldable pub collection : Rows → Graph → Place → Collection
-collection rows g c = solve rows g.nodes (suc (length g.nodes)) c
+unfoldable pub collection : World → Graph → Place → Collection
+collection w g c = solve w g.nodes (suc (length g.nodes)) c
 
 -- ---- graphs that mean the same
 
 -- under m and k the same is seen of both graphs
-pub record Agrees (g h : Graph) (m k : Place → Collection) : Type 0 where
+pub record Agrees (w : World) (g h : Graph) (m k : Place → Collection) : Type 0 where
   pub outputs : map m g.outputs ≡ map k h.outputs
-  pub own : (i : ℕ) → own_bag m g.nodes i ≡ own_bag k h.nodes i
-  pub traps : all_traps m g.nodes ≡ all_traps k h.nodes
+  pub own : (i : ℕ) → own_bag w m g.nodes i ≡ own_bag w k h.nodes i
+  pub traps : all_traps w m g.nodes ≡ all_traps w k h.nodes
 
 -- whatever meets the equations of g, something that meets those of h agrees with it
 abbrev pub KeepsMeaning : Graph → Graph → Type 0
 KeepsMeaning g h =
-    (rows : Rows) (m : Place → Collection) → Meets rows g.nodes m →
-    (k : Place → Collection) × Meets rows h.nodes k × Agrees g h m k
+    (w : World) (m : Place → Collection) → Meets w g.nodes m →
+    (k : Place → Collection) × Meets w h.nodes k × Agrees w g h m k
 
 abbrev pub SameMeaning : Graph → Graph → Type 0
-SameMeaning g h = (rows : Rows) → Agrees g h (collection rows g) (collection rows h)
+SameMeaning g h = (w : World) → Agrees w g h (collection w g) (collection w h)

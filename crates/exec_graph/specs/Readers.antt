@@ -15,17 +15,17 @@ among c (d ∷ ds) = same_place c d || among c ds
 
 -- whether the node is a Pdo that reads c
 abbrev pub calls_on : Place → Node → Bool
-calls_on c (Source r t) = false
-calls_on c (Flatten ty ins) = false
+calls_on c (Source r) = false
+calls_on c (Flatten ins) = false
 calls_on c (Pdo d f) = same_place c d
-calls_on c (Gbk d o l k tb) = false
+calls_on c (Gbk d o l k) = false
 
 -- whether the node is a Gbk or a Flatten that reads c
 abbrev pub collects : Place → Node → Bool
-collects c (Source r t) = false
-collects c (Flatten ty ins) = among c ins
+collects c (Source r) = false
+collects c (Flatten ins) = among c ins
 collects c (Pdo d f) = false
-collects c (Gbk d o l k tb) = same_place c d
+collects c (Gbk d o l k) = same_place c d
 
 abbrev pub any_node : (Node → Bool) → List Entry → Bool
 any_node t [] = false

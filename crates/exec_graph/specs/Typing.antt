@@ -1,105 +1,123 @@
--- The types of collections: each node tells its own, so that a type is read off and never worked
--- out.
-use Rattle.std.specs.Prelude.{◌≡◌, ℕ, cond, ◌==◌, List, [], ◌∷◌, Option, Some, None}
-use Rattle.std.specs.List.{AllByRecursion}
+-- The types of collections: an assignment of a type to each fits a graph where each step takes what
+-- it is given, and each collection has the type of what is put into it.
+use Rattle.std.specs.Prelude.{◌≡◌, ℕ, List, [], ◌∷◌, Option, Some, None, Ok, Err, codes}
+use Rattle.std.specs.List.{AllByRecursion, AllZip, slice_get}
+use Rattle.flume_value.specs.declared.value.Value.{Value}
 use Rattle.flume_types.specs.declared.types.Ty.{Ty}
 use Rattle.flume_types.specs.declared.types.Ty.TheVariants as type
 use Rattle.flume_types.specs.Tables.{table_of}
-use Rattle.flume_types.specs.Typing.{AllHave}
-use Rattle.dofn_eval.specs.Typed.{BlockTyped}
+use Rattle.flume_types.specs.Typing.{AllHave, Has}
 use Rattle.keyed_steps.specs.Types.{TakesType, gives_type}
+use Rattle.combine_table.specs.declared.comb.Comb.{Comb}
+use Rattle.flume_collection.specs.Calls.{Called}
 use Rattle.exec_graph.specs.declared.step.Does.{Does}
 use Rattle.exec_graph.specs.declared.step.Does.TheVariants as does
-use Rattle.exec_graph.specs.declared.step.Table.{Table}
 use Rattle.exec_graph.specs.Forests.{Forest, Bare, Grow}
-use Rattle.exec_graph.specs.Meaning.{Rows, node_at, is_out, has_out}
+use Rattle.exec_graph.specs.World.{World}
+use Rattle.exec_graph.specs.Meaning.{place}
 use Rattle.exec_graph.specs.declared.graph.Place.{Place}
 use Rattle.exec_graph.specs.declared.graph.Node.{Node}
 use Rattle.exec_graph.specs.declared.graph.Node.TheVariants.{Source, Flatten, Pdo, Gbk}
-use Rattle.exec_graph.specs.declared.graph.Entry.{Entry}
+use Rattle.exec_graph.specs.declared.graph.Graph.{Graph}
 
--- the type of the members of a table, and of its groups
-abbrev pub pairs_of : Table → Ty
-pairs_of tb = table_of tb.key tb.value
+-- the types of sources and of functions: of what a function takes, and of each of its outputs
+pub record Signatures : Type 0 where
+  pub inputs : ℕ → Ty
+  pub takes : ℕ → Ty
+  pub gives : ℕ → List Ty
 
-abbrev pub groups_of : Table → Ty
-groups_of tb = table_of tb.key (type.List tb.value)
+-- ---- steps
 
--- what a step takes
-abbrev pub takes_of : Does → Ty
-takes_of (does.Call f) = f.takes
-takes_of (does.Combine c tb) = groups_of tb
+-- the pairs of a key and a list, and what the lists combine to
+pub record IsCombined (c : Comb) (t u : Ty) : Type 0 where
+  pub key : Ty
+  pub value : Ty
+  pub takes : t ≡ table_of key (type.List value)
+  pub suits : TakesType c value
+  pub gives : u ≡ table_of key (gives_type c value)
 
--- what it gives to the output at a place
-abbrev pub gives_of : Does → ℕ → Ty
-gives_of (does.Call f) n = f.gives
-gives_of (does.Combine c tb) n = table_of tb.key (gives_type c tb.value)
+-- the pairs of a key and a value that is one side of an either, and those with the either
+pub record IsTagged (side : Ty → Ty → Ty) (t u : Ty) : Type 0 where
+  pub key : Ty
+  pub left : Ty
+  pub right : Ty
+  pub takes : t ≡ table_of key (side left right)
+  pub gives : u ≡ table_of key (type.Either left right)
 
--- a combiner suits the members of the lists
-abbrev pub IsApt : Does → Type 0
-IsApt (does.Call f) = Unit {0}
-IsApt (does.Combine c tb) = TakesType c tb.value
+-- the record of lists of the lefts and the rights
+abbrev pub sides_type : Ty → Ty → Ty
+sides_type left right =
+    type.Rec
+    (record { name = codes "left"; ty = type.List left }
+    ∷ record { name = codes "right"; ty = type.List right } ∷ [])
 
--- each step takes what it is given
-abbrev pub IsTypedForest : Option Ty → Forest → Type 0
-IsTypedForest t Bare = Unit {0}
-IsTypedForest t (Grow l kids rest) =
-    (t ≡ Some (takes_of l.does)) × IsApt l.does
-    × IsTypedForest (Some (gives_of l.does l.at)) kids × IsTypedForest t rest
+pub record IsSplit (t u : Ty) : Type 0 where
+  pub key : Ty
+  pub left : Ty
+  pub right : Ty
+  pub takes : t ≡ table_of key (type.List (type.Either left right))
+  pub gives : u ≡ table_of key (sides_type left right)
 
--- the type of the output j
-abbrev pub out_type : Forest → ℕ → Option Ty
-out_type Bare j = None
-out_type (Grow l kids rest) j =
-    cond (is_out l.out j) (Some (gives_of l.does l.at))
-    (cond (has_out j kids) (out_type kids j) (out_type rest j))
+-- the pairs of a key and a list, and the lists' members
+pub record IsSpread (t u : Ty) : Type 0 where
+  pub key : Ty
+  pub takes : t ≡ table_of key (type.List u)
 
-abbrev pub at_zero : ℕ → Ty → Option Ty
-at_zero j t = cond (j == 0) (Some t) None
+-- a step takes members of t and gives members of u to its output of that place
+abbrev pub StepTyped : Signatures → Does → ℕ → Ty → Ty → Type 0
+StepTyped s (does.Call f) at t u = (t ≡ s.takes f) × (slice_get (s.gives f) at ≡ Some u)
+StepTyped s (does.Combine c) at t u = (at ≡ 0) × IsCombined c t u
+StepTyped s does.Pair at t u = (at ≡ 0) × (u ≡ table_of t type.Int)
+StepTyped s does.TagLeft at t u = (at ≡ 0) × IsTagged (λ left right. left) t u
+StepTyped s does.TagRight at t u = (at ≡ 0) × IsTagged (λ left right. right) t u
+StepTyped s does.Split at t u = (at ≡ 0) × IsSplit t u
+StepTyped s does.Solo at t u = (at ≡ 0) × (u ≡ table_of type.Int t)
+StepTyped s does.Spread at t u = (at ≡ 0) × IsSpread t u
 
-abbrev pub type_at : Option Node → ℕ → Option Ty
-type_at None j = None
-type_at (Some (Source r t)) j = at_zero j t
-type_at (Some (Flatten ty ins)) j = at_zero j ty
-type_at (Some (Pdo c f)) j = out_type f j
-type_at (Some (Gbk c o l k tb)) j = at_zero j (groups_of tb)
+-- ---- graphs
 
--- the type of a collection, where it is there
-abbrev pub type_of : List Entry → Place → Option Ty
-type_of es c = type_at (node_at es c.node) c.out
+-- where a step keeps an output, the output has the type
+abbrev pub OutTyped : (Place → Ty) → ℕ → Option ℕ → Ty → Type 0
+OutTyped types n None u = Unit {0}
+OutTyped types n (Some j) u = types (place n j) ≡ u
 
--- each collection that a node reads has the type that the node asks for
-abbrev pub IsTypedNode : List Entry → Node → Type 0
-IsTypedNode es (Source r t) = Unit {0}
-IsTypedNode es (Flatten ty ins) = AllByRecursion (λ c. type_of es c ≡ Some ty) ins
-IsTypedNode es (Pdo c f) = IsTypedForest (type_of es c) f
-IsTypedNode es (Gbk c o l k tb) = type_of es c ≡ Some (pairs_of tb)
+-- each step of a forest of node n over members of t takes what it is given
+abbrev pub ForestTyped : Signatures → (Place → Ty) → ℕ → Ty → Forest → Type 0
+ForestTyped s types n t Bare = Unit {0}
+ForestTyped s types n t (Grow l kids rest) =
+    ((u : Ty) × StepTyped s l.does l.at t u × OutTyped types n l.out u
+    × ForestTyped s types n u kids)
+    × ForestTyped s types n t rest
 
--- ---- what a run needs beside
+-- the pairs of a key and a value, and their groups
+pub record IsGrouped (t u : Ty) : Type 0 where
+  pub key : Ty
+  pub value : Ty
+  pub takes : t ≡ table_of key value
+  pub gives : u ≡ table_of key (type.List value)
 
--- the body of a function is well typed, as its type keeps
-abbrev pub IsCallable : Does → Type 0
-IsCallable (does.Call f) = BlockTyped (f.takes ∷ []) f.body f.gives
-IsCallable (does.Combine c tb) = Unit {0}
+-- the types of what node n reads and gives fit the node
+abbrev pub NodeTyped : Signatures → (Place → Ty) → ℕ → Node → Type 0
+NodeTyped s types n (Source r) = types (place n 0) ≡ s.inputs r
+NodeTyped s types n (Flatten ins) = AllByRecursion (λ c. types c ≡ types (place n 0)) ins
+NodeTyped s types n (Pdo c f) = ForestTyped s types n (types c) f
+NodeTyped s types n (Gbk c o l k) = IsGrouped (types c) (types (place n 0))
 
-abbrev pub AreCallable : Forest → Type 0
-AreCallable Bare = Unit {0}
-AreCallable (Grow l kids rest) = IsCallable l.does × AreCallable kids × AreCallable rest
+-- the assignment of types fits the graph
+abbrev pub IsTypedBy : Signatures → Graph → (Place → Ty) → Type 0
+IsTypedBy s g types = AllByRecursion (λ e. NodeTyped s types e.number e.node) g.nodes
 
-abbrev pub IsNodeCallable : Node → Type 0
-IsNodeCallable (Source r t) = Unit {0}
-IsNodeCallable (Flatten ty ins) = Unit {0}
-IsNodeCallable (Pdo c f) = AreCallable f
-IsNodeCallable (Gbk c o l k tb) = Unit {0}
+abbrev pub IsTyped : Signatures → Graph → Type 0
+IsTyped s g = (types : Place → Ty) × IsTypedBy s g types
 
--- the rows of a source have its type
-abbrev pub RowsHave : Rows → Node → Type 0
-RowsHave rows (Source r t) = AllHave t (rows r)
-RowsHave rows (Flatten ty ins) = Unit {0}
-RowsHave rows (Pdo c f) = Unit {0}
-RowsHave rows (Gbk c o l k tb) = Unit {0}
+-- ---- worlds
 
--- all functions are well typed, and so are all rows
-pub record IsTypedRun (rows : Rows) (es : List Entry) : Type 0 where
-  pub callable : AllByRecursion (λ e. IsNodeCallable e.node) es
-  pub rows_have : AllByRecursion (λ e. RowsHave rows e.node) es
+-- a call gives emissions of its outputs' types, or it traps
+abbrev pub Answers : List Ty → Called → Type 0
+Answers gives (Ok outputs) = AllZip AllHave gives outputs
+Answers gives (Err trap) = Unit {0}
+
+-- rows have their input's type, and functions answer by their signatures
+pub record IsWorldTyped (s : Signatures) (w : World) : Type 0 where
+  pub rows : (r : ℕ) → AllHave (s.inputs r) (w.rows r)
+  pub called : (f : ℕ) (x : Value) → Has (s.takes f) x → Answers (s.gives f) (w.called f x)

@@ -8,7 +8,6 @@ use Rattle.exec_graph.specs.declared.step.Does.TheVariants as does
 use Rattle.exec_graph.specs.Forests.{Forest, Bare, Grow, steps, numbered}
 use Rattle.exec_graph.specs.Meaning.{place, node_at, reads, has_out, IsThere, IsRankedBy}
 use Rattle.exec_graph.specs.Readers.{among, any_node, collects, readers, is_read}
-use Rattle.exec_graph.specs.Typing.{IsTypedNode}
 use Rattle.exec_graph.specs.declared.graph.Node.{Node}
 use Rattle.exec_graph.specs.declared.graph.Node.TheVariants.{Source, Flatten, Pdo, Gbk}
 use Rattle.exec_graph.specs.declared.graph.Entry.{Entry}
@@ -47,8 +46,8 @@ comb_rank by.Any = 5
 comb_rank (by.Top n) = 6 + n
 
 abbrev pub combines_by : Comb → Does → Bool
-combines_by k (does.Call f) = false
-combines_by k (does.Combine c tb) = comb_rank c == comb_rank k
+combines_by k (does.Combine c) = comb_rank c == comb_rank k
+combines_by k _ = false
 
 -- whether the only root is a step of the combiner
 abbrev pub one_root : Comb → Forest → Bool
@@ -58,10 +57,10 @@ one_root k (Grow l kids (Grow m others rest)) = false
 
 abbrev pub has_root : Comb → Option Node → Bool
 has_root k None = false
-has_root k (Some (Source r t)) = false
-has_root k (Some (Flatten ty ins)) = false
+has_root k (Some (Source r)) = false
+has_root k (Some (Flatten ins)) = false
 has_root k (Some (Pdo c f)) = one_root k f
-has_root k (Some (Gbk c o l i tb)) = false
+has_root k (Some (Gbk c o l i)) = false
 
 -- a lifted Gbk is no script output and is read by one Pdo alone, whose only root is a step of its
 -- combiner
@@ -77,18 +76,18 @@ abbrev pub most : ℕ
 most = 4096
 
 abbrev pub IsNodeOk : Graph → ℕ → Node → Type 0
-IsNodeOk g n (Source r t) = Unit {0}
-IsNodeOk g n (Flatten ty ins) = (0 < length ins) × (length ins ≤ most)
+IsNodeOk g n (Source r) = Unit {0}
+IsNodeOk g n (Flatten ins) = (0 < length ins) × (length ins ≤ most)
 IsNodeOk g n (Pdo c f) = IsForestOk g n f
-IsNodeOk g n (Gbk c o l None tb) = Unit {0}
-IsNodeOk g n (Gbk c o l (Some k) tb) = IsLiftedOk g n k
+IsNodeOk g n (Gbk c o l None) = Unit {0}
+IsNodeOk g n (Gbk c o l (Some k)) = IsLiftedOk g n k
 
 -- a Pdo counts once for each step
 abbrev pub size : Node → ℕ
-size (Source r t) = 1
-size (Flatten ty ins) = 1
+size (Source r) = 1
+size (Flatten ins) = 1
 size (Pdo c f) = steps f
-size (Gbk c o l k tb) = 1
+size (Gbk c o l k) = 1
 
 abbrev pub total_size : List Entry → ℕ
 total_size [] = 0
@@ -98,17 +97,16 @@ pub record IsGraphOk (g : Graph) : Type 0 where
   pub founded : IsFounded g
   pub nodes : AllByRecursion (λ e. IsNodeOk g e.number e.node) g.nodes
   pub few : total_size g.nodes ≤ most
-  pub typed : AllByRecursion (λ e. IsTypedNode g.nodes e.node) g.nodes
 
 -- ---- marks
 
 abbrev pub is_lifted : Option Node → Bool
 is_lifted None = false
-is_lifted (Some (Source r t)) = false
-is_lifted (Some (Flatten ty ins)) = false
+is_lifted (Some (Source r)) = false
+is_lifted (Some (Flatten ins)) = false
 is_lifted (Some (Pdo c f)) = false
-is_lifted (Some (Gbk c o l None tb)) = false
-is_lifted (Some (Gbk c o l (Some k) tb)) = true
+is_lifted (Some (Gbk c o l None)) = false
+is_lifted (Some (Gbk c o l (Some k))) = true
 
 -- marked collections are there, and none is of a lifted Gbk
 pub record IsBlockedOk (b : Blocked) : Type 0 where

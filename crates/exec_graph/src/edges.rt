@@ -52,10 +52,10 @@ fn node_edges(alloc: Global, numbers: &[u32], node: &Node) -> Result<Pile<usize>
     ensures { IfOk result (λ js. js ≡ edges_of numbers.now node.now) }
 {
     match node {
-        Node::Source(_, _) => Ok(Pile::new(alloc)),
-        Node::Flatten(_, inputs) => edges_in(alloc, numbers, inputs.as_slice()),
+        Node::Source(_) => Ok(Pile::new(alloc)),
+        Node::Flatten(inputs) => edges_in(alloc, numbers, inputs.as_slice()),
         Node::Pdo(c, _) => one_edge(alloc, numbers, *c),
-        Node::Gbk(c, _, _, _, _) => one_edge(alloc, numbers, *c),
+        Node::Gbk(c, _, _, _) => one_edge(alloc, numbers, *c),
     }
 }
 

@@ -78,10 +78,10 @@ fn are_reads_given(nodes: &[Entry], given: &HashSet<u64>, node: &Node) -> bool
     ensures { result ≡ reads_given nodes.now node.now }
 {
     match node {
-        Node::Source(_, _) => true,
-        Node::Flatten(_, inputs) => are_given(nodes, given, inputs.as_slice()),
+        Node::Source(_) => true,
+        Node::Flatten(inputs) => are_given(nodes, given, inputs.as_slice()),
         Node::Pdo(c, _) => is_place_given(nodes, given, *c),
-        Node::Gbk(c, _, _, _, _) => is_place_given(nodes, given, *c),
+        Node::Gbk(c, _, _, _) => is_place_given(nodes, given, *c),
     }
 }
 

@@ -1,6 +1,5 @@
-use crate::step::{Roots, Table};
+use crate::step::Roots;
 use combine_table::Comb;
-use flume_types::Ty;
 use flume_value::Pile;
 
 /// A collection: an output of a node.
@@ -13,15 +12,15 @@ pub struct Place {
 /// An operation.
 #[derive(Drop)]
 pub enum Node {
-    /// The rows of an input, which have the type.
-    Source(u32, Ty),
-    /// The collections together, whose elements have the type.
-    Flatten(Ty, Pile<Place>),
+    /// The rows of the input of that number.
+    Source(u32),
+    /// The collections together.
+    Flatten(Pile<Place>),
     /// The steps on each element.
     Pdo(Place, Roots),
-    /// The groups of the pairs of the table: the script node, whether they are its own bag, and
-    /// the combiner that it is lifted with.
-    Gbk(Place, u32, bool, Option<Comb>, Table),
+    /// The groups of the pairs: the script node, whether they are its own bag, and the combiner
+    /// that it is lifted with.
+    Gbk(Place, u32, bool, Option<Comb>),
 }
 
 /// An operation under its number.

@@ -2,18 +2,25 @@
 //!
 //! A `Graph` has four kinds of nodes: a source of rows, collections together (Flatten), a forest
 //! of steps on each element of a collection (Pdo), and the groups of a collection of pairs (Gbk).
-//! One type serves before and after every rewrite.
+//! One type serves before and after every rewrite. It names inputs and functions by their numbers,
+//! and holds neither rows, bodies nor types.
 //!
-//! A step calls a function or combines the list of a pair (`step_law`).
-//! `Meets` (specs/Meaning.antt) says what a graph means: an assignment of a bag and a set of traps
-//! to each collection that meets the equation of every node. A well-formed graph (`IsGraphOk`,
-//! specs/Wellformed.antt) has just one (`meaning_law`), which `collection` computes, and each
-//! member of a collection has the collection's type (`typed_law`).
+//! What these are is a `World` (specs/World.antt): the rows of each source, and what each function
+//! answers. A step calls a function, combines the list of a pair, or is a derived function
+//! (`step_law`). `Meets` (specs/Meaning.antt) says what a graph means in a world: an assignment of
+//! a bag and a set of traps to each collection that meets the equation of every node. A well-formed
+//! graph (`IsGraphOk`, specs/Wellformed.antt) has just one (`meaning_law`), which `collection`
+//! computes.
+//!
+//! Types are an assignment to collections that fits each node, by the signatures of inputs and
+//! functions (`IsTyped`, specs/Typing.antt). Each member of a collection then has its type, where
+//! the world is typed too (`typed_law`).
 //!
 //! `is_founded` decides what the meaning rests on: all that is read is there, and no path returns
 //! to its node.
 #![tactic(auto)]
 
+mod copies;
 mod edges;
 mod founded;
 mod given;
@@ -24,7 +31,8 @@ mod places;
 mod spots;
 mod step;
 
+pub use copies::copy_steps;
 pub use founded::is_founded;
 pub use graph::{Blocked, Entry, Graph, Node, Place};
 pub use laws::{meaning_law, step_law, typed_law};
-pub use step::{Does, Output, Roots, Step, Table};
+pub use step::{Does, Output, Roots, Step};

@@ -32,7 +32,8 @@ not_false false e = cc
 abbrev pub at_most : {X : Type 0} → (X → X → Ordering) → X → X → Bool
 at_most cmp x y = not (is_lt (cmp y x))
 
-pub tied : {X : Type 0} (cmp : X → X → Ordering) → IsTotalOrder cmp → IsAntisymmetric cmp → (x y : X)
+pub tied : {X : Type 0} (cmp : X → X → Ordering) → IsTotalOrder cmp → IsAntisymmetric cmp →
+    (x y : X)
     → is_lt (cmp y x) ≡ false → is_lt (cmp x y) ≡ false → x ≡ y
 tied cmp o a x y g h =
     elim (cmp x y) as (λ r. cmp x y ≡ r → is_lt r ≡ false → x ≡ y) [

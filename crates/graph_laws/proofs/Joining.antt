@@ -5,11 +5,14 @@ use Rattle.std.proofs.lemmas.List.Folds.{flat_map-map}
 use Rattle.std.specs.List.{flat_map, AllByRecursion}
 use Rattle.flume_value.specs.Bag.{put}
 use Rattle.flume_value.specs.declared.value.Value.{Value}
-use Rattle.exec_graph.specs.Sets.{put_new, gather}
-use Rattle.exec_graph.specs.Meaning.{Rows, Collection, together, by_key, through, place, IsKept, FitsForest, total, step_own, step_traps, Holds, Meets, own, traps, node_at, reads, is_out, has_out, gives_at, IsThere, IsSound, KeepsMeaning}
-use Rattle.exec_graph.specs.Traps.{trap_le, Trap}
-use Rattle.exec_graph.proofs.Bagging.{Swaps, gather-append, gather-gather}
-use Rattle.exec_graph.proofs.Orders.{bags, sets, one_bag}
+use Rattle.flume_collection.specs.Sets.{put_new, gather}
+use Rattle.exec_graph.specs.Meaning.{through, place, IsKept, FitsForest, total, step_own, step_traps, Holds, Meets, own, traps, node_at, reads, is_out, has_out, gives_at, IsThere, IsSound, KeepsMeaning}
+use Rattle.flume_collection.specs.Collection.{Collection, together, by_key}
+use Rattle.exec_graph.specs.World.{World}
+use Rattle.flume_collection.specs.declared.trap.Trap.{Trap}
+use Rattle.flume_collection.specs.Traps.{trap_le}
+use Rattle.flume_collection.proofs.Bagging.{Swaps, gather-append, gather-gather}
+use Rattle.flume_collection.proofs.Orders.{bags, sets, one_bag}
 use Rattle.exec_graph.specs.Forests.{Label, Forest, Bare, Grow}
 use Rattle.graph_laws.specs.Joining.{beside, grafted, HasOne, set_node, without, moved, reread, reread_entry, joined, CanJoin, as_kid, as_sibling}
 use Rattle.exec_graph.proofs.Entries.{entry, all_map, all_found, flat_map_alike}
@@ -30,45 +33,47 @@ kept_moved m k n i None u h a = tt
 kept_moved m k n i (Some j) u h a = h j (eq-eqb j j refl) ∙ a
 
 -- m and k may differ elsewhere than at the outputs of the forest
-pub fits_moved : (m k : Place → Collection) (n i : ℕ) (v : Collection) (f : Forest)
-    → ((j : ℕ) → has_out j f ≡ true → k (place i j) ≡ m (place n j)) → FitsForest m n v f
-    → FitsForest k i v f
-fits_moved m k n i v Bare h a = tt
-fits_moved m k n i v (Grow l kids rest) h a = (
-  kept_moved m k n i l.out (through l v) (λ j p. h j
+pub fits_moved : (w : World) (m k : Place → Collection) (n i : ℕ) (v : Collection) (f : Forest)
+    → ((j : ℕ) → has_out j f ≡ true → k (place i j) ≡ m (place n j)) → FitsForest w m n v f
+    → FitsForest w k i v f
+fits_moved w m k n i v Bare h a = tt
+fits_moved w m k n i v (Grow l kids rest) h a = (
+  kept_moved m k n i l.out (through w l v) (λ j p. h j
       (or_left (is_out l.out j) (has_out j kids || has_out j rest) p)) a.0,
-  fits_moved m k n i (through l v) kids (λ j p. h j
+  fits_moved w m k n i (through w l v) kids (λ j p. h j
       (or_right (is_out l.out j) (has_out j kids || has_out j rest)
       (or_left (has_out j kids) (has_out j rest) p))) a.1,
-  fits_moved m k n i v rest (λ j p. h j (or_right (is_out l.out j)
+  fits_moved w m k n i v rest (λ j p. h j (or_right (is_out l.out j)
       (has_out j kids || has_out j rest) (or_right (has_out j kids) (has_out j rest) p))) a.2,
 )
 
-pub fits_beside : (m : Place → Collection) (n : ℕ) (v : Collection) (f g : Forest)
-    → FitsForest m n v f → FitsForest m n v g → FitsForest m n v (beside f g)
-fits_beside m n v Bare g a b = b
-fits_beside m n v (Grow l kids rest) g a b = (a.0, a.1, fits_beside m n v rest g a.2 b)
+pub fits_beside : (w : World) (m : Place → Collection) (n : ℕ) (v : Collection) (f g : Forest)
+    → FitsForest w m n v f → FitsForest w m n v g → FitsForest w m n v (beside f g)
+fits_beside w m n v Bare g a b = b
+fits_beside w m n v (Grow l kids rest) g a b = (a.0, a.1, fits_beside w m n v rest g a.2 b)
 
-fits_graft : (m : Place → Collection) (n j : ℕ) (v : Collection) (g : Forest) (l : Label)
-    (kids rest : Forest) (b : Bool) → is_out l.out j ≡ b → FitsForest m n v (Grow l kids rest)
-    → FitsForest m n (m (place n j)) g → FitsForest m n (through l v) (grafted j g kids)
-    → FitsForest m n v (grafted j g rest) → FitsForest m n v
+fits_graft : (w : World) (m : Place → Collection) (n j : ℕ) (v : Collection) (g : Forest)
+    (l : Label)
+    (kids rest : Forest) (b : Bool) → is_out l.out j ≡ b → FitsForest w m n v (Grow l kids rest)
+    → FitsForest w m n (m (place n j)) g → FitsForest w m n (through w l v) (grafted j g kids)
+    → FitsForest w m n v (grafted j g rest) → FitsForest w m n v
     (cond b (Grow l (beside kids g) rest) (Grow l (grafted j g kids) (grafted j g rest)))
-fits_graft m n j v g l kids rest true h a b c d = (
+fits_graft w m n j v g l kids rest true h a b c d = (
   a.0,
-  fits_beside m n (through l v) kids g a.1
-      (subst (λ (u : Collection). FitsForest m n u g) (kept_value m n j l.out (through l v) h a.0)
+  fits_beside w m n (through w l v) kids g a.1
+      (subst (λ (u : Collection). FitsForest w m n u g) (kept_value m n j l.out
+          (through w l v) h a.0)
       b),
   a.2,
 )
-fits_graft m n j v g l kids rest false h a b c d = (a.0, c, d)
+fits_graft w m n j v g l kids rest false h a b c d = (a.0, c, d)
 
-pub fits_grafted : (m : Place → Collection) (n j : ℕ) (v : Collection) (f g : Forest)
-    → FitsForest m n v f → FitsForest m n (m (place n j)) g → FitsForest m n v (grafted j g f)
-fits_grafted m n j v Bare g a b = a
-fits_grafted m n j v (Grow l kids rest) g a b =
-    fits_graft m n j v g l kids rest (is_out l.out j) refl a b
-    (fits_grafted m n j (through l v) kids g a.1 b) (fits_grafted m n j v rest g a.2 b)
+pub fits_grafted : (w : World) (m : Place → Collection) (n j : ℕ) (v : Collection) (f g : Forest)
+    → FitsForest w m n v f → FitsForest w m n (m (place n j)) g → FitsForest w m n v (grafted j g f)
+fits_grafted w m n j v Bare g a b = a
+fits_grafted w m n j v (Grow l kids rest) g a b =
+    fits_graft w m n j v g l kids rest (is_out l.out j) refl a b
+    (fits_grafted w m n j (through w l v) kids g a.1 b) (fits_grafted w m n j v rest g a.2 b)
 
 pub lacks_grafted : (j : ℕ) (f g : Forest) → has_out j f ≡ false → grafted j g f ≡ f
 lacks_grafted j Bare g h = refl
@@ -80,11 +85,12 @@ lacks_grafted j (Grow l kids rest) g h =
     let b : grafted j g rest ≡ rest = lacks_grafted j rest g q.1 in
     rw e (ap (λ (x : Forest). Grow l x (grafted j g rest)) a ∙ ap (λ (x : Forest). Grow l kids x) b)
 
-pub total-beside : {Y : Type 0} (p : Collection → Label → List Y) (v : Collection) (f g : Forest)
-    → total p v (beside f g) ≡ total p v f ++ total p v g
-total-beside p v Bare g = refl
-total-beside p v (Grow l kids rest) g =
-    ap (λ x. p v l ++ (total p (through l v) kids ++ x)) (total-beside p v rest g)
+pub total-beside : (w : World) {Y : Type 0} (p : Collection → Label → List Y) (v : Collection)
+    (f g : Forest)
+    → total w p v (beside f g) ≡ total w p v f ++ total w p v g
+total-beside w p v Bare g = refl
+total-beside w p v (Grow l kids rest) g =
+    ap (λ x. p v l ++ (total w p (through w l v) kids ++ x)) (total-beside w p v rest g)
     ∙ simp append_assoc
 
 three : {Y B : Type 0} (q : Y → B → B) (x y z : List Y) (b : B)
@@ -108,40 +114,44 @@ more_behind q s x y z z' more b h =
     ∙ gather-gather q s x more (gather q y (gather q z b))
     ∙ ap (gather q more) (sym (three q x y z b))
 
-pub gather_grafted : {Y B : Type 0} (q : Y → B → B) → Swaps q
+pub gather_grafted : (w : World) {Y B : Type 0} (q : Y → B → B) → Swaps q
     → (p : Collection → Label → List Y) (m : Place → Collection) (n j : ℕ) (v : Collection)
-    (f g : Forest) → FitsForest m n v f → HasOne j f → (b : B)
-    → gather q (total p v (grafted j g f)) b ≡ gather q (total p (m (place n j)) g)
-    (gather q (total p v f) b)
-gather_grafted q s p m n j v Bare g a h b = absurd h
-gather_grafted {Y = Y} q s p m n j v (Grow l kids rest) g a (inl h) b =
+    (f g : Forest) → FitsForest w m n v f → HasOne j f → (b : B)
+    → gather q (total w p v (grafted j g f)) b ≡ gather q (total w p (m (place n j)) g)
+    (gather q (total w p v f) b)
+gather_grafted w q s p m n j v Bare g a h b = absurd h
+gather_grafted w {Y = Y} q s p m n j v (Grow l kids rest) g a (inl h) b =
     let e : is_out l.out j ≡ true = h.0 in
-    let u : Collection = through l v in
-    let more : List Y = total p (m (place n j)) g in
-    let k : List Y = total p u kids in
-    rw e (more_between q s (p v l) k (total p u (beside kids g)) (total p v rest) more b (λ c.
-    ap (λ x. gather q x c) (total-beside p u kids g) ∙ gather-append q k (total p u g) c
-    ∙ ap (λ (x : Collection). gather q k (gather q (total p x g) c))
+    let u : Collection = through w l v in
+    let more : List Y = total w p (m (place n j)) g in
+    let k : List Y = total w p u kids in
+    rw e (more_between q s (p v l) k (total w p u (beside kids g)) (total w p v rest) more b (λ c.
+    ap (λ x. gather q x c) (total-beside w p u kids g) ∙ gather-append q k (total w p u g) c
+    ∙ ap (λ (x : Collection). gather q k (gather q (total w p x g) c))
     (sym (kept_value m n j l.out u e a.0))
     ∙ gather-gather q s k more c))
-gather_grafted {Y = Y} q s p m n j v (Grow l kids rest) g a (inr (inl h)) b =
+gather_grafted w {Y = Y} q s p m n j v (Grow l kids rest) g a (inr (inl h)) b =
     let e : is_out l.out j ≡ false = h.0 in
-    let u : Collection = through l v in
-    let more : List Y = total p (m (place n j)) g in
+    let u : Collection = through w l v in
+    let more : List Y = total w p (m (place n j)) g in
     let same : grafted j g rest ≡ rest = lacks_grafted j rest g h.2 in
-    rw e (ap (λ (x : Forest). gather q (p v l ++ (total p u (grafted j g kids) ++ total p v x)) b)
+    rw e (ap (λ (x : Forest). gather q (p v l ++ (total w p u
+        (grafted j g kids) ++ total w p v x)) b)
     same
-    ∙ more_between q s (p v l) (total p u kids) (total p u (grafted j g kids)) (total p v rest) more
-    b (λ c. gather_grafted q s p m n j u kids g a.1 h.1 c))
-gather_grafted {Y = Y} q s p m n j v (Grow l kids rest) g a (inr (inr h)) b =
+    ∙ more_between q s (p v l) (total w p u kids) (total w p u (grafted j g kids))
+        (total w p v rest) more
+    b (λ c. gather_grafted w q s p m n j u kids g a.1 h.1 c))
+gather_grafted w {Y = Y} q s p m n j v (Grow l kids rest) g a (inr (inr h)) b =
     let e : is_out l.out j ≡ false = h.0 in
-    let u : Collection = through l v in
-    let more : List Y = total p (m (place n j)) g in
+    let u : Collection = through w l v in
+    let more : List Y = total w p (m (place n j)) g in
     let same : grafted j g kids ≡ kids = lacks_grafted j kids g h.1 in
-    rw e (ap (λ (x : Forest). gather q (p v l ++ (total p u x ++ total p v (grafted j g rest))) b)
+    rw e (ap (λ (x : Forest). gather q (p v l ++ (total w p u x ++ total w p v
+        (grafted j g rest))) b)
     same
-    ∙ more_behind q s (p v l) (total p u kids) (total p v rest) (total p v (grafted j g rest)) more
-    b (gather_grafted q s p m n j v rest g a.2 h.2 b))
+    ∙ more_behind q s (p v l) (total w p u kids) (total w p v rest) (total w p v
+        (grafted j g rest)) more
+    b (gather_grafted w q s p m n j v rest g a.2 h.2 b))
 
 -- ---- the values after the join
 abbrev pub joined_values : (Place → Collection) → ℕ → ℕ → Forest → Place → Collection
@@ -191,30 +201,30 @@ pub map_reread : (k m : Place → Collection) (r : Place → Place) (cs : List P
 map_reread k m r [] a = refl
 map_reread k m r (c ∷ cs) a = let i = map_reread k m r cs a.1 in let j : k (r c) ≡ m c = a.0 in cc
 
-pub holds_reread : (w : Rows) (k m : Place → Collection) (r : Place → Place) (n : ℕ) (x : Node)
+pub holds_reread : (w : World) (k m : Place → Collection) (r : Place → Place) (n : ℕ) (x : Node)
     → AllByRecursion (λ c. k (r c) ≡ m c) (reads x) → ((j : ℕ) → k (place n j) ≡ m (place n j))
     → Holds w m n x → Holds w k n (reread r x)
-holds_reread w k m r n (Source s t) a o h = o 0 ∙ h
-holds_reread w k m r n (Flatten ty ins) a o h = o 0 ∙ h ∙ ap together (sym (map_reread k m r ins a))
-holds_reread w k m r n (Pdo c f) a o h = subst (λ (v : Collection). FitsForest k n v f) (sym a.0)
-    (fits_moved m k n n (m c) f (λ j _. o j) h)
-holds_reread w k m r n (Gbk c i l e tb) a o h = o 0 ∙ h ∙ ap (by_key) (sym a.0)
+holds_reread w k m r n (Source s) a o h = o 0 ∙ h
+holds_reread w k m r n (Flatten ins) a o h = o 0 ∙ h ∙ ap together (sym (map_reread k m r ins a))
+holds_reread w k m r n (Pdo c f) a o h = subst (λ (v : Collection). FitsForest w k n v f) (sym a.0)
+    (fits_moved w m k n n (m c) f (λ j _. o j) h)
+holds_reread w k m r n (Gbk c i l e) a o h = o 0 ∙ h ∙ ap (by_key) (sym a.0)
 
-pub own-reread : (k m : Place → Collection) (r : Place → Place) (i : ℕ) (x : Node)
-    → AllByRecursion (λ c. k (r c) ≡ m c) (reads x) → own k i (reread r x) ≡ own m i x
-own-reread k m r i (Source s t) a = refl
-own-reread k m r i (Flatten ty ins) a = refl
-own-reread k m r i (Pdo c f) a = ap (λ (v : Collection). total (step_own i) v f) a.0
-own-reread k m r i (Gbk c o l e tb) a = ap (λ (v : Collection). cond (l && eqb o i) (by_key v).bag
+pub own-reread : (w : World) (k m : Place → Collection) (r : Place → Place) (i : ℕ) (x : Node)
+    → AllByRecursion (λ c. k (r c) ≡ m c) (reads x) → own w k i (reread r x) ≡ own w m i x
+own-reread w k m r i (Source s) a = refl
+own-reread w k m r i (Flatten ins) a = refl
+own-reread w k m r i (Pdo c f) a = ap (λ (v : Collection). total w (step_own w i) v f) a.0
+own-reread w k m r i (Gbk c o l e) a = ap (λ (v : Collection). cond (l && eqb o i) (by_key v).bag
     []) a.0
 
-pub traps-reread : (k m : Place → Collection) (r : Place → Place) (x : Node)
-    → AllByRecursion (λ c. k (r c) ≡ m c) (reads x) → traps k (reread r x) ≡ traps m x
-traps-reread k m r (Source s t) a = refl
-traps-reread k m r (Flatten ty ins) a = ap (λ (cs : List Collection). (together cs).traps)
+pub traps-reread : (w : World) (k m : Place → Collection) (r : Place → Place) (x : Node)
+    → AllByRecursion (λ c. k (r c) ≡ m c) (reads x) → traps w k (reread r x) ≡ traps w m x
+traps-reread w k m r (Source s) a = refl
+traps-reread w k m r (Flatten ins) a = ap (λ (cs : List Collection). (together cs).traps)
     (map_reread k m r ins a)
-traps-reread k m r (Pdo c f) a = ap (λ (v : Collection). total (step_traps) v f) a.0
-traps-reread k m r (Gbk c o l e tb) a = ap (λ (v : Collection). v.traps) a.0
+traps-reread w k m r (Pdo c f) a = ap (λ (v : Collection). total w (step_traps w) v f) a.0
+traps-reread w k m r (Gbk c o l e) a = ap (λ (v : Collection). v.traps) a.0
 
 -- the parts of the nodes of a joined graph
 sum_joined : {Y B : Type 0} (s : Y → B → B) → Swaps s
@@ -234,25 +244,26 @@ sum_joined s sw F G es p q x y z r b at_p at_q apart same join =
     ∙ flat_map_alike (λ e. G (reread_entry r e)) F (set_node (without es q) p z) same))
 
 -- what a join has to show: the new forest holds, and adds up to what both did
-pub record Joins (m : Place → Collection) (p q : ℕ) (c d : Place) (f h new : Forest) : Type 0 where
-  pub fits : FitsForest (joined_values m p q h) p (m c) f
-      → FitsForest (joined_values m p q h) p (m d) h
-      → FitsForest (joined_values m p q h) p (m c) new
-  pub own : (i : ℕ) (b : List Value) → gather put (total (step_own i) (m c) new) b
-      ≡ gather put (total (step_own i) (m d) h) (gather put (total (step_own i) (m c) f) b)
-  pub traps : (b : List Trap) → gather (put_new trap_le) (total (step_traps) (m c) new) b
-      ≡ gather (put_new trap_le) (total (step_traps) (m d) h)
-      (gather (put_new trap_le) (total (step_traps) (m c) f) b)
+pub record Joins (w : World) (m : Place → Collection) (p q : ℕ) (c d : Place)
+    (f h new : Forest) : Type 0 where
+  pub fits : FitsForest w (joined_values m p q h) p (m c) f
+      → FitsForest w (joined_values m p q h) p (m d) h
+      → FitsForest w (joined_values m p q h) p (m c) new
+  pub own : (i : ℕ) (b : List Value) → gather put (total w (step_own w i) (m c) new) b
+      ≡ gather put (total w (step_own w i) (m d) h) (gather put (total w (step_own w i) (m c) f) b)
+  pub traps : (b : List Trap) → gather (put_new trap_le) (total w (step_traps w) (m c) new) b
+      ≡ gather (put_new trap_le) (total w (step_traps w) (m d) h)
+      (gather (put_new trap_le) (total w (step_traps w) (m c) f) b)
 
 pub KeepsMeaning-joined : (g : Graph) (p q : ℕ) (c d : Place) (f h new : Forest) → IsSound g
-    → CanJoin g p q c d f h → ((w : Rows) (m : Place → Collection) → Meets w g.nodes m
-    → Joins m p q c d f h new) → KeepsMeaning g (joined g p q c new)
+    → CanJoin g p q c d f h → ((w : World) (m : Place → Collection) → Meets w g.nodes m
+    → Joins w m p q c d f h new) → KeepsMeaning g (joined g p q c new)
 KeepsMeaning-joined g p q c d f h new ok can joins w m meets =
     let k : Place → Collection = joined_values m p q h in
     let r : Place → Place = moved p q in
     let z : Node = Pdo c new in
     let set : List Entry = set_node (without g.nodes q) p z in
-    let j : Joins m p q c d f h new = joins w m meets in
+    let j : Joins w m p q c d f h new = joins w m meets in
     let same : (cs : List Place) → AllByRecursion (IsThere g.nodes) cs
     → AllByRecursion (λ x. k (r x) ≡ m x) cs =
     λ cs a. Each-weaker (IsThere g.nodes) (λ x. k (r x) ≡ m x)
@@ -264,13 +275,14 @@ KeepsMeaning-joined g p q c d f h new ok can joins w m meets =
     let reads_p : R (entry p (Pdo c f)) = all_found R g.nodes p (Pdo c f) can.keeper reads_all in
     let reads_left : AllByRecursion R (without g.nodes q) = all_without R g.nodes q reads_all in
     let reads_set : AllByRecursion R set = all_set R (without g.nodes q) p z reads_left reads_p in
-    let at_p : FitsForest m p (m c) f = all_found (λ e. Holds w m e.number e.node) g.nodes p
+    let at_p : FitsForest w m p (m c) f = all_found (λ e. Holds w m e.number e.node) g.nodes p
     (Pdo c f) can.keeper meets in
-    let at_q : FitsForest m q (m d) h = all_found (λ e. Holds w m e.number e.node) g.nodes q
+    let at_q : FitsForest w m q (m d) h = all_found (λ e. Holds w m e.number e.node) g.nodes q
     (Pdo d h) can.other meets in
-    let k_p : FitsForest k p (m c) f = fits_moved m k p p (m c) f
+    let k_p : FitsForest w k p (m c) f = fits_moved w m k p p (m c) f
     (λ i e. own_stays g m p q c d f h can i e) at_p in
-    let k_q : FitsForest k p (m d) h = fits_moved m k q p (m d) h (λ i e. taken_over m p q i h e)
+    let k_q : FitsForest w k p (m d) h = fits_moved w m k q p (m d) h
+        (λ i e. taken_over m p q i h e)
     at_q in
     let H : Entry → Type 0 = λ e. Holds w k e.number (reread r e.node) in
     let others : AllByRecursion (λ e. (e.number ≡ p → ⊥) → H e) (without g.nodes q) =
@@ -279,7 +291,7 @@ KeepsMeaning-joined g p q c d f h new ok can joins w m meets =
     (λ i. elsewhere m p q h (place e.number i) (eqb e.number p) refl (λ i. absurd (apart i))) a)
     (without g.nodes q) (all_without (λ e. Holds w m e.number e.node) g.nodes q meets)
     reads_left in
-    let here : H (entry p z) = subst (λ (v : Collection). FitsForest k p v new) (sym reads_p.0)
+    let here : H (entry p z) = subst (λ (v : Collection). FitsForest w k p v new) (sym reads_p.0)
     (j.fits k_p k_q) in (
       k,
       all_map (reread_entry r) H (λ e. Holds w k e.number e.node) (λ e a. a) set
@@ -287,17 +299,17 @@ KeepsMeaning-joined g p q c d f h new ok can joins w m meets =
           here),
       record {
         outputs = sym (map_reread k m r g.outputs (same g.outputs ok.told));
-        own = λ i. one_bag (flat_map (λ (e : Entry). own m i e.node) g.nodes)
-            (flat_map (λ (e : Entry). own k i e.node) (joined g p q c new).nodes)
-            (sum_joined put bags (λ (e : Entry). own m i e.node) (λ (e : Entry). own k i e.node)
+        own = λ i. one_bag (flat_map (λ (e : Entry). own w m i e.node) g.nodes)
+            (flat_map (λ (e : Entry). own w k i e.node) (joined g p q c new).nodes)
+            (sum_joined put bags (λ (e : Entry). own w m i e.node) (λ (e : Entry). own w k i e.node)
             g.nodes p q (Pdo c f) (Pdo d h) z r [] can.keeper can.other can.apart
-            (Each-weaker R (λ e. own k i (reread r e.node) ≡ own m i e.node)
-            (λ e a. own-reread k m r i e.node a) set reads_set) (j.own i));
-        traps = sum_joined (put_new trap_le) sets (λ (e : Entry). traps m e.node)
-            (λ (e : Entry). traps k e.node) g.nodes p q (Pdo c f) (Pdo d h) z r [] can.keeper
+            (Each-weaker R (λ e. own w k i (reread r e.node) ≡ own w m i e.node)
+            (λ e a. own-reread w k m r i e.node a) set reads_set) (j.own i));
+        traps = sum_joined (put_new trap_le) sets (λ (e : Entry). traps w m e.node)
+            (λ (e : Entry). traps w k e.node) g.nodes p q (Pdo c f) (Pdo d h) z r [] can.keeper
             can.other can.apart
-            (Each-weaker R (λ e. traps k (reread r e.node) ≡ traps m e.node)
-            (λ e a. traps-reread k m r e.node a) set reads_set) j.traps;
+            (Each-weaker R (λ e. traps w k (reread r e.node) ≡ traps w m e.node)
+            (λ e a. traps-reread w k m r e.node a) set reads_set) j.traps;
       },
     )
 
@@ -307,22 +319,23 @@ pub KeepsMeaning-as_kid : (g : Graph) (p q : ℕ) (c : Place) (j : ℕ) (f h : F
     → KeepsMeaning g (as_kid g p q c j f h)
 KeepsMeaning-as_kid g p q c j f h ok can one has =
     KeepsMeaning-joined g p q c (place p j) f h (grafted j h f) ok can (λ w m meets.
-    let at_p : FitsForest m p (m c) f = all_found (λ e. Holds w m e.number e.node) g.nodes p
+    let at_p : FitsForest w m p (m c) f = all_found (λ e. Holds w m e.number e.node) g.nodes p
     (Pdo c f) can.keeper meets in
     record {
-      fits = λ a b. fits_grafted (joined_values m p q h) p j (m c) f h a
-          (subst (λ (v : Collection). FitsForest (joined_values m p q h) p v h)
+      fits = λ a b. fits_grafted w (joined_values m p q h) p j (m c) f h a
+          (subst (λ (v : Collection). FitsForest w (joined_values m p q h) p v h)
           (sym (own_stays g m p q c (place p j) f h can j has)) b);
-      own = λ i b. gather_grafted put bags (step_own i) m p j (m c) f h at_p one b;
-      traps = λ b. gather_grafted (put_new trap_le) sets (step_traps) m p j (m c) f h at_p one b;
+      own = λ i b. gather_grafted w put bags (step_own w i) m p j (m c) f h at_p one b;
+      traps = λ b. gather_grafted w (put_new trap_le) sets (step_traps w) m p j
+          (m c) f h at_p one b;
     })
 
-beside_sum : {Y B : Type 0} (s : Y → B → B) → Swaps s
+beside_sum : (w : World) {Y B : Type 0} (s : Y → B → B) → Swaps s
     → (p : Collection → Label → List Y) (v : Collection) (f h : Forest) (b : B)
-    → gather s (total p v (beside f h)) b ≡ gather s (total p v h) (gather s (total p v f) b)
-beside_sum s sw p v f h b = ap (λ l. gather s l b) (total-beside p v f h)
-    ∙ gather-append s (total p v f) (total p v h) b
-    ∙ gather-gather s sw (total p v f) (total p v h) b
+    → gather s (total w p v (beside f h)) b ≡ gather s (total w p v h) (gather s (total w p v f) b)
+beside_sum w s sw p v f h b = ap (λ l. gather s l b) (total-beside w p v f h)
+    ∙ gather-append s (total w p v f) (total w p v h) b
+    ∙ gather-gather s sw (total w p v f) (total w p v h) b
 
 -- Pdos that read one collection become one
 pub KeepsMeaning-as_sibling : (g : Graph) (p q : ℕ) (c : Place) (f h : Forest) → IsSound g
@@ -330,7 +343,7 @@ pub KeepsMeaning-as_sibling : (g : Graph) (p q : ℕ) (c : Place) (f h : Forest)
 KeepsMeaning-as_sibling g p q c f h ok can =
     KeepsMeaning-joined g p q c c f h (beside f h) ok can (λ w m meets.
     record {
-      fits = λ a b. fits_beside (joined_values m p q h) p (m c) f h a b;
-      own = λ i b. beside_sum put bags (step_own i) (m c) f h b;
-      traps = λ b. beside_sum (put_new trap_le) sets (step_traps) (m c) f h b;
+      fits = λ a b. fits_beside w (joined_values m p q h) p (m c) f h a b;
+      own = λ i b. beside_sum w put bags (step_own w i) (m c) f h b;
+      traps = λ b. beside_sum w (put_new trap_le) sets (step_traps w) (m c) f h b;
     })

@@ -6,13 +6,16 @@ use Rattle.std.proofs.lemmas.List.Folds.{flat_map-map}
 use Rattle.combine_table.specs.declared.comb.Comb.{Comb}
 use Rattle.flume_types.specs.declared.types.Ty.{Ty}
 use Rattle.flume_value.specs.Bag.{bag_of}
-use Rattle.exec_graph.specs.Traps.{Trap, trap_le}
-use Rattle.exec_graph.specs.Sets.{set_of}
+use Rattle.flume_collection.specs.declared.trap.Trap.{Trap}
+use Rattle.flume_collection.specs.Traps.{trap_le}
+use Rattle.flume_collection.specs.Sets.{set_of}
 use Rattle.exec_graph.specs.Forests.{Forest, Bare, Grow}
 use Rattle.exec_graph.specs.Wellformed.{combines_by, one_root, has_root, IsLiftedOk, IsNodeOk, size, total_size, Ascends, IsGraphOk}
-use Rattle.exec_graph.specs.Meaning.{Rows, Collection, place, Holds, own, traps, node_at, reads, gives, gives_at, IsThere, KeepsMeaning, SameMeaning}
+use Rattle.exec_graph.specs.Meaning.{place, Holds, own, traps, node_at, reads, gives, gives_at, IsThere, KeepsMeaning, SameMeaning}
+use Rattle.flume_collection.specs.Collection.{Collection}
+use Rattle.exec_graph.specs.World.{World}
 use Rattle.exec_graph.specs.Readers.{among, calls_on, collects, any_node, those, readers, uses, is_read}
-use Rattle.exec_graph.specs.Typing.{type_at, type_of, IsTypedForest, IsTypedNode}
+use Rattle.exec_graph.specs.Typing.{IsTyped, NodeTyped, Signatures}
 use Rattle.graph_laws.specs.Lifting.{marked, marked_entry, remarked, comb_of, root_comb, comb_at, only_comb, lift_of, lifted, lifted_at}
 use Rattle.exec_graph.proofs.Entries.{all_map}
 use Rattle.exec_graph.proofs.Soundness.{SameMeaning-kept}
@@ -27,71 +30,64 @@ use Rattle.flume_value.proofs.EachLemmas.{Each-weaker}
 
 -- ---- what does not see a mark
 reads-marked : (h : Option Comb → Option Comb) (x : Node) → reads (marked h x) ≡ reads x
-reads-marked h (Source r t) = refl
-reads-marked h (Flatten ty ins) = refl
+reads-marked h (Source r) = refl
+reads-marked h (Flatten ins) = refl
 reads-marked h (Pdo c f) = refl
-reads-marked h (Gbk c o l k tb) = refl
+reads-marked h (Gbk c o l k) = refl
 
-own-marked : (m : Place → Collection) (i : ℕ) (h : Option Comb → Option Comb) (x : Node)
-    → own m i (marked h x) ≡ own m i x
-own-marked m i h (Source r t) = refl
-own-marked m i h (Flatten ty ins) = refl
-own-marked m i h (Pdo c f) = refl
-own-marked m i h (Gbk c o l k tb) = refl
+own-marked : (w : World) (m : Place → Collection) (i : ℕ) (h : Option Comb → Option Comb) (x : Node)
+    → own w m i (marked h x) ≡ own w m i x
+own-marked w m i h (Source r) = refl
+own-marked w m i h (Flatten ins) = refl
+own-marked w m i h (Pdo c f) = refl
+own-marked w m i h (Gbk c o l k) = refl
 
-traps-marked : (m : Place → Collection) (h : Option Comb → Option Comb) (x : Node)
-    → traps m (marked h x) ≡ traps m x
-traps-marked m h (Source r t) = refl
-traps-marked m h (Flatten ty ins) = refl
-traps-marked m h (Pdo c f) = refl
-traps-marked m h (Gbk c o l k tb) = refl
+traps-marked : (w : World) (m : Place → Collection) (h : Option Comb → Option Comb) (x : Node)
+    → traps w m (marked h x) ≡ traps w m x
+traps-marked w m h (Source r) = refl
+traps-marked w m h (Flatten ins) = refl
+traps-marked w m h (Pdo c f) = refl
+traps-marked w m h (Gbk c o l k) = refl
 
-holds-marked : (w : Rows) (m : Place → Collection) (n : ℕ) (h : Option Comb → Option Comb)
+holds-marked : (w : World) (m : Place → Collection) (n : ℕ) (h : Option Comb → Option Comb)
     (x : Node) → Holds w m n x → Holds w m n (marked h x)
-holds-marked w m n h (Source r t) a = a
-holds-marked w m n h (Flatten ty ins) a = a
+holds-marked w m n h (Source r) a = a
+holds-marked w m n h (Flatten ins) a = a
 holds-marked w m n h (Pdo c f) a = a
-holds-marked w m n h (Gbk c o l k tb) a = a
+holds-marked w m n h (Gbk c o l k) a = a
 
 gives-marked : (h : Option Comb → Option Comb) (x : Node) (j : ℕ) → gives (marked h x) j ≡ gives x j
-gives-marked h (Source r t) j = refl
-gives-marked h (Flatten ty ins) j = refl
+gives-marked h (Source r) j = refl
+gives-marked h (Flatten ins) j = refl
 gives-marked h (Pdo c f) j = refl
-gives-marked h (Gbk c o l k tb) j = refl
-
-type-marked : (h : Option Comb → Option Comb) (x : Node) (j : ℕ)
-    → type_at (Some (marked h x)) j ≡ type_at (Some x) j
-type-marked h (Source r t) j = refl
-type-marked h (Flatten ty ins) j = refl
-type-marked h (Pdo c f) j = refl
-type-marked h (Gbk c o l k tb) j = refl
+gives-marked h (Gbk c o l k) j = refl
 
 size-marked : (h : Option Comb → Option Comb) (x : Node) → size (marked h x) ≡ size x
-size-marked h (Source r t) = refl
-size-marked h (Flatten ty ins) = refl
+size-marked h (Source r) = refl
+size-marked h (Flatten ins) = refl
 size-marked h (Pdo c f) = refl
-size-marked h (Gbk c o l k tb) = refl
+size-marked h (Gbk c o l k) = refl
 
 calls-marked : (c : Place) (h : Option Comb → Option Comb) (x : Node)
     → calls_on c (marked h x) ≡ calls_on c x
-calls-marked c h (Source r t) = refl
-calls-marked c h (Flatten ty ins) = refl
+calls-marked c h (Source r) = refl
+calls-marked c h (Flatten ins) = refl
 calls-marked c h (Pdo d f) = refl
-calls-marked c h (Gbk d o l k tb) = refl
+calls-marked c h (Gbk d o l k) = refl
 
 collects-marked : (c : Place) (h : Option Comb → Option Comb) (x : Node)
     → collects c (marked h x) ≡ collects c x
-collects-marked c h (Source r t) = refl
-collects-marked c h (Flatten ty ins) = refl
+collects-marked c h (Source r) = refl
+collects-marked c h (Flatten ins) = refl
 collects-marked c h (Pdo d f) = refl
-collects-marked c h (Gbk d o l k tb) = refl
+collects-marked c h (Gbk d o l k) = refl
 
 root-marked : (k : Comb) (h : Option Comb → Option Comb) (x : Node)
     → has_root k (Some (marked h x)) ≡ has_root k (Some x)
-root-marked k h (Source r t) = refl
-root-marked k h (Flatten ty ins) = refl
+root-marked k h (Source r) = refl
+root-marked k h (Flatten ins) = refl
 root-marked k h (Pdo d f) = refl
-root-marked k h (Gbk d o l i tb) = refl
+root-marked k h (Gbk d o l i) = refl
 
 -- ---- lists of nodes
 abbrev marked_at : (Option Comb → Option Comb) → Option Node → Option Node
@@ -146,11 +142,6 @@ gives_at-marked : (h : Option Comb → Option Comb) (o : Option Node) (j : ℕ)
 gives_at-marked h None j = refl
 gives_at-marked h (Some x) j = gives-marked h x j
 
-type_at-marked : (h : Option Comb → Option Comb) (o : Option Node) (j : ℕ)
-    → type_at (marked_at h o) j ≡ type_at o j
-type_at-marked h None j = refl
-type_at-marked h (Some x) j = type-marked h x j
-
 root_at-marked : (k : Comb) (h : Option Comb → Option Comb) (o : Option Node)
     → has_root k (marked_at h o) ≡ has_root k o
 root_at-marked k h None = refl
@@ -160,20 +151,6 @@ there-marked : (s : ℕ → Option Comb → Option Comb) (es : List Entry) (c : 
     → IsThere (map (marked_entry s) es) c
 there-marked s es c t = ap (λ (o : Option Node). gives_at o c.out) (node_at-marked s es c.node)
     ∙ gives_at-marked (s c.node) (node_at es c.node) c.out ∙ t
-
-type_of-marked : (s : ℕ → Option Comb → Option Comb) (es : List Entry) (c : Place)
-    → type_of (map (marked_entry s) es) c ≡ type_of es c
-type_of-marked s es c = ap (λ (o : Option Node). type_at o c.out) (node_at-marked s es c.node)
-    ∙ type_at-marked (s c.node) (node_at es c.node) c.out
-
-typed-marked : (s : ℕ → Option Comb → Option Comb) (es : List Entry) (h : Option Comb → Option Comb)
-    (x : Node) → IsTypedNode es x → IsTypedNode (map (marked_entry s) es) (marked h x)
-typed-marked s es h (Source r t) a = tt
-typed-marked s es h (Flatten ty ins) a = Each-weaker (λ c. type_of es c ≡ Some ty)
-    (λ c. type_of (map (marked_entry s) es) c ≡ Some ty) (λ c e. type_of-marked s es c ∙ e) ins a
-typed-marked s es h (Pdo c f) a = subst (λ (o : Option Ty). IsTypedForest o f)
-    (sym (type_of-marked s es c)) a
-typed-marked s es h (Gbk c o l k tb) a = type_of-marked s es c ∙ a
 
 -- ---- the meaning
 pub KeepsMeaning-remarked : (s : ℕ → Option Comb → Option Comb) (g : Graph)
@@ -185,13 +162,16 @@ KeepsMeaning-remarked s g w m meets = (
       g.nodes meets,
   record {
     outputs = refl;
-    own = λ i. sym (ap bag_of (flat_map-map (λ (e : Entry). own m i e.node) (marked_entry s) g.nodes
-        ∙ flat_map_same (λ (e : Entry). own m i (marked (s e.number) e.node)) (λ e. own m i e.node)
-        (λ e. own-marked m i (s e.number) e.node) g.nodes));
+    own = λ i. sym (ap bag_of (flat_map-map (λ (e : Entry). own w m i e.node)
+        (marked_entry s) g.nodes
+        ∙ flat_map_same (λ (e : Entry). own w m i (marked (s e.number) e.node))
+            (λ e. own w m i e.node)
+        (λ e. own-marked w m i (s e.number) e.node) g.nodes));
     traps = sym (ap (λ (l : List Trap). set_of trap_le l)
-        (flat_map-map (λ (e : Entry). traps m e.node) (marked_entry s) g.nodes
-        ∙ flat_map_same (λ (e : Entry). traps m (marked (s e.number) e.node)) (λ e. traps m e.node)
-        (λ e. traps-marked m (s e.number) e.node) g.nodes));
+        (flat_map-map (λ (e : Entry). traps w m e.node) (marked_entry s) g.nodes
+        ∙ flat_map_same (λ (e : Entry). traps w m (marked (s e.number) e.node))
+            (λ e. traps w m e.node)
+        (λ e. traps-marked w m (s e.number) e.node) g.nodes));
   },
 )
 
@@ -220,25 +200,25 @@ Allowed g n None = Unit {0}
 Allowed g n (Some k) = IsLiftedOk g n k
 
 mark_ok : (s : ℕ → Option Comb → Option Comb) (g : Graph) (c : Place) (n o : ℕ) (l : Bool)
-    (k : Option Comb) (tb : _) → Allowed g n k → IsNodeOk (remarked s g) n (Gbk c o l k tb)
-mark_ok s g c n o l None tb a = tt
-mark_ok s g c n o l (Some k) tb a = lifted-marked s g n k a
+    (k : Option Comb) → Allowed g n k → IsNodeOk (remarked s g) n (Gbk c o l k)
+mark_ok s g c n o l None a = tt
+mark_ok s g c n o l (Some k) a = lifted-marked s g n k a
 
-had : (g : Graph) (c : Place) (n o : ℕ) (l : Bool) (k : Option Comb) (tb : _)
-    → IsNodeOk g n (Gbk c o l k tb) → Allowed g n k
-had g c n o l None tb a = tt
-had g c n o l (Some k) tb a = a
+had : (g : Graph) (c : Place) (n o : ℕ) (l : Bool) (k : Option Comb)
+    → IsNodeOk g n (Gbk c o l k) → Allowed g n k
+had g c n o l None a = tt
+had g c n o l (Some k) a = a
 
 node_ok : (s : ℕ → Option Comb → Option Comb) (g : Graph) (n : ℕ) (x : Node)
     → ((k : Option Comb) → Allowed g n k → Allowed g n (s n k)) → IsNodeOk g n x
     → IsNodeOk (remarked s g) n (marked (s n) x)
-node_ok s g n (Source r t) h a = tt
-node_ok s g n (Flatten ty ins) h a = a
+node_ok s g n (Source r) h a = tt
+node_ok s g n (Flatten ins) h a = a
 node_ok s g n (Pdo c f) h a = record {
   order = a.order;
   read = λ j i. is_read-marked s g (place n j) ∙ a.read j i;
 }
-node_ok s g n (Gbk c o l k tb) h a = mark_ok s g c n o l (s n k) tb (h k (had g c n o l k tb a))
+node_ok s g n (Gbk c o l k) h a = mark_ok s g c n o l (s n k) (h k (had g c n o l k a))
 
 pub IsGraphOk-remarked : (s : ℕ → Option Comb → Option Comb) (g : Graph)
     → ((n : ℕ) (k : Option Comb) → Allowed g n k → Allowed g n (s n k)) → IsGraphOk g
@@ -275,15 +255,35 @@ IsGraphOk-remarked s g h ok =
           (λ e. IsNodeOk (remarked s g) e.number e.node)
           (λ e a. node_ok s g e.number e.node (h e.number) a) g.nodes ok.nodes;
       few = subst (λ (n : ℕ). n ≤ 4096) (sym (size-all s g.nodes)) ok.few;
-      typed = all_map (marked_entry s) (λ (e : Entry). IsTypedNode g.nodes e.node)
-          (λ e. IsTypedNode (map (marked_entry s) g.nodes) e.node)
-          (λ e a. typed-marked s g.nodes (s e.number) e.node a) g.nodes ok.typed;
     }
+
+-- ---- types
+typed_marked : (s : Signatures) (types : Place → Ty) (n : ℕ) (h : Option Comb → Option Comb)
+    (x : Node) → NodeTyped s types n x → NodeTyped s types n (marked h x)
+typed_marked s types n h (Source r) a = a
+typed_marked s types n h (Flatten ins) a = a
+typed_marked s types n h (Pdo c f) a = a
+typed_marked s types n h (Gbk c o l k) a = a
+
+pub IsTyped-remarked : (marks : ℕ → Option Comb → Option Comb) (s : Signatures) (g : Graph)
+    → IsTyped s g → IsTyped s (remarked marks g)
+IsTyped-remarked marks s g (types, a) = (
+  types,
+  all_map (marked_entry marks) (λ (e : Entry). NodeTyped s types e.number e.node)
+      (λ e. NodeTyped s types e.number e.node)
+      (λ e b. typed_marked s types e.number (marks e.number) e.node b) g.nodes a,
+)
 
 -- ---- what may be lifted
 combines_self : (d : Does) (k : Comb) → comb_of d ≡ Some k → combines_by k d ≡ true
+combines_self (does.Combine c) k e = let i : c ≡ k = cc in rw i (eq-eqb _ _ refl)
 combines_self (does.Call f) k e = let bad : ⊥ = cc in absurd bad
-combines_self (does.Combine c tb) k e = let i : c ≡ k = cc in rw i (eq-eqb _ _ refl)
+combines_self does.Pair k e = let bad : ⊥ = cc in absurd bad
+combines_self does.TagLeft k e = let bad : ⊥ = cc in absurd bad
+combines_self does.TagRight k e = let bad : ⊥ = cc in absurd bad
+combines_self does.Split k e = let bad : ⊥ = cc in absurd bad
+combines_self does.Solo k e = let bad : ⊥ = cc in absurd bad
+combines_self does.Spread k e = let bad : ⊥ = cc in absurd bad
 
 root_self : (f : Forest) (k : Comb) → root_comb f ≡ Some k → one_root k f ≡ true
 root_self Bare k e = let bad : ⊥ = cc in absurd bad
@@ -292,10 +292,10 @@ root_self (Grow l kids (Grow m others rest)) k e = let bad : ⊥ = cc in absurd 
 
 at_self : (o : Option Node) (k : Comb) → comb_at o ≡ Some k → has_root k o ≡ true
 at_self None k e = let bad : ⊥ = cc in absurd bad
-at_self (Some (Source r t)) k e = let bad : ⊥ = cc in absurd bad
-at_self (Some (Flatten ty ins)) k e = let bad : ⊥ = cc in absurd bad
+at_self (Some (Source r)) k e = let bad : ⊥ = cc in absurd bad
+at_self (Some (Flatten ins)) k e = let bad : ⊥ = cc in absurd bad
 at_self (Some (Pdo c f)) k e = root_self f k e
-at_self (Some (Gbk c o l i tb)) k e = let bad : ⊥ = cc in absurd bad
+at_self (Some (Gbk c o l i)) k e = let bad : ⊥ = cc in absurd bad
 
 lift_by : (g : Graph) (n : ℕ) (k : Comb) (a b : Bool) (ns : List ℕ)
     → among (place n 0) g.outputs ≡ a → any_node (collects (place n 0)) g.nodes ≡ b

@@ -28,10 +28,10 @@ or_false false h = h
 
 uses_all : (Q : Place → Type 0) (x : Node) → ((c : Place) → uses c x ≡ true → Q c)
     → AllByRecursion Q (reads x)
-uses_all Q (Source r t) h = tt
-uses_all Q (Flatten ty ins) h = all_among Q ins h
+uses_all Q (Source r) h = tt
+uses_all Q (Flatten ins) h = all_among Q ins h
 uses_all Q (Pdo c f) h = (h c (or_false (same_place c c) (same_self c)), tt)
-uses_all Q (Gbk c o l k tb) h = (h c (same_self c), tt)
+uses_all Q (Gbk c o l k) h = (h c (same_self c), tt)
 
 all_used : (Q : Place → Type 0) (es : List Entry)
     → ((c : Place) → any_node (uses c) es ≡ true → Q c)

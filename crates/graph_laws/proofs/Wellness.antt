@@ -35,10 +35,10 @@ node_at-map r (e ∷ es) n = ap (cond (eqb e.number n) (Some (reread r e.node)))
     ∙ mapped_cond r (eqb e.number n) e.node (node_at es n)
 
 gives-reread : (r : Place → Place) (x : Node) (j : ℕ) → gives (reread r x) j ≡ gives x j
-gives-reread r (Source s t) j = refl
-gives-reread r (Flatten ty ins) j = refl
+gives-reread r (Source s) j = refl
+gives-reread r (Flatten ins) j = refl
 gives-reread r (Pdo c f) j = refl
-gives-reread r (Gbk c o l k tb) j = refl
+gives-reread r (Gbk c o l k) j = refl
 
 gives_at-mapped : (r : Place → Place) (o : Option Node) (j : ℕ)
     → gives_at (mapped r o) j ≡ gives_at o j
@@ -121,16 +121,16 @@ there_set g p q c d f h new can k x false false i j t =
 
 pub reads_reread : (P Q : Place → Type 0) (r : Place → Place) → ((c : Place) → P c → Q (r c))
     → (x : Node) → AllByRecursion P (reads x) → AllByRecursion Q (reads (reread r x))
-reads_reread P Q r h (Source s t) a = tt
-reads_reread P Q r h (Flatten ty ins) a = all_map r P Q h ins a
+reads_reread P Q r h (Source s) a = tt
+reads_reread P Q r h (Flatten ins) a = all_map r P Q h ins a
 reads_reread P Q r h (Pdo c f) a = (h c a.0, tt)
-reads_reread P Q r h (Gbk c o l k tb) a = (h c a.0, tt)
+reads_reread P Q r h (Gbk c o l k) a = (h c a.0, tt)
 
 pub outs_reread : (r : Place → Place) (x : Node) → HasOuts x → HasOuts (reread r x)
-outs_reread r (Source s t) h = h
-outs_reread r (Flatten ty ins) h = h
+outs_reread r (Source s) h = h
+outs_reread r (Flatten ins) h = h
 outs_reread r (Pdo c f) h = h
-outs_reread r (Gbk c o l k tb) h = h
+outs_reread r (Gbk c o l k) h = h
 
 differs_set : (k : ℕ) (es : List Entry) (p : ℕ) (x y : Node) → node_at es p ≡ Some y
     → AllByRecursion (λ e. e.number ≡ k → ⊥) es

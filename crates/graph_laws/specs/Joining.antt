@@ -48,10 +48,10 @@ moved p q c = cond (c.node == q) (place p c.out) c
 
 -- a node that reads other collections
 abbrev pub reread : (Place → Place) → Node → Node
-reread r (Source s t) = Source s t
-reread r (Flatten ty ins) = Flatten ty (map r ins)
+reread r (Source s) = Source s
+reread r (Flatten ins) = Flatten (map r ins)
 reread r (Pdo c f) = Pdo (r c) f
-reread r (Gbk c o l k tb) = Gbk (r c) o l k tb
+reread r (Gbk c o l k) = Gbk (r c) o l k
 
 abbrev pub reread_entry : (Place → Place) → Entry → Entry
 reread_entry r e = record { number = e.number; node = reread r e.node }

@@ -15,10 +15,10 @@ use Rattle.exec_graph.specs.declared.graph.Graph.{Graph}
 
 -- another mark on a Gbk
 abbrev pub marked : (Option Comb → Option Comb) → Node → Node
-marked h (Source r t) = Source r t
-marked h (Flatten ty ins) = Flatten ty ins
+marked h (Source r) = Source r
+marked h (Flatten ins) = Flatten ins
 marked h (Pdo c f) = Pdo c f
-marked h (Gbk c o l k tb) = Gbk c o l (h k) tb
+marked h (Gbk c o l k) = Gbk c o l (h k)
 
 abbrev pub marked_entry : (ℕ → Option Comb → Option Comb) → Entry → Entry
 marked_entry s e = record { number = e.number; node = marked (s e.number) e.node }
@@ -31,8 +31,8 @@ remarked s g =
 -- ---- what may be lifted
 
 abbrev pub comb_of : Does → Option Comb
-comb_of (does.Call f) = None
-comb_of (does.Combine k tb) = Some k
+comb_of (does.Combine k) = Some k
+comb_of _ = None
 
 -- the combiner of a forest whose one root combines
 abbrev pub root_comb : Forest → Option Comb
@@ -42,10 +42,10 @@ root_comb (Grow l kids (Grow m others rest)) = None
 
 abbrev pub comb_at : Option Node → Option Comb
 comb_at None = None
-comb_at (Some (Source r t)) = None
-comb_at (Some (Flatten ty ins)) = None
+comb_at (Some (Source r)) = None
+comb_at (Some (Flatten ins)) = None
 comb_at (Some (Pdo c f)) = root_comb f
-comb_at (Some (Gbk c o l k tb)) = None
+comb_at (Some (Gbk c o l k)) = None
 
 -- the combiner where one Pdo alone reads
 abbrev pub only_comb : List Entry → List ℕ → Option Comb

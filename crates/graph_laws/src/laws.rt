@@ -5,9 +5,12 @@ ghost use Rattle.flume_value.specs.Bag.{bag_of};
 ghost use Rattle.exec_graph.specs.declared.graph.Graph.{Graph};
 ghost use Rattle.exec_graph.specs.declared.graph.Place.{Place};
 ghost use Rattle.exec_graph.specs.Forests.{Forest, Label};
-ghost use Rattle.exec_graph.specs.Meaning.{Collection, IsSound, KeepsMeaning, SameMeaning, through, together, total, step_own, step_traps};
-ghost use Rattle.exec_graph.specs.Traps.{trap_set};
+ghost use Rattle.exec_graph.specs.Meaning.{IsSound, KeepsMeaning, SameMeaning, through, total, step_own, step_traps};
+ghost use Rattle.exec_graph.specs.Typing.{IsTyped, Signatures};
 ghost use Rattle.exec_graph.specs.Wellformed.{IsGraphOk};
+ghost use Rattle.exec_graph.specs.World.{World};
+ghost use Rattle.flume_collection.specs.Collection.{Collection, together};
+ghost use Rattle.flume_collection.specs.Traps.{trap_set};
 ghost use Rattle.graph_laws.specs.Kids.{CanKid, CanPair, with_kid, with_sibling};
 ghost use Rattle.graph_laws.specs.Lifting.{lifted, lifted_at, remarked};
 
@@ -20,6 +23,8 @@ pub fn lift_law()
     ensures one_same { (n : ℕ) (g : Graph) → IsGraphOk g → SameMeaning g (lifted_at n g) }
     ensures marks { (marks : ℕ → Option Comb → Option Comb) (g : Graph) →
         KeepsMeaning g (remarked marks g) }
+    ensures typed { (marks : ℕ → Option Comb → Option Comb) (s : Signatures) (g : Graph) →
+        IsTyped s g → IsTyped s (remarked marks g) }
 {}
 
 /// Where a Pdo reads an output of another, its roots may become kids of the step with that output:
@@ -52,12 +57,12 @@ pub fn chain_law()
 /// A step over collections together gives what it gives over each, together; and so the steps of a
 /// forest add the same to the bag of each script node, and to the traps.
 pub fn together_law()
-    ensures step { (l : Label) (cs : List Collection) →
-        through l (together cs) ≡ together (map (through l) cs) }
-    ensures own { (i : ℕ) (f : Forest) (cs : List Collection) →
-        bag_of (total (step_own i) (together cs) f)
-        ≡ bag_of (flat_map (λ c. total (step_own i) c f) cs) }
-    ensures traps { (f : Forest) (cs : List Collection) →
-        trap_set (total step_traps (together cs) f)
-        ≡ trap_set (flat_map (λ c. total step_traps c f) cs) }
+    ensures step { (w : World) (l : Label) (cs : List Collection) →
+        through w l (together cs) ≡ together (map (through w l) cs) }
+    ensures own { (w : World) (i : ℕ) (f : Forest) (cs : List Collection) →
+        bag_of (total w (step_own w i) (together cs) f)
+        ≡ bag_of (flat_map (λ c. total w (step_own w i) c f) cs) }
+    ensures traps { (w : World) (f : Forest) (cs : List Collection) →
+        trap_set (total w (step_traps w) (together cs) f)
+        ≡ trap_set (flat_map (λ c. total w (step_traps w) c f) cs) }
 {}

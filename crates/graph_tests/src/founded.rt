@@ -1,6 +1,5 @@
 use combine_table::Comb;
-use exec_graph::{Does, Entry, Graph, Node, Output, Place, Roots, Step, Table, is_founded};
-use flume_types::Ty;
+use exec_graph::{Does, Entry, Graph, Node, Output, Place, Roots, Step, is_founded};
 use flume_value::Pile;
 use std::alloc::{AllocError, Global};
 use std::test::Fail;
@@ -18,24 +17,17 @@ fn first_of(node: u32) -> Place {
     Place { node, out: 0 }
 }
 
-fn ints() -> Table {
-    Table {
-        key: Ty::Int,
-        value: Ty::Int,
-    }
-}
-
 fn flatten(alloc: Global, one: u32, other: u32) -> Result<Node, AllocError> {
     let mut inputs = Pile::new(alloc);
     inputs.push(first_of(one))?;
     inputs.push(first_of(other))?;
-    Ok(Node::Flatten(Ty::Int, inputs))
+    Ok(Node::Flatten(inputs))
 }
 
 /// One step that sums the lists of ints, whose sums are output 0.
 fn sums(alloc: Global, input: u32) -> Result<Node, AllocError> {
     let output = Output::new(Some(0), Vec::new(alloc));
-    let does = Does::Combine(Comb::Sum, ints());
+    let does = Does::Combine(Comb::Sum);
     let mut steps = Vec::new(alloc);
     steps.push(Step::new(2, true, does, output, Vec::new(alloc)))?;
     Ok(Node::Pdo(first_of(input), Roots::new(steps)))
@@ -43,9 +35,9 @@ fn sums(alloc: Global, input: u32) -> Result<Node, AllocError> {
 
 fn node(alloc: Global, shape: Shape) -> Result<Node, AllocError> {
     match shape {
-        Shape::Source => Ok(Node::Source(0, Ty::Int)),
+        Shape::Source => Ok(Node::Source(0)),
         Shape::Flatten(one, other) => flatten(alloc, one, other),
-        Shape::Group(input) => Ok(Node::Gbk(first_of(input), 1, true, None, ints())),
+        Shape::Group(input) => Ok(Node::Gbk(first_of(input), 1, true, None)),
         Shape::Sums(input) => sums(alloc, input),
     }
 }

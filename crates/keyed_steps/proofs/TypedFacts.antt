@@ -72,7 +72,7 @@ Has-pair key value k v g h =
 -- ---- lists
 
 -- a member of a table of lists is a group
-table_group : (key value : Ty) (g : Value) → Has (table_of key (ty.List value)) g
+pub table_group : (key value : Ty) (g : Value) → Has (table_of key (ty.List value)) g
     → (k : Value) × (l : List Value) × (group_of g ≡ Some (k, l)) × Has key k
     × Each (Has value) l
 table_group key value g h =

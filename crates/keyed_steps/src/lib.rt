@@ -17,4 +17,4 @@ mod steps;
 
 pub use fault::KeyFault;
 pub use laws::tables_law;
-pub use steps::combine_each;
+pub use steps::{combine_each, combine_group};

@@ -38,7 +38,7 @@ pub fn combine_each(alloc: Global, comb: Comb, groups: &[Value]) -> Result<Vec<V
 }
 
 /// The pair with its list combined; or the trap of its list, and its key.
-fn combine_group(alloc: Global, comb: Comb, group: &Value) -> Result<Value, KeyFault>
+pub fn combine_group(alloc: Global, comb: Comb, group: &Value) -> Result<Value, KeyFault>
     requires { IsGroup comb group.now }
     ensures pair { IfOk result (λ p. combined_each (combined comb) (group.now ∷ []) ≡ p ∷ []) }
     ensures trap { IfErr result (IsFirst (traps_of_each (combined comb) (group.now ∷ []))) }

@@ -1,5 +1,5 @@
 -- What is in memory, as contracts see it: look-ups, one more, and what stays as types are added.
-use Rattle.std.proofs.Common.{◌≡◌, ℕ, ◌<◌, ◌≤◌, false, List, ◌∷◌, [], ◌++◌, length, map, take, get_or, Option, Some, None, is_some, refl, sym, ap, ◌∙◌, subst, arith}
+use Rattle.std.proofs.Common.{◌≡◌, ℕ, ◌≤◌, false, List, ◌∷◌, [], ◌++◌, length, map, take, get_or, Option, Some, None, is_some, refl, sym, ap, ◌∙◌, subst, arith}
 use Rattle.std.specs.List.{position, position_or_len}
 use Rattle.std.specs.Option.{option_map}
 use Rattle.std.specs.Str.{bytes_eq}
@@ -17,7 +17,9 @@ use Rattle.script_check.specs.declared.made.Node.{Node as HeldNode}
 use Rattle.script_check.specs.declared.made.Output.{Output}
 use Rattle.script_check.specs.Script.{place}
 use Rattle.script_check.specs.inner.Held.{function_of, node_of, FunctionIn, NodeIn, AreHeld, checking_of}
-use Rattle.script_check.specs.Program.{signature_in, function_in, Does}
+use Rattle.script_check.specs.Program.{signature_in, HasTypes, function_in, Does}
+use Rattle.expression_check.proofs.KeptLemmas.{types-kept}
+use Rattle.body_check.proofs.FrameLemmas.{more-types}
 
 -- ---- look-ups
 
@@ -97,22 +99,28 @@ grows-name old new entry types names = record {
   names = λ n le. ap (take n) names ∙ take-append-le n old.names (entry ∷ []) le;
 }
 
-module _ (old new : Known) (more : Grows old new) (functions : Named HeldFunction) (nodes : Named HeldNode) (held : AreHeld old functions nodes) where
-  signature-kept : (signature : HeldSignature) → signature.takes < length old.types
-      → signature.gives < length old.types
-      → signature_in new.types signature ≡ signature_in old.types signature
-  signature-kept signature takes gives = λ i. record {
-    takes = more.types.same signature.takes takes i;
-    gives = more.types.same signature.gives gives i;
-    scale = signature.scale;
-  }
+pub signature-kept : (old new : List Ty) → Extends old new → (signature : HeldSignature)
+    → HasTypes old signature → signature_in new signature ≡ signature_in old signature
+signature-kept old new more signature within = λ i. record {
+  takes = more.same signature.takes within.0 i;
+  gives = types-kept old new more signature.gives within.1 i;
+  scale = signature.scale;
+}
 
+signature-more : (old new : List Ty) → Extends old new → (signature : HeldSignature)
+    → HasTypes old signature → HasTypes new signature
+signature-more old new more signature within = (
+  omega (arith, within.0, more.longer),
+  more-types old new more signature.gives within.1,
+)
+
+module _ (old new : Known) (more : Grows old new) (functions : Named HeldFunction) (nodes : Named HeldNode) (held : AreHeld old functions nodes) where
   function-kept : (function : HeldFunction) → FunctionIn old function
       → function_in new function ≡ function_in old function
   function-kept function in_ = λ i. record {
     types = more.names function.type_names in_.named i;
     argument = function.argument;
-    signature = signature-kept function.signature in_.takes in_.gives i;
+    signature = signature-kept old.types new.types more.types function.signature in_.within i;
     body = function.body;
   }
 
@@ -131,10 +139,9 @@ module _ (old new : Known) (more : Grows old new) (functions : Named HeldFunctio
 
   function-more : (function : HeldFunction) → FunctionIn old function → FunctionIn new function
   function-more function in_ = record {
-    takes = omega (arith, in_.takes, more.types.longer);
-    gives = omega (arith, in_.gives, more.types.longer);
+    within = signature-more old.types new.types more.types function.signature in_.within;
     named = omega (arith, in_.named, more.longer);
-    does = subst (Does function.block) (sym (function-kept function in_)) in_.does;
+    does = subst (Does function.fun) (sym (function-kept function in_)) in_.does;
   }
 
   pub held-more : AreHeld new functions nodes

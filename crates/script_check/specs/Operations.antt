@@ -129,12 +129,19 @@ module _ (line : ℕ) where
     same ← unless line Mistyped (all_same first.type others)
     Ok first.type
 
+  -- the type of the one output
+  abbrev pub one_output : List Ty → Checked Ty
+  one_output (t ∷ []) = Ok t
+  one_output _ = Err (Refused line Mistyped)
+
   -- ---- operations on them
 
+  -- what a function of one output emits from each member
   abbrev pub do_of : Operand → Callee → Checked Node
   do_of source function = do
     same ← unless line Mistyped (type_eq source.type function.takes)
-    Ok (record { made = made.Do source.number function.number; type = function.gives })
+    t ← one_output function.gives
+    Ok (record { made = made.Do source.number function.number 0; type = t })
 
   abbrev pub group_of : Operand → Checked Node
   group_of source = do
@@ -169,14 +176,18 @@ module _ (line : ℕ) where
     all ← collections_behind [] names s
     flatten_of all
 
+  -- what this function emits from each member of this collection
+  abbrev pub done : List ℕ → List ℕ → State → Checked Node
+  done source function s = do
+    one ← collection source s
+    by ← callee function s
+    do_of one by
+
   -- ---- operations as they are written
 
   -- the collection that an operation makes
   abbrev pub made_by : Operation → State → Checked Node
-  made_by (operation.Do source function) s = do
-    one ← collection source s
-    by ← callee function s
-    do_of one by
+  made_by (operation.Do source function) s = done source function s
   made_by (operation.Group source) s = do
     one ← collection source s
     group_of one

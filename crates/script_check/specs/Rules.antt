@@ -51,7 +51,7 @@ module _ (line : ℕ) where
     takes ← whole_type line function.takes s.types
     gives ← whole_type line function.gives s.types
     scale ← scale_of function.scale
-    Ok (record { takes = takes; gives = gives; scale = scale })
+    Ok (record { takes = takes; gives = gives ∷ []; scale = scale })
 
   abbrev pub rule_function : Written → State → Checked State
   rule_function function s = do

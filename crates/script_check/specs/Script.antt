@@ -11,10 +11,11 @@ use Rattle.written_types.specs.Named.{Named, find}
 use Rattle.script_check.specs.declared.made.Made.{Made}
 use Rattle.script_check.specs.declared.made.Output.{Output}
 
--- what a function takes and gives, and how many emissions are expected of a hundred calls
+-- what a function takes, what it gives to each output, and how many emissions are expected of a
+-- hundred calls
 pub record Signature : Type 0 where
   pub takes : Ty
-  pub gives : Ty
+  pub gives : List Ty
   pub scale : ℕ
 
 -- a function as it is written: what names of types stand for in its body, the name of its argument,
@@ -108,11 +109,11 @@ abbrev pub find_node : List ℕ → Named Node → Option Operand
 find_node name nodes =
     option_map (λ node. record { number = place name nodes; type = node.type }) (find name nodes)
 
--- a function as an operand: its number, and what it takes and gives
+-- a function as an operand: its number, what it takes, and what it gives to each output
 pub record Callee : Type 0 where
   pub number : ℕ
   pub takes : Ty
-  pub gives : Ty
+  pub gives : List Ty
 
 abbrev pub find_function : List ℕ → Named Function → Option Callee
 find_function name functions =

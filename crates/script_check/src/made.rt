@@ -1,5 +1,5 @@
 use combine_table::Comb;
-use dofn_eval::Block;
+use dofn_eval::Fun;
 use flume_grammar::Body;
 use flume_types::Columns;
 use flume_value::{Pile, Str};
@@ -10,21 +10,44 @@ use type_table::TypeId;
 #[derive(PartialEq, Eq, Debug, Drop)]
 pub enum Made {
     /// From the rows of a file, which have these columns.
-    Input { file: Str, columns: Columns },
-    /// By a function from each member of a collection.
-    Do { source: usize, function: usize },
+    Input {
+        file: Str,
+        columns: Columns,
+    },
+    /// By a function from each member of a collection, as what it emits to the output of this
+    /// number, from 0.
+    Do {
+        source: usize,
+        function: usize,
+        output: usize,
+    },
     /// As the groups of a table, by key.
-    Group { source: usize },
+    Group {
+        source: usize,
+    },
     /// By combining the list of each group.
-    Combine { source: usize, by: Comb },
+    Combine {
+        source: usize,
+        by: Comb,
+    },
     /// From the members of all of these collections.
-    Flatten { sources: Pile<usize> },
+    Flatten {
+        sources: Pile<usize>,
+    },
     /// As the distinct members with how often each occurs.
-    Count { source: usize },
+    Count {
+        source: usize,
+    },
     /// From two tables, by key.
-    Join { left: usize, right: usize },
+    Join {
+        left: usize,
+        right: usize,
+    },
     /// From so many of the greatest members.
-    Top { number: u32, source: usize },
+    Top {
+        number: u32,
+        source: usize,
+    },
 }
 
 /// A collection: how it is made, and the type of its members.
@@ -35,12 +58,12 @@ pub struct Node {
 }
 
 /// What a function takes and gives.
-#[derive(Clone, Copy, PartialEq, Eq, Debug)]
+#[derive(PartialEq, Eq, Debug, Drop)]
 pub struct Signature {
     /// The type of its argument.
     pub takes: TypeId,
-    /// The type of what it emits.
-    pub gives: TypeId,
+    /// The types of what it emits, one for each output.
+    pub gives: Pile<TypeId>,
     /// How many emissions are expected of a hundred calls.
     pub scale: u32,
 }
@@ -57,7 +80,7 @@ pub struct Function {
     /// The statements of its body.
     pub body: Pile<Body>,
     /// The same with slots in place of names, as a call runs it.
-    pub block: Block,
+    pub fun: Fun,
 }
 
 /// An output.

@@ -1,3 +1,4 @@
+use crate::made::Signature;
 use type_table::TypeId;
 
 /// A collection that an operation reads: its number, and the type of its members.
@@ -9,8 +10,7 @@ pub struct Operand {
 
 /// A function that an operation calls: its number, and what it takes and gives.
 #[derive(Clone, Copy)]
-pub struct Callee {
+pub struct Callee<'a> {
     pub number: usize,
-    pub takes: TypeId,
-    pub gives: TypeId,
+    pub signature: &'a Signature,
 }

@@ -1,9 +1,10 @@
-ghost use Rattle.std.specs.Prelude.{◌≡◌, ◌<◌, List, length, IfOk};
+ghost use Rattle.std.specs.Prelude.{◌≡◌, ℕ, ◌<◌, List, length, map, IfOk};
 ghost use Rattle.flume_types.specs.declared.types.Ty.{Ty};
 ghost use Rattle.type_table.specs.Table.{type_at, Extends};
 ghost use Rattle.written_types.specs.Answer.{Gives};
+ghost use Rattle.expression_check.specs.Held.{AreTypes};
 ghost use Rattle.script_check.specs.Operations as spec;
-ghost use Rattle.script_check.specs.Program.{node_in};
+ghost use Rattle.script_check.specs.Program.{HasTypes, node_in};
 ghost use Rattle.script_check.specs.inner.Held.{operand_in, callee_in};
 
 use crate::combiner::{comb_of, combined};
@@ -18,7 +19,7 @@ use combine_table::Comb;
 use flume_grammar::{Combiner, Operation, ScriptFault, ScriptKind};
 use flume_value::Str;
 use std::alloc::{AllocError, Global};
-use type_table::Shape;
+use type_table::{Shape, TypeId};
 use written_types::refused;
 
 /// The collection that an operation makes. Nothing else changes.
@@ -35,11 +36,7 @@ pub fn made_by(
     ensures state { state.new.state ≡ state.old.state }
 {
     match by {
-        Operation::Do(source, function) => {
-            let source = collection(line, source, state)?;
-            let function = callee(line, function, state)?;
-            do_of(line, source, function, state)
-        }
+        Operation::Do(source, function) => done(line, source, function, state),
         Operation::Group(source) => {
             let source = collection(line, source, state)?;
             group_of(alloc, line, source, state)
@@ -81,11 +78,10 @@ pub fn collection(line: u32, name: &Str, state: &State) -> Result<Operand, Scrip
 }
 
 /// The function of a name.
-fn callee(line: u32, name: &Str, state: &State) -> Result<Callee, ScriptFault>
+fn callee<'a>(line: u32, name: &Str, state: &'a State) -> Result<Callee<'a>, ScriptFault>
     ensures gives { Gives (callee_in state.now.types) result
         (spec.callee line name.now state.now.state) }
-    ensures within { IfOk result (λ callee.
-        (callee.takes < length state.now.types) × (callee.gives < length state.now.types)) }
+    ensures within { IfOk result (λ callee. HasTypes state.now.types callee.signature.now) }
 {
     match state.function(name) {
         Some(callee) => Ok(callee),
@@ -93,26 +89,51 @@ fn callee(line: u32, name: &Str, state: &State) -> Result<Callee, ScriptFault>
     }
 }
 
-/// What a function emits from each member.
-fn do_of(line: u32, source: Operand, function: Callee, state: &State) -> Result<Node, ScriptFault>
-    requires source { source.ty < length state.now.types }
-    requires takes { function.takes < length state.now.types }
-    requires gives { function.gives < length state.now.types }
+/// What a function emits from each member of a collection, by their names.
+fn done(line: u32, source: &Str, function: &Str, state: &State) -> Result<Node, ScriptFault>
     ensures gives { Gives (node_in state.now.types) result
-        (spec.do_of line (operand_in state.now.types source) (callee_in state.now.types function)) }
+        (spec.done line source.now function.now state.now.state) }
     ensures within { IfOk result (λ node. node.ty < length state.now.types) }
 {
-    if state.types().same(source.ty, function.takes) {
-        let made = Made::Do {
-            source: source.number,
-            function: function.number,
-        };
-        Ok(Node {
-            made,
-            ty: function.gives,
-        })
-    } else {
-        Err(refused(line, ScriptKind::Mistyped))
+    let source = collection(line, source, state)?;
+    let function = callee(line, function, state)?;
+    do_of(line, source, function, state)
+}
+
+/// What a function of one output emits from each member.
+fn do_of(
+    line: u32,
+    source: Operand,
+    function: Callee<'_>,
+    state: &State,
+) -> Result<Node, ScriptFault>
+    requires source { source.ty < length state.now.types }
+    requires function { HasTypes state.now.types function.signature.now }
+    ensures gives { Gives (node_in state.now.types) result (spec.do_of line
+        (operand_in state.now.types source) (callee_in state.now.types function.entry)) }
+    ensures within { IfOk result (λ node. node.ty < length state.now.types) }
+{
+    if !state.types().same(source.ty, function.signature.takes) {
+        return Err(refused(line, ScriptKind::Mistyped));
+    }
+    let ty = one_output(line, function.signature.gives.as_slice())?;
+    let made = Made::Do {
+        source: source.number,
+        function: function.number,
+        output: 0,
+    };
+    Ok(Node { made, ty })
+}
+
+/// The type of the one output.
+fn one_output(line: u32, gives: &[TypeId]) -> Result<TypeId, ScriptFault>
+    ensures gives { (types : List Ty) →
+        Gives (type_at types) result (spec.one_output line (map (type_at types) gives.now)) }
+    ensures within { (n : ℕ) → AreTypes n gives.now → IfOk result (λ id. id < n) }
+{
+    match gives {
+        [id] => Ok(*id),
+        _ => Err(refused(line, ScriptKind::Mistyped)),
     }
 }
 

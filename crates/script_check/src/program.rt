@@ -95,9 +95,8 @@ impl Program {
         requires { number < length self.now.script.functions }
         ensures is { option_map (λ entry. entry.1) (slice_get self.now.script.functions number)
             ≡ Some (spec.function_in self.now.known result.now) }
-        ensures does { spec.Does result.now.block (spec.function_in self.now.known result.now) }
-        ensures takes { result.now.signature.takes < length self.now.known.types }
-        ensures gives { result.now.signature.gives < length self.now.known.types }
+        ensures does { spec.Does result.now.fun (spec.function_in self.now.known result.now) }
+        ensures within { spec.HasTypes self.now.known.types result.now.signature }
     {
         match self.functions.get_index(number) {
             Some((_, function)) => function,

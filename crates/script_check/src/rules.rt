@@ -1,9 +1,9 @@
-ghost use Rattle.std.specs.Prelude.{◌≡◌, ◌<◌, false, is_some, length, IfOk, OnOk};
+ghost use Rattle.std.specs.Prelude.{◌≡◌, ◌<◌, [], ◌∷◌, false, is_some, length, IfOk, OnOk};
 ghost use Rattle.flume_types.specs.Columns.{columns_of, input_columns_of};
 ghost use Rattle.type_table.specs.Table.{type_at};
 ghost use Rattle.written_types.specs.Answer.{Gives, or_fault};
 ghost use Rattle.written_types.specs.Named.{find};
-ghost use Rattle.script_check.specs.Program.{signature_in};
+ghost use Rattle.script_check.specs.Program.{signature_in, HasTypes};
 ghost use Rattle.script_check.specs.Rules as spec;
 
 use crate::fresh::{fresh, room};
@@ -15,8 +15,8 @@ use flume_grammar::{
     Form, Function as Written, Operation, ScriptFault, ScriptKind, Statement, Type,
 };
 use flume_types::{ColumnFault, Columns};
-use flume_value::Str;
-use std::alloc::Global;
+use flume_value::{Pile, Str};
+use std::alloc::{AllocError, Global};
 use type_table::{TypeId, columns, input_columns};
 use written_types::{refused, shallow};
 
@@ -81,8 +81,8 @@ fn rule_function(
         (spec.rule_function line function state.old.state) }
 {
     let signature = signature_of(alloc, line, &function, state)?;
-    let block = state.block_of(alloc, &function, &signature)?;
-    state.add_function(function, signature, block)?;
+    let fun = state.fun_of(alloc, &function, &signature)?;
+    state.add_function(function, signature, fun)?;
     Ok(())
 }
 
@@ -97,20 +97,30 @@ fn signature_of(
         (spec.signature_of line function.now state.old.state) }
     ensures new { OnOk result
         (is_some (find function.now.name state.old.state.functions) ≡ false) }
-    ensures takes { IfOk result (λ signature. signature.takes < length state.new.types) }
-    ensures gives_in { IfOk result (λ signature. signature.gives < length state.new.types) }
+    ensures within { IfOk result (λ signature. HasTypes state.new.types signature) }
+    ensures one { IfOk result (λ signature. length signature.gives ≡ 1) }
     ensures state { state.new.state ≡ state.old.state }
 {
     room(line, state.function_count(), 128)?;
     fresh(line, state.has_function(&function.name))?;
     let takes = state.whole_type(alloc, line, &function.takes)?;
     let gives = state.whole_type(alloc, line, &function.gives)?;
+    let gives = one(alloc, gives)?;
     let scale = scale(line, &function.scale)?;
     Ok(Signature {
         takes,
         gives,
         scale,
     })
+}
+
+/// The types of one output.
+fn one(alloc: Global, id: TypeId) -> Result<Pile<TypeId>, AllocError>
+    ensures { IfOk result (λ ids. ids ≡ id ∷ []) }
+{
+    let mut ids = Pile::new(alloc);
+    ids.push(id)?;
+    Ok(ids)
 }
 
 fn rule_let(

@@ -1,11 +1,12 @@
-ghost use Rattle.std.specs.Prelude.{◌≡◌, ◌<◌, [], length, false, is_some, IfOk, IfSome, OnOk};
+ghost use Rattle.std.specs.Prelude.{◌≡◌, ◌≤◌, ◌<◌, [], length, map, false, is_some, IfOk, IfSome};
+ghost use Rattle.std.specs.Prelude.{OnOk};
 ghost use Rattle.std.specs.Option.{option_map};
 ghost use Rattle.flume_types.specs.Tables.{table_of};
 ghost use Rattle.type_table.specs.Table.{type_at, tree_of, IsWithin, Extends};
 ghost use Rattle.written_types.specs.Answer.{Gives};
 ghost use Rattle.written_types.specs.Named.{find};
 ghost use Rattle.written_types.specs.Written.{whole_type as whole};
-ghost use Rattle.script_check.specs.Program.{signature_in, node_in, Does};
+ghost use Rattle.script_check.specs.Program.{signature_in, HasTypes, node_in, Does};
 ghost use Rattle.body_check.specs.Bodies.{body_of};
 ghost use Rattle.script_check.specs.Script as spec;
 ghost use Rattle.script_check.specs.inner.Held.{operand_in, callee_in};
@@ -14,7 +15,7 @@ use crate::made::{Function, Node, Output, Signature};
 use crate::operand::{Callee, Operand};
 use crate::program::Program;
 use body_check::check_body;
-use dofn_eval::Block;
+use dofn_eval::Fun;
 use flume_grammar::{Body, Function as Written, ScriptFault, Type};
 use flume_value::{Pile, Str};
 use indexmap::IndexMap;
@@ -129,28 +130,31 @@ impl State {
         whole_type(alloc, line, ty, &mut self.known)
     }
 
-    /// The body of a function with slots in place of names, or its first fault. Nothing else
+    /// A function with slots in place of the names of its body, or its first fault. Nothing else
     /// changes.
-    pub fn block_of(
+    pub fn fun_of(
         &mut self,
         alloc: Global,
         function: &Written,
         signature: &Signature,
-    ) -> Result<Block, ScriptFault>
-        requires takes { signature.now.takes < length self.old.types }
-        requires gives { signature.now.gives < length self.old.types }
+    ) -> Result<Fun, ScriptFault>
+        requires within { HasTypes self.old.types signature.now }
+        requires some { 1 ≤ length signature.now.gives }
+        requires most { length signature.now.gives ≤ 8 }
         ensures gives { Gives (λ _. tt) result (body_of self.old.state.types
             function.now.argument (type_at self.old.types signature.now.takes)
-            (type_at self.old.types signature.now.gives) function.now.body) }
-        ensures does { IfOk result (λ block. Does block (spec.function_from function.now
+            (map (type_at self.old.types) signature.now.gives) function.now.body) }
+        ensures does { IfOk result (λ fun. Does fun (spec.function_from function.now
             (signature_in self.old.types signature.now) self.old.state)) }
+        ensures signature { signature_in self.new.types signature.now
+            ≡ signature_in self.old.types signature.now }
         ensures extends { Extends self.old.types self.new.types }
         ensures state { self.new.state ≡ self.old.state }
     {
         let argument = &function.argument;
         let body = function.body.as_slice();
         let takes = signature.takes;
-        let gives = signature.gives;
+        let gives = signature.gives.as_slice();
         check_body(alloc, &mut self.known, argument, takes, gives, body)
     }
 
@@ -185,17 +189,15 @@ impl State {
     }
 
     /// The function of a name.
-    pub fn function(&self, name: &Str) -> Option<Callee>
+    pub fn function(&self, name: &Str) -> Option<Callee<'_>>
         ensures ok { option_map (callee_in self.now.types) result
             ≡ spec.find_function name.now self.now.state.functions }
-        ensures within { IfSome result (λ callee.
-            (callee.takes < length self.now.types) × (callee.gives < length self.now.types)) }
+        ensures within { IfSome result (λ callee. HasTypes self.now.types callee.signature.now) }
     {
         let (number, _, function) = self.functions.get_full(name)?;
         Some(Callee {
             number,
-            takes: function.signature.takes,
-            gives: function.signature.gives,
+            signature: &function.signature,
         })
     }
 
@@ -252,12 +254,11 @@ impl State {
         &mut self,
         function: Written,
         signature: Signature,
-        block: Block,
+        fun: Fun,
     ) -> Result<(), AllocError>
         requires new { is_some (find function.name self.old.state.functions) ≡ false }
-        requires takes { signature.takes < length self.old.types }
-        requires gives { signature.gives < length self.old.types }
-        requires does { Does block (spec.function_from function
+        requires within { HasTypes self.old.types signature }
+        requires does { Does fun (spec.function_from function
             (signature_in self.old.types signature) self.old.state) }
         ensures state { OnOk result (self.new.state ≡ spec.with_function function.name
             (spec.function_from function (signature_in self.old.types signature) self.old.state)
@@ -278,7 +279,7 @@ impl State {
             argument,
             signature,
             body,
-            block,
+            fun,
         };
         self.functions.insert(name, function)?;
         Ok(())

@@ -13,7 +13,7 @@ use Rattle.script_laws.proofs.PlaceLemmas.{mapped-kept}
 
 fits-more : (functions more : Named Function) (nodes : Named Node) (made : Made) (type : Ty)
     → Fits functions nodes made type → Fits (functions ++ more) nodes made type
-fits-more functions more nodes (made.Do source called) type fits = record {
+fits-more functions more nodes (made.Do source called output) type fits = record {
   function = fits.function;
   calls =
       mapped-kept (λ (entry : List ℕ × Function). entry.1) functions more called fits.function

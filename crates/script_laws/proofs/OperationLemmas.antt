@@ -102,17 +102,26 @@ module _ (line : ℕ) (functions : Named Function) (nodes : Named Node) where
       → t ≡ table_of pair.key pair.value
   is-pair t pair e = is-table t pair (there line NotTable (pair_in (out-Ty t)) pair e)
 
+  one-is : (types : List Ty) (type : Ty) → spec.one_output line types ≡ Ok type
+      → slice_get types 0 ≡ Some type
+  one-is [] type e = cc
+  one-is (t ∷ []) type e = ap Some (ok-same t type e)
+  one-is (t ∷ u ∷ types) type e = cc
+
   do-fits : (source : Operand) (callee : Callee) (node : Node) → IsRead nodes source
       → IsCallee functions callee → spec.do_of line source callee ≡ Ok node → NodeFits node
   do-fits source callee node reads is e =
       let same = both (unless line Mistyped (type_eq source.type callee.takes)) _ node e in
       let types : source.type ≡ callee.takes =
       same-types source.type callee.takes (holds line Mistyped _ same.part same.first) in
-      subst NodeFits (ok-same _ node same.then) (record {
+      let gives = both (spec.one_output line callee.gives) _ node same.then in
+      subst NodeFits (ok-same _ node gives.then) (record {
         function = is.function;
         calls = is.calls;
         takes = reads ∙ ap Some (types ∙ is.takes);
-        gives = is.gives;
+        gives =
+            subst (λ types. slice_get types 0 ≡ Some gives.part) is.gives
+            (one-is callee.gives gives.part gives.first);
       })
 
   group-fits : (source : Operand) (node : Node) → IsRead nodes source

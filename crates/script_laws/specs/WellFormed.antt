@@ -29,13 +29,13 @@ function_at functions number = option_map (λ entry. entry.1) (slice_get functio
 
 -- ---- how a collection is made
 
--- by a function that takes the members and gives this type
+-- by a function that takes the members and gives this type to the output of that number
 pub record IsDone (functions : Named Function) (nodes : Named Node)
-    (source called : ℕ) (type : Ty) : Type 0 where
+    (source called output : ℕ) (type : Ty) : Type 0 where
   pub function : Function
   pub calls : function_at functions called ≡ Some function
   pub takes : members_at nodes source ≡ Some function.signature.takes
-  pub gives : type ≡ function.signature.gives
+  pub gives : slice_get function.signature.gives output ≡ Some type
 
 -- as the groups of a table
 pub record IsGrouped (nodes : Named Node) (source : ℕ) (type : Ty) : Type 0 where
@@ -82,7 +82,8 @@ pub record IsTop (nodes : Named Node) (number source : ℕ) (type : Ty) : Type 0
 -- how a collection behind these nodes is made fits the type of its members
 abbrev pub Fits : Named Function → Named Node → Made → Ty → Type 0
 Fits functions nodes (made.Input file columns) type = input_columns_of type ≡ Some columns
-Fits functions nodes (made.Do source function) type = IsDone functions nodes source function type
+Fits functions nodes (made.Do source function output) type =
+    IsDone functions nodes source function output type
 Fits functions nodes (made.Group source) type = IsGrouped nodes source type
 Fits functions nodes (made.Combine source by) type = IsCombined nodes source by type
 Fits functions nodes (made.Flatten sources) type = IsFlattened nodes sources type

@@ -1,5 +1,5 @@
--- What a body's statements find: types under numbers, what is in sight, and the result's type.
-use Rattle.std.specs.Prelude.{◌≡◌, ℕ, ◌-◌, List, length, drop}
+-- What a body's statements find: types under numbers, what is in sight, and the outputs' types.
+use Rattle.std.specs.Prelude.{◌≡◌, ℕ, ◌-◌, List, length, map, drop}
 use Rattle.flume_types.specs.declared.types.Ty.{Ty}
 use Rattle.type_table.specs.Table.{type_at}
 use Rattle.expression_check.specs.Sight.{Newest, Sight}
@@ -8,11 +8,11 @@ use Rattle.expression_check.specs.Held.{InSight}
 pub record InBody : Type 0 where
   pub types : List Ty
   pub sight : Sight
-  pub gives : Ty
+  pub gives : List Ty
 
-abbrev pub in_body : InSight → ℕ → InBody
+abbrev pub in_body : InSight → List ℕ → InBody
 in_body held gives =
-    record { types = held.types; sight = held.sight; gives = type_at held.types gives }
+    record { types = held.types; sight = held.sight; gives = map (type_at held.types) gives }
 
 -- the oldest of the names are those from before
 abbrev pub IsBehind : Newest Ty → Newest Ty → Type 0

@@ -1,9 +1,9 @@
 -- The slots of statements, and what is in sight after them; or the first fault.
-use Rattle.std.specs.Prelude.{ℕ, Bool, List, [], ◌∷◌, ◌++◌, Ok}
+use Rattle.std.specs.Prelude.{ℕ, Bool, List, [], ◌∷◌, ◌++◌, Ok, slice_get}
 use Rattle.flume_types.specs.declared.types.Ty.{Ty, out-Ty}
 use Rattle.flume_grammar.specs.declared.tree.Expr.{Expr}
 use Rattle.flume_grammar.specs.declared.tree.Body.{Body, Body-F, fold-Body}
-use Rattle.flume_grammar.specs.declared.fault.ScriptKind.TheVariants.{Mistyped}
+use Rattle.flume_grammar.specs.declared.fault.ScriptKind.TheVariants.{BadNumber, Mistyped}
 use Rattle.dofn_eval.specs.declared.expr.Expr.{Expr as Slots}
 use Rattle.dofn_eval.specs.declared.stmt.Stmt.{Stmt}
 use Rattle.dofn_eval.specs.declared.stmt.Stmt.TheVariants as stmt
@@ -55,10 +55,11 @@ module _ (line : ℕ) where
     x ← new_value name e s
     Ok (stmt.Let x.0, with_name name x.1 s)
 
-  abbrev pub emit_slots : Ty → Expr → Sight → Checked Placed
-  emit_slots gives e s = do
-    slots ← slots_as (λ t. is_same t gives) e s
-    Ok (stmt.Emit slots, s)
+  abbrev pub emit_slots : List Ty → ℕ → Expr → Sight → Checked Placed
+  emit_slots gives output e s = do
+    wanted ← or_fault line BadNumber (slice_get gives output)
+    slots ← slots_as (λ t. is_same t wanted) e s
+    Ok (stmt.Emit output slots, s)
 
   abbrev pub if_slots : Expr → InBlock → InBlock → Sight → Checked Placed
   if_slots e a b s = do
@@ -95,12 +96,12 @@ module _ (line : ℕ) where
     both ← both_slots sides left a right b s
     Ok (stmt.Case x.0 both.0 both.1, s)
 
--- what the function emits has this type
-module _ (gives : Ty) where
+-- what the function emits to each output has its type, of these
+module _ (gives : List Ty) where
   abbrev pub layer_placed : {X : Type 0} → (X → Sight → Checked Placed) →
       Body-F X → Sight → Checked Placed
   layer_placed f (Body-F.Let line name e) s = let_slots line name e s
-  layer_placed f (Body-F.Emit line e) s = emit_slots line gives e s
+  layer_placed f (Body-F.Emit line e) s = emit_slots line gives 0 e s
   layer_placed f (Body-F.If line e a b) s = if_slots line e (block f a) (block f b) s
   layer_placed f (Body-F.For line name e body) s = for_slots line name e (block f body) s
   layer_placed f (Body-F.Case line e left a right b) s =

@@ -1,5 +1,5 @@
 -- What an evaluation leaves.
-use Rattle.std.specs.Prelude.{◌≡◌, true, false, Result, Ok, Err, List, [], ◌∷◌, ◌++◌}
+use Rattle.std.specs.Prelude.{◌≡◌, ℕ, true, false, Result, Ok, Err, List, ◌∷◌}
 use Rattle.flume_value.specs.declared.value.Value.{Value}
 use Rattle.flume_value.specs.declared.value.Value.TheVariants as variant
 use Rattle.flume_value.specs.declared.fault.CallFault.{CallFault}
@@ -10,7 +10,8 @@ use Rattle.dofn_eval.specs.declared.expr.Expr.{Expr}
 use Rattle.dofn_eval.specs.declared.stmt.Stmt.{Stmt}
 use Rattle.dofn_eval.specs.declared.scope.Scope.{Scope}
 use Rattle.dofn_eval.specs.Meaning.{value_of}
-use Rattle.dofn_eval.specs.Run.{State, state, run, run_one as one_run, for_each, by_side}
+use Rattle.dofn_eval.specs.Run.{Emissions, State, state, emitted_to, run, run_one as one_run}
+use Rattle.dofn_eval.specs.Run.{for_each, by_side}
 use Rattle.dofn_eval.specs.inner.Operands.{values, named}
 
 -- what was returned, as the view sees it, is what the outcome gives; or it is the outcome's trap,
@@ -42,15 +43,15 @@ abbrev pub pick : Scope → Expr → Expr → Expr → Outcome Value
 pick scope c a b = chosen (value_in scope c) (value_in scope a) (value_in scope b)
 
 -- what a block emits with these values in scope, behind what was emitted so far
-abbrev pub run_in : Scope → List Stmt → List Value → Outcome (List Value)
+abbrev pub run_in : Scope → List Stmt → Emissions → Outcome Emissions
 run_in scope block out = run block (values scope) out
 
 -- ---- where a block has named values so far
 
-abbrev pub state_in : Scope → List Value → List Value → State
+abbrev pub state_in : Scope → List Value → Emissions → State
 state_in outer names out = state (named names (values outer)) out
 
-abbrev pub run_one : Scope → Stmt → List Value → List Value → Outcome State
+abbrev pub run_one : Scope → Stmt → List Value → Emissions → Outcome State
 run_one outer stmt names out = one_run stmt (state_in outer names out)
 
 abbrev pub value_behind : Scope → List Value → Expr → Outcome Value
@@ -62,14 +63,14 @@ name outer names e = then (value_behind outer names e) (λ v. Gives (v ∷ named
 
 -- ---- each form of statement, with these values in scope
 
-abbrev pub emit : Scope → Expr → List Value → Outcome (List Value)
-emit scope e out = then (value_in scope e) (λ v. Gives (out ++ v ∷ []))
+abbrev pub emit : Scope → ℕ → Expr → Emissions → Outcome Emissions
+emit scope n e out = then (value_in scope e) (λ v. emitted_to n v out)
 
-abbrev pub run_if : Scope → Expr → List Stmt → List Stmt → List Value → Outcome (List Value)
+abbrev pub run_if : Scope → Expr → List Stmt → List Stmt → Emissions → Outcome Emissions
 run_if scope c a b out = chosen (value_in scope c) (run_in scope a out) (run_in scope b out)
 
-abbrev pub run_for : Scope → Expr → List Stmt → List Value → Outcome (List Value)
+abbrev pub run_for : Scope → Expr → List Stmt → Emissions → Outcome Emissions
 run_for scope e body out = for_each (run body) (value_in scope e) (values scope) out
 
-abbrev pub run_case : Scope → Expr → List Stmt → List Stmt → List Value → Outcome (List Value)
+abbrev pub run_case : Scope → Expr → List Stmt → List Stmt → Emissions → Outcome Emissions
 run_case scope e a b out = by_side (run a) (run b) (value_in scope e) (values scope) out

@@ -36,10 +36,10 @@ is_given es c = list_any (gives_place c) es
 
 -- whether nodes give all that a node reads
 abbrev pub reads_given : List Entry → Node → Bool
-reads_given es (Source r t) = true
-reads_given es (Flatten ty ins) = list_all (is_given es) ins
+reads_given es (Source r) = true
+reads_given es (Flatten ins) = list_all (is_given es) ins
 reads_given es (Pdo c f) = is_given es c
-reads_given es (Gbk c o l k tb) = is_given es c
+reads_given es (Gbk c o l k) = is_given es c
 
 abbrev pub above : Option ℕ → ℕ → Bool
 above None n = true

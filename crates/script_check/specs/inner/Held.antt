@@ -13,7 +13,7 @@ use Rattle.script_check.specs.declared.operand.Callee.{Callee as HeldCallee}
 use Rattle.script_check.specs.declared.pairs.Pair.{Pair as HeldPair}
 use Rattle.script_check.specs.Script.{Function, Node, State, Operand, Callee}
 use Rattle.script_check.specs.Operations.{Pair}
-use Rattle.script_check.specs.Program.{Numbered, function_in, node_in, Does}
+use Rattle.script_check.specs.Program.{Numbered, HasTypes, function_in, node_in, Does}
 
 -- ---- operands
 
@@ -23,8 +23,8 @@ operand_in types held = record { number = held.number; type = type_at types held
 abbrev pub callee_in : List Ty → HeldCallee → Callee
 callee_in types held = record {
   number = held.number;
-  takes = type_at types held.takes;
-  gives = type_at types held.gives;
+  takes = type_at types held.signature.now.takes;
+  gives = map (type_at types) held.signature.now.gives;
 }
 
 abbrev pub pair_at : List Ty → HeldPair → Pair
@@ -66,10 +66,9 @@ numbered_of known functions nodes outputs = record {
 
 -- the numbers are those of types, and of the first names, and the slots do what the body does
 pub record FunctionIn (known : Known) (held : HeldFunction) : Type 0 where
-  pub takes : held.signature.takes < length known.types
-  pub gives : held.signature.gives < length known.types
+  pub within : HasTypes known.types held.signature
   pub named : held.type_names ≤ length known.names
-  pub does : Does held.block (function_in known held)
+  pub does : Does held.fun (function_in known held)
 
 -- the number is that of a type
 abbrev pub NodeIn : Known → HeldNode → Type 0

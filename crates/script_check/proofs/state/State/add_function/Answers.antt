@@ -1,10 +1,10 @@
-use Rattle.std.proofs.Common.{◌≡◌, ℕ, ◌<◌, false, is_some, List, length, map, take, sym, ap, ◌∙◌, subst, arith}
+use Rattle.std.proofs.Common.{◌≡◌, ℕ, false, is_some, List, map, take, sym, ap, ◌∙◌, subst, arith}
 use Rattle.std.proofs.Math.Seq.{take-length}
 use Rattle.flume_types.specs.declared.types.Ty.{Ty}
 use Rattle.written_types.specs.Named.{Named, find}
 use Rattle.script_check.specs.declared.made.Function.{Function as HeldFunction}
 use Rattle.script_check.specs.Script.{Function, State, with_function}
-use Rattle.script_check.specs.Program.{signature_in, function_in, Does}
+use Rattle.script_check.specs.Program.{signature_in, HasTypes, function_in, Does}
 use Rattle.script_check.specs.inner.Held.{Checking, function_of, node_of, FunctionIn}
 use Rattle.written_types.proofs.NamedLemmas.{mapped-put, within-put}
 use Rattle.script_check.proofs.StateLemmas.{none-is}
@@ -18,17 +18,14 @@ invariant_of-self-2 c =
       argument = c.args.function.argument;
       signature = c.args.signature;
       body = c.args.function.body;
-      block = c.args.block;
+      fun = c.args.fun;
     } in
     let new =
     subst (λ checking. is_some (find c.args.function.name checking.state.functions) ≡ false)
     (sym c.self.view_is) c.requires.new in
-    let takes =
-    subst (λ checking. c.args.signature.takes < length checking.types) (sym c.self.view_is)
-    c.requires.takes in
-    let gives =
-    subst (λ checking. c.args.signature.gives < length checking.types) (sym c.self.view_is)
-    c.requires.gives in
+    let within =
+    subst (λ checking. HasTypes checking.types c.args.signature) (sym c.self.view_is)
+    c.requires.within in
     let function : Named Ty → List Ty → Function = λ names types. record {
       types = names;
       argument = c.args.function.argument;
@@ -38,16 +35,15 @@ invariant_of-self-2 c =
     let does =
     subst
     (λ (checking : Checking).
-    Does c.args.block (function checking.state.types checking.types))
+    Does c.args.fun (function checking.state.types checking.types))
     (sym c.self.view_is) c.requires.does in
     let all : take c.name_count-type_names.result own.known.names ≡ own.known.names =
     ap (λ n. take n own.known.names) c.name_count-type_names.ensures
     ∙ take-length own.known.names in
     let in_ : FunctionIn own.known held = record {
-      takes = takes;
-      gives = gives;
+      within = within;
       named = omega (arith, c.name_count-type_names.ensures);
-      does = subst (λ names. Does c.args.block (function names own.known.types)) (sym all) does;
+      does = subst (λ names. Does c.args.fun (function names own.known.types)) (sym all) does;
     } in (
       within-put (function_in own.known) own.functions c.insert.new.self c.args.function.name held
           (none-is _ new) c.in_ok-insert.ensures.entries
@@ -63,7 +59,7 @@ returns-clause-state c =
       argument = c.args.function.argument;
       signature = c.args.signature;
       body = c.args.function.body;
-      block = c.args.block;
+      fun = c.args.fun;
     } in
     let new =
     subst (λ checking. is_some (find c.args.function.name checking.state.functions) ≡ false)

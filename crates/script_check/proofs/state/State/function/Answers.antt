@@ -1,8 +1,8 @@
-use Rattle.std.proofs.Common.{◌≡◌, ℕ, ◌<◌, length, Some, None, sym, subst}
+use Rattle.std.proofs.Common.{◌≡◌, ℕ, map, Some, None, sym, subst}
 use Rattle.script_check.specs.inner.Held.{FunctionIn}
 use Rattle.type_table.specs.Table.{type_at}
 use Rattle.script_check.specs.Script.{Callee, Function, find_function}
-use Rattle.script_check.specs.Program.{function_in}
+use Rattle.script_check.specs.Program.{HasTypes, function_in}
 use Rattle.written_types.proofs.NamedLemmas.{found-within}
 use Rattle.script_check.proofs.StateLemmas.{placed-found, placed-none}
 use Rattle.script_check.proofs.state.State.function.Goals as goal
@@ -32,7 +32,7 @@ returns-clause-ok c =
     (λ checking. Some (record {
       number = found.number;
       takes = type_at checking.types found.function.now.signature.takes;
-      gives = type_at checking.types found.function.now.signature.gives;
+      gives = map (type_at checking.types) found.function.now.signature.gives;
     })
     ≡ find_function c.args.name.now checking.state.functions)
     c.self.view_is
@@ -46,8 +46,5 @@ returns-clause-within c =
     let held =
     found-within (FunctionIn own.known) c.args.name.now own.functions.entries
     found.function.now c.self.invariant.0 (sym found.ensures.value) in
-    subst
-    (λ checking.
-    (found.function.now.signature.takes < length checking.types)
-    × (found.function.now.signature.gives < length checking.types))
-    c.self.view_is (held.takes, held.gives)
+    subst (λ checking. HasTypes checking.types found.function.now.signature) c.self.view_is
+    held.within

@@ -1,49 +1,49 @@
-use Rattle.std.proofs.Common.{ap, ◌∙◌}
+use Rattle.std.proofs.Common.{map, ap, ◌∙◌}
 use Rattle.type_table.specs.Table.{type_at}
 use Rattle.body_check.proofs.FunctionLemmas.{keeps_rules, is_typed, means_same, started}
-use Rattle.body_check.proofs.checks.check_body.Goals as goal
+use Rattle.body_check.proofs.checks.block_of.Goals as goal
 
 pub returns-clause-gives : goal.returns-clause-gives
 returns-clause-gives c =
     let known = c.args.known.now in
     let takes = type_at known.types c.args.takes in
-    let gives = type_at known.types c.args.gives in
+    let gives = map (type_at known.types) c.args.gives.now in
     let made = c.slots_of-slots.result in
     let types = c.new-2.ensures.types ∙ ap (λ k. k.types) c.replace-taken.ensures.value in
     let names = ap (λ s. s.known) c.new-frame.ensures.sight ∙ c.new-2.ensures.known
     ∙ ap (λ k. k.names) c.replace-taken.ensures.value in
     keeps_rules known.names c.args.argument.now takes gives c.args.body.now made
     (started c.new-frame.result made known.names known.types c.args.argument.now c.args.takes
-    c.args.gives c.args.body.now (c.new-frame.ensures.types ∙ types) names
-    (c.new-frame.ensures.emits ∙ ap (λ ts. type_at ts c.args.gives) types)
+    c.args.gives.now c.args.body.now (c.new-frame.ensures.types ∙ types) names
+    (c.new-frame.ensures.emits ∙ ap (λ ts. map (type_at ts) c.args.gives.now) types)
     c.slots_of-slots.ensures.gives)
 
 pub returns-clause-typed : goal.returns-clause-typed
 returns-clause-typed c =
     let known = c.args.known.now in
     let takes = type_at known.types c.args.takes in
-    let gives = type_at known.types c.args.gives in
+    let gives = map (type_at known.types) c.args.gives.now in
     let made = c.slots_of-slots.result in
     let types = c.new-2.ensures.types ∙ ap (λ k. k.types) c.replace-taken.ensures.value in
     let names = ap (λ s. s.known) c.new-frame.ensures.sight ∙ c.new-2.ensures.known
     ∙ ap (λ k. k.names) c.replace-taken.ensures.value in
     is_typed known.names c.args.argument.now takes gives c.args.body.now made
     (started c.new-frame.result made known.names known.types c.args.argument.now c.args.takes
-    c.args.gives c.args.body.now (c.new-frame.ensures.types ∙ types) names
-    (c.new-frame.ensures.emits ∙ ap (λ ts. type_at ts c.args.gives) types)
+    c.args.gives.now c.args.body.now (c.new-frame.ensures.types ∙ types) names
+    (c.new-frame.ensures.emits ∙ ap (λ ts. map (type_at ts) c.args.gives.now) types)
     c.slots_of-slots.ensures.gives)
 
 pub returns-clause-same : goal.returns-clause-same
 returns-clause-same c =
     let known = c.args.known.now in
     let takes = type_at known.types c.args.takes in
-    let gives = type_at known.types c.args.gives in
+    let gives = map (type_at known.types) c.args.gives.now in
     let made = c.slots_of-slots.result in
     let types = c.new-2.ensures.types ∙ ap (λ k. k.types) c.replace-taken.ensures.value in
     let names = ap (λ s. s.known) c.new-frame.ensures.sight ∙ c.new-2.ensures.known
     ∙ ap (λ k. k.names) c.replace-taken.ensures.value in
     means_same known.names c.args.argument.now takes gives c.args.body.now made
     (started c.new-frame.result made known.names known.types c.args.argument.now c.args.takes
-    c.args.gives c.args.body.now (c.new-frame.ensures.types ∙ types) names
-    (c.new-frame.ensures.emits ∙ ap (λ ts. type_at ts c.args.gives) types)
+    c.args.gives.now c.args.body.now (c.new-frame.ensures.types ∙ types) names
+    (c.new-frame.ensures.emits ∙ ap (λ ts. map (type_at ts) c.args.gives.now) types)
     c.slots_of-slots.ensures.gives)

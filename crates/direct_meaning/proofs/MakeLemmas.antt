@@ -1,0 +1,190 @@
+-- A needed node makes a collection of its type.
+use Rattle.std.proofs.Common.{◌≡◌, ℕ, zero, suc, ◌+◌, ◌-◌, ◌<◌, Bool, true, false, List, [], ◌∷◌, ◌++◌, length, Option, Some, None, slice_get, refl, sym, ap, ◌∙◌, subst, arith}
+use Rattle.std.specs.List.{All, AllByRecursion as Each, Contains}
+use Rattle.std.specs.Option.{option_and_then, option_map}
+use Rattle.std.proofs.lemmas.List.Elements.{All-contains}
+use Rattle.flume_collection.proofs.Members.{at_head, at_tail}
+use Rattle.flume_collection.specs.Collection.{Collection, by_key, together}
+use Rattle.flume_types.specs.Tables.{table_of}
+use Rattle.flume_types.specs.declared.types.Ty.{Ty}
+use Rattle.flume_types.specs.declared.types.Ty.TheVariants as ty
+use Rattle.flume_value.specs.declared.value.Value.{Value}
+use Rattle.written_types.specs.Named.{Named}
+use Rattle.script_check.specs.declared.made.Made.{Made}
+use Rattle.script_check.specs.declared.made.Made.TheVariants as made
+use Rattle.script_check.specs.Operations.{sides_of}
+use Rattle.script_check.specs.Script.{Function, Node, Script}
+use Rattle.script_laws.specs.WellFormed.{Fits, IsWellTyped, function_at, members_at}
+use Rattle.flume_value.proofs.EachLemmas.{Each-at, each_from}
+use Rattle.direct_meaning.proofs.CallLemmas.{called_is, calls_answered}
+use Rattle.direct_meaning.proofs.PlaceLemmas.{mapped, within}
+use Rattle.direct_meaning.proofs.TableLemmas.{IsMadeAt, all_found, found}
+use Rattle.direct_meaning.proofs.TypeLemmas.{combined_is, counted_is, grouped_is, joined_is, rows_are, together_is, top_is}
+use Rattle.direct_meaning.specs.Direct.{called_by, combined_by, counted_by, done_at, done_by, inputs_behind, joined_at, joined_by, made_as, made_at, rows_as, top_by}
+use Rattle.direct_meaning.specs.Inputs.{HaveRows, Wanted, wanted_by}
+use Rattle.direct_meaning.specs.Made.{AreMade, IsCollectionOf}
+use Rattle.direct_meaning.specs.Needed.{is_needed, operands}
+
+-- a node makes a collection of its type
+pub record Makes (script : Script) (number : ℕ) (m : Made) (inputs : List (List Value))
+    (table : List (Option Collection)) (type : Ty) : Type 0 where
+  pub collection : Collection
+  pub made : made_as script number m inputs table ≡ Some collection
+  pub is : IsCollectionOf type collection
+
+-- the function of a number is well typed
+pub well_typed : (script : Script) → All (λ entry. IsWellTyped entry.1) script.functions
+    → (called : ℕ) (function : Function) → function_at script.functions called ≡ Some function
+    → IsWellTyped function
+well_typed script typed called function at =
+    let entry = mapped (λ (e : List ℕ × Function). e.1) (slice_get script.functions called) function
+    at in
+    subst IsWellTyped entry.2
+    (Each-at (λ (e : List ℕ × Function). IsWellTyped e.1) script.functions called entry.0
+    (each_from (λ (e : List ℕ × Function). IsWellTyped e.1) script.functions typed) (sym entry.1))
+
+module _ (script : Script) (before : Named Node) (table : List (Option Collection))
+    (are : AreMade script before table) where
+  there : (number : ℕ) (type : Ty) → members_at before number ≡ Some type → number < length before
+  there number type reads =
+      let node = mapped (λ (entry : List ℕ × Node). entry.1.type) (slice_get before number) type
+      reads in
+      within before number node.0 node.1
+
+  -- a collection that a needed node reads
+  pub read : (numbers : List ℕ)
+      → ((number : ℕ) → Contains numbers number → is_needed script number ≡ true)
+      → (number : ℕ) → Contains numbers number → (type : Ty)
+      → members_at before number ≡ Some type → IsMadeAt table number type
+  read numbers needed number is type reads =
+      found script before table are number type reads (there number type reads)
+      (needed number is)
+
+  group_makes : (number source : ℕ) (type : Ty) (inputs : List (List Value)) (key value : Ty)
+      → IsMadeAt table source (table_of key value) → type ≡ table_of key (ty.List value)
+      → Makes script number (made.Group source) inputs table type
+  group_makes number source type inputs key value it gives = record {
+    collection = by_key it.collection;
+    made = ap (option_map by_key) it.made;
+    is = subst (λ (t : Ty). IsCollectionOf t (by_key it.collection)) (sym gives)
+        (grouped_is key value it.collection it.is);
+  }
+
+  join_makes : (number left right : ℕ) (type : Ty) (inputs : List (List Value))
+      (key lefts rights : Ty) → IsMadeAt table left (table_of key lefts)
+      → IsMadeAt table right (table_of key rights)
+      → type ≡ table_of key (sides_of lefts rights)
+      → Makes script number (made.Join left right) inputs table type
+  join_makes number left right type inputs key lefts rights a b gives = record {
+    collection = joined_by a.collection b.collection;
+    made = λ i. option_and_then (λ c. option_map (joined_by c) (b.made i)) (a.made i);
+    is = subst (λ (t : Ty). IsCollectionOf t (joined_by a.collection b.collection)) (sym gives)
+        (joined_is key lefts rights a.collection b.collection a.is b.is);
+  }
+
+  module _ (number : ℕ) (m : Made)
+      (needed : (n : ℕ) → Contains (operands m) n → is_needed script n ≡ true) where
+    -- the collection of a number that is read first, or after one other
+    first_read : (source : ℕ) (others : List ℕ) → operands m ≡ source ∷ others → (type : Ty)
+        → members_at before source ≡ Some type → IsMadeAt table source type
+    first_read source others same type reads =
+        read (operands m) needed source
+        (subst (λ (l : List ℕ). Contains l source) (sym same) (at_head source others)) type reads
+
+  done_makes : (number source called output : ℕ) (type : Ty) (inputs : List (List Value))
+      (function : Function) → IsWellTyped function
+      → function_at script.functions called ≡ Some function
+      → slice_get function.signature.gives output ≡ Some type
+      → IsMadeAt table source function.signature.takes
+      → Makes script number (made.Do source called output) inputs table type
+  done_makes number source called output type inputs function typed at gives it =
+      let c = it.collection in
+      let origin = number - output in
+      let all = calls_answered function typed c.bag it.is.typed in
+      record {
+        collection = called_by origin output c.traps all.calls;
+        made = ap (option_and_then (λ (f : Function). done_at origin output f source table)) at
+            ∙ (ap (option_and_then (done_by origin output function)) it.made
+            ∙ ap (option_map (called_by origin output c.traps)) all.are);
+        is = called_is origin output c.traps function.signature.gives type gives all.calls all.have;
+      }
+
+  -- what a needed node makes
+  pub makes : All (λ entry. IsWellTyped entry.1) script.functions → (number : ℕ) (m : Made) (type : Ty) (inputs : List (List Value))
+      (wanted : List Wanted) → Fits script.functions before m type
+      → HaveRows (wanted_by m type ++ wanted) inputs
+      → ((n : ℕ) → Contains (operands m) n → is_needed script n ≡ true)
+      → Makes script number m inputs table type
+  makes typed number (made.Input file columns) type [] wanted fits have needed = absurd have
+  makes typed number (made.Input file columns) type (rows ∷ inputs) wanted fits have needed = record {
+    collection = rows_as rows;
+    made = refl;
+    is = rows_are type rows have.0;
+  }
+  makes typed number (made.Do source called output) type inputs wanted fits have needed =
+      let m = made.Do source called output in
+      done_makes number source called output type inputs fits.function
+      (well_typed script typed called fits.function fits.calls) fits.calls fits.gives
+      (first_read number m needed source [] refl fits.function.signature.takes fits.takes)
+  makes typed number (made.Group source) type inputs wanted fits have needed =
+      group_makes number source type inputs fits.key fits.value
+      (first_read number (made.Group source) needed source [] refl
+      (table_of fits.key fits.value) fits.reads)
+      fits.gives
+  makes typed number (made.Combine source by) type inputs wanted fits have needed =
+      let it = first_read number (made.Combine source by) needed source [] refl
+      (table_of fits.key (ty.List fits.member)) fits.reads in
+      let c = combined_by number by it.collection in
+      record {
+        collection = c;
+        made = ap (option_map (combined_by number by)) it.made;
+        is = subst (λ (t : Ty). IsCollectionOf t c) (sym fits.gives)
+            (combined_is number by fits.key fits.member fits.value it.collection fits.suits it.is);
+      }
+  makes typed number (made.Flatten sources) type inputs wanted fits have needed =
+      let all = all_found table type sources
+      (λ n is. read sources needed n is type
+      (All-contains (λ (source : ℕ). members_at before source ≡ Some type) sources n
+      fits.read is)) in
+      record {
+        collection = together all.collections;
+        made = ap (option_map together) all.made;
+        is = together_is type all.collections all.are;
+      }
+  makes typed number (made.Count source) type inputs wanted fits have needed =
+      let it = first_read number (made.Count source) needed source [] refl fits.member fits.reads
+      in
+      let c = counted_by number it.collection in
+      record {
+        collection = c;
+        made = ap (option_map (counted_by number)) it.made;
+        is = subst (λ (t : Ty). IsCollectionOf t c) (sym fits.gives)
+            (counted_is number fits.member it.collection it.is);
+      }
+  makes typed number (made.Join left right) type inputs wanted fits have needed =
+      join_makes number left right type inputs fits.key fits.left_value fits.right_value
+      (first_read number (made.Join left right) needed left (right ∷ []) refl
+      (table_of fits.key fits.left_value) fits.reads_left)
+      (read (left ∷ right ∷ []) needed right (at_tail left (right ∷ []) right (at_head right []))
+      (table_of fits.key fits.right_value) fits.reads_right)
+      fits.gives
+  makes typed number (made.Top many source) type inputs wanted fits have needed =
+      let it = first_read number (made.Top many source) needed source [] refl type fits.reads in
+      record {
+        collection = top_by many it.collection;
+        made = ap (option_map (top_by many)) it.made;
+        is = top_is many type it.collection it.is;
+      }
+
+-- the rows behind a node's own
+pub rows_behind : (m : Made) (type : Ty) (inputs : List (List Value)) (wanted : List Wanted)
+    → HaveRows (wanted_by m type ++ wanted) inputs → HaveRows wanted (inputs_behind m inputs)
+rows_behind (made.Input file columns) type [] wanted have = absurd have
+rows_behind (made.Input file columns) type (rows ∷ inputs) wanted have = have.1
+rows_behind (made.Do source called output) type inputs wanted have = have
+rows_behind (made.Group source) type inputs wanted have = have
+rows_behind (made.Combine source by) type inputs wanted have = have
+rows_behind (made.Flatten sources) type inputs wanted have = have
+rows_behind (made.Count source) type inputs wanted have = have
+rows_behind (made.Join left right) type inputs wanted have = have
+rows_behind (made.Top many source) type inputs wanted have = have

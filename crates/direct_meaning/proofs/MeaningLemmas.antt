@@ -1,0 +1,164 @@
+-- A well-formed script over rows of its inputs has a meaning.
+use Rattle.std.proofs.Common.{◌≡◌, ℕ, zero, suc, ◌+◌, ◌<◌, Bool, true, false, cond, List, [], ◌∷◌, ◌++◌, length, Option, Some, None, if◌then◌else◌, refl, sym, ap, ◌∙◌, subst, arith, append_assoc, append-nil, length-append}
+use Rattle.std.specs.List.{Contains, filter, flat_map}
+use Rattle.std.specs.Option.{option_and_then}
+use Rattle.flume_collection.specs.Collection.{Collection}
+use Rattle.flume_value.specs.declared.value.Value.{Value}
+use Rattle.written_types.specs.Named.{Named}
+use Rattle.script_check.specs.Script.{Node, Script}
+use Rattle.script_laws.specs.WellFormed.{AllFit, Fits, IsWellFormed}
+use Rattle.direct_meaning.proofs.MakeLemmas.{Makes, makes, rows_behind}
+use Rattle.direct_meaning.proofs.PlaceLemmas.{at_end}
+use Rattle.direct_meaning.proofs.TableLemmas.{as_many, more_made}
+use Rattle.direct_meaning.specs.Direct.{collections, inputs_behind, made_as, meaning}
+use Rattle.direct_meaning.specs.Inputs.{AreInputs, HaveRows, Wanted, wanted_by}
+use Rattle.direct_meaning.specs.Made.{AreMade, IsCollectionOf}
+use Rattle.direct_meaning.specs.Needed.{is_needed, numbered, operands}
+use Rattle.direct_meaning.specs.inner.Stands.{wanted_from}
+
+-- what the nodes from a number on want, where the first is needed or not
+abbrev wanted_if : Bool → Script → ℕ → List ℕ × Node → Named Node → List Wanted
+wanted_if needed script number entry rest =
+    flat_map (λ it. wanted_by it.1.1.made it.1.1.type)
+    (cond needed ((number, entry) ∷ filter (λ it. is_needed script it.0) (numbered (suc number) rest))
+    (filter (λ it. is_needed script it.0) (numbered (suc number) rest)))
+
+pub wanted_needed : (script : Script) (number : ℕ) (entry : List ℕ × Node) (rest : Named Node)
+    (inputs : List (List Value)) → is_needed script number ≡ true
+    → HaveRows (wanted_from script number (entry ∷ rest)) inputs
+    → HaveRows (wanted_by entry.1.made entry.1.type ++ wanted_from script (suc number) rest) inputs
+wanted_needed script number entry rest inputs needed have =
+    subst (λ (b : Bool). HaveRows (wanted_if b script number entry rest) inputs) needed have
+
+pub wanted_unneeded : (script : Script) (number : ℕ) (entry : List ℕ × Node) (rest : Named Node)
+    (inputs : List (List Value)) → is_needed script number ≡ false
+    → HaveRows (wanted_from script number (entry ∷ rest)) inputs
+    → HaveRows (wanted_from script (suc number) rest) inputs
+wanted_unneeded script number entry rest inputs unneeded have =
+    subst (λ (b : Bool). HaveRows (wanted_if b script number entry rest) inputs) unneeded have
+
+-- going on behind a node, where it is needed or not
+abbrev next : Bool → Script → List ℕ × Node → Named Node → List (List Value)
+    → List (Option Collection) → Option (List (Option Collection))
+next needed script entry rest inputs table =
+    if needed
+    then option_and_then (λ c.
+    collections script rest (inputs_behind entry.1.made inputs) (table ++ Some c ∷ []))
+    (made_as script (length table) entry.1.made inputs table)
+    else collections script rest inputs (table ++ None ∷ [])
+
+pub next_needed : (script : Script) (entry : List ℕ × Node) (rest : Named Node)
+    (inputs : List (List Value)) (table : List (Option Collection)) (c : Collection)
+    → is_needed script (length table) ≡ true
+    → made_as script (length table) entry.1.made inputs table ≡ Some c
+    → collections script (entry ∷ rest) inputs table
+    ≡ collections script rest (inputs_behind entry.1.made inputs) (table ++ Some c ∷ [])
+next_needed script entry rest inputs table c needed made =
+    ap (λ (b : Bool). next b script entry rest inputs table) needed
+    ∙ ap (option_and_then (λ (d : Collection).
+    collections script rest (inputs_behind entry.1.made inputs) (table ++ Some d ∷ []))) made
+
+pub next_unneeded : (script : Script) (entry : List ℕ × Node) (rest : Named Node)
+    (inputs : List (List Value)) (table : List (Option Collection))
+    → is_needed script (length table) ≡ false
+    → collections script (entry ∷ rest) inputs table
+    ≡ collections script rest inputs (table ++ None ∷ [])
+next_unneeded script entry rest inputs table unneeded =
+    ap (λ (b : Bool). next b script entry rest inputs table) unneeded
+
+-- what is read by the node of a number that is needed is needed
+pub reads_needed : (script : Script) → IsWellFormed script → (before rest : Named Node)
+    (entry : List ℕ × Node) → before ++ entry ∷ rest ≡ script.nodes
+    → is_needed script (length before) ≡ true → (n : ℕ) → Contains (operands entry.1.made) n
+    → is_needed script n ≡ true
+reads_needed script well before rest entry split needed n reads = ?
+
+one_longer : (before : Named Node) (entry : List ℕ × Node)
+    → length (before ++ entry ∷ []) ≡ suc (length before)
+one_longer before entry = omega (arith, length-append before (entry ∷ []))
+
+pub record Meant (script : Script) (nodes rest : Named Node) (inputs : List (List Value))
+    (table : List (Option Collection)) : Type 0 where
+  pub made : List (Option Collection)
+  pub means : collections script rest inputs table ≡ Some made
+  pub are : AreMade script nodes made
+
+module _ (script : Script) (well : IsWellFormed script) where
+  abbrev Goes : Named Node → Type 0
+  Goes rest = (before : Named Node) → before ++ rest ≡ script.nodes
+      → AllFit script.functions before rest → (inputs : List (List Value))
+      → (table : List (Option Collection)) → AreMade script before table
+      → HaveRows (wanted_from script (length before) rest) inputs
+      → Meant script script.nodes rest inputs table
+
+  needed_goes : (entry : List ℕ × Node) (rest : Named Node) → Goes rest → (before : Named Node)
+      → before ++ entry ∷ rest ≡ script.nodes → AllFit script.functions before (entry ∷ rest)
+      → (inputs : List (List Value)) (table : List (Option Collection))
+      → AreMade script before table
+      → HaveRows (wanted_from script (length before) (entry ∷ rest)) inputs
+      → is_needed script (length before) ≡ true
+      → Meant script script.nodes (entry ∷ rest) inputs table
+  needed_goes entry rest goes before split fit inputs table are have needed =
+      let m = entry.1.made in
+      let wanted = wanted_from script (suc (length before)) rest in
+      let rows = wanted_needed script (length before) entry rest inputs needed have in
+      let same = as_many script before table are in
+      let it = makes script before table are well.functions (length table) m entry.1.type inputs wanted fit.0 rows
+      (reads_needed script well before rest entry split needed) in
+      let behind = rows_behind m entry.1.type inputs wanted rows in
+      let longer = one_longer before entry in
+      let on = goes (before ++ entry ∷ [])
+      (append_assoc before (entry ∷ []) rest ∙ split) fit.1 (inputs_behind m inputs)
+      (table ++ Some it.collection ∷ [])
+      (more_made script before table are entry (Some it.collection) it.is (sym needed))
+      (subst (λ (n : ℕ). HaveRows (wanted_from script n rest) (inputs_behind m inputs))
+      (sym longer) behind) in
+      record {
+        made = on.made;
+        means = next_needed script entry rest inputs table it.collection
+            (ap (is_needed script) same ∙ needed) it.made ∙ on.means;
+        are = on.are;
+      }
+
+  unneeded_goes : (entry : List ℕ × Node) (rest : Named Node) → Goes rest → (before : Named Node)
+      → before ++ entry ∷ rest ≡ script.nodes → AllFit script.functions before (entry ∷ rest)
+      → (inputs : List (List Value)) (table : List (Option Collection))
+      → AreMade script before table
+      → HaveRows (wanted_from script (length before) (entry ∷ rest)) inputs
+      → is_needed script (length before) ≡ false
+      → Meant script script.nodes (entry ∷ rest) inputs table
+  unneeded_goes entry rest goes before split fit inputs table are have unneeded =
+      let rows = wanted_unneeded script (length before) entry rest inputs unneeded have in
+      let same = as_many script before table are in
+      let longer = one_longer before entry in
+      let on = goes (before ++ entry ∷ [])
+      (append_assoc before (entry ∷ []) rest ∙ split) fit.1 inputs (table ++ None ∷ [])
+      (more_made script before table are entry None tt (sym unneeded))
+      (subst (λ (n : ℕ). HaveRows (wanted_from script n rest) inputs) (sym longer) rows) in
+      record {
+        made = on.made;
+        means = next_unneeded script entry rest inputs table
+            (ap (is_needed script) same ∙ unneeded) ∙ on.means;
+        are = on.are;
+      }
+
+  goes_on : (rest : Named Node) → Goes rest
+  goes_on [] before split fit [] table are have = record {
+    made = table;
+    means = refl;
+    are = subst (λ (nodes : Named Node). AreMade script nodes table)
+        (sym (append-nil before) ∙ split) are;
+  }
+  goes_on [] before split fit (rows ∷ inputs) table are have = absurd have
+  goes_on (entry ∷ rest) before split fit inputs table are have =
+      elim (is_needed script (length before)) as (λ b. is_needed script (length before) ≡ b
+      → Meant script script.nodes (entry ∷ rest) inputs table) [
+        | true ↦ needed_goes entry rest (goes_on rest) before split fit inputs table are have
+        | false ↦ unneeded_goes entry rest (goes_on rest) before split fit inputs table are have
+      ] refl
+
+  pub has_meaning : (inputs : List (List Value)) → AreInputs script inputs
+      → Meant script script.nodes script.nodes inputs []
+  has_meaning inputs have =
+      goes_on script.nodes [] refl well.nodes inputs []
+      (record { each = tt; needed = λ number below. absurd (omega arith) }) have

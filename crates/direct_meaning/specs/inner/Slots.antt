@@ -1,0 +1,48 @@
+-- The calls of a function with slots, and what is read off each.
+use Rattle.std.specs.Prelude.{◌≡◌, ◌||◌, ◌++◌, ℕ, List, [], Option, Some, None, Result, IfOk}
+use Rattle.std.specs.List.{flat_map}
+use Rattle.flume_value.specs.Bag.{bag_of}
+use Rattle.flume_value.specs.declared.value.Value.{Value}
+use Rattle.dofn_eval.specs.Function.{Function as Fun}
+use Rattle.dofn_eval.specs.Run.{means}
+use Rattle.flume_collection.specs.Calls.{Called, emissions, trap_of}
+use Rattle.flume_collection.specs.declared.trap.Trap.{Trap}
+use Rattle.script_check.specs.Script.{Function}
+use Rattle.direct_meaning.specs.Calls.{answer_of, answered}
+use Rattle.direct_meaning.specs.declared.kept.Kept.{Kept}
+use Rattle.direct_meaning.specs.inner.Kept.{has_traps}
+
+-- what a call of a function with slots on an element answers
+unfoldable pub slots_answer : Fun → Value → Option Called
+slots_answer fun element = answered element (means fun.outputs fun.body element)
+
+-- what is emitted to the output of that place, where there is an answer
+abbrev pub emitted_by : ℕ → Option Called → List Value
+emitted_by output None = []
+emitted_by output (Some called) = emissions output called
+
+-- the trap of a call, where there is one
+abbrev pub trapped_by : ℕ → Option Called → List Trap
+trapped_by origin None = []
+trapped_by origin (Some called) = trap_of origin called
+
+-- the traps of the calls of a function on elements
+abbrev pub traps_on : ℕ → Function → List Value → List Trap
+traps_on origin function elements =
+    flat_map (λ x. trapped_by origin (answer_of function x)) elements
+
+-- What is kept is what the calls of a function on what was kept before emit to an output, and the
+-- traps found are those before, and theirs.
+pub record IsDoneBy (origin output : ℕ) (function : Function) (source result : Kept)
+    (before after : List Trap) : Type 0 where
+  pub members : result.members.items
+      ≡ bag_of (flat_map (λ x. emitted_by output (answer_of function x)) source.members.items)
+  pub found : after ≡ before ++ traps_on origin function source.members.items
+  pub trapped : result.trapped
+      ≡ (source.trapped || has_traps (traps_on origin function source.members.items))
+
+-- the same, where there is memory
+abbrev pub IsDone : {E : Type 0} → ℕ → ℕ → Function → Kept → List Trap → Result Kept E → List Trap
+    → Type 0
+IsDone origin output function source before result after =
+    IfOk result (λ kept. IsDoneBy origin output function source kept before after)

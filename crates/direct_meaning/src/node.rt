@@ -1,0 +1,80 @@
+// What a node makes.
+ghost use Rattle.std.specs.Prelude.{◌≡◌, ℕ, ◌+◌, ◌<◌, ◌^◌, ◌++◌, ◌∷◌, [], false, IfOk, IsTrue, List, Some, length};
+ghost use Rattle.std.specs.Vec.Iter.{into_iter_items};
+ghost use Rattle.flume_value.specs.Bag.{bag_of};
+ghost use Rattle.flume_value.specs.declared.value.Value.{Value as Value_};
+ghost use Rattle.script_laws.specs.WellFormed.{IsWellFormed};
+ghost use Rattle.direct_meaning.specs.Needed.{is_needed};
+ghost use Rattle.direct_meaning.specs.inner.Stands.{Stands};
+
+use crate::calls::done;
+use crate::combining::combined;
+use crate::flatten::together;
+use crate::kept::{Kept, kept_at};
+use crate::steps::{counted, grouped, joined, topped};
+use flume_collection::Trap;
+use flume_value::{Items, sorted};
+use script_check::{Made, Program};
+use std::alloc::{AllocError, Global};
+use std::vec::IntoIter;
+
+/// What the node of a number makes of the rows to come and of the collections before it. The traps
+/// of its own go behind those found.
+pub(crate) fn make(
+    alloc: Global,
+    program: &Program,
+    number: usize,
+    table: &[Option<Kept>],
+    inputs: &mut IntoIter<Items>,
+    traps: &mut Vec<Trap>,
+) -> Result<Kept, AllocError>
+    requires well_formed { IsWellFormed program.now.script }
+    requires stands { (rows : List (List Value_))
+        × Stands program.now.script rows number (into_iter_items inputs.old) table.now
+            traps.old.items }
+    requires below { number < length program.now.script.nodes }
+    requires few { number < 2 ^ 32 }
+    requires needed { IsTrue (is_needed program.now.script number) }
+    ensures { (rows : List (List Value_))
+        → Stands program.now.script rows number (into_iter_items inputs.old) table.now
+            traps.old.items
+        → IfOk result (λ kept. Stands program.now.script rows (number + 1)
+            (into_iter_items inputs.new) (table.now ++ Some kept ∷ []) traps.new.items) }
+{
+    match &program.node(number).made {
+        Made::Input { .. } => rows(inputs),
+        Made::Do {
+            source,
+            function,
+            output,
+        } => {
+            let source = kept_at(table, *source);
+            done(alloc, program, number, *function, *output, source, traps)
+        }
+        Made::Group { source } => grouped(alloc, kept_at(table, *source)),
+        Made::Combine { source, by } => {
+            combined(alloc, number as u32, *by, kept_at(table, *source), traps)
+        }
+        Made::Flatten { sources } => together(alloc, table, sources.as_slice()),
+        Made::Count { source } => counted(alloc, kept_at(table, *source)),
+        Made::Join { left, right } => joined(alloc, kept_at(table, *left), kept_at(table, *right)),
+        Made::Top { number, source } => topped(alloc, *number, kept_at(table, *source)),
+    }
+}
+
+/// The rows of the next input.
+fn rows(inputs: &mut IntoIter<Items>) -> Result<Kept, AllocError>
+    requires { 0 < length (into_iter_items inputs.old) }
+    ensures members { IfOk result (λ kept. (rows : List Value_)
+        × (into_iter_items inputs.old ≡ rows ∷ into_iter_items inputs.new)
+        × (kept.members.items ≡ bag_of rows)) }
+    ensures trapped { IfOk result (λ kept. kept.trapped ≡ false) }
+{
+    match inputs.next() {
+        Some(rows) => Ok(Kept {
+            members: sorted(rows.into_vec())?,
+            trapped: false,
+        }),
+        None => unreachable!(),
+    }
+}
