@@ -62,8 +62,8 @@ one_reason bytes n m j k (inr first) (inr second) =
 -- ---- what a command takes
 
 not_true_and_false : (b : Bool) → IsTrue b → IsFalse b → ⊥
-not_true_and_false true yes no = cc
-not_true_and_false false yes no = cc
+not_true_and_false true holds fails = cc
+not_true_and_false false holds fails = cc
 
 pub taken_not_refused : (command : Command) (bytes : List ℕ) (script : Script) (line : ℕ)
     (kind : ScriptKind) → Accepted bytes script → IsTrue (is_taken command script)

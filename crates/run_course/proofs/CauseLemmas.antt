@@ -1,10 +1,11 @@
 -- The cause of each answer, from the causes of its parts.
 use Rattle.std.proofs.Common.{◌≡◌, ℕ, ◌≤◌, inl, inr, List, [], ◌∷◌, ◌++◌, Option, Some, Result, Ok, Err, ap, sym, ◌∙◌, refl, subst, arith}
-use Rattle.std.specs.Prelude.{IfErr, IfOk, IsTrue}
+use Rattle.std.specs.Prelude.{IfOk, IsTrue}
 use Rattle.direct_meaning.specs.Direct.{traps_of}
 use Rattle.direct_meaning.specs.Inputs.{Wanted, inputs_of}
 use Rattle.flume_collection.specs.Traps.{IsLeast}
 use Rattle.flume_collection.specs.declared.trap.Trap.{Trap as TrapOf}
+use Rattle.flume_grammar.proofs.FileNames.{files}
 use Rattle.flume_grammar.specs.Answer.{Accepts, IsRefusal}
 use Rattle.flume_grammar.specs.declared.fault.ScriptFault.{ScriptFault}
 use Rattle.flume_grammar.specs.declared.fault.ScriptFault.TheVariants as script_fault
@@ -20,6 +21,8 @@ use Rattle.run_texts.specs.declared.status.Place.TheVariants.{File, Screen}
 use Rattle.run_texts.specs.declared.status.Status.{Status}
 use Rattle.run_texts.specs.declared.status.Status.TheVariants.{Done, Usage, ScriptRefused, InputRefused, Trap, ReadFault, WriteFault, WantOfMemory, TooLong, NoFile}
 use Rattle.script_check.specs.Rules.{script_of}
+use Rattle.script_laws.proofs.RuleLemmas.{well-formed}
+use Rattle.script_laws.specs.WellFormed.{IsWellFormed}
 use Rattle.script_check.specs.Script.{Script}
 use Rattle.written_types.specs.Answer.{Gives as Checks}
 use Rattle.run_course.specs.Accepted.{Accepted, is_taken}
@@ -33,7 +36,8 @@ use Rattle.run_course.specs.declared.stop.Stop.TheVariants as stop
 use Rattle.run_course.specs.declared.stop.Trapped.{Trapped}
 use Rattle.run_course.specs.declared.words.Command.{Command}
 use Rattle.run_course.specs.declared.words.Command.TheVariants.{Check, Direct, Run}
-use Rattle.run_course.specs.inner.Course.{Delivers, HasTrap, IsCommandStop, IsEvaluating, IsInputCause, IsInputsCause, IsLoaded, IsMeaningStop, IsScriptCause, IsScriptFault, IsStopped, IsTakenCause, IsTrapped}
+use Rattle.run_course.specs.inner.Course.{Delivers, HasTrap, IsCommandStop, IsEvaluating, IsInputCause, IsInputsCause, IsLoaded, IsMeaningStop, IsReady, IsScriptCause, IsScriptFault, IsStopped, IsTrapped}
+use Rattle.run_course.proofs.NameLemmas.{script_ready}
 
 abbrev Words : Type 0
 Words = List (List ℕ)
@@ -49,14 +53,19 @@ pub parse_fault : (bytes : List ℕ) (why : ScriptFault) → IsRefusal bytes why
 parse_fault bytes (script_fault.Refused line kind) refuses = inl refuses
 parse_fault bytes script_fault.Memory refuses = tt
 
--- what the checker answers of the tree that the bytes spell
-pub checked : {X : Type 0} (view : X → Script) (bytes : List ℕ) (ast : Ast) (r : Result X ScriptFault)
-    → Accepts bytes ast → Checks view r (script_of ast.statements)
-    → IfOk r (λ x. Accepted bytes (view x)) × IfErr r (IsScriptFault bytes)
-checked view bytes ast (Ok x) spells is = ((ast, spells, is), tt)
-checked view bytes ast (Err (script_fault.Refused line kind)) spells is =
-    (tt, inr (ast, spells, is))
-checked view bytes ast (Err script_fault.Memory) spells is = (tt, tt)
+-- an accepted script is well formed
+pub checked_well : {X : Type 0} (view : X → Script) (ast : Ast) (r : Result X ScriptFault)
+    → Checks view r (script_of ast.statements) → IfOk r (λ x. IsWellFormed (view x))
+checked_well view ast (Ok x) is = well-formed ast.statements (view x) is
+checked_well view ast (Err e) is = tt
+
+-- and ready for what is done with it
+pub checked_ready : {X : Type 0} (view : X → Script) (bytes : List ℕ) (ast : Ast)
+    (r : Result X ScriptFault) → Accepts bytes ast → Checks view r (script_of ast.statements)
+    → IfOk r (λ x. IsReady (view x))
+checked_ready view bytes ast (Ok x) spells is =
+    script_ready ast.statements (view x) (files bytes ast spells) is
+checked_ready view bytes ast (Err e) spells is = tt
 
 missing_as : (told : Option (List NamedBytes)) (name other : List ℕ) → other ≡ name
     → IsMissing told name → IsMissing told other

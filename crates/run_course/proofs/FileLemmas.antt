@@ -1,23 +1,24 @@
 -- The files of outputs, from the members that these read.
 use Rattle.std.proofs.Common.{◌≡◌, ℕ, List, [], ◌∷◌, ◌++◌, Option, Some, None, slice_get, ap, sym, ◌∙◌, refl, subst}
-use Rattle.std.specs.Prelude.{IsSome, codes, option_and_then}
+use Rattle.std.specs.Prelude.{IsSome, IsUtf8}
+use Rattle.std.proofs.lemmas.Option.{get_or_from_slice_get, slice_get_within}
 use Rattle.std.specs.List.{All, AllByRecursion}
 use Rattle.std.specs.Option.{option_map}
 use Rattle.std.proofs.lemmas.List.Elements.{recursion_from_All}
 use Rattle.csv_rows.specs.Text.{table_text}
-use Rattle.direct_meaning.specs.Direct.{made_at, meaning, sizes_of, traps_of}
-use Rattle.direct_meaning.specs.Evaluated.{IsDirect, bag_at}
+use Rattle.direct_meaning.specs.Evaluated.{bag_at}
 use Rattle.direct_meaning.specs.Evaluated.{IsWritten as Holds}
 use Rattle.flume_collection.specs.Collection.{Collection}
 use Rattle.flume_value.specs.declared.value.Value.{Value}
 use Rattle.outside.specs.Saves.{FailsAt}
 use Rattle.outside.specs.Seen.{SeenShelf}
 use Rattle.outside.specs.declared.file.File.{File as NamedBytes}
-use Rattle.run_texts.specs.Texts.{NamedOutput, size_lines}
+use Rattle.run_texts.specs.Texts.{NamedOutput}
+use Rattle.script_check.specs.declared.made.Output.{Output}
 use Rattle.script_check.specs.Script.{Script}
 use Rattle.run_course.specs.Answers.{FailsAtFile}
 use Rattle.run_course.specs.Written.{Table, file_of, files_of}
-use Rattle.run_course.specs.inner.Course.{AreFiles, AreReady, IsFileOf}
+use Rattle.run_course.specs.inner.Course.{AreFiles, HaveMembers, IsFileOf, IsReady}
 
 abbrev Bags : Type 0
 Bags = List (Option (List Value))
@@ -28,9 +29,9 @@ same_some {A = A} o a b first second = let same : Some a ≡ Some b = sym first 
 -- each output that is held reads members
 pub ready : (script : Script) (table : Table) (bags : Bags)
     → All (λ (entry : NamedOutput). Holds script table bags entry.1) script.outputs
-    → AreReady script bags
+    → HaveMembers script bags
 ready script table bags all =
-    λ place other within. subst IsSome (sym (all place other within).bag) tt
+    λ place other within. subst IsSome (sym (all place other within).bag) refl
 
 file_made : (script : Script) (table : Table) (bags : Bags) (output : NamedOutput)
     (file : NamedBytes) → Holds script table bags output.1 → IsFileOf bags output file
@@ -75,3 +76,49 @@ failed_at files place name before after named fails = by (slice_get files place)
     by None is e = absurd (cc)
     by (Some file) is e =
         let same : file.name ≡ name = cc in (place, file, is, same, fails)
+
+-- ---- one output
+
+-- what is under a number
+abbrev Under : {B : Type 0} → (NamedOutput → B) → List NamedOutput → ℕ → B → Type 0
+Under f outputs number x = option_map f (slice_get outputs number) ≡ Some x
+
+under : {B : Type 0} (f : NamedOutput → B) (outputs : List NamedOutput) (number : ℕ) (x : B)
+    (output : NamedOutput) → slice_get outputs number ≡ Some output → Under f outputs number x
+    → f output ≡ x
+under f outputs number x output found is =
+    same_some (option_map f (slice_get outputs number)) (f output) x (ap (option_map f) found) is
+
+pub file_of_output : (bags : Bags) (outputs : List NamedOutput) (number : ℕ) (own : Output)
+    (name text : List ℕ) (bag : List Value) (file : NamedBytes)
+    → Under (λ (entry : NamedOutput). entry.1) outputs number own
+    → Under (λ (entry : NamedOutput). entry.0) outputs number name
+    → bag_at bags own.reads ≡ Some bag → text ≡ table_text own.columns bag
+    → file ≡ record { name = name; bytes = text }
+    → (output : NamedOutput) → slice_get outputs number ≡ Some output → IsFileOf bags output file
+file_of_output bags outputs number own name text bag file owns named held shown is output found =
+    let second : output.1 ≡ own
+    = under (λ (entry : NamedOutput). entry.1) outputs number own output found owns in
+    let first : output.0 ≡ name
+    = under (λ (entry : NamedOutput). entry.0) outputs number name output found named in (
+      bag,
+      ap (λ (o : Output). bag_at bags o.reads) second ∙ held,
+      is ∙ (λ i. record {
+        name = sym first i;
+        bytes = (shown ∙ ap (λ (o : Output). table_text o.columns bag) (sym second)) i;
+      }),
+    )
+
+pub name_ready : (script : Script) (number : ℕ) (name : List ℕ) → IsReady script
+    → Under (λ (entry : NamedOutput). entry.0) script.outputs number name → IsUtf8 name
+name_ready script number name ready named = by (slice_get script.outputs number) refl named
+  where
+    by : (found : Option NamedOutput) → slice_get script.outputs number ≡ found
+        → option_map (λ (entry : NamedOutput). entry.0) found ≡ Some name → IsUtf8 name
+    by None is e = absurd (cc)
+    by (Some output) is e =
+        let same : output.0 ≡ name = cc in
+        subst (λ (n : List ℕ). IsUtf8 n) same
+        (subst (λ (o : NamedOutput). IsUtf8 o.0)
+        (get_or_from_slice_get script.outputs number output output is)
+        (ready.writes number output (slice_get_within script.outputs number output is)))

@@ -1,8 +1,11 @@
 -- Inputs, as they are read node by node.
-use Rattle.std.proofs.Common.{◌≡◌, ℕ, suc, zero, ◌<◌, Bool, true, false, List, [], ◌∷◌, ◌++◌, drop, length, Option, Some, None, slice_get, ap, sym, ◌∙◌, refl, subst, append_assoc, arith}
+use Rattle.std.proofs.Common.{◌≡◌, ℕ, suc, zero, ◌+◌, ◌<◌, Bool, true, false, List, [], ◌∷◌, ◌++◌, drop, length, Option, Some, None, slice_get, ap, sym, ◌∙◌, refl, subst, append_assoc, append-nil, arith}
 use Rattle.std.specs.List.{filter, flat_map}
 use Rattle.std.specs.Option.{option_map}
+use Rattle.std.specs.Prelude.{IsUtf8}
 use Rattle.std.proofs.lemmas.List.{drop_all}
+use Rattle.std.proofs.lemmas.Option.{get_or_from_slice_get, slice_get_within}
+use Rattle.flume_types.specs.declared.types.Ty.{Ty}
 use Rattle.direct_meaning.specs.Inputs.{AreInputs, HaveRows, Wanted, inputs_of, wanted_by}
 use Rattle.direct_meaning.specs.Needed.{is_needed, numbered}
 use Rattle.flume_types.specs.Columns.{input_columns_of}
@@ -18,7 +21,7 @@ use Rattle.script_check.specs.Script.{Function, Node, Script}
 use Rattle.script_laws.specs.WellFormed.{AllFit, Fits, IsWellFormed}
 use Rattle.written_types.specs.Named.{Named}
 use Rattle.run_course.specs.Asked.{AllHaveRows, HasRows}
-use Rattle.run_course.specs.inner.Course.{HasRead, IsInputCause, IsInputsCause, inputs_from}
+use Rattle.run_course.specs.inner.Course.{HasRead, IsInputCause, IsInputsCause, IsNamedMade, IsReady, inputs_from}
 
 abbrev Told : Type 0
 Told = Option (List NamedBytes)
@@ -33,12 +36,12 @@ wanted entry = wanted_by entry.1.made entry.1.type
 dropped : {A : Type 0} (xs : List A) (k : ℕ) (x : A) → slice_get xs k ≡ Some x
     → drop k xs ≡ x ∷ drop (suc k) xs
 dropped [] k x is = absurd (cc)
-dropped (y ∷ xs) 0 x is = let same : y ≡ x = cc in ap (λ h. h ∷ xs) same
+dropped (y ∷ xs) zero x is = let same : y ≡ x = cc in ap (λ h. h ∷ xs) same
 dropped (y ∷ xs) (suc k) x is = dropped xs k x is
 
 -- ---- one node
 
-inputs_here : (needed : Bool) (own rest : List Wanted) → List Wanted
+abbrev inputs_here : (needed : Bool) (own rest : List Wanted) → List Wanted
 inputs_here true own rest = own ++ rest
 inputs_here false own rest = rest
 
@@ -86,9 +89,6 @@ none_read told script = ([], refl, tt, tt)
 nothing_behind : (script : Script) (number : ℕ) → inputs_from script number [] ≡ []
 nothing_behind script number = refl
 
-append_nil : {A : Type 0} (xs : List A) → xs ++ [] ≡ xs
-append_nil xs = grind
-
 all_done : (script : Script) (done : List Wanted)
     → inputs_of script
     ≡ done ++ inputs_from script (length script.nodes) (drop (length script.nodes) script.nodes)
@@ -96,7 +96,7 @@ all_done : (script : Script) (done : List Wanted)
 all_done script done is =
     is
     ∙ (ap (λ (nodes : Named Node). done ++ inputs_from script (length script.nodes) nodes)
-    (drop_all (length script.nodes) script.nodes (omega arith)) ∙ append_nil done)
+    (drop_all (length script.nodes) script.nodes (omega arith)) ∙ append-nil done)
 
 pub all_read : (told : Told) (script : Script) (rows : List (List Value))
     → HasRead told script (length script.nodes) rows
@@ -170,7 +170,7 @@ input_fits : (functions : Named Function) (before nodes : Named Node) (number : 
     → slice_get nodes number ≡ Some entry → entry.1.made ≡ made.Input file columns
     → input_columns_of entry.1.type ≡ Some columns
 input_fits functions before [] number entry file columns fits found is = absurd (cc)
-input_fits functions before (e ∷ nodes) 0 entry file columns fits found is =
+input_fits functions before (e ∷ nodes) zero entry file columns fits found is =
     let same : e ≡ entry = cc in
     let first = subst (λ (m : Made). Fits functions before m entry.1.type) is
     (subst (λ (x : Entry). Fits functions before x.1.made x.1.type) same fits.0) in
@@ -194,3 +194,95 @@ at_place nodes number node is = by (slice_get nodes number) is
         → (entry : Entry) × (found ≡ Some entry) × (entry.1 ≡ node)
     by None e = absurd (cc)
     by (Some entry) e = (entry, refl, cc)
+
+-- ---- the node of an input
+
+-- at that number stands an input with this file and these columns
+pub record IsInputAt (script : Script) (number : ℕ) (file : List ℕ) (columns : List Column)
+    : Type 0 where
+  pub entry : Entry
+  pub found : slice_get script.nodes number ≡ Some entry
+  pub made : entry.1.made ≡ made.Input file columns
+
+pub input_at : (script : Script) (number : ℕ) (node : Node) (file : List ℕ) (columns : List Column)
+    → option_map (λ (entry : Entry). entry.1) (slice_get script.nodes number) ≡ Some node
+    → node.made ≡ made.Input file columns → IsInputAt script number file columns
+input_at script number node file columns found is =
+    let at = at_place script.nodes number node found in
+    record { entry = at.0; found = at.1; made = ap (λ (n : Node). n.made) at.2 ∙ is }
+
+module _ (script : Script) (number : ℕ) (file : List ℕ) (columns : List Column)
+    (at : IsInputAt script number file columns) where
+  abbrev pub its_wanted : Wanted
+  its_wanted = record { file = file; type = at.entry.1.type }
+
+  pub wants : wanted at.entry ≡ its_wanted ∷ []
+  wants = ap (λ (m : Made). wanted_by m at.entry.1.type) at.made
+
+  pub its_columns : IsWellFormed script → input_columns_of at.entry.1.type ≡ Some columns
+  its_columns well = columns_fit script number at.entry file columns well at.found at.made
+
+  pub its_file : IsReady script → IsUtf8 file
+  its_file ready =
+      subst IsNamedMade at.made
+      (subst (λ (e : Entry). IsNamedMade e.1.made)
+      (get_or_from_slice_get script.nodes number at.entry at.entry at.found)
+      (ready.reads number at.entry (slice_get_within script.nodes number at.entry at.found)))
+
+-- what is no input wants none
+other_made : (by : Made) (type : Ty)
+    → ((file : List ℕ) (columns : List Column) → by ≡ made.Input file columns → ⊥)
+    → wanted_by by type ≡ []
+other_made (made.Input file columns) type other = absurd (other file columns refl)
+other_made (made.Do source function output) type other = refl
+other_made (made.Group source) type other = refl
+other_made (made.Combine source by) type other = refl
+other_made (made.Flatten sources) type other = refl
+other_made (made.Count source) type other = refl
+other_made (made.Join left right) type other = refl
+other_made (made.Top many source) type other = refl
+
+pub other_wants : (entry : Entry) (node : Node) → entry.1 ≡ node
+    → ((file : List ℕ) (columns : List Column) → node.made ≡ made.Input file columns → ⊥)
+    → wanted entry ≡ []
+other_wants entry node same other =
+    ap (λ (n : Node). wanted_by n.made n.type) same ∙ other_made node.made node.type other
+
+-- some node stands below the end
+pub there : (nodes : Named Node) (number : ℕ) → number < length nodes
+    → (entry : Entry) × (slice_get nodes number ≡ Some entry)
+there [] number within = absurd (omega arith)
+there (entry ∷ nodes) zero within = (entry, refl)
+there (entry ∷ nodes) (suc number) within = there nodes number (omega arith)
+
+-- ---- behind a node, by the sum that the loop counts by
+
+as_sum : (told : Told) (script : Script) (number : ℕ) (rows : List (List Value))
+    → HasRead told script (suc number) rows → HasRead told script (number + 1) rows
+as_sum told script number rows read =
+    let same : suc number ≡ number + 1 = omega arith in
+    subst (λ (n : ℕ). HasRead told script n rows) same read
+
+pub behind_unneeded : (told : Told) (script : Script) (number : ℕ) (rows : List (List Value))
+    (entry : Entry) → slice_get script.nodes number ≡ Some entry
+    → is_needed script number ≡ false → HasRead told script number rows
+    → HasRead told script (number + 1) rows
+behind_unneeded told script number rows entry found unneeded read =
+    as_sum told script number rows (passes told script number rows entry found unneeded read)
+
+pub behind_other : (told : Told) (script : Script) (number : ℕ) (rows : List (List Value))
+    (entry : Entry) → slice_get script.nodes number ≡ Some entry → is_needed script number ≡ true
+    → wanted entry ≡ [] → HasRead told script number rows → HasRead told script (number + 1) rows
+behind_other told script number rows entry found needed other read =
+    as_sum told script number rows
+    (passes_other told script number rows entry found needed other read)
+
+pub behind_input : (told : Told) (script : Script) (number : ℕ) (rows more : List (List Value))
+    (entry : Entry) (it : Wanted) (own : List Value) → slice_get script.nodes number ≡ Some entry
+    → is_needed script number ≡ true → wanted entry ≡ it ∷ [] → HasRows told it own
+    → AllHave it.type own → more ≡ rows ++ own ∷ [] → HasRead told script number rows
+    → HasRead told script (number + 1) more
+behind_input told script number rows more entry it own found needed is has typed longer read =
+    subst (λ (all : List (List Value)). HasRead told script (number + 1) all) (sym longer)
+    (as_sum told script number (rows ++ own ∷ [])
+    (reads_more told script number rows entry it own found needed is has typed read))

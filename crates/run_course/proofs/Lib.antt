@@ -6,3 +6,4 @@ pub mod NameLemmas
 pub mod InputLemmas
 pub mod FileLemmas
 pub mod OriginLemmas
+pub mod MeaningLemmas

@@ -1,9 +1,12 @@
--- The files of an accepted script are named in UTF-8, where those of its statements are.
-use Rattle.std.proofs.Common.{◌≡◌, ℕ, List, [], ◌∷◌, ◌++◌, Ok, subst}
-use Rattle.std.specs.Prelude.{IsUtf8, nat_lt, length}
+-- The files of an accepted script are named in UTF-8, where those of its statements are, and its
+-- collections are few.
+use Rattle.std.proofs.Common.{◌≡◌, ℕ, ◌≤◌, nat_lt, List, [], ◌∷◌, ◌++◌, length, Ok, subst, arith, length-append}
+use Rattle.std.specs.Prelude.{IsUtf8}
+use Rattle.std.proofs.lemmas.Bool.Decides.{Decides-ltb}
 use Rattle.std.specs.List.{All, AllByRecursion}
 use Rattle.std.proofs.lemmas.List.Elements.{All-nil, All-push, recursion_from_All}
 use Rattle.flume_types.specs.Columns.{columns_of, input_columns_of}
+use Rattle.flume_types.specs.Equality.{type_eq}
 use Rattle.flume_grammar.specs.Utf8.{IsUtf8Named}
 use Rattle.flume_grammar.specs.declared.tree.Type as tree
 use Rattle.flume_grammar.specs.declared.tree.Form.{Form}
@@ -12,17 +15,17 @@ use Rattle.flume_grammar.specs.declared.tree.Function.{Function as WrittenFuncti
 use Rattle.flume_grammar.specs.declared.tree.Operation.{Operation}
 use Rattle.flume_grammar.specs.declared.tree.Operation.TheVariants as operation
 use Rattle.flume_grammar.specs.declared.tree.Statement.{Statement}
-use Rattle.flume_grammar.specs.declared.fault.ScriptKind.TheVariants.{NotFlat, NoOutput, NotTable, Mistyped}
+use Rattle.flume_grammar.specs.declared.fault.ScriptKind.TheVariants.{NotFlat, NoOutput, Mistyped, TooMany}
 use Rattle.written_types.specs.Answer.{or_fault, unless}
-use Rattle.written_types.specs.Named.{fresh}
+use Rattle.written_types.specs.Named.{Named as Names, fresh}
 use Rattle.written_types.specs.Written.{shallow, whole_type}
 use Rattle.body_check.specs.Bodies.{body_of}
 use Rattle.script_check.specs.declared.made.Output.{Output}
 use Rattle.script_check.specs.Script.{Node, Script, State, nothing, script_from}
 use Rattle.script_check.specs.Operations as op
 use Rattle.script_check.specs.Rules as spec
-use Rattle.script_laws.proofs.CheckedLemmas.{both, ok-same}
-use Rattle.run_course.specs.inner.Course.{IsNamed, IsNamedMade}
+use Rattle.script_laws.proofs.CheckedLemmas.{both, holds, ok-same}
+use Rattle.run_course.specs.inner.Course.{IsReady, IsNamedMade}
 
 abbrev IsNamedNode : List ℕ × Node → Type 0
 IsNamedNode entry = IsNamedMade entry.1.made
@@ -30,10 +33,11 @@ IsNamedNode entry = IsNamedMade entry.1.made
 abbrev IsNamedOutput : List ℕ × Output → Type 0
 IsNamedOutput entry = IsUtf8 entry.0
 
--- the files of what is defined so far
+-- what is defined so far
 record AreNamed (s : State) : Type 0 where
   pub reads : All IsNamedNode s.nodes
   pub writes : All IsNamedOutput s.outputs
+  pub few : length s.nodes ≤ 256
 
 -- ---- operations read no file
 
@@ -45,8 +49,10 @@ module _ (line : ℕ) (s : State) (node : Node) where
   made-named (operation.Do source function) e =
       let one = both (op.collection line source s) _ node e in
       let by = both (op.callee line function s) _ node one.then in
-      let same = both (unless line Mistyped _) _ node by.then in
-      subst (λ (n : Node). IsNamedMade n.made) (ok-same _ node same.then) tt
+      let same
+      = both (unless line Mistyped (type_eq one.part.type by.part.takes)) _ node by.then in
+      let t = both (op.one_output line by.part.gives) _ node same.then in
+      subst (λ (n : Node). IsNamedMade n.made) (ok-same _ node t.then) tt
   made-named (operation.Group source) e =
       let one = both (op.collection line source s) _ node e in
       let pair = both (op.pair_of line one.part.type) _ node one.then in
@@ -70,7 +76,8 @@ module _ (line : ℕ) (s : State) (node : Node) where
       let other = both (op.collection line right s) _ node one.then in
       let lefts = both (op.pair_of line one.part.type) _ node other.then in
       let rights = both (op.pair_of line other.part.type) _ node lefts.then in
-      let same = both (unless line Mistyped _) _ node rights.then in
+      let same
+      = both (unless line Mistyped (type_eq lefts.part.key rights.part.key)) _ node rights.then in
       subst (λ (n : Node). IsNamedMade n.made) (ok-same _ node same.then) tt
   made-named (operation.Top digits source) e =
       let one = both (op.collection line source s) _ node e in
@@ -78,6 +85,12 @@ module _ (line : ℕ) (s : State) (node : Node) where
       subst (λ (n : Node). IsNamedMade n.made) (ok-same _ node number.then) tt
 
 -- ---- statements
+
+one-more : {A : Type 0} (line : ℕ) (names : Names A) (entry : List ℕ × A) (u : Unit {0})
+    → spec.room line 256 names ≡ Ok u → length (names ++ entry ∷ []) ≤ 256
+one-more line names entry u e =
+    let below = (Decides-ltb (length names) 256).0 (holds line TooMany _ u e) in
+    omega (arith, length-append names (entry ∷ []))
 
 module _ (line : ℕ) (s after : State) (named : AreNamed s) where
   input-named : (name : List ℕ) (type : tree.Type) (file : List ℕ) → IsUtf8 file
@@ -90,6 +103,7 @@ module _ (line : ℕ) (s after : State) (named : AreNamed s) where
       subst AreNamed (ok-same _ after columns.then) (record {
         reads = All-push IsNamedNode s.nodes _ named.reads utf8;
         writes = named.writes;
+        few = one-more line s.nodes _ few.part few.first;
       })
 
   function-named : (function : WrittenFunction) → spec.rule_function line function s ≡ Ok after
@@ -101,7 +115,7 @@ module _ (line : ℕ) (s after : State) (named : AreNamed s) where
       (body_of s.types function.argument signature.part.takes signature.part.gives function.body) _
       after signature.then in
       subst AreNamed (ok-same _ after body.then)
-      (record { reads = named.reads; writes = named.writes })
+      (record { reads = named.reads; writes = named.writes; few = named.few })
 
   let-named : (name : List ℕ) (by : Operation) → spec.rule_let line name by s ≡ Ok after
       → AreNamed after
@@ -114,6 +128,7 @@ module _ (line : ℕ) (s after : State) (named : AreNamed s) where
         reads =
             All-push IsNamedNode s.nodes _ named.reads (made-named line s node.part by node.first);
         writes = named.writes;
+        few = one-more line s.nodes _ few.part few.first;
       })
 
   output-named : (name file : List ℕ) → IsUtf8 file
@@ -126,6 +141,7 @@ module _ (line : ℕ) (s after : State) (named : AreNamed s) where
       subst AreNamed (ok-same _ after new.then) (record {
         reads = named.reads;
         writes = All-push IsNamedOutput s.outputs _ named.writes utf8;
+        few = named.few;
       })
 
   type-named : (name : List ℕ) (type : tree.Type) → spec.rule_type line name type s ≡ Ok after
@@ -134,7 +150,7 @@ module _ (line : ℕ) (s after : State) (named : AreNamed s) where
       let new = both (fresh line name s.types) _ after e in
       let t = both (whole_type line type s.types) _ after new.then in
       subst AreNamed (ok-same _ after t.then)
-      (record { reads = named.reads; writes = named.writes })
+      (record { reads = named.reads; writes = named.writes; few = named.few })
 
   rule-named : (form : Form) → IsUtf8Named form → spec.rule line form s ≡ Ok after → AreNamed after
   rule-named (form.Type name type) utf8 e = type-named name type e
@@ -153,17 +169,18 @@ defined-named (statement ∷ rest) s after named utf8 e =
     (rule-named statement.line s next.part named statement.form utf8.0 next.first) utf8.1 next.then
 
 nothing-named : AreNamed nothing
-nothing-named = record { reads = All-nil IsNamedNode; writes = All-nil IsNamedOutput }
+nothing-named =
+    record { reads = All-nil IsNamedNode; writes = All-nil IsNamedOutput; few = omega arith }
 
-from-state : (s : State) → AreNamed s → IsNamed (script_from s)
-from-state s named = record { reads = named.reads; writes = named.writes }
+from-state : (s : State) → AreNamed s → IsReady (script_from s)
+from-state s named = record { reads = named.reads; writes = named.writes; few = named.few }
 
-pub script_named : (statements : List Statement) (script : Script)
+pub script_ready : (statements : List Statement) (script : Script)
     → All (λ (s : Statement). IsUtf8Named s.form) statements
-    → spec.script_of statements ≡ Ok script → IsNamed script
-script_named statements script utf8 e =
+    → spec.script_of statements ≡ Ok script → IsReady script
+script_ready statements script utf8 e =
     let s = both (spec.defined statements nothing) _ script e in
     let some = both (unless 0 NoOutput (nat_lt 0 (length s.part.outputs))) _ script s.then in
-    subst IsNamed (ok-same _ script some.then)
+    subst IsReady (ok-same _ script some.then)
     (from-state s.part (defined-named statements nothing s.part nothing-named
     (recursion_from_All (λ (s : Statement). IsUtf8Named s.form) statements utf8) s.first))

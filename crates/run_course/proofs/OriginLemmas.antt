@@ -4,7 +4,9 @@ use Rattle.std.specs.Prelude.{⊤, option_and_then}
 use Rattle.std.specs.List.{Contains, flat_map}
 use Rattle.std.specs.Option.{option_map}
 use Rattle.std.proofs.lemmas.List.Elements.{Contains-append_cases}
-use Rattle.combine_table.specs.declared.comb.Comb.{Comb}
+use Rattle.bag_groups.specs.Combining.{traps_of_each}
+use Rattle.bag_steps.specs.Counts.{counted_traps}
+use Rattle.combine_table.specs.Combinations.{combined}
 use Rattle.flume_collection.proofs.Members.{head_or_tail, not_in_none, set_members}
 use Rattle.flume_collection.proofs.Orders.{trap_order}
 use Rattle.flume_collection.specs.Calls.{Called, trap_named, trap_of}
@@ -35,7 +37,7 @@ none_below n trap is = absurd (not_in_none trap is)
 one_below : (n : ℕ) (first : Trap) (traps : List Trap) → first.origin < n → Below n traps
     → Below n (first ∷ traps)
 one_below n first traps below all trap is =
-    ⊎_elim (λ (same : trap ≡ first). subst (λ (t : Trap). t.origin < n) (sym same) below)
+    ⊎_elim (λ (same : first ≡ trap). subst (λ (t : Trap). t.origin < n) same below)
     (all trap) (head_or_tail first traps trap is)
 
 both_below : (n : ℕ) (xs ys : List Trap) → Below n xs → Below n ys → Below n (xs ++ ys)
@@ -93,8 +95,8 @@ more_made n m (Some c ∷ table) more all =
 at_below : (n : ℕ) (table : Table) (number : ℕ) (c : Collection) → AreBelow n table
     → spec.made_at table number ≡ Some c → Below n c.traps
 at_below n [] number c all is = absurd (cc)
-at_below n (None ∷ table) 0 c all is = absurd (cc)
-at_below n (Some d ∷ table) 0 c all is =
+at_below n (None ∷ table) zero c all is = absurd (cc)
+at_below n (Some d ∷ table) zero c all is =
     let same : d ≡ c = cc in subst (λ (x : Collection). Below n x.traps) same all.0
 at_below n (None ∷ table) (suc number) c all is = at_below n table number c all is
 at_below n (Some d ∷ table) (suc number) c all is = at_below n table number c all.1 is
@@ -146,15 +148,17 @@ all_below n table (number ∷ numbers) cs all is =
 counts_below : (n : ℕ) (traps : List Trap) (bag : List Value) → Below (suc n) traps
     → Own n (spec.counts_behind n traps bag)
 counts_below n [] bag all =
-    set_below (suc n) _ (named_below (suc n) n _ (omega arith))
+    set_below (suc n) (map (trap_named n) (counted_traps bag))
+    (named_below (suc n) n (counted_traps bag) (omega arith))
 counts_below n (trap ∷ traps) bag all = all
 
 done_below : (n origin output : ℕ) (function : Function) (c d : Collection) → origin ≤ n
     → Below (suc n) c.traps → spec.done_by origin output function c ≡ Some d → Own n d
 done_below n origin output function c d low all is =
     let (calls, made, same) = mapped _ (calls_on (answer_of function) c.bag) d is in
+    let own = flat_map (trap_of origin) calls in
     as_own n _ d same
-    (set_below (suc n) _ (both_below (suc n) c.traps _ all
+    (set_below (suc n) (c.traps ++ own) (both_below (suc n) c.traps own all
     (each_below (suc n) (trap_of origin) calls (call_below (suc n) origin (omega arith)))))
 
 own_below : (script : Script) (n : ℕ) (by : Made) (inputs : List (List Value)) (table : Table)
@@ -163,21 +167,24 @@ own_below script n (made.Input file columns) [] table d all is = absurd (cc)
 own_below script n (made.Input file columns) (rows ∷ inputs) table d all is =
     let same : spec.rows_as rows ≡ d = cc in
     as_own n (spec.rows_as rows) d same (none_below (suc n))
-own_below script n (made.Do source called) inputs table d all is =
+own_below script n (made.Do source called output) inputs table d all is =
     let (function, at, rest) = bound _ (function_at script.functions called) d is in
     let (c, found, does) = bound _ (spec.made_at table source) d rest in
-    done_below n n 0 function c d (omega arith) (behind_own n table source c all found) does
+    done_below n (n - output) output function c d (omega arith) (behind_own n table source c all found) does
 own_below script n (made.Group source) inputs table d all is =
     let (c, found, same) = mapped _ (spec.made_at table source) d is in
     as_own n _ d same (behind_own n table source c all found)
 own_below script n (made.Combine source by) inputs table d all is =
     let (c, found, same) = mapped _ (spec.made_at table source) d is in
+    let own = traps_of_each (combined by) c.bag in
     as_own n _ d same
-    (set_below (suc n) _ (both_below (suc n) c.traps _ (behind_own n table source c all found)
-    (named_below (suc n) n _ (omega arith))))
+    (set_below (suc n) (c.traps ++ map (trap_named n) own)
+    (both_below (suc n) c.traps (map (trap_named n) own) (behind_own n table source c all found)
+    (named_below (suc n) n own (omega arith))))
 own_below script n (made.Flatten sources) inputs table d all is =
     let (cs, found, same) = mapped _ (spec.all_made table sources) d is in
-    as_own n _ d same (set_below (suc n) _ (all_below n table sources cs all found))
+    as_own n _ d same
+    (set_below (suc n) (flat_map (λ c. c.traps) cs) (all_below n table sources cs all found))
 own_below script n (made.Count source) inputs table d all is =
     let (c, found, same) = mapped _ (spec.made_at table source) d is in
     as_own n _ d same (counts_below n c.traps c.bag (behind_own n table source c all found))
@@ -185,7 +192,7 @@ own_below script n (made.Join left right) inputs table d all is =
     let (a, found, rest) = bound _ (spec.made_at table left) d is in
     let (b, other, same) = mapped _ (spec.made_at table right) d rest in
     as_own n _ d same
-    (set_below (suc n) _ (both_below (suc n) a.traps b.traps
+    (set_below (suc n) (a.traps ++ b.traps) (both_below (suc n) a.traps b.traps
     (behind_own n table left a all found) (behind_own n table right b all other)))
 own_below script n (made.Top many source) inputs table d all is =
     let (c, found, same) = mapped _ (spec.made_at table source) d is in

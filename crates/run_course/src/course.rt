@@ -9,7 +9,7 @@ ghost use Rattle.run_course.specs.Answers.{Answers};
 ghost use Rattle.run_course.specs.Promises.{Promises};
 ghost use Rattle.run_course.specs.World.{Keeps, world};
 ghost use Rattle.run_course.specs.Written.{IsWritten, Writes, WritesMeaning};
-ghost use Rattle.run_course.specs.inner.Course.{Delivers, IsCommandStop, IsMeaningStop, IsNamed, IsStopped};
+ghost use Rattle.run_course.specs.inner.Course.{Delivers, IsCommandStop, IsMeaningStop, IsReady, IsStopped};
 
 use crate::evaluation::{Written, written_meaning};
 use crate::loading::{rows_of_inputs, script_of};
@@ -102,7 +102,7 @@ fn carried_out<R: Source>(
     source: &mut R,
 ) -> Result<Written, Stop>
     requires well_formed { IsWellFormed program.now.script }
-    requires named { IsNamed program.now.script }
+    requires ready { IsReady program.now.script }
     ensures taken { OnOk result (IsTrue (is_taken command program.now.script)) }
     ensures written { IfOk result (λ it. Writes command (R.files source.old) program.now.script
         (map output_file it.outputs.items) it.screen.items) }
@@ -140,7 +140,7 @@ fn meant<R: Source>(
     source: &mut R,
 ) -> Result<Written, Stop>
     requires well_formed { IsWellFormed program.now.script }
-    requires named { IsNamed program.now.script }
+    requires ready { IsReady program.now.script }
     ensures written { IfOk result (λ it. WritesMeaning (R.files source.old) program.now.script
         front.items (map output_file it.outputs.items) it.screen.items) }
     ensures stop { IfErr result (IsMeaningStop (seen R.files R.faults source.old)

@@ -1,14 +1,16 @@
 // What the meaning of a script writes, or why it writes nothing.
 ghost use Rattle.std.specs.Prelude.{◌≡◌, ◌<◌, ◌++◌, IfErr, IfOk, OnOk, Some, codes, length, map, slice_get};
+ghost use Rattle.std.specs.Option.{option_map};
+ghost use Rattle.direct_meaning.specs.Evaluated.{bag_at};
 ghost use Rattle.direct_meaning.specs.Inputs.{AreInputs};
 ghost use Rattle.outside.specs.Saves.{output_file};
 ghost use Rattle.run_texts.specs.Texts.{NamedOutput, size_lines};
 ghost use Rattle.script_laws.specs.WellFormed.{IsWellFormed};
-ghost use Rattle.run_course.specs.inner.Course.{AreFiles, AreReady, Gives, IsFileOf, IsNamed, IsStop, IsTrapOf};
+ghost use Rattle.run_course.specs.inner.Course.{AreFiles, HaveMembers, Gives, IsFileOf, IsReady, IsStop, IsTrapOf};
 
 use crate::stop::{Stop, Trapped};
 use csv_rows::text_under_columns;
-use direct_meaning::{Direct, evaluate};
+use direct_meaning::{Direct, direct};
 use flume_collection::Trap;
 use flume_value::{Items, Pile, Str};
 use outside::Output;
@@ -32,13 +34,13 @@ pub fn written_meaning(
     front: Vec<u8>,
 ) -> Result<Written, Stop>
     requires well_formed { IsWellFormed program.now.script }
-    requires named { IsNamed program.now.script }
+    requires ready { IsReady program.now.script }
     requires typed { AreInputs program.now.script inputs }
     ensures written { IfOk result (λ it. Gives program.now.script inputs front.items
         (map output_file it.outputs.items) it.screen.items) }
     ensures stop { IfErr result (IsStop program.now.script inputs) }
 {
-    let Direct { bags, sizes, traps } = evaluate(alloc, program, inputs)?;
+    let Direct { bags, sizes, traps } = direct(alloc, program, inputs)?;
     match first(traps) {
         Some(trap) => Err(trapped(alloc, program, trap)?),
         None => Ok(write_out(alloc, program, &bags, &sizes, front)?),
@@ -72,8 +74,8 @@ fn write_out(
     sizes: &[(Str, u64)],
     front: Vec<u8>,
 ) -> Result<Written, AllocError>
-    requires named { IsNamed program.now.script }
-    requires bags { AreReady program.now.script bags.now }
+    requires ready { IsReady program.now.script }
+    requires bags { HaveMembers program.now.script bags.now }
     ensures files { IfOk result (λ it.
         AreFiles bags.now program.now.script.outputs (map output_file it.outputs.items)) }
     ensures text { IfOk result (λ it.
@@ -91,8 +93,8 @@ fn output_files(
     program: &Program,
     bags: &[Option<Items>],
 ) -> Result<Vec<Output>, AllocError>
-    requires named { IsNamed program.now.script }
-    requires bags { AreReady program.now.script bags.now }
+    requires ready { IsReady program.now.script }
+    requires bags { HaveMembers program.now.script bags.now }
     ensures { IfOk result (λ files.
         AreFiles bags.now program.now.script.outputs (map output_file files.items)) }
 {
@@ -111,14 +113,14 @@ fn output_at(
     bags: &[Option<Items>],
 ) -> Result<Output, AllocError>
     requires within { number < length program.now.script.outputs }
-    requires named { IsNamed program.now.script }
-    requires bags { AreReady program.now.script bags.now }
+    requires ready { IsReady program.now.script }
+    requires bags { HaveMembers program.now.script bags.now }
     ensures { IfOk result (λ file. (output : NamedOutput) →
         slice_get program.now.script.outputs number ≡ Some output →
         IsFileOf bags.now output (output_file file)) }
 {
     let output = program.output(number);
-    let Some(Some(bag)) = bags.get(output.reads) else {
+    let Some(bag) = members_at(bags, output.reads) else {
         unreachable!();
     };
     let text = text_under_columns(alloc, bag.as_slice(), output.columns.as_slice())?;
@@ -129,6 +131,16 @@ fn output_at(
         name: String::from_str(alloc, name)?,
         text,
     })
+}
+
+// The members under a number, where there are some.
+fn members_at(bags: &[Option<Items>], number: usize) -> Option<&Items>
+    ensures { option_map (λ bag. bag.now) result ≡ bag_at bags.now number }
+{
+    match bags.get(number) {
+        Some(Some(bag)) => Some(bag),
+        _ => None,
+    }
 }
 
 fn push_sizes(text: &mut Vec<u8>, sizes: &[(Str, u64)]) -> Result<(), AllocError>

@@ -8,7 +8,7 @@ ghost use Rattle.outside.specs.Seen.{seen};
 ghost use Rattle.script_laws.specs.WellFormed.{IsWellFormed};
 ghost use Rattle.run_course.specs.Accepted.{Accepted};
 ghost use Rattle.run_course.specs.Asked.{AllHaveRows, HasRows, Loads};
-ghost use Rattle.run_course.specs.inner.Course.{HasRead, IsInputCause, IsInputsCause, IsLoadCause, IsLoaded, IsNamed, IsScriptCause, IsScriptFault, fault_status, status_of};
+ghost use Rattle.run_course.specs.inner.Course.{HasRead, IsInputCause, IsInputsCause, IsLoadCause, IsLoaded, IsReady, IsScriptCause, IsScriptFault, fault_status, status_of};
 
 use crate::limits::{INPUT_LIMIT, SCRIPT_LIMIT, TRIES};
 use csv_rows::{RowFault, rows_under_columns};
@@ -32,7 +32,7 @@ pub fn script_of<R: Source>(
     ensures ok { IfOk result (λ program.
         IsLoaded (R.files source.old) name.now program.script) }
     ensures well_formed { IfOk result (λ program. IsWellFormed program.script) }
-    ensures named { IfOk result (λ program. IsNamed program.script) }
+    ensures ready { IfOk result (λ program. IsReady program.script) }
     ensures err { IfErr result (IsScriptCause (seen R.files R.faults source.old)
         (seen R.files R.faults source.new) name.now) }
     ensures later { R.faults source.old ≤ R.faults source.new }
@@ -52,7 +52,7 @@ pub fn rows_of_inputs<R: Source>(
     source: &mut R,
 ) -> Result<Pile<Items>, Status>
     requires well_formed { IsWellFormed program.now.script }
-    requires named { IsNamed program.now.script }
+    requires ready { IsReady program.now.script }
     ensures files { R.files source.new ≡ R.files source.old }
     ensures ok { IfOk result
         (AllHaveRows (R.files source.old) (inputs_of program.now.script)) }
@@ -77,7 +77,7 @@ fn add_rows<R: Source>(
     rows: &mut Pile<Items>,
 ) -> Result<(), Status>
     requires well_formed { IsWellFormed program.now.script }
-    requires named { IsNamed program.now.script }
+    requires ready { IsReady program.now.script }
     requires within { number < length program.now.script.nodes }
     requires read { HasRead (R.files source.old) program.now.script number rows.old }
     ensures files { R.files source.new ≡ R.files source.old }
@@ -139,7 +139,7 @@ fn program_of(alloc: Global, bytes: &[u8]) -> Result<Program, ScriptFault>
     ensures accepted { IfOk result (λ program. Accepted bytes.now program.script) }
     ensures refused { IfErr result (IsScriptFault bytes.now) }
     ensures well_formed { IfOk result (λ program. IsWellFormed program.script) }
-    ensures named { IfOk result (λ program. IsNamed program.script) }
+    ensures ready { IfOk result (λ program. IsReady program.script) }
 {
     let ast = parse(alloc, bytes)?;
     check(alloc, ast)

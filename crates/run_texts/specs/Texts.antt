@@ -1,5 +1,5 @@
 -- What the screen gets of a script: its graph and its plan, and the sizes of its collections.
-use Rattle.std.specs.Prelude.{ℕ, ◌==◌, Bool, false, List, [], ◌∷◌, ◌++◌, Option, Some, None, codes, decimal, if◌then◌else◌, option_and_then, slice_get}
+use Rattle.std.specs.Prelude.{ℕ, ◌==◌, ◌&&◌, Bool, false, List, [], ◌∷◌, ◌++◌, Option, Some, None, codes, decimal, if◌then◌else◌, option_and_then, slice_get}
 use Rattle.std.specs.List.{flat_map}
 use Rattle.std.specs.Option.{option_map}
 use Rattle.combine_table.specs.declared.comb.Comb.{Comb}
@@ -73,8 +73,8 @@ NamedOutput = List ℕ × Output
 
 -- the names of a collection that is made by a `do` over the input
 abbrev pub do_names : Script → List ℕ → List ℕ → Made → Option DoNames
-do_names script input made (Do source function) =
-    if source == 0 then option_map (λ called.
+do_names script input made (Do source function output) =
+    if source == 0 && output == 0 then option_map (λ called.
     record { input = input; made = made; function = called.0 }) (slice_get script.functions function)
     else None
 do_names script input made _ = None

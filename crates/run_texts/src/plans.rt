@@ -93,9 +93,11 @@ fn do_names(program: &Program) -> Option<DoNames<'_>>
         ≡ spec.do_names program.now.script input.0 made.0 made.1.made }
 {
     match &program.node(1).made {
-        Made::Do { source, function }
-            if *source == 0 && *function < program.function_count() =>
-        {
+        Made::Do {
+            source,
+            function,
+            output,
+        } if *source == 0 && *output == 0 && *function < program.function_count() => {
             Some(DoNames {
                 input: program.node_name(0).as_bytes(),
                 made: program.node_name(1).as_bytes(),

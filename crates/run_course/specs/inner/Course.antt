@@ -1,5 +1,5 @@
 -- The parts of the course of a call.
-use Rattle.std.specs.Prelude.{◌≡◌, ◌⊎◌, ℕ, List, [], ◌∷◌, ◌++◌, IsFalse, IsTrue, codes, drop, Option, Some, Err, IsSome, IsUtf8, ⊤}
+use Rattle.std.specs.Prelude.{◌≡◌, ◌⊎◌, ◌≤◌, ℕ, List, [], ◌∷◌, ◌++◌, IsFalse, IsTrue, codes, drop, length, Option, Some, Err, IsSome, IsUtf8, ⊤}
 use Rattle.std.specs.List.{All, AllZip, filter, flat_map}
 use Rattle.csv_rows.specs.Rows.{rows_of}
 use Rattle.csv_rows.specs.Text.{table_text}
@@ -58,14 +58,17 @@ IsEvaluating Run = ⊤
 
 -- ---- scripts
 
--- the files of a script are named in UTF-8
+-- the file that is read is named in UTF-8
 abbrev pub IsNamedMade : Made → Type 0
 IsNamedMade (made.Input file columns) = IsUtf8 file
 IsNamedMade _ = ⊤
 
-pub record IsNamed (script : Script) : Type 0 where
+-- What each accepted script is ready for: its files can be asked for by name, and its collections
+-- be numbered.
+pub record IsReady (script : Script) : Type 0 where
   pub reads : All (λ entry. IsNamedMade entry.1.made) script.nodes
   pub writes : All (λ entry. IsUtf8 entry.0) script.outputs
+  pub few : length script.nodes ≤ 256
 
 -- the file of that name is accepted as this script
 abbrev pub IsLoaded : Option (List NamedBytes) → List ℕ → Script → Type 0
@@ -159,8 +162,8 @@ pub record TrapsAt (script : Script) (rows : List (List Value)) (trap : Trapped)
   pub named : name_at script trap.trap.origin ≡ Some trap.name
 
 -- each output reads members that are there
-abbrev pub AreReady : Script → List (Option (List Value)) → Type 0
-AreReady script bags = All (λ entry. IsSome (bag_at bags entry.1.reads)) script.outputs
+abbrev pub HaveMembers : Script → List (Option (List Value)) → Type 0
+HaveMembers script bags = All (λ entry. IsSome (bag_at bags entry.1.reads)) script.outputs
 
 -- the file is of this output: the text of the members that it reads, under its columns
 abbrev pub IsFileOf : List (Option (List Value)) → List ℕ × Output → NamedBytes → Type 0

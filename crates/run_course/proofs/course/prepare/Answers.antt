@@ -1,0 +1,32 @@
+use Rattle.std.proofs.Common.{map, string_bytes, sym}
+use Rattle.std.proofs.lemmas.Result.{IfErr-weaker, IfOk-weaker, err_from_is_err_and}
+use Rattle.outside.specs.Saves.{output_file}
+use Rattle.outside.specs.Seen.{seen}
+use Rattle.run_course.proofs.CauseLemmas.{command_stop, script_cause, written}
+use Rattle.run_course.proofs.course.prepare.Goals as goal
+
+pub returns-in_err-program-clause-err : goal.returns-in_err-program-clause-err
+returns-in_err-program-clause-err g c =
+    let p = err_from_is_err_and c.from_residual.result c.from_residual.ensures.1 in
+    rw (p.1, p.2)
+    (script_cause (map string_bytes c.args.words.now)
+    (seen g.R.Source.files g.R.Source.faults c.args.source.now)
+    (seen g.R.Source.files g.R.Source.faults c.script_of.new.source) c.in-Some.asked.command
+    c.in-Some.asked.script.now _ ? c.in_err-program.ensures.err)
+
+pub returns-clause-ok : goal.returns-clause-ok
+returns-clause-ok g c =
+    IfOk-weaker c.carried_out.result _ _ (λ it both.
+    written (map string_bytes c.args.words.now) (g.R.Source.files c.args.source.now)
+    c.in-Some.asked.command c.in-Some.asked.script.now c.in_ok-program.program.script
+    (map output_file it.outputs.items) it.screen.items ? ? ?) ?
+
+pub returns-clause-err : goal.returns-clause-err
+returns-clause-err g c =
+    IfErr-weaker c.carried_out.result _ _ (λ why stops.
+    command_stop (map string_bytes c.args.words.now)
+    (seen g.R.Source.files g.R.Source.faults c.args.source.now)
+    (seen g.R.Source.files g.R.Source.faults c.script_of.new.source)
+    (seen g.R.Source.files g.R.Source.faults c.carried_out.new.source) c.in-Some.asked.command
+    c.in-Some.asked.script.now c.in_ok-program.program.script why ? c.in_ok-program.ensures.files
+    c.in_ok-program.ensures.later stops) c.carried_out.ensures.stop

@@ -1,0 +1,11 @@
+use Rattle.run_course.proofs.CauseLemmas.{checked_ready, checked_well}
+use Rattle.run_course.proofs.loading.program_of.Goals as goal
+
+pub returns-clause-well_formed : goal.returns-clause-well_formed
+returns-clause-well_formed c =
+    checked_well (λ program. program.script) c.in_ok-ast.ast c.check.result c.check.ensures
+
+pub returns-clause-ready : goal.returns-clause-ready
+returns-clause-ready c =
+    checked_ready (λ program. program.script) c.args.bytes.now c.in_ok-ast.ast c.check.result
+    c.in_ok-ast.ensures.accepted c.check.ensures
