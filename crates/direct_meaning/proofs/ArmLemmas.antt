@@ -41,7 +41,7 @@ use Rattle.direct_meaning.proofs.StandLemmas.{HasOwn, IsNodeAt, Source, at_node,
 use Rattle.direct_meaning.proofs.TypeLemmas.{taken}
 use Rattle.direct_meaning.specs.Direct.{called_by, combined_by, counted_by, done_at, done_by, inputs_behind, joined_by, made_as, rows_as, top_by}
 use Rattle.direct_meaning.specs.Inputs.{HaveRows, Wanted, wanted_by}
-use Rattle.direct_meaning.specs.Needed.{is_needed, operands}
+use Rattle.script_check.specs.Needed.{is_needed, operands}
 use Rattle.direct_meaning.specs.declared.kept.Kept.{Kept}
 use Rattle.direct_meaning.specs.inner.Kept.{Keeps, has_traps, is_trapped, kept_in, members_of, unless_behind}
 use Rattle.direct_meaning.specs.inner.Slots.{IsDoneBy, traps_on}

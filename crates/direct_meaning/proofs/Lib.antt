@@ -10,3 +10,5 @@ pub mod CombineLemmas
 pub mod ArmLemmas
 pub mod ResultLemmas
 pub mod CallLemmas
+pub mod SizeLemmas
+pub mod EndLemmas

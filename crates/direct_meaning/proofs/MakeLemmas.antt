@@ -23,7 +23,7 @@ use Rattle.direct_meaning.proofs.TypeLemmas.{combined_is, counted_is, grouped_is
 use Rattle.direct_meaning.specs.Direct.{called_by, combined_by, counted_by, done_at, done_by, inputs_behind, joined_at, joined_by, made_as, made_at, rows_as, top_by}
 use Rattle.direct_meaning.specs.Inputs.{HaveRows, Wanted, wanted_by}
 use Rattle.direct_meaning.specs.Made.{AreMade, IsCollectionOf}
-use Rattle.direct_meaning.specs.Needed.{is_needed, operands}
+use Rattle.script_check.specs.Needed.{is_needed, operands}
 
 -- a node makes a collection of its type
 pub record Makes (script : Script) (number : ℕ) (m : Made) (inputs : List (List Value))

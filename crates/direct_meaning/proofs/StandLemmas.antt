@@ -26,7 +26,7 @@ use Rattle.direct_meaning.proofs.TrapLemmas.{same_front}
 use Rattle.direct_meaning.specs.Direct.{collections, inputs_behind, made_as, made_at, meaning, traps_behind, traps_of}
 use Rattle.direct_meaning.specs.Inputs.{HaveRows, wanted_by}
 use Rattle.direct_meaning.specs.Made.{AreMade, IsCollectionOf}
-use Rattle.direct_meaning.specs.Needed.{is_needed, operands}
+use Rattle.script_check.specs.Needed.{is_needed, operands}
 use Rattle.direct_meaning.specs.declared.kept.Kept.{Kept}
 use Rattle.direct_meaning.specs.inner.Kept.{Keeps, KeepsAny}
 use Rattle.direct_meaning.specs.inner.Stands.{Stands, wanted_from}

@@ -12,7 +12,7 @@ use Rattle.script_laws.specs.WellFormed.{members_at}
 use Rattle.direct_meaning.proofs.PlaceLemmas.{at_end, at_front, mapped, zip_at, zip_length, zip_more}
 use Rattle.direct_meaning.specs.Direct.{all_made, made_at}
 use Rattle.direct_meaning.specs.Made.{AreMade, IsCollectionOf, IsMadeFor}
-use Rattle.direct_meaning.specs.Needed.{is_needed}
+use Rattle.script_check.specs.Needed.{is_needed}
 
 -- a collection is made under that number, of members of that type
 pub record IsMadeAt (table : List (Option Collection)) (number : ℕ) (type : Ty) : Type 0 where

@@ -21,7 +21,7 @@ use Rattle.script_check.specs.declared.made.Made.TheVariants as made
 use Rattle.script_check.specs.Script.{Function, Node, Script}
 use Rattle.script_laws.specs.WellFormed.{function_at}
 use Rattle.direct_meaning.specs.Calls.{answer_of, calls_on}
-use Rattle.direct_meaning.specs.Needed.{is_needed}
+use Rattle.script_check.specs.Needed.{is_needed}
 
 -- ---- one equation for each way in which a collection is made
 
