@@ -12,8 +12,8 @@ use std::thread::Threads;
 
 /// Runs the command that the words of a command line ask for, and answers how that ended.
 ///
-/// The words are the program's name, a command, which is `check`, `direct` or `run`, and the name of
-/// a script. The script is loaded from the source, parsed and checked. `check` then says `ok`. For
+/// The words are the program's name, a command, which is `check`, `direct` or `run`, and the name
+/// of a script. The script is loaded from the source, parsed and checked. `check` then says `ok`. For
 /// `direct` and `run` each input that the script needs is loaded and decoded, in order of the
 /// script, and the script's direct meaning is worked out. Only then the output files are written to
 /// the shelf, in order of the output statements, and then the text of the screen: for `run` the

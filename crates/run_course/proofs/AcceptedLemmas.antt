@@ -19,7 +19,8 @@ same_script made p q first second =
     cc
 
 same_fault : (made : Checked Script) (n m : ℕ) (j k : ScriptKind)
-    → made ≡ Err (fault.Refused n j) → made ≡ Err (fault.Refused m k) → (n ≡ m) × (j ≡ k)
+    → made ≡ Err (fault.Refused n j) → made ≡ Err (fault.Refused m k) → (n ≡ m) × (j
+    ≡ k)
 same_fault made n m j k first second =
     let e = sym first ∙ second in
     (cc, cc)
@@ -32,7 +33,8 @@ script_or_fault made p n k first second =
 
 -- ---- bytes
 
-pub accepted_once : (bytes : List ℕ) (p q : Script) → Accepted bytes p → Accepted bytes q → p ≡ q
+pub accepted_once : (bytes : List ℕ) (p q : Script) → Accepted bytes p → Accepted bytes q
+    → p ≡ q
 accepted_once bytes p q first second =
     let trees : first.0 ≡ second.0 = one_ast bytes first.0 second.0 first.1 second.1 in
     same_script (script_of first.0.statements) p q first.2

@@ -1,6 +1,6 @@
 -- The cause of each answer, from the causes of its parts.
 use Rattle.std.proofs.Common.{◌≡◌, ℕ, ◌≤◌, inl, inr, List, [], ◌∷◌, ◌++◌, Option, Some, Result, Ok, Err, ap, sym, ◌∙◌, refl, subst, arith}
-use Rattle.std.specs.Prelude.{IfOk, IsTrue}
+use Rattle.std.specs.Prelude.{IfOk, IsTrue, OnOk}
 use Rattle.direct_meaning.specs.Direct.{traps_of}
 use Rattle.direct_meaning.specs.Inputs.{Wanted, inputs_of}
 use Rattle.flume_collection.specs.Traps.{IsLeast}
@@ -253,7 +253,8 @@ pub command_stop : (words : Words) (before middle after : SeenSource) (command :
     → IsAt words before.told command name script → middle.told ≡ before.told
     → before.faults ≤ middle.faults → IsCommandStop command middle after script why
     → IsStopped words before after why
-command_stop words before middle after command name script (stop.Refused status) at told later stops =
+command_stop words before middle after command name script (stop.Refused status) at told later
+    stops =
     command_cause words before middle after command name script status at told later stops
 command_stop words before middle after command name script (stop.Trapped trap) at told later stops =
     let trapped
@@ -325,3 +326,10 @@ pub trapped : (words : Words) (before after : World) (trap : Trapped)
     → Answers words before after (Trap trap.trap.origin trap.trap.kind trap.trap.element)
 trapped words before after trap has shelf line =
     (has.0, has.1, has.2, has.3, trap.name, has.4, has.5, has.6, has.7, shelf, line)
+
+-- two facts of what is Ok
+pub both_ok : {T E : Type 0} (P : Type 0) (Q : T → Type 0) (r : Result T E) → OnOk r P
+    → IfOk r Q
+    → IfOk r (λ x. P × Q x)
+both_ok P Q (Ok x) first second = (first, second)
+both_ok P Q (Err e) first second = tt

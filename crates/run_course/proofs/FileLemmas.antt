@@ -1,8 +1,8 @@
 -- The files of outputs, from the members that these read.
-use Rattle.std.proofs.Common.{◌≡◌, ℕ, List, [], ◌∷◌, ◌++◌, Option, Some, None, slice_get, ap, sym, ◌∙◌, refl, subst}
+use Rattle.std.proofs.Common.{◌≡◌, ℕ, suc, zero, ◌+◌, ◌<◌, List, [], ◌∷◌, ◌++◌, length, take, Option, Some, None, slice_get, ap, sym, ◌∙◌, refl, subst, arith}
 use Rattle.std.specs.Prelude.{IsSome, IsUtf8}
 use Rattle.std.proofs.lemmas.Option.{get_or_from_slice_get, slice_get_within}
-use Rattle.std.specs.List.{All, AllByRecursion}
+use Rattle.std.specs.List.{All, AllByRecursion, AllZip}
 use Rattle.std.specs.Option.{option_map}
 use Rattle.std.proofs.lemmas.List.Elements.{recursion_from_All}
 use Rattle.csv_rows.specs.Text.{table_text}
@@ -95,7 +95,8 @@ pub file_of_output : (bags : Bags) (outputs : List NamedOutput) (number : ℕ) (
     → Under (λ (entry : NamedOutput). entry.0) outputs number name
     → bag_at bags own.reads ≡ Some bag → text ≡ table_text own.columns bag
     → file ≡ record { name = name; bytes = text }
-    → (output : NamedOutput) → slice_get outputs number ≡ Some output → IsFileOf bags output file
+    → (output : NamedOutput) → slice_get outputs number ≡ Some output
+    → IsFileOf bags output file
 file_of_output bags outputs number own name text bag file owns named held shown is output found =
     let second : output.1 ≡ own
     = under (λ (entry : NamedOutput). entry.1) outputs number own output found owns in
@@ -122,3 +123,36 @@ name_ready script number name ready named = by (slice_get script.outputs number)
         (subst (λ (o : NamedOutput). IsUtf8 o.0)
         (get_or_from_slice_get script.outputs number output output is)
         (ready.writes number output (slice_get_within script.outputs number output is)))
+
+-- ---- one file more
+
+zip_more : {A B : Type 0} (R : A → B → Type 0) (xs : List A) (ys : List B) (i : ℕ) (x : A) (y
+    : B)
+    → slice_get xs i ≡ Some x → AllZip R (take i xs) ys → R x y
+    → AllZip R (take (suc i) xs) (ys ++ y ∷ [])
+zip_more R [] ys i x y found all own = absurd (cc)
+zip_more R (z ∷ xs) [] zero x y found all own =
+    let same : z ≡ x = cc in (subst (λ a. R a y) (sym same) own, tt)
+zip_more R (z ∷ xs) (w ∷ ys) zero x y found all own = absurd all
+zip_more R (z ∷ xs) [] (suc i) x y found all own = absurd all
+zip_more R (z ∷ xs) (w ∷ ys) (suc i) x y found all own =
+    (all.0, zip_more R xs ys i x y found all.1 own)
+
+there : (outputs : List NamedOutput) (number : ℕ) → number < length outputs
+    → (output : NamedOutput) × (slice_get outputs number ≡ Some output)
+there [] number within = absurd (omega arith)
+there (output ∷ outputs) zero within = (output, refl)
+there (output ∷ outputs) (suc number) within = there outputs number (omega arith)
+
+pub more_files : (bags : Bags) (outputs : List NamedOutput) (number : ℕ)
+    (files all : List NamedBytes) (file : NamedBytes) → number < length outputs
+    → AreFiles bags (take number outputs) files
+    → ((output : NamedOutput) → slice_get outputs number ≡ Some output
+    → IsFileOf bags output file)
+    → all ≡ files ++ file ∷ [] → AreFiles bags (take (number + 1) outputs) all
+more_files bags outputs number files all file within are is longer =
+    let at = there outputs number within in
+    let next : suc number ≡ number + 1 = omega arith in
+    subst (λ (n : ℕ). AreFiles bags (take n outputs) all) next
+    (subst (λ (l : List NamedBytes). AreFiles bags (take (suc number) outputs) l) (sym longer)
+    (zip_more (IsFileOf bags) outputs files number at.0 file at.1 are (is at.0 at.1)))

@@ -7,7 +7,7 @@ use Rattle.std.proofs.lemmas.List.{drop_all}
 use Rattle.std.proofs.lemmas.Option.{get_or_from_slice_get, slice_get_within}
 use Rattle.flume_types.specs.declared.types.Ty.{Ty}
 use Rattle.direct_meaning.specs.Inputs.{AreInputs, HaveRows, Wanted, inputs_of, wanted_by}
-use Rattle.direct_meaning.specs.Needed.{is_needed, numbered}
+use Rattle.script_check.specs.Needed.{is_needed, numbered}
 use Rattle.flume_types.specs.Columns.{input_columns_of}
 use Rattle.flume_types.specs.Typing.{AllHave}
 use Rattle.flume_types.specs.declared.column.Column.{Column}
@@ -74,7 +74,8 @@ more_rows told (w ∷ done) it (r ∷ rows) own all has =
     (all.0, more_rows told done it rows own all.1 has)
 
 more_typed : (done : List Wanted) (it : Wanted) (rows : List (List Value)) (own : List Value)
-    → HaveRows done rows → AllHave it.type own → HaveRows (done ++ it ∷ []) (rows ++ own ∷ [])
+    → HaveRows done rows → AllHave it.type own
+    → HaveRows (done ++ it ∷ []) (rows ++ own ∷ [])
 more_typed [] it [] own all has = (has, tt)
 more_typed [] it (r ∷ rows) own all has = absurd all
 more_typed (w ∷ done) it [] own all has = absurd all
@@ -107,7 +108,8 @@ all_read told script rows read =
     subst (λ (l : List Wanted). HaveRows l rows) same read.3)
 
 -- a node that is not needed
-pub passes : (told : Told) (script : Script) (number : ℕ) (rows : List (List Value)) (entry : Entry)
+pub passes : (told : Told) (script : Script) (number : ℕ) (rows : List (List Value)) (entry :
+    Entry)
     → slice_get script.nodes number ≡ Some entry → is_needed script number ≡ false
     → HasRead told script number rows → HasRead told script (suc number) rows
 passes told script number rows entry found unneeded read =
@@ -204,7 +206,8 @@ pub record IsInputAt (script : Script) (number : ℕ) (file : List ℕ) (columns
   pub found : slice_get script.nodes number ≡ Some entry
   pub made : entry.1.made ≡ made.Input file columns
 
-pub input_at : (script : Script) (number : ℕ) (node : Node) (file : List ℕ) (columns : List Column)
+pub input_at : (script : Script) (number : ℕ) (node : Node) (file : List ℕ) (columns : List
+    Column)
     → option_map (λ (entry : Entry). entry.1) (slice_get script.nodes number) ≡ Some node
     → node.made ≡ made.Input file columns → IsInputAt script number file columns
 input_at script number node file columns found is =
@@ -243,7 +246,8 @@ other_made (made.Join left right) type other = refl
 other_made (made.Top many source) type other = refl
 
 pub other_wants : (entry : Entry) (node : Node) → entry.1 ≡ node
-    → ((file : List ℕ) (columns : List Column) → node.made ≡ made.Input file columns → ⊥)
+    → ((file : List ℕ) (columns : List Column) → node.made ≡ made.Input file columns
+    → ⊥)
     → wanted entry ≡ []
 other_wants entry node same other =
     ap (λ (n : Node). wanted_by n.made n.type) same ∙ other_made node.made node.type other
@@ -271,14 +275,17 @@ behind_unneeded told script number rows entry found unneeded read =
     as_sum told script number rows (passes told script number rows entry found unneeded read)
 
 pub behind_other : (told : Told) (script : Script) (number : ℕ) (rows : List (List Value))
-    (entry : Entry) → slice_get script.nodes number ≡ Some entry → is_needed script number ≡ true
-    → wanted entry ≡ [] → HasRead told script number rows → HasRead told script (number + 1) rows
+    (entry : Entry) → slice_get script.nodes number ≡ Some entry → is_needed script number
+    ≡ true
+    → wanted entry ≡ [] → HasRead told script number rows
+    → HasRead told script (number + 1) rows
 behind_other told script number rows entry found needed other read =
     as_sum told script number rows
     (passes_other told script number rows entry found needed other read)
 
 pub behind_input : (told : Told) (script : Script) (number : ℕ) (rows more : List (List Value))
-    (entry : Entry) (it : Wanted) (own : List Value) → slice_get script.nodes number ≡ Some entry
+    (entry : Entry) (it : Wanted) (own : List Value) → slice_get script.nodes number
+    ≡ Some entry
     → is_needed script number ≡ true → wanted entry ≡ it ∷ [] → HasRows told it own
     → AllHave it.type own → more ≡ rows ++ own ∷ [] → HasRead told script number rows
     → HasRead told script (number + 1) more

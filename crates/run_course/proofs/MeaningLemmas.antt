@@ -25,7 +25,8 @@ use Rattle.run_course.proofs.OriginLemmas.{origins}
 starts : (traps : List Trap) (trap : Trap) → slice_get traps 0 ≡ Some trap
     → (others : List Trap) × (traps ≡ trap ∷ others)
 starts [] trap is = absurd (cc)
-starts (first ∷ others) trap is = let same : first ≡ trap = cc in (others, ap (λ t. t ∷ others) same)
+starts (first ∷ others) trap is = let same : first
+    ≡ trap = cc in (others, ap (λ t. t ∷ others) same)
 
 first_of_set : (traps : List Trap) (trap : Trap) → slice_get (trap_set traps) 0 ≡ Some trap
     → IsLeast (trap_set traps) trap

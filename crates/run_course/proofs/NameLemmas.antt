@@ -1,8 +1,6 @@
--- The files of an accepted script are named in UTF-8, where those of its statements are, and its
--- collections are few.
-use Rattle.std.proofs.Common.{◌≡◌, ℕ, ◌≤◌, nat_lt, List, [], ◌∷◌, ◌++◌, length, Ok, subst, arith, length-append}
+-- The files of an accepted script are named in UTF-8, where those of its statements are.
+use Rattle.std.proofs.Common.{◌≡◌, ℕ, nat_lt, List, [], ◌∷◌, ◌++◌, length, Ok, subst}
 use Rattle.std.specs.Prelude.{IsUtf8}
-use Rattle.std.proofs.lemmas.Bool.Decides.{Decides-ltb}
 use Rattle.std.specs.List.{All, AllByRecursion}
 use Rattle.std.proofs.lemmas.List.Elements.{All-nil, All-push, recursion_from_All}
 use Rattle.flume_types.specs.Columns.{columns_of, input_columns_of}
@@ -15,16 +13,16 @@ use Rattle.flume_grammar.specs.declared.tree.Function.{Function as WrittenFuncti
 use Rattle.flume_grammar.specs.declared.tree.Operation.{Operation}
 use Rattle.flume_grammar.specs.declared.tree.Operation.TheVariants as operation
 use Rattle.flume_grammar.specs.declared.tree.Statement.{Statement}
-use Rattle.flume_grammar.specs.declared.fault.ScriptKind.TheVariants.{NotFlat, NoOutput, Mistyped, TooMany}
+use Rattle.flume_grammar.specs.declared.fault.ScriptKind.TheVariants.{NotFlat, NoOutput, Mistyped}
 use Rattle.written_types.specs.Answer.{or_fault, unless}
-use Rattle.written_types.specs.Named.{Named as Names, fresh}
+use Rattle.written_types.specs.Named.{fresh}
 use Rattle.written_types.specs.Written.{shallow, whole_type}
 use Rattle.body_check.specs.Bodies.{body_of}
 use Rattle.script_check.specs.declared.made.Output.{Output}
 use Rattle.script_check.specs.Script.{Node, Script, State, nothing, script_from}
 use Rattle.script_check.specs.Operations as op
 use Rattle.script_check.specs.Rules as spec
-use Rattle.script_laws.proofs.CheckedLemmas.{both, holds, ok-same}
+use Rattle.script_laws.proofs.CheckedLemmas.{both, ok-same}
 use Rattle.run_course.specs.inner.Course.{IsReady, IsNamedMade}
 
 abbrev IsNamedNode : List ℕ × Node → Type 0
@@ -37,7 +35,6 @@ IsNamedOutput entry = IsUtf8 entry.0
 record AreNamed (s : State) : Type 0 where
   pub reads : All IsNamedNode s.nodes
   pub writes : All IsNamedOutput s.outputs
-  pub few : length s.nodes ≤ 256
 
 -- ---- operations read no file
 
@@ -62,7 +59,8 @@ module _ (line : ℕ) (s : State) (node : Node) where
       let by = both (op.comb_of line combiner) _ node one.then in
       let pair = both (op.pair_of line one.part.type) _ node by.then in
       let member = both (op.member_of line pair.part.value) _ node pair.then in
-      let value = both (or_fault line Mistyped (op.combined_type by.part member.part)) _ node member.then in
+      let value = both (or_fault line Mistyped (op.combined_type by.part member.part)) _ node
+          member.then in
       subst (λ (n : Node). IsNamedMade n.made) (ok-same _ node value.then) tt
   made-named (operation.Flatten sources) e =
       let all = both (op.collections_behind line [] sources s) _ node e in
@@ -86,12 +84,6 @@ module _ (line : ℕ) (s : State) (node : Node) where
 
 -- ---- statements
 
-one-more : {A : Type 0} (line : ℕ) (names : Names A) (entry : List ℕ × A) (u : Unit {0})
-    → spec.room line 256 names ≡ Ok u → length (names ++ entry ∷ []) ≤ 256
-one-more line names entry u e =
-    let below = (Decides-ltb (length names) 256).0 (holds line TooMany _ u e) in
-    omega (arith, length-append names (entry ∷ []))
-
 module _ (line : ℕ) (s after : State) (named : AreNamed s) where
   input-named : (name : List ℕ) (type : tree.Type) (file : List ℕ) → IsUtf8 file
       → spec.rule_input line name type file s ≡ Ok after → AreNamed after
@@ -103,7 +95,6 @@ module _ (line : ℕ) (s after : State) (named : AreNamed s) where
       subst AreNamed (ok-same _ after columns.then) (record {
         reads = All-push IsNamedNode s.nodes _ named.reads utf8;
         writes = named.writes;
-        few = one-more line s.nodes _ few.part few.first;
       })
 
   function-named : (function : WrittenFunction) → spec.rule_function line function s ≡ Ok after
@@ -115,7 +106,7 @@ module _ (line : ℕ) (s after : State) (named : AreNamed s) where
       (body_of s.types function.argument signature.part.takes signature.part.gives function.body) _
       after signature.then in
       subst AreNamed (ok-same _ after body.then)
-      (record { reads = named.reads; writes = named.writes; few = named.few })
+      (record { reads = named.reads; writes = named.writes })
 
   let-named : (name : List ℕ) (by : Operation) → spec.rule_let line name by s ≡ Ok after
       → AreNamed after
@@ -128,7 +119,6 @@ module _ (line : ℕ) (s after : State) (named : AreNamed s) where
         reads =
             All-push IsNamedNode s.nodes _ named.reads (made-named line s node.part by node.first);
         writes = named.writes;
-        few = one-more line s.nodes _ few.part few.first;
       })
 
   output-named : (name file : List ℕ) → IsUtf8 file
@@ -141,7 +131,6 @@ module _ (line : ℕ) (s after : State) (named : AreNamed s) where
       subst AreNamed (ok-same _ after new.then) (record {
         reads = named.reads;
         writes = All-push IsNamedOutput s.outputs _ named.writes utf8;
-        few = named.few;
       })
 
   type-named : (name : List ℕ) (type : tree.Type) → spec.rule_type line name type s ≡ Ok after
@@ -150,9 +139,10 @@ module _ (line : ℕ) (s after : State) (named : AreNamed s) where
       let new = both (fresh line name s.types) _ after e in
       let t = both (whole_type line type s.types) _ after new.then in
       subst AreNamed (ok-same _ after t.then)
-      (record { reads = named.reads; writes = named.writes; few = named.few })
+      (record { reads = named.reads; writes = named.writes })
 
-  rule-named : (form : Form) → IsUtf8Named form → spec.rule line form s ≡ Ok after → AreNamed after
+  rule-named : (form : Form) → IsUtf8Named form → spec.rule line form s ≡ Ok after
+      → AreNamed after
   rule-named (form.Type name type) utf8 e = type-named name type e
   rule-named (form.Input name type file) utf8 e = input-named name type file utf8 e
   rule-named (form.Function function) utf8 e = function-named function e
@@ -169,11 +159,10 @@ defined-named (statement ∷ rest) s after named utf8 e =
     (rule-named statement.line s next.part named statement.form utf8.0 next.first) utf8.1 next.then
 
 nothing-named : AreNamed nothing
-nothing-named =
-    record { reads = All-nil IsNamedNode; writes = All-nil IsNamedOutput; few = omega arith }
+nothing-named = record { reads = All-nil IsNamedNode; writes = All-nil IsNamedOutput }
 
 from-state : (s : State) → AreNamed s → IsReady (script_from s)
-from-state s named = record { reads = named.reads; writes = named.writes; few = named.few }
+from-state s named = record { reads = named.reads; writes = named.writes }
 
 pub script_ready : (statements : List Statement) (script : Script)
     → All (λ (s : Statement). IsUtf8Named s.form) statements

@@ -21,7 +21,7 @@ use Rattle.script_check.specs.declared.made.Made.{Made}
 use Rattle.script_check.specs.declared.made.Made.TheVariants as made
 use Rattle.script_check.specs.Script.{Function, Node, Script}
 use Rattle.script_laws.specs.WellFormed.{function_at}
-use Rattle.direct_meaning.specs.Needed.{is_needed}
+use Rattle.script_check.specs.Needed.{is_needed}
 use Rattle.written_types.specs.Named.{Named}
 use Rattle.run_course.specs.Written.{Table}
 
@@ -50,7 +50,8 @@ set_below n traps all trap is = all trap ((set_members trap_le trap_order traps 
 more_below : (n m : ℕ) (traps : List Trap) → n ≤ m → Below n traps → Below m traps
 more_below n m traps more all trap is = let below = all trap is in omega arith
 
-each_below : {A : Type 0} (n : ℕ) (f : A → List Trap) (xs : List A) → ((x : A) → Below n (f x))
+each_below : {A : Type 0} (n : ℕ) (f : A → List Trap) (xs : List A) → ((x : A)
+    → Below n (f x))
     → Below n (flat_map f xs)
 each_below n f [] all = none_below n
 each_below n f (x ∷ xs) all = both_below n (f x) (flat_map f xs) (all x) (each_below n f xs all)
@@ -116,7 +117,8 @@ mapped : {A B : Type 0} (f : A → B) (o : Option A) (y : B) → option_map f o 
 mapped f None y e = absurd (cc)
 mapped f (Some x) y e = (x, refl, cc)
 
-bound : {A B : Type 0} (f : A → Option B) (o : Option A) (y : B) → option_and_then f o ≡ Some y
+bound : {A B : Type 0} (f : A → Option B) (o : Option A) (y : B) → option_and_then f o
+    ≡ Some y
     → (x : A) × (o ≡ Some x) × (f x ≡ Some y)
 bound f None y e = absurd (cc)
 bound f (Some x) y e = (x, refl, e)
@@ -132,7 +134,8 @@ behind_own : (n : ℕ) (table : Table) (number : ℕ) (c : Collection) → AreBe
 behind_own n table number c all is =
     more_below n (suc n) c.traps (omega arith) (at_below n table number c all is)
 
-all_below : (n : ℕ) (table : Table) (numbers : List ℕ) (cs : List Collection) → AreBelow n table
+all_below : (n : ℕ) (table : Table) (numbers : List ℕ) (cs : List Collection)
+    → AreBelow n table
     → spec.all_made table numbers ≡ Some cs → Below (suc n) (flat_map (λ c. c.traps) cs)
 all_below n table [] cs all is =
     let same : ◌≡◌ {A = List Collection} [] cs = cc in
@@ -162,7 +165,8 @@ done_below n origin output function c d low all is =
     (each_below (suc n) (trap_of origin) calls (call_below (suc n) origin (omega arith)))))
 
 own_below : (script : Script) (n : ℕ) (by : Made) (inputs : List (List Value)) (table : Table)
-    (d : Collection) → AreBelow n table → spec.made_as script n by inputs table ≡ Some d → Own n d
+    (d : Collection) → AreBelow n table → spec.made_as script n by inputs table ≡ Some d
+    → Own n d
 own_below script n (made.Input file columns) [] table d all is = absurd (cc)
 own_below script n (made.Input file columns) (rows ∷ inputs) table d all is =
     let same : spec.rows_as rows ≡ d = cc in
@@ -170,7 +174,8 @@ own_below script n (made.Input file columns) (rows ∷ inputs) table d all is =
 own_below script n (made.Do source called output) inputs table d all is =
     let (function, at, rest) = bound _ (function_at script.functions called) d is in
     let (c, found, does) = bound _ (spec.made_at table source) d rest in
-    done_below n (n - output) output function c d (omega arith) (behind_own n table source c all found) does
+    done_below n (n - output) output function c d (omega arith) (behind_own n table source c all
+    found) does
 own_below script n (made.Group source) inputs table d all is =
     let (c, found, same) = mapped _ (spec.made_at table source) d is in
     as_own n _ d same (behind_own n table source c all found)
@@ -204,13 +209,15 @@ record Stands (nodes : Named Node) (table made : Table) : Type 0 where
   pub long : length made ≡ length table + length nodes
   pub below : AreBelow (length made) made
 
-pushed : (table : Table) (o : Option Collection) → length (table ++ o ∷ []) ≡ suc (length table)
+pushed : (table : Table) (o : Option Collection) → length (table ++ o ∷ [])
+    ≡ suc (length table)
 pushed table o = omega (arith, length-append table (o ∷ []))
 
 -- what is so of what stands behind these
 abbrev Goes : Script → Named Node → Table → Type 0
 Goes script nodes made = (others : List (List Value)) (longer : Table)
-    → AreBelow (length longer) longer → spec.collections script nodes others longer ≡ Some made
+    → AreBelow (length longer) longer → spec.collections script nodes others longer
+    ≡ Some made
     → Stands nodes longer made
 
 one_more : (script : Script) (entry : List ℕ × Node) (nodes : Named Node) (table made : Table)
@@ -226,7 +233,8 @@ one_more script entry nodes table made o others goes below is =
     record { long = omega arith; below = it.below }
 
 -- going on behind a node, where it is needed or not
-abbrev next : Bool → Script → List ℕ × Node → Named Node → List (List Value) → Table →
+abbrev next : Bool → Script → List ℕ × Node → Named Node → List (List Value) → Table
+    →
     Option Table
 next needed script entry nodes inputs table =
     if needed
@@ -237,7 +245,8 @@ next needed script entry nodes inputs table =
 
 behind : (script : Script) (entry : List ℕ × Node) (nodes : Named Node)
     (inputs : List (List Value)) (table made : Table) → AreBelow (length table) table
-    → Goes script nodes made → (needed : Bool) → next needed script entry nodes inputs table ≡ Some made
+    → Goes script nodes made → (needed : Bool) → next needed script entry nodes inputs table
+    ≡ Some made
     → Stands (entry ∷ nodes) table made
 behind script entry nodes inputs table made all goes true is =
     let (c, own, rest)

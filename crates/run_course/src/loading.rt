@@ -87,10 +87,7 @@ fn add_rows<R: Source>(
         (seen R.files R.faults source.new) (inputs_of program.now.script)) }
     ensures later { R.faults source.old ≤ R.faults source.new }
 {
-    let Ok(needed) = direct_meaning::is_needed(program, number) else {
-        return Err(Status::WantOfMemory);
-    };
-    if !needed {
+    if !program.is_needed(number) {
         return Ok(());
     }
     match &program.node(number).made {

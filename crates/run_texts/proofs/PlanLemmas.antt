@@ -13,7 +13,8 @@ same_some x y e = cc
 abbrev IsOutput : Option NamedOutput → Output → List ℕ → ℕ → Type 0
 IsOutput found output file number =
     (option_map (λ (entry : NamedOutput). entry.1) found ≡ Some output)
-    × (option_map (λ (entry : NamedOutput). entry.0) found ≡ Some file) × (output.reads ≡ number)
+    × (option_map (λ (entry : NamedOutput). entry.0) found ≡ Some file) × (output.reads
+    ≡ number)
 
 do_known : (script : Script) (input made : NamedNode) (out : NamedOutput) (names : DoNames)
     (output : Output) (file : List ℕ) → IsOutput (Some out) output file 1
@@ -28,7 +29,8 @@ do_known script input made out names output file is called =
 pub do_plan_known : (script : Script) (nodes : Named Node) (outputs : Named Output)
     (names : DoNames) (output : Output) (file : List ℕ)
     → length nodes ≡ 2 → length outputs ≡ 1 → IsOutput (slice_get outputs 0) output file 1
-    → ((input made : NamedNode) → slice_get nodes 0 ≡ Some input → slice_get nodes 1 ≡ Some made
+    → ((input made : NamedNode) → slice_get nodes 0 ≡ Some input → slice_get nodes 1
+    ≡ Some made
     → Some names ≡ do_names script input.0 made.0 made.1.made)
     → Some (do_text names file) ≡ plan_by script nodes outputs
 do_plan_known script (input ∷ made ∷ []) (out ∷ []) names output file two one is called =
@@ -56,12 +58,14 @@ combine_known script input made group combined out names behind output file is c
 pub combine_plan_known : (script : Script) (nodes : Named Node) (outputs : Named Output)
     (names : DoNames) (behind : CombineNames) (output : Output) (file : List ℕ)
     → length nodes ≡ 4 → length outputs ≡ 1 → IsOutput (slice_get outputs 0) output file 3
-    → ((input made : NamedNode) → slice_get nodes 0 ≡ Some input → slice_get nodes 1 ≡ Some made
+    → ((input made : NamedNode) → slice_get nodes 0 ≡ Some input → slice_get nodes 1
+    ≡ Some made
     → Some names ≡ do_names script input.0 made.0 made.1.made)
     → ((group combined : NamedNode) → slice_get nodes 2 ≡ Some group
     → slice_get nodes 3 ≡ Some combined → Some behind ≡ combine_names group combined)
     → Some (combine_text names behind file) ≡ plan_by script nodes outputs
-combine_plan_known script (a ∷ b ∷ c ∷ d ∷ []) (out ∷ []) names behind output file four one is called
+combine_plan_known script (a ∷ b ∷ c ∷ d ∷ []) (out ∷ []) names behind output file four
+    one is called
     combines =
     combine_known script a b c d out names behind output file is (called a b refl refl)
     (combines c d refl refl)
@@ -69,17 +73,21 @@ combine_plan_known script [] outputs names behind output file four one is called
     absurd (omega arith)
 combine_plan_known script (a ∷ []) outputs names behind output file four one is called combines =
     absurd (omega arith)
-combine_plan_known script (a ∷ b ∷ []) outputs names behind output file four one is called combines =
+combine_plan_known script (a ∷ b ∷ []) outputs names behind output file four one is called
+    combines =
     absurd (omega arith)
 combine_plan_known script (a ∷ b ∷ c ∷ []) outputs names behind output file four one is called
     combines =
     absurd (omega arith)
-combine_plan_known script (a ∷ b ∷ c ∷ d ∷ e ∷ nodes) outputs names behind output file four one is
+combine_plan_known script (a ∷ b ∷ c ∷ d ∷ e ∷ nodes) outputs names behind output file
+    four one is
     called combines =
     absurd (omega arith)
-combine_plan_known script (a ∷ b ∷ c ∷ d ∷ []) [] names behind output file four one is called
+combine_plan_known script (a ∷ b ∷ c ∷ d ∷ []) [] names behind output file four one is
+    called
     combines =
     absurd (omega arith)
-combine_plan_known script (a ∷ b ∷ c ∷ d ∷ []) (o ∷ p ∷ outputs) names behind output file four one
+combine_plan_known script (a ∷ b ∷ c ∷ d ∷ []) (o ∷ p ∷ outputs) names behind output
+    file four one
     is called combines =
     absurd (omega arith)

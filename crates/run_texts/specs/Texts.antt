@@ -74,8 +74,9 @@ NamedOutput = List ℕ × Output
 -- the names of a collection that is made by a `do` over the input
 abbrev pub do_names : Script → List ℕ → List ℕ → Made → Option DoNames
 do_names script input made (Do source function output) =
-    if source == 0 && output == 0 then option_map (λ called.
-    record { input = input; made = made; function = called.0 }) (slice_get script.functions function)
+    if source == 0 && output == 0
+    then option_map (λ called. record { input = input; made = made; function = called.0 })
+    (slice_get script.functions function)
     else None
 do_names script input made _ = None
 

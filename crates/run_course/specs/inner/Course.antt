@@ -1,5 +1,5 @@
 -- The parts of the course of a call.
-use Rattle.std.specs.Prelude.{◌≡◌, ◌⊎◌, ◌≤◌, ℕ, List, [], ◌∷◌, ◌++◌, IsFalse, IsTrue, codes, drop, length, Option, Some, Err, IsSome, IsUtf8, ⊤}
+use Rattle.std.specs.Prelude.{◌≡◌, ◌⊎◌, ℕ, List, [], ◌∷◌, ◌++◌, IsFalse, IsTrue, codes, drop, Option, Some, Err, IsSome, IsUtf8, ⊤}
 use Rattle.std.specs.List.{All, AllZip, filter, flat_map}
 use Rattle.csv_rows.specs.Rows.{rows_of}
 use Rattle.csv_rows.specs.Text.{table_text}
@@ -9,7 +9,6 @@ use Rattle.csv_rows.specs.declared.fault.RowFault.TheVariants as row_fault
 use Rattle.direct_meaning.specs.Direct.{meaning, sizes_of, traps_of}
 use Rattle.direct_meaning.specs.Evaluated.{bag_at}
 use Rattle.direct_meaning.specs.Inputs.{HaveRows, Wanted, inputs_of, wanted_by}
-use Rattle.direct_meaning.specs.Needed.{is_needed, numbered}
 use Rattle.flume_collection.specs.Traps.{IsLeast}
 use Rattle.flume_collection.specs.declared.trap.Trap.{Trap}
 use Rattle.flume_grammar.specs.declared.fault.ScriptFault.{ScriptFault}
@@ -31,6 +30,7 @@ use Rattle.run_texts.specs.declared.status.Status.TheVariants.{Done, WriteFault,
 use Rattle.script_check.specs.declared.made.Made.{Made}
 use Rattle.script_check.specs.declared.made.Made.TheVariants as made
 use Rattle.script_check.specs.declared.made.Output.{Output}
+use Rattle.script_check.specs.Needed.{is_needed, numbered}
 use Rattle.script_check.specs.Script.{Node, Script}
 use Rattle.written_types.specs.Named.{Named}
 use Rattle.run_course.specs.Accepted.{Accepted, Refused, is_taken}
@@ -63,12 +63,10 @@ abbrev pub IsNamedMade : Made → Type 0
 IsNamedMade (made.Input file columns) = IsUtf8 file
 IsNamedMade _ = ⊤
 
--- What each accepted script is ready for: its files can be asked for by name, and its collections
--- be numbered.
+-- What each accepted script is ready for: its files can be asked for by name.
 pub record IsReady (script : Script) : Type 0 where
   pub reads : All (λ entry. IsNamedMade entry.1.made) script.nodes
   pub writes : All (λ entry. IsUtf8 entry.0) script.outputs
-  pub few : length script.nodes ≤ 256
 
 -- the file of that name is accepted as this script
 abbrev pub IsLoaded : Option (List NamedBytes) → List ℕ → Script → Type 0
@@ -106,7 +104,8 @@ IsLoadCause before after name limit WantOfMemory = ⊤
 IsLoadCause before after name limit status = ⊥
 
 -- why no script was read, where the answer is this one
-abbrev pub IsScriptCause : Seen (List NamedBytes) → Seen (List NamedBytes) → List ℕ → Status → Type 0
+abbrev pub IsScriptCause : Seen (List NamedBytes) → Seen (List NamedBytes) → List ℕ → Status →
+    Type 0
 IsScriptCause before after name (ScriptRefused line kind) =
     (bytes : List ℕ) × Loads before.told name SCRIPT_LIMIT bytes × Refused bytes line kind
 IsScriptCause before after name status = IsLoadCause before after name SCRIPT_LIMIT status

@@ -7,7 +7,8 @@ use Rattle.run_texts.proofs.plans.do_plan.Goals as goal
 pub returns-in_ok-text-in-Some : goal.returns-in_ok-text-in-Some
 returns-in_ok-text-in-Some c =
     let reads : c.output.result.now.reads ≡ 1 = search rules in
-    ap Some (c.in_ok-text-in-Some.ensures ∙ ap (do_text (do_names_in c.in-Some.names)) c.as_bytes.ensures)
+    ap Some (c.in_ok-text-in-Some.ensures ∙ ap (do_text (do_names_in c.in-Some.names))
+    c.as_bytes.ensures)
     ∙ do_plan_known c.args.program.now.script c.args.program.now.script.nodes
     c.args.program.now.script.outputs (do_names_in c.in-Some.names) c.output.result.now
     c.output_file.result.now c.requires.two c.requires.one
