@@ -1,27 +1,24 @@
 -- How an evaluation begins and ends.
-use Rattle.std.proofs.Common.{◌≡◌, ℕ, zero, suc, ◌+◌, ◌<◌, Bool, true, false, List, [], ◌∷◌, ◌++◌, length, map, Option, Some, None, slice_get, refl, sym, ap, ◌∙◌, subst, arith, append-nil, length-append}
-use Rattle.std.specs.Prelude.{All}
-use Rattle.std.specs.List.{AllByRecursion as Each, AllZip, Contains}
-use Rattle.std.specs.Option.{option_flatten, option_map}
+use Rattle.std.proofs.Common.{◌≡◌, ℕ, zero, suc, ◌+◌, ◌<◌, true, false, List, [], ◌∷◌, ◌++◌, length, map, Option, Some, None, slice_get, refl, sym, ap, ◌∙◌, subst, arith, append-nil, length-append}
+use Rattle.std.specs.List.{AllByRecursion as Each, AllZip}
 use Rattle.std.proofs.lemmas.List.Elements.{All-from_recursion}
 use Rattle.flume_value.proofs.EachLemmas.{each_from}
 use Rattle.flume_value.specs.declared.value.Value.{Value}
-use Rattle.flume_types.specs.declared.types.Ty.{Ty}
 use Rattle.flume_collection.specs.Collection.{Collection}
 use Rattle.flume_collection.specs.Traps.{trap_set}
 use Rattle.flume_collection.specs.declared.trap.Trap.{Trap}
 use Rattle.written_types.specs.Named.{Named}
 use Rattle.script_check.specs.declared.made.Output.{Output}
 use Rattle.script_check.specs.Script.{Node, Script}
-use Rattle.script_laws.specs.WellFormed.{HasColumns, IsWellFormed, members_at}
+use Rattle.script_laws.specs.WellFormed.{HasColumns, IsWellFormed}
 use Rattle.direct_meaning.proofs.MeaningLemmas.{outputs_needed}
 use Rattle.direct_meaning.proofs.PlaceLemmas.{mapped, within, zip_length}
 use Rattle.direct_meaning.proofs.SizeLemmas.{sizes_same}
-use Rattle.direct_meaning.proofs.StandLemmas.{Source, passes, source_at}
+use Rattle.direct_meaning.proofs.StandLemmas.{passes, source_at}
 use Rattle.direct_meaning.proofs.TableLemmas.{as_many, found}
-use Rattle.direct_meaning.specs.Direct.{collections, made_at, meaning, sizes_of, traps_of}
+use Rattle.direct_meaning.specs.Direct.{collections, meaning, traps_of}
 use Rattle.direct_meaning.specs.Evaluated.{IsDirect, IsWritten, bag_at}
-use Rattle.direct_meaning.specs.Inputs.{AreInputs, HaveRows}
+use Rattle.direct_meaning.specs.Inputs.{HaveRows}
 use Rattle.direct_meaning.specs.Made.{AreMade}
 use Rattle.script_check.specs.Needed.{is_needed}
 use Rattle.direct_meaning.specs.declared.kept.Kept.{Kept}
@@ -73,7 +70,8 @@ none_behind before (x ∷ rest) same =
 
 no_rows : (script : Script) (number : ℕ) (left : List (List Value)) (rest : Named Node)
     (table : List (Option Collection)) → rest ≡ []
-    → HaveRows (wanted_from script number rest) left → collections script rest left table ≡ Some table
+    → HaveRows (wanted_from script number rest) left
+    → collections script rest left table ≡ Some table
 no_rows script number [] [] table end have = refl
 no_rows script number (rows ∷ left) [] table end have = absurd have
 no_rows script number left (entry ∷ rest) table end have = cc
@@ -90,7 +88,8 @@ ends script inputs left number kept traps last stands =
     ∙ (ap (λ (l : Named Node). stands.before ++ l) (sym end) ∙ stands.split) in
     record {
       table = stands.table;
-      means = sym stands.ahead ∙ no_rows script number left stands.rest stands.table end stands.rows;
+      means = sym stands.ahead
+          ∙ no_rows script number left stands.rest stands.table end stands.rows;
       are = subst (λ (nodes : Named Node). AreMade script nodes stands.table) whole stands.are;
       keeps = stands.keeps;
       found = stands.found;
@@ -137,9 +136,10 @@ module _ (script : Script) (well : IsWellFormed script) (inputs : List (List Val
       → Each (λ entry. is_needed script entry.1.reads ≡ true) outputs
       → Each (λ entry. IsWritten script ended.table bags entry.1) outputs
   each_written bags told [] have needed = tt
-  each_written bags told (entry ∷ outputs) have needed =
-      (written bags told entry.1 have.0 needed.0,
-      each_written bags told outputs have.1 needed.1)
+  each_written bags told (entry ∷ outputs) have needed = (
+    written bags told entry.1 have.0 needed.0,
+    each_written bags told outputs have.1 needed.1,
+  )
 
   pub is_direct : (it : Direct) → it.bags.items ≡ map bag_kept kept
       → it.sizes.items ≡ sizes_kept script.nodes kept → it.traps.items ≡ trap_set traps

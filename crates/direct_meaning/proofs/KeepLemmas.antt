@@ -1,5 +1,5 @@
 -- What is kept of what steps make of collections, and whose traps these are.
-use Rattle.std.proofs.Common.{◌≡◌, ℕ, zero, suc, ◌+◌, ◌<◌, ◌||◌, Bool, true, false, List, [], ◌∷◌, ◌++◌, length, map, Option, Some, None, slice_get, refl, sym, ap, ◌∙◌, subst, arith, append-nil, append_assoc}
+use Rattle.std.proofs.Common.{◌≡◌, ℕ, zero, suc, ◌||◌, false, List, [], ◌∷◌, ◌++◌, map, Option, Some, slice_get, refl, sym, ap, ◌∙◌, subst, arith, append-nil}
 use Rattle.std.specs.List.{Contains, flat_map, list_any}
 use Rattle.std.specs.Option.{option_and_then, option_flatten, option_map}
 use Rattle.std.proofs.lemmas.List.Elements.{Contains-append_left, Contains-append_right}
@@ -22,7 +22,6 @@ use Rattle.flume_collection.specs.declared.trap.Trap.{Trap}
 use Rattle.script_check.specs.Script.{Function}
 use Rattle.direct_meaning.proofs.CallLemmas.{emitted_all, trapped_all}
 use Rattle.direct_meaning.proofs.StandLemmas.{HasOwn, Source, all_traps, some_made}
-use Rattle.direct_meaning.proofs.TableLemmas.{IsMadeAt}
 use Rattle.direct_meaning.proofs.TrapLemmas.{AreAmong, absorbed, among-append, known_all, traps-append, traps-set, unless-same}
 use Rattle.direct_meaning.specs.Calls.{answer_of, calls_on}
 use Rattle.direct_meaning.specs.Direct.{all_made, called_by, combined_by, counted_by, counts_behind, joined_by, made_at, top_by, traps_behind}
@@ -267,7 +266,8 @@ pub together_kept : (kept : List (Option Kept)) (table : List (Option Collection
 together_kept kept table numbers stood result members trapped = record {
   members = members ∙ ap bag_of stood.members;
   trapped = trapped
-      ∙ (stood.trapped ∙ sym (traps-set (flat_map (λ (c : Collection). c.traps) stood.collections)));
+      ∙ (stood.trapped
+      ∙ sym (traps-set (flat_map (λ (c : Collection). c.traps) stood.collections)));
 }
 
 pub together_own : (kept : List (Option Kept)) (table : List (Option Collection))

@@ -7,6 +7,8 @@ pub mod MeaningLemmas
 pub mod StandLemmas
 pub mod KeepLemmas
 pub mod CombineLemmas
+pub mod ReadLemmas
+pub mod HereLemmas
 pub mod ArmLemmas
 pub mod ResultLemmas
 pub mod CallLemmas

@@ -5,7 +5,7 @@ use Rattle.std.specs.Option.{option_map}
 use Rattle.written_types.specs.Named.{Named}
 use Rattle.script_check.specs.Script.{Node}
 use Rattle.flume_collection.specs.Collection.{Collection}
-use Rattle.direct_meaning.specs.Direct.{size_of, sizes_from}
+use Rattle.direct_meaning.specs.Direct.{sizes_from}
 use Rattle.direct_meaning.specs.declared.kept.Kept.{Kept}
 use Rattle.direct_meaning.specs.inner.Kept.{KeepsAny, size_line, sizes_kept}
 

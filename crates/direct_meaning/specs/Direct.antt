@@ -5,7 +5,6 @@ use Rattle.std.specs.List.{flat_map, slice_get}
 use Rattle.std.specs.Option.{option_flatten}
 use Rattle.flume_value.specs.Bag.{bag_of}
 use Rattle.flume_value.specs.declared.value.Value.{Value}
-use Rattle.flume_types.specs.declared.types.Ty.{Ty}
 use Rattle.bag_groups.specs.Combining.{combined_each, traps_of_each}
 use Rattle.combine_table.specs.Combinations.{combined, greatest}
 use Rattle.combine_table.specs.declared.comb.Comb.{Comb}

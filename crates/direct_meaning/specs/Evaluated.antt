@@ -1,5 +1,5 @@
 -- What the evaluation of a program comes to, by the script that the program is.
-use Rattle.std.specs.Prelude.{◌≡◌, ℕ, List, Option, Some, length, slice_get}
+use Rattle.std.specs.Prelude.{◌≡◌, ℕ, List, Option, Some, slice_get}
 use Rattle.std.specs.List.{All}
 use Rattle.std.specs.Option.{option_flatten}
 use Rattle.flume_value.specs.declared.value.Value.{Value}

@@ -21,7 +21,14 @@ pub fn direct(alloc: Global, program: &Program, inputs: Pile<Items>) -> Result<D
     let mut table = Vec::new(alloc);
     for number in 0..program.node_count() {
         let kept = if program.is_needed(number) {
-            let kept = make(alloc, program, number, table.as_slice(), &mut rows, &mut traps)?;
+            let kept = make(
+                alloc,
+                program,
+                number,
+                table.as_slice(),
+                &mut rows,
+                &mut traps,
+            )?;
             Some(kept)
         } else {
             None
