@@ -100,7 +100,7 @@ header_typed : (ty : Ty) (columns : List Column) (at : Option ℕ) (records : Li
 header_typed ty columns None records rows some e = from_typed ty columns 1 records rows some e
 header_typed ty columns (Some at) records rows some e = cc e
 
-under_typed : (ty : Ty) (columns : List Column) (records : List (List (List ℕ)))
+pub under_typed : (ty : Ty) (columns : List Column) (records : List (List (List ℕ)))
     (rows : List Value) → input_columns_of ty ≡ Some columns → rows_under columns records ≡ Ok rows
     → All (λ row. IsTrue (has_type row ty)) rows
 under_typed ty columns [] rows some e = cc e

@@ -15,5 +15,5 @@ mod write;
 
 pub use fault::{RowFault, RowKind};
 pub use laws::{csv_law, rows_law};
-pub use read::rows;
-pub use write::text;
+pub use read::{rows, rows_under_columns};
+pub use write::{text, text_under_columns};

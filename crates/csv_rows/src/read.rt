@@ -6,6 +6,8 @@ ghost use Rattle.csv.specs.Reading.{expected_len};
 ghost use Rattle.csv.specs.Records.{fields_of};
 ghost use Rattle.flume_types.specs.Columns.{input_columns_of};
 ghost use Rattle.flume_types.specs.Typing.{has_type};
+ghost use Rattle.flume_types.specs.declared.types.Ty.{Ty};
+ghost use Rattle.csv_rows.specs.Records.{records_of};
 ghost use Rattle.csv_rows.specs.inner.Readers.{IsPlain, left_of};
 ghost use Rattle.csv_rows.specs.Rows.{cell_at, header_fault, row_at, rows_of, rows_under};
 
@@ -33,22 +35,42 @@ pub fn rows(alloc: Global, bytes: &[u8], ty: &Ty) -> Result<Items, RowFault>
     ensures fault { IfErr result (λ e. e ≢ RowFault.Memory →
         rows_of bytes.now ty.now ≡ Some (Err e)) }
 {
-    read_rows(alloc, bytes, ty)
-}
-
-/// The rows of all that a source gives. A source that fails has no rows, as where memory runs out.
-fn read_rows<R: Read + Drop>(alloc: Global, source: R, ty: &Ty) -> Result<Items, RowFault>
-    requires { IsSome (input_columns_of ty.now) }
-    ensures rows { IfOk result (λ rows.
-        IfSome (R.remaining source) (λ bytes. rows_of bytes ty.now ≡ Some (Ok rows))) }
-    ensures fault { IfErr result (λ e. e ≢ RowFault.Memory →
-        IfSome (R.remaining source) (λ bytes. rows_of bytes ty.now ≡ Some (Err e))) }
-{
     let columns = match input_columns(alloc, ty) {
         Ok(columns) => columns,
         Err(ColumnFault::Memory) => return Err(RowFault::Memory),
         Err(ColumnFault::NotFlat) => unreachable!(),
     };
+    rows_under_columns(alloc, bytes, columns.as_slice())
+}
+
+/// The same for a type whose columns are these.
+#[tactic(auto, using(crate::proofs::TypeFacts::under_typed))]
+pub fn rows_under_columns(
+    alloc: Global,
+    bytes: &[u8],
+    columns: &[Column],
+) -> Result<Items, RowFault>
+    ensures rows { IfOk result (λ rows.
+        rows_under columns.now (records_of bytes.now) ≡ Ok rows) }
+    ensures typed { IfOk result (λ rows. (ty : Ty) → input_columns_of ty ≡ Some columns.now →
+        All (λ row. IsTrue (has_type row ty)) rows) }
+    ensures fault { IfErr result (λ e. e ≢ RowFault.Memory →
+        rows_under columns.now (records_of bytes.now) ≡ Err e) }
+{
+    read_rows(alloc, bytes, columns)
+}
+
+/// The rows of all that a source gives. A source that fails has no rows, as where memory runs out.
+fn read_rows<R: Read + Drop>(
+    alloc: Global,
+    source: R,
+    columns: &[Column],
+) -> Result<Items, RowFault>
+    ensures rows { IfOk result (λ rows. IfSome (R.remaining source)
+        (λ bytes. rows_under columns.now (records_of bytes) ≡ Ok rows)) }
+    ensures fault { IfErr result (λ e. e ≢ RowFault.Memory → IfSome (R.remaining source)
+        (λ bytes. rows_under columns.now (records_of bytes) ≡ Err e)) }
+{
     // a fault's column is told in 32 bits
     if columns.len() > u32::MAX as usize {
         return Err(RowFault::Memory);
@@ -56,7 +78,7 @@ fn read_rows<R: Read + Drop>(alloc: Global, source: R, ty: &Ty) -> Result<Items,
     let mut reader = ReaderBuilder::new()
         .has_headers(false)
         .from_reader(alloc, source);
-    read_table(alloc, &mut reader, columns.as_slice())
+    read_table(alloc, &mut reader, columns)
 }
 
 /// The rows of a reader, or the first fault.

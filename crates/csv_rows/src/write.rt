@@ -30,20 +30,24 @@ pub fn text(alloc: Global, values: &Items, ty: &Ty) -> Result<Vec<u8>, AllocErro
     ensures { IfOk result (λ text. text_of (bag_of values.now) ty.now ≡ Some text.items) }
 {
     let bag = ascending(alloc, values.as_slice())?;
-    bag_text(alloc, &bag, ty)
-}
-
-/// The sorted text of a bag of values of a flat type, which stand in ascending order.
-fn bag_text(alloc: Global, bag: &[&Value], ty: &Ty) -> Result<Vec<u8>, AllocError>
-    requires { IsSome (columns_of ty.now) }
-    ensures { IfOk result (λ text.
-        text_of (map (λ value. value.now) bag.now) ty.now ≡ Some text.items) }
-{
     match columns(alloc, ty) {
-        Ok(columns) => write_table(alloc, columns.as_slice(), bag),
+        Ok(columns) => write_table(alloc, columns.as_slice(), &bag),
         Err(ColumnFault::Memory) => Err(AllocError),
         Err(ColumnFault::NotFlat) => unreachable!(),
     }
+}
+
+/// The text of values of a type whose columns are these: a header, and a row for each value, in
+/// this order.
+pub fn text_under_columns(
+    alloc: Global,
+    values: &[Value],
+    columns: &[Column],
+) -> Result<Vec<u8>, AllocError>
+    ensures { IfOk result (λ text. text.items ≡ table_text columns.now values.now) }
+{
+    let values: Vec<&Value> = values.iter().collect(alloc)?;
+    write_table(alloc, columns, &values)
 }
 
 /// The text of a header and of a row for each value, in this order.

@@ -1,80 +1,89 @@
 -- Bytes are accepted as one script or refused for one reason, and not both.
-use Rattle.std.proofs.Common.{◌≡◌, ℕ, inl, inr, List, Some, Ok, Err, sym, ap, ◌∙◌, subst}
+use Rattle.std.proofs.Common.{◌≡◌, ℕ, Bool, true, false, inl, inr, Ok, Err, List, sym, ap, ◌∙◌, subst}
+use Rattle.std.specs.Prelude.{IsFalse, IsTrue}
 use Rattle.flume_grammar.proofs.Answered.{one_ast, one_refusal, not_both as parse_not_both}
-use Rattle.flume_grammar.specs.Answer.{Accepts}
 use Rattle.flume_grammar.specs.declared.fault.ScriptFault.TheVariants as fault
 use Rattle.flume_grammar.specs.declared.fault.ScriptKind.{ScriptKind}
 use Rattle.flume_grammar.specs.declared.tree.Ast.{Ast}
-use Rattle.flume_program.specs.Accepted.{IsAccepted}
-use Rattle.flume_program.specs.Checked.{script_of}
-use Rattle.flume_program.specs.Script.{Script}
-use Rattle.script_check.specs.Rules.{script_of as checked_script}
-use Rattle.script_check.specs.Script.{Script as CheckedScript}
+use Rattle.script_check.specs.Rules.{script_of}
+use Rattle.script_check.specs.Script.{Script}
 use Rattle.written_types.specs.Answer.{Checked}
-use Rattle.run_course.specs.Accepted.{Accepted, BreaksRule, HasFault, IsOfNoForm, KeepsRules, Refused}
+use Rattle.run_course.specs.Accepted.{Accepted, BreaksRule, IsNotTaken, IsRefusedBy, Refused, is_taken}
+use Rattle.run_course.specs.declared.words.Command.{Command}
 
-pub accepted_once : (bytes : List ℕ) (p q : Script) → Accepted bytes p → Accepted bytes q → p ≡ q
+-- ---- one answer of the checker
+
+same_script : (made : Checked Script) (p q : Script) → made ≡ Ok p → made ≡ Ok q → p ≡ q
+same_script made p q first second =
+    let e = sym first ∙ second in
+    cc
+
+same_fault : (made : Checked Script) (n m : ℕ) (j k : ScriptKind)
+    → made ≡ Err (fault.Refused n j) → made ≡ Err (fault.Refused m k) → (n ≡ m) × (j
+    ≡ k)
+same_fault made n m j k first second =
+    let e = sym first ∙ second in
+    (cc, cc)
+
+script_or_fault : (made : Checked Script) (p : Script) (n : ℕ) (k : ScriptKind)
+    → made ≡ Ok p → made ≡ Err (fault.Refused n k) → ⊥
+script_or_fault made p n k first second =
+    let e = sym first ∙ second in
+    cc
+
+-- ---- bytes
+
+pub accepted_once : (bytes : List ℕ) (p q : Script) → Accepted bytes p → Accepted bytes q
+    → p ≡ q
 accepted_once bytes p q first second =
     let trees : first.0 ≡ second.0 = one_ast bytes first.0 second.0 first.1 second.1 in
-    let scripts : Some p ≡ Some q =
-    sym first.2 ∙ (ap (λ (ast : Ast). script_of ast.statements) trees ∙ second.2) in
-    cc
-
--- one tree does not keep the rules and break one
-keeps_or_breaks : (whole : CheckedScript) (line : ℕ) (kind : ScriptKind) (made : Checked CheckedScript)
-    → made ≡ Ok whole → made ≡ Err (fault.Refused line kind) → ⊥
-keeps_or_breaks whole line kind made keeps breaks =
-    let e = sym keeps ∙ breaks in
-    cc
-
-rules_differ : (bytes : List ℕ) (a b : Ast) (line : ℕ) (kind : ScriptKind)
-    → Accepts bytes a → Accepts bytes b → KeepsRules a.statements
-    → BreaksRule b.statements line kind → ⊥
-rules_differ bytes a b line kind first second keeps breaks =
-    keeps_or_breaks keeps.0 line kind (checked_script b.statements)
-    (ap (λ (ast : Ast). checked_script ast.statements) (sym (one_ast bytes a b first second))
-    ∙ keeps.1) breaks
+    same_script (script_of first.0.statements) p q first.2
+    (ap (λ (ast : Ast). script_of ast.statements) trees ∙ second.2)
 
 pub not_both : (bytes : List ℕ) (script : Script) (line : ℕ) (kind : ScriptKind)
     → Accepted bytes script → Refused bytes line kind → ⊥
 not_both bytes script line kind accepted (inl refuses) =
     parse_not_both bytes accepted.0 line kind accepted.1 refuses
-not_both bytes script line kind accepted (inr (inl breaks)) =
-    rules_differ bytes accepted.0 breaks.0 line kind accepted.1 breaks.1 accepted.3 breaks.2
-not_both bytes script line kind accepted (inr (inr tree)) =
-    let trees : accepted.0 ≡ tree.0 = one_ast bytes accepted.0 tree.0 accepted.1 tree.1 in
-    tree.2 script (subst (λ (ast : Ast). IsAccepted ast.statements script) trees accepted.2)
-
--- the line and the kind of a fault
-one_fault : (made : Checked CheckedScript) (n m : ℕ) (j k : ScriptKind)
-    → made ≡ Err (fault.Refused n j) → made ≡ Err (fault.Refused m k) → (n ≡ m) × (j ≡ k)
-one_fault made n m j k first second =
-    let e = sym first ∙ second in
-    (cc, cc)
-
-faults_once : (bytes : List ℕ) (n m : ℕ) (j k : ScriptKind)
-    → HasFault bytes n j → HasFault bytes m k → (n ≡ m) × (j ≡ k)
-faults_once bytes n m j k first second =
-    one_fault (checked_script first.0.statements) n m j k first.2
-    (ap (λ (ast : Ast). checked_script ast.statements)
-    (one_ast bytes first.0 second.0 first.1 second.1) ∙ second.2)
+not_both bytes script line kind accepted (inr breaks) =
+    let trees : accepted.0 ≡ breaks.0 = one_ast bytes accepted.0 breaks.0 accepted.1 breaks.1 in
+    script_or_fault (script_of accepted.0.statements) script line kind accepted.2
+    (ap (λ (ast : Ast). script_of ast.statements) trees ∙ breaks.2)
 
 pub one_reason : (bytes : List ℕ) (n m : ℕ) (j k : ScriptKind)
     → Refused bytes n j → Refused bytes m k → (n ≡ m) × (j ≡ k)
 one_reason bytes n m j k (inl first) (inl second) = one_refusal bytes n m j k first second
-one_reason bytes n m j k (inl first) (inr (inl second)) =
+one_reason bytes n m j k (inl first) (inr second) =
     absurd (parse_not_both bytes second.0 n j second.1 first)
-one_reason bytes n m j k (inl first) (inr (inr second)) =
-    absurd (parse_not_both bytes second.0 n j second.1 first)
-one_reason bytes n m j k (inr (inl first)) (inl second) =
+one_reason bytes n m j k (inr first) (inl second) =
     absurd (parse_not_both bytes first.0 m k first.1 second)
-one_reason bytes n m j k (inr (inr first)) (inl second) =
-    absurd (parse_not_both bytes first.0 m k first.1 second)
-one_reason bytes n m j k (inr (inl first)) (inr (inl second)) =
-    faults_once bytes n m j k first second
-one_reason bytes n m j k (inr (inl first)) (inr (inr second)) =
-    absurd (rules_differ bytes second.0 first.0 n j second.1 first.1 second.3 first.2)
-one_reason bytes n m j k (inr (inr first)) (inr (inl second)) =
-    absurd (rules_differ bytes first.0 second.0 m k first.1 second.1 first.3 second.2)
-one_reason bytes n m j k (inr (inr first)) (inr (inr second)) =
-    (first.4 ∙ sym second.4, first.5 ∙ sym second.5)
+one_reason bytes n m j k (inr first) (inr second) =
+    let trees : first.0 ≡ second.0 = one_ast bytes first.0 second.0 first.1 second.1 in
+    same_fault (script_of first.0.statements) n m j k first.2
+    (ap (λ (ast : Ast). script_of ast.statements) trees ∙ second.2)
+
+-- ---- what a command takes
+
+not_true_and_false : (b : Bool) → IsTrue b → IsFalse b → ⊥
+not_true_and_false true holds fails = cc
+not_true_and_false false holds fails = cc
+
+pub taken_not_refused : (command : Command) (bytes : List ℕ) (script : Script) (line : ℕ)
+    (kind : ScriptKind) → Accepted bytes script → IsTrue (is_taken command script)
+    → IsRefusedBy command bytes line kind → ⊥
+taken_not_refused command bytes script line kind accepted taken (inl refused) =
+    not_both bytes script line kind accepted refused
+taken_not_refused command bytes script line kind accepted taken (inr other) =
+    let same : other.0 ≡ script = accepted_once bytes other.0 script other.1 accepted in
+    not_true_and_false (is_taken command script) taken
+    (subst (λ (s : Script). IsFalse (is_taken command s)) same other.2)
+
+pub one_reason_by : (command : Command) (bytes : List ℕ) (n m : ℕ) (j k : ScriptKind)
+    → IsRefusedBy command bytes n j → IsRefusedBy command bytes m k → (n ≡ m) × (j ≡ k)
+one_reason_by command bytes n m j k (inl first) (inl second) =
+    one_reason bytes n m j k first second
+one_reason_by command bytes n m j k (inl first) (inr second) =
+    absurd (not_both bytes second.0 n j second.1 first)
+one_reason_by command bytes n m j k (inr first) (inl second) =
+    absurd (not_both bytes first.0 m k first.1 second)
+one_reason_by command bytes n m j k (inr first) (inr second) =
+    (first.3 ∙ sym second.3, first.4 ∙ sym second.4)

@@ -1,41 +1,44 @@
--- Which bytes are a script that runs, and which are refused.
-use Rattle.std.specs.Prelude.{◌≡◌, ◌⊎◌, ℕ, List, Ok, Err}
+-- Which bytes are a script, and which are refused.
+use Rattle.std.specs.Prelude.{◌≡◌, ◌⊎◌, ℕ, Bool, true, List, IsFalse, Ok, Err, is_some}
 use Rattle.flume_grammar.specs.Answer.{Accepts, Refuses}
 use Rattle.flume_grammar.specs.declared.fault.ScriptFault.TheVariants as fault
 use Rattle.flume_grammar.specs.declared.fault.ScriptKind.{ScriptKind}
 use Rattle.flume_grammar.specs.declared.fault.ScriptKind.TheVariants.{Syntax}
 use Rattle.flume_grammar.specs.declared.tree.Ast.{Ast}
-use Rattle.flume_grammar.specs.declared.tree.Statement.{Statement}
-use Rattle.flume_program.specs.Accepted.{IsAccepted, IsRefused}
-use Rattle.flume_program.specs.Script.{Script}
-use Rattle.script_check.specs.Rules.{script_of as checked_script}
-use Rattle.script_check.specs.Script.{Script as CheckedScript}
+use Rattle.run_texts.specs.Texts.{plan_of}
+use Rattle.script_check.specs.Rules.{script_of}
+use Rattle.script_check.specs.Script.{Script}
+use Rattle.run_course.specs.declared.words.Command.{Command}
+use Rattle.run_course.specs.declared.words.Command.TheVariants.{Check, Direct, Run}
 
--- the statements keep all rules of the language
-abbrev pub KeepsRules : List Statement → Type 0
-KeepsRules statements = (whole : CheckedScript) × (checked_script statements ≡ Ok whole)
-
--- the statements break a rule: their first fault is this one
-abbrev pub BreaksRule : List Statement → ℕ → ScriptKind → Type 0
-BreaksRule statements line kind = checked_script statements ≡ Err (fault.Refused line kind)
-
--- the bytes are a script that is accepted, as this one: its tokens spell a tree, and the tree is of
--- a form that runs and keeps the rules
+-- the bytes are accepted as this script: their tokens spell a tree, which keeps all rules
 abbrev pub Accepted : List ℕ → Script → Type 0
-Accepted bytes script =
-    (ast : Ast) × Accepts bytes ast × IsAccepted ast.statements script × KeepsRules ast.statements
+Accepted bytes script = (ast : Ast) × Accepts bytes ast × (script_of ast.statements ≡ Ok script)
 
--- the bytes spell a tree that breaks a rule
-abbrev pub HasFault : List ℕ → ℕ → ScriptKind → Type 0
-HasFault bytes line kind = (ast : Ast) × Accepts bytes ast × BreaksRule ast.statements line kind
+-- the bytes spell a tree that breaks a rule: this is its first fault
+abbrev pub BreaksRule : List ℕ → ℕ → ScriptKind → Type 0
+BreaksRule bytes line kind =
+    (ast : Ast) × Accepts bytes ast × (script_of ast.statements ≡ Err (fault.Refused line kind))
 
--- the bytes spell a tree that keeps the rules and is of no form that runs, which is told of no line
-abbrev pub IsOfNoForm : List ℕ → ℕ → ScriptKind → Type 0
-IsOfNoForm bytes line kind =
-    (ast : Ast) × Accepts bytes ast × IsRefused ast.statements × KeepsRules ast.statements
+-- the bytes are refused: they spell no tree, or one that breaks a rule
+abbrev pub Refused : List ℕ → ℕ → ScriptKind → Type 0
+Refused bytes line kind = Refuses bytes line kind ⊎ BreaksRule bytes line kind
+
+-- ---- what commands take
+
+-- whether a command takes this script: `run` takes those yet of which the plan is known
+abbrev pub is_taken : Command → Script → Bool
+is_taken Check script = true
+is_taken Direct script = true
+is_taken Run script = is_some (plan_of script)
+
+-- the bytes are a script that the command doesn't take, which is told of no line
+abbrev pub IsNotTaken : Command → List ℕ → ℕ → ScriptKind → Type 0
+IsNotTaken command bytes line kind =
+    (script : Script) × Accepted bytes script × IsFalse (is_taken command script)
     × (line ≡ 0) × (kind ≡ Syntax)
 
--- the bytes are refused: they spell no tree, or one with a fault, or one of no form that runs
-abbrev pub Refused : List ℕ → ℕ → ScriptKind → Type 0
-Refused bytes line kind =
-    Refuses bytes line kind ⊎ HasFault bytes line kind ⊎ IsOfNoForm bytes line kind
+-- the command refuses the bytes
+abbrev pub IsRefusedBy : Command → List ℕ → ℕ → ScriptKind → Type 0
+IsRefusedBy command bytes line kind =
+    Refused bytes line kind ⊎ IsNotTaken command bytes line kind

@@ -1,13 +1,14 @@
 -- Each answer of a call: its cause, and what stands afterwards.
-use Rattle.std.specs.Prelude.{◌≡◌, ◌++◌, ℕ, List, Some, None, Err, slice_get, ⊤}
+use Rattle.std.specs.Prelude.{◌≡◌, ◌++◌, ℕ, List, Option, Some, None, Err, slice_get, ⊤}
 use Rattle.std.specs.List.{Contains}
 use Rattle.std.specs.Option.{option_map}
 use Rattle.csv_rows.specs.Rows.{rows_of}
 use Rattle.csv_rows.specs.declared.fault.RowFault.TheVariants.{Bad}
 use Rattle.csv_rows.specs.declared.fault.RowKind.{RowKind}
-use Rattle.direct_meaning.specs.Direct.{Collection, traps_of}
-use Rattle.flume_program.specs.Needed.{Wanted}
-use Rattle.flume_program.specs.Script.{Script, name_at}
+use Rattle.direct_meaning.specs.Direct.{traps_of}
+use Rattle.direct_meaning.specs.Inputs.{Wanted}
+use Rattle.flume_collection.specs.Traps.{IsLeast}
+use Rattle.flume_collection.specs.declared.trap.Trap.{Trap as TrapOf}
 use Rattle.flume_value.specs.declared.fault.Kind.{Kind}
 use Rattle.flume_value.specs.declared.value.Value.{Value}
 use Rattle.outside.specs.Cause.{Rose, RoseBy}
@@ -22,11 +23,15 @@ use Rattle.run_texts.specs.declared.status.Place.TheVariants.{File, Screen}
 use Rattle.flume_grammar.specs.declared.fault.ScriptKind.{ScriptKind}
 use Rattle.run_texts.specs.declared.status.Status.{Status}
 use Rattle.run_texts.specs.declared.status.Status.TheVariants.{Done, Usage, ScriptRefused, InputRefused, Trap, ReadFault, WriteFault, WantOfMemory, TooLong, NoFile}
-use Rattle.run_course.specs.Accepted.{Refused}
-use Rattle.run_course.specs.Asked.{IsAbove, IsAskedFor, IsMissing, IsRun, IsTurnOf, Loads, Writes}
-use Rattle.run_course.specs.Words.{script_asked}
+use Rattle.script_check.specs.Script.{Script}
+use Rattle.run_course.specs.Accepted.{IsRefusedBy}
+use Rattle.run_course.specs.Asked.{AskFor, IsAbove, IsAskedFor, IsMissing, IsTurnOf, Loads, Reads}
+use Rattle.run_course.specs.Words.{asked_for}
 use Rattle.run_course.specs.World.{World}
+use Rattle.run_course.specs.Written.{IsMeant, IsWritten, Table}
 use Rattle.run_course.specs.declared.limits.TheConstants.{SCRIPT_LIMIT, INPUT_LIMIT, TRIES}
+use Rattle.run_course.specs.declared.words.Command.{Command}
+use Rattle.run_course.specs.declared.words.Command.TheVariants.{Check, Direct, Run}
 
 -- ---- what is written
 
@@ -47,48 +52,62 @@ FailsAtFile name files before after =
     (place : ℕ) × (file : NamedBytes) × (slice_get files place ≡ Some file) × (file.name ≡ name)
     × FailsAt place files before after
 
--- Done: the words ask for a run whose script has no trap. Each output file is whole and ended and
--- is the sorted text of the script's direct meaning, and the screen has got the graph, the plan,
--- the sizes and `done`.
+-- Done: each output file of the command is whole and ended, and the screen has got its text. For
+-- `direct` and `run` no call traps, and a file is the sorted text of the script's direct meaning.
 abbrev pub IsDone : List (List ℕ) → World → World → Type 0
 IsDone words before after =
-    (files : List NamedBytes) × (text : List ℕ) × Writes words before.source.told files text
+    (files : List NamedBytes) × (text : List ℕ) × IsWritten words before.source.told files text
     × HasFiles files before.shelf after.shelf × HasText text before.screen after.screen
 
--- WriteFault of a file: the run came to its writing, so no call traps, and the shelf failed there
+-- WriteFault of a file: the call came to its writing, so no call of a function traps, and the shelf
+-- failed there
 abbrev pub IsFileFault : List ℕ → List (List ℕ) → World → World → Type 0
 IsFileFault name words before after =
-    (files : List NamedBytes) × (text : List ℕ) × Writes words before.source.told files text
+    (files : List NamedBytes) × (text : List ℕ) × IsWritten words before.source.told files text
     × FailsAtFile name files before.shelf after.shelf
     × HasLine (line_of (WriteFault (File name))) before.screen after.screen
 
 -- WriteFault of the screen: every output file is whole and ended, and the screen failed in its text
 abbrev pub IsScreenFault : List (List ℕ) → World → World → Type 0
 IsScreenFault words before after =
-    (files : List NamedBytes) × (text : List ℕ) × Writes words before.source.told files text
+    (files : List NamedBytes) × (text : List ℕ) × IsWritten words before.source.told files text
     × HasFiles files before.shelf after.shelf × IsCutOff text before.screen after.screen
 
--- what a run that came to its writing left, where that failed
+-- what a call that came to its writing left, where that failed
 abbrev pub IsWriteFault : Place → List (List ℕ) → World → World → Type 0
 IsWriteFault (File name) words before after = IsFileFault name words before after
 IsWriteFault Screen words before after = IsScreenFault words before after
 
 -- ---- what is not
 
--- Trap: the words ask for a run, and this is one of its script's traps; the shelf is untouched, and
--- the screen has the line, with the name of the trap's statement
+-- the trap that a command may tell of, among those of the script: `direct` tells of the least, and
+-- `check` of none
+abbrev pub MayTell : Command → List TrapOf → TrapOf → Type 0
+MayTell Check traps trap = ⊥
+MayTell Direct traps trap = IsLeast traps trap
+MayTell Run traps trap = Contains traps trap
+
+-- the name of the collection of a number, where there is one
+abbrev pub name_at : Script → ℕ → Option (List ℕ)
+name_at script number = option_map (λ entry. entry.0) (slice_get script.nodes number)
+
+-- Trap: the words ask for a script's meaning, and this is one of its traps; the shelf is untouched,
+-- and the screen has the line, with the name of the collection that the trap's call makes
 abbrev pub IsTrap : ℕ → Kind → Value → List (List ℕ) → World → World → Type 0
 IsTrap origin kind element words before after =
-    (script : Script) × (rows : List (List Value)) × (made : List Collection) × (name : List ℕ)
-    × IsRun words before.source.told script rows made
-    × Contains (traps_of made) (record { origin = origin; kind = kind; element = element })
-    × (name_at script.nodes origin ≡ Some name)
+    (command : Command) × (script : Script) × (rows : List (List Value)) × (table : Table)
+    × (name : List ℕ)
+    × Reads words before.source.told command script
+    × IsMeant before.source.told script rows table
+    × MayTell command (traps_of table)
+    (record { origin = origin; element = element; kind = kind })
+    × (name_at script origin ≡ Some name)
     × (after.shelf ≡ before.shelf)
     × HasLine (trap_line name kind element) before.screen after.screen
 
--- Usage: the words ask for no script
+-- Usage: the words ask for nothing
 abbrev pub IsUsage : List (List ℕ) → Type 0
-IsUsage words = script_asked words ≡ None
+IsUsage words = asked_for words ≡ None
 
 -- NoFile: it is the file's turn, and the source has none of that name
 abbrev pub IsNoFile : List ℕ → List (List ℕ) → Seen (List NamedBytes) → Type 0
@@ -106,11 +125,11 @@ abbrev pub IsReadFault : List ℕ → List (List ℕ) → Seen (List NamedBytes)
 IsReadFault name words before after =
     (limit : ℕ) × IsAskedFor words before.told name limit × RoseBy TRIES before.faults after.faults
 
--- ScriptRefused: the script was loaded, and its bytes are refused so
+-- ScriptRefused: the script was loaded, and the command refuses its bytes so
 abbrev pub IsScriptRefused : ℕ → ScriptKind → List (List ℕ) → Seen (List NamedBytes) → Type 0
 IsScriptRefused line kind words source =
-    (name : List ℕ) × (bytes : List ℕ) × (script_asked words ≡ Some name)
-    × Loads source.told name SCRIPT_LIMIT bytes × Refused bytes line kind
+    (command : Command) × (name : List ℕ) × (bytes : List ℕ) × AskFor words command name
+    × Loads source.told name SCRIPT_LIMIT bytes × IsRefusedBy command bytes line kind
 
 -- InputRefused: it is the input's turn, its file was loaded, and this is the first fault of its
 -- rows

@@ -4,4 +4,5 @@ pub mod Asked
 pub mod Promises
 pub mod Words
 pub mod World
+pub mod Written
 pub mod inner

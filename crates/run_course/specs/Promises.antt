@@ -1,17 +1,20 @@
 -- What a call promises.
 use Rattle.std.specs.Prelude.{◌≡◌, ◌⊎◌, ℕ, false, List, [], ◌∷◌, Some, IsSome, ⊤}
 use Rattle.csv_rows.specs.declared.fault.RowKind.{RowKind}
-use Rattle.direct_meaning.specs.Direct.{Collection, Trap as TrapOf, meaning, traps_of}
-use Rattle.flume_program.specs.Needed.{inputs_of}
-use Rattle.flume_program.specs.Script.{Script}
+use Rattle.direct_meaning.specs.Direct.{meaning, traps_of}
+use Rattle.flume_collection.specs.declared.trap.Trap.{Trap as TrapOf}
 use Rattle.flume_value.specs.declared.fault.Kind.{Kind}
 use Rattle.flume_value.specs.declared.value.Value.{Value}
 use Rattle.outside.specs.Cause.{Rose, RoseBy}
 use Rattle.outside.specs.Seen.{SeenShelf}
 use Rattle.run_course.specs.Answers.{IsDone, IsFileFault, IsInputRefused, IsNoFile, IsReadFault, IsRefused, IsScreenFault, IsScriptRefused, IsTooLong, IsTrap, IsUsage}
-use Rattle.run_course.specs.Asked.{AllHaveRows, Reads}
+use Rattle.run_course.specs.Asked.{AllHaveRows, Reads, inputs_read}
 use Rattle.run_course.specs.World.{Keeps, World}
+use Rattle.run_course.specs.Written.{Table}
 use Rattle.run_course.specs.declared.limits.TheConstants.{TRIES}
+use Rattle.run_course.specs.declared.words.Command.{Command}
+use Rattle.run_course.specs.declared.words.Command.TheVariants.{Check, Direct, Run}
+use Rattle.script_check.specs.Script.{Script}
 use Rattle.run_texts.specs.declared.status.Place.TheVariants.{File, Screen}
 use Rattle.flume_grammar.specs.declared.fault.ScriptKind.{ScriptKind}
 use Rattle.run_texts.specs.declared.status.Status.{Status}
@@ -42,40 +45,54 @@ abbrev pub IsEnded : Status → SeenShelf → Type 0
 IsEnded (WriteFault (File name)) shelf = ⊤
 IsEnded status shelf = shelf.begun ≡ false
 
--- All is there that a run needs: files are told, the words ask for this script, its inputs have
--- these rows, the source fails less often than each file may be tried, and neither the shelf nor
--- the screen fails.
-pub record CanRun (words : List (List ℕ)) (before after : World) (script : Script)
-    (rows : List (List Value)) : Type 0 where
+-- the shelf does not fail, where a command writes files
+abbrev pub IsShelfCalm : Command → SeenShelf → SeenShelf → Type 0
+IsShelfCalm Check before after = ⊤
+IsShelfCalm Direct before after = Rose before.faults after.faults → ⊥
+IsShelfCalm Run before after = Rose before.faults after.faults → ⊥
+
+-- All is there that a command needs: files are told, the words ask for it on this script, the
+-- inputs that it reads have these rows, the source fails less often than each file may be tried,
+-- and neither the shelf, where it writes files, nor the screen fails.
+pub record CanRun (words : List (List ℕ)) (before after : World) (command : Command)
+    (script : Script) (rows : List (List Value)) : Type 0 where
   pub told : IsSome before.source.told
-  pub reads : Reads words before.source.told script
-  pub inputs : AllHaveRows before.source.told (inputs_of script) rows
+  pub reads : Reads words before.source.told command script
+  pub inputs : AllHaveRows before.source.told (inputs_read command script) rows
   pub source : RoseBy TRIES before.source.faults after.source.faults → ⊥
-  pub shelf : Rose before.shelf.faults after.shelf.faults → ⊥
+  pub shelf : IsShelfCalm command before.shelf after.shelf
   pub screen : Rose before.screen.faults after.screen.faults → ⊥
 
 abbrev pub IsTrapped : Status → Type 0
 IsTrapped (Trap origin kind element) = ⊤
 IsTrapped status = ⊥
 
--- a run of a script with these traps came to its end: it is done where there are none, else trapped
+-- a script of these traps came to its end: it is done where there are none, else trapped
 abbrev pub EndsWith : List TrapOf → Status → Type 0
 EndsWith [] status = status ≡ Done
 EndsWith (trap ∷ traps) status = IsTrapped status
 
--- a run of the script over these rows came to its end, by its meaning; or no memory was found
-abbrev pub IsEnd : Script → List (List Value) → Status → Type 0
-IsEnd script rows status =
-    (status ≡ WantOfMemory)
-    ⊎ ((made : List Collection) × (meaning script rows ≡ Some made)
-    × EndsWith (traps_of made) status)
+-- a script came to its end by its meaning over these rows
+abbrev pub EndsByMeaning : Script → List (List Value) → Status → Type 0
+EndsByMeaning script rows status =
+    (table : Table) × (meaning script rows ≡ Some table) × EndsWith (traps_of table) status
+
+-- a command came to its end: a script is checked whatever its traps, else they decide
+abbrev pub EndsAs : Command → Script → List (List Value) → Status → Type 0
+EndsAs Check script rows status = status ≡ Done
+EndsAs Direct script rows status = EndsByMeaning script rows status
+EndsAs Run script rows status = EndsByMeaning script rows status
+
+-- the same, or no memory was found
+abbrev pub IsEnd : Command → Script → List (List Value) → Status → Type 0
+IsEnd command script rows status = (status ≡ WantOfMemory) ⊎ EndsAs command script rows status
 
 -- What is so after a call with these words, which found the one world and left the other, and
 -- answered so.
 pub record Promises (words : List (List ℕ)) (before after : World) (status : Status) : Type 0 where
   -- the headline: every output file is whole, ended and right, and so is the screen's text
   pub done : status ≡ Done → IsDone words before after
-  -- one of the script's traps is named, and nothing is written
+  -- one of the script's traps is named, for `direct` the least, and nothing is written
   pub trap : (origin : ℕ) (kind : Kind) (element : Value) → status ≡ Trap origin kind element →
       IsTrap origin kind element words before after
   -- the cause of each refusal that comes before anything is written, want of memory aside
@@ -107,9 +124,10 @@ pub record Promises (words : List (List ℕ)) (before after : World) (status : S
   pub file_fault : (name : List ℕ) → status ≡ WriteFault (File name) →
       IsFileFault name words before after
   pub screen_fault : status ≡ WriteFault Screen → IsScreenFault words before after
-  -- where all is there that a run needs, it is done, or trapped where its script has a trap
-  pub complete : (script : Script) (rows : List (List Value)) →
-      CanRun words before after script rows → IsEnd script rows status
+  -- where all is there that a command needs, it is done, or trapped where the meaning that it asks
+  -- for has a trap
+  pub complete : (command : Command) (script : Script) (rows : List (List Value)) →
+      CanRun words before after command script rows → IsEnd command script rows status
   -- the source tells what it told, and no count of failures falls
   pub kept : Keeps before after
   -- no file is left begun

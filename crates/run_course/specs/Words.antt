@@ -1,6 +1,9 @@
 -- The words of a command line.
-use Rattle.std.specs.Prelude.{ℕ, Bool, false, not, ◌&&◌, ◌==◌, List, [], ◌∷◌, Option, Some, None, codes, if◌then◌else◌}
+use Rattle.std.specs.Prelude.{ℕ, Bool, false, not, ◌==◌, List, [], ◌∷◌, Option, Some, None, codes, if◌then◌else◌}
+use Rattle.std.specs.Option.{option_map}
 use Rattle.std.specs.Str.{bytes_eq}
+use Rattle.run_course.specs.declared.words.Command.{Command}
+use Rattle.run_course.specs.declared.words.Command.TheVariants.{Check, Direct, Run}
 
 -- the code of `-`, with which options begin
 abbrev pub dash : ℕ
@@ -11,8 +14,23 @@ abbrev pub is_operand : List ℕ → Bool
 is_operand [] = false
 is_operand (first ∷ rest) = not (first == dash)
 
--- the script that the words ask for: after the program's name and `run`, and nothing behind it
-abbrev pub script_asked : List (List ℕ) → Option (List ℕ)
-script_asked (program ∷ command ∷ script ∷ []) =
-    if bytes_eq command (codes "run") && is_operand script then Some script else None
-script_asked words = None
+-- the command of a word
+abbrev pub command_of : List ℕ → Option Command
+command_of word =
+    if bytes_eq word (codes "check") then Some Check
+    else if bytes_eq word (codes "direct") then Some Direct
+    else if bytes_eq word (codes "run") then Some Run
+    else None
+
+-- what is asked for: a command, and the name of a script
+pub record Asked : Type 0 where
+  pub command : Command
+  pub script : List ℕ
+
+-- what the words ask for: behind the program's name stand a command and a script, and no more
+abbrev pub asked_for : List (List ℕ) → Option Asked
+asked_for (program ∷ command ∷ script ∷ []) =
+    if is_operand script
+    then option_map (λ command. record { command = command; script = script }) (command_of command)
+    else None
+asked_for words = None

@@ -1,40 +1,42 @@
-// The script and its input, as they are loaded and decoded.
-ghost use Rattle.std.specs.Prelude.{◌≡◌, ◌≤◌, ◌⊎◌, IfErr, IfOk, OnOk, map, string_bytes};
-ghost use Rattle.flume_program.specs.Accepted.{IsNamed, IsReady};
+// The script and its inputs, as they are loaded and decoded.
+ghost use Rattle.std.specs.Prelude.{◌≡◌, ◌≤◌, ◌<◌, ◌⊎◌, ◌+◌, IfErr, IfOk, IsUtf8, OnOk, Some, length};
+ghost use Rattle.direct_meaning.specs.Inputs.{AreInputs, Wanted, inputs_of};
+ghost use Rattle.flume_types.specs.Columns.{input_columns_of};
 ghost use Rattle.flume_types.specs.Typing.{AllHave};
+ghost use Rattle.flume_types.specs.declared.types.Ty.{Ty};
 ghost use Rattle.outside.specs.Seen.{seen};
-ghost use Rattle.run_course.specs.Accepted.{KeepsRules};
-ghost use Rattle.run_course.specs.Asked.{HasRows, Loads};
-ghost use Rattle.run_course.specs.inner.Course.{IsInputCause, IsLoadCause, IsProgramOf, IsRuleFault, IsScriptCause, IsScriptFault, ReadsProgram, fault_status, input_of, status_of};
+ghost use Rattle.script_laws.specs.WellFormed.{IsWellFormed};
+ghost use Rattle.run_course.specs.Accepted.{Accepted};
+ghost use Rattle.run_course.specs.Asked.{AllHaveRows, HasRows, Loads};
+ghost use Rattle.run_course.specs.inner.Course.{HasRead, IsInputCause, IsInputsCause, IsLoadCause, IsLoaded, IsReady, IsScriptCause, IsScriptFault, fault_status, status_of};
 
 use crate::limits::{INPUT_LIMIT, SCRIPT_LIMIT, TRIES};
-use crate::words::script_asked;
-use csv_rows::{RowFault, rows};
-use flume_program::{Program, Refusal, check};
-use flume_syntax::{Ast, ScriptFault, ScriptKind, parse};
-use flume_value::{Items, Str};
+use csv_rows::{RowFault, rows_under_columns};
+use flume_grammar::ScriptFault;
+use flume_syntax::parse;
+use flume_types::Column;
+use flume_value::{Items, Pile, Str};
 use outside::{LoadFault, Source, load_tried};
 use run_texts::Status;
+use script_check::{Made, Program, check};
 use std::alloc::Global;
 use std::str;
 
-/// Loads and checks the script that the words ask for.
+/// Loads and checks the script of that name.
 pub fn script_of<R: Source>(
     alloc: Global,
-    words: &[String],
+    name: &str,
     source: &mut R,
 ) -> Result<Program, Status>
     ensures files { R.files source.new ≡ R.files source.old }
-    ensures ok { IfOk result (ReadsProgram (map string_bytes words.now) (R.files source.old)) }
-    ensures ready { IfOk result IsReady }
-    ensures named { IfOk result IsNamed }
-    ensures err { IfErr result (IsScriptCause (map string_bytes words.now)
-        (seen R.files R.faults source.old) (seen R.files R.faults source.new)) }
+    ensures ok { IfOk result (λ program.
+        IsLoaded (R.files source.old) name.now program.script) }
+    ensures well_formed { IfOk result (λ program. IsWellFormed program.script) }
+    ensures ready { IfOk result (λ program. IsReady program.script) }
+    ensures err { IfErr result (IsScriptCause (seen R.files R.faults source.old)
+        (seen R.files R.faults source.new) name.now) }
     ensures later { R.faults source.old ≤ R.faults source.new }
 {
-    let Some(name) = script_asked(words) else {
-        return Err(Status::Usage);
-    };
     let bytes = loaded(alloc, source, name, SCRIPT_LIMIT)?;
     match program_of(alloc, &bytes) {
         Ok(program) => Ok(program),
@@ -43,63 +45,101 @@ pub fn script_of<R: Source>(
     }
 }
 
-/// Loads and decodes the input of a program.
-pub fn rows_of_input<R: Source>(
+/// Loads and decodes the inputs that a script needs, in its order.
+pub fn rows_of_inputs<R: Source>(
     alloc: Global,
     program: &Program,
     source: &mut R,
-) -> Result<Items, Status>
-    requires ready { IsReady program.now }
-    requires named { IsNamed program.now }
+) -> Result<Pile<Items>, Status>
+    requires well_formed { IsWellFormed program.now.script }
+    requires ready { IsReady program.now.script }
     ensures files { R.files source.new ≡ R.files source.old }
-    ensures ok { IfOk result (HasRows (R.files source.old) (input_of program.now)) }
-    ensures typed { IfOk result (AllHave program.now.input.ty) }
-    ensures err { IfErr result (IsInputCause (seen R.files R.faults source.old)
-        (seen R.files R.faults source.new) (input_of program.now)) }
+    ensures ok { IfOk result
+        (AllHaveRows (R.files source.old) (inputs_of program.now.script)) }
+    ensures typed { IfOk result (AreInputs program.now.script) }
+    ensures err { IfErr result (IsInputsCause (seen R.files R.faults source.old)
+        (seen R.files R.faults source.new) (inputs_of program.now.script)) }
     ensures later { R.faults source.old ≤ R.faults source.new }
 {
-    let Ok(name) = str::from_utf8(program.input.file.as_bytes()) else {
+    let mut rows = Pile::new(alloc);
+    for number in 0..program.node_count() {
+        add_rows(alloc, program, number, source, &mut rows)?;
+    }
+    Ok(rows)
+}
+
+// The rows of a node behind those of the nodes before it, where it is an input that is needed.
+fn add_rows<R: Source>(
+    alloc: Global,
+    program: &Program,
+    number: usize,
+    source: &mut R,
+    rows: &mut Pile<Items>,
+) -> Result<(), Status>
+    requires well_formed { IsWellFormed program.now.script }
+    requires ready { IsReady program.now.script }
+    requires within { number < length program.now.script.nodes }
+    requires read { HasRead (R.files source.old) program.now.script number rows.old }
+    ensures files { R.files source.new ≡ R.files source.old }
+    ensures read { OnOk result
+        (HasRead (R.files source.old) program.now.script (number + 1) rows.new) }
+    ensures err { IfErr result (IsInputsCause (seen R.files R.faults source.old)
+        (seen R.files R.faults source.new) (inputs_of program.now.script)) }
+    ensures later { R.faults source.old ≤ R.faults source.new }
+{
+    if !program.is_needed(number) {
+        return Ok(());
+    }
+    match &program.node(number).made {
+        Made::Input { file, columns } => {
+            let own = rows_of_file(alloc, file, columns.as_slice(), source)?;
+            match rows.push(own) {
+                Ok(()) => Ok(()),
+                Err(_) => Err(Status::WantOfMemory),
+            }
+        }
+        _ => Ok(()),
+    }
+}
+
+// Loads and decodes the rows of a file that has these columns.
+fn rows_of_file<R: Source>(
+    alloc: Global,
+    file: &Str,
+    columns: &[Column],
+    source: &mut R,
+) -> Result<Items, Status>
+    requires named { IsUtf8 file.now }
+    ensures files { R.files source.new ≡ R.files source.old }
+    ensures ok { IfOk result (λ rows. (type : Ty) → input_columns_of type ≡ Some columns.now →
+        HasRows (R.files source.old) (record { file = file.now; type = type }) rows) }
+    ensures typed { IfOk result (λ rows. (type : Ty) → input_columns_of type ≡ Some columns.now →
+        AllHave type rows) }
+    ensures err { IfErr result (λ status. (type : Ty) →
+        input_columns_of type ≡ Some columns.now →
+        IsInputCause (seen R.files R.faults source.old) (seen R.files R.faults source.new)
+        (record { file = file.now; type = type }) status) }
+    ensures later { R.faults source.old ≤ R.faults source.new }
+{
+    let Ok(name) = str::from_utf8(file.as_bytes()) else {
         unreachable!();
     };
     let bytes = loaded(alloc, source, name, INPUT_LIMIT)?;
-    match rows(alloc, &bytes, &program.input.ty) {
+    match rows_under_columns(alloc, &bytes, columns) {
         Ok(rows) => Ok(rows),
         Err(fault) => Err(input_refused(alloc, name, fault)),
     }
 }
 
-// The program of the bytes of a script. A tree that keeps the rules and is of no form that runs is
-// told of no line.
+// The program of the bytes of a script.
 fn program_of(alloc: Global, bytes: &[u8]) -> Result<Program, ScriptFault>
-    ensures accepted { IfOk result (IsProgramOf bytes.now) }
+    ensures accepted { IfOk result (λ program. Accepted bytes.now program.script) }
     ensures refused { IfErr result (IsScriptFault bytes.now) }
-    ensures ready { IfOk result IsReady }
-    ensures named { IfOk result IsNamed }
+    ensures well_formed { IfOk result (λ program. IsWellFormed program.script) }
+    ensures ready { IfOk result (λ program. IsReady program.script) }
 {
     let ast = parse(alloc, bytes)?;
-    match check(alloc, &ast) {
-        Ok(program) => {
-            keep_rules(alloc, ast)?;
-            Ok(program)
-        }
-        Err(Refusal::NotAccepted) => {
-            keep_rules(alloc, ast)?;
-            Err(ScriptFault::Refused {
-                line: 0,
-                kind: ScriptKind::Syntax,
-            })
-        }
-        Err(Refusal::Memory) => Err(ScriptFault::Memory),
-    }
-}
-
-// A tree that keeps the rules of the language, or its first fault.
-fn keep_rules(alloc: Global, ast: Ast) -> Result<(), ScriptFault>
-    ensures keeps { OnOk result (KeepsRules ast.statements) }
-    ensures breaks { IfErr result (IsRuleFault ast.statements) }
-{
-    script_check::check(alloc, ast)?;
-    Ok(())
+    check(alloc, ast)
 }
 
 // Loads a file; where the source fails, once more.

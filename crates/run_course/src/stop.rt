@@ -1,8 +1,16 @@
-use direct_meaning::Trapped;
+use flume_collection::Trap;
+use flume_value::Str;
 use run_texts::Status;
 use std::alloc::AllocError;
 
-/// Why a run writes nothing.
+/// A trap, and the name of the collection that its call was to make a part of.
+#[derive(Debug, Drop)]
+pub struct Trapped {
+    pub trap: Trap,
+    pub name: Str,
+}
+
+/// Why a call writes nothing.
 #[derive(Debug, Drop)]
 pub enum Stop {
     Refused(Status),

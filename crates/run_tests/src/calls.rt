@@ -131,7 +131,8 @@ fn files(alloc: Global, given: Given) -> Result<Pile<File>, AllocError> {
     Ok(files)
 }
 
-fn file(alloc: Global, name: &[u8], bytes: &[u8]) -> Result<File, AllocError> {
+/// A file.
+pub fn file(alloc: Global, name: &[u8], bytes: &[u8]) -> Result<File, AllocError> {
     Ok(File {
         name: Str::from_slice(alloc, name)?,
         bytes: Str::from_slice(alloc, bytes)?,
@@ -153,7 +154,8 @@ fn listed<T: Drop>(
     Ok(fails)
 }
 
-fn strings(alloc: Global, words: &[&str]) -> Result<Vec<String>, AllocError> {
+/// The words.
+pub fn strings(alloc: Global, words: &[&str]) -> Result<Vec<String>, AllocError> {
     let mut all = Vec::new(alloc);
     for word in words {
         all.push(String::from_str(alloc, word)?)?;

@@ -4,7 +4,13 @@
 #[cfg(test)]
 mod calls;
 #[cfg(test)]
+mod checks;
+#[cfg(test)]
 mod combiners;
+#[cfg(test)]
+mod commands;
+#[cfg(test)]
+mod direct;
 #[cfg(test)]
 mod faults;
 #[cfg(test)]

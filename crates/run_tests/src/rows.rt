@@ -223,11 +223,12 @@ fn refuses_scripts_that_break_a_rule(rt: HostRuntime) -> Result<(), Fail> {
     Ok(())
 }
 
+// The graph and the plan of two collections that are made from one are not known yet.
 #[test]
-fn refuses_scripts_of_no_form_that_runs(rt: HostRuntime) -> Result<(), Fail> {
+fn refuses_scripts_without_a_plan(rt: HostRuntime) -> Result<(), Fail> {
     let alloc = rt.alloc();
     let ty = b"type r = {n: int, t: text}\n";
-    let function = b"fn f(x: r) -> int scale 10 { emit x.n }\n";
+    let function = b"fn f(x: r) -> int { emit x.n }\nlet c = do a f\n";
     let script = script(alloc, ty, function)?;
     let line = b"script refused at line 0: Syntax\n";
     check_refused(&rt, alloc, &script, b"n,t\n1,a\n", 3, line)

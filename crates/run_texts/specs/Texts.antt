@@ -1,18 +1,15 @@
--- What a run writes to the screen, and to its files.
-use Rattle.std.specs.Prelude.{ℕ, suc, List, [], ◌∷◌, ◌++◌, Option, Some, None, codes, decimal, option_and_then, option_map}
+-- What the screen gets of a script: its graph and its plan, and the sizes of its collections.
+use Rattle.std.specs.Prelude.{ℕ, ◌==◌, ◌&&◌, Bool, false, List, [], ◌∷◌, ◌++◌, Option, Some, None, codes, decimal, if◌then◌else◌, option_and_then, slice_get}
 use Rattle.std.specs.List.{flat_map}
+use Rattle.std.specs.Option.{option_map}
 use Rattle.combine_table.specs.declared.comb.Comb.{Comb}
 use Rattle.combine_table.specs.declared.comb.Comb.TheVariants as by
-use Rattle.csv_rows.specs.Text.{text_of}
-use Rattle.direct_meaning.specs.Direct.{Collection, collection_at}
-use Rattle.dofn_check.specs.Call.{Function}
-use Rattle.flume_program.specs.Script.{Operation, Input, Do, Group, Combine, Node, Output, Script}
-use Rattle.outside.specs.declared.file.File.{File}
 use Rattle.printing.specs.Printed.{quoted}
-
--- a step of a `do` statement: the collection that it makes, and the function that it calls
-abbrev pub step_text : List ℕ → Function → List ℕ
-step_text name function = name ++ (codes ":" ++ function.name)
+use Rattle.script_check.specs.declared.made.Made.{Made}
+use Rattle.script_check.specs.declared.made.Made.TheVariants.{Do, Group, Combine}
+use Rattle.script_check.specs.declared.made.Output.{Output}
+use Rattle.script_check.specs.Script.{Node, Script}
+use Rattle.written_types.specs.Named.{Named}
 
 -- the name of a combiner
 abbrev pub combiner_text : Comb → List ℕ
@@ -24,75 +21,114 @@ combiner_text by.All = codes "all"
 combiner_text by.Any = codes "any"
 combiner_text (by.Top n) = codes "top " ++ decimal n
 
--- a step of a `combine` statement
-abbrev pub combine_text : List ℕ → Comb → List ℕ
-combine_text name combiner = name ++ (codes ":%" ++ combiner_text combiner)
+-- ---- graphs and plans
 
--- a node of the graph, behind its number
-abbrev pub node_text : List ℕ → Operation → List ℕ
-node_text name (Input file type) = codes " source " ++ name
-node_text name (Do source function) =
-    codes " do " ++ (decimal source ++ (codes " " ++ step_text name function))
-node_text name (Group source type) = codes " group " ++ (decimal source ++ (codes " " ++ name))
-node_text name (Combine source combiner type) =
-    codes " do " ++ (decimal source ++ (codes " " ++ combine_text name combiner))
+-- the names of a `do` over an input: of the input, of what is made of it, and of the function
+pub record DoNames : Type 0 where
+  pub input : List ℕ
+  pub made : List ℕ
+  pub function : List ℕ
 
--- the nodes of the graph, from a number on
-abbrev pub node_lines : ℕ → List Node → List ℕ
-node_lines number [] = []
-node_lines number (node ∷ nodes) =
-    decimal number ++ (node_text node.name node.operation
-    ++ (codes "\n" ++ node_lines (suc number) nodes))
+-- the graph and the plan of one `do` over one input, whose result is written to that file: a single
+-- stage, whose mapper passes its emissions on
+abbrev pub do_text : DoNames → List ℕ → List ℕ
+do_text names file =
+    codes "graph\n0 source " ++ (names.input ++ (codes "\n1 do 0 " ++ (names.made
+    ++ (codes ":" ++ (names.function ++ (codes "\noutput " ++ (names.made
+    ++ (codes " reads 1 to " ++ (quoted file
+    ++ (codes "\nplan\nstage 1 mscr\nin 0 reads s0 does " ++ (names.made
+    ++ (codes ":" ++ (names.function ++ (codes ">0\npass 0 takes 0.0 gives 1.0\noutput "
+    ++ (names.made ++ (codes " reads 1.0 to " ++ (quoted file ++ codes "\n")))))))))))))))))
 
--- an output's line, where the collection is called so
-abbrev pub output_line : Output → List ℕ → List ℕ
-output_line output collection =
-    codes "output " ++ (output.name ++ (codes " reads " ++ (collection ++ (codes " to "
-    ++ (quoted output.file ++ codes "\n")))))
+-- the names of groups and of their combination, and the combiner
+pub record CombineNames : Type 0 where
+  pub group : List ℕ
+  pub combined : List ℕ
+  pub combiner : Comb
 
--- the execution graph of a script: a line for each node, and for each output
-abbrev pub graph_text : Script → List ℕ
-graph_text script =
-    codes "graph\n" ++ (node_lines 0 script.nodes
-    ++ flat_map (λ output. output_line output (decimal output.reads)) script.outputs)
+-- the graph and the plan of a `do`, its groups and their combination, which is written to that
+-- file: a single stage, whose group is lifted, so that the mapper combines in part what the reducer
+-- finishes
+abbrev pub combine_text : DoNames → CombineNames → List ℕ → List ℕ
+combine_text names behind file =
+    codes "graph\n0 source " ++ (names.input ++ (codes "\n1 do 0 " ++ (names.made
+    ++ (codes ":" ++ (names.function ++ (codes "\n2 group 1 " ++ (behind.group
+    ++ (codes "\n3 do 2 " ++ (behind.combined ++ (codes ":%" ++ (combiner_text behind.combiner
+    ++ (codes "\noutput " ++ (behind.combined ++ (codes " reads 3 to " ++ (quoted file
+    ++ (codes "\nplan\nstage 1 mscr\nin 0 reads s0 does " ++ (names.made
+    ++ (codes ":" ++ (names.function ++ (codes ">0\ngroup 0 " ++ (behind.group
+    ++ (codes " lift " ++ (combiner_text behind.combiner ++ (codes " takes 0.0 does "
+    ++ (behind.combined ++ (codes ":%" ++ (combiner_text behind.combiner
+    ++ (codes ">0 gives 1.0\noutput " ++ (behind.combined
+    ++ (codes " reads 1.0 to " ++ (quoted file ++ codes "\n")))))))))))))))))))))))))))))))
 
--- the plan of one `do` over one input: a single stage, whose mapper passes its emissions on
-abbrev pub do_plan : List ℕ → Function → List Output → List ℕ
-do_plan name function outputs =
-    codes "plan\nstage 1 mscr\nin 0 reads s0 does " ++ (step_text name function
-    ++ (codes ">0\npass 0 takes 0.0 gives 1.0\n"
-    ++ flat_map (λ output. output_line output (codes "1.0")) outputs))
+-- ---- the scripts of which graph and plan are known
 
--- the plan of a `do`, its groups and their combination: a single stage, whose group is lifted, so
--- that the mapper combines in part what the reducer finishes
-abbrev pub combine_plan : List ℕ → Function → List ℕ → List ℕ → Comb → List Output → List ℕ
-combine_plan made function group name combiner outputs =
-    codes "plan\nstage 1 mscr\nin 0 reads s0 does " ++ (step_text made function
-    ++ (codes ">0\ngroup 0 " ++ (group ++ (codes " lift " ++ (combiner_text combiner
-    ++ (codes " takes 0.0 does " ++ (combine_text name combiner ++ (codes ">0 gives 1.0\n"
-    ++ flat_map (λ output. output_line output (codes "1.0")) outputs))))))))
+-- a collection, and an output, under its name
+abbrev pub NamedNode : Type 0
+NamedNode = List ℕ × Node
 
--- the plan, where this makes the one collection
-abbrev pub plan_of_one : List ℕ → Operation → List Output → Option (List ℕ)
-plan_of_one name (Do source function) outputs = Some (do_plan name function outputs)
-plan_of_one name _ outputs = None
+abbrev pub NamedOutput : Type 0
+NamedOutput = List ℕ × Output
 
--- the plan, where the first makes what is grouped, and the other combines the groups
-abbrev pub plan_of_groups : List ℕ → Operation → List ℕ → List ℕ → Operation → List Output →
+-- the names of a collection that is made by a `do` over the input
+abbrev pub do_names : Script → List ℕ → List ℕ → Made → Option DoNames
+do_names script input made (Do source function output) =
+    if source == 0 && output == 0
+    then option_map (λ called. record { input = input; made = made; function = called.0 })
+    (slice_get script.functions function)
+    else None
+do_names script input made _ = None
+
+-- whether this makes the groups of the second collection
+abbrev pub groups_second : Made → Bool
+groups_second (Group source) = source == 1
+groups_second _ = false
+
+-- the names of the third collection and of one that combines it
+abbrev pub combined_by : List ℕ → List ℕ → Made → Option CombineNames
+combined_by group combined (Combine source by) =
+    if source == 2
+    then Some (record { group = group; combined = combined; combiner = by }) else None
+combined_by group combined _ = None
+
+-- the names of the groups of the second collection and of their combination
+abbrev pub combine_names : NamedNode → NamedNode → Option CombineNames
+combine_names group combined =
+    if groups_second group.1.made then combined_by group.0 combined.0 combined.1.made else None
+
+-- the plan of two collections, where a `do` makes the second, which is written
+abbrev pub do_plan : Script → NamedNode → NamedNode → NamedOutput → Option (List ℕ)
+do_plan script input made output =
+    if output.1.reads == 1
+    then option_map (λ names. do_text names output.0)
+    (do_names script input.0 made.0 made.1.made)
+    else None
+
+-- the plan of four collections, where a `do` makes the second, and the last combines its groups and
+-- is written
+abbrev pub combine_plan : Script → NamedNode → NamedNode → NamedNode → NamedNode → NamedOutput →
     Option (List ℕ)
-plan_of_groups made (Do source function) group name (Combine groups combiner type) outputs =
-    Some (combine_plan made function group name combiner outputs)
-plan_of_groups made _ group name _ outputs = None
+combine_plan script input made group combined output =
+    if output.1.reads == 3
+    then option_and_then
+    (λ names. option_map (λ behind. combine_text names behind output.0)
+    (combine_names group combined))
+    (do_names script input.0 made.0 made.1.made)
+    else None
 
-abbrev pub plan_of : List Node → List Output → Option (List ℕ)
-plan_of (input ∷ made ∷ []) outputs = plan_of_one made.name made.operation outputs
-plan_of (input ∷ made ∷ group ∷ combined ∷ []) outputs =
-    plan_of_groups made.name made.operation group.name combined.name combined.operation outputs
-plan_of nodes outputs = None
+abbrev pub plan_by : Script → Named Node → Named Output → Option (List ℕ)
+plan_by script (input ∷ made ∷ []) (output ∷ []) = do_plan script input made output
+plan_by script (input ∷ made ∷ group ∷ combined ∷ []) (output ∷ []) =
+    combine_plan script input made group combined output
+plan_by script nodes outputs = None
 
--- the optimised plan of a script of a form that runs
-abbrev pub plan_text : Script → Option (List ℕ)
-plan_text script = plan_of script.nodes script.outputs
+-- the execution graph of a script and its optimised plan, where they are known: those of one `do`
+-- over one input, and of its groups and their combination behind it
+abbrev pub plan_of : Script → Option (List ℕ)
+plan_of script = plan_by script script.nodes script.outputs
+
+-- ---- sizes
 
 -- the line of a collection's size
 abbrev pub size_line : List ℕ → ℕ → List ℕ
@@ -101,25 +137,3 @@ size_line name size = codes "size " ++ (name ++ (codes " " ++ (decimal size ++ c
 -- the lines of these names and sizes
 abbrev pub size_lines : List (List ℕ × ℕ) → List ℕ
 size_lines sizes = flat_map (λ it. size_line it.0 it.1) sizes
-
--- what the screen gets of a run whose collections have these sizes: the graph, the plan, the sizes,
--- and `done`
-abbrev pub screen_text : Script → List (List ℕ × ℕ) → Option (List ℕ)
-screen_text script sizes =
-    option_map (λ plan. graph_text script ++ (plan ++ (size_lines sizes ++ codes "done\n")))
-    (plan_text script)
-
--- an output's file: the sorted text of the bag of the collection that it reads
-abbrev pub file_of : List Collection → Output → Option File
-file_of made output =
-    option_and_then (λ collection.
-    option_map (λ bytes. record { name = output.file; bytes = bytes })
-    (text_of collection.bag collection.type))
-    (collection_at made output.reads)
-
--- the files of outputs that read these collections
-abbrev pub files_of : List Collection → List Output → Option (List File)
-files_of made [] = Some []
-files_of made (output ∷ outputs) =
-    option_and_then (λ file. option_map (λ files. file ∷ files) (files_of made outputs))
-    (file_of made output)

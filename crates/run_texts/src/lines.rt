@@ -6,7 +6,7 @@ ghost use Rattle.outside.specs.Seen.{seen};
 
 use crate::status::{Place, Status};
 use csv_rows::RowKind;
-use flume_syntax::ScriptKind;
+use flume_grammar::ScriptKind;
 use flume_value::{Kind, Value};
 use itoa::Buffer;
 use outside::{Failed, Screen, say, say_all};

@@ -2,7 +2,7 @@ ghost use Rattle.std.specs.Prelude.{◌≡◌};
 ghost use Rattle.run_texts.specs.Codes.{code_of};
 
 use csv_rows::RowKind;
-use flume_syntax::ScriptKind;
+use flume_grammar::ScriptKind;
 use flume_value::{Kind, Str, Value};
 
 /// Where a write failed.

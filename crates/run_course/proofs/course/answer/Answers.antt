@@ -8,7 +8,9 @@ pub returns-in-Ok-clause-answers : goal.returns-in-Ok-clause-answers
 returns-in-Ok-clause-answers g c =
     delivered (map string_bytes c.args.words.now)
     (world (seen g.R.Source.files g.R.Source.faults c.args.source.now)
-    (seen_shelf g.K.Shelf.files g.K.Shelf.begun g.K.Shelf.left g.K.Shelf.faults c.args.shelf.now) (seen g.P.Screen.text g.P.Screen.faults c.args.screen.now))
+    (seen_shelf g.K.Shelf.files g.K.Shelf.begun g.K.Shelf.left g.K.Shelf.faults c.args.shelf.now)
+    (seen g.P.Screen.text g.P.Screen.faults c.args.screen.now))
     (world (seen g.R.Source.files g.R.Source.faults c.prepare.new.source)
-    (seen_shelf g.K.Shelf.files g.K.Shelf.begun g.K.Shelf.left g.K.Shelf.faults c.deliver.new.shelf) (seen g.P.Screen.text g.P.Screen.faults c.deliver.new.screen))
+    (seen_shelf g.K.Shelf.files g.K.Shelf.begun g.K.Shelf.left g.K.Shelf.faults c.deliver.new.shelf)
+    (seen g.P.Screen.text g.P.Screen.faults c.deliver.new.screen))
     _ _ c.deliver.result c.in-Ok.ensures.ok c.deliver.ensures.delivered

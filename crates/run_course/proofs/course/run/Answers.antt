@@ -8,7 +8,9 @@ pub returns : goal.returns
 returns g c =
     promises (map string_bytes c.args.words.now)
     (world (seen g.R.Source.files g.R.Source.faults c.args.source.now)
-    (seen_shelf g.K.Shelf.files g.K.Shelf.begun g.K.Shelf.left g.K.Shelf.faults c.args.shelf.now) (seen g.P.Screen.text g.P.Screen.faults c.args.screen.now))
+    (seen_shelf g.K.Shelf.files g.K.Shelf.begun g.K.Shelf.left g.K.Shelf.faults c.args.shelf.now)
+    (seen g.P.Screen.text g.P.Screen.faults c.args.screen.now))
     (world (seen g.R.Source.files g.R.Source.faults c.answer.new.source)
-    (seen_shelf g.K.Shelf.files g.K.Shelf.begun g.K.Shelf.left g.K.Shelf.faults c.answer.new.shelf) (seen g.P.Screen.text g.P.Screen.faults c.answer.new.screen))
+    (seen_shelf g.K.Shelf.files g.K.Shelf.begun g.K.Shelf.left g.K.Shelf.faults c.answer.new.shelf)
+    (seen g.P.Screen.text g.P.Screen.faults c.answer.new.screen))
     c.answer.result c.answer.ensures.answers c.answer.ensures.kept

@@ -7,13 +7,16 @@ pub returns-in-ScriptRefused : goal.returns-in-ScriptRefused
 returns-in-ScriptRefused g c = rw c.in-ScriptRefused.is c.say_script_refused.ensures
 
 pub returns-in-InputRefused : goal.returns-in-InputRefused
-returns-in-InputRefused g c = rw (c.in-InputRefused.is, ← c.as_bytes.ensures) c.say_input_refused.ensures
+returns-in-InputRefused g c = rw (c.in-InputRefused.is, ← c.as_bytes.ensures)
+    c.say_input_refused.ensures
 
 pub returns-in-ReadFault : goal.returns-in-ReadFault
-returns-in-ReadFault g c = rw (c.in-ReadFault.is, ← c.as_bytes-in-ReadFault.ensures) c.say_named.ensures
+returns-in-ReadFault g c = rw (c.in-ReadFault.is, ← c.as_bytes-in-ReadFault.ensures)
+    c.say_named.ensures
 
 pub returns-in-WantOfMemory : goal.returns-in-WantOfMemory
 returns-in-WantOfMemory g c = rw c.in-WantOfMemory.is c.say_all.ensures
 
 pub returns-in-TooLong : goal.returns-in-TooLong
-returns-in-TooLong g c = rw (c.in-TooLong.is, ← c.as_bytes-in-TooLong.ensures) c.say_too_long.ensures
+returns-in-TooLong g c = rw (c.in-TooLong.is, ← c.as_bytes-in-TooLong.ensures)
+    c.say_too_long.ensures

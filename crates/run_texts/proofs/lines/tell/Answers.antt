@@ -6,4 +6,5 @@ use Rattle.run_texts.proofs.lines.tell.Goals as goal
 pub returns-clause-line : goal.returns-clause-line
 returns-clause-line g c =
     has_line (line_of c.args.status.now) (seen g.P.Screen.text g.P.Screen.faults c.args.screen.now)
-    (seen g.P.Screen.text g.P.Screen.faults c.say_line.new.screen) c.say_line.result c.say_line.ensures
+    (seen g.P.Screen.text g.P.Screen.faults c.say_line.new.screen) c.say_line.result
+    c.say_line.ensures

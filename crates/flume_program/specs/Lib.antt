@@ -1,9 +1,0 @@
-pub mod Optional
-pub mod Script
-pub mod Combiners
-pub mod WellFormed
-pub mod Needed
-pub mod Written
-pub mod Checked
-pub mod Accepted
-pub mod inner

@@ -1,0 +1,295 @@
+-- Inputs, as they are read node by node.
+use Rattle.std.proofs.Common.{◌≡◌, ℕ, suc, zero, ◌+◌, ◌<◌, Bool, true, false, List, [], ◌∷◌, ◌++◌, drop, length, Option, Some, None, slice_get, ap, sym, ◌∙◌, refl, subst, append_assoc, append-nil, arith}
+use Rattle.std.specs.List.{filter, flat_map}
+use Rattle.std.specs.Option.{option_map}
+use Rattle.std.specs.Prelude.{IsUtf8}
+use Rattle.std.proofs.lemmas.List.{drop_all}
+use Rattle.std.proofs.lemmas.Option.{get_or_from_slice_get, slice_get_within}
+use Rattle.flume_types.specs.declared.types.Ty.{Ty}
+use Rattle.direct_meaning.specs.Inputs.{AreInputs, HaveRows, Wanted, inputs_of, wanted_by}
+use Rattle.script_check.specs.Needed.{is_needed, numbered}
+use Rattle.flume_types.specs.Columns.{input_columns_of}
+use Rattle.flume_types.specs.Typing.{AllHave}
+use Rattle.flume_types.specs.declared.column.Column.{Column}
+use Rattle.flume_value.specs.declared.value.Value.{Value}
+use Rattle.outside.specs.Seen.{Seen}
+use Rattle.outside.specs.declared.file.File.{File as NamedBytes}
+use Rattle.run_texts.specs.declared.status.Status.{Status}
+use Rattle.script_check.specs.declared.made.Made.{Made}
+use Rattle.script_check.specs.declared.made.Made.TheVariants as made
+use Rattle.script_check.specs.Script.{Function, Node, Script}
+use Rattle.script_laws.specs.WellFormed.{AllFit, Fits, IsWellFormed}
+use Rattle.written_types.specs.Named.{Named}
+use Rattle.run_course.specs.Asked.{AllHaveRows, HasRows}
+use Rattle.run_course.specs.inner.Course.{HasRead, IsInputCause, IsInputsCause, IsNamedMade, IsReady, inputs_from}
+
+abbrev Told : Type 0
+Told = Option (List NamedBytes)
+
+abbrev Entry : Type 0
+Entry = List ℕ × Node
+
+-- the input that a node is
+abbrev wanted : Entry → List Wanted
+wanted entry = wanted_by entry.1.made entry.1.type
+
+dropped : {A : Type 0} (xs : List A) (k : ℕ) (x : A) → slice_get xs k ≡ Some x
+    → drop k xs ≡ x ∷ drop (suc k) xs
+dropped [] k x is = absurd (cc)
+dropped (y ∷ xs) zero x is = let same : y ≡ x = cc in ap (λ h. h ∷ xs) same
+dropped (y ∷ xs) (suc k) x is = dropped xs k x is
+
+-- ---- one node
+
+abbrev inputs_here : (needed : Bool) (own rest : List Wanted) → List Wanted
+inputs_here true own rest = own ++ rest
+inputs_here false own rest = rest
+
+numbered_inputs : (script : Script) (number : ℕ) (entry : Entry) (nodes : Named Node)
+    (needed : Bool) → is_needed script number ≡ needed
+    → inputs_from script number (entry ∷ nodes)
+    ≡ inputs_here needed (wanted entry) (inputs_from script (suc number) nodes)
+numbered_inputs script number entry nodes true is = rw is refl
+numbered_inputs script number entry nodes false is = rw is refl
+
+-- the inputs from a node on, where that is the one of this number
+from_node : (script : Script) (number : ℕ) (entry : Entry) (needed : Bool)
+    → slice_get script.nodes number ≡ Some entry → is_needed script number ≡ needed
+    → inputs_from script number (drop number script.nodes)
+    ≡ inputs_here needed (wanted entry)
+    (inputs_from script (suc number) (drop (suc number) script.nodes))
+from_node script number entry needed found is =
+    ap (inputs_from script number) (dropped script.nodes number entry found)
+    ∙ numbered_inputs script number entry (drop (suc number) script.nodes) needed is
+
+-- ---- rows of several inputs
+
+more_rows : (told : Told) (done : List Wanted) (it : Wanted) (rows : List (List Value))
+    (own : List Value) → AllHaveRows told done rows → HasRows told it own
+    → AllHaveRows told (done ++ it ∷ []) (rows ++ own ∷ [])
+more_rows told [] it [] own all has = (has, tt)
+more_rows told [] it (r ∷ rows) own all has = absurd all
+more_rows told (w ∷ done) it [] own all has = absurd all
+more_rows told (w ∷ done) it (r ∷ rows) own all has =
+    (all.0, more_rows told done it rows own all.1 has)
+
+more_typed : (done : List Wanted) (it : Wanted) (rows : List (List Value)) (own : List Value)
+    → HaveRows done rows → AllHave it.type own
+    → HaveRows (done ++ it ∷ []) (rows ++ own ∷ [])
+more_typed [] it [] own all has = (has, tt)
+more_typed [] it (r ∷ rows) own all has = absurd all
+more_typed (w ∷ done) it [] own all has = absurd all
+more_typed (w ∷ done) it (r ∷ rows) own all has =
+    (all.0, more_typed done it rows own all.1 has)
+
+-- ---- what was read
+
+pub none_read : (told : Told) (script : Script) → HasRead told script 0 []
+none_read told script = ([], refl, tt, tt)
+
+nothing_behind : (script : Script) (number : ℕ) → inputs_from script number [] ≡ []
+nothing_behind script number = refl
+
+all_done : (script : Script) (done : List Wanted)
+    → inputs_of script
+    ≡ done ++ inputs_from script (length script.nodes) (drop (length script.nodes) script.nodes)
+    → inputs_of script ≡ done
+all_done script done is =
+    is
+    ∙ (ap (λ (nodes : Named Node). done ++ inputs_from script (length script.nodes) nodes)
+    (drop_all (length script.nodes) script.nodes (omega arith)) ∙ append-nil done)
+
+pub all_read : (told : Told) (script : Script) (rows : List (List Value))
+    → HasRead told script (length script.nodes) rows
+    → AllHaveRows told (inputs_of script) rows × AreInputs script rows
+all_read told script rows read =
+    let same = sym (all_done script read.0 read.1) in
+    (subst (λ (l : List Wanted). AllHaveRows told l rows) same read.2,
+    subst (λ (l : List Wanted). HaveRows l rows) same read.3)
+
+-- a node that is not needed
+pub passes : (told : Told) (script : Script) (number : ℕ) (rows : List (List Value)) (entry :
+    Entry)
+    → slice_get script.nodes number ≡ Some entry → is_needed script number ≡ false
+    → HasRead told script number rows → HasRead told script (suc number) rows
+passes told script number rows entry found unneeded read =
+    (read.0, read.1 ∙ ap (λ l. read.0 ++ l) (from_node script number entry false found unneeded),
+    read.2, read.3)
+
+-- a node that is no input
+pub passes_other : (told : Told) (script : Script) (number : ℕ) (rows : List (List Value))
+    (entry : Entry) → slice_get script.nodes number ≡ Some entry
+    → is_needed script number ≡ true → wanted entry ≡ []
+    → HasRead told script number rows → HasRead told script (suc number) rows
+passes_other told script number rows entry found needed other read =
+    let behind = inputs_from script (suc number) (drop (suc number) script.nodes) in
+    (read.0,
+    read.1 ∙ ap (λ l. read.0 ++ l)
+    (from_node script number entry true found needed ∙ ap (λ own. own ++ behind) other),
+    read.2, read.3)
+
+-- the inputs, where this node is one of them
+turns : (script : Script) (number : ℕ) (entry : Entry) (it : Wanted) (done : List Wanted)
+    → slice_get script.nodes number ≡ Some entry → is_needed script number ≡ true
+    → wanted entry ≡ it ∷ []
+    → inputs_of script ≡ done ++ inputs_from script number (drop number script.nodes)
+    → inputs_of script
+    ≡ done ++ it ∷ inputs_from script (suc number) (drop (suc number) script.nodes)
+turns script number entry it done found needed is read =
+    let behind = inputs_from script (suc number) (drop (suc number) script.nodes) in
+    read ∙ ap (λ l. done ++ l)
+    (from_node script number entry true found needed ∙ ap (λ own. own ++ behind) is)
+
+-- one input more
+pub reads_more : (told : Told) (script : Script) (number : ℕ) (rows : List (List Value))
+    (entry : Entry) (it : Wanted) (own : List Value)
+    → slice_get script.nodes number ≡ Some entry → is_needed script number ≡ true
+    → wanted entry ≡ it ∷ [] → HasRows told it own → AllHave it.type own
+    → HasRead told script number rows → HasRead told script (suc number) (rows ++ own ∷ [])
+reads_more told script number rows entry it own found needed is has typed read =
+    let behind = inputs_from script (suc number) (drop (suc number) script.nodes) in
+    (read.0 ++ it ∷ [],
+    turns script number entry it read.0 found needed is read.1
+    ∙ sym (append_assoc read.0 (it ∷ []) behind),
+    more_rows told read.0 it rows own read.2 has,
+    more_typed read.0 it rows own read.3 typed)
+
+-- why an input has no rows is why the inputs have none
+pub stops_at : (before after : Seen (List NamedBytes)) (script : Script) (number : ℕ)
+    (rows : List (List Value)) (entry : Entry) (it : Wanted) (status : Status)
+    → slice_get script.nodes number ≡ Some entry → is_needed script number ≡ true
+    → wanted entry ≡ it ∷ [] → HasRead before.told script number rows
+    → IsInputCause before after it status
+    → IsInputsCause before after (inputs_of script) status
+stops_at before after script number rows entry it status found needed is read cause =
+    (read.0, it, inputs_from script (suc number) (drop (suc number) script.nodes), rows,
+    turns script number entry it read.0 found needed is read.1, read.2, cause)
+
+-- ---- the columns of an input
+
+input_fits : (functions : Named Function) (before nodes : Named Node) (number : ℕ) (entry : Entry)
+    (file : List ℕ) (columns : List Column) → AllFit functions before nodes
+    → slice_get nodes number ≡ Some entry → entry.1.made ≡ made.Input file columns
+    → input_columns_of entry.1.type ≡ Some columns
+input_fits functions before [] number entry file columns fits found is = absurd (cc)
+input_fits functions before (e ∷ nodes) zero entry file columns fits found is =
+    let same : e ≡ entry = cc in
+    let first = subst (λ (m : Made). Fits functions before m entry.1.type) is
+    (subst (λ (x : Entry). Fits functions before x.1.made x.1.type) same fits.0) in
+    first
+input_fits functions before (e ∷ nodes) (suc number) entry file columns fits found is =
+    input_fits functions (before ++ e ∷ []) nodes number entry file columns fits.1 found is
+
+pub columns_fit : (script : Script) (number : ℕ) (entry : Entry) (file : List ℕ)
+    (columns : List Column) → IsWellFormed script → slice_get script.nodes number ≡ Some entry
+    → entry.1.made ≡ made.Input file columns → input_columns_of entry.1.type ≡ Some columns
+columns_fit script number entry file columns well found is =
+    input_fits script.functions [] script.nodes number entry file columns well.nodes found is
+
+-- what stands at a number's place
+pub at_place : (nodes : Named Node) (number : ℕ) (node : Node)
+    → option_map (λ (entry : Entry). entry.1) (slice_get nodes number) ≡ Some node
+    → (entry : Entry) × (slice_get nodes number ≡ Some entry) × (entry.1 ≡ node)
+at_place nodes number node is = by (slice_get nodes number) is
+  where
+    by : (found : Option Entry) → option_map (λ (entry : Entry). entry.1) found ≡ Some node
+        → (entry : Entry) × (found ≡ Some entry) × (entry.1 ≡ node)
+    by None e = absurd (cc)
+    by (Some entry) e = (entry, refl, cc)
+
+-- ---- the node of an input
+
+-- at that number stands an input with this file and these columns
+pub record IsInputAt (script : Script) (number : ℕ) (file : List ℕ) (columns : List Column)
+    : Type 0 where
+  pub entry : Entry
+  pub found : slice_get script.nodes number ≡ Some entry
+  pub made : entry.1.made ≡ made.Input file columns
+
+pub input_at : (script : Script) (number : ℕ) (node : Node) (file : List ℕ) (columns : List
+    Column)
+    → option_map (λ (entry : Entry). entry.1) (slice_get script.nodes number) ≡ Some node
+    → node.made ≡ made.Input file columns → IsInputAt script number file columns
+input_at script number node file columns found is =
+    let at = at_place script.nodes number node found in
+    record { entry = at.0; found = at.1; made = ap (λ (n : Node). n.made) at.2 ∙ is }
+
+module _ (script : Script) (number : ℕ) (file : List ℕ) (columns : List Column)
+    (at : IsInputAt script number file columns) where
+  abbrev pub its_wanted : Wanted
+  its_wanted = record { file = file; type = at.entry.1.type }
+
+  pub wants : wanted at.entry ≡ its_wanted ∷ []
+  wants = ap (λ (m : Made). wanted_by m at.entry.1.type) at.made
+
+  pub its_columns : IsWellFormed script → input_columns_of at.entry.1.type ≡ Some columns
+  its_columns well = columns_fit script number at.entry file columns well at.found at.made
+
+  pub its_file : IsReady script → IsUtf8 file
+  its_file ready =
+      subst IsNamedMade at.made
+      (subst (λ (e : Entry). IsNamedMade e.1.made)
+      (get_or_from_slice_get script.nodes number at.entry at.entry at.found)
+      (ready.reads number at.entry (slice_get_within script.nodes number at.entry at.found)))
+
+-- what is no input wants none
+other_made : (by : Made) (type : Ty)
+    → ((file : List ℕ) (columns : List Column) → by ≡ made.Input file columns → ⊥)
+    → wanted_by by type ≡ []
+other_made (made.Input file columns) type other = absurd (other file columns refl)
+other_made (made.Do source function output) type other = refl
+other_made (made.Group source) type other = refl
+other_made (made.Combine source by) type other = refl
+other_made (made.Flatten sources) type other = refl
+other_made (made.Count source) type other = refl
+other_made (made.Join left right) type other = refl
+other_made (made.Top many source) type other = refl
+
+pub other_wants : (entry : Entry) (node : Node) → entry.1 ≡ node
+    → ((file : List ℕ) (columns : List Column) → node.made ≡ made.Input file columns
+    → ⊥)
+    → wanted entry ≡ []
+other_wants entry node same other =
+    ap (λ (n : Node). wanted_by n.made n.type) same ∙ other_made node.made node.type other
+
+-- some node stands below the end
+pub there : (nodes : Named Node) (number : ℕ) → number < length nodes
+    → (entry : Entry) × (slice_get nodes number ≡ Some entry)
+there [] number within = absurd (omega arith)
+there (entry ∷ nodes) zero within = (entry, refl)
+there (entry ∷ nodes) (suc number) within = there nodes number (omega arith)
+
+-- ---- behind a node, by the sum that the loop counts by
+
+as_sum : (told : Told) (script : Script) (number : ℕ) (rows : List (List Value))
+    → HasRead told script (suc number) rows → HasRead told script (number + 1) rows
+as_sum told script number rows read =
+    let same : suc number ≡ number + 1 = omega arith in
+    subst (λ (n : ℕ). HasRead told script n rows) same read
+
+pub behind_unneeded : (told : Told) (script : Script) (number : ℕ) (rows : List (List Value))
+    (entry : Entry) → slice_get script.nodes number ≡ Some entry
+    → is_needed script number ≡ false → HasRead told script number rows
+    → HasRead told script (number + 1) rows
+behind_unneeded told script number rows entry found unneeded read =
+    as_sum told script number rows (passes told script number rows entry found unneeded read)
+
+pub behind_other : (told : Told) (script : Script) (number : ℕ) (rows : List (List Value))
+    (entry : Entry) → slice_get script.nodes number ≡ Some entry → is_needed script number
+    ≡ true
+    → wanted entry ≡ [] → HasRead told script number rows
+    → HasRead told script (number + 1) rows
+behind_other told script number rows entry found needed other read =
+    as_sum told script number rows
+    (passes_other told script number rows entry found needed other read)
+
+pub behind_input : (told : Told) (script : Script) (number : ℕ) (rows more : List (List Value))
+    (entry : Entry) (it : Wanted) (own : List Value) → slice_get script.nodes number
+    ≡ Some entry
+    → is_needed script number ≡ true → wanted entry ≡ it ∷ [] → HasRows told it own
+    → AllHave it.type own → more ≡ rows ++ own ∷ [] → HasRead told script number rows
+    → HasRead told script (number + 1) more
+behind_input told script number rows more entry it own found needed is has typed longer read =
+    subst (λ (all : List (List Value)). HasRead told script (number + 1) all) (sym longer)
+    (as_sum told script number (rows ++ own ∷ [])
+    (reads_more told script number rows entry it own found needed is has typed read))

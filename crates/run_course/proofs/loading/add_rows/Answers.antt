@@ -1,0 +1,79 @@
+use Rattle.std.proofs.Common.{◌≡◌, true, false, Some, ap, sym, ◌∙◌, refl, rules, arith}
+use Rattle.std.proofs.lemmas.Result.{err_from_is_err_and}
+use Rattle.script_check.specs.Needed.{is_needed}
+use Rattle.outside.specs.Seen.{seen}
+use Rattle.run_texts.specs.declared.status.Status.TheVariants.{WantOfMemory}
+use Rattle.run_course.proofs.InputLemmas.{at_place, behind_input, behind_other, behind_unneeded, input_at, its_columns, its_file, its_wanted, other_wants, stops_at, there, wants}
+use Rattle.run_course.proofs.loading.add_rows.Goals as goal
+
+pub returns-then-not-is_needed-clause-read : goal.returns-then-not-is_needed-clause-read
+returns-then-not-is_needed-clause-read g c =
+    let script = c.args.program.now.script in
+    let unneeded : is_needed script c.args.number ≡ false = search rules in
+    let at = there script.nodes c.args.number c.requires.within in
+    behind_unneeded (g.R.Source.files c.args.source.now) script c.args.number c.args.rows.now at.0
+    at.1 unneeded c.requires.read
+
+pub rows_of_file-requires : goal.rows_of_file-requires
+rows_of_file-requires g c =
+    let script = c.args.program.now.script in
+    let file = c.in-Input.file in
+    let columns = c.in-Input.columns in
+    let at = input_at script c.args.number _ file columns c.node.ensures.is c.in-Input.is in
+    record { named = its_file script c.args.number file columns at c.requires.ready }
+
+pub returns-in_err-own-in-Input-clause-err : goal.returns-in_err-own-in-Input-clause-err
+returns-in_err-own-in-Input-clause-err g c =
+    let script = c.args.program.now.script in
+    let needed : is_needed script c.args.number ≡ true = search rules in
+    let file = c.in-Input.file in
+    let columns = c.in-Input.columns in
+    let at = input_at script c.args.number _ file columns c.node.ensures.is c.in-Input.is in
+    let fits = its_columns script c.args.number file columns at c.requires.well_formed
+    ∙ ap Some (sym c.as_slice.ensures) in
+    let end = c.from_residual in
+    let p = err_from_is_err_and end.result end.ensures.1 in
+    rw (p.1, p.2)
+    (stops_at (seen g.R.Source.files g.R.Source.faults c.args.source.now)
+    (seen g.R.Source.files g.R.Source.faults c.rows_of_file.new.source) script c.args.number
+    c.args.rows.now at.entry (its_wanted script c.args.number file columns at) _ at.found needed
+    (wants script c.args.number file columns at) c.requires.read
+    (c.in_err-own-in-Input.ensures.err at.entry.1.type fits))
+
+pub returns-in-Ok-clause-read : goal.returns-in-Ok-clause-read
+returns-in-Ok-clause-read g c =
+    let script = c.args.program.now.script in
+    let needed : is_needed script c.args.number ≡ true = search rules in
+    let file = c.in-Input.file in
+    let columns = c.in-Input.columns in
+    let at = input_at script c.args.number _ file columns c.node.ensures.is c.in-Input.is in
+    let fits = its_columns script c.args.number file columns at c.requires.well_formed
+    ∙ ap Some (sym c.as_slice.ensures) in
+    behind_input (g.R.Source.files c.args.source.now) script c.args.number c.args.rows.now
+    c.push.new.self at.entry (its_wanted script c.args.number file columns at)
+    c.in_ok-own-in-Input.own at.found needed (wants script c.args.number file columns at)
+    (c.in_ok-own-in-Input.ensures.ok at.entry.1.type fits)
+    (c.in_ok-own-in-Input.ensures.typed at.entry.1.type fits) c.in-Ok.ensures.ok
+    c.requires.read
+
+pub returns-in-Err-clause-err : goal.returns-in-Err-clause-err
+returns-in-Err-clause-err g c =
+    let script = c.args.program.now.script in
+    let needed : is_needed script c.args.number ≡ true = search rules in
+    let file = c.in-Input.file in
+    let columns = c.in-Input.columns in
+    let at = input_at script c.args.number _ file columns c.node.ensures.is c.in-Input.is in
+    stops_at (seen g.R.Source.files g.R.Source.faults c.args.source.now)
+    (seen g.R.Source.files g.R.Source.faults c.rows_of_file.new.source) script c.args.number
+    c.args.rows.now at.entry (its_wanted script c.args.number file columns at) WantOfMemory at.found
+    needed (wants script c.args.number file columns at) c.requires.read tt
+
+pub returns-in_default : goal.returns-in_default
+returns-in_default g c =
+    let script = c.args.program.now.script in
+    let needed : is_needed script c.args.number ≡ true = search rules in
+    let at = at_place script.nodes c.args.number _ c.node.ensures.is in
+    let other = other_wants at.0 _ at.2 c.in_default.not-Input in
+    let read = behind_other (g.R.Source.files c.args.source.now) script c.args.number
+    c.args.rows.now at.0 at.1 needed other c.requires.read in
+    record { files = refl; read = read; err = tt; later = omega arith }

@@ -1,0 +1,10 @@
+use Rattle.std.proofs.Common.{◌≡◌, ◌≤◌}
+use Rattle.outside.specs.Seen.{seen}
+use Rattle.run_course.specs.inner.Course.{HasRead}
+use Rattle.run_course.proofs.loading.rows_of_inputs.Given as goal
+
+abbrev pub invariant-loop-number : goal.invariant-loop-number
+invariant-loop-number g l =
+    (g.R.Source.files l.source ≡ g.R.Source.files l.fn.source)
+    × (g.R.Source.faults l.fn.source ≤ g.R.Source.faults l.source)
+    × HasRead (g.R.Source.files l.fn.source) l.program.script l.number l.rows

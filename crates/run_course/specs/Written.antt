@@ -1,0 +1,68 @@
+-- What a command writes where no trap is met: its files, and the text of the screen.
+use Rattle.std.specs.Prelude.{◌≡◌, ℕ, List, [], ◌∷◌, ◌++◌, Option, Some, codes, option_and_then}
+use Rattle.std.specs.Option.{option_map}
+use Rattle.csv_rows.specs.Text.{table_text}
+use Rattle.direct_meaning.specs.Direct.{made_at, meaning, sizes_of, traps_of}
+use Rattle.direct_meaning.specs.Inputs.{inputs_of}
+use Rattle.flume_collection.specs.Collection.{Collection}
+use Rattle.flume_value.specs.declared.value.Value.{Value}
+use Rattle.outside.specs.declared.file.File.{File}
+use Rattle.run_texts.specs.Texts.{plan_of, size_lines}
+use Rattle.script_check.specs.declared.made.Output.{Output}
+use Rattle.script_check.specs.Script.{Script}
+use Rattle.run_course.specs.Asked.{AllHaveRows, Reads}
+use Rattle.run_course.specs.declared.words.Command.{Command}
+use Rattle.run_course.specs.declared.words.Command.TheVariants.{Check, Direct, Run}
+
+-- the collections of a script by their numbers, where they are made
+abbrev pub Table : Type 0
+Table = List (Option Collection)
+
+-- an output's file: the sorted text of the collection that it reads, under its columns
+abbrev pub file_of : Table → List ℕ × Output → Option File
+file_of table output =
+    option_map
+    (λ collection.
+    record { name = output.0; bytes = table_text output.1.columns collection.bag })
+    (made_at table output.1.reads)
+
+-- the files of outputs that read these collections
+abbrev pub files_of : Table → List (List ℕ × Output) → Option (List File)
+files_of table [] = Some []
+files_of table (output ∷ outputs) =
+    option_and_then (λ file. option_map (λ files. file ∷ files) (files_of table outputs))
+    (file_of table output)
+
+-- The needed inputs of a script have these rows, and over them it means these collections.
+pub record IsMeant (told : Option (List File)) (script : Script) (rows : List (List Value))
+    (table : Table) : Type 0 where
+  pub inputs : AllHaveRows told (inputs_of script) rows
+  pub means : meaning script rows ≡ Some table
+
+-- The same, without a trap: the files of the outputs, and a text of the sizes behind another text.
+pub record IsThrough (told : Option (List File)) (script : Script) (front : List ℕ)
+    (files : List File) (text : List ℕ) (rows : List (List Value)) (table : Table)
+    : Type 0 where
+  pub meant : IsMeant told script rows table
+  pub through : traps_of table ≡ []
+  pub written : files_of table script.outputs ≡ Some files
+  pub shown : text ≡ front ++ (size_lines (sizes_of script table) ++ codes "done\n")
+
+abbrev pub WritesMeaning : Option (List File) → Script → List ℕ → List File → List ℕ → Type 0
+WritesMeaning told script front files text =
+    (rows : List (List Value)) × (table : Table)
+    × IsThrough told script front files text rows table
+
+-- What a command writes of a script: `check` no file and `ok`; `direct` the files of its direct
+-- meaning, the sizes of its collections and `done`; `run` the same, with its graph and plan first.
+abbrev pub Writes : Command → Option (List File) → Script → List File → List ℕ → Type 0
+Writes Check told script files text = (files ≡ []) × (text ≡ codes "ok\n")
+Writes Direct told script files text = WritesMeaning told script [] files text
+Writes Run told script files text =
+    (plan : List ℕ) × (plan_of script ≡ Some plan) × WritesMeaning told script plan files text
+
+-- the words ask for a command that writes these files and this text
+abbrev pub IsWritten : List (List ℕ) → Option (List File) → List File → List ℕ → Type 0
+IsWritten words told files text =
+    (command : Command) × (script : Script) × Reads words told command script
+    × Writes command told script files text

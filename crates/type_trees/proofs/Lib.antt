@@ -1,4 +1,0 @@
-pub mod BehindLemmas
-pub mod NameLemmas
-pub mod PlaceLemmas
-pub mod WrittenLemmas

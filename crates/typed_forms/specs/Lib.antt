@@ -1,4 +1,0 @@
-pub mod Operators
-pub mod FormTypes
-pub mod Sights
-pub mod Forms
