@@ -3,9 +3,9 @@
 use crate::outcome::checked;
 use combine_table::Comb;
 use flume_types::ColumnKind;
-use script_check::{Made, Program};
+use script_check::{Function, Made, Program, Signature};
 use std::test::Fail;
-use type_table::Shape;
+use type_table::{Shape, TypeId};
 
 const SCRIPT: &[u8] = b"type r = {k: int, v: int}
 input a: r from \"in.csv\"
@@ -62,31 +62,50 @@ fn is_made(program: &Program, number: usize) -> bool {
 }
 
 #[test]
-fn functions_and_types(rt: HostRuntime) -> Result<(), Fail> {
+fn functions(rt: HostRuntime) -> Result<(), Fail> {
+    let alloc = rt.alloc();
+    let program = checked(alloc, SCRIPT)?;
+    assert_eq!(rt; program.function_count(), 2);
+    if program.function_count() == 2 {
+        assert_eq!(rt; program.function_name(0).as_bytes(), b"pair".as_slice());
+        assert_eq!(rt; program.function_name(1).as_bytes(), b"same".as_slice());
+        assert!(rt; is_function(program.function(0), 300));
+        assert!(rt; is_function(program.function(1), 100));
+    }
+    Ok(())
+}
+
+/// Whether the function has one statement, one output, and this scale.
+fn is_function(function: &Function, scale: u32) -> bool {
+    function.argument.is(b"x")
+        && function.type_names == 1
+        && function.body.len() == 1
+        && function.fun.body().len() == 1
+        && function.fun.outputs() == 1
+        && function.signature.scale == scale
+}
+
+#[test]
+fn types_of_functions(rt: HostRuntime) -> Result<(), Fail> {
     let alloc = rt.alloc();
     let program = checked(alloc, SCRIPT)?;
     assert_eq!(rt; program.function_count(), 2);
     if program.function_count() == 2 && 1 < program.node_count() {
-        let pair = &program.function(0).signature;
-        let same = &program.function(1).signature;
-        assert_eq!(rt; program.function_name(0).as_bytes(), b"pair".as_slice());
-        assert_eq!(rt; program.function_name(1).as_bytes(), b"same".as_slice());
-        assert!(rt; program.function(0).argument.is(b"x"));
-        assert_eq!(rt; program.function(0).type_names, 1);
-        assert_eq!(rt; program.function(1).body.len(), 1);
-        assert_eq!(rt; program.function(1).fun.body().len(), 1);
-        assert_eq!(rt; program.function(1).fun.outputs(), 1);
-        assert_eq!(rt; (pair.scale, same.scale), (300, 100));
-        match (pair.gives.as_slice(), same.gives.as_slice()) {
-            ([pairs], [rows]) => {
-                assert!(rt; program.types().same(pair.takes, *rows));
-                assert!(rt; program.types().same(*pairs, program.node(1).ty));
-                assert!(rt; matches!(program.types().shape(*pairs), Shape::Rec(_)));
-            }
-            _ => assert!(rt; false),
-        }
+        let rows = program.function(0).signature.takes;
+        let pairs = program.node(1).ty;
+        assert!(rt; is_sole(&program.function(0).signature, pairs));
+        assert!(rt; is_sole(&program.function(1).signature, rows));
+        assert!(rt; matches!(program.types().shape(pairs), Shape::Rec(_)));
     }
     Ok(())
+}
+
+/// Whether this is the type of the only output.
+fn is_sole(signature: &Signature, id: TypeId) -> bool {
+    match signature.gives.as_slice() {
+        [sole] => *sole == id,
+        _ => false,
+    }
 }
 
 #[test]

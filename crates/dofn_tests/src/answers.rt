@@ -1,10 +1,14 @@
-use dofn_check::{Refusal, check_function};
+ghost use Rattle.flume_value.specs.declared.value.Value.TheVariants as variant;
+ghost use Rattle.dofn_eval.specs.Function.{Accepts};
+
+use body_check::check_body;
 use dofn_eval::{Fun, call};
-use flume_grammar::{Ast, Form, Function};
+use flume_grammar::{Ast, Form, Function, ScriptFault};
 use flume_syntax::parse;
-use flume_types::{Field, Ty, has_type};
-use flume_value::{CallFault, Held, Items, Kind, Pile, Str, Value};
+use flume_value::{CallFault, Items, Kind, Pile, Str, Value};
 use std::alloc::{AllocError, Global};
+use type_table::Shape;
+use written_types::{TypeNames, whole_type};
 
 /// What comes of a script of one function.
 #[derive(PartialEq, Debug, Drop)]
@@ -15,18 +19,6 @@ pub enum Answer {
     OtherArgument,
     Trap(Kind),
     Emits(Items),
-}
-
-/// An argument with its type.
-#[derive(Debug, Drop)]
-pub struct Argument {
-    pub ty: Ty,
-    pub value: Value,
-}
-
-pub fn field(alloc: Global, name: &[u8], ty: Ty) -> Result<Field<Ty>, AllocError> {
-    let name = Str::from_slice(alloc, name)?;
-    Ok(Field { name, ty })
 }
 
 pub fn texts(alloc: Global, all: &[&[u8]]) -> Result<Items, AllocError> {
@@ -45,80 +37,85 @@ pub fn ints(alloc: Global, all: &[i64]) -> Result<Items, AllocError> {
     Ok(items)
 }
 
-/// `{a: "one two", b: "three", n: 7, all: ["x", "y"], in: {a: 5}}`
-pub fn row(alloc: Global) -> Result<Argument, AllocError> {
-    let inner = Ty::Rec(Pile::from_vec(vec![in alloc; field(alloc, b"a", Ty::Int)?]?));
-    let a = field(alloc, b"a", Ty::Text)?;
-    let b = field(alloc, b"b", Ty::Text)?;
-    let n = field(alloc, b"n", Ty::Int)?;
-    let all = field(alloc, b"all", Ty::List(Held::new(alloc, Ty::Text)?))?;
-    let within = field(alloc, b"in", inner)?;
-    let ty = Ty::Rec(Pile::from_vec(vec![in alloc; a, b, n, all, within]?));
-    Ok(Argument {
-        ty,
-        value: row_value(alloc)?,
-    })
-}
-
-fn row_value(alloc: Global) -> Result<Value, AllocError> {
-    let inner = Value::Rec(Pile::from_vec(vec![in alloc; Value::Int(5)]?));
-    let a = Value::Text(Str::from_slice(alloc, b"one two")?);
-    let b = Value::Text(Str::from_slice(alloc, b"three")?);
-    let all = Value::List(texts(alloc, &[b"x", b"y"])?);
-    let fields = vec![in alloc; a, b, Value::Int(7), all, inner]?;
-    Ok(Value::Rec(Pile::from_vec(fields)))
-}
-
-fn called(alloc: Global, f: &Fun, x: &Value) -> Answer {
-    if !has_type(x, f.takes()) {
-        return Answer::OtherArgument;
-    }
-    match call(alloc, f, x) {
-        Ok(items) => Answer::Emits(items),
+// What a function of one output answers on a number.
+fn called(alloc: Global, f: &Fun, n: i64) -> Answer
+    requires { Accepts f.now (variant.Int n) }
+{
+    match call(alloc, f, &Value::Int(n)) {
+        Ok(lists) => Answer::Emits(lists.into_first()),
         Err(CallFault::Trap(kind)) => Answer::Trap(kind),
         Err(CallFault::Memory) => Answer::WantOfMemory,
     }
 }
 
-fn checked(
-    alloc: Global,
-    function: &Function,
-    x: Argument,
-    gives: Ty,
-) -> Result<Answer, AllocError> {
+fn checked(alloc: Global, function: &Function, n: i64) -> Result<Answer, ScriptFault> {
+    let mut known = TypeNames::new(alloc);
+    let int = known.intern(Shape::Int)?;
+    let takes = whole_type(alloc, 1, &function.takes, &mut known)?;
+    let gives = whole_type(alloc, 1, &function.gives, &mut known)?;
+    if !known.types().same(takes, int) {
+        return Ok(Answer::OtherArgument);
+    }
     let body = function.body.as_slice();
-    match check_function(alloc, &function.argument, x.ty, gives, body) {
-        Ok(f) => Ok(called(alloc, &f, &x.value)),
-        Err(Refusal::NotAccepted) => Ok(Answer::Refused),
-        Err(Refusal::Memory) => Ok(Answer::WantOfMemory),
-    }
+    let f = check_body(alloc, &mut known, &function.argument, takes, &[gives], body)?;
+    Ok(called(alloc, &f, n))
 }
 
-fn first(alloc: Global, ast: &Ast, x: Argument, gives: Ty) -> Result<Answer, AllocError> {
-    match ast.statements.get(0) {
-        Some(statement) => match &statement.form {
-            Form::Function(function) => checked(alloc, function, x, gives),
-            _ => Ok(Answer::NotParsed),
+fn first(alloc: Global, ast: &Ast, n: i64) -> Answer {
+    let Some(statement) = ast.statements.get(0) else {
+        return Answer::NotParsed;
+    };
+    match &statement.form {
+        Form::Function(function) => match checked(alloc, function, n) {
+            Ok(answer) => answer,
+            Err(ScriptFault::Refused { line: _, kind: _ }) => Answer::Refused,
+            Err(ScriptFault::Memory) => Answer::WantOfMemory,
         },
-        None => Ok(Answer::NotParsed),
+        _ => Answer::NotParsed,
     }
 }
 
-/// What `fn f(x: t) -> g { .. }` answers on the argument, its body being so many of these.
-pub fn answer_of(
+/// What `fn f(..) -> gives { .. }` answers on the number, where it begins so, and goes on with so
+/// many of these statements.
+fn answer(
     alloc: Global,
+    head: [&[u8]; 3],
     statement: &[u8],
     times: usize,
-    x: Argument,
-    gives: Ty,
+    n: i64,
 ) -> Result<Answer, AllocError> {
-    let mut script = Vec::from_slice(alloc, b"fn f(x: t) -> g { ")?;
+    let mut script = Vec::new(alloc);
+    for part in head {
+        script.extend_from_slice(part)?;
+    }
     for _ in 0..times {
         script.extend_from_slice(statement)?;
     }
     script.extend_from_slice(b" }")?;
     match parse(alloc, script.as_slice()) {
-        Ok(ast) => first(alloc, &ast, x, gives),
+        Ok(ast) => Ok(first(alloc, &ast, n)),
         Err(_) => Ok(Answer::NotParsed),
     }
+}
+
+/// What a function of a number answers, whose body has these statements.
+pub fn answer_of(
+    alloc: Global,
+    statements: &[u8],
+    n: i64,
+    gives: &[u8],
+) -> Result<Answer, AllocError> {
+    answer(alloc, [b"fn f(x: int) -> ", gives, b" { "], statements, 1, n)
+}
+
+/// What a function answers whose body has so many of these statements, where `x` is
+/// `{a: "one two", b: "three", n: 7, all: ["x", "y"]}`.
+pub fn answer_on_row(
+    alloc: Global,
+    statement: &[u8],
+    times: usize,
+    gives: &[u8],
+) -> Result<Answer, AllocError> {
+    let row = b" { let x = {a: \"one two\", b: \"three\", n: n, all: [\"x\", \"y\"]} ";
+    answer(alloc, [b"fn f(n: int) -> ", gives, row], statement, times, 7)
 }

@@ -1,6 +1,5 @@
-use crate::answers::{Answer, Argument, answer_of, ints, texts};
-use flume_types::Ty;
-use flume_value::{Kind, Value};
+use crate::answers::{Answer, answer_of, ints, texts};
+use flume_value::Kind;
 use std::alloc::{AllocError, Global};
 use std::test::Fail;
 
@@ -15,13 +14,6 @@ fn answer_wanted(alloc: Global, it: Wanted) -> Result<Answer, AllocError> {
     match it {
         Wanted::Emits(all) => Ok(Answer::Emits(ints(alloc, all)?)),
         Wanted::Traps(kind) => Ok(Answer::Trap(kind)),
-    }
-}
-
-fn int(n: i64) -> Argument {
-    Argument {
-        ty: Ty::Int,
-        value: Value::Int(n),
     }
 }
 
@@ -57,7 +49,7 @@ fn ints_are_computed(rt: HostRuntime) -> Result<(), Fail> {
     ];
     for (body, x, it) in table {
         let wanted = answer_wanted(alloc, it)?;
-        assert_eq!(rt; answer_of(alloc, body, 1, int(x), Ty::Int)?, wanted);
+        assert_eq!(rt; answer_of(alloc, body, x, b"int")?, wanted);
     }
     Ok(())
 }
@@ -92,7 +84,7 @@ fn what_is_not_needed_does_not_trap(rt: HostRuntime) -> Result<(), Fail> {
     ];
     for (body, it) in table {
         let wanted = answer_wanted(alloc, it)?;
-        assert_eq!(rt; answer_of(alloc, body, 1, int(0), Ty::Int)?, wanted);
+        assert_eq!(rt; answer_of(alloc, body, 0, b"int")?, wanted);
     }
     Ok(())
 }
@@ -112,7 +104,7 @@ fn values_are_compared(rt: HostRuntime) -> Result<(), Fail> {
     ];
     for (body, all) in table {
         let wanted = Answer::Emits(ints(alloc, all)?);
-        assert_eq!(rt; answer_of(alloc, body, 1, int(3), Ty::Int)?, wanted);
+        assert_eq!(rt; answer_of(alloc, body, 3, b"int")?, wanted);
     }
     Ok(())
 }
@@ -135,7 +127,7 @@ fn texts_and_lists_are_joined(rt: HostRuntime) -> Result<(), Fail> {
     ];
     for (body, all) in table {
         let wanted = Answer::Emits(texts(alloc, all)?);
-        assert_eq!(rt; answer_of(alloc, body, 1, int(i64::MIN), Ty::Text)?, wanted);
+        assert_eq!(rt; answer_of(alloc, body, i64::MIN, b"text")?, wanted);
     }
     Ok(())
 }
@@ -159,7 +151,27 @@ fn sides_are_told_apart(rt: HostRuntime) -> Result<(), Fail> {
     ];
     for (body, all) in table {
         let wanted = Answer::Emits(ints(alloc, all)?);
-        assert_eq!(rt; answer_of(alloc, body, 1, int(3), Ty::Int)?, wanted);
+        assert_eq!(rt; answer_of(alloc, body, 3, b"int")?, wanted);
+    }
+    Ok(())
+}
+
+#[test]
+fn blocks_and_operators_are_nested(rt: HostRuntime) -> Result<(), Fail> {
+    let alloc = rt.alloc();
+    let table: [(&[u8], &'static [i64]); 2] = [
+        (
+            b"for a in [1, x] { for b in [a, 9] { for c in [b, a + b] { emit c } } }",
+            &[1, 2, 9, 10, 3, 6, 9, 12],
+        ),
+        (
+            b"emit x+1+1+1+1+1+1+1+1+1+1+1+1+1+1+1+1+1+1+1+1+1+1+1+1+1+1+1+1+1+1+1",
+            &[34],
+        ),
+    ];
+    for (body, all) in table {
+        let wanted = Answer::Emits(ints(alloc, all)?);
+        assert_eq!(rt; answer_of(alloc, body, 3, b"int")?, wanted);
     }
     Ok(())
 }

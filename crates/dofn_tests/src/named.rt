@@ -1,5 +1,4 @@
-use crate::answers::{Answer, answer_of, field, ints, row, texts};
-use flume_types::Ty;
+use crate::answers::{Answer, answer_on_row, ints, texts};
 use flume_value::{Pile, Str, Value};
 use std::test::Fail;
 
@@ -30,7 +29,7 @@ fn fields_and_members_are_emitted(rt: HostRuntime) -> Result<(), Fail> {
     ];
     for (body, all) in table {
         let wanted = Answer::Emits(texts(alloc, all)?);
-        assert_eq!(rt; answer_of(alloc, body, 1, row(alloc)?, Ty::Text)?, wanted);
+        assert_eq!(rt; answer_on_row(alloc, body, 1, b"text")?, wanted);
     }
     Ok(())
 }
@@ -47,9 +46,6 @@ fn records_are_emitted(rt: HostRuntime) -> Result<(), Fail> {
         (b"emit {p: x.b, q: x.n, r: 1}", false),
     ];
     for (body, accepted) in table {
-        let p = field(alloc, b"p", Ty::Text)?;
-        let q = field(alloc, b"q", Ty::Int)?;
-        let gives = Ty::Rec(Pile::from_vec(vec![in alloc; p, q]?));
         let wanted = if accepted {
             let b = Value::Text(Str::from_slice(alloc, b"three")?);
             let pair = Value::Rec(Pile::from_vec(vec![in alloc; b, Value::Int(7)]?));
@@ -57,7 +53,7 @@ fn records_are_emitted(rt: HostRuntime) -> Result<(), Fail> {
         } else {
             Answer::Refused
         };
-        assert_eq!(rt; answer_of(alloc, body, 1, row(alloc)?, gives)?, wanted);
+        assert_eq!(rt; answer_on_row(alloc, body, 1, b"{p: text, q: int}")?, wanted);
     }
     Ok(())
 }
@@ -82,7 +78,7 @@ fn names_end_with_their_block(rt: HostRuntime) -> Result<(), Fail> {
             Some(all) => Answer::Emits(ints(alloc, all)?),
             None => Answer::Refused,
         };
-        assert_eq!(rt; answer_of(alloc, body, 1, row(alloc)?, Ty::Int)?, wanted);
+        assert_eq!(rt; answer_on_row(alloc, body, 1, b"int")?, wanted);
     }
     Ok(())
 }
@@ -90,7 +86,7 @@ fn names_end_with_their_block(rt: HostRuntime) -> Result<(), Fail> {
 #[test]
 fn a_body_of_many_statements(rt: HostRuntime) -> Result<(), Fail> {
     let alloc = rt.alloc();
-    let emitted = answer_of(alloc, b"emit 7\n", 9000, row(alloc)?, Ty::Int)?;
+    let emitted = answer_on_row(alloc, b"emit 7\n", 9000, b"int")?;
     assert!(rt; matches!(&emitted, Answer::Emits(items) if items.len() == 9000));
     Ok(())
 }

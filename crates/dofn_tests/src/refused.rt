@@ -1,5 +1,4 @@
-use crate::answers::{Answer, answer_of, ints, row};
-use flume_types::Ty;
+use crate::answers::{Answer, answer_on_row, ints};
 use std::test::Fail;
 
 #[test]
@@ -37,7 +36,7 @@ fn ill_typed_bodies_are_refused(rt: HostRuntime) -> Result<(), Fail> {
     ];
     for body in table {
         assert_eq!(rt;
-            answer_of(alloc, body, 1, row(alloc)?, Ty::Text)?,
+            answer_on_row(alloc, body, 1, b"text")?,
             Answer::Refused
         );
     }
@@ -66,7 +65,7 @@ fn limits_of_numbers_and_of_depth(rt: HostRuntime) -> Result<(), Fail> {
             Some(n) => Answer::Emits(ints(alloc, &[n])?),
             None => Answer::Refused,
         };
-        assert_eq!(rt; answer_of(alloc, body, 1, row(alloc)?, Ty::Int)?, wanted);
+        assert_eq!(rt; answer_on_row(alloc, body, 1, b"int")?, wanted);
     }
     Ok(())
 }

@@ -19,7 +19,7 @@ pub fn check(alloc: Global, ast: Ast) -> Result<Program, ScriptFault>
     if state.output_count() == 0 {
         return Err(refused(0, ScriptKind::NoOutput));
     }
-    Ok(state.into_program())
+    Ok(state.into_program(alloc)?)
 }
 
 /// Statements in order.

@@ -5,7 +5,8 @@
 //! rules of operations stand in `specs/Operations.antt`, and those of types in written_types.
 //!
 //! A program holds its types under numbers. Contracts see it as a script over types as trees:
-//! functions, collections and outputs under their names, in the order of their definitions.
+//! functions, collections and outputs under their names, in the order of their definitions. It
+//! keeps which collections are needed, as `specs/Needed.antt` defines.
 #![tactic(auto)]
 
 mod checks;
@@ -13,6 +14,7 @@ mod combiner;
 mod flatten;
 mod fresh;
 mod made;
+mod needed;
 mod numbers;
 mod operand;
 mod operation;

@@ -1,7 +1,9 @@
 ghost use Rattle.std.specs.Prelude.{◌≡◌, ◌<◌, Some, length, slice_get};
 ghost use Rattle.std.specs.Option.{option_map};
 ghost use Rattle.script_check.specs.Program as spec;
+ghost use Rattle.script_check.specs.Needed.{is_needed};
 ghost use Rattle.script_check.specs.inner.Held.{AreHeld, numbered_of};
+ghost use Rattle.script_check.specs.inner.Flags.{TellNeeded};
 
 use crate::made::{Function, Node, Output};
 use flume_value::Str;
@@ -17,6 +19,7 @@ pub struct Program {
     functions: IndexMap<Str, Function>,
     nodes: IndexMap<Str, Node>,
     outputs: IndexMap<Str, Output>,
+    needed: Vec<bool>,
 }
 
 impl Model for Program {
@@ -27,6 +30,7 @@ impl Model for Program {
     ghost use Rattle.script_check.specs.contracts.made.Output as coded_outputs;
     ghost use Rattle.script_check.specs.Program.{Numbered};
     ghost use Rattle.script_check.specs.inner.Held.{numbered_of, AreHeld};
+    ghost use Rattle.script_check.specs.inner.Flags.{TellNeeded};
 
     ghost Value = { Numbered };
 
@@ -43,7 +47,8 @@ impl Model for Program {
         program.outputs.entries };
 
     ghost invariant = { λ program.
-        AreHeld program.known program.functions.entries program.nodes.entries };
+        AreHeld program.known program.functions.entries program.nodes.entries
+        × TellNeeded program.nodes.entries program.outputs.entries program.needed.items };
 }
 
 impl Program {
@@ -52,8 +57,10 @@ impl Program {
         functions: IndexMap<Str, Function>,
         nodes: IndexMap<Str, Node>,
         outputs: IndexMap<Str, Output>,
+        needed: Vec<bool>,
     ) -> Program
-        requires { AreHeld known functions.entries nodes.entries }
+        requires held { AreHeld known functions.entries nodes.entries }
+        requires needed { TellNeeded nodes.entries outputs.entries needed.items }
         ensures { result ≡ numbered_of known functions.entries nodes.entries outputs.entries }
     {
         Program {
@@ -61,6 +68,7 @@ impl Program {
             functions,
             nodes,
             outputs,
+            needed,
         }
     }
 
@@ -134,6 +142,15 @@ impl Program {
             Some((_, node)) => node,
             None => unreachable!(),
         }
+    }
+
+    /// Whether the collection of a number is needed: for a well-formed script, whether a path of
+    /// reads leads from it to an output.
+    pub fn is_needed(&self, number: usize) -> bool
+        requires { number < length self.now.script.nodes }
+        ensures { result ≡ is_needed self.now.script number }
+    {
+        self.needed[number]
     }
 
     /// How many outputs there are.

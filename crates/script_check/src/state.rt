@@ -12,6 +12,7 @@ ghost use Rattle.script_check.specs.Script as spec;
 ghost use Rattle.script_check.specs.inner.Held.{operand_in, callee_in};
 
 use crate::made::{Function, Node, Output, Signature};
+use crate::needed::needed;
 use crate::operand::{Callee, Operand};
 use crate::program::Program;
 use body_check::check_body;
@@ -74,8 +75,8 @@ impl State {
     }
 
     /// The program that the statements define.
-    pub fn into_program(self) -> Program
-        ensures { result.script ≡ spec.script_from self.state }
+    pub fn into_program(self, alloc: Global) -> Result<Program, AllocError>
+        ensures { IfOk result (λ program. program.script ≡ spec.script_from self.state) }
     {
         let State {
             known,
@@ -83,7 +84,8 @@ impl State {
             nodes,
             outputs,
         } = self;
-        Program::new(known, functions, nodes, outputs)
+        let needed = needed(alloc, &nodes, &outputs)?;
+        Ok(Program::new(known, functions, nodes, outputs, needed))
     }
 
     // ---- types
