@@ -4,3 +4,4 @@ pub mod TypeLemmas
 pub mod FitLemmas
 pub mod OperationLemmas
 pub mod RuleLemmas
+pub mod NeededLemmas

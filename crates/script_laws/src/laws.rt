@@ -1,11 +1,19 @@
-ghost use Rattle.std.specs.Prelude.{◌≡◌, List, Ok};
+ghost use Rattle.std.specs.Prelude.{◌≡◌, ◌↔◌, ℕ, IsTrue, List, Ok};
 ghost use Rattle.flume_grammar.specs.declared.tree.Statement.{Statement};
 ghost use Rattle.script_check.specs.Script.{Script};
 ghost use Rattle.script_check.specs.Rules.{script_of};
+ghost use Rattle.script_check.specs.Needed.{IsNeeded, is_needed};
 ghost use Rattle.script_laws.specs.WellFormed.{IsWellFormed};
 
 /// Each script that is accepted is well formed.
 pub fn well_formed_law()
     ensures well_formed { (statements : List Statement) (script : Script)
         → script_of statements ≡ Ok script → IsWellFormed script }
+{}
+
+/// The needed collections of a well-formed script, as they are computed from the last one to the
+/// first, are those from which a path of reads leads to an output.
+pub fn needed_law()
+    ensures { (script : Script) → IsWellFormed script →
+        (number : ℕ) → IsTrue (is_needed script number) ↔ IsNeeded script number }
 {}
