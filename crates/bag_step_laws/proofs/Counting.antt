@@ -97,7 +97,8 @@ rows-of-ones H xs =
 
 pub counted-ones : (xs : List Value)
     → combined_each (combined by.Sum) (grouped (map with_one xs)) ≡ counted xs
-counted-ones xs = combined-grouped (combined by.Sum) (map with_one xs) ∙ rows-of-ones combined_pair xs
+counted-ones xs =
+    combined-grouped (combined by.Sum) (map with_one xs) ∙ rows-of-ones combined_pair xs
 
 pub counted-traps : (xs : List Value)
     → traps_of_each (combined by.Sum) (grouped (map with_one xs)) ≡ counted_traps xs
