@@ -16,8 +16,8 @@
 //! functions (`IsTyped`, specs/Typing.antt). Each member of a collection then has its type, where
 //! the world is typed too (`typed_law`).
 //!
-//! `is_founded` decides what the meaning rests on: all that is read is there, and no path returns
-//! to its node.
+//! `graph_ok` decides whether a graph is well-formed, and `is_founded` the part that its meaning
+//! rests on: all that is read is there, and no path returns to its node.
 #![tactic(auto)]
 
 mod callers;
