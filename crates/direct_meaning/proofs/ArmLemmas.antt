@@ -1,182 +1,112 @@
 -- Each way in which a node is made, from what is kept before it to what is kept behind it.
-use Rattle.std.proofs.Common.{◌≡◌, ℕ, suc, ◌+◌, ◌<◌, ◌||◌, Bool, true, false, List, [], ◌∷◌, ◌++◌, length, map, Option, Some, None, slice_get, refl, sym, ap, ◌∙◌, subst, append-nil, arith}
-use Rattle.std.specs.Prelude.{All}
+use Rattle.std.proofs.Common.{◌≡◌, ℕ, ◌+◌, ◌-◌, ◌<◌, ◌||◌, false, List, [], ◌∷◌, ◌++◌, length, Option, Some, slice_get, refl, sym, ap, ◌∙◌, subst}
 use Rattle.std.specs.List.{Contains, flat_map, list_any}
-use Rattle.std.specs.List.Sorted.{IsSorted}
 use Rattle.std.specs.Option.{option_and_then, option_map}
 use Rattle.std.proofs.lemmas.List.Elements.{All-contains}
 use Rattle.flume_value.specs.Bag.{bag_of}
-use Rattle.flume_value.specs.Order.{value_cmp}
 use Rattle.flume_value.specs.declared.value.Value.{Value}
 use Rattle.flume_types.specs.Tables.{table_of}
 use Rattle.flume_types.specs.declared.column.Column.{Column}
-use Rattle.flume_types.specs.Typing.{AllHave}
-use Rattle.flume_types.specs.declared.types.Ty.{Ty}
 use Rattle.flume_types.specs.declared.types.Ty.TheVariants as ty
 use Rattle.bag_groups.specs.Combining.{combined_each}
 use Rattle.bag_groups.specs.Groups.{grouped}
-use Rattle.bag_groups.specs.Pairs.{IsPair}
-use Rattle.bag_steps.specs.Counts.{counted, counted_traps}
+use Rattle.bag_steps.specs.Counts.{counted}
 use Rattle.bag_steps.specs.Joins.{joined}
 use Rattle.combine_table.specs.Combinations.{combined, greatest}
 use Rattle.combine_table.specs.declared.comb.Comb.{Comb}
-use Rattle.keyed_steps.proofs.TypedFacts.{all_pairs, all_suited}
-use Rattle.keyed_steps.specs.Keyed.{IsGroup}
 use Rattle.flume_collection.proofs.Members.{at_head, at_tail}
-use Rattle.flume_collection.specs.Collection.{Collection, by_key, together}
+use Rattle.flume_collection.specs.Collection.{by_key, together}
 use Rattle.flume_collection.specs.declared.trap.Trap.{Trap}
-use Rattle.script_check.specs.Operations.{combined_type}
-use Rattle.script_check.specs.declared.made.Made.{Made}
 use Rattle.script_check.specs.declared.made.Made.TheVariants as made
-use Rattle.script_check.specs.Program.{node_in}
-use Rattle.script_check.specs.Script.{Node, Script}
-use Rattle.script_check.specs.declared.made.Node.{Node as HeldNode}
-use Rattle.script_laws.specs.WellFormed.{Fits, IsWellFormed, members_at}
-use Rattle.direct_meaning.proofs.KeepLemmas.{GoesThrough, by_key_kept, by_key_own, combined_kept, combined_own, counted_kept, counted_own, joined_kept, joined_own, own_combined, top_kept, top_own, Stood, all_stand, together_kept, together_own}
-use Rattle.direct_meaning.proofs.StandLemmas.{HasOwn, IsNodeAt, Source, at_node, fits, goes, behind, held_ascending, held_typed, keeps, own_rows, source_of}
-use Rattle.direct_meaning.proofs.TypeLemmas.{taken}
-use Rattle.direct_meaning.specs.Direct.{combined_by, counted_by, inputs_behind, joined_by, made_as, rows_as, top_by}
-use Rattle.direct_meaning.specs.Inputs.{HaveRows, Wanted, wanted_by}
-use Rattle.direct_meaning.specs.Needed.{is_needed, operands}
+use Rattle.script_check.specs.Script.{Function, Script}
+use Rattle.script_laws.specs.WellFormed.{members_at}
+use Rattle.direct_meaning.proofs.CallLemmas.{calls_answered}
+use Rattle.direct_meaning.proofs.MakeLemmas.{well_typed}
+use Rattle.direct_meaning.proofs.KeepLemmas.{GoesThrough, called_kept, called_own, by_key_kept, by_key_own, combined_kept, combined_own, counted_kept, counted_own, joined_kept, joined_own, own_combined, top_kept, top_own, all_stand, together_kept, together_own}
+use Rattle.direct_meaning.proofs.StandLemmas.{Source, keeps}
+use Rattle.direct_meaning.specs.Direct.{called_by, combined_by, counted_by, done_at, done_by, inputs_behind, joined_by, made_as, rows_as, top_by}
 use Rattle.direct_meaning.specs.declared.kept.Kept.{Kept}
-use Rattle.direct_meaning.specs.inner.Kept.{Keeps, has_traps, is_trapped, kept_in, members_of, unless_behind}
-use Rattle.direct_meaning.specs.inner.Stands.{Stands, wanted_from}
-
--- ---- what is kept of what nodes read
-
-module _ (kept : List (Option Kept)) (table : List (Option Collection)) (number : ℕ) where
-  -- a collection of members of some type
-  pub record AnyRead : Type 0 where
-    pub type : Ty
-    pub source : Source kept table number type
-
-  -- a table
-  pub record TableRead : Type 0 where
-    pub key : Ty
-    pub value : Ty
-    pub source : Source kept table number (table_of key value)
-
-  -- groups whose members suit a combiner
-  pub record GroupsRead (by : Comb) : Type 0 where
-    pub key : Ty
-    pub member : Ty
-    pub value : Ty
-    pub suits : combined_type by member ≡ Some value
-    pub source : Source kept table number (table_of key (ty.List member))
-
-  module _ (held : Kept) (at : slice_get kept number ≡ Some (Some held)) where
-    pub pairs_read : TableRead → All IsPair held.members.items
-    pairs_read it =
-        all_pairs it.key it.value held.members.items
-        (held_typed kept table number (table_of it.key it.value) it.source held at)
-
-    pub table_ascending : TableRead → IsSorted value_cmp held.members.items
-    table_ascending it =
-        held_ascending kept table number (table_of it.key it.value) it.source held at
-
-    pub any_ascending : AnyRead → IsSorted value_cmp held.members.items
-    any_ascending it = held_ascending kept table number it.type it.source held at
-
-    pub groups_read : (by : Comb) → GroupsRead by → All (IsGroup by) held.members.items
-    groups_read by it =
-        all_suited by it.key it.member held.members.items (taken by it.member it.value it.suits).0
-        (held_typed kept table number (table_of it.key (ty.List it.member)) it.source held at)
-
-some_rows : (wanted : Wanted) (others : List Wanted) (left : List (List Value))
-    → HaveRows (wanted ∷ others) left → 0 < length left
-some_rows wanted others [] have = absurd have
-some_rows wanted others (rows ∷ left) have = omega arith
-
--- An evaluation stands before the node of a number, which is needed and made so.
-pub record Here (script : Script) (inputs left : List (List Value)) (number : ℕ)
-    (kept : List (Option Kept)) (traps : List Trap) (m : Made) : Type 0 where
-  pub well : IsWellFormed script
-  pub stands : Stands script inputs number left kept traps
-  pub node : IsNodeAt script number m
-  pub needed : is_needed script number ≡ true
+use Rattle.direct_meaning.specs.inner.Kept.{has_traps, is_trapped, kept_in, members_of, unless_behind}
+use Rattle.direct_meaning.specs.inner.Slots.{IsDoneBy, traps_on}
+use Rattle.direct_meaning.specs.inner.Stands.{Stands}
+use Rattle.direct_meaning.proofs.HereLemmas.{Here, fits_so, goes_quietly, goes_so, reads_so, rows_come}
+use Rattle.direct_meaning.proofs.ReadLemmas.{AnyRead, CalledRead, GroupsRead, TableRead}
 
 module _ {script : Script} {inputs left : List (List Value)} {number : ℕ}
     {kept : List (Option Kept)} {traps : List Trap} where
-  pub here_at : (types : List Ty) (held : HeldNode) (m : Made) → IsWellFormed script
-      → Stands script inputs number left kept traps → is_needed script number ≡ true
-      → option_map (λ (entry : List ℕ × Node). entry.1) (slice_get script.nodes number)
-      ≡ Some (node_in types held)
-      → held.made ≡ m → Here script inputs left number kept traps m
-  here_at types held m well stands needed is made_so = record {
-    well = well;
-    stands = stands;
-    node = at_node script number types held m is made_so;
-    needed = needed;
-  }
-
-  -- ---- whatever the node is
-
-  module _ (m : Made) (here : Here script inputs left number kept traps m) where
-    fits_so : Fits script.functions here.stands.before m here.node.entry.1.type
-    fits_so =
-        subst (λ (n : Made). Fits script.functions here.stands.before n here.node.entry.1.type) here.node.made
-        (fits script here.well inputs left number kept traps here.stands here.node.entry here.node.at here.needed)
-
-    reads_so : (n : ℕ) → Contains (operands m) n → (type : Ty)
-        → members_at here.stands.before n ≡ Some type → Source kept here.stands.table n type
-    reads_so n reads type members =
-        source_of script here.well inputs left number kept traps here.stands here.node.entry here.node.at here.needed n
-        (subst (λ (o : Made). Contains (operands o) n) (sym here.node.made) reads) type members
-
-    rows_so : HaveRows (wanted_by m here.node.entry.1.type ++ wanted_from script (suc number)
-        (behind script here.well inputs left number kept traps here.stands here.node.entry here.node.at).others) left
-    rows_so =
-        subst (λ (o : Made). HaveRows (wanted_by o here.node.entry.1.type ++ wanted_from script (suc number)
-        (behind script here.well inputs left number kept traps here.stands here.node.entry here.node.at).others) left) here.node.made
-        (own_rows script here.well inputs left number kept traps here.stands here.node.entry here.node.at here.needed)
-
-    goes_so : (c : Collection) → made_as script number m left here.stands.table ≡ Some c
-        → (result : Kept) → Keeps result c → (own : List Trap) → HasOwn here.stands.table own c
-        → Stands script inputs (number + 1) (inputs_behind m left)
-          (kept ++ Some result ∷ []) (traps ++ own)
-    goes_so c made_so result keeps own has =
-        subst (λ (o : Made). Stands script inputs (number + 1) (inputs_behind o left)
-          (kept ++ Some result ∷ []) (traps ++ own)) here.node.made
-        (goes script here.well inputs left number kept traps here.stands here.node.entry here.node.at here.needed c
-        (ap (λ (o : Made). made_as script number o left here.stands.table) here.node.made ∙ made_so)
-        result keeps own has)
-
-    goes_quietly : (c : Collection) → made_as script number m left here.stands.table ≡ Some c
-        → (result : Kept) → Keeps result c → HasOwn here.stands.table [] c
-        → Stands script inputs (number + 1) (inputs_behind m left)
-          (kept ++ Some result ∷ []) traps
-    goes_quietly c made_so result keeps has =
-        subst (λ (l : List Trap). Stands script inputs (number + 1) (inputs_behind m left)
-          (kept ++ Some result ∷ []) l) (append-nil traps)
-        (goes_so c made_so result keeps [] has)
-
   -- ---- inputs
 
   pub input_left : (file : List ℕ) (columns : List Column)
-      → (here : Here script inputs left number kept traps (made.Input file columns)) → 0 < length left
+      → Here script inputs left number kept traps (made.Input file columns) → 0 < length left
   input_left file columns here =
-      some_rows (record { file = file; type = here.node.entry.1.type })
-      (wanted_from script (suc number)
-      (behind script here.well inputs left number kept traps here.stands here.node.entry here.node.at).others)
-      left (rows_so (made.Input file columns) here)
+      rows_come (made.Input file columns) here
+      (record { file = file; type = here.node.entry.1.type }) refl
 
   pub input_goes : (file : List ℕ) (columns : List Column)
-      → (here : Here script inputs left number kept traps (made.Input file columns)) → (rows : List Value) (more : List (List Value))
+      → (here : Here script inputs left number kept traps (made.Input file columns))
+      → (rows : List Value) (more : List (List Value))
       → left ≡ rows ∷ more → (result : Kept) → result.members.items ≡ bag_of rows
       → result.trapped ≡ false → Stands script inputs (number + 1) more
-          (kept ++ Some result ∷ []) traps
+      (kept ++ Some result ∷ []) traps
   input_goes file columns here rows more first result members trapped =
       let m = made.Input file columns in
       let taken : inputs_behind m left ≡ more = ap (inputs_behind m) first in
       subst (λ (l : List (List Value)). Stands script inputs (number + 1) l
-          (kept ++ Some result ∷ []) traps) taken
+      (kept ++ Some result ∷ []) traps) taken
       (goes_quietly m here (rows_as rows)
       (ap (λ (l : List (List Value)). made_as script number m l here.stands.table) first) result
       (record { members = members; trapped = trapped }) refl)
 
+  -- ---- calls
+
+  pub do_read : (source called output : ℕ)
+      → (here : Here script inputs left number kept traps (made.Do source called output))
+      → CalledRead kept here.stands.table source script called output
+  do_read source called output here =
+      let m = made.Do source called output in
+      let it = fits_so m here in
+      record {
+        function = it.function;
+        at = it.calls;
+        typed = well_typed script here.well.functions called it.function it.calls;
+        source = reads_so m here source (at_head source []) it.function.signature.takes it.takes;
+      }
+
+  pub do_goes : (source called output : ℕ)
+      → (here : Here script inputs left number kept traps (made.Do source called output))
+      → (held : Kept) → slice_get kept source ≡ Some (Some held) → (result : Kept)
+      (after : List Trap)
+      → IsDoneBy (number - output) output (do_read source called output here).function held result
+      traps after
+      → Stands script inputs (number + 1) left (kept ++ Some result ∷ []) after
+  do_goes source called output here held held_at result after done =
+      let m = made.Do source called output in
+      let it = do_read source called output here in
+      let f = it.function in
+      let from = it.source.from in
+      let c = from.collection in
+      let origin = number - output in
+      let held_keeps = keeps kept here.stands.table source f.signature.takes it.source held held_at
+      in
+      let all = calls_answered f it.typed c.bag from.is.typed in
+      subst (λ (l : List Trap).
+      Stands script inputs (number + 1) left (kept ++ Some result ∷ []) l) (sym done.found)
+      (goes_so m here (called_by origin output c.traps all.calls)
+      (ap (option_and_then
+      (λ (g : Function). done_at origin output g source here.stands.table)) it.at
+      ∙ (ap (option_and_then (done_by origin output f)) from.made
+      ∙ ap (option_map (called_by origin output c.traps)) all.are))
+      result
+      (called_kept origin output f all.calls result held c traps after held_keeps all.are done)
+      (traps_on origin f held.members.items)
+      (called_own here.stands.table source origin output f all.calls held c from.made held_keeps
+      all.are))
+
   -- ---- groups
 
-  pub group_read : (source : ℕ) → (here : Here script inputs left number kept traps (made.Group source)) → TableRead kept here.stands.table source
+  pub group_read : (source : ℕ)
+      → (here : Here script inputs left number kept traps (made.Group source))
+      → TableRead kept here.stands.table source
   group_read source here =
       let it = fits_so (made.Group source) here in
       record {
@@ -186,23 +116,27 @@ module _ {script : Script} {inputs left : List (List Value)} {number : ℕ}
             (table_of it.key it.value) it.reads;
       }
 
-  pub group_goes : (source : ℕ) → (here : Here script inputs left number kept traps (made.Group source)) → (held : Kept)
+  pub group_goes : (source : ℕ)
+      → (here : Here script inputs left number kept traps (made.Group source))
+      → (held : Kept)
       → slice_get kept source ≡ Some (Some held) → (result : Kept)
       → result.members.items ≡ unless_behind held.trapped (grouped held.members.items)
       → result.trapped ≡ held.trapped → Stands script inputs (number + 1) left
-          (kept ++ Some result ∷ []) traps
+      (kept ++ Some result ∷ []) traps
   group_goes source here held held_at result members trapped =
       let it = group_read source here in
       let from = it.source.from in
       goes_quietly (made.Group source) here (by_key from.collection)
       (ap (option_map by_key) from.made) result
       (by_key_kept result held from.collection
-      (keeps kept here.stands.table source (table_of it.key it.value) it.source held held_at) members trapped)
+      (keeps kept here.stands.table source (table_of it.key it.value) it.source held held_at)
+      members trapped)
       (by_key_own here.stands.table source from.collection from.made)
 
   -- ---- combinations
 
-  pub combine_read : (source : ℕ) (by : Comb) → (here : Here script inputs left number kept traps (made.Combine source by))
+  pub combine_read : (source : ℕ) (by : Comb)
+      → (here : Here script inputs left number kept traps (made.Combine source by))
       → GroupsRead kept here.stands.table source by
   combine_read source by here =
       let it = fits_so (made.Combine source by) here in
@@ -215,16 +149,18 @@ module _ {script : Script} {inputs left : List (List Value)} {number : ℕ}
             (table_of it.key (ty.List it.member)) it.reads;
       }
 
-  pub combine_goes : (source : ℕ) (by : Comb) → (here : Here script inputs left number kept traps (made.Combine source by))
+  pub combine_goes : (source : ℕ) (by : Comb)
+      → (here : Here script inputs left number kept traps (made.Combine source by))
       → (held : Kept) → slice_get kept source ≡ Some (Some held) → (result : Kept)
       → result.members.items ≡ combined_each (combined by) held.members.items
       → result.trapped ≡ (held.trapped || has_traps (own_combined number by held.members.items))
       → Stands script inputs (number + 1) left
-          (kept ++ Some result ∷ []) (traps ++ own_combined number by held.members.items)
+      (kept ++ Some result ∷ []) (traps ++ own_combined number by held.members.items)
   combine_goes source by here held held_at result members trapped =
       let it = combine_read source by here in
       let from = it.source.from in
-      let held_keeps = keeps kept here.stands.table source (table_of it.key (ty.List it.member)) it.source held
+      let held_keeps = keeps kept here.stands.table source (table_of it.key (ty.List it.member))
+      it.source held
       held_at in
       goes_so (made.Combine source by) here (combined_by number by from.collection)
       (ap (option_map (combined_by number by)) from.made) result
@@ -234,22 +170,28 @@ module _ {script : Script} {inputs left : List (List Value)} {number : ℕ}
 
   -- ---- collections together
 
-  pub flatten_read : (sources : List ℕ) → (here : Here script inputs left number kept traps (made.Flatten sources)) → (source : ℕ)
+  pub flatten_read : (sources : List ℕ)
+      → (here : Here script inputs left number kept traps (made.Flatten sources))
+      → (source : ℕ)
       → Contains sources source → Source kept here.stands.table source here.node.entry.1.type
   flatten_read sources here source in_them =
       let it = fits_so (made.Flatten sources) here in
       reads_so (made.Flatten sources) here source in_them here.node.entry.1.type
-      (All-contains (λ (n : ℕ). members_at here.stands.before n ≡ Some here.node.entry.1.type) sources source
+      (All-contains
+      (λ (n : ℕ). members_at here.stands.before n ≡ Some here.node.entry.1.type) sources source
       it.read in_them)
 
-  pub flatten_goes : (sources : List ℕ) → (here : Here script inputs left number kept traps (made.Flatten sources)) → (result : Kept)
+  pub flatten_goes : (sources : List ℕ)
+      → (here : Here script inputs left number kept traps (made.Flatten sources))
+      → (result : Kept)
       → result.members.items
       ≡ bag_of (flat_map (λ source. members_of (kept_in kept source)) sources)
       → result.trapped ≡ list_any (λ source. is_trapped (kept_in kept source)) sources
       → Stands script inputs (number + 1) left
-          (kept ++ Some result ∷ []) traps
+      (kept ++ Some result ∷ []) traps
   flatten_goes sources here result members trapped =
-      let stood = all_stand kept here.stands.table here.node.entry.1.type sources (flatten_read sources here) in
+      let stood = all_stand kept here.stands.table here.node.entry.1.type sources
+      (flatten_read sources here) in
       goes_quietly (made.Flatten sources) here (together stood.collections)
       (ap (option_map together) stood.made) result
       (together_kept kept here.stands.table sources stood result members trapped)
@@ -257,7 +199,9 @@ module _ {script : Script} {inputs left : List (List Value)} {number : ℕ}
 
   -- ---- counts
 
-  pub count_read : (source : ℕ) → (here : Here script inputs left number kept traps (made.Count source)) → AnyRead kept here.stands.table source
+  pub count_read : (source : ℕ)
+      → (here : Here script inputs left number kept traps (made.Count source))
+      → AnyRead kept here.stands.table source
   count_read source here =
       let it = fits_so (made.Count source) here in
       record {
@@ -265,11 +209,13 @@ module _ {script : Script} {inputs left : List (List Value)} {number : ℕ}
         source = reads_so (made.Count source) here source (at_head source []) it.member it.reads;
       }
 
-  pub count_goes : (source : ℕ) → (here : Here script inputs left number kept traps (made.Count source)) → (held : Kept)
+  pub count_goes : (source : ℕ)
+      → (here : Here script inputs left number kept traps (made.Count source))
+      → (held : Kept)
       → slice_get kept source ≡ Some (Some held) → (result : Kept)
       → result.members.items ≡ unless_behind held.trapped (counted held.members.items)
       → result.trapped ≡ held.trapped → GoesThrough held → Stands script inputs (number + 1) left
-          (kept ++ Some result ∷ []) traps
+      (kept ++ Some result ∷ []) traps
   count_goes source here held held_at result members trapped through =
       let it = count_read source here in
       let from = it.source.from in
@@ -277,11 +223,13 @@ module _ {script : Script} {inputs left : List (List Value)} {number : ℕ}
       goes_quietly (made.Count source) here (counted_by number from.collection)
       (ap (option_map (counted_by number)) from.made) result
       (counted_kept number result held from.collection held_keeps members trapped through)
-      (counted_own here.stands.table source number held from.collection from.made held_keeps through)
+      (counted_own here.stands.table source number held from.collection from.made held_keeps
+      through)
 
   -- ---- joins
 
-  module _ (one other : ℕ) (here : Here script inputs left number kept traps (made.Join one other)) where
+  module _ (one other : ℕ)
+      (here : Here script inputs left number kept traps (made.Join one other)) where
     pub left_read : TableRead kept here.stands.table one
     left_read =
         let it = fits_so (made.Join one other) here in
@@ -308,7 +256,7 @@ module _ {script : Script} {inputs left : List (List Value)} {number : ℕ}
         → result.members.items ≡ unless_behind (held.trapped || more.trapped)
         (joined held.members.items more.members.items)
         → result.trapped ≡ (held.trapped || more.trapped) → Stands script inputs (number + 1) left
-          (kept ++ Some result ∷ []) traps
+        (kept ++ Some result ∷ []) traps
     join_goes held more held_at more_at result members trapped =
         let lefts = left_read in
         let rights = right_read in
@@ -317,29 +265,35 @@ module _ {script : Script} {inputs left : List (List Value)} {number : ℕ}
         goes_quietly (made.Join one other) here (joined_by a.collection b.collection)
         (λ i. option_and_then (λ c. option_map (joined_by c) (b.made i)) (a.made i)) result
         (joined_kept result held more a.collection b.collection
-        (keeps kept here.stands.table one (table_of lefts.key lefts.value) lefts.source held held_at)
-        (keeps kept here.stands.table other (table_of rights.key rights.value) rights.source more more_at)
+        (keeps kept here.stands.table one (table_of lefts.key lefts.value) lefts.source held
+        held_at)
+        (keeps kept here.stands.table other (table_of rights.key rights.value) rights.source more
+        more_at)
         members trapped)
         (joined_own here.stands.table one other a.collection b.collection a.made b.made)
 
   -- ---- the greatest
 
-  pub top_read : (many source : ℕ) → (here : Here script inputs left number kept traps (made.Top many source))
+  pub top_read : (many source : ℕ)
+      → (here : Here script inputs left number kept traps (made.Top many source))
       → AnyRead kept here.stands.table source
   top_read many source here =
       let it = fits_so (made.Top many source) here in
       record {
         type = here.node.entry.1.type;
-        source = reads_so (made.Top many source) here source (at_head source []) here.node.entry.1.type
+        source = reads_so (made.Top many source) here source (at_head source [])
+            here.node.entry.1.type
             it.reads;
       }
 
-  pub top_goes : (many source : ℕ) → (here : Here script inputs left number kept traps (made.Top many source)) → (held : Kept)
+  pub top_goes : (many source : ℕ)
+      → (here : Here script inputs left number kept traps (made.Top many source))
+      → (held : Kept)
       → slice_get kept source ≡ Some (Some held) → (result : Kept)
       → result.members.items
       ≡ unless_behind held.trapped (greatest many (bag_of held.members.items))
       → result.trapped ≡ held.trapped → Stands script inputs (number + 1) left
-          (kept ++ Some result ∷ []) traps
+      (kept ++ Some result ∷ []) traps
   top_goes many source here held held_at result members trapped =
       let it = top_read many source here in
       let from = it.source.from in

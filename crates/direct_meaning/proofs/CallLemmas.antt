@@ -1,6 +1,5 @@
 -- Calls on the members of a collection: each has an answer, by names and by slots the same.
-use Rattle.std.proofs.Common.{◌≡◌, ℕ, zero, suc, ◌+◌, ◌<◌, ◌-◌, ◌||◌, Bool, true, false, List, [], ◌∷◌, ◌++◌, length, map, Option, Some, None, Result, Ok, Err, slice_get, refl, sym, ap, ◌∙◌, subst, arith, append_assoc}
-use Rattle.std.specs.Prelude.{All}
+use Rattle.std.proofs.Common.{◌≡◌, ℕ, ◌||◌, List, [], ◌∷◌, ◌++◌, length, Option, Some, None, Ok, Err, slice_get, refl, sym, ap, ◌∙◌, subst}
 use Rattle.std.specs.List.{AllByRecursion as Each, AllZip, flat_map}
 use Rattle.std.specs.Option.{option_and_then, option_map}
 use Rattle.std.proofs.lemmas.List.Elements.{All-from_recursion}
@@ -11,15 +10,13 @@ use Rattle.flume_value.specs.declared.fault.Kind.{Kind}
 use Rattle.flume_value.specs.declared.value.Value.{Value}
 use Rattle.flume_types.specs.Typing.{AllHave, Has}
 use Rattle.flume_types.specs.declared.types.Ty.{Ty}
-use Rattle.dofn_eval.specs.Answer.{AreOf, HasAnswer, answered as answer_in}
+use Rattle.dofn_eval.specs.Answer.{AreOf, HasAnswer}
 use Rattle.dofn_eval.specs.Function.{Accepts, Function as Fun}
 use Rattle.dofn_eval.specs.Outcome.{Outcome, Gives, Traps, Stuck}
 use Rattle.dofn_eval.specs.Run.{means as slots_mean}
 use Rattle.body_check.proofs.FunctionLemmas.{answered as has_answer}
 use Rattle.body_check.specs.Call.{means}
 use Rattle.flume_collection.specs.Calls.{Called, emissions, or_none, trap_of}
-use Rattle.flume_collection.specs.Collection.{Collection}
-use Rattle.flume_collection.specs.Traps.{trap_set}
 use Rattle.flume_collection.specs.declared.trap.Trap.{Trap}
 use Rattle.script_check.specs.Program.{Does}
 use Rattle.script_check.specs.Script.{Function}
@@ -27,9 +24,11 @@ use Rattle.script_laws.specs.WellFormed.{IsWellTyped}
 use Rattle.direct_meaning.proofs.PlaceLemmas.{zip_at}
 use Rattle.direct_meaning.proofs.TypeLemmas.{set_again}
 use Rattle.direct_meaning.specs.Calls.{answer_of, answered, calls_on}
-use Rattle.direct_meaning.specs.Direct.{called_by, done_by}
+use Rattle.direct_meaning.specs.Direct.{called_by}
 use Rattle.direct_meaning.specs.Made.{IsCollectionOf}
-use Rattle.direct_meaning.specs.inner.Slots.{emitted_by, slots_answer, trapped_by}
+use Rattle.direct_meaning.specs.declared.kept.Kept.{Kept}
+use Rattle.direct_meaning.specs.inner.Kept.{has_traps}
+use Rattle.direct_meaning.specs.inner.Slots.{IsDoneBy, emitted_by, slots_answer, trapped_by}
 
 -- ---- an answer
 
@@ -67,7 +66,7 @@ answers function typed x has =
 -- the same by slots
 pub same_answer : (fun : Fun) (function : Function) → Does fun function → (x : Value)
     → answer_of function x ≡ slots_answer fun x
-unfolding answer_of, slots_answer
+unfolding answer_of slots_answer
 same_answer fun function does x =
     ap (answered x)
     (ap (λ (n : ℕ).
@@ -109,7 +108,8 @@ all_answered gives answer (x ∷ elements) each =
     record {
       calls = first.called ∷ rest.calls;
       are = λ i.
-          option_and_then (λ called. option_map (λ calls. called ∷ calls) (rest.are i)) (first.is i);
+          option_and_then (λ called. option_map (λ calls. called ∷ calls) (rest.are i))
+          (first.is i);
       have = (first.has, rest.have);
     }
 
@@ -206,3 +206,23 @@ calls_answered function typed elements have =
     each_answers [] each = tt
     each_answers (x ∷ xs) each =
         (answers function typed x each.0, each_answers xs each.1)
+
+-- what is done by slots is done by names
+pub done_by_slots : (origin output : ℕ) (fun : Fun) (function : Function) → Does fun function
+    → (source result : Kept) (before after : List Trap)
+    → result.members.items
+    ≡ bag_of (flat_map (λ x. emitted_by output (slots_answer fun x)) source.members.items)
+    → after ≡ before ++ flat_map (λ x. trapped_by origin (slots_answer fun x)) source.members.items
+    → result.trapped ≡ (source.trapped || has_traps
+    (flat_map (λ x. trapped_by origin (slots_answer fun x)) source.members.items))
+    → IsDoneBy origin output function source result before after
+done_by_slots origin output fun function does source result before after members found trapped =
+    let same = λ (x : Value). sym (same_answer fun function does x) in
+    record {
+      members = members ∙ (λ i.
+          bag_of (flat_map (λ x. emitted_by output (same x i)) source.members.items));
+      found = found ∙ (λ i.
+          before ++ flat_map (λ x. trapped_by origin (same x i)) source.members.items);
+      trapped = trapped ∙ (λ i. source.trapped || has_traps
+          (flat_map (λ x. trapped_by origin (same x i)) source.members.items));
+    }

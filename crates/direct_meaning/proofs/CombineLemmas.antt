@@ -1,5 +1,5 @@
 -- Groups combined one after another.
-use Rattle.std.proofs.Common.{◌≡◌, ◌++◌, ◌+◌, ◌<◌, ℕ, List, [], ◌∷◌, get_or, length, map, take, refl, sym, ap, ◌∙◌, append_assoc, arith}
+use Rattle.std.proofs.Common.{◌≡◌, ◌++◌, ◌+◌, ◌<◌, ℕ, List, [], ◌∷◌, get_or, length, map, take, sym, ap, ◌∙◌, append_assoc}
 use Rattle.std.proofs.lemmas.List.{map-append, take_more}
 use Rattle.flume_value.proofs.BagLemmas.{bag_of-sum, bag_of-twice}
 use Rattle.flume_value.specs.Bag.{bag_of}

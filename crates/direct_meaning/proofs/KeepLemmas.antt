@@ -1,5 +1,5 @@
 -- What is kept of what steps make of collections, and whose traps these are.
-use Rattle.std.proofs.Common.{◌≡◌, ℕ, zero, suc, ◌+◌, ◌<◌, ◌||◌, Bool, true, false, List, [], ◌∷◌, ◌++◌, length, map, Option, Some, None, slice_get, refl, sym, ap, ◌∙◌, subst, arith, append-nil, append_assoc}
+use Rattle.std.proofs.Common.{◌≡◌, ℕ, zero, suc, ◌||◌, false, List, [], ◌∷◌, ◌++◌, map, Option, Some, slice_get, refl, sym, ap, ◌∙◌, subst, arith, append-nil}
 use Rattle.std.specs.List.{Contains, flat_map, list_any}
 use Rattle.std.specs.Option.{option_and_then, option_flatten, option_map}
 use Rattle.std.proofs.lemmas.List.Elements.{Contains-append_left, Contains-append_right}
@@ -15,17 +15,20 @@ use Rattle.bag_steps.specs.Joins.{joined}
 use Rattle.combine_table.specs.Combinations.{combined, greatest}
 use Rattle.combine_table.specs.declared.comb.Comb.{Comb}
 use Rattle.flume_collection.proofs.Members.{at_head, at_tail}
-use Rattle.flume_collection.specs.Calls.{trap_named}
+use Rattle.flume_collection.specs.Calls.{Called, trap_named, trap_of}
 use Rattle.flume_collection.specs.Collection.{Collection, by_key, together, unless_trapped}
 use Rattle.flume_collection.specs.Traps.{trap_set}
 use Rattle.flume_collection.specs.declared.trap.Trap.{Trap}
+use Rattle.script_check.specs.Script.{Function}
+use Rattle.direct_meaning.proofs.CallLemmas.{emitted_all, trapped_all}
 use Rattle.direct_meaning.proofs.StandLemmas.{HasOwn, Source, all_traps, some_made}
-use Rattle.direct_meaning.proofs.TableLemmas.{IsMadeAt}
 use Rattle.direct_meaning.proofs.TrapLemmas.{AreAmong, absorbed, among-append, known_all, traps-append, traps-set, unless-same}
-use Rattle.direct_meaning.specs.Direct.{all_made, combined_by, counted_by, counts_behind, joined_by, made_at, top_by, traps_behind}
+use Rattle.direct_meaning.specs.Calls.{answer_of, calls_on}
+use Rattle.direct_meaning.specs.Direct.{all_made, called_by, combined_by, counted_by, counts_behind, joined_by, made_at, top_by, traps_behind}
 use Rattle.direct_meaning.specs.Made.{IsCollectionOf}
 use Rattle.direct_meaning.specs.declared.kept.Kept.{Kept}
 use Rattle.direct_meaning.specs.inner.Kept.{Keeps, has_traps, is_trapped, kept_in, members_of, unless_behind}
+use Rattle.direct_meaning.specs.inner.Slots.{IsDoneBy, emitted_by, traps_on}
 
 -- ---- the traps of what is made are known
 
@@ -263,7 +266,8 @@ pub together_kept : (kept : List (Option Kept)) (table : List (Option Collection
 together_kept kept table numbers stood result members trapped = record {
   members = members ∙ ap bag_of stood.members;
   trapped = trapped
-      ∙ (stood.trapped ∙ sym (traps-set (flat_map (λ (c : Collection). c.traps) stood.collections)));
+      ∙ (stood.trapped
+      ∙ sym (traps-set (flat_map (λ (c : Collection). c.traps) stood.collections)));
 }
 
 pub together_own : (kept : List (Option Kept)) (table : List (Option Collection))
@@ -272,3 +276,38 @@ pub together_own : (kept : List (Option Kept)) (table : List (Option Collection)
 together_own kept table numbers stood =
     set_known_own table (flat_map (λ (c : Collection). c.traps) stood.collections)
     (trap_set (flat_map (λ (c : Collection). c.traps) stood.collections)) stood.known refl
+
+-- ---- calls
+
+pub called_kept : (origin output : ℕ) (function : Function) (calls : List Called)
+    (result held : Kept) (c : Collection) (before after : List Trap) → Keeps held c
+    → calls_on (answer_of function) c.bag ≡ Some calls
+    → IsDoneBy origin output function held result before after
+    → Keeps result (called_by origin output c.traps calls)
+called_kept origin output function calls result held c before after keeps are done =
+    let answer = answer_of function in
+    let own = (λ i. traps_on origin function (keeps.members i))
+    ∙ trapped_all origin answer c.bag calls are in
+    record {
+      members = done.members
+          ∙ ((λ i. bag_of (flat_map (λ x. emitted_by output (answer x)) (keeps.members i)))
+          ∙ ap bag_of (emitted_all output answer c.bag calls are));
+      trapped = done.trapped
+          ∙ ((λ i. keeps.trapped i || has_traps (own i))
+          ∙ (sym (traps-append c.traps (flat_map (trap_of origin) calls))
+          ∙ sym (traps-set (c.traps ++ flat_map (trap_of origin) calls))));
+    }
+
+pub called_own : (table : List (Option Collection)) (number origin output : ℕ)
+    (function : Function) (calls : List Called) (held : Kept) (c : Collection)
+    → made_at table number ≡ Some c → Keeps held c
+    → calls_on (answer_of function) c.bag ≡ Some calls
+    → HasOwn table (traps_on origin function held.members.items)
+    (called_by origin output c.traps calls)
+called_own table number origin output function calls held c made keeps are =
+    let own : flat_map (trap_of origin) calls ≡ traps_on origin function held.members.items
+    = sym ((λ i. traps_on origin function (keeps.members i))
+    ∙ trapped_all origin (answer_of function) c.bag calls are) in
+    set_own table c.traps (traps_on origin function held.members.items)
+    (trap_set (c.traps ++ flat_map (trap_of origin) calls)) (among_made table number c made)
+    (λ i. trap_set (c.traps ++ own i))

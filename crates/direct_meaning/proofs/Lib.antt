@@ -7,6 +7,10 @@ pub mod MeaningLemmas
 pub mod StandLemmas
 pub mod KeepLemmas
 pub mod CombineLemmas
+pub mod ReadLemmas
+pub mod HereLemmas
 pub mod ArmLemmas
 pub mod ResultLemmas
 pub mod CallLemmas
+pub mod SizeLemmas
+pub mod EndLemmas

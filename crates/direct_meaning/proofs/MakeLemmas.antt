@@ -1,6 +1,6 @@
 -- A needed node makes a collection of its type.
-use Rattle.std.proofs.Common.{◌≡◌, ℕ, zero, suc, ◌+◌, ◌-◌, ◌<◌, Bool, true, false, List, [], ◌∷◌, ◌++◌, length, Option, Some, None, slice_get, refl, sym, ap, ◌∙◌, subst, arith}
-use Rattle.std.specs.List.{All, AllByRecursion as Each, Contains}
+use Rattle.std.proofs.Common.{◌≡◌, ℕ, ◌-◌, ◌<◌, true, List, [], ◌∷◌, ◌++◌, length, Option, Some, slice_get, refl, sym, ap, ◌∙◌, subst}
+use Rattle.std.specs.List.{All, Contains}
 use Rattle.std.specs.Option.{option_and_then, option_map}
 use Rattle.std.proofs.lemmas.List.Elements.{All-contains}
 use Rattle.flume_collection.proofs.Members.{at_head, at_tail}
@@ -20,10 +20,10 @@ use Rattle.direct_meaning.proofs.CallLemmas.{called_is, calls_answered}
 use Rattle.direct_meaning.proofs.PlaceLemmas.{mapped, within}
 use Rattle.direct_meaning.proofs.TableLemmas.{IsMadeAt, all_found, found}
 use Rattle.direct_meaning.proofs.TypeLemmas.{combined_is, counted_is, grouped_is, joined_is, rows_are, together_is, top_is}
-use Rattle.direct_meaning.specs.Direct.{called_by, combined_by, counted_by, done_at, done_by, inputs_behind, joined_at, joined_by, made_as, made_at, rows_as, top_by}
+use Rattle.direct_meaning.specs.Direct.{called_by, combined_by, counted_by, done_at, done_by, inputs_behind, joined_by, made_as, rows_as, top_by}
 use Rattle.direct_meaning.specs.Inputs.{HaveRows, Wanted, wanted_by}
 use Rattle.direct_meaning.specs.Made.{AreMade, IsCollectionOf}
-use Rattle.direct_meaning.specs.Needed.{is_needed, operands}
+use Rattle.script_check.specs.Needed.{is_needed, operands}
 
 -- a node makes a collection of its type
 pub record Makes (script : Script) (number : ℕ) (m : Made) (inputs : List (List Value))
@@ -110,17 +110,19 @@ module _ (script : Script) (before : Named Node) (table : List (Option Collectio
       }
 
   -- what a needed node makes
-  pub makes : All (λ entry. IsWellTyped entry.1) script.functions → (number : ℕ) (m : Made) (type : Ty) (inputs : List (List Value))
+  pub makes : All (λ entry. IsWellTyped entry.1) script.functions → (number : ℕ) (m : Made)
+      (type : Ty) (inputs : List (List Value))
       (wanted : List Wanted) → Fits script.functions before m type
       → HaveRows (wanted_by m type ++ wanted) inputs
       → ((n : ℕ) → Contains (operands m) n → is_needed script n ≡ true)
       → Makes script number m inputs table type
   makes typed number (made.Input file columns) type [] wanted fits have needed = absurd have
-  makes typed number (made.Input file columns) type (rows ∷ inputs) wanted fits have needed = record {
-    collection = rows_as rows;
-    made = refl;
-    is = rows_are type rows have.0;
-  }
+  makes typed number (made.Input file columns) type (rows ∷ inputs) wanted fits have needed =
+      record {
+        collection = rows_as rows;
+        made = refl;
+        is = rows_are type rows have.0;
+      }
   makes typed number (made.Do source called output) type inputs wanted fits have needed =
       let m = made.Do source called output in
       done_makes number source called output type inputs fits.function

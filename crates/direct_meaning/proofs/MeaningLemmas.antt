@@ -1,26 +1,32 @@
 -- A well-formed script over rows of its inputs has a meaning.
-use Rattle.std.proofs.Common.{◌≡◌, ℕ, zero, suc, ◌+◌, ◌<◌, Bool, true, false, cond, List, [], ◌∷◌, ◌++◌, length, Option, Some, None, if◌then◌else◌, refl, sym, ap, ◌∙◌, subst, arith, append_assoc, append-nil, length-append}
-use Rattle.std.specs.List.{Contains, filter, flat_map}
+use Rattle.std.proofs.Common.{◌≡◌, ℕ, zero, suc, Bool, true, false, cond, List, [], ◌∷◌, ◌++◌, length, Option, Some, None, if◌then◌else◌, map, slice_get, refl, sym, ap, ◌∙◌, subst, arith, append_assoc, append-nil, length-append}
+use Rattle.std.specs.Prelude.{IsSomeAnd}
+use Rattle.std.specs.List.{AllByRecursion as Each, Contains, filter, flat_map}
 use Rattle.std.specs.Option.{option_and_then}
+use Rattle.flume_collection.proofs.Members.{at_head, at_tail}
 use Rattle.flume_collection.specs.Collection.{Collection}
 use Rattle.flume_value.specs.declared.value.Value.{Value}
 use Rattle.written_types.specs.Named.{Named}
+use Rattle.script_check.specs.declared.made.Made.{Made}
+use Rattle.script_check.specs.declared.made.Output.{Output}
 use Rattle.script_check.specs.Script.{Node, Script}
-use Rattle.script_laws.specs.WellFormed.{AllFit, Fits, IsWellFormed}
-use Rattle.direct_meaning.proofs.MakeLemmas.{Makes, makes, rows_behind}
+use Rattle.script_laws.proofs.NeededLemmas.{needed_law}
+use Rattle.script_laws.specs.WellFormed.{AllFit, IsWellFormed}
+use Rattle.direct_meaning.proofs.MakeLemmas.{makes, rows_behind}
 use Rattle.direct_meaning.proofs.PlaceLemmas.{at_end}
 use Rattle.direct_meaning.proofs.TableLemmas.{as_many, more_made}
-use Rattle.direct_meaning.specs.Direct.{collections, inputs_behind, made_as, meaning}
+use Rattle.direct_meaning.specs.Direct.{collections, inputs_behind, made_as}
 use Rattle.direct_meaning.specs.Inputs.{AreInputs, HaveRows, Wanted, wanted_by}
-use Rattle.direct_meaning.specs.Made.{AreMade, IsCollectionOf}
-use Rattle.direct_meaning.specs.Needed.{is_needed, numbered, operands}
+use Rattle.direct_meaning.specs.Made.{AreMade}
+use Rattle.script_check.specs.Needed.{is_needed, numbered, operands, outputs_read}
 use Rattle.direct_meaning.specs.inner.Stands.{wanted_from}
 
 -- what the nodes from a number on want, where the first is needed or not
 abbrev wanted_if : Bool → Script → ℕ → List ℕ × Node → Named Node → List Wanted
 wanted_if needed script number entry rest =
     flat_map (λ it. wanted_by it.1.1.made it.1.1.type)
-    (cond needed ((number, entry) ∷ filter (λ it. is_needed script it.0) (numbered (suc number) rest))
+    (cond needed
+    ((number, entry) ∷ filter (λ it. is_needed script it.0) (numbered (suc number) rest))
     (filter (λ it. is_needed script it.0) (numbered (suc number) rest)))
 
 pub wanted_needed : (script : Script) (number : ℕ) (entry : List ℕ × Node) (rest : Named Node)
@@ -66,12 +72,45 @@ pub next_unneeded : (script : Script) (entry : List ℕ × Node) (rest : Named N
 next_unneeded script entry rest inputs table unneeded =
     ap (λ (b : Bool). next b script entry rest inputs table) unneeded
 
+-- ---- what is needed
+
+mapped_at : {A B : Type 0} (f : A → B) (xs : List A) (i : ℕ) (x : A) → slice_get xs i ≡ Some x
+    → slice_get (map f xs) i ≡ Some (f x)
+mapped_at f [] i x is = cc
+mapped_at f (y ∷ xs) zero x is = let same : y ≡ x = cc in ap (λ z. Some (f z)) same
+mapped_at f (y ∷ xs) (suc i) x is = mapped_at f xs i x is
+
 -- what is read by the node of a number that is needed is needed
 pub reads_needed : (script : Script) → IsWellFormed script → (before rest : Named Node)
     (entry : List ℕ × Node) → before ++ entry ∷ rest ≡ script.nodes
     → is_needed script (length before) ≡ true → (n : ℕ) → Contains (operands entry.1.made) n
     → is_needed script n ≡ true
-reads_needed script well before rest entry split needed n reads = ?
+reads_needed script well before rest entry split needed n reads =
+    let number = length before in
+    let at = ap (λ (nodes : Named Node). slice_get nodes number) (sym split)
+    ∙ at_end before entry rest in
+    let how = mapped_at (λ (e : List ℕ × Node). e.1.made) script.nodes number entry at in
+    let path = (needed_law script well number).0 needed in
+    let read = subst (λ (o : Option Made). IsSomeAnd o (λ (m : Made). Contains (operands m) n))
+    (sym how) reads in
+    (needed_law script well n).1 (number ∷ path.0, (read, path.1))
+
+-- what outputs read is needed
+each_read : (script : Script) → IsWellFormed script → (outputs : Named Output)
+    → ((n : ℕ) → Contains (map (λ entry. entry.1.reads) outputs) n
+    → Contains (outputs_read script) n)
+    → Each (λ entry. is_needed script entry.1.reads ≡ true) outputs
+each_read script well [] among = tt
+each_read script well (entry ∷ outputs) among =
+    let others = map (λ (e : List ℕ × Output). e.1.reads) outputs in (
+      (needed_law script well entry.1.reads).1
+          ([], among entry.1.reads (at_head entry.1.reads others)),
+      each_read script well outputs (λ n is. among n (at_tail entry.1.reads others n is)),
+    )
+
+pub outputs_needed : (script : Script) → IsWellFormed script
+    → Each (λ entry. is_needed script entry.1.reads ≡ true) script.outputs
+outputs_needed script well = each_read script well script.outputs (λ n is. is)
 
 one_longer : (before : Named Node) (entry : List ℕ × Node)
     → length (before ++ entry ∷ []) ≡ suc (length before)
@@ -103,7 +142,8 @@ module _ (script : Script) (well : IsWellFormed script) where
       let wanted = wanted_from script (suc (length before)) rest in
       let rows = wanted_needed script (length before) entry rest inputs needed have in
       let same = as_many script before table are in
-      let it = makes script before table are well.functions (length table) m entry.1.type inputs wanted fit.0 rows
+      let it = makes script before table are well.functions (length table) m entry.1.type inputs
+      wanted fit.0 rows
       (reads_needed script well before rest entry split needed) in
       let behind = rows_behind m entry.1.type inputs wanted rows in
       let longer = one_longer before entry in

@@ -1,6 +1,5 @@
 -- How an evaluation stands before a node, and behind it.
-use Rattle.std.proofs.Common.{◌≡◌, ℕ, zero, suc, ◌+◌, ◌<◌, Bool, true, false, List, [], ◌∷◌, ◌++◌, length, Option, Some, None, slice_get, refl, sym, ap, ◌∙◌, subst, arith, append_assoc, append-nil, length-append, add-one}
-use Rattle.std.specs.Prelude.{All}
+use Rattle.std.proofs.Common.{◌≡◌, ℕ, suc, ◌+◌, true, false, List, [], ◌∷◌, ◌++◌, length, Option, Some, None, slice_get, sym, ap, ◌∙◌, subst, arith, append_assoc, append-nil, length-append, add-one}
 use Rattle.std.specs.List.{AllZip, Contains, flat_map}
 use Rattle.std.specs.List.Sorted.{IsSorted}
 use Rattle.std.specs.Option.{option_flatten, option_map}
@@ -23,10 +22,10 @@ use Rattle.direct_meaning.proofs.MeaningLemmas.{next_needed, next_unneeded, read
 use Rattle.direct_meaning.proofs.PlaceLemmas.{mapped, zip_back, zip_more}
 use Rattle.direct_meaning.proofs.TableLemmas.{IsMadeAt, as_many, more_made}
 use Rattle.direct_meaning.proofs.TrapLemmas.{same_front}
-use Rattle.direct_meaning.specs.Direct.{collections, inputs_behind, made_as, made_at, meaning, traps_behind, traps_of}
+use Rattle.direct_meaning.specs.Direct.{collections, inputs_behind, made_as, meaning, traps_behind, traps_of}
 use Rattle.direct_meaning.specs.Inputs.{HaveRows, wanted_by}
-use Rattle.direct_meaning.specs.Made.{AreMade, IsCollectionOf}
-use Rattle.direct_meaning.specs.Needed.{is_needed, operands}
+use Rattle.direct_meaning.specs.Made.{IsCollectionOf}
+use Rattle.script_check.specs.Needed.{is_needed, operands}
 use Rattle.direct_meaning.specs.declared.kept.Kept.{Kept}
 use Rattle.direct_meaning.specs.inner.Kept.{Keeps, KeepsAny}
 use Rattle.direct_meaning.specs.inner.Stands.{Stands, wanted_from}
@@ -170,10 +169,12 @@ module _ (script : Script) (well : IsWellFormed script) (inputs left : List (Lis
   all_split : (stands.before ++ entry ∷ []) ++ behind.others ≡ script.nodes
   all_split = append_assoc stands.before (entry ∷ []) behind.others ∙ split
 
-  wanted_next : (more : List (List Value)) → HaveRows (wanted_from script (suc number) behind.others) more
+  wanted_next : (more : List (List Value))
+      → HaveRows (wanted_from script (suc number) behind.others) more
       → HaveRows (wanted_from script (number + 1) behind.others) more
   wanted_next more have =
-      subst (λ (n : ℕ). HaveRows (wanted_from script n behind.others) more) (sym (add-one number)) have
+      subst (λ (n : ℕ). HaveRows (wanted_from script n behind.others) more)
+      (sym (add-one number)) have
 
   -- behind a node that is not needed
   pub passes : is_needed script number ≡ false
@@ -204,7 +205,8 @@ module _ (script : Script) (well : IsWellFormed script) (inputs left : List (Lis
     own_rows = wanted_needed script number entry behind.others left needed rows
 
     made : Makes script number entry.1.made left stands.table entry.1.type
-    made = makes script stands.before stands.table stands.are well.functions number entry.1.made entry.1.type left
+    made = makes script stands.before stands.table stands.are well.functions number entry.1.made
+        entry.1.type left
         (wanted_from script (suc number) behind.others) fit.0 own_rows reads
 
     is_of : (c : Collection) → made_as script number entry.1.made left stands.table ≡ Some c

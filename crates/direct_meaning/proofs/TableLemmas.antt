@@ -1,7 +1,7 @@
 -- Collections that are made, by their numbers.
-use Rattle.std.proofs.Common.{◌≡◌, ℕ, suc, ◌+◌, ◌<◌, ◌≤◌, Bool, true, false, List, [], ◌∷◌, ◌++◌, length, Option, Some, None, slice_get, refl, sym, ap, ◌∙◌, subst, arith, below_more, length-append}
-use Rattle.std.specs.Prelude.{IfSome, is_some}
-use Rattle.std.specs.List.{AllByRecursion as Each, AllZip, Contains}
+use Rattle.std.proofs.Common.{◌≡◌, ℕ, ◌<◌, true, List, [], ◌∷◌, ◌++◌, length, Option, Some, None, slice_get, refl, sym, ap, ◌∙◌, subst, arith, below_more, length-append}
+use Rattle.std.specs.Prelude.{is_some}
+use Rattle.std.specs.List.{AllByRecursion as Each, Contains}
 use Rattle.std.specs.Option.{option_and_then, option_flatten, option_map}
 use Rattle.flume_collection.proofs.Members.{at_head, at_tail}
 use Rattle.flume_collection.specs.Collection.{Collection}
@@ -12,7 +12,7 @@ use Rattle.script_laws.specs.WellFormed.{members_at}
 use Rattle.direct_meaning.proofs.PlaceLemmas.{at_end, at_front, mapped, zip_at, zip_length, zip_more}
 use Rattle.direct_meaning.specs.Direct.{all_made, made_at}
 use Rattle.direct_meaning.specs.Made.{AreMade, IsCollectionOf, IsMadeFor}
-use Rattle.direct_meaning.specs.Needed.{is_needed}
+use Rattle.script_check.specs.Needed.{is_needed}
 
 -- a collection is made under that number, of members of that type
 pub record IsMadeAt (table : List (Option Collection)) (number : ℕ) (type : Ty) : Type 0 where

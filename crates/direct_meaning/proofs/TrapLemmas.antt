@@ -1,8 +1,7 @@
 -- Sets of traps, and whether there are any.
-use Rattle.std.proofs.Common.{◌≡◌, ◌<◌, ◌+◌, ◌↔◌, Bool, true, false, ◌||◌, List, [], ◌∷◌, ◌++◌, length, refl, sym, ap, ◌∙◌, subst, append_assoc, append-nil, arith, ⊎_elim}
-use Rattle.std.specs.List.{Contains, flat_map}
+use Rattle.std.proofs.Common.{◌≡◌, false, ◌||◌, List, [], ◌∷◌, ◌++◌, refl, sym, ap, ◌∙◌, ⊎_elim}
+use Rattle.std.specs.List.{Contains}
 use Rattle.std.proofs.lemmas.List.Elements.{Contains-append_left, Contains-append_right, Contains-append_cases}
-use Rattle.std.specs.Prelude.{nat_lt}
 use Rattle.flume_value.specs.declared.value.Value.{Value}
 use Rattle.flume_collection.proofs.Members.{no_members, one_set, same_set, set_known, set_sum}
 use Rattle.flume_collection.proofs.Orders.{trap_order}
@@ -80,8 +79,7 @@ known_all known behind among = set_known trap_le trap_order known behind among
 pub same_front : (xs ys own : List Trap) → trap_set xs ≡ trap_set ys
     → trap_set (xs ++ own) ≡ trap_set (ys ++ own)
 same_front xs ys own same =
-    same_set trap_le trap_order (xs ++ own) (ys ++ own) (λ trap.
-    (
+    same_set trap_le trap_order (xs ++ own) (ys ++ own) (λ trap. (
       λ is. ⊎_elim
           (λ first. Contains-append_left ys own trap
           ((one_set trap_le trap_order xs ys same trap).0 first))

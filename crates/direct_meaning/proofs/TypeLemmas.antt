@@ -1,5 +1,5 @@
 -- What each step makes of collections of their types is a collection of its type.
-use Rattle.std.proofs.Common.{◌≡◌, ℕ, List, [], ◌∷◌, ◌++◌, Bool, true, false, cond, Option, Some, None, map, refl, sym, ap, ◌∙◌, subst}
+use Rattle.std.proofs.Common.{◌≡◌, ℕ, List, [], ◌∷◌, ◌++◌, Bool, true, false, cond, Some, None, map, refl, sym, subst}
 use Rattle.std.specs.List.{All, AllByRecursion as Each, flat_map}
 use Rattle.std.specs.List.Sorted.{IsSorted}
 use Rattle.std.proofs.lemmas.List.Elements.{All-from_recursion, All-nil}
@@ -23,7 +23,7 @@ use Rattle.combine_table.specs.declared.comb.Comb.{Comb}
 use Rattle.combine_table.specs.declared.comb.Comb.TheVariants as by
 use Rattle.keyed_steps.proofs.TypedFacts.{all_groups, combined_pairs_have}
 use Rattle.keyed_steps.specs.Types.{TakesType, gives_type}
-use Rattle.bag_steps.specs.Counts.{counted, counted_traps}
+use Rattle.bag_steps.specs.Counts.{counted_traps}
 use Rattle.bag_steps.specs.Joins.{joined}
 use Rattle.bag_steps.proofs.RowOrder.{counted-IsSorted, greatest-IsSorted, joined-IsSorted}
 use Rattle.bag_steps.proofs.TypedRows.{counted-typed, greatest-typed, joined-typed}

@@ -5,7 +5,6 @@ use Rattle.std.specs.List.{flat_map, slice_get}
 use Rattle.std.specs.Option.{option_flatten}
 use Rattle.flume_value.specs.Bag.{bag_of}
 use Rattle.flume_value.specs.declared.value.Value.{Value}
-use Rattle.flume_types.specs.declared.types.Ty.{Ty}
 use Rattle.bag_groups.specs.Combining.{combined_each, traps_of_each}
 use Rattle.combine_table.specs.Combinations.{combined, greatest}
 use Rattle.combine_table.specs.declared.comb.Comb.{Comb}
@@ -21,7 +20,7 @@ use Rattle.script_check.specs.declared.made.Made.TheVariants as made
 use Rattle.script_check.specs.Script.{Function, Node, Script}
 use Rattle.script_laws.specs.WellFormed.{function_at}
 use Rattle.direct_meaning.specs.Calls.{answer_of, calls_on}
-use Rattle.direct_meaning.specs.Needed.{is_needed}
+use Rattle.script_check.specs.Needed.{is_needed}
 
 -- ---- one equation for each way in which a collection is made
 

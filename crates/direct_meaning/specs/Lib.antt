@@ -1,6 +1,6 @@
-pub mod Needed
 pub mod Calls
 pub mod Direct
 pub mod Inputs
 pub mod Made
 pub mod inner
+pub mod Evaluated

@@ -36,7 +36,14 @@ pub(crate) fn done(
         → IsDone (number - output) output f source.now traps.old.items result traps.new.items }
 {
     let origin = number.saturating_sub(output) as u32;
-    called(alloc, origin, &program.function(function).fun, output, source, traps)
+    called(
+        alloc,
+        origin,
+        &program.function(function).fun,
+        output,
+        source,
+        traps,
+    )
 }
 
 /// What the calls of a function on the members of a collection emit to one output. Their traps go

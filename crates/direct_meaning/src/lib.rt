@@ -4,7 +4,14 @@
 
 mod calls;
 mod combining;
+mod evaluation;
 mod flatten;
 mod kept;
+mod laws;
 mod node;
 mod steps;
+mod told;
+
+pub use evaluation::direct;
+pub use laws::meaning_law;
+pub use told::Direct;

@@ -4,7 +4,7 @@ ghost use Rattle.std.specs.Vec.Iter.{into_iter_items};
 ghost use Rattle.flume_value.specs.Bag.{bag_of};
 ghost use Rattle.flume_value.specs.declared.value.Value.{Value as Value_};
 ghost use Rattle.script_laws.specs.WellFormed.{IsWellFormed};
-ghost use Rattle.direct_meaning.specs.Needed.{is_needed};
+ghost use Rattle.script_check.specs.Needed.{is_needed};
 ghost use Rattle.direct_meaning.specs.inner.Stands.{Stands};
 
 use crate::calls::done;
@@ -31,15 +31,15 @@ pub(crate) fn make(
     requires well_formed { IsWellFormed program.now.script }
     requires stands { (rows : List (List Value_))
         × Stands program.now.script rows number (into_iter_items inputs.old) table.now
-            traps.old.items }
+        traps.old.items }
     requires below { number < length program.now.script.nodes }
     requires few { number < 2 ^ 32 }
     requires needed { IsTrue (is_needed program.now.script number) }
     ensures { (rows : List (List Value_))
         → Stands program.now.script rows number (into_iter_items inputs.old) table.now
-            traps.old.items
+        traps.old.items
         → IfOk result (λ kept. Stands program.now.script rows (number + 1)
-            (into_iter_items inputs.new) (table.now ++ Some kept ∷ []) traps.new.items) }
+        (into_iter_items inputs.new) (table.now ++ Some kept ∷ []) traps.new.items) }
 {
     match &program.node(number).made {
         Made::Input { .. } => rows(inputs),

@@ -60,7 +60,7 @@ pub(crate) fn joined(alloc: Global, left: &Kept, right: &Kept) -> Result<Kept, A
     requires right_ascending { IsSorted value_cmp right.now.members.items }
     ensures members { IfOk result (λ kept. kept.members.items
         ≡ unless_behind (left.now.trapped || right.now.trapped)
-            (joined_of left.now.members.items right.now.members.items)) }
+        (joined_of left.now.members.items right.now.members.items)) }
     ensures trapped { IfOk result (λ kept.
         kept.trapped ≡ (left.now.trapped || right.now.trapped)) }
 {
@@ -78,7 +78,7 @@ pub(crate) fn topped(alloc: Global, number: u32, source: &Kept) -> Result<Kept, 
     requires { IsSorted value_cmp source.now.members.items }
     ensures members { IfOk result (λ kept. kept.members.items
         ≡ unless_behind source.now.trapped
-            (greatest_of number (bag_of source.now.members.items))) }
+        (greatest_of number (bag_of source.now.members.items))) }
     ensures trapped { IfOk result (λ kept. kept.trapped ≡ source.now.trapped) }
 {
     let members = if source.trapped {

@@ -1,5 +1,5 @@
 -- Each statement's rules keep what is well formed so far.
-use Rattle.std.proofs.Common.{◌≡◌, ℕ, ◌<◌, nat_lt, List, [], ◌∷◌, length, Ok, subst}
+use Rattle.std.proofs.Common.{◌≡◌, ℕ, ◌<◌, ◌≤◌, nat_lt, List, [], ◌∷◌, length, Ok, subst, arith, length-append}
 use Rattle.std.specs.List.{All}
 use Rattle.std.proofs.lemmas.Bool.Decides.{Decides-ltb}
 use Rattle.std.proofs.lemmas.List.Elements.{All-push, All-nil}
@@ -10,7 +10,7 @@ use Rattle.flume_grammar.specs.declared.tree.Form.TheVariants as form
 use Rattle.flume_grammar.specs.declared.tree.Function.{Function as WrittenFunction}
 use Rattle.flume_grammar.specs.declared.tree.Operation.{Operation}
 use Rattle.flume_grammar.specs.declared.tree.Statement.{Statement}
-use Rattle.flume_grammar.specs.declared.fault.ScriptKind.TheVariants.{NotFlat, NoOutput}
+use Rattle.flume_grammar.specs.declared.fault.ScriptKind.TheVariants.{NotFlat, NoOutput, TooMany}
 use Rattle.written_types.specs.Answer.{unless, or_fault}
 use Rattle.written_types.specs.Named.{fresh}
 use Rattle.written_types.specs.Written.{shallow, whole_type}
@@ -29,14 +29,18 @@ record IsGood (s : State) : Type 0 where
   pub functions : All (λ (entry : List ℕ × Function). IsWellTyped entry.1) s.functions
   pub nodes : AllFit s.functions [] s.nodes
   pub outputs : All (λ (entry : List ℕ × Output). HasColumns s.nodes entry.1) s.outputs
+  pub few : length s.nodes ≤ 256
 
--- a node more
-node-more : (s : State) (name : List ℕ) (node : Node) → IsGood s
-    → Fits s.functions s.nodes node.made node.type → IsGood (with_node name node s)
-node-more s name node good fits = record {
+-- a node more, where there is room for it
+node-more : (line : ℕ) (u : Unit {0}) (s : State) (name : List ℕ) (node : Node) → IsGood s
+    → spec.room line 256 s.nodes ≡ Ok u → Fits s.functions s.nodes node.made node.type
+    → IsGood (with_node name node s)
+node-more line u s name node good room fits =
+    let below = (Decides-ltb (length s.nodes) 256).0 (holds line TooMany _ u room) in record {
   functions = good.functions;
   nodes = fit-push s.functions [] s.nodes (name, node) good.nodes fits;
   outputs = outputs-kept s.nodes ((name, node) ∷ []) s.outputs good.outputs;
+  few = omega (arith, below, length-append s.nodes ((name, node) ∷ []));
 }
 
 module _ (line : ℕ) (s after : State) (good : IsGood s) where
@@ -49,6 +53,7 @@ module _ (line : ℕ) (s after : State) (good : IsGood s) where
         functions = good.functions;
         nodes = good.nodes;
         outputs = good.outputs;
+        few = good.few;
       })
 
   input-good : (name : List ℕ) (type : tree.Type) (file : List ℕ)
@@ -59,7 +64,7 @@ module _ (line : ℕ) (s after : State) (good : IsGood s) where
       let t = both (whole_type line type s.types) _ after new.then in
       let columns = both (or_fault line NotFlat (input_columns_of t.part)) _ after t.then in
       subst IsGood (ok-same _ after columns.then)
-      (node-more s name _ good (there line NotFlat _ columns.part columns.first))
+      (node-more line few.part s name _ good few.first (there line NotFlat _ columns.part columns.first))
 
   function-good : (function : WrittenFunction) → spec.rule_function line function s ≡ Ok after
       → IsGood after
@@ -76,6 +81,7 @@ module _ (line : ℕ) (s after : State) (good : IsGood s) where
             good.functions body.first;
         nodes = all-fit-more s.functions _ [] s.nodes good.nodes;
         outputs = good.outputs;
+        few = good.few;
       })
 
   let-good : (name : List ℕ) (by : Operation) → spec.rule_let line name by s ≡ Ok after
@@ -86,7 +92,7 @@ module _ (line : ℕ) (s after : State) (good : IsGood s) where
       let node = both (made_by line by s) _ after new.then in
       let low = both (shallow line node.part.type) _ after node.then in
       subst IsGood (ok-same _ after low.then)
-      (node-more s name node.part good (made-fits line s by node.part node.first))
+      (node-more line few.part s name node.part good few.first (made-fits line s by node.part node.first))
 
   output-good : (name file : List ℕ) → spec.rule_output line name file s ≡ Ok after → IsGood after
   output-good name file e =
@@ -105,6 +111,7 @@ module _ (line : ℕ) (s after : State) (good : IsGood s) where
               reads = is-read line s name one.part one.first;
               columns = there line NotFlat _ columns.part columns.first;
             });
+        few = good.few;
       })
 
   rule-good : (form : Form) → spec.rule line form s ≡ Ok after → IsGood after
@@ -127,6 +134,7 @@ nothing-good = record {
   functions = All-nil (λ (entry : List ℕ × Function). IsWellTyped entry.1);
   nodes = tt;
   outputs = All-nil (λ (entry : List ℕ × Output). HasColumns [] entry.1);
+  few = omega arith;
 }
 
 well-formed-from : (s : State) → IsGood s → 0 < length s.outputs → IsWellFormed (script_from s)
@@ -135,6 +143,7 @@ well-formed-from s good some = record {
   nodes = good.nodes;
   outputs = good.outputs;
   some = some;
+  few = good.few;
 }
 
 pub well-formed : (statements : List Statement) (script : Script)

@@ -116,3 +116,4 @@ pub record IsWellFormed (script : Script) : Type 0 where
   pub nodes : AllFit script.functions [] script.nodes
   pub outputs : All (λ entry. HasColumns script.nodes entry.1) script.outputs
   pub some : 0 < length script.outputs
+  pub few : length script.nodes ≤ 256

@@ -1,9 +1,11 @@
 -- What is kept of collections: their members, and whether a trap is behind them.
-use Rattle.std.specs.Prelude.{◌≡◌, ℕ, Bool, true, false, List, [], ◌∷◌, Option, Some, None, ⊤, slice_get}
+use Rattle.std.specs.Prelude.{◌≡◌, ◌-◌, ◌^◌, ◌++◌, ℕ, Bool, true, false, List, [], ◌∷◌, Option, Some, None, ⊤, length, min, slice_get}
 use Rattle.std.specs.Option.{option_flatten}
 use Rattle.flume_value.specs.declared.value.Value.{Value}
 use Rattle.flume_collection.specs.Collection.{Collection}
 use Rattle.flume_collection.specs.declared.trap.Trap.{Trap}
+use Rattle.written_types.specs.Named.{Named}
+use Rattle.script_check.specs.Script.{Node}
 use Rattle.direct_meaning.specs.declared.kept.Kept.{Kept}
 
 abbrev pub has_traps : List Trap → Bool
@@ -43,3 +45,18 @@ is_trapped (Some kept) = kept.trapped
 abbrev pub bag_kept : Option Kept → Option (List Value)
 bag_kept None = None
 bag_kept (Some kept) = Some kept.members.items
+
+-- how many members are kept, as far as 64 bits count
+abbrev pub size_kept : Kept → ℕ
+size_kept kept = min (length kept.members.items) (2 ^ 64 - 1)
+
+-- the name and the size of a collection, where it is kept
+abbrev pub size_line : List ℕ → Option Kept → List (List ℕ × ℕ)
+size_line name None = []
+size_line name (Some kept) = (name, size_kept kept) ∷ []
+
+-- the name and the size of each collection that is kept, in order of these nodes
+abbrev pub sizes_kept : Named Node → List (Option Kept) → List (List ℕ × ℕ)
+sizes_kept [] table = []
+sizes_kept (entry ∷ nodes) [] = []
+sizes_kept (entry ∷ nodes) (kept ∷ table) = size_line entry.0 kept ++ sizes_kept nodes table

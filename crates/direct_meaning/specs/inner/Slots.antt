@@ -1,5 +1,5 @@
 -- The calls of a function with slots, and what is read off each.
-use Rattle.std.specs.Prelude.{◌≡◌, ◌||◌, ◌++◌, ℕ, List, [], Option, Some, None, Result, AllocError, IfOk}
+use Rattle.std.specs.Prelude.{◌≡◌, ◌||◌, ◌++◌, ℕ, List, [], Option, Some, None, Result, IfOk}
 use Rattle.std.specs.List.{flat_map}
 use Rattle.flume_value.specs.Bag.{bag_of}
 use Rattle.flume_value.specs.declared.value.Value.{Value}
@@ -42,7 +42,7 @@ pub record IsDoneBy (origin output : ℕ) (function : Function) (source result :
       ≡ (source.trapped || has_traps (traps_on origin function source.members.items))
 
 -- the same, where there is memory
-abbrev pub IsDone : ℕ → ℕ → Function → Kept → List Trap → Result Kept AllocError → List Trap
+abbrev pub IsDone : {E : Type 0} → ℕ → ℕ → Function → Kept → List Trap → Result Kept E → List Trap
     → Type 0
 IsDone origin output function source before result after =
     IfOk result (λ kept. IsDoneBy origin output function source kept before after)

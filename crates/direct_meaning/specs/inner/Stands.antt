@@ -11,7 +11,7 @@ use Rattle.script_laws.specs.WellFormed.{AllFit}
 use Rattle.direct_meaning.specs.Direct.{collections, meaning, traps_of}
 use Rattle.direct_meaning.specs.Inputs.{HaveRows, Wanted, wanted_by}
 use Rattle.direct_meaning.specs.Made.{AreMade}
-use Rattle.direct_meaning.specs.Needed.{is_needed, numbered}
+use Rattle.script_check.specs.Needed.{is_needed, numbered}
 use Rattle.direct_meaning.specs.declared.kept.Kept.{Kept}
 use Rattle.direct_meaning.specs.inner.Kept.{KeepsAny}
 

@@ -1,11 +1,13 @@
-use Rattle.std.proofs.Common.{◌≡◌, ℕ, ◌+◌, ◌++◌, ◌∷◌, ◌∙◌, [], List, Some, ap, subst, sym}
+use Rattle.std.proofs.Common.{ℕ, ◌+◌, ◌++◌, ◌∷◌, ◌∙◌, [], List, Some, ap, subst, sym}
 use Rattle.std.specs.List.{flat_map, list_any}
 use Rattle.std.specs.Vec.Iter.{into_iter_items}
+use Rattle.std.proofs.lemmas.Result.{IfOk-weaker}
 use Rattle.flume_value.specs.Bag.{bag_of}
 use Rattle.flume_collection.specs.declared.trap.Trap.{Trap}
 use Rattle.script_check.specs.declared.made.Made.TheVariants as made
-use Rattle.direct_meaning.proofs.ArmLemmas.{any_ascending, combine_goes, combine_read, count_goes, count_read, flatten_goes, group_goes, group_read, groups_read, here_at, input_goes, input_left, join_goes, left_read, pairs_read, right_read, table_ascending, top_goes, top_read}
-use Rattle.direct_meaning.proofs.KeepLemmas.{own_combined}
+use Rattle.direct_meaning.proofs.ArmLemmas.{combine_goes, combine_read, count_goes, count_read, do_goes, do_read, flatten_goes, group_goes, group_read, input_goes, input_left, join_goes, left_read, right_read, top_goes, top_read}
+use Rattle.direct_meaning.proofs.HereLemmas.{here_at}
+use Rattle.direct_meaning.proofs.ReadLemmas.{any_ascending, called_read, function_within, groups_read, pairs_read, table_ascending}
 use Rattle.direct_meaning.proofs.ResultLemmas.{if_all, if_both}
 use Rattle.direct_meaning.specs.inner.Kept.{is_trapped, kept_in, members_of}
 use Rattle.direct_meaning.specs.inner.Stands.{Stands}
@@ -17,8 +19,8 @@ pub rows-requires : goal.rows-requires
 rows-requires c =
     input_left c.in-Input.file c.in-Input.columns
     (here_at c.args.program.now.known.types c.node.result.now
-    (made.Input c.in-Input.file c.in-Input.columns) c.requires.well_formed c.requires.stands.1 c.requires.needed
-    c.node.ensures.is c.in-Input.is)
+    (made.Input c.in-Input.file c.in-Input.columns) c.requires.well_formed c.requires.stands.1
+    c.requires.needed c.node.ensures.is c.in-Input.is)
 
 pub returns-in-Input : goal.returns-in-Input
 returns-in-Input c rows stands =
@@ -33,28 +35,28 @@ returns-in-Input c rows stands =
 
 -- ---- groups
 
-pub kept_at-requires-in-Group : goal.kept_at-requires-in-Group
-kept_at-requires-in-Group c =
+pub kept_at-requires : goal.kept_at-requires
+kept_at-requires c =
     let here = here_at c.args.program.now.known.types c.node.result.now
-    (made.Group c.in-Group.source) c.requires.well_formed c.requires.stands.1 c.requires.needed
-    c.node.ensures.is c.in-Group.is in
+    (made.Group c.in-Group.source) c.requires.well_formed c.requires.stands.1
+    c.requires.needed c.node.ensures.is c.in-Group.is in
     let it = (group_read c.in-Group.source here).source in (it.held, it.at)
 
 pub grouped-requires-clause-pairs : goal.grouped-requires-clause-pairs
 grouped-requires-clause-pairs c =
     let here = here_at c.args.program.now.known.types c.node.result.now
-    (made.Group c.in-Group.source) c.requires.well_formed c.requires.stands.1 c.requires.needed
-    c.node.ensures.is c.in-Group.is in
+    (made.Group c.in-Group.source) c.requires.well_formed c.requires.stands.1
+    c.requires.needed c.node.ensures.is c.in-Group.is in
     pairs_read c.args.table.now here.stands.table c.in-Group.source
-    c.kept_at-in-Group.result.now c.kept_at-in-Group.ensures (group_read c.in-Group.source here)
+    c.kept_at.result.now c.kept_at.ensures (group_read c.in-Group.source here)
 
 pub grouped-requires-clause-ascending : goal.grouped-requires-clause-ascending
 grouped-requires-clause-ascending c =
     let here = here_at c.args.program.now.known.types c.node.result.now
-    (made.Group c.in-Group.source) c.requires.well_formed c.requires.stands.1 c.requires.needed
-    c.node.ensures.is c.in-Group.is in
+    (made.Group c.in-Group.source) c.requires.well_formed c.requires.stands.1
+    c.requires.needed c.node.ensures.is c.in-Group.is in
     table_ascending c.args.table.now here.stands.table c.in-Group.source
-    c.kept_at-in-Group.result.now c.kept_at-in-Group.ensures (group_read c.in-Group.source here)
+    c.kept_at.result.now c.kept_at.ensures (group_read c.in-Group.source here)
 
 pub returns-in-Group : goal.returns-in-Group
 returns-in-Group c rows stands =
@@ -62,7 +64,7 @@ returns-in-Group c rows stands =
     (made.Group c.in-Group.source) c.requires.well_formed stands c.requires.needed
     c.node.ensures.is c.in-Group.is in
     if_both c.grouped.result _ _ _
-    (group_goes c.in-Group.source here c.kept_at-in-Group.result.now c.kept_at-in-Group.ensures)
+    (group_goes c.in-Group.source here c.kept_at.result.now c.kept_at.ensures)
     c.grouped.ensures.members c.grouped.ensures.trapped
 
 -- ---- combinations
@@ -70,15 +72,15 @@ returns-in-Group c rows stands =
 pub kept_at-requires-in-Combine : goal.kept_at-requires-in-Combine
 kept_at-requires-in-Combine c =
     let here = here_at c.args.program.now.known.types c.node.result.now
-    (made.Combine c.in-Combine.source c.in-Combine.by) c.requires.well_formed c.requires.stands.1 c.requires.needed
-    c.node.ensures.is c.in-Combine.is in
+    (made.Combine c.in-Combine.source c.in-Combine.by) c.requires.well_formed c.requires.stands.1
+    c.requires.needed c.node.ensures.is c.in-Combine.is in
     let it = (combine_read c.in-Combine.source c.in-Combine.by here).source in (it.held, it.at)
 
 pub combined-requires : goal.combined-requires
 combined-requires c =
     let here = here_at c.args.program.now.known.types c.node.result.now
-    (made.Combine c.in-Combine.source c.in-Combine.by) c.requires.well_formed c.requires.stands.1 c.requires.needed
-    c.node.ensures.is c.in-Combine.is in
+    (made.Combine c.in-Combine.source c.in-Combine.by) c.requires.well_formed c.requires.stands.1
+    c.requires.needed c.node.ensures.is c.in-Combine.is in
     groups_read c.args.table.now here.stands.table c.in-Combine.source
     c.kept_at-in-Combine.result.now c.kept_at-in-Combine.ensures c.in-Combine.by
     (combine_read c.in-Combine.source c.in-Combine.by here)
@@ -86,8 +88,8 @@ combined-requires c =
 pub returns-in-Combine : goal.returns-in-Combine
 returns-in-Combine c rows stands =
     let here = here_at c.args.program.now.known.types c.node.result.now
-    (made.Combine c.in-Combine.source c.in-Combine.by) c.requires.well_formed stands c.requires.needed
-    c.node.ensures.is c.in-Combine.is in
+    (made.Combine c.in-Combine.source c.in-Combine.by) c.requires.well_formed stands
+    c.requires.needed c.node.ensures.is c.in-Combine.is in
     let held = c.kept_at-in-Combine.result.now in
     if_all c.combined.result _ _ _ _
     (λ kept members traps trapped.
@@ -111,7 +113,8 @@ returns-in-Flatten c rows stands =
     (λ kept members trapped.
     flatten_goes c.in-Flatten.sources here kept
     (members ∙ ap (λ (l : List ℕ).
-    bag_of (flat_map (λ source. members_of (kept_in c.args.table.now source)) l)) c.as_slice.ensures)
+    bag_of (flat_map (λ source. members_of (kept_in c.args.table.now source)) l))
+    c.as_slice.ensures)
     (trapped ∙ ap (λ (l : List ℕ).
     list_any (λ source. is_trapped (kept_in c.args.table.now source)) l) c.as_slice.ensures))
     c.together.ensures.members c.together.ensures.trapped
@@ -121,15 +124,15 @@ returns-in-Flatten c rows stands =
 pub kept_at-requires-in-Count : goal.kept_at-requires-in-Count
 kept_at-requires-in-Count c =
     let here = here_at c.args.program.now.known.types c.node.result.now
-    (made.Count c.in-Count.source) c.requires.well_formed c.requires.stands.1 c.requires.needed
-    c.node.ensures.is c.in-Count.is in
+    (made.Count c.in-Count.source) c.requires.well_formed c.requires.stands.1
+    c.requires.needed c.node.ensures.is c.in-Count.is in
     let it = (count_read c.in-Count.source here).source in (it.held, it.at)
 
 pub counted-requires : goal.counted-requires
 counted-requires c =
     let here = here_at c.args.program.now.known.types c.node.result.now
-    (made.Count c.in-Count.source) c.requires.well_formed c.requires.stands.1 c.requires.needed
-    c.node.ensures.is c.in-Count.is in
+    (made.Count c.in-Count.source) c.requires.well_formed c.requires.stands.1
+    c.requires.needed c.node.ensures.is c.in-Count.is in
     any_ascending c.args.table.now here.stands.table c.in-Count.source
     c.kept_at-in-Count.result.now c.kept_at-in-Count.ensures (count_read c.in-Count.source here)
 
@@ -149,30 +152,30 @@ returns-in-Count c rows stands =
 pub kept_at-requires-in-Join : goal.kept_at-requires-in-Join
 kept_at-requires-in-Join c =
     let here = here_at c.args.program.now.known.types c.node.result.now
-    (made.Join c.in-Join.left c.in-Join.right) c.requires.well_formed c.requires.stands.1 c.requires.needed
-    c.node.ensures.is c.in-Join.is in
+    (made.Join c.in-Join.left c.in-Join.right) c.requires.well_formed c.requires.stands.1
+    c.requires.needed c.node.ensures.is c.in-Join.is in
     let it = (left_read c.in-Join.left c.in-Join.right here).source in (it.held, it.at)
 
 pub kept_at-requires-in-Join-2 : goal.kept_at-requires-in-Join-2
 kept_at-requires-in-Join-2 c =
     let here = here_at c.args.program.now.known.types c.node.result.now
-    (made.Join c.in-Join.left c.in-Join.right) c.requires.well_formed c.requires.stands.1 c.requires.needed
-    c.node.ensures.is c.in-Join.is in
+    (made.Join c.in-Join.left c.in-Join.right) c.requires.well_formed c.requires.stands.1
+    c.requires.needed c.node.ensures.is c.in-Join.is in
     let it = (right_read c.in-Join.left c.in-Join.right here).source in (it.held, it.at)
 
 pub joined-requires-clause-left_pairs : goal.joined-requires-clause-left_pairs
 joined-requires-clause-left_pairs c =
     let here = here_at c.args.program.now.known.types c.node.result.now
-    (made.Join c.in-Join.left c.in-Join.right) c.requires.well_formed c.requires.stands.1 c.requires.needed
-    c.node.ensures.is c.in-Join.is in
+    (made.Join c.in-Join.left c.in-Join.right) c.requires.well_formed c.requires.stands.1
+    c.requires.needed c.node.ensures.is c.in-Join.is in
     pairs_read c.args.table.now here.stands.table c.in-Join.left c.kept_at-in-Join.result.now
     c.kept_at-in-Join.ensures (left_read c.in-Join.left c.in-Join.right here)
 
 pub joined-requires-clause-left_ascending : goal.joined-requires-clause-left_ascending
 joined-requires-clause-left_ascending c =
     let here = here_at c.args.program.now.known.types c.node.result.now
-    (made.Join c.in-Join.left c.in-Join.right) c.requires.well_formed c.requires.stands.1 c.requires.needed
-    c.node.ensures.is c.in-Join.is in
+    (made.Join c.in-Join.left c.in-Join.right) c.requires.well_formed c.requires.stands.1
+    c.requires.needed c.node.ensures.is c.in-Join.is in
     table_ascending c.args.table.now here.stands.table c.in-Join.left
     c.kept_at-in-Join.result.now c.kept_at-in-Join.ensures
     (left_read c.in-Join.left c.in-Join.right here)
@@ -180,16 +183,16 @@ joined-requires-clause-left_ascending c =
 pub joined-requires-clause-right_pairs : goal.joined-requires-clause-right_pairs
 joined-requires-clause-right_pairs c =
     let here = here_at c.args.program.now.known.types c.node.result.now
-    (made.Join c.in-Join.left c.in-Join.right) c.requires.well_formed c.requires.stands.1 c.requires.needed
-    c.node.ensures.is c.in-Join.is in
+    (made.Join c.in-Join.left c.in-Join.right) c.requires.well_formed c.requires.stands.1
+    c.requires.needed c.node.ensures.is c.in-Join.is in
     pairs_read c.args.table.now here.stands.table c.in-Join.right c.kept_at-in-Join-2.result.now
     c.kept_at-in-Join-2.ensures (right_read c.in-Join.left c.in-Join.right here)
 
 pub joined-requires-clause-right_ascending : goal.joined-requires-clause-right_ascending
 joined-requires-clause-right_ascending c =
     let here = here_at c.args.program.now.known.types c.node.result.now
-    (made.Join c.in-Join.left c.in-Join.right) c.requires.well_formed c.requires.stands.1 c.requires.needed
-    c.node.ensures.is c.in-Join.is in
+    (made.Join c.in-Join.left c.in-Join.right) c.requires.well_formed c.requires.stands.1
+    c.requires.needed c.node.ensures.is c.in-Join.is in
     table_ascending c.args.table.now here.stands.table c.in-Join.right
     c.kept_at-in-Join-2.result.now c.kept_at-in-Join-2.ensures
     (right_read c.in-Join.left c.in-Join.right here)
@@ -209,15 +212,15 @@ returns-in-Join c rows stands =
 pub kept_at-requires-in-Top : goal.kept_at-requires-in-Top
 kept_at-requires-in-Top c =
     let here = here_at c.args.program.now.known.types c.node.result.now
-    (made.Top c.in-Top.number c.in-Top.source) c.requires.well_formed c.requires.stands.1 c.requires.needed
-    c.node.ensures.is c.in-Top.is in
+    (made.Top c.in-Top.number c.in-Top.source) c.requires.well_formed c.requires.stands.1
+    c.requires.needed c.node.ensures.is c.in-Top.is in
     let it = (top_read c.in-Top.number c.in-Top.source here).source in (it.held, it.at)
 
 pub topped-requires : goal.topped-requires
 topped-requires c =
     let here = here_at c.args.program.now.known.types c.node.result.now
-    (made.Top c.in-Top.number c.in-Top.source) c.requires.well_formed c.requires.stands.1 c.requires.needed
-    c.node.ensures.is c.in-Top.is in
+    (made.Top c.in-Top.number c.in-Top.source) c.requires.well_formed c.requires.stands.1
+    c.requires.needed c.node.ensures.is c.in-Top.is in
     any_ascending c.args.table.now here.stands.table c.in-Top.source
     c.kept_at-in-Top.result.now c.kept_at-in-Top.ensures
     (top_read c.in-Top.number c.in-Top.source here)
@@ -231,3 +234,42 @@ returns-in-Top c rows stands =
     (top_goes c.in-Top.number c.in-Top.source here c.kept_at-in-Top.result.now
     c.kept_at-in-Top.ensures)
     c.topped.ensures.members c.topped.ensures.trapped
+
+-- ---- calls
+
+pub kept_at-source-requires : goal.kept_at-source-requires
+kept_at-source-requires c =
+    let here = here_at c.args.program.now.known.types c.node.result.now
+    (made.Do c.in-Do.source c.in-Do.function c.in-Do.output) c.requires.well_formed
+    c.requires.stands.1 c.requires.needed c.node.ensures.is c.in-Do.is in
+    let it = (do_read c.in-Do.source c.in-Do.function c.in-Do.output here).source in
+    (it.held, it.at)
+
+pub done-requires-clause-below : goal.done-requires-clause-below
+done-requires-clause-below c =
+    let here = here_at c.args.program.now.known.types c.node.result.now
+    (made.Do c.in-Do.source c.in-Do.function c.in-Do.output) c.requires.well_formed
+    c.requires.stands.1 c.requires.needed c.node.ensures.is c.in-Do.is in
+    let it = do_read c.in-Do.source c.in-Do.function c.in-Do.output here in
+    function_within c.args.program.now.script.functions c.in-Do.function it.function it.at
+
+pub done-requires-clause-typed : goal.done-requires-clause-typed
+done-requires-clause-typed c =
+    let here = here_at c.args.program.now.known.types c.node.result.now
+    (made.Do c.in-Do.source c.in-Do.function c.in-Do.output) c.requires.well_formed
+    c.requires.stands.1 c.requires.needed c.node.ensures.is c.in-Do.is in
+    called_read c.args.table.now here.stands.table c.in-Do.source c.kept_at-source.result.now
+    c.kept_at-source.ensures c.args.program.now.script c.in-Do.function c.in-Do.output
+    (do_read c.in-Do.source c.in-Do.function c.in-Do.output here)
+
+pub returns-in-Do : goal.returns-in-Do
+returns-in-Do c rows stands =
+    let here = here_at c.args.program.now.known.types c.node.result.now
+    (made.Do c.in-Do.source c.in-Do.function c.in-Do.output) c.requires.well_formed stands
+    c.requires.needed c.node.ensures.is c.in-Do.is in
+    let it = do_read c.in-Do.source c.in-Do.function c.in-Do.output here in
+    IfOk-weaker c.done.result _ _
+    (λ kept done.
+    do_goes c.in-Do.source c.in-Do.function c.in-Do.output here c.kept_at-source.result.now
+    c.kept_at-source.ensures kept c.done.new.traps.items done)
+    (c.done.ensures it.function it.at)

@@ -1,0 +1,36 @@
+-- What the evaluation of a program comes to, by the script that the program is.
+use Rattle.std.specs.Prelude.{◌≡◌, ℕ, List, Option, Some, slice_get}
+use Rattle.std.specs.List.{All}
+use Rattle.std.specs.Option.{option_flatten}
+use Rattle.flume_value.specs.declared.value.Value.{Value}
+use Rattle.flume_types.specs.Typing.{AllHave}
+use Rattle.flume_types.specs.declared.types.Ty.{Ty}
+use Rattle.flume_collection.specs.Collection.{Collection}
+use Rattle.script_check.specs.declared.made.Output.{Output}
+use Rattle.script_check.specs.Script.{Script}
+use Rattle.script_laws.specs.WellFormed.{members_at}
+use Rattle.direct_meaning.specs.Direct.{made_at, meaning, sizes_of, traps_of}
+use Rattle.direct_meaning.specs.declared.told.Direct.{Direct}
+
+-- what is at a number's place, where there is something
+abbrev pub bag_at : List (Option (List Value)) → ℕ → Option (List Value)
+bag_at bags number = option_flatten (slice_get bags number)
+
+-- The members that an output writes are those of the collection that it reads, of the node's type.
+pub record IsWritten (script : Script) (made : List (Option Collection))
+    (bags : List (Option (List Value))) (output : Output) : Type 0 where
+  pub collection : Collection
+  pub reads : made_at made output.reads ≡ Some collection
+  pub bag : bag_at bags output.reads ≡ Some collection.bag
+  pub type : Ty
+  pub has : members_at script.nodes output.reads ≡ Some type
+  pub typed : AllHave type collection.bag
+
+-- The evaluation over these inputs is the meaning of the script: the members of what each output
+-- reads, the names and sizes of all collections, and all traps.
+pub record IsDirect (script : Script) (inputs : List (List Value)) (it : Direct) : Type 0 where
+  pub made : List (Option Collection)
+  pub means : meaning script inputs ≡ Some made
+  pub written : All (λ entry. IsWritten script made it.bags.items entry.1) script.outputs
+  pub sizes : it.sizes.items ≡ sizes_of script made
+  pub traps : it.traps.items ≡ traps_of made
