@@ -1,8 +1,7 @@
 -- One collection more: of the numbers of nodes that give collections, and of nodes.
-use Rattle.std.proofs.Common.{◌≡◌, ℕ, suc, zero, ◌+◌, ◌<◌, List, [], ◌∷◌, ◌++◌, length, get_or, drop, refl, arith, ap, ◌∙◌, sym, append_assoc, append-nil, add-one, drop-cons}
+use Rattle.std.proofs.Common.{◌≡◌, ℕ, suc, zero, ◌+◌, ◌<◌, List, [], ◌∷◌, ◌++◌, length, get_or, drop, refl, ap, ◌∙◌, sym, append_assoc, append-nil, add-one, drop-cons}
 use Rattle.std.specs.Prelude.{Option, Some, None}
 use Rattle.std.proofs.Math.Seq.{drop-length}
-use Rattle.std.proofs.lemmas.Option.{slice_get-get_or}
 use Rattle.std.specs.Prelude.{map, slice_get}
 use Rattle.std.specs.Option.{option_map}
 use Rattle.exec_graph.specs.declared.graph.Entry.{Entry}
@@ -86,3 +85,5 @@ pub nodes_all : (gives : ℕ → Place) (script : Script) (done all : List Entry
 nodes_all gives script done all i source n end h =
     sym (append-nil done)
     ∙ ap (λ rest. done ++ rest) (sym (nodes_done gives script i source n end)) ∙ h
+
+pub ruleset next_nodes = (nodes_step, wanted_length)

@@ -1,11 +1,12 @@
 -- How the collection of a number is made, where it is needed.
-use Rattle.std.proofs.Common.{◌≡◌, ℕ, suc, zero, ◌+◌, ◌<◌, Bool, true, false, List, [], ◌∷◌, length, get_or, refl, arith, ap, ◌∙◌, sym, subst, add-zero}
+use Rattle.std.proofs.Common.{◌≡◌, ℕ, suc, zero, ◌+◌, true, false, [], ◌∷◌, length, get_or, refl, arith, ap, ◌∙◌, sym, subst, add-zero}
 use Rattle.std.specs.Prelude.{Option, Some, None, if◌then◌else◌, slice_get}
 use Rattle.std.specs.Option.{option_map}
 use Rattle.written_types.specs.Named.{Named}
 use Rattle.script_check.specs.declared.made.Made.{Made}
 use Rattle.script_check.specs.Script.{Node, Script}
-use Rattle.graph_build.specs.Wanted.{is_needed, wanted, wanted_from, wanted_at}
+use Rattle.script_check.specs.Needed.{is_needed}
+use Rattle.graph_build.specs.Wanted.{wanted, wanted_from, wanted_at}
 
 -- how a node is made, where it is needed
 abbrev pub where_needed : Script → ℕ → Node → Option Made

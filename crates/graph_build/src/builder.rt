@@ -39,7 +39,7 @@ pub fn build(alloc: Global, program: &Program) -> Result<Graph, AllocError>
 }
 
 /// The nodes of all collections.
-#[tactic(auto, using(crate::proofs::StepLemmas::nodes_step, crate::proofs::StepLemmas::nodes_done, crate::proofs::WantedLemmas::wanted_length))]
+#[tactic(auto, using(crate::proofs::StepLemmas::next_nodes))]
 fn nodes_of(
     alloc: Global,
     program: &Program,

@@ -51,7 +51,6 @@ pub(crate) fn inputs_of(made: &Made) -> u32
 }
 
 /// The number of the node that gives each collection.
-#[tactic(auto, using(crate::proofs::StepLemmas::giving_step, crate::proofs::StepLemmas::giving_done, crate::proofs::WantedLemmas::wanted_length))]
 pub(crate) fn giving(alloc: Global, program: &Program, count: u32) -> Result<Vec<u32>, AllocError>
     requires { count ≡ length program.now.script.nodes }
     ensures { IfOk result (λ giving. giving.items ≡ spec.giving program.now.script) }
@@ -64,8 +63,8 @@ pub(crate) fn giving(alloc: Global, program: &Program, count: u32) -> Result<Vec
     Ok(giving)
 }
 
-/// Adds the number of the last node of a collection, whose first has the number `next`. It gives the
-/// number behind them.
+/// Adds the number of the last node of a collection, whose first node has the number `next`. It
+/// gives the number behind its nodes.
 fn push_giving(
     program: &Program,
     number: u32,

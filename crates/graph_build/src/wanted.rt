@@ -4,12 +4,6 @@ ghost use Rattle.graph_build.specs.Wanted as spec;
 
 use script_check::{Made, Program};
 
-fn is_needed(_program: &Program, _number: usize) -> bool
-    ensures { result ≡ spec.is_needed _program.now.script _number }
-{
-    _number == 0
-}
-
 /// How the collection of a number is made, where it is needed.
 pub(crate) fn wanted_at(program: &Program, number: u32) -> Option<&Made>
     requires { number < length program.now.script.nodes }
@@ -17,7 +11,7 @@ pub(crate) fn wanted_at(program: &Program, number: u32) -> Option<&Made>
 {
     let number = number as usize;
     let node = program.node(number);
-    if is_needed(program, number) {
+    if program.is_needed(number) {
         Some(&node.made)
     } else {
         None

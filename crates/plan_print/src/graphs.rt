@@ -19,7 +19,12 @@ pub fn graph_text(alloc: Global, program: &Program, graph: &Graph) -> Result<Vec
     let origins = origins(alloc, program)?;
     let mut text = Vec::new(alloc);
     text.extend_from_slice(b"graph\n")?;
-    push_nodes(&mut text, program, origins.as_slice(), graph.nodes.as_slice())?;
+    push_nodes(
+        &mut text,
+        program,
+        origins.as_slice(),
+        graph.nodes.as_slice(),
+    )?;
     push_outputs(&mut text, program, graph.outputs.as_slice())?;
     Ok(text)
 }
@@ -177,11 +182,7 @@ fn push_place(text: &mut Vec<u8>, place: Place) -> Result<(), AllocError>
 }
 
 /// Adds the lines of the script's outputs, which are read at these places.
-fn push_outputs(
-    text: &mut Vec<u8>,
-    program: &Program,
-    places: &[Place],
-) -> Result<(), AllocError>
+fn push_outputs(text: &mut Vec<u8>, program: &Program, places: &[Place]) -> Result<(), AllocError>
     ensures { OnOk result (text.new.items ≡ text.old.items
         ++ spec.output_lines program.now.script program.now.script.outputs places.now) }
 {

@@ -1,0 +1,9 @@
+pub mod Passing
+pub mod Counting
+pub mod Topping
+pub mod Joining
+pub mod Values
+pub mod Meeting
+pub mod Settling
+pub mod Tables
+pub mod Made

@@ -1,0 +1,218 @@
+-- The collections of a script meet their equations.
+use Rattle.std.proofs.Common.{◌≡◌, ℕ, zero, suc, ◌+◌, ◌-◌, Bool, true, false, List, [], ◌∷◌, ◌++◌, map, drop, length, get_or, Option, Some, None, Ok, refl, sym, ap, ◌∙◌, subst, arith, append_assoc, append-nil, length-append, add-zero}
+use Rattle.std.specs.Prelude.{option_map, option_and_then, if◌then◌else◌}
+use Rattle.std.specs.List.{AllByRecursion, flat_map}
+use Rattle.flume_value.specs.declared.value.Value.{Value}
+use Rattle.flume_value.specs.Bag.{bag_of}
+use Rattle.flume_collection.specs.Traps.{trap_set}
+use Rattle.flume_collection.specs.Calls.{Called, emissions, passed, trap_of}
+use Rattle.flume_collection.specs.Collection.{Collection, by_key, together}
+use Rattle.combine_table.specs.declared.comb.Comb.{Comb}
+use Rattle.std.proofs.lemmas.List.{get_or-drop}
+use Rattle.exec_graph.specs.Calls.{called}
+use Rattle.exec_graph.specs.Meaning.{or_nothing, through}
+use Rattle.exec_graph.specs.World.{World}
+use Rattle.exec_graph.specs.declared.step.Does.TheVariants as does
+use Rattle.script_check.specs.declared.made.Made.{Made}
+use Rattle.script_check.specs.declared.made.Made.TheVariants as made
+use Rattle.script_check.specs.Script.{Function, Script}
+use Rattle.script_laws.specs.WellFormed.{function_at}
+use Rattle.direct_meaning.specs.Calls.{answer_of, calls_on}
+use Rattle.direct_meaning.specs.Direct.{all_made, called_by, combined_by, counted_by, done_at, done_by, joined_at, joined_by, made_as, made_at, rows_as, top_by}
+use Rattle.graph_build.specs.Wanted.{operands}
+use Rattle.build_law.specs.Worlds.{answered_by, or_silent, world_of}
+use Rattle.build_law.proofs.Meeting.{IsMadeBy, IsSettled}
+use Rattle.build_law.proofs.Passing.{only_label}
+use Rattle.build_law.proofs.Settling.{called_settled, combined_settled, counted_settled, groups_settled, joined_settled, rows_settled, together_settled, top_settled}
+use Rattle.build_law.proofs.Tables.{and_then_some, map_some}
+
+-- ---- calls
+
+calls_mapped : (answer : Value → Option Called) (xs : List Value) (calls : List Called)
+    → calls_on answer xs ≡ Some calls → map (λ x. or_silent (answer x)) xs ≡ calls
+calls_mapped answer [] calls h = cc
+calls_mapped answer (x ∷ xs) calls h =
+    let (one, first, rest) =
+    and_then_some (λ called. option_map (λ calls. called ∷ calls) (calls_on answer xs)) (answer x)
+    calls h in
+    let (others, behind, same) = map_some (λ calls. one ∷ calls) (calls_on answer xs) calls rest in
+    (λ i. or_silent (first i) ∷ calls_mapped answer xs others behind i) ∙ same
+
+flat_mapped : {A B C : Type 0} (g : B → List C) (f : A → B) (xs : List A)
+    → flat_map g (map f xs) ≡ flat_map (λ x. g (f x)) xs
+flat_mapped g f [] = refl
+flat_mapped g f (x ∷ xs) = ap (λ ys. g (f x) ++ ys) (flat_mapped g f xs)
+
+-- what a function makes is what its step gives
+call_is : (w : World) (n f : ℕ) (answer : Value → Option Called) (c : Collection)
+    (calls : List Called) → w.called f ≡ (λ x. or_silent (answer x))
+    → calls_on answer c.bag ≡ Some calls
+    → called_by n 0 c.traps calls ≡ through w (only_label n true (does.Call f)) c
+unfolding called
+call_is w n f answer c calls world h =
+    ap (called_by n 0 c.traps) (sym (calls_mapped answer c.bag calls h))
+    ∙ (λ i. record {
+      bag = bag_of (flat_mapped (emissions 0) (λ x. or_silent (answer x)) c.bag i);
+      traps = trap_set (c.traps
+          ++ flat_mapped (trap_of n) (λ x. or_silent (answer x)) c.bag i);
+    })
+    ∙ (λ i. passed n 0 (sym world i) c)
+
+-- what is made of flattened collections
+all_at : (table : List (Option Collection)) (at : ℕ → Collection) (js : List ℕ)
+    (cs : List Collection)
+    → ((j : ℕ) (c : Collection) → made_at table j ≡ Some c → at j ≡ c)
+    → all_made table js ≡ Some cs → map at js ≡ cs
+all_at table at [] cs same h = cc
+all_at table at (j ∷ js) cs same h =
+    let (c, first, rest) =
+    and_then_some (λ c. option_map (λ cs. c ∷ cs) (all_made table js)) (made_at table j) cs h in
+    let (others, behind, is) = map_some (λ cs. c ∷ cs) (all_made table js) cs rest in
+    (λ i. same j c first i ∷ all_at table at js others same behind i) ∙ is
+
+-- a collection by a function has its first output
+abbrev pub IsFirstOutput : Made → Type 0
+IsFirstOutput (made.Do source function output) = output ≡ 0
+IsFirstOutput _ = Unit {0}
+
+-- ---- one node
+
+abbrev pub AreMade : List (Option Collection) → List ℕ → Type 0
+AreMade table js = AllByRecursion (λ j. (c : Collection) × (made_at table j ≡ Some c)) js
+
+all_are_made : (table : List (Option Collection)) (js : List ℕ) (cs : List Collection)
+    → all_made table js ≡ Some cs → AreMade table js
+all_are_made table [] cs h = tt
+all_are_made table (j ∷ js) cs h =
+    let (c, first, rest) =
+    and_then_some (λ c. option_map (λ cs. c ∷ cs) (all_made table js)) (made_at table j) cs h in
+    let (others, behind, is) = map_some (λ cs. c ∷ cs) (all_made table js) cs rest in
+    ((c, first), all_are_made table js others behind)
+
+-- a node meets its equation, what it makes is settled, and what it reads is made
+pub record IsMade (w : World) (at : ℕ → Collection) (table : List (Option Collection))
+    (n source : ℕ) (mk : Made) (c : Collection) : Type 0 where
+  pub is : IsMadeBy w at n source mk
+  pub settled : IsSettled c
+  pub read : AreMade table (operands mk)
+
+module _ (script : Script) (all : List (List Value)) (at : ℕ → Collection)
+    (table : List (Option Collection))
+    (same : (j : ℕ) (c : Collection) → made_at table j ≡ Some c → at j ≡ c)
+    (settled : (j : ℕ) (c : Collection) → made_at table j ≡ Some c → IsSettled c)
+    (n source : ℕ) (c : Collection) (here : at n ≡ c) where
+  abbrev Is : Made → Type 0
+  Is mk = IsMade (world_of script all) at table n source mk c
+
+  rows_here : (rows : List Value) (rest : List (List Value)) → rows ∷ rest ≡ drop source all
+      → get_or all source [] ≡ rows
+  rows_here rows rest ahead =
+      ap (λ k. get_or all k []) (sym (add-zero source)) ∙ sym (get_or-drop source all 0 [])
+      ∙ ap (λ xs. get_or xs 0 []) (sym ahead)
+
+  by_function : (input f output : ℕ) → output ≡ 0
+      → option_and_then (λ function. done_at (n - output) output function input table)
+      (function_at script.functions f) ≡ Some c
+      → Is (made.Do input f output)
+  by_function input f output first h =
+      let (function, calls_it, done) =
+      and_then_some (λ function. done_at (n - output) output function input table)
+      (function_at script.functions f) c h in
+      let (d, read, done_d) =
+      and_then_some (done_by (n - output) output function) (made_at table input) c done in
+      let (calls, called_calls, is) =
+      map_some (called_by (n - output) output d.traps) (calls_on (answer_of function) d.bag) c
+      done_d in
+      let w : World = world_of script all in
+      let zero_off : n - output ≡ n = omega (arith, first) in
+      let e : called_by n 0 d.traps calls ≡ c =
+      (λ i. called_by (sym zero_off i) (sym first i) d.traps calls) ∙ is in
+      record {
+        is = here ∙ sym e
+            ∙ call_is w n f (answer_of function) d calls (λ i x. answered_by (calls_it i) x)
+            called_calls
+            ∙ ap (through w (only_label n true (does.Call f))) (sym (same input d read));
+        settled = subst IsSettled is (called_settled (n - output) output d.traps calls);
+        read = ((d, read), tt);
+      }
+
+  by_group : (input : ℕ) → option_map by_key (made_at table input) ≡ Some c
+      → Is (made.Group input)
+  by_group input h =
+      let (d, read, is) = map_some by_key (made_at table input) c h in
+      record {
+        is = here ∙ sym is ∙ ap by_key (sym (same input d read));
+        settled = subst IsSettled is (groups_settled d (settled input d read));
+        read = ((d, read), tt);
+      }
+
+  by_combining : (input : ℕ) (k : Comb)
+      → option_map (combined_by n k) (made_at table input) ≡ Some c → Is (made.Combine input k)
+  by_combining input k h =
+      let (d, read, is) = map_some (combined_by n k) (made_at table input) c h in
+      record {
+        is = here ∙ sym is ∙ ap (combined_by n k) (sym (same input d read));
+        settled = subst IsSettled is (combined_settled n k d);
+        read = ((d, read), tt);
+      }
+
+  by_flattening : (inputs : List ℕ) → option_map together (all_made table inputs) ≡ Some c
+      → Is (made.Flatten inputs)
+  by_flattening inputs h =
+      let (cs, read, is) = map_some together (all_made table inputs) c h in
+      record {
+        is = here ∙ sym is ∙ ap together (sym (all_at table at inputs cs same read));
+        settled = subst IsSettled is (together_settled cs);
+        read = all_are_made table inputs cs read;
+      }
+
+  by_counting : (input : ℕ) → option_map (counted_by n) (made_at table input) ≡ Some c
+      → Is (made.Count input)
+  by_counting input h =
+      let (d, read, is) = map_some (counted_by n) (made_at table input) c h in
+      record {
+        is = here ∙ sym is ∙ ap (counted_by n) (sym (same input d read));
+        settled = subst IsSettled is (counted_settled n d (settled input d read));
+        read = ((d, read), tt);
+      }
+
+  by_joining : (left right : ℕ) → joined_at left right table ≡ Some c → Is (made.Join left right)
+  by_joining left right h =
+      let (a, left_read, rest) =
+      and_then_some (λ a. option_map (joined_by a) (made_at table right)) (made_at table left) c h
+      in
+      let (b, right_read, is) = map_some (joined_by a) (made_at table right) c rest in
+      record {
+        is = here ∙ sym is
+            ∙ (λ i. joined_by (sym (same left a left_read) i) (sym (same right b right_read) i));
+        settled = subst IsSettled is (joined_settled a b);
+        read = ((a, left_read), ((b, right_read), tt));
+      }
+
+  by_top : (many input : ℕ) → option_map (top_by many) (made_at table input) ≡ Some c
+      → Is (made.Top many input)
+  by_top many input h =
+      let (d, read, is) = map_some (top_by many) (made_at table input) c h in
+      record {
+        is = here ∙ sym is ∙ ap (top_by many) (sym (same input d read));
+        settled = subst IsSettled is (top_settled many d (settled input d read));
+        read = ((d, read), tt);
+      }
+
+  pub is_made : (mk : Made) (rem : List (List Value)) → rem ≡ drop source all
+      → IsFirstOutput mk → made_as script n mk rem table ≡ Some c → Is mk
+  is_made (made.Input file columns) [] ahead first h = cc
+  is_made (made.Input file columns) (rows ∷ rem) ahead first h =
+      let e : rows_as rows ≡ c = cc in
+      record {
+        is = here ∙ sym e ∙ ap rows_as (sym (rows_here rows rem ahead));
+        settled = subst IsSettled e (rows_settled rows);
+        read = tt;
+      }
+  is_made (made.Do input f output) rem ahead first h = by_function input f output first h
+  is_made (made.Group input) rem ahead first h = by_group input h
+  is_made (made.Combine input k) rem ahead first h = by_combining input k h
+  is_made (made.Flatten inputs) rem ahead first h = by_flattening inputs h
+  is_made (made.Count input) rem ahead first h = by_counting input h
+  is_made (made.Join left right) rem ahead first h = by_joining left right h
+  is_made (made.Top many input) rem ahead first h = by_top many input h

@@ -1,0 +1,24 @@
+-- The world that the graph of a script means something in.
+use Rattle.std.specs.Prelude.{List, [], Option, Some, None, Ok, slice_index_or}
+use Rattle.flume_value.specs.declared.value.Value.{Value}
+use Rattle.flume_collection.specs.Calls.{Called}
+use Rattle.direct_meaning.specs.Calls.{answer_of}
+use Rattle.exec_graph.specs.World.{World}
+use Rattle.script_check.specs.Script.{Function, Script}
+use Rattle.script_laws.specs.WellFormed.{function_at}
+
+-- an answer; a call that has none gives nothing
+abbrev pub or_silent : Option Called → Called
+or_silent None = Ok []
+or_silent (Some called) = called
+
+abbrev pub answered_by : Option Function → Value → Called
+answered_by None x = Ok []
+answered_by (Some function) x = or_silent (answer_of function x)
+
+-- the rows of the needed inputs of a script, in their order, and what its functions answer
+abbrev pub world_of : Script → List (List Value) → World
+world_of script inputs = record {
+  rows = λ r. slice_index_or inputs r [];
+  called = λ f x. answered_by (function_at script.functions f) x;
+}
