@@ -19,7 +19,7 @@ others v w = not (value_eq w v)
 
 -- ---- a list of distinct members that rises is one for its members
 
-Rises-filter : (t : Value → Bool) (xs : List Value) → Rises xs → Rises (filter t xs)
+pub Rises-filter : (t : Value → Bool) (xs : List Value) → Rises xs → Rises (filter t xs)
 Rises-filter t [] r = tt
 Rises-filter t (x ∷ xs) r =
     elim (t x) as (λ b. Rises (cond b (x ∷ filter t xs) (filter t xs))) [
