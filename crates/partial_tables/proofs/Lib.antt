@@ -1,0 +1,6 @@
+pub mod Adding
+pub mod Equals
+pub mod Keys
+pub mod Merged
+pub mod Regrouping
+pub mod Standing

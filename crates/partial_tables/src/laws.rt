@@ -1,0 +1,15 @@
+ghost use Rattle.std.specs.Prelude.{◌≡◌, ◌++◌, []};
+ghost use Rattle.combine_table.specs.declared.comb.Comb.{Comb};
+ghost use Rattle.partial_tables.specs.Tables.{Pairs};
+ghost use Rattle.partial_tables.specs.Merges.{StandFor, merged_by_key, accumulated};
+
+/// Accumulators that stand for parts of the pairs stand together for all of them, and merged by
+/// key are the accumulators of the keys' values: however the pairs were shared out, and however
+/// often a table was emptied.
+pub fn partials_law()
+    ensures none { (c : Comb) → StandFor c [] [] }
+    ensures sum { (c : Comb) (partials pairs more others : Pairs) → StandFor c partials pairs →
+        StandFor c more others → StandFor c (partials ++ more) (pairs ++ others) }
+    ensures merged { (c : Comb) (partials pairs : Pairs) → StandFor c partials pairs →
+        merged_by_key c partials ≡ accumulated c pairs }
+{}

@@ -1,0 +1,20 @@
+//! Tables of accumulators by key: how pairs are combined in parts, key by key.
+//!
+//! `Partials` is a table with room for so many keys, in which the accumulators of a key are
+//! merged. `lift_pairs` makes of pairs accumulators that stand for them, by a table that is
+//! emptied whenever it is full: a key may have several, and that is all that bounded room costs.
+//! `merge_by_key` merges any such accumulators into one for each key.
+//!
+//! `StandFor` says what accumulators stand for. What stands for parts of the pairs stands together
+//! for all of them, and is merged to the accumulators of the keys' values (`partials_law`).
+#![tactic(auto)]
+
+mod laws;
+mod lift;
+mod merge;
+mod table;
+
+pub use laws::partials_law;
+pub use lift::lift_pairs;
+pub use merge::merge_by_key;
+pub use table::{AddFault, Partial, Partials};

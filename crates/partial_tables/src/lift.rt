@@ -1,0 +1,80 @@
+ghost use Rattle.std.specs.Prelude.{◌≡◌, ◌≤◌, ◌++◌, ◌∷◌, [], All, Some, IfOk, OnOk};
+ghost use Rattle.bag_groups.specs.Pairs.{pairs_of};
+ghost use Rattle.combine_table.specs.Accumulators.{HasShape};
+ghost use Rattle.partial_tables.specs.Tables.{HaveShape};
+ghost use Rattle.partial_tables.specs.Merges.{StandFor, IsCombinable};
+ghost use Rattle.partial_tables.specs.inner.Lifted.{lifted as lifted_of};
+ghost use Rattle.partial_tables.specs.inner.Regrouped.{Regrouped};
+
+use crate::table::{AddFault, Partial, Partials};
+use combine_table::{Comb, lift};
+use flume_value::Value;
+use std::alloc::{AllocError, Global};
+
+/// How many keys the table has room for.
+const ROOM: u64 = 1024;
+
+/// Accumulators that stand for the pairs. They are merged in a table of bounded room, which is
+/// emptied whenever it is full, so a key may have several.
+pub fn lift_pairs(alloc: Global, comb: Comb, pairs: Vec<Value>) -> Result<Vec<Partial>, AllocError>
+    requires { All (IsCombinable comb) pairs.items }
+    ensures { IfOk result (λ partials. StandFor comb partials.items (pairs_of pairs.items)) }
+{
+    let mut table = Partials::new(alloc, comb, ROOM);
+    let mut partials = Vec::new(alloc);
+    for pair in pairs {
+        let (key, acc) = lifted(alloc, comb, pair)?;
+        put(alloc, &mut table, &mut partials, key, acc)?;
+    }
+    let mut rest = table.take(alloc)?;
+    partials.append(&mut rest)?;
+    Ok(partials)
+}
+
+// The key of a pair, and the accumulator of its value.
+fn lifted(alloc: Global, comb: Comb, pair: Value) -> Result<Partial, AllocError>
+    requires { IsCombinable comb pair }
+    ensures lifted { IfOk result (λ partial. lifted_of comb pair ≡ Some partial) }
+    ensures shape { IfOk result (λ partial. HasShape comb partial.1) }
+{
+    if let Value::Rec(fields) = pair {
+        let mut fields = fields.into_vec();
+        if let (Some(value), Some(key)) = (fields.pop(), fields.pop()) {
+            return Ok((key, lift(alloc, comb, &value)?));
+        }
+    }
+    unreachable!()
+}
+
+// Adds an accumulator to the table. If that is full, what it has goes behind the others first.
+fn put(
+    alloc: Global,
+    table: &mut Partials,
+    others: &mut Vec<Partial>,
+    key: Value,
+    acc: Value,
+) -> Result<(), AllocError>
+    requires room { 1 ≤ table.old.room }
+    requires shape { HasShape table.old.comb acc }
+    ensures comb { OnOk result (table.new.comb ≡ table.old.comb) }
+    ensures room { OnOk result (table.new.room ≡ table.old.room) }
+    ensures regrouped { OnOk result
+        (HaveShape table.old.comb (others.old.items ++ table.old.partials) →
+        Regrouped table.old.comb
+        ((others.old.items ++ table.old.partials) ++ (key, acc) ∷ [])
+        (others.new.items ++ table.new.partials)) }
+{
+    match table.add(alloc, key, acc) {
+        Ok(()) => Ok(()),
+        Err(AddFault::Memory) => Err(AllocError),
+        Err(AddFault::Full { key, acc }) => {
+            let mut full = table.take(alloc)?;
+            others.append(&mut full)?;
+            match table.add(alloc, key, acc) {
+                Ok(()) => Ok(()),
+                Err(AddFault::Memory) => Err(AllocError),
+                Err(AddFault::Full { .. }) => unreachable!(),
+            }
+        }
+    }
+}

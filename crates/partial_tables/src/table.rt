@@ -1,0 +1,159 @@
+ghost use Rattle.std.specs.Prelude.{◌≡◌, ◌<◌, ◌++◌, ◌∷◌, [], map, length, IsFalse, IfOk, IfErr, OnOk};
+ghost use Rattle.std.specs.List.Sorted.{IsPermutation, IsSorted};
+ghost use Rattle.flume_value.specs.Order.{value_cmp};
+ghost use Rattle.combine_table.specs.Accumulators.{HasShape, merged};
+ghost use Rattle.partial_tables.specs.Tables.{has_key, added, holding, HaveShape, HaveDistinctKeys, IsRefused};
+
+use combine_table::{Comb, merge};
+use flume_value::Value;
+use indexmap::IndexMap;
+use std::alloc::{AllocError, Global};
+use std::marker::Model;
+use std::mem::replace;
+
+/// A key, and an accumulator that stands for some of its values.
+pub type Partial = (Value, Value);
+
+/// The accumulators of one combiner by key, in order of first addition, with room for so many.
+/// Contracts see them as a `Table`; no key stands twice, and all have the combiner's shape.
+#[derive(Drop)]
+pub struct Partials {
+    comb: Comb,
+    room: u64,
+    table: IndexMap<Value, Value>,
+}
+
+impl Model for Partials {
+    ghost use Rattle.partial_tables.specs.Tables.{Table, table_code, HaveShape, HaveDistinctKeys};
+
+    ghost Value = { Table };
+
+    ghost coded = { table_code };
+
+    ghost view = { λ p. record { comb = p.comb; room = p.room; partials = p.table.entries } };
+
+    ghost invariant = { λ p.
+        HaveShape p.comb p.table.entries × HaveDistinctKeys p.table.entries };
+}
+
+/// Why an accumulator was not added.
+#[derive(Drop)]
+pub enum AddFault {
+    /// The key is new, and there is no room for it. Both are handed back.
+    Full {
+        /// The key.
+        key: Value,
+        /// Its accumulator.
+        acc: Value,
+    },
+    /// Want of memory. The table is empty.
+    Memory,
+}
+
+impl Partials {
+    /// A table with nothing in it. It takes no memory.
+    pub fn new(alloc: Global, comb: Comb, room: u64) -> Partials
+        ensures { result ≡ record { comb = comb; room = room; partials = [] } }
+    {
+        Partials {
+            comb,
+            room,
+            table: IndexMap::new(alloc),
+        }
+    }
+
+    /// Adds an accumulator. It is merged with that of its key, or stands last where the key is
+    /// new; a new key is refused exactly where there is no room.
+    pub fn add(&mut self, alloc: Global, key: Value, acc: Value) -> Result<(), AddFault>
+        requires shape { HasShape self.old.comb acc }
+        ensures added { OnOk result
+            (self.new ≡ holding self.old (added self.old.comb self.old.partials key acc)) }
+        ensures room { OnOk result
+            (IsFalse (has_key key self.old.partials) → length self.old.partials < self.old.room) }
+        ensures refused { IfErr result (IsRefused self.old key acc self.new) }
+    {
+        match self.table.get_index_of(&key) {
+            Some(at) => match merge_into(alloc, self.comb, &mut self.table[at], acc) {
+                Ok(()) => Ok(()),
+                Err(AllocError) => {
+                    clear(alloc, &mut self.table);
+                    Err(AddFault::Memory)
+                }
+            },
+            None => {
+                if self.table.len() as u64 >= self.room {
+                    return Err(AddFault::Full { key, acc });
+                }
+                match put_last(&mut self.table, key, acc) {
+                    Ok(()) => Ok(()),
+                    Err(AllocError) => {
+                        clear(alloc, &mut self.table);
+                        Err(AddFault::Memory)
+                    }
+                }
+            }
+        }
+    }
+
+    /// Takes all that the table has, in order. The table is empty afterwards, also where memory is
+    /// wanting.
+    pub fn take(&mut self, alloc: Global) -> Result<Vec<Partial>, AllocError>
+        ensures taken { IfOk result (λ partials. partials.items ≡ self.old.partials) }
+        ensures shape { IfOk result (λ partials. HaveShape self.old.comb partials.items) }
+        ensures distinct { IfOk result (λ partials. HaveDistinctKeys partials.items) }
+        ensures emptied { self.new ≡ holding self.old [] }
+    {
+        let table = replace(&mut self.table, IndexMap::new(alloc));
+        listed(alloc, table)
+    }
+
+    /// All that the table has, keys ascending.
+    pub fn into_ascending(self, alloc: Global) -> Result<Vec<Partial>, AllocError>
+        ensures same { IfOk result (λ partials. IsPermutation self.partials partials.items) }
+        ensures ascending { IfOk result (λ partials.
+            IsSorted value_cmp (map (λ p. p.0) partials.items)) }
+        ensures shape { IfOk result (λ partials. HaveShape self.comb partials.items) }
+        ensures distinct { IfOk result (λ partials. HaveDistinctKeys partials.items) }
+    {
+        let Partials { table, .. } = self;
+        let mut table = table;
+        table.sort_unstable_keys()?;
+        listed(alloc, table)
+    }
+}
+
+fn clear(alloc: Global, table: &mut IndexMap<Value, Value>)
+    ensures { table.new.entries ≡ [] }
+{
+    *table = IndexMap::new(alloc);
+}
+
+fn put_last(table: &mut IndexMap<Value, Value>, key: Value, acc: Value) -> Result<(), AllocError>
+    requires { IsFalse (has_key key table.old.entries) }
+    ensures { OnOk result (table.new.entries ≡ table.old.entries ++ (key, acc) ∷ []) }
+{
+    match table.insert(key, acc) {
+        Ok(_) => Ok(()),
+        Err(_) => Err(AllocError),
+    }
+}
+
+fn merge_into(alloc: Global, comb: Comb, slot: &mut Value, acc: Value) -> Result<(), AllocError>
+    requires slot { HasShape comb slot.old }
+    requires acc { HasShape comb acc }
+    ensures { OnOk result (slot.new ≡ merged comb slot.old acc) }
+{
+    let old = replace(slot, Value::Bool(false));
+    *slot = merge(alloc, comb, old, acc)?;
+    Ok(())
+}
+
+fn listed(alloc: Global, table: IndexMap<Value, Value>) -> Result<Vec<Partial>, AllocError>
+    ensures { IfOk result (λ partials. partials.items ≡ table.entries) }
+{
+    let mut partials = Vec::with_capacity(alloc, table.len())?;
+    for (key, acc) in table {
+        partials.push((key, acc))?;
+    }
+    Ok(partials)
+}

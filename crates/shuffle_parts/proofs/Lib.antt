@@ -1,0 +1,5 @@
+pub mod Gathered
+pub mod Parting
+pub mod Passing
+pub mod Ranged
+pub mod Whole

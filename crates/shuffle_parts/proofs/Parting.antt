@@ -1,0 +1,91 @@
+-- Pairs that are parted one after another.
+use Rattle.std.proofs.Common.{◌≡◌, ◌<◌, ◌+◌, ℕ, true, false, cond, List, [], ◌∷◌, ◌++◌, length, get_or, Some, sym, ap, ◌∙◌, subst, arith, append-nil}
+use Rattle.std.specs.Prelude.{slice_set, ◌==◌}
+use Rattle.std.specs.List.{AllZip}
+use Rattle.std.specs.Option.{option_map_or}
+use Rattle.std.proofs.Math.ListN.{length-set}
+use Rattle.std.proofs.lemmas.List.Elements.{filter-append}
+use Rattle.std.proofs.lemmas.List.FromFn.{length-map-range_with_len, get_or-map-range_with_len, map-range_with_len_more}
+use Rattle.flume_value.specs.declared.value.Value.{Value}
+use Rattle.flume_value.specs.Partitions.{partition_of}
+use Rattle.bag_groups.specs.Pairs.{key_of, pairs_of}
+use Rattle.combine_table.specs.declared.comb.Comb.{Comb}
+use Rattle.partial_tables.specs.Tables.{Pairs}
+use Rattle.partial_tables.specs.Merges.{StandFor}
+use Rattle.shuffle_parts.specs.Partitions.{is_in, falls_in, part_of, parted}
+use Rattle.shuffle_parts.proofs.Ranged.{set_ranged}
+
+-- ---- so many empty lists
+
+pub none_more : (n : ℕ) (parts grown : List (List Value)) (part : List Value)
+    → parts ≡ parted n [] → grown ≡ parts ++ part ∷ [] → part ≡ [] → grown ≡ parted (n + 1) []
+none_more n parts grown part e g none =
+    let nothing : ℕ → List Value = λ p. [] in
+    g ∙ (λ i. e i ++ none i ∷ []) ∙ sym (map-range_with_len_more nothing 0 n n (omega arith))
+
+pub length-parted : (n : ℕ) (pairs : List Value) (parts : List (List Value))
+    → parts ≡ parted n pairs → length parts ≡ n
+length-parted n pairs parts e =
+    ap length e ∙ length-map-range_with_len (λ p. part_of n p pairs) 0 n
+
+-- ---- a pair more
+
+falls_by : (n p at : ℕ) (pair key : Value) → key_of pair ≡ Some key → at ≡ partition_of key n
+    → falls_in n p pair ≡ (at == p)
+falls_by n p at pair key k is =
+    ap (λ o. option_map_or (is_in n p) o false) k ∙ ap (λ m. m == p) (sym is)
+
+part_more : (n p at : ℕ) (pairs : List Value) (pair key : Value) → key_of pair ≡ Some key
+    → at ≡ partition_of key n
+    → part_of n p (pairs ++ pair ∷ []) ≡ part_of n p pairs ++ cond (at == p) (pair ∷ []) []
+part_more n p at pairs pair key k is =
+    filter-append (falls_in n p) pairs (pair ∷ [])
+    ∙ ap (λ b. part_of n p pairs ++ cond b (pair ∷ []) []) (falls_by n p at pair key k is)
+
+pub parted_more : (n at : ℕ) (pairs : List Value) (parts : List (List Value)) (key pair : Value)
+    (old new : List Value) → parts ≡ parted n pairs → key_of pair ≡ Some key
+    → at ≡ partition_of key n → at < n → old ≡ get_or parts at old → new ≡ old ++ pair ∷ []
+    → slice_set parts at new ≡ parted n (pairs ++ pair ∷ [])
+parted_more n at pairs parts key pair old new e k is within read push =
+    let f : ℕ → List Value = λ p. part_of n p pairs in
+    let g : ℕ → List Value = λ p. part_of n p (pairs ++ pair ∷ []) in
+    let here : 0 + at ≡ at = omega arith in
+    let was : old ≡ f at = read ∙ ap (λ l. get_or l at old) e
+    ∙ get_or-map-range_with_len f 0 n at at old within here in
+    let same : (at == at) ≡ true = grind arith in
+    let own : g at ≡ f at ++ pair ∷ [] = part_more n at at pairs pair key k is
+    ∙ ap (λ b. f at ++ cond b (pair ∷ []) []) same in
+    let now : new ≡ g (0 + at) = push ∙ ap (λ l. l ++ pair ∷ []) was ∙ sym own
+    ∙ ap g (sym here) in
+    ap (λ l. slice_set l at new) e
+    ∙ set_ranged f g 0 n at new within now (λ p apart.
+    let other : (at == p) ≡ false = subst (λ m. (m == p) ≡ false) here apart in
+    sym (part_more n p at pairs pair key k is
+    ∙ ap (λ b. f p ++ cond b (pair ∷ []) []) other ∙ append-nil (f p)))
+
+pub length-set_is : (parts : List (List Value)) (at n : ℕ) (new : List Value) → length parts ≡ n
+    → length (slice_set parts at new) ≡ n
+length-set_is parts at n new e = length-set parts at new ∙ e
+
+-- ---- accumulators of a part more
+
+abbrev pub Stands : Comb → Pairs → List Value → Type 0
+Stands c partials part = StandFor c partials (pairs_of part)
+
+zip_push : {A B : Type 0} (R : A → B → Type 0) (xs : List A) (ys : List B) (x : A) (y : B)
+    → AllZip R xs ys → R x y → AllZip R (xs ++ x ∷ []) (ys ++ y ∷ [])
+zip_push R [] [] x y z r = (r, z)
+zip_push R [] (b ∷ ys) x y z r = absurd z
+zip_push R (a ∷ xs) [] x y z r = absurd z
+zip_push R (a ∷ xs) (b ∷ ys) x y z r = (z.0, zip_push R xs ys x y z.1 r)
+
+pub combined_more : (c : Comb) (done : List Pairs) (parts : List (List Value))
+    (grown : List Pairs) (partials given : Pairs) (part values : List Value)
+    → AllZip (Stands c) done parts → grown ≡ done ++ partials ∷ [] → partials ≡ given
+    → values ≡ part → StandFor c given (pairs_of values)
+    → AllZip (Stands c) grown (parts ++ part ∷ [])
+combined_more c done parts grown partials given part values z g same moved s =
+    subst (λ l. AllZip (Stands c) l (parts ++ part ∷ [])) (sym g)
+    (zip_push (Stands c) done parts partials part z
+    (subst (λ l. StandFor c l (pairs_of part)) (sym same)
+    (subst (λ l. StandFor c given (pairs_of l)) moved s)))

@@ -1,0 +1,118 @@
+ghost use Rattle.std.specs.Prelude.{◌≡◌, ◌++◌, IfOk, OnOk, slice_get};
+ghost use Rattle.std.specs.Option.{option_copied};
+ghost use Rattle.partial_tables.specs.Tables.{Pairs};
+ghost use Rattle.shuffle_parts.specs.Outs.{or_none, sent_at, passed_in, pairs_in, partials_in, all_passed, all_pairs, all_partials};
+
+use crate::out::{MapOut, Sent};
+use flume_value::{Items, Pile, Value};
+use partial_tables::Partial;
+use std::alloc::{AllocError, Global};
+
+/// What passes through a channel, of all outs in order of tasks.
+pub fn gather_passed(
+    alloc: Global,
+    outs: &[MapOut],
+    channel: usize,
+) -> Result<Vec<Value>, AllocError>
+    ensures { IfOk result (λ all. all.items ≡ all_passed outs.now channel) }
+{
+    let mut all = Vec::new(alloc);
+    for out in outs {
+        append_values(alloc, passed_of(out, channel), &mut all)?;
+    }
+    Ok(all)
+}
+
+/// The pairs of a partition of a channel that groups, of all outs in order of tasks.
+pub fn gather_pairs(
+    alloc: Global,
+    outs: &[MapOut],
+    channel: usize,
+    partition: usize,
+) -> Result<Vec<Value>, AllocError>
+    ensures { IfOk result (λ all. all.items ≡ all_pairs outs.now channel partition) }
+{
+    let mut all = Vec::new(alloc);
+    for out in outs {
+        append_values(alloc, pairs_of(out, channel, partition), &mut all)?;
+    }
+    Ok(all)
+}
+
+/// The accumulators of a partition of a channel that combines, of all outs in order of tasks.
+pub fn gather_partials(
+    alloc: Global,
+    outs: &[MapOut],
+    channel: usize,
+    partition: usize,
+) -> Result<Vec<Partial>, AllocError>
+    ensures { IfOk result (λ all. all.items ≡ all_partials outs.now channel partition) }
+{
+    let mut all = Vec::new(alloc);
+    for out in outs {
+        append_partials(alloc, partials_of(out, channel, partition), &mut all)?;
+    }
+    Ok(all)
+}
+
+fn passed_of(out: &MapOut, channel: usize) -> &[Value]
+    ensures { result.now ≡ passed_in (sent_at channel out.now) }
+{
+    match out.sent.get(channel) {
+        Some(Sent::Passed(values)) => values.as_slice(),
+        _ => &[],
+    }
+}
+
+fn pairs_of(out: &MapOut, channel: usize, partition: usize) -> &[Value]
+    ensures { result.now ≡ pairs_in partition (sent_at channel out.now) }
+{
+    match out.sent.get(channel) {
+        Some(Sent::Grouped(parts)) => member(parts.as_slice(), partition),
+        _ => &[],
+    }
+}
+
+fn partials_of(out: &MapOut, channel: usize, partition: usize) -> &[Partial]
+    ensures { result.now ≡ partials_in partition (sent_at channel out.now) }
+{
+    match out.sent.get(channel) {
+        Some(Sent::Combined(parts)) => member(parts.as_slice(), partition),
+        _ => &[],
+    }
+}
+
+// The list at this place, or the empty one.
+fn member<T>(lists: &[Pile<T>], at: usize) -> &[T]
+    ensures { result.now ≡ or_none (slice_get lists.now at) }
+{
+    match lists.get(at) {
+        Some(list) => list.as_slice(),
+        None => &[],
+    }
+}
+
+// Puts copies of the values behind the others.
+fn append_values(alloc: Global, values: &[Value], all: &mut Vec<Value>) -> Result<(), AllocError>
+    ensures { OnOk result (all.new.items ≡ all.old.items ++ values.now) }
+{
+    for value in values {
+        all.push(value.copy(alloc)?)?;
+    }
+    Ok(())
+}
+
+// Puts copies of the accumulators, with their keys, behind the others.
+fn append_partials(
+    alloc: Global,
+    partials: &[Partial],
+    all: &mut Vec<Partial>,
+) -> Result<(), AllocError>
+    ensures { OnOk result (all.new.items ≡ all.old.items ++ partials.now) }
+{
+    for (key, acc) in partials {
+        let key = key.copy(alloc)?;
+        all.push((key, acc.copy(alloc)?))?;
+    }
+    Ok(())
+}
