@@ -1,12 +1,13 @@
 -- The types of collections: an assignment of a type to each fits a graph where each step takes what
 -- it is given, and each collection has the type of what is put into it.
-use Rattle.std.specs.Prelude.{◌≡◌, ℕ, List, [], ◌∷◌, Option, Some, None, Ok, Err, codes}
+use Rattle.std.specs.Prelude.{◌≡◌, ℕ, List, [], ◌∷◌, Option, Some, None, Ok, Err}
 use Rattle.std.specs.List.{AllByRecursion, AllZip, slice_get}
 use Rattle.flume_value.specs.declared.value.Value.{Value}
 use Rattle.flume_types.specs.declared.types.Ty.{Ty}
 use Rattle.flume_types.specs.declared.types.Ty.TheVariants as type
 use Rattle.flume_types.specs.Tables.{table_of}
 use Rattle.flume_types.specs.Typing.{AllHave, Has}
+use Rattle.bag_steps.specs.Sides.{sides_of}
 use Rattle.keyed_steps.specs.Types.{TakesType, gives_type}
 use Rattle.combine_table.specs.declared.comb.Comb.{Comb}
 use Rattle.flume_collection.specs.Calls.{Called}
@@ -44,19 +45,12 @@ pub record IsTagged (side : Ty → Ty → Ty) (t u : Ty) : Type 0 where
   pub takes : t ≡ table_of key (side left right)
   pub gives : u ≡ table_of key (type.Either left right)
 
--- the record of lists of the lefts and the rights
-abbrev pub sides_type : Ty → Ty → Ty
-sides_type left right =
-    type.Rec
-    (record { name = codes "left"; ty = type.List left }
-    ∷ record { name = codes "right"; ty = type.List right } ∷ [])
-
 pub record IsSplit (t u : Ty) : Type 0 where
   pub key : Ty
   pub left : Ty
   pub right : Ty
   pub takes : t ≡ table_of key (type.List (type.Either left right))
-  pub gives : u ≡ table_of key (sides_type left right)
+  pub gives : u ≡ table_of key (sides_of left right)
 
 -- the pairs of a key and a list, and the lists' members
 pub record IsSpread (t u : Ty) : Type 0 where

@@ -13,6 +13,7 @@ use Rattle.flume_grammar.specs.declared.tree.Combiner.{Combiner}
 use Rattle.flume_grammar.specs.declared.tree.Combiner.TheVariants as combiner
 use Rattle.flume_grammar.specs.declared.fault.ScriptKind.TheVariants.{Unknown, Mistyped, NotTable, BadNumber}
 use Rattle.flume_grammar.specs.declared.fault.ScriptFault.TheVariants.{Refused}
+pub use Rattle.bag_steps.specs.Sides.{sides_of}
 use Rattle.combine_table.specs.declared.comb.Comb.{Comb}
 use Rattle.combine_table.specs.declared.comb.Comb.TheVariants as comb
 use Rattle.written_types.specs.Answer.{Checked, ◌>>=◌, unless, or_fault}
@@ -41,13 +42,6 @@ pair_in _ = None
 abbrev pub member_in : Ty-F Ty → Option Ty
 member_in (Ty-F.List member) = Some member
 member_in _ = None
-
--- the lists of both sides of a join
-abbrev pub sides_of : Ty → Ty → Ty
-sides_of left right =
-    ty.Rec
-    (record { name = codes "left"; ty = ty.List left }
-    ∷ record { name = codes "right"; ty = ty.List right } ∷ [])
 
 -- the type of the members, where it is this one
 abbrev pub only : Ty → Ty → Option Ty
