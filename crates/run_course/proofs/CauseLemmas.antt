@@ -35,7 +35,7 @@ use Rattle.run_course.specs.declared.stop.Stop.{Stop}
 use Rattle.run_course.specs.declared.stop.Stop.TheVariants as stop
 use Rattle.run_course.specs.declared.stop.Trapped.{Trapped}
 use Rattle.run_course.specs.declared.words.Command.{Command}
-use Rattle.run_course.specs.declared.words.Command.TheVariants.{Check, Direct, Run}
+use Rattle.run_course.specs.declared.words.Command.TheVariants.{Check, Plan, Direct, Run}
 use Rattle.run_course.specs.inner.Course.{Delivers, HasTrap, IsCommandStop, IsEvaluating, IsInputCause, IsInputsCause, IsLoaded, IsMeaningStop, IsReady, IsScriptCause, IsScriptFault, IsStopped, IsTrapped}
 use Rattle.run_course.proofs.NameLemmas.{script_ready}
 
@@ -229,6 +229,7 @@ written words told command name script files text at taken writes =
 may_tell : (command : Command) (traps : List TrapOf) (trap : TrapOf) → IsEvaluating command
     → IsLeast traps trap → MayTell command traps trap
 may_tell Check traps trap evaluating least = absurd evaluating
+may_tell Plan traps trap evaluating least = absurd evaluating
 may_tell Direct traps trap evaluating least = least
 may_tell Run traps trap evaluating least = least.0
 

@@ -22,7 +22,7 @@ use Rattle.run_course.specs.Promises.{CanRun, EndsAs, EndsWith, IsEnd, IsEnded, 
 use Rattle.run_course.specs.Words.{asked_for}
 use Rattle.run_course.specs.Written.{IsMeant, IsThrough, IsWritten, Table, Writes}
 use Rattle.run_course.specs.declared.words.Command.{Command}
-use Rattle.run_course.specs.declared.words.Command.TheVariants.{Check, Direct, Run}
+use Rattle.run_course.specs.declared.words.Command.TheVariants.{Check, Plan, Direct, Run}
 use Rattle.run_course.specs.World.{Keeps, World}
 use Rattle.run_course.proofs.TurnLemmas.{Stops, asked_some, input_stops, no_file_stops, no_run, one_stop, same_command, same_meaning, same_script, script_stops, too_long_stops}
 
@@ -45,6 +45,8 @@ written_rows : (words : Words) (told : Option (List NamedBytes)) (files : List N
     → HasRead words told
 written_rows words told files text Check script reads writes =
     record { command = Check; script = script; rows = []; reads = reads; inputs = tt }
+written_rows words told files text Plan script reads writes =
+    record { command = Plan; script = script; rows = []; reads = reads; inputs = tt }
 written_rows words told files text Direct script reads writes =
     record { command = Direct; script = script; rows = writes.0; reads = reads; inputs =
     writes.2.meant.inputs }
@@ -62,6 +64,7 @@ trap_rows : (words : Words) (told : Option (List NamedBytes)) (command : Command
     (trap : TrapOf) → Reads words told command script → IsMeant told script rows table
     → MayTell command (traps_of table) trap → HasRead words told
 trap_rows words told Check script rows table trap reads meant tells = absurd tells
+trap_rows words told Plan script rows table trap reads meant tells = absurd tells
 trap_rows words told Direct script rows table trap reads meant tells =
     record { command = Direct; script = script; rows = rows; reads = reads; inputs = meant.inputs }
 trap_rows words told Run script rows table trap reads meant tells =
@@ -188,6 +191,7 @@ done_as : (words : Words) (before after : World) (c d : Command) (p q : Script) 
     → Writes d before.source.told q files text
     → EndsAs c p rows Done
 done_as words before after Check d p q rows files text same can read writes = refl
+done_as words before after Plan d p q rows files text same can read writes = refl
 done_as words before after Direct Direct p q rows files text same can read writes =
     through_end words before after Direct Direct p q rows [] files text writes.0 writes.1 can.told
     can.reads read can.inputs writes.2
@@ -195,14 +199,17 @@ done_as words before after Run Run p q rows files text same can read writes =
     through_end words before after Run Run p q rows writes.0 files text writes.2.0 writes.2.1
     can.told can.reads read can.inputs writes.2.2
 done_as words before after Direct Check p q rows files text same can read writes = absurd (cc)
+done_as words before after Direct Plan p q rows files text same can read writes = absurd (cc)
 done_as words before after Direct Run p q rows files text same can read writes = absurd (cc)
 done_as words before after Run Check p q rows files text same can read writes = absurd (cc)
+done_as words before after Run Plan p q rows files text same can read writes = absurd (cc)
 done_as words before after Run Direct p q rows files text same can read writes = absurd (cc)
 
 told_end : (command : Command) (traps : List TrapOf) (origin : ℕ) (kind : Kind) (element : Value)
     (trap : TrapOf) → MayTell command traps trap
     → EndsWith traps (Trap origin kind element)
 told_end Check traps origin kind element trap tells = absurd tells
+told_end Plan traps origin kind element trap tells = absurd tells
 told_end Direct traps origin kind element trap tells = trapped_end traps origin kind element trap
     tells.0
 told_end Run traps origin kind element trap tells = trapped_end traps origin kind element trap tells
@@ -220,13 +227,14 @@ trapped_meaning words before after c p rows origin kind element tells reads inpu
       kind = kind }) it.7,
 )
 
-no_trap_of_check : (words : Words) (before after : World) (p : Script) (origin : ℕ) (kind : Kind)
-    (element : Value)
-    → Reads words before.source.told Check p → IsTrap origin kind element words before after
-    → ⊥
-no_trap_of_check words before after p origin kind element reads it =
-    let same : it.0 ≡ Check = same_command words before.source.told it.0 Check it.1 p it.5 reads
-    in
+-- a trap is told by a command that may tell it
+told_by : (words : Words) (before after : World) (c : Command) (p : Script) (origin : ℕ)
+    (kind : Kind) (element : Value)
+    → Reads words before.source.told c p → (it : IsTrap origin kind element words before after)
+    → MayTell c (traps_of it.3) (record { origin = origin; element = element; kind = kind })
+told_by words before after command p origin kind element reads it =
+    let same : it.0 ≡ command =
+        same_command words before.source.told it.0 command it.1 p it.5 reads in
     subst (λ (c : Command). MayTell c (traps_of it.3) (record { origin = origin; element =
     element; kind = kind })) same it.7
 
@@ -236,13 +244,23 @@ trapped_as : (words : Words) (before after : World) (c : Command) (p : Script) (
     → IsTrap origin kind element words before after
     → EndsAs c p rows (Trap origin kind element)
 trapped_as words before after Check p rows origin kind element can it =
-    absurd (no_trap_of_check words before after p origin kind element can.reads it)
+    absurd (told_by words before after Check p origin kind element can.reads it)
+trapped_as words before after Plan p rows origin kind element can it =
+    absurd (told_by words before after Plan p origin kind element can.reads it)
 trapped_as words before after Direct p rows origin kind element can it =
     trapped_meaning words before after Direct p rows origin kind element can.told can.reads
     can.inputs it
 trapped_as words before after Run p rows origin kind element can it =
     trapped_meaning words before after Run p rows origin kind element can.told can.reads can.inputs
     it
+
+-- where no file is written, none fails
+none_fails : (files : List NamedBytes) (place : ℕ) (before after : SeenShelf) → files ≡ []
+    → FailsAt place files before after → ⊥
+none_fails files place before after none fails =
+    let at = subst (λ (l : List NamedBytes). FailsAt place l before after) none fails in
+    let below = at.within in
+    absurd (omega arith)
 
 -- a shelf that is calm fails at no file
 no_file_fault : (c d : Command) (told : Option (List NamedBytes)) (q : Script) (files : List
@@ -253,11 +271,15 @@ no_file_fault Direct d told q files text place before after same calm writes fai
     fails.faults
 no_file_fault Run d told q files text place before after same calm writes fails = calm fails.faults
 no_file_fault Check Check told q files text place before after same calm writes fails =
-    let none = subst (λ (l : List NamedBytes). FailsAt place l before after) writes.0 fails in
-    let below = none.within in
-    absurd (omega arith)
+    none_fails files place before after writes.0 fails
+no_file_fault Check Plan told q files text place before after same calm writes fails = absurd (cc)
 no_file_fault Check Direct told q files text place before after same calm writes fails = absurd (cc)
 no_file_fault Check Run told q files text place before after same calm writes fails = absurd (cc)
+no_file_fault Plan Plan told q files text place before after same calm writes fails =
+    none_fails files place before after writes.0 fails
+no_file_fault Plan Check told q files text place before after same calm writes fails = absurd (cc)
+no_file_fault Plan Direct told q files text place before after same calm writes fails = absurd (cc)
+no_file_fault Plan Run told q files text place before after same calm writes fails = absurd (cc)
 
 stopped : {A : Type 0} (words : Words) (before after : World) (status : Status) (c : Command)
     (script : Script) (rows : List (List Value))

@@ -9,7 +9,7 @@ use Rattle.run_texts.specs.Texts.{plan_of}
 use Rattle.script_check.specs.Rules.{script_of}
 use Rattle.script_check.specs.Script.{Script}
 use Rattle.run_course.specs.declared.words.Command.{Command}
-use Rattle.run_course.specs.declared.words.Command.TheVariants.{Check, Direct, Run}
+use Rattle.run_course.specs.declared.words.Command.TheVariants.{Check, Plan, Direct, Run}
 
 -- the bytes are accepted as this script: their tokens spell a tree, which keeps all rules
 abbrev pub Accepted : List ℕ → Script → Type 0
@@ -29,6 +29,7 @@ Refused bytes line kind = Refuses bytes line kind ⊎ BreaksRule bytes line kind
 -- whether a command takes this script: `run` takes those yet of which the plan is known
 abbrev pub is_taken : Command → Script → Bool
 is_taken Check script = true
+is_taken Plan script = true
 is_taken Direct script = true
 is_taken Run script = is_some (plan_of script)
 

@@ -31,7 +31,7 @@ use Rattle.run_course.specs.World.{World}
 use Rattle.run_course.specs.Written.{IsMeant, IsWritten, Table}
 use Rattle.run_course.specs.declared.limits.TheConstants.{SCRIPT_LIMIT, INPUT_LIMIT, TRIES}
 use Rattle.run_course.specs.declared.words.Command.{Command}
-use Rattle.run_course.specs.declared.words.Command.TheVariants.{Check, Direct, Run}
+use Rattle.run_course.specs.declared.words.Command.TheVariants.{Check, Plan, Direct, Run}
 
 -- ---- what is written
 
@@ -81,9 +81,10 @@ IsWriteFault Screen words before after = IsScreenFault words before after
 -- ---- what is not
 
 -- the trap that a command may tell of, among those of the script: `direct` tells of the least, and
--- `check` of none
+-- `check` and `plan` of none
 abbrev pub MayTell : Command → List TrapOf → TrapOf → Type 0
 MayTell Check traps trap = ⊥
+MayTell Plan traps trap = ⊥
 MayTell Direct traps trap = IsLeast traps trap
 MayTell Run traps trap = Contains traps trap
 

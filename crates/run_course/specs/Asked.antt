@@ -10,7 +10,7 @@ use Rattle.run_course.specs.Accepted.{Accepted, is_taken}
 use Rattle.run_course.specs.Words.{asked_for}
 use Rattle.run_course.specs.declared.limits.TheConstants.{SCRIPT_LIMIT, INPUT_LIMIT}
 use Rattle.run_course.specs.declared.words.Command.{Command}
-use Rattle.run_course.specs.declared.words.Command.TheVariants.{Check, Direct, Run}
+use Rattle.run_course.specs.declared.words.Command.TheVariants.{Check, Plan, Direct, Run}
 
 -- the file of that name has these bytes, where files are told, and they are within the limit
 abbrev pub Loads : Option (List File) → List ℕ → ℕ → List ℕ → Type 0
@@ -51,9 +51,10 @@ AllHaveRows told (wanted ∷ inputs) [] = ⊥
 AllHaveRows told (wanted ∷ inputs) (rows ∷ others) =
     HasRows told wanted rows × AllHaveRows told inputs others
 
--- the inputs that a command reads of a script: those that are needed, and none to check it
+-- the inputs that a command reads of a script: those that are needed, and none to check or plan it
 abbrev pub inputs_read : Command → Script → List Wanted
 inputs_read Check script = []
+inputs_read Plan script = []
 inputs_read Direct script = inputs_of script
 inputs_read Run script = inputs_of script
 

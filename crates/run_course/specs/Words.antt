@@ -3,7 +3,7 @@ use Rattle.std.specs.Prelude.{ℕ, Bool, false, not, ◌==◌, List, [], ◌∷�
 use Rattle.std.specs.Option.{option_map}
 use Rattle.std.specs.Str.{bytes_eq}
 use Rattle.run_course.specs.declared.words.Command.{Command}
-use Rattle.run_course.specs.declared.words.Command.TheVariants.{Check, Direct, Run}
+use Rattle.run_course.specs.declared.words.Command.TheVariants.{Check, Plan, Direct, Run}
 
 -- the code of `-`, with which options begin
 abbrev pub dash : ℕ
@@ -18,6 +18,7 @@ is_operand (first ∷ rest) = not (first == dash)
 abbrev pub command_of : List ℕ → Option Command
 command_of word =
     if bytes_eq word (codes "check") then Some Check
+    else if bytes_eq word (codes "plan") then Some Plan
     else if bytes_eq word (codes "direct") then Some Direct
     else if bytes_eq word (codes "run") then Some Run
     else None

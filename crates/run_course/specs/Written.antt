@@ -6,13 +6,15 @@ use Rattle.direct_meaning.specs.Direct.{made_at, meaning, sizes_of, traps_of}
 use Rattle.direct_meaning.specs.Inputs.{inputs_of}
 use Rattle.flume_collection.specs.Collection.{Collection}
 use Rattle.flume_value.specs.declared.value.Value.{Value}
+use Rattle.graph_build.specs.Graphs.{graph_of}
 use Rattle.outside.specs.declared.file.File.{File}
+use Rattle.plan_print.specs.GraphText.{graph_text}
 use Rattle.run_texts.specs.Texts.{plan_of, size_lines}
 use Rattle.script_check.specs.declared.made.Output.{Output}
 use Rattle.script_check.specs.Script.{Script}
 use Rattle.run_course.specs.Asked.{AllHaveRows, Reads}
 use Rattle.run_course.specs.declared.words.Command.{Command}
-use Rattle.run_course.specs.declared.words.Command.TheVariants.{Check, Direct, Run}
+use Rattle.run_course.specs.declared.words.Command.TheVariants.{Check, Plan, Direct, Run}
 
 -- the collections of a script by their numbers, where they are made
 abbrev pub Table : Type 0
@@ -53,10 +55,13 @@ WritesMeaning told script front files text =
     (rows : List (List Value)) × (table : Table)
     × IsThrough told script front files text rows table
 
--- What a command writes of a script: `check` no file and `ok`; `direct` the files of its direct
--- meaning, the sizes of its collections and `done`; `run` the same, with its graph and plan first.
+-- What a command writes of a script: `check` no file and `ok`; `plan` no file and the text of its
+-- execution graph; `direct` the files of its direct meaning, the sizes of its collections and
+-- `done`; `run` the same, with its graph and plan first.
 abbrev pub Writes : Command → Option (List File) → Script → List File → List ℕ → Type 0
 Writes Check told script files text = (files ≡ []) × (text ≡ codes "ok\n")
+Writes Plan told script files text =
+    (files ≡ []) × (text ≡ graph_text script (graph_of script))
 Writes Direct told script files text = WritesMeaning told script [] files text
 Writes Run told script files text =
     (plan : List ℕ) × (plan_of script ≡ Some plan) × WritesMeaning told script plan files text

@@ -1,8 +1,10 @@
 // The course of a call: every growth comes first, then the output files, then the screen.
 ghost use Rattle.std.specs.Prelude.{◌≡◌, ◌≤◌, ◌<◌, [], IfErr, IfOk, IsTrue, OnOk, Some, codes, length, map, slice_get, string_bytes};
 ghost use Rattle.std.specs.Option.{option_map};
+ghost use Rattle.graph_build.specs.Graphs.{graph_of};
 ghost use Rattle.outside.specs.Saves.{output_file};
 ghost use Rattle.outside.specs.Seen.{seen, seen_shelf};
+ghost use Rattle.plan_print.specs.GraphText.{graph_text as graph_text_of};
 ghost use Rattle.script_laws.specs.WellFormed.{IsWellFormed};
 ghost use Rattle.run_course.specs.Accepted.{is_taken};
 ghost use Rattle.run_course.specs.Answers.{Answers};
@@ -17,7 +19,9 @@ use crate::stop::Stop;
 use crate::words::{Command, asked_for};
 use flume_grammar::ScriptKind;
 use flume_value::Str;
+use graph_build::build;
 use outside::{Output, Screen, Shelf, Source, save_all, say};
+use plan_print::graph_text;
 use run_texts::{Place, Status, plan_text, tell, tell_trap};
 use script_check::Program;
 use std::alloc::{AllocError, Global};
@@ -113,6 +117,7 @@ fn carried_out<R: Source>(
 {
     match command {
         Command::Check => Ok(accepted(alloc)?),
+        Command::Plan => Ok(planned(alloc, program)?),
         Command::Direct => meant(alloc, program, Vec::new(alloc), source),
         Command::Run => match plan_text(alloc, program)? {
             Some(plan) => meant(alloc, program, plan, source),
@@ -129,6 +134,19 @@ fn accepted(alloc: Global) -> Result<Written, AllocError>
     Ok(Written {
         outputs: Vec::new(alloc),
         screen: Vec::from_slice(alloc, b"ok\n")?,
+    })
+}
+
+// What `plan` writes of a script.
+fn planned(alloc: Global, program: &Program) -> Result<Written, AllocError>
+    ensures files { IfOk result (λ it. map output_file it.outputs.items ≡ []) }
+    ensures text { IfOk result (λ it. it.screen.items
+        ≡ graph_text_of program.now.script (graph_of program.now.script)) }
+{
+    let graph = build(alloc, program)?;
+    Ok(Written {
+        outputs: Vec::new(alloc),
+        screen: graph_text(alloc, program, &graph)?,
     })
 }
 

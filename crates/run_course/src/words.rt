@@ -9,6 +9,8 @@ ghost use Rattle.run_course.specs.inner.Course.{asked_in};
 pub enum Command {
     /// See whether it is accepted.
     Check,
+    /// Show its execution graph.
+    Plan,
     /// Write the files of its direct meaning.
     Direct,
     /// Write the same files, and show its plan.
@@ -44,6 +46,8 @@ fn command_of(word: &str) -> Option<Command>
 {
     if word == "check" {
         Some(Command::Check)
+    } else if word == "plan" {
+        Some(Command::Plan)
     } else if word == "direct" {
         Some(Command::Direct)
     } else if word == "run" {

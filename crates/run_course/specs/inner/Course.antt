@@ -44,7 +44,7 @@ use Rattle.run_course.specs.declared.stop.Trapped.{Trapped}
 use Rattle.run_course.specs.declared.stop.Stop.TheVariants as stop
 use Rattle.run_course.specs.declared.words.Asked.{Asked as HeldAsked}
 use Rattle.run_course.specs.declared.words.Command.{Command}
-use Rattle.run_course.specs.declared.words.Command.TheVariants.{Check, Direct, Run}
+use Rattle.run_course.specs.declared.words.Command.TheVariants.{Check, Plan, Direct, Run}
 
 -- what the words ask for, as it is borrowed
 abbrev pub asked_in : HeldAsked → Asked
@@ -53,6 +53,7 @@ asked_in held = record { command = held.command; script = held.script.now }
 -- whether a command asks for a script's meaning
 abbrev pub IsEvaluating : Command → Type 0
 IsEvaluating Check = ⊥
+IsEvaluating Plan = ⊥
 IsEvaluating Direct = ⊤
 IsEvaluating Run = ⊤
 
