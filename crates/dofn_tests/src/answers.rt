@@ -77,7 +77,7 @@ fn first(alloc: Global, ast: &Ast, n: i64) -> Answer {
 
 /// What `fn f(..) -> gives { .. }` answers on the number, where it begins so, and goes on with so
 /// many of these statements.
-fn answer(
+fn answer_behind(
     alloc: Global,
     head: [&[u8]; 3],
     statement: &[u8],
@@ -105,7 +105,13 @@ pub fn answer_of(
     n: i64,
     gives: &[u8],
 ) -> Result<Answer, AllocError> {
-    answer(alloc, [b"fn f(x: int) -> ", gives, b" { "], statements, 1, n)
+    answer_behind(
+        alloc,
+        [b"fn f(x: int) -> ", gives, b" { "],
+        statements,
+        1,
+        n,
+    )
 }
 
 /// What a function answers whose body has so many of these statements, where `x` is
@@ -117,5 +123,11 @@ pub fn answer_on_row(
     gives: &[u8],
 ) -> Result<Answer, AllocError> {
     let row = b" { let x = {a: \"one two\", b: \"three\", n: n, all: [\"x\", \"y\"]} ";
-    answer(alloc, [b"fn f(n: int) -> ", gives, row], statement, times, 7)
+    answer_behind(
+        alloc,
+        [b"fn f(n: int) -> ", gives, row],
+        statement,
+        times,
+        7,
+    )
 }

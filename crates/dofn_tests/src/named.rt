@@ -53,7 +53,10 @@ fn records_are_emitted(rt: HostRuntime) -> Result<(), Fail> {
         } else {
             Answer::Refused
         };
-        assert_eq!(rt; answer_on_row(alloc, body, 1, b"{p: text, q: int}")?, wanted);
+        assert_eq!(rt;
+            answer_on_row(alloc, body, 1, b"{p: text, q: int}")?,
+            wanted
+        );
     }
     Ok(())
 }

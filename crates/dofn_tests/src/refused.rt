@@ -35,10 +35,7 @@ fn ill_typed_bodies_are_refused(rt: HostRuntime) -> Result<(), Fail> {
         b"let y = concat(x.a, x.all)",
     ];
     for body in table {
-        assert_eq!(rt;
-            answer_on_row(alloc, body, 1, b"text")?,
-            Answer::Refused
-        );
+        assert_eq!(rt; answer_on_row(alloc, body, 1, b"text")?, Answer::Refused);
     }
     Ok(())
 }
