@@ -8,7 +8,7 @@ use Rattle.flume_grammar.specs.declared.tree.Ast.{Ast}
 use Rattle.script_check.specs.Rules.{script_of}
 use Rattle.script_check.specs.Script.{Script}
 use Rattle.written_types.specs.Answer.{Checked}
-use Rattle.run_course.specs.Accepted.{Accepted, BreaksRule, IsNotTaken, IsRefusedBy, Refused, is_taken}
+use Rattle.run_course.specs.Accepted.{Accepted, IsRefusedBy, Refused, is_taken}
 use Rattle.run_course.specs.declared.words.Command.{Command}
 
 -- ---- one answer of the checker

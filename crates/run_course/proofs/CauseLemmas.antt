@@ -1,5 +1,5 @@
 -- The cause of each answer, from the causes of its parts.
-use Rattle.std.proofs.Common.{◌≡◌, ℕ, ◌≤◌, inl, inr, List, [], ◌∷◌, ◌++◌, Option, Some, Result, Ok, Err, ap, sym, ◌∙◌, refl, subst, arith}
+use Rattle.std.proofs.Common.{◌≡◌, ℕ, ◌≤◌, inl, inr, List, ◌∷◌, ◌++◌, Option, Result, Ok, Err, sym, refl, subst, arith}
 use Rattle.std.specs.Prelude.{IfOk, IsTrue, OnOk}
 use Rattle.direct_meaning.specs.Direct.{traps_of}
 use Rattle.direct_meaning.specs.Inputs.{Wanted, inputs_of}
@@ -9,7 +9,6 @@ use Rattle.flume_grammar.proofs.FileNames.{files}
 use Rattle.flume_grammar.specs.Answer.{Accepts, IsRefusal}
 use Rattle.flume_grammar.specs.declared.fault.ScriptFault.{ScriptFault}
 use Rattle.flume_grammar.specs.declared.fault.ScriptFault.TheVariants as script_fault
-use Rattle.flume_grammar.specs.declared.fault.ScriptKind.TheVariants.{Syntax}
 use Rattle.flume_grammar.specs.declared.tree.Ast.{Ast}
 use Rattle.flume_value.specs.declared.value.Value.{Value}
 use Rattle.outside.specs.Cause.{RoseBy}
@@ -25,7 +24,7 @@ use Rattle.script_laws.proofs.RuleLemmas.{well-formed}
 use Rattle.script_laws.specs.WellFormed.{IsWellFormed}
 use Rattle.script_check.specs.Script.{Script}
 use Rattle.written_types.specs.Answer.{Gives as Checks}
-use Rattle.run_course.specs.Accepted.{Accepted, is_taken}
+use Rattle.run_course.specs.Accepted.{is_taken}
 use Rattle.run_course.specs.Answers.{Answers, IsCause, IsRefused, MayTell}
 use Rattle.run_course.specs.Asked.{AllHaveRows, AskFor, IsAbove, IsAskedFor, IsMissing, IsTurnOf, Loads, Reads, inputs_read}
 use Rattle.run_course.specs.World.{World}
@@ -181,12 +180,11 @@ input_since before middle after wanted (NoFile other) told later cause =
     (cause.0, subst (λ (t : Option (List NamedBytes)). IsMissing t wanted.file) told cause.1)
 input_since before middle after wanted (ReadFault other) told later cause =
     (cause.0, rose_since before.faults middle.faults after.faults later cause.1)
-input_since before middle after wanted (TooLong other most) told later cause =
-    (
-      cause.0,
-      cause.1,
-      subst (λ (t : Option (List NamedBytes)). IsAbove t wanted.file INPUT_LIMIT) told cause.2,
-    )
+input_since before middle after wanted (TooLong other most) told later cause = (
+  cause.0,
+  cause.1,
+  subst (λ (t : Option (List NamedBytes)). IsAbove t wanted.file INPUT_LIMIT) told cause.2,
+)
 input_since before middle after wanted WantOfMemory told later cause = tt
 input_since before middle after wanted Usage told later cause = absurd cause
 input_since before middle after wanted Done told later cause = absurd cause
@@ -278,8 +276,10 @@ pub meaning_stop : (command : Command) (before after : SeenSource) (script : Scr
 meaning_stop command before after script (stop.Refused status) taken evaluating same (inl memory) =
     inl memory
 meaning_stop command before after script (stop.Refused status) taken evaluating same (inr cause) =
-    inr (inr (taken,
-    subst (λ (l : List Wanted). IsInputsCause before after l status) (sym same) cause))
+    inr (inr (
+      taken,
+      subst (λ (l : List Wanted). IsInputsCause before after l status) (sym same) cause,
+    ))
 meaning_stop command before after script (stop.Trapped trap) taken evaluating same trapped =
     (taken, evaluating, trapped)
 

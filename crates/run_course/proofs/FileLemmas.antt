@@ -52,8 +52,10 @@ files_by script table bags [] [] all are = refl
 files_by script table bags [] (file ∷ files) all are = absurd are
 files_by script table bags (output ∷ outputs) [] all are = absurd are
 files_by script table bags (output ∷ outputs) (file ∷ files) all are =
-    rw (file_made script table bags output file all.0 are.0,
-    files_by script table bags outputs files all.1 are.1)
+    rw (
+      file_made script table bags output file all.0 are.0,
+      files_by script table bags outputs files all.1 are.1,
+    )
     refl
 
 pub files_made : (script : Script) (table : Table) (bags : Bags) (files : List NamedBytes)

@@ -1,13 +1,12 @@
 -- Inputs, as they are read node by node.
 use Rattle.std.proofs.Common.{◌≡◌, ℕ, suc, zero, ◌+◌, ◌<◌, Bool, true, false, List, [], ◌∷◌, ◌++◌, drop, length, Option, Some, None, slice_get, ap, sym, ◌∙◌, refl, subst, append_assoc, append-nil, arith}
-use Rattle.std.specs.List.{filter, flat_map}
 use Rattle.std.specs.Option.{option_map}
 use Rattle.std.specs.Prelude.{IsUtf8}
 use Rattle.std.proofs.lemmas.List.{drop_all}
 use Rattle.std.proofs.lemmas.Option.{get_or_from_slice_get, slice_get_within}
 use Rattle.flume_types.specs.declared.types.Ty.{Ty}
 use Rattle.direct_meaning.specs.Inputs.{AreInputs, HaveRows, Wanted, inputs_of, wanted_by}
-use Rattle.script_check.specs.Needed.{is_needed, numbered}
+use Rattle.script_check.specs.Needed.{is_needed}
 use Rattle.flume_types.specs.Columns.{input_columns_of}
 use Rattle.flume_types.specs.Typing.{AllHave}
 use Rattle.flume_types.specs.declared.column.Column.{Column}
@@ -103,18 +102,22 @@ pub all_read : (told : Told) (script : Script) (rows : List (List Value))
     → HasRead told script (length script.nodes) rows
     → AllHaveRows told (inputs_of script) rows × AreInputs script rows
 all_read told script rows read =
-    let same = sym (all_done script read.0 read.1) in
-    (subst (λ (l : List Wanted). AllHaveRows told l rows) same read.2,
-    subst (λ (l : List Wanted). HaveRows l rows) same read.3)
+    let same = sym (all_done script read.0 read.1) in (
+      subst (λ (l : List Wanted). AllHaveRows told l rows) same read.2,
+      subst (λ (l : List Wanted). HaveRows l rows) same read.3,
+    )
 
 -- a node that is not needed
 pub passes : (told : Told) (script : Script) (number : ℕ) (rows : List (List Value)) (entry :
     Entry)
     → slice_get script.nodes number ≡ Some entry → is_needed script number ≡ false
     → HasRead told script number rows → HasRead told script (suc number) rows
-passes told script number rows entry found unneeded read =
-    (read.0, read.1 ∙ ap (λ l. read.0 ++ l) (from_node script number entry false found unneeded),
-    read.2, read.3)
+passes told script number rows entry found unneeded read = (
+  read.0,
+  read.1 ∙ ap (λ l. read.0 ++ l) (from_node script number entry false found unneeded),
+  read.2,
+  read.3,
+)
 
 -- a node that is no input
 pub passes_other : (told : Told) (script : Script) (number : ℕ) (rows : List (List Value))
@@ -122,11 +125,13 @@ pub passes_other : (told : Told) (script : Script) (number : ℕ) (rows : List (
     → is_needed script number ≡ true → wanted entry ≡ []
     → HasRead told script number rows → HasRead told script (suc number) rows
 passes_other told script number rows entry found needed other read =
-    let behind = inputs_from script (suc number) (drop (suc number) script.nodes) in
-    (read.0,
-    read.1 ∙ ap (λ l. read.0 ++ l)
-    (from_node script number entry true found needed ∙ ap (λ own. own ++ behind) other),
-    read.2, read.3)
+    let behind = inputs_from script (suc number) (drop (suc number) script.nodes) in (
+      read.0,
+      read.1 ∙ ap (λ l. read.0 ++ l)
+          (from_node script number entry true found needed ∙ ap (λ own. own ++ behind) other),
+      read.2,
+      read.3,
+    )
 
 -- the inputs, where this node is one of them
 turns : (script : Script) (number : ℕ) (entry : Entry) (it : Wanted) (done : List Wanted)
@@ -147,12 +152,13 @@ pub reads_more : (told : Told) (script : Script) (number : ℕ) (rows : List (Li
     → wanted entry ≡ it ∷ [] → HasRows told it own → AllHave it.type own
     → HasRead told script number rows → HasRead told script (suc number) (rows ++ own ∷ [])
 reads_more told script number rows entry it own found needed is has typed read =
-    let behind = inputs_from script (suc number) (drop (suc number) script.nodes) in
-    (read.0 ++ it ∷ [],
-    turns script number entry it read.0 found needed is read.1
-    ∙ sym (append_assoc read.0 (it ∷ []) behind),
-    more_rows told read.0 it rows own read.2 has,
-    more_typed read.0 it rows own read.3 typed)
+    let behind = inputs_from script (suc number) (drop (suc number) script.nodes) in (
+      read.0 ++ it ∷ [],
+      turns script number entry it read.0 found needed is read.1
+          ∙ sym (append_assoc read.0 (it ∷ []) behind),
+      more_rows told read.0 it rows own read.2 has,
+      more_typed read.0 it rows own read.3 typed,
+    )
 
 -- why an input has no rows is why the inputs have none
 pub stops_at : (before after : Seen (List NamedBytes)) (script : Script) (number : ℕ)
@@ -161,9 +167,15 @@ pub stops_at : (before after : Seen (List NamedBytes)) (script : Script) (number
     → wanted entry ≡ it ∷ [] → HasRead before.told script number rows
     → IsInputCause before after it status
     → IsInputsCause before after (inputs_of script) status
-stops_at before after script number rows entry it status found needed is read cause =
-    (read.0, it, inputs_from script (suc number) (drop (suc number) script.nodes), rows,
-    turns script number entry it read.0 found needed is read.1, read.2, cause)
+stops_at before after script number rows entry it status found needed is read cause = (
+  read.0,
+  it,
+  inputs_from script (suc number) (drop (suc number) script.nodes),
+  rows,
+  turns script number entry it read.0 found needed is read.1,
+  read.2,
+  cause,
+)
 
 -- ---- the columns of an input
 

@@ -1,13 +1,12 @@
 -- What the evaluation of a program comes to, by its traps.
-use Rattle.std.proofs.Common.{◌≡◌, ℕ, ◌<◌, List, [], ◌∷◌, ◌++◌, length, map, Option, Some, None, slice_get, ap, sym, ◌∙◌, refl, subst}
+use Rattle.std.proofs.Common.{◌≡◌, ℕ, ◌<◌, List, [], ◌∷◌, ◌++◌, length, Some, None, slice_get, ap, sym, ◌∙◌, refl, subst}
 use Rattle.std.specs.Prelude.{codes}
-use Rattle.std.specs.List.{Contains, flat_map}
-use Rattle.flume_collection.proofs.Members.{at_head}
+use Rattle.std.specs.List.{flat_map}
 use Rattle.flume_collection.proofs.TrapSets.{first_least, set_rises, set_settled}
 use Rattle.flume_collection.specs.Traps.{IsLeast, trap_set}
 use Rattle.flume_collection.specs.declared.trap.Trap.{Trap}
 use Rattle.flume_value.specs.declared.value.Value.{Value}
-use Rattle.direct_meaning.specs.Direct.{meaning, sizes_of, traps_behind, traps_of}
+use Rattle.direct_meaning.specs.Direct.{traps_behind, traps_of}
 use Rattle.direct_meaning.specs.Evaluated.{IsDirect}
 use Rattle.direct_meaning.specs.declared.told.Direct.{Direct}
 use Rattle.outside.specs.declared.file.File.{File as NamedBytes}
@@ -53,11 +52,14 @@ module _ (script : Script) (inputs : List (List Value)) (it : Direct)
   pub stops : (trap : Trap) (why : Stop) → slice_get it.traps.items 0 ≡ Some trap
       → IsTrapOf script trap why → IsStop script inputs why
   stops trap (stop.Refused status) is own = absurd own
-  stops trap (stop.Trapped trapped) is own = (direct.made, record {
-    means = direct.means;
-    least = subst (IsLeast (traps_of direct.made)) (sym own.0) (least trap is);
-    named = ap (λ (t : Trap). name_at script t.origin) own.0 ∙ own.1;
-  })
+  stops trap (stop.Trapped trapped) is own = (
+    direct.made,
+    record {
+      means = direct.means;
+      least = subst (IsLeast (traps_of direct.made)) (sym own.0) (least trap is);
+      named = ap (λ (t : Trap). name_at script t.origin) own.0 ∙ own.1;
+    },
+  )
 
   pub have_members : HaveMembers script it.bags.items
   have_members = ready script direct.made it.bags.items direct.written
@@ -66,9 +68,12 @@ module _ (script : Script) (inputs : List (List Value)) (it : Direct)
       → slice_get it.traps.items 0 ≡ None → AreFiles it.bags.items script.outputs files
       → text ≡ front ++ (size_lines it.sizes.items ++ codes "done\n")
       → Gives script inputs front files text
-  gives front text files none are shown = (direct.made, record {
-    means = direct.means;
-    through = sym direct.traps ∙ none_there it.traps.items none;
-    written = files_made script direct.made it.bags.items files direct.written are;
-    shown = shown ∙ ap (λ sizes. front ++ (size_lines sizes ++ codes "done\n")) direct.sizes;
-  })
+  gives front text files none are shown = (
+    direct.made,
+    record {
+      means = direct.means;
+      through = sym direct.traps ∙ none_there it.traps.items none;
+      written = files_made script direct.made it.bags.items files direct.written are;
+      shown = shown ∙ ap (λ sizes. front ++ (size_lines sizes ++ codes "done\n")) direct.sizes;
+    },
+  )

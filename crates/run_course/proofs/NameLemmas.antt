@@ -1,5 +1,5 @@
 -- The files of an accepted script are named in UTF-8, where those of its statements are.
-use Rattle.std.proofs.Common.{◌≡◌, ℕ, nat_lt, List, [], ◌∷◌, ◌++◌, length, Ok, subst}
+use Rattle.std.proofs.Common.{◌≡◌, ℕ, nat_lt, List, [], ◌∷◌, length, Ok, subst}
 use Rattle.std.specs.Prelude.{IsUtf8}
 use Rattle.std.specs.List.{All, AllByRecursion}
 use Rattle.std.proofs.lemmas.List.Elements.{All-nil, All-push, recursion_from_All}
@@ -60,7 +60,7 @@ module _ (line : ℕ) (s : State) (node : Node) where
       let pair = both (op.pair_of line one.part.type) _ node by.then in
       let member = both (op.member_of line pair.part.value) _ node pair.then in
       let value = both (or_fault line Mistyped (op.combined_type by.part member.part)) _ node
-          member.then in
+      member.then in
       subst (λ (n : Node). IsNamedMade n.made) (ok-same _ node value.then) tt
   made-named (operation.Flatten sources) e =
       let all = both (op.collections_behind line [] sources s) _ node e in

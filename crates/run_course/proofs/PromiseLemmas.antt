@@ -1,9 +1,8 @@
 -- What a call promises, from what its answer says.
-use Rattle.std.proofs.Common.{◌≡◌, ℕ, false, inl, inr, List, [], ◌∷◌, Option, Some, sym, ◌∙◌, subst, refl, arith, ap}
+use Rattle.std.proofs.Common.{◌≡◌, ℕ, false, inl, inr, List, [], ◌∷◌, Option, sym, ◌∙◌, subst, refl, arith, ap}
 use Rattle.std.specs.Prelude.{IsSome}
 use Rattle.std.specs.List.{Contains}
 use Rattle.direct_meaning.specs.Direct.{traps_of}
-use Rattle.flume_collection.specs.Traps.{IsLeast}
 use Rattle.flume_collection.specs.declared.trap.Trap.{Trap as TrapOf}
 use Rattle.flume_value.specs.declared.fault.Kind.{Kind}
 use Rattle.flume_value.specs.declared.value.Value.{Value}
@@ -18,13 +17,12 @@ use Rattle.run_course.specs.Answers.{Answers, IsTrap, IsUsage, MayTell}
 use Rattle.run_course.specs.Asked.{AllHaveRows, AskFor, IsAskedFor, Reads, inputs_read}
 use Rattle.direct_meaning.specs.Inputs.{inputs_of}
 use Rattle.outside.specs.Saves.{FailsAt}
-use Rattle.run_course.specs.Promises.{CanRun, EndsAs, EndsWith, IsEnd, IsEnded, IsRefusal, IsShelfCalm, IsTrapped, IsUnlessFailed, Promises}
-use Rattle.run_course.specs.Words.{asked_for}
+use Rattle.run_course.specs.Promises.{CanRun, EndsAs, EndsWith, IsEnd, IsEnded, IsRefusal, IsShelfCalm, IsUnlessFailed, Promises}
 use Rattle.run_course.specs.Written.{IsMeant, IsThrough, IsWritten, Table, Writes}
 use Rattle.run_course.specs.declared.words.Command.{Command}
 use Rattle.run_course.specs.declared.words.Command.TheVariants.{Check, Plan, Direct, Run}
 use Rattle.run_course.specs.World.{Keeps, World}
-use Rattle.run_course.proofs.TurnLemmas.{Stops, asked_some, input_stops, no_file_stops, no_run, one_stop, same_command, same_meaning, same_script, script_stops, too_long_stops}
+use Rattle.run_course.proofs.TurnLemmas.{Stops, asked_some, input_stops, no_file_stops, no_run, one_stop, same_command, same_meaning, script_stops, too_long_stops}
 
 abbrev Words : Type 0
 Words = List (List ℕ)
@@ -48,11 +46,23 @@ written_rows words told files text Check script reads writes =
 written_rows words told files text Plan script reads writes =
     record { command = Plan; script = script; rows = []; reads = reads; inputs = tt }
 written_rows words told files text Direct script reads writes =
-    record { command = Direct; script = script; rows = writes.0; reads = reads; inputs =
-    writes.2.meant.inputs }
+    record {
+      command = Direct;
+      script = script;
+      rows = writes.0;
+      reads = reads;
+      inputs =
+          writes.2.meant.inputs;
+    }
 written_rows words told files text Run script reads writes =
-    record { command = Run; script = script; rows = writes.2.0; reads = reads; inputs =
-    writes.2.2.meant.inputs }
+    record {
+      command = Run;
+      script = script;
+      rows = writes.2.0;
+      reads = reads;
+      inputs =
+          writes.2.2.meant.inputs;
+    }
 
 written_read : (words : Words) (told : Option (List NamedBytes)) (files : List NamedBytes) (text :
     List ℕ) → IsWritten words told files text
@@ -74,8 +84,12 @@ trap_read : (words : Words) (before after : World) (origin : ℕ) (kind : Kind) 
     → IsTrap origin kind element words before after
     → HasRead words before.source.told
 trap_read words before after origin kind element it =
-    trap_rows words before.source.told it.0 it.1 it.2 it.3 (record { origin = origin; element =
-    element; kind = kind }) it.5 it.6 it.7
+    trap_rows words before.source.told it.0 it.1 it.2 it.3 (record {
+      origin = origin;
+      element =
+          element;
+      kind = kind;
+    }) it.5 it.6 it.7
 
 -- ---- a refusal comes wherever its cause stands
 
@@ -179,11 +193,11 @@ through_end : (words : Words) (before after : World) (c d : Command) (p q : Scri
     → EndsAs Direct p rows Done
 through_end words before after c d p q rows front files text others table tells reads read inputs
     through = (
-  table,
-  same_meaning words before.source.told c d p q rows others table tells reads read inputs
-      through.meant,
-  done_end (traps_of table) through.through,
-)
+      table,
+      same_meaning words before.source.told c d p q rows others table tells reads read inputs
+          through.meant,
+      done_end (traps_of table) through.through,
+    )
 
 done_as : (words : Words) (before after : World) (c d : Command) (p q : Script) (rows : List (List
     Value)) (files : List NamedBytes) (text : List ℕ)
@@ -223,8 +237,11 @@ trapped_meaning : (words : Words) (before after : World) (c : Command) (p : Scri
 trapped_meaning words before after c p rows origin kind element tells reads inputs it = (
   it.3,
   same_meaning words before.source.told c it.0 p it.1 rows it.2 it.3 tells reads it.5 inputs it.6,
-  told_end it.0 (traps_of it.3) origin kind element (record { origin = origin; element = element;
-      kind = kind }) it.7,
+  told_end it.0 (traps_of it.3) origin kind element (record {
+    origin = origin;
+    element = element;
+    kind = kind;
+  }) it.7,
 )
 
 -- a trap is told by a command that may tell it
@@ -235,8 +252,11 @@ told_by : (words : Words) (before after : World) (c : Command) (p : Script) (ori
 told_by words before after command p origin kind element reads it =
     let same : it.0 ≡ command =
         same_command words before.source.told it.0 command it.1 p it.5 reads in
-    subst (λ (c : Command). MayTell c (traps_of it.3) (record { origin = origin; element =
-    element; kind = kind })) same it.7
+    subst (λ (c : Command). MayTell c (traps_of it.3) (record {
+      origin = origin;
+      element = element;
+      kind = kind;
+    })) same it.7
 
 trapped_as : (words : Words) (before after : World) (c : Command) (p : Script) (rows : List (List
     Value)) (origin : ℕ) (kind : Kind)
@@ -434,13 +454,13 @@ promises words before after status answers kept =
       always_usage = λ none. always_usage words before after status none answers;
       always_too_long = λ tells name limit cause.
           always words before after status (TooLong name limit) tells (too_long_stops words
-              before.source name limit cause) answers;
+          before.source name limit cause) answers;
       always_script_refused = λ tells line kind cause.
           always words before after status (ScriptRefused line kind) tells (script_stops words
-              before.source line kind cause) answers;
+          before.source line kind cause) answers;
       always_input_refused = λ tells name row column kind cause.
           always words before after status (InputRefused name row column kind) tells (input_stops
-              words before.source name row column kind cause) answers;
+          words before.source name row column kind cause) answers;
       refused = refused_part words before after status answers;
       file_fault = λ name is. when (WriteFault (File name)) is;
       screen_fault = λ is. when (WriteFault Screen) is;

@@ -125,14 +125,14 @@ same_meaning words told c d p q rows others table tells first second inputs mean
 
 -- the script's file stops the command so
 pub data BadScript (told : Told) (command : Command) (name : List ℕ) (status : Status) : Type 0
-    where
-  missing : IsMissing told name → status ≡ NoFile name → BadScript told command name status
-  above : IsAbove told name SCRIPT_LIMIT → status ≡ TooLong name SCRIPT_LIMIT
-      → BadScript told command name status
-  refused : (bytes : List ℕ) (line : ℕ) (kind : ScriptKind)
-      → Loads told name SCRIPT_LIMIT bytes
-      → IsRefusedBy command bytes line kind → status ≡ ScriptRefused line kind
-          → BadScript told command name status
+  where
+    missing : IsMissing told name → status ≡ NoFile name → BadScript told command name status
+    above : IsAbove told name SCRIPT_LIMIT → status ≡ TooLong name SCRIPT_LIMIT
+        → BadScript told command name status
+    refused : (bytes : List ℕ) (line : ℕ) (kind : ScriptKind)
+        → Loads told name SCRIPT_LIMIT bytes
+        → IsRefusedBy command bytes line kind → status ≡ ScriptRefused line kind
+        → BadScript told command name status
 
 -- an input's file stops it so
 pub data BadInput (told : Told) (wanted : Wanted) (status : Status) : Type 0 where
@@ -143,7 +143,7 @@ pub data BadInput (told : Told) (wanted : Wanted) (status : Status) : Type 0 whe
   bad_rows : (bytes : List ℕ) (row column : ℕ) (kind : RowKind)
       → Loads told wanted.file INPUT_LIMIT bytes
       → rows_of bytes wanted.type ≡ Some (Err (Bad row column kind)) → status
-          ≡ InputRefused wanted.file row column kind → BadInput told wanted status
+      ≡ InputRefused wanted.file row column kind → BadInput told wanted status
 
 -- a file stops the call so, in its turn
 abbrev pub Stops : Words → Told → Status → Type 0
@@ -352,11 +352,20 @@ asked_some words told status (inr stops) none = let wrong = sym none ∙ stops.1
 missing_stops : (words : Words) (told : Told) (name : List ℕ) (limit : ℕ)
     → IsAskedFor words told name limit → IsMissing told name
     → Stops words told (NoFile name)
-missing_stops words told name limit (inl asked) gone = inl (asked.0, name, asked.1, missing gone
-    refl)
+missing_stops words told name limit (inl asked) gone = inl (
+  asked.0,
+  name,
+  asked.1,
+  missing gone
+      refl,
+)
 missing_stops words told name limit (inr asked) gone =
-    inr (asked.0, asked.1, no_input (subst (λ (n : List ℕ). IsMissing told n) asked.2 gone) (ap
-    NoFile asked.2))
+    inr (
+      asked.0,
+      asked.1,
+      no_input (subst (λ (n : List ℕ). IsMissing told n) asked.2 gone) (ap
+          NoFile asked.2),
+    )
 
 pub no_file_stops : (words : Words) (source : Seen (List NamedBytes)) (name : List ℕ)
     → IsNoFile name words source → Stops words source.told (NoFile name)
@@ -366,8 +375,13 @@ above_stops : (words : Words) (told : Told) (name : List ℕ) (limit : ℕ)
     → IsAskedFor words told name limit → IsAbove told name limit
     → Stops words told (TooLong name limit)
 above_stops words told name limit (inl asked) longer =
-    inl (asked.0, name, asked.1, above (subst (λ (m : ℕ). IsAbove told name m) asked.2 longer)
-    (ap (TooLong name) asked.2))
+    inl (
+      asked.0,
+      name,
+      asked.1,
+      above (subst (λ (m : ℕ). IsAbove told name m) asked.2 longer)
+          (ap (TooLong name) asked.2),
+    )
 above_stops words told name limit (inr asked) longer =
     inr (
       asked.0,
@@ -386,12 +400,21 @@ too_long_stops words source name limit cause = above_stops words source.told nam
 pub script_stops : (words : Words) (source : Seen (List NamedBytes)) (line : ℕ) (kind :
     ScriptKind) → IsScriptRefused line kind words source
     → Stops words source.told (ScriptRefused line kind)
-script_stops words source line kind cause = inl (cause.0, cause.1, cause.3, refused cause.2 line
-    kind cause.4 cause.5 refl)
+script_stops words source line kind cause = inl (
+  cause.0,
+  cause.1,
+  cause.3,
+  refused cause.2 line
+      kind cause.4 cause.5 refl,
+)
 
 pub input_stops : (words : Words) (source : Seen (List NamedBytes)) (name : List ℕ) (row column :
     ℕ) (kind : RowKind) → IsInputRefused name row column kind words source
     → Stops words source.told (InputRefused name row column kind)
 input_stops words source name row column kind cause =
-    inr (cause.0, cause.2, bad_rows cause.1 row column kind cause.4 cause.5 (ap (λ (n : List ℕ).
-    InputRefused n row column kind) cause.3))
+    inr (
+      cause.0,
+      cause.2,
+      bad_rows cause.1 row column kind cause.4 cause.5 (ap (λ (n : List ℕ).
+          InputRefused n row column kind) cause.3),
+    )

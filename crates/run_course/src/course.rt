@@ -121,7 +121,10 @@ fn carried_out<R: Source>(
         Command::Direct => meant(alloc, program, Vec::new(alloc), source),
         Command::Run => match plan_text(alloc, program)? {
             Some(plan) => meant(alloc, program, plan, source),
-            None => Err(Stop::Refused(Status::ScriptRefused { line: 0, kind: ScriptKind::Syntax })),
+            None => Err(Stop::Refused(Status::ScriptRefused {
+                line: 0,
+                kind: ScriptKind::Syntax,
+            })),
         },
     }
 }

@@ -23,11 +23,7 @@ use std::alloc::Global;
 use std::str;
 
 /// Loads and checks the script of that name.
-pub fn script_of<R: Source>(
-    alloc: Global,
-    name: &str,
-    source: &mut R,
-) -> Result<Program, Status>
+pub fn script_of<R: Source>(alloc: Global, name: &str, source: &mut R) -> Result<Program, Status>
     ensures files { R.files source.new ≡ R.files source.old }
     ensures ok { IfOk result (λ program.
         IsLoaded (R.files source.old) name.now program.script) }

@@ -54,10 +54,7 @@ fn direct_meanings(rt: HostRuntime) -> Result<(), Fail> {
         (
             TOPS,
             &[("a.csv", b"n\n3\n1\n3\n2\n")],
-            &[
-                ("two.csv", b"n\n3\n3\n"),
-                ("five.csv", b"n\n1\n2\n3\n3\n"),
-            ],
+            &[("two.csv", b"n\n3\n3\n"), ("five.csv", b"n\n1\n2\n3\n3\n")],
             b"size a 4\nsize two 2\nsize five 4\ndone\n",
         ),
         (
@@ -139,11 +136,7 @@ fn an_input_that_is_needed(rt: HostRuntime) -> Result<(), Fail> {
     let alloc = rt.alloc();
     let table: [(&[Named], u8, &[u8]); 3] = [
         (&[], 11, b"no file: \"a.csv\"\n"),
-        (
-            &[("a.csv", b"k,v\n1,5\n")],
-            11,
-            b"no file: \"b.csv\"\n",
-        ),
+        (&[("a.csv", b"k,v\n1,5\n")], 11, b"no file: \"b.csv\"\n"),
         (
             &[("a.csv", b"k,v\n1,x\n")],
             4,

@@ -1,5 +1,5 @@
 -- Which scripts have a plan that is known.
-use Rattle.std.proofs.Common.{◌≡◌, ℕ, List, [], ◌∷◌, length, Option, Some, None, slice_get, ap, sym, ◌∙◌, refl, arith}
+use Rattle.std.proofs.Common.{◌≡◌, ℕ, List, [], ◌∷◌, length, Option, Some, slice_get, ap, ◌∙◌, refl, arith}
 use Rattle.std.specs.Option.{option_map}
 use Rattle.script_check.specs.declared.made.Output.{Output}
 use Rattle.script_check.specs.Script.{Node, Script}

@@ -1,8 +1,6 @@
-use Rattle.std.proofs.Common.{◌≡◌, Some, ap, sym, ◌∙◌, refl, rules, subst}
+use Rattle.std.proofs.Common.{sym, subst}
 use Rattle.std.specs.Prelude.{IsUtf8}
-use Rattle.direct_meaning.specs.Evaluated.{bag_at}
-use Rattle.outside.specs.Saves.{output_file}
-use Rattle.run_course.proofs.FileLemmas.{file_of_output, name_ready}
+use Rattle.run_course.proofs.FileLemmas.{name_ready}
 use Rattle.run_course.proofs.evaluation.output_at.Goals as goal
 
 pub unreachable-requires-in_default-from_utf8 : goal.unreachable-requires-in_default-from_utf8

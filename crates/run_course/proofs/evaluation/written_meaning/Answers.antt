@@ -1,9 +1,8 @@
-use Rattle.std.proofs.Common.{◌≡◌, ◌++◌, List, Some, None, codes, map, slice_get, ap, ◌∙◌, subst}
-use Rattle.flume_value.specs.declared.value.Value.{Value}
+use Rattle.std.proofs.Common.{◌≡◌, ◌++◌, Some, None, codes, map, slice_get, ap, ◌∙◌, subst}
 use Rattle.outside.specs.Saves.{output_file}
 use Rattle.run_texts.specs.Texts.{size_lines}
 use Rattle.run_course.specs.inner.Course.{AreFiles}
-use Rattle.run_course.proofs.MeaningLemmas.{gives, have_members, stops, within}
+use Rattle.run_course.proofs.MeaningLemmas.{gives, stops, within}
 use Rattle.run_course.proofs.evaluation.written_meaning.Goals as goal
 
 pub trapped-requires : goal.trapped-requires

@@ -1,5 +1,4 @@
 use Rattle.std.proofs.Common.{◌≡◌, ◌≤◌}
-use Rattle.outside.specs.Seen.{seen}
 use Rattle.run_course.specs.inner.Course.{HasRead}
 use Rattle.run_course.proofs.loading.rows_of_inputs.Given as goal
 
