@@ -97,7 +97,8 @@ keys-filter : (t : Value → Bool) (ps : Pairs)
 keys-filter t [] = refl
 keys-filter t (p ∷ ps) =
     elim (t p.0) as
-    (λ b. map (λ (q : Value × Value). q.0) (cond b (p ∷ filter (by_key t) ps) (filter (by_key t) ps))
+    (λ b. map (λ (q : Value × Value). q.0)
+    (cond b (p ∷ filter (by_key t) ps) (filter (by_key t) ps))
     ≡ cond b (p.0 ∷ filter t (map (λ (q : Value × Value). q.0) ps))
     (filter t (map (λ (q : Value × Value). q.0) ps))) [
       | true ↦ ap (λ l. p.0 ∷ l) (keys-filter t ps)
@@ -153,7 +154,8 @@ each_key G test t same ps =
     (Each-weaker (λ k. t k ≡ true) (λ k. G k (values_of k passing) ≡ G k (values_of k ps))
     (λ k passes. ap (G k) (values_of-filter t ps k passes)) (filter t (keys_of ps))
     (Each-filter_passes t (keys_of ps)))
-    ∙ sym (filter-map test t (λ k. G k (values_of k ps)) (λ k. same k (values_of k ps)) (keys_of ps))
+    ∙ sym (filter-map test t (λ k. G k (values_of k ps)) (λ k. same k (values_of k ps))
+    (keys_of ps))
 
 -- ---- members that are pairs
 

@@ -4,4 +4,5 @@ use Rattle.shuffle_parts.proofs.gather.gather_pairs.Given as goal
 
 abbrev pub invariant-loop-out : goal.invariant-loop-out
 invariant-loop-out l =
-    l.all.items ++ all_pairs (drop l.out-index l.outs) l.channel l.partition ≡ all_pairs l.outs l.channel l.partition
+    l.all.items ++ all_pairs (drop l.out-index l.outs) l.channel l.partition
+    ≡ all_pairs l.outs l.channel l.partition

@@ -4,4 +4,5 @@ use Rattle.shuffle_parts.proofs.gather.gather_partials.Given as goal
 
 abbrev pub invariant-loop-out : goal.invariant-loop-out
 invariant-loop-out l =
-    l.all.items ++ all_partials (drop l.out-index l.outs) l.channel l.partition ≡ all_partials l.outs l.channel l.partition
+    l.all.items ++ all_partials (drop l.out-index l.outs) l.channel l.partition
+    ≡ all_partials l.outs l.channel l.partition
