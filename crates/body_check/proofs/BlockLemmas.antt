@@ -85,7 +85,8 @@ module _ (gives : List Ty) (s : Sight) (ks : List Stmt) where
   next_of (Ok x) next does found last rest h r =
       first_of x next does (found x.1 (ks ++ x.0 ∷ [])) last rest h (r x.1 (ks ++ x.0 ∷ []) h.1)
 
-pub as_block : (gives : List Ty) (s : Sight) (o : Checked (List Stmt × Sight)) (next : Checked Sight)
+pub as_block : (gives : List Ty) (s : Sight) (o : Checked (List Stmt × Sight))
+    (next : Checked Sight)
     (does : Doing) → ArePlaced gives s [] o next does
     → IsBlock gives s (o >>= λ all. Ok all.0) next
     (λ env out. then (does (state env out)) (λ st. Gives st.out))

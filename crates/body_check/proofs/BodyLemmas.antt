@@ -1,11 +1,13 @@
 -- The slots of a body are well typed, and emit what it emits.
-use Rattle.std.proofs.Common.{◌≡◌, ℕ, true, Option, Some, None, Ok, List, [], ◌∷◌, map, slice_get, refl, sym, ◌∙◌, subst, append-nil}
+use Rattle.std.proofs.Common.{◌≡◌, ℕ, true, Option, Some, None, Ok, List, [], ◌∷◌, map, slice_get}
+use Rattle.std.proofs.Common.{refl, sym, ◌∙◌, subst, append-nil}
 use Rattle.flume_types.specs.declared.types.Ty.{Ty, out-Ty}
 use Rattle.flume_types.specs.declared.types.Ty.TheVariants as ty
 use Rattle.flume_types.proofs.SameLemmas.{tells_apart}
 use Rattle.flume_grammar.specs.declared.fault.ScriptKind.TheVariants.{BadNumber, Mistyped}
 use Rattle.flume_grammar.specs.declared.tree.Expr.{Expr}
-use Rattle.flume_grammar.specs.declared.tree.Body.{Body, Body-F, out-Body, roll-Body, out-roll-Body, map-Body, ind-Body}
+use Rattle.flume_grammar.specs.declared.tree.Body.{Body, Body-F, out-Body, roll-Body, out-roll-Body}
+use Rattle.flume_grammar.specs.declared.tree.Body.{map-Body, ind-Body}
 use Rattle.dofn_eval.specs.declared.stmt.Stmt.{Stmt}
 use Rattle.dofn_eval.specs.declared.stmt.Stmt.TheVariants as stmt
 use Rattle.dofn_eval.specs.Outcome.{Gives, then}
@@ -23,11 +25,13 @@ use Rattle.expression_check.proofs.TypeLemmas.{bool_is}
 use Rattle.expression_check.proofs.RightLemmas.{right}
 use Rattle.body_check.specs.Bodies.{after_all, layer_after, after as sight_after}
 use Rattle.body_check.specs.Call.{run_all, block, after, layer_emitted, emitted_in}
-use Rattle.body_check.specs.inner.Slots.{Placed, slots_as, block_slots, block as block_of, layer_placed, placed_of}
+use Rattle.body_check.specs.inner.Slots.{Placed, slots_as, block_slots, block as block_of}
+use Rattle.body_check.specs.inner.Slots.{layer_placed, placed_of}
 use Rattle.body_check.proofs.FormLemmas.{emitted_in-step, after-step}
 use Rattle.body_check.proofs.PlacedLemmas.{placed_of-step}
 use Rattle.body_check.proofs.BlockLemmas.{Doing, IsPlaced, ArePlaced, IsBlock, next_of, as_block}
-use Rattle.body_check.proofs.StatementLemmas.{assoc, renamed, as_right, let_by, emit_by, if_by, for_by, case_by}
+use Rattle.body_check.proofs.StatementLemmas.{assoc, renamed, as_right, let_by, emit_by, if_by}
+use Rattle.body_check.proofs.StatementLemmas.{for_by, case_by}
 
 -- ---- every body
 

@@ -14,7 +14,8 @@ use Rattle.expression_check.specs.Fields.{member_type, side_types}
 use Rattle.expression_check.specs.Types.{is_bool, type_of}
 use Rattle.expression_check.specs.Given.{valued, given_in}
 use Rattle.body_check.specs.Bodies.{after_all, layer_after, after as sight_after}
-use Rattle.body_check.specs.Call.{State, state, run_all, block, for_each, by_side, after, layer_emitted, emitted_in}
+use Rattle.body_check.specs.Call.{State, state, run_all, block, for_each, by_side, after}
+use Rattle.body_check.specs.Call.{layer_emitted, emitted_in}
 
 after_mapped : {X : Type 0} (f : X → Sight → Checked Sight) (xs : List X) (s : Sight)
     → after_all (λ m. m) (map f xs) s ≡ after_all f xs s

@@ -1,5 +1,6 @@
 -- A body that has slots keeps the rules, is well typed, and means what its slots do.
-use Rattle.std.proofs.Common.{◌≡◌, ℕ, Ok, Err, Result, IfOk, List, [], ◌∷◌, refl, length, replicate, map, sym, ap, subst}
+use Rattle.std.proofs.Common.{◌≡◌, ℕ, Ok, Err, Result, IfOk, List, [], ◌∷◌, refl, length, replicate}
+use Rattle.std.proofs.Common.{map, sym, ap, subst}
 use Rattle.flume_value.specs.declared.value.Value.{Value}
 use Rattle.flume_types.specs.declared.types.Ty.{Ty}
 use Rattle.flume_types.specs.Typing.{Has}
@@ -22,7 +23,8 @@ use Rattle.body_check.specs.inner.Slots.{placed_of, block as block_of}
 use Rattle.body_check.proofs.BlockLemmas.{IsBlock}
 use Rattle.body_check.proofs.BodyLemmas.{right_block}
 
-module _ (known : Named Ty) (argument : List ℕ) (takes : Ty) (gives : List Ty) (body : List Body) where
+module _ (known : Named Ty) (argument : List ℕ) (takes : Ty) (gives : List Ty)
+    (body : List Body) where
   abbrev start : Sight
   start = at_start known argument takes
 
@@ -75,7 +77,8 @@ module _ (known : Named Ty) (argument : List ℕ) (takes : Ty) (gives : List Ty)
       → HasAnswer gives (means known (length gives) argument takes body x)
   answered_by x (Ok ks) e rules has =
       let h = function_is ks e in
-      subst (HasAnswer gives) (sym (h.same (length gives) x)) (answered_call takes gives ks x h.typed has)
+      subst (HasAnswer gives) (sym (h.same (length gives) x))
+      (answered_call takes gives ks x h.typed has)
   answered_by x (Err f) e rules has =
       let wrong = no_function f e in
       cc

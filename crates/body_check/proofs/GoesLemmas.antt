@@ -19,7 +19,8 @@ named names o = then o (λ s. Gives (state (bound names s.env) s.out))
 
 pub named_then : (names next : Newest Ty) (o : Outcome slots.State) (f : State → Outcome State)
     (g : slots.State → Outcome slots.State)
-    → ((vs : List Value) (out : Emissions) → f (state (bound names vs) out) ≡ named next (g (slots.state vs out)))
+    → ((vs : List Value) (out : Emissions)
+    → f (state (bound names vs) out) ≡ named next (g (slots.state vs out)))
     → then (named names o) f ≡ named next (then o g)
 named_then names next (Gives s) f g h = h s.env s.out
 named_then names next (Traps k) f g h = refl

@@ -8,7 +8,8 @@ use Rattle.dofn_eval.specs.declared.stmt.Stmt.{Stmt}
 use Rattle.written_types.specs.Answer.{Checked, ◌>>=◌}
 use Rattle.written_types.proofs.FailsLemmas.{bind-same}
 use Rattle.expression_check.specs.Sight.{Sight}
-use Rattle.body_check.specs.inner.Slots.{Placed, block_slots, block, let_slots, emit_slots, if_slots, for_slots, case_slots, layer_placed, placed_of}
+use Rattle.body_check.specs.inner.Slots.{Placed, block_slots, block, let_slots, emit_slots}
+use Rattle.body_check.specs.inner.Slots.{if_slots, for_slots, case_slots, layer_placed, placed_of}
 
 slots_mapped : {X : Type 0} (f : X → Sight → Checked Placed) (xs : List X) (s : Sight)
     (slots : List Stmt) → block_slots (λ m. m) (map f xs) s slots ≡ block_slots f xs s slots

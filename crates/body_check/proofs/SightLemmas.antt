@@ -1,5 +1,6 @@
 -- Names that stay in sight behind newer ones, a block's next statement, and a `case`'s sides.
-use Rattle.std.proofs.Common.{◌≡◌, ℕ, ◌+◌, ◌-◌, ◌<◌, ◌≤◌, List, [], ◌∷◌, ◌++◌, length, drop, get_or, Ok, sym, ap, ◌∙◌, arith}
+use Rattle.std.proofs.Common.{◌≡◌, ℕ, ◌+◌, ◌-◌, ◌<◌, ◌≤◌, List, [], ◌∷◌, ◌++◌, length, drop, get_or}
+use Rattle.std.proofs.Common.{Ok, sym, ap, ◌∙◌, arith}
 use Rattle.std.proofs.lemmas.List.{drop_more, drop-drop, length-drop}
 use Rattle.flume_types.specs.declared.types.Ty.{Ty}
 use Rattle.flume_grammar.specs.declared.fault.ScriptKind.TheVariants.{Mistyped}
@@ -12,7 +13,8 @@ use Rattle.expression_check.specs.Sight.{Newest, Sight}
 use Rattle.expression_check.specs.Fields.{side_types}
 use Rattle.expression_check.specs.Slots.{Typed, slots_of}
 use Rattle.body_check.specs.inner.Frames.{IsBehind}
-use Rattle.body_check.specs.inner.Slots.{Placed, InBlock, block_slots, both_slots, case_slots, placed_of}
+use Rattle.body_check.specs.inner.Slots.{Placed, InBlock, block_slots, both_slots, case_slots}
+use Rattle.body_check.specs.inner.Slots.{placed_of}
 
 pub behind-itself : (names : Newest Ty) → IsBehind names names
 behind-itself names =

@@ -1,5 +1,6 @@
 -- The slots of each form of statement are right where those of its parts are.
-use Rattle.std.proofs.Common.{◌≡◌, ℕ, Bool, true, false, Option, Some, None, Ok, Err, List, ◌∷◌, refl, sym, ap, ◌∙◌, subst, slice_get}
+use Rattle.std.proofs.Common.{◌≡◌, ℕ, Bool, true, false, Option, Some, None, Ok, Err, List, ◌∷◌}
+use Rattle.std.proofs.Common.{refl, sym, ap, ◌∙◌, subst, slice_get}
 use Rattle.flume_value.specs.declared.value.Value.{Value}
 use Rattle.flume_types.specs.declared.types.Ty.{Ty}
 use Rattle.flume_types.specs.declared.types.Ty.TheVariants as ty
@@ -15,7 +16,8 @@ use Rattle.dofn_eval.specs.Run as slots
 use Rattle.dofn_eval.specs.Run.{emitted_to}
 use Rattle.dofn_eval.specs.Typed as typing
 use Rattle.dofn_eval.specs.Typed.{BlockTyped}
-use Rattle.dofn_eval.proofs.MeaningLemmas.{run_one-Let, run_one-Emit, run_one-If, run_one-For, run_one-Case}
+use Rattle.dofn_eval.proofs.MeaningLemmas.{run_one-Let, run_one-Emit, run_one-If, run_one-For}
+use Rattle.dofn_eval.proofs.MeaningLemmas.{run_one-Case}
 use Rattle.written_types.specs.Answer.{Checked, ◌>>=◌, unless, or_fault}
 use Rattle.expression_check.specs.Sight.{Newest, Sight, with_name}
 use Rattle.expression_check.specs.Fields.{member_type, side_types}
@@ -25,7 +27,8 @@ use Rattle.expression_check.specs.Right.{types, bound, IsRight}
 use Rattle.expression_check.proofs.TypeLemmas.{list_type_is, either_type_is}
 use Rattle.body_check.specs.Call.{state, Emits, for_each, by_side, after}
 use Rattle.body_check.specs.inner.Slots.{Placed, InBlock}
-use Rattle.body_check.proofs.GoesLemmas.{named, after_named, let_goes, emit_goes, valued_tagged, for_goes, case_goes}
+use Rattle.body_check.proofs.GoesLemmas.{named, after_named, let_goes, emit_goes, valued_tagged}
+use Rattle.body_check.proofs.GoesLemmas.{for_goes, case_goes}
 use Rattle.body_check.proofs.BlockLemmas.{Giving, Doing, IsPlaced, IsBlock, IsInside}
 
 -- ---- each form of statement

@@ -3,8 +3,9 @@
 //! A body as it is parsed has names: of its argument, of the members of lists, of fields, of types.
 //! `specs/Bodies.antt` has the rules of a body, with its first fault, and `specs/Call.antt` what a
 //! call of a function means where names stand for values, by one equation for each form.
-//! `check_body` answers the body with slots in place of names, or that first fault on the line of
-//! the innermost statement; and what the body with slots means is what the parsed one does.
+//! `check_body` answers the function with slots in place of names, or that first fault on the line
+//! of the innermost statement; and what that function means is what the parsed body does. Both have
+//! a list of outputs, each with its type; `emit` emits to the first.
 #![tactic(auto)]
 
 mod checks;

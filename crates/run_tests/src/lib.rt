@@ -14,6 +14,8 @@ mod direct;
 #[cfg(test)]
 mod faults;
 #[cfg(test)]
+mod plans;
+#[cfg(test)]
 mod refusals;
 #[cfg(test)]
 mod rows;

@@ -1,8 +1,12 @@
 -- Flags that tell which numbers are among some: one more, and what collections are made from.
-use Rattle.std.proofs.Common.{◌≡◌, ℕ, suc, ◌+◌, ◌<◌, ◌≤◌, Bool, true, false, eqb, ◌||◌, List, [], ◌∷◌, ◌++◌, length, map, take, drop, get_or, set, replicate, if◌then◌else◌, refl, sym, ap, ◌∙◌, subst, arith, Some, slice_get}
+use Rattle.std.proofs.Common.{◌≡◌, ℕ, suc, ◌+◌, ◌<◌, ◌≤◌, Bool, true, false, eqb, ◌||◌, List, []}
+use Rattle.std.proofs.Common.{◌∷◌, ◌++◌, length, map, take, drop, get_or, set, replicate}
+use Rattle.std.proofs.Common.{if◌then◌else◌, refl, sym, ap, ◌∙◌, subst, arith, Some, slice_get}
 use Rattle.std.proofs.lemmas.Bool.{eqb-true, eq-eqb}
 use Rattle.std.proofs.lemmas.Option.{slice_get_within, get_or_from_slice_get}
-use Rattle.std.proofs.lemmas.List.{length-map, get_or_default, drop_all, get_or-set_same, get_or-set_other, get_or-replicate, length-set, length-replicate, take_more, map_push}
+use Rattle.std.proofs.lemmas.List.{length-map, get_or_default, drop_all, get_or-set_same}
+use Rattle.std.proofs.lemmas.List.{get_or-set_other, get_or-replicate, length-set, length-replicate}
+use Rattle.std.proofs.lemmas.List.{take_more, map_push}
 use Rattle.std.proofs.lemmas.List.Folds.{list_any-append}
 use Rattle.std.proofs.Math.Seq.{drop-cons}
 use Rattle.script_check.specs.declared.made.Made.{Made}
@@ -66,7 +70,8 @@ marked flags after number numbers is are =
 
 past-at : (number n : ℕ) (numbers : List ℕ) → n < number → (b : Bool) → eqb number n ≡ b
     → has numbers n ≡ (b || has numbers n)
-past-at number n numbers less true e = let same = eqb-true number n e in absurd (omega (arith, same))
+past-at number n numbers less true e =
+    let same = eqb-true number n e in absurd (omega (arith, same))
 past-at number n numbers less false e = refl
 
 -- a number for which there is no flag

@@ -1,5 +1,6 @@
 -- What is in memory, as contracts see it: look-ups, one more, and what stays as types are added.
-use Rattle.std.proofs.Common.{◌≡◌, ℕ, ◌≤◌, false, List, ◌∷◌, [], ◌++◌, length, map, take, get_or, Option, Some, None, is_some, refl, sym, ap, ◌∙◌, subst, arith}
+use Rattle.std.proofs.Common.{◌≡◌, ℕ, ◌≤◌, false, List, ◌∷◌, [], ◌++◌, length, map, take, get_or}
+use Rattle.std.proofs.Common.{Option, Some, None, is_some, refl, sym, ap, ◌∙◌, subst, arith}
 use Rattle.std.specs.List.{position, position_or_len}
 use Rattle.std.specs.Option.{option_map}
 use Rattle.std.specs.Str.{bytes_eq}
@@ -16,7 +17,8 @@ use Rattle.script_check.specs.declared.made.Signature.{Signature as HeldSignatur
 use Rattle.script_check.specs.declared.made.Node.{Node as HeldNode}
 use Rattle.script_check.specs.declared.made.Output.{Output}
 use Rattle.script_check.specs.Script.{place}
-use Rattle.script_check.specs.inner.Held.{function_of, node_of, FunctionIn, NodeIn, AreHeld, checking_of}
+use Rattle.script_check.specs.inner.Held.{function_of, node_of, FunctionIn, NodeIn, AreHeld}
+use Rattle.script_check.specs.inner.Held.{checking_of}
 use Rattle.script_check.specs.Program.{signature_in, HasTypes, function_in, Does}
 use Rattle.expression_check.proofs.KeptLemmas.{types-kept}
 use Rattle.body_check.proofs.FrameLemmas.{more-types}
@@ -114,7 +116,8 @@ signature-more old new more signature within = (
   more-types old new more signature.gives within.1,
 )
 
-module _ (old new : Known) (more : Grows old new) (functions : Named HeldFunction) (nodes : Named HeldNode) (held : AreHeld old functions nodes) where
+module _ (old new : Known) (more : Grows old new) (functions : Named HeldFunction)
+    (nodes : Named HeldNode) (held : AreHeld old functions nodes) where
   function-kept : (function : HeldFunction) → FunctionIn old function
       → function_in new function ≡ function_in old function
   function-kept function in_ = λ i. record {

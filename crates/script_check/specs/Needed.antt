@@ -1,5 +1,6 @@
 -- Which collections of a script are needed: those from which a path of reads leads to an output.
-use Rattle.std.specs.Prelude.{◌==◌, ℕ, suc, Bool, List, [], ◌∷◌, ◌++◌, map, IsSomeAnd, slice_get, if◌then◌else◌}
+use Rattle.std.specs.Prelude.{◌==◌, ℕ, suc, Bool, List, [], ◌∷◌, ◌++◌, map, IsSomeAnd, slice_get}
+use Rattle.std.specs.Prelude.{if◌then◌else◌}
 use Rattle.std.specs.List.{Contains, filter, list_any}
 use Rattle.written_types.specs.Named.{Named}
 use Rattle.script_check.specs.declared.made.Made.{Made}

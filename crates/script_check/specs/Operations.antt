@@ -1,5 +1,6 @@
 -- What collections operations make, each by its rules in order; the first fault with its line.
-use Rattle.std.specs.Prelude.{ℕ, Bool, List, [], ◌∷◌, ◌++◌, ◌&&◌, Option, Some, None, Ok, Err, if◌then◌else◌, codes, map}
+use Rattle.std.specs.Prelude.{ℕ, Bool, List, [], ◌∷◌, ◌++◌, ◌&&◌, Option, Some, None, Ok, Err}
+use Rattle.std.specs.Prelude.{if◌then◌else◌, codes, map}
 use Rattle.std.specs.List.{list_all}
 use Rattle.std.specs.Str.{bytes_eq}
 use Rattle.flume_types.specs.declared.types.Ty.{Ty, Ty-F, out-Ty}
@@ -11,7 +12,8 @@ use Rattle.flume_grammar.specs.declared.tree.Operation.{Operation}
 use Rattle.flume_grammar.specs.declared.tree.Operation.TheVariants as operation
 use Rattle.flume_grammar.specs.declared.tree.Combiner.{Combiner}
 use Rattle.flume_grammar.specs.declared.tree.Combiner.TheVariants as combiner
-use Rattle.flume_grammar.specs.declared.fault.ScriptKind.TheVariants.{Unknown, Mistyped, NotTable, BadNumber}
+use Rattle.flume_grammar.specs.declared.fault.ScriptKind.TheVariants.{Unknown, Mistyped, NotTable}
+use Rattle.flume_grammar.specs.declared.fault.ScriptKind.TheVariants.{BadNumber}
 use Rattle.flume_grammar.specs.declared.fault.ScriptFault.TheVariants.{Refused}
 pub use Rattle.bag_steps.specs.Sides.{sides_of}
 use Rattle.combine_table.specs.declared.comb.Comb.{Comb}

@@ -8,14 +8,16 @@ use Rattle.flume_grammar.specs.declared.tree.Form.TheVariants as form
 use Rattle.flume_grammar.specs.declared.tree.Function.{Function as Written}
 use Rattle.flume_grammar.specs.declared.tree.Operation.{Operation}
 use Rattle.flume_grammar.specs.declared.tree.Statement.{Statement}
-use Rattle.flume_grammar.specs.declared.fault.ScriptKind.TheVariants.{TooMany, NotFlat, NoOutput, BadNumber}
+use Rattle.flume_grammar.specs.declared.fault.ScriptKind.TheVariants.{TooMany, NotFlat, NoOutput}
+use Rattle.flume_grammar.specs.declared.fault.ScriptKind.TheVariants.{BadNumber}
 use Rattle.written_types.specs.Answer.{Checked, ◌>>=◌, unless, or_fault}
 use Rattle.written_types.specs.Named.{Named, fresh}
 use Rattle.written_types.specs.Written.{shallow, whole_type}
 use Rattle.body_check.specs.Bodies.{body_of}
 use Rattle.script_check.specs.declared.made.Made.TheVariants as made
 use Rattle.script_check.specs.Numbers.{number_within}
-use Rattle.script_check.specs.Script.{Signature, Script, State, nothing, function_from, script_from, with_type, with_function, with_node, with_output}
+use Rattle.script_check.specs.Script.{Signature, Script, State, nothing, function_from, script_from}
+use Rattle.script_check.specs.Script.{with_type, with_function, with_node, with_output}
 use Rattle.script_check.specs.Operations.{collection, made_by}
 
 -- each fault is told on this line

@@ -1,11 +1,14 @@
 -- The needed collections as they are computed are those from which a path of reads leads to an
 -- output.
-use Rattle.std.proofs.Common.{◌≡◌, ℕ, zero, suc, ◌+◌, ◌<◌, Bool, true, false, eqb, ◌↔◌, List, [], ◌∷◌, ◌++◌, length, map, drop, Option, Some, None, if◌then◌else◌, slice_get, IsSomeAnd, length-append, refl, sym, subst, arith, ⊎_elim}
+use Rattle.std.proofs.Common.{◌≡◌, ℕ, zero, suc, ◌+◌, ◌<◌, Bool, true, false, eqb, ◌↔◌, List, []}
+use Rattle.std.proofs.Common.{◌∷◌, ◌++◌, length, map, drop, Option, Some, None, if◌then◌else◌}
+use Rattle.std.proofs.Common.{slice_get, IsSomeAnd, length-append, refl, sym, subst, arith, ⊎_elim}
 use Rattle.std.specs.Bool.{IsTrue}
 use Rattle.std.specs.List.{Contains, slice_index_or}
 use Rattle.std.specs.Option.{option_map}
 use Rattle.std.proofs.lemmas.Bool.{eqb-true, eq-eqb}
-use Rattle.std.proofs.lemmas.List.Elements.{Contains-append_left, Contains-append_right, Contains-append_cases}
+use Rattle.std.proofs.lemmas.List.Elements.{Contains-append_left, Contains-append_right}
+use Rattle.std.proofs.lemmas.List.Elements.{Contains-append_cases}
 use Rattle.std.proofs.lemmas.List.Folds.{Any-from_list_any, list_any-from_Any}
 use Rattle.std.proofs.lemmas.Option.{slice_get_within}
 use Rattle.flume_types.specs.declared.types.Ty.{Ty}
@@ -13,7 +16,8 @@ use Rattle.written_types.specs.Named.{Named}
 use Rattle.script_check.specs.declared.made.Made.{Made}
 use Rattle.script_check.specs.declared.made.Made.TheVariants as made
 use Rattle.script_check.specs.Script.{Function, Node, Script}
-use Rattle.script_check.specs.Needed.{operands, made_of, IsNeeded, LeadsToOutput, has, is_needed, outputs_read, read_from, with_reads}
+use Rattle.script_check.specs.Needed.{operands, made_of, IsNeeded, LeadsToOutput, has, is_needed}
+use Rattle.script_check.specs.Needed.{outputs_read, read_from, with_reads}
 use Rattle.script_laws.specs.WellFormed.{members_at, Fits, AllFit, IsWellFormed}
 
 -- ---- numbers of a list

@@ -1,9 +1,12 @@
 -- What an operation makes fits.
-use Rattle.std.proofs.Common.{◌≡◌, ℕ, ℤ, pos, ◌≤◌, Bool, true, false, ◌&&◌, nat_le, List, [], ◌∷◌, ◌++◌, Option, Some, None, option_and_then, if◌then◌else◌, Ok, slice_get, refl, sym, ap, ◌∙◌, subst, arith}
+use Rattle.std.proofs.Common.{◌≡◌, ℕ, ℤ, pos, ◌≤◌, Bool, true, false, ◌&&◌, nat_le, List, [], ◌∷◌}
+use Rattle.std.proofs.Common.{◌++◌, Option, Some, None, option_and_then, if◌then◌else◌, Ok}
+use Rattle.std.proofs.Common.{slice_get, refl, sym, ap, ◌∙◌, subst, arith}
 use Rattle.std.specs.List.{All, AllByRecursion}
 use Rattle.std.specs.Option.{option_map}
 use Rattle.std.proofs.lemmas.Bool.{leb-true}
-use Rattle.std.proofs.lemmas.List.Elements.{All-push, All-nil, All-from_recursion, recursion_from_All}
+use Rattle.std.proofs.lemmas.List.Elements.{All-push, All-nil, All-from_recursion}
+use Rattle.std.proofs.lemmas.List.Elements.{recursion_from_All}
 use Rattle.flume_value.proofs.BoolLemmas.{both_true}
 use Rattle.flume_types.specs.declared.types.Ty.{Ty, out-Ty}
 use Rattle.flume_types.specs.declared.types.Ty.TheVariants as ty
@@ -11,7 +14,8 @@ use Rattle.flume_types.specs.Equality.{type_eq}
 use Rattle.flume_types.specs.Tables.{table_of}
 use Rattle.flume_grammar.specs.declared.tree.Operation.{Operation}
 use Rattle.flume_grammar.specs.declared.tree.Operation.TheVariants as operation
-use Rattle.flume_grammar.specs.declared.fault.ScriptKind.TheVariants.{Unknown, Mistyped, NotTable, BadNumber}
+use Rattle.flume_grammar.specs.declared.fault.ScriptKind.TheVariants.{Unknown, Mistyped, NotTable}
+use Rattle.flume_grammar.specs.declared.fault.ScriptKind.TheVariants.{BadNumber}
 use Rattle.combine_table.specs.declared.comb.Comb.{Comb}
 use Rattle.int_text.specs.Ints.{int_of_text}
 use Rattle.written_types.specs.Answer.{unless, or_fault}
@@ -19,7 +23,8 @@ use Rattle.written_types.specs.Named.{Named, find}
 use Rattle.script_check.specs.Numbers.{within}
 use Rattle.script_check.specs.Script.{Function, Node, State, Operand, Callee, place}
 use Rattle.script_check.specs.Operations as spec
-use Rattle.script_check.specs.Operations.{Pair, pair_in, member_in, combined_type, numbers, all_same}
+use Rattle.script_check.specs.Operations.{Pair, pair_in, member_in, combined_type, numbers}
+use Rattle.script_check.specs.Operations.{all_same}
 use Rattle.script_laws.specs.WellFormed.{members_at, function_at, Fits}
 use Rattle.script_laws.proofs.CheckedLemmas.{both, holds, there, ok-same}
 use Rattle.script_laws.proofs.PlaceLemmas.{meaning, found-at}

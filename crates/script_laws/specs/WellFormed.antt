@@ -1,7 +1,8 @@
 -- Which scripts are well formed: each collection is made from collections that stand before it, of
 -- types that fit, each output has the columns of the collection that it reads, and each function's
 -- body is well typed.
-use Rattle.std.specs.Prelude.{◌≡◌, ℕ, ◌<◌, ◌≤◌, List, [], ◌∷◌, ◌++◌, Option, Some, Ok, length, slice_get, ⊤}
+use Rattle.std.specs.Prelude.{◌≡◌, ℕ, ◌<◌, ◌≤◌, List, [], ◌∷◌, ◌++◌, Option, Some, Ok, length}
+use Rattle.std.specs.Prelude.{slice_get, ⊤}
 use Rattle.std.specs.List.{All}
 use Rattle.std.specs.Option.{option_map}
 use Rattle.flume_types.specs.declared.types.Ty.{Ty}

@@ -9,8 +9,11 @@ use Rattle.script_check.proofs.checks.check.Goals as goal
 pub returns : goal.returns
 returns c =
     let s = c.define.new.state.state in
-    let some : 0 < length s.outputs = omega (arith, c.if-output_count-eq0.false, c.output_count.ensures) in
-    ap (λ r. r >>= λ s. unless 0 NoOutput (nat_lt 0 (length s.outputs)) >>= λ more. Ok (script_from s))
+    let some : 0 < length s.outputs =
+    omega (arith, c.if-output_count-eq0.false, c.output_count.ensures) in
+    ap (λ r. r >>= λ s. unless 0 NoOutput (nat_lt 0 (length s.outputs)) >>= λ more.
+    Ok (script_from s))
     (ap (defined c.args.ast.statements) (sym c.new-state.ensures.state) ∙ c.in_ok-define.ensures)
-    ∙ ap (λ b. unless 0 NoOutput b >>= λ more. Ok (script_from s)) (lt-ltb 0 (length s.outputs) some)
+    ∙ ap (λ b. unless 0 NoOutput b >>= λ more. Ok (script_from s))
+    (lt-ltb 0 (length s.outputs) some)
     ∙ ap Ok (sym c.in_ok-into_program.ensures)

@@ -16,5 +16,6 @@ loop-source-preserved c = record {
 pub returns-clause-marked : goal.returns-clause-marked
 returns-clause-marked c = λ numbers are.
     subst (λ xs. AreFlags (xs ++ numbers) c.loop-source.flags.items)
-    (take_all c.loop-source.source-index c.args.sources.now (omega (arith, c.loop-source-test.false)))
+    (take_all c.loop-source.source-index c.args.sources.now
+    (omega (arith, c.loop-source-test.false)))
     (c.loop-source.invariant.marked numbers are)
