@@ -251,7 +251,7 @@ told_by : (words : Words) (before after : World) (c : Command) (p : Script) (ori
     → MayTell c (traps_of it.3) (record { origin = origin; element = element; kind = kind })
 told_by words before after command p origin kind element reads it =
     let same : it.0 ≡ command =
-        same_command words before.source.told it.0 command it.1 p it.5 reads in
+    same_command words before.source.told it.0 command it.1 p it.5 reads in
     subst (λ (c : Command). MayTell c (traps_of it.3) (record {
       origin = origin;
       element = element;

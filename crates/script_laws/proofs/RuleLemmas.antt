@@ -37,11 +37,11 @@ node-more : (line : ℕ) (u : Unit {0}) (s : State) (name : List ℕ) (node : No
     → IsGood (with_node name node s)
 node-more line u s name node good room fits =
     let below = (Decides-ltb (length s.nodes) 256).0 (holds line TooMany _ u room) in record {
-  functions = good.functions;
-  nodes = fit-push s.functions [] s.nodes (name, node) good.nodes fits;
-  outputs = outputs-kept s.nodes ((name, node) ∷ []) s.outputs good.outputs;
-  few = omega (arith, below, length-append s.nodes ((name, node) ∷ []));
-}
+      functions = good.functions;
+      nodes = fit-push s.functions [] s.nodes (name, node) good.nodes fits;
+      outputs = outputs-kept s.nodes ((name, node) ∷ []) s.outputs good.outputs;
+      few = omega (arith, below, length-append s.nodes ((name, node) ∷ []));
+    }
 
 module _ (line : ℕ) (s after : State) (good : IsGood s) where
   type-good : (name : List ℕ) (type : tree.Type) → spec.rule_type line name type s ≡ Ok after
