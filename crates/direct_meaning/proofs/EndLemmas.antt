@@ -17,7 +17,7 @@ use Rattle.direct_meaning.proofs.SizeLemmas.{sizes_same}
 use Rattle.direct_meaning.proofs.StandLemmas.{passes, source_at}
 use Rattle.direct_meaning.proofs.TableLemmas.{as_many, found}
 use Rattle.direct_meaning.specs.Direct.{collections, meaning, traps_of}
-use Rattle.direct_meaning.specs.Evaluated.{IsDirect, IsWritten, bag_at}
+use Rattle.direct_meaning.specs.Evaluated.{IsDirect, IsWritten, bag_at, bag_made}
 use Rattle.direct_meaning.specs.Inputs.{HaveRows}
 use Rattle.direct_meaning.specs.Made.{AreMade}
 use Rattle.script_check.specs.Needed.{is_needed}
@@ -104,6 +104,17 @@ bag_told [] number held at = cc
 bag_told (made ∷ kept) zero held at = let same : made ≡ Some held = cc in ap bag_kept same
 bag_told (made ∷ kept) (suc number) held at = bag_told kept number held at
 
+bags_same : (kept : List (Option Kept)) (table : List (Option Collection))
+    → AllZip KeepsAny kept table → map bag_kept kept ≡ map bag_made table
+bags_same [] [] keeps = refl
+bags_same [] (c ∷ table) keeps = absurd keeps
+bags_same (held ∷ kept) [] keeps = absurd keeps
+bags_same (None ∷ kept) (None ∷ table) keeps = ap (λ l. None ∷ l) (bags_same kept table keeps.1)
+bags_same (None ∷ kept) (Some c ∷ table) keeps = absurd keeps.0
+bags_same (Some held ∷ kept) (None ∷ table) keeps = absurd keeps.0
+bags_same (Some held ∷ kept) (Some c ∷ table) keeps =
+    λ i. Some (keeps.0.members i) ∷ bags_same kept table keeps.1 i
+
 module _ (script : Script) (well : IsWellFormed script) (inputs : List (List Value))
     (kept : List (Option Kept)) (traps : List Trap) (ended : Ended script inputs kept traps) where
   -- how many nodes there are, so much is kept
@@ -147,6 +158,7 @@ module _ (script : Script) (well : IsWellFormed script) (inputs : List (List Val
   is_direct it bags sizes all_traps = record {
     made = ended.table;
     means = ended.means;
+    bags = bags ∙ bags_same kept ended.table ended.keeps;
     written = All-from_recursion
         (λ (entry : List ℕ × Output). IsWritten script ended.table it.bags.items entry.1)
         script.outputs
