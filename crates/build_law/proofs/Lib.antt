@@ -18,3 +18,4 @@ pub mod WellFormed
 pub mod Owning
 pub mod Trapping
 pub mod Meanings
+pub mod Accepting
