@@ -1,5 +1,5 @@
 -- A count is what its three nodes give.
-use Rattle.std.proofs.Common.{◌≡◌, ℕ, true, false, List, [], ◌∷◌, ◌++◌, map, refl, sym, ap, ◌∙◌, append-nil}
+use Rattle.std.proofs.Common.{◌≡◌, ℕ, true, false, List, [], ◌∷◌, map, refl, ap, ◌∙◌, append-nil}
 use Rattle.std.specs.List.{flat_map}
 use Rattle.bag_groups.specs.Combining.{combined_each, traps_of_each}
 use Rattle.bag_groups.specs.Groups.{grouped}

@@ -7,3 +7,15 @@ pub mod Meeting
 pub mod Settling
 pub mod Tables
 pub mod Made
+pub mod Assigning
+pub mod Assembling
+pub mod Numbered
+pub mod Lowering
+pub mod Founded
+pub mod Reading
+pub mod Fitting
+pub mod WellFormed
+pub mod Owning
+pub mod Trapping
+pub mod Meanings
+pub mod Accepting

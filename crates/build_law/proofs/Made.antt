@@ -1,6 +1,6 @@
 -- The collections of a script meet their equations.
-use Rattle.std.proofs.Common.{◌≡◌, ℕ, zero, suc, ◌+◌, ◌-◌, Bool, true, false, List, [], ◌∷◌, ◌++◌, map, drop, length, get_or, Option, Some, None, Ok, refl, sym, ap, ◌∙◌, subst, arith, append_assoc, append-nil, length-append, add-zero}
-use Rattle.std.specs.Prelude.{option_map, option_and_then, if◌then◌else◌}
+use Rattle.std.proofs.Common.{◌≡◌, ℕ, ◌-◌, true, List, [], ◌∷◌, ◌++◌, map, drop, get_or, Option, Some, refl, sym, ap, ◌∙◌, subst, arith, add-zero}
+use Rattle.std.specs.Prelude.{option_map, option_and_then}
 use Rattle.std.specs.List.{AllByRecursion, flat_map}
 use Rattle.flume_value.specs.declared.value.Value.{Value}
 use Rattle.flume_value.specs.Bag.{bag_of}
@@ -10,16 +10,17 @@ use Rattle.flume_collection.specs.Collection.{Collection, by_key, together}
 use Rattle.combine_table.specs.declared.comb.Comb.{Comb}
 use Rattle.std.proofs.lemmas.List.{get_or-drop}
 use Rattle.exec_graph.specs.Calls.{called}
-use Rattle.exec_graph.specs.Meaning.{or_nothing, through}
+use Rattle.exec_graph.specs.Meaning.{through}
 use Rattle.exec_graph.specs.World.{World}
 use Rattle.exec_graph.specs.declared.step.Does.TheVariants as does
 use Rattle.script_check.specs.declared.made.Made.{Made}
 use Rattle.script_check.specs.declared.made.Made.TheVariants as made
-use Rattle.script_check.specs.Script.{Function, Script}
+use Rattle.script_check.specs.Script.{Script}
 use Rattle.script_laws.specs.WellFormed.{function_at}
 use Rattle.direct_meaning.specs.Calls.{answer_of, calls_on}
 use Rattle.direct_meaning.specs.Direct.{all_made, called_by, combined_by, counted_by, done_at, done_by, joined_at, joined_by, made_as, made_at, rows_as, top_by}
-use Rattle.graph_build.specs.Wanted.{operands}
+use Rattle.script_check.specs.Needed.{operands}
+use Rattle.build_law.specs.Limits.{IsFirstOutput}
 use Rattle.build_law.specs.Worlds.{answered_by, or_silent, world_of}
 use Rattle.build_law.proofs.Meeting.{IsMadeBy, IsSettled}
 use Rattle.build_law.proofs.Passing.{only_label}
@@ -69,11 +70,6 @@ all_at table at (j ∷ js) cs same h =
     and_then_some (λ c. option_map (λ cs. c ∷ cs) (all_made table js)) (made_at table j) cs h in
     let (others, behind, is) = map_some (λ cs. c ∷ cs) (all_made table js) cs rest in
     (λ i. same j c first i ∷ all_at table at js others same behind i) ∙ is
-
--- a collection by a function has its first output
-abbrev pub IsFirstOutput : Made → Type 0
-IsFirstOutput (made.Do source function output) = output ≡ 0
-IsFirstOutput _ = Unit {0}
 
 -- ---- one node
 

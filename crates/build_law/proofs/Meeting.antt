@@ -1,5 +1,5 @@
 -- The nodes of a script's collections meet their equations, where the collections meet theirs.
-use Rattle.std.proofs.Common.{◌≡◌, ℕ, zero, suc, ◌+◌, true, false, List, [], ◌∷◌, ◌++◌, map, length, get_or, Option, Some, None, refl, sym, ap, ◌∙◌, subst, arith, append_assoc, add-zero}
+use Rattle.std.proofs.Common.{◌≡◌, ℕ, suc, ◌+◌, true, false, List, [], ◌∷◌, ◌++◌, map, length, get_or, Option, Some, None, refl, sym, ap, ◌∙◌, subst, add-zero}
 use Rattle.std.specs.List.{AllByRecursion}
 use Rattle.flume_value.specs.Bag.{bag_of}
 use Rattle.flume_value.proofs.EachLemmas.{Each-append}
@@ -12,8 +12,8 @@ use Rattle.exec_graph.specs.declared.graph.Entry.{Entry}
 use Rattle.exec_graph.specs.declared.graph.Place.{Place}
 use Rattle.exec_graph.specs.declared.step.Does.TheVariants as does
 use Rattle.graph_build.specs.Graphs.{behind, next_source, nodes_at, nodes_from}
-use Rattle.graph_build.specs.Nodes.{before_last, first_of, made_nodes}
-use Rattle.graph_build.specs.Wanted.{operands}
+use Rattle.graph_build.specs.Nodes.{first_of, made_nodes}
+use Rattle.script_check.specs.Needed.{operands}
 use Rattle.script_check.specs.declared.made.Made.{Made}
 use Rattle.script_check.specs.declared.made.Made.TheVariants as made
 use Rattle.direct_meaning.specs.Direct.{combined_by, counted_by, joined_by, top_by}
@@ -72,12 +72,20 @@ module _ (w : World) (at : ℕ → Collection) (m : Place → Collection) (gives
         let sum = only_label origin true (does.Combine by.Sum) in
         let first : m (first_of n) ≡ ones w origin (at input) = at_first (fact 0) in
         let second : m (first_of (n + 1)) ≡ by_key (ones w origin (at input)) = fact 1 in
-        let third : m (first_of (n + 2)) ≡ at origin = fact 2 in
-        (
+        let third : m (first_of (n + 2)) ≡ at origin = fact 2 in (
           (first ∙ ap (through w pair) (sym read), tt, tt),
-          (second ∙ ap by_key (sym first),
-          ((third ∙ is ∙ sym (count_is w origin (at input) (settled input).set)
-          ∙ ap (through w sum) (sym second), tt, tt), tt))
+          (
+            second ∙ ap by_key (sym first),
+            (
+              (
+                third ∙ is ∙ sym (count_is w origin (at input) (settled input).set)
+                    ∙ ap (through w sum) (sym second),
+                tt,
+                tt,
+              ),
+              tt,
+            ),
+          ),
         )
 
     join_holds : (left right : ℕ) → Facts (made.Join left right)
@@ -93,15 +101,27 @@ module _ (w : World) (at : ℕ → Collection) (m : Place → Collection) (gives
         let second : m (first_of (n + 1)) ≡ through w tag_right (at right) = fact 1 in
         let third : m (first_of (n + 2)) ≡ all = fact 2 in
         let fourth : m (first_of (n + 3)) ≡ by_key all = fact 3 in
-        let fifth : m (first_of (n + 4)) ≡ at origin = fact 4 in
-        (
+        let fifth : m (first_of (n + 4)) ≡ at origin = fact 4 in (
           (first ∙ ap (through w tag_left) (sym read), tt, tt),
-          ((second ∙ ap (through w tag_right) (sym other), tt, tt),
-          (third ∙ (λ i. together (sym first i ∷ sym second i ∷ [])),
-          (fourth ∙ ap by_key (sym third),
-          ((fifth ∙ is
-          ∙ sym (join_is w origin (at left) (at right) (settled left).set (settled right).set)
-          ∙ ap (through w split) (sym fourth), tt, tt), tt))))
+          (
+            (second ∙ ap (through w tag_right) (sym other), tt, tt),
+            (
+              third ∙ (λ i. together (sym first i ∷ sym second i ∷ [])),
+              (
+                fourth ∙ ap by_key (sym third),
+                (
+                  (
+                    fifth ∙ is
+                        ∙ sym (join_is w origin (at left) (at right) (settled left).set (settled right).set)
+                        ∙ ap (through w split) (sym fourth),
+                    tt,
+                    tt,
+                  ),
+                  tt,
+                ),
+              ),
+            ),
+          ),
         )
 
     top_holds : (many input : ℕ) → Facts (made.Top many input) → m (gives input) ≡ at input
@@ -114,29 +134,47 @@ module _ (w : World) (at : ℕ → Collection) (m : Place → Collection) (gives
         let first : m (first_of n) ≡ zeros w origin (at input) = at_first (fact 0) in
         let second : m (first_of (n + 1)) ≡ by_key (zeros w origin (at input)) = fact 1 in
         let third : m (first_of (n + 2)) ≡ greatest_of w origin many (at input) = fact 2 in
-        let fourth : m (first_of (n + 3)) ≡ at origin = fact 3 in
-        (
+        let fourth : m (first_of (n + 3)) ≡ at origin = fact 3 in (
           (first ∙ ap (through w solo) (sym read), tt, tt),
-          (second ∙ ap by_key (sym first),
-          ((third ∙ ap (through w great) (sym second), tt, tt),
-          ((fourth ∙ is
-          ∙ sym (top_is w origin many (at input) (settled input).set (settled input).bag)
-          ∙ ap (through w spread) (sym third), tt, tt), tt)))
+          (
+            second ∙ ap by_key (sym first),
+            (
+              (third ∙ ap (through w great) (sym second), tt, tt),
+              (
+                (
+                  fourth ∙ is
+                      ∙ sym (top_is w origin many (at input) (settled input).set (settled input).bag)
+                      ∙ ap (through w spread) (sym third),
+                  tt,
+                  tt,
+                ),
+                tt,
+              ),
+            ),
+          ),
         )
 
     pub block_holds : (made : Made) → Facts made → Reads made → IsMadeBy w at origin source made
         → Meets w (made_nodes gives origin source n made) m
     block_holds (made.Input file columns) fact reads is = (at_first (fact 0) ∙ is, tt)
     block_holds (made.Do input function output) fact reads is = (
-      (at_first (fact 0) ∙ is
-      ∙ ap (through w (only_label origin true (does.Call function))) (sym reads.0), tt, tt),
+      (
+        at_first (fact 0) ∙ is
+            ∙ ap (through w (only_label origin true (does.Call function))) (sym reads.0),
+        tt,
+        tt,
+      ),
       tt,
     )
     block_holds (made.Group input) fact reads is =
         (at_first (fact 0) ∙ is ∙ ap by_key (sym reads.0), tt)
     block_holds (made.Combine input comb) fact reads is = (
-      (at_first (fact 0) ∙ is ∙ sym (through_combined w origin true comb (at input))
-      ∙ ap (through w (only_label origin true (does.Combine comb))) (sym reads.0), tt, tt),
+      (
+        at_first (fact 0) ∙ is ∙ sym (through_combined w origin true comb (at input))
+            ∙ ap (through w (only_label origin true (does.Combine comb))) (sym reads.0),
+        tt,
+        tt,
+      ),
       tt,
     )
     block_holds (made.Flatten inputs) fact reads is =
@@ -146,8 +184,7 @@ module _ (w : World) (at : ℕ → Collection) (m : Place → Collection) (gives
         join_holds left right fact reads.0 reads.1.0 is
     block_holds (made.Top many input) fact reads is = top_holds many input fact reads.0 is
 
-module _ (w : World) (at : ℕ → Collection) (m : Place → Collection) (gives : ℕ → Place)
-    (settled : (j : ℕ) → IsSettled (at j)) where
+module _ (w : World) (at : ℕ → Collection) (m : Place → Collection) (gives : ℕ → Place) where
   abbrev pub MadeAt : ℕ → ℕ → Option Made → Type 0
   MadeAt origin source None = Unit {0}
   MadeAt origin source (Some made) =
@@ -159,10 +196,12 @@ module _ (w : World) (at : ℕ → Collection) (m : Place → Collection) (gives
   AllMade origin source (made ∷ rest) =
       MadeAt origin source made × AllMade (suc origin) (next_source source made) rest
 
+module _ (w : World) (at : ℕ → Collection) (m : Place → Collection) (gives : ℕ → Place)
+    (settled : (j : ℕ) → IsSettled (at j)) where
   part_holds : (whole pre rest : List Collection) (origin source n : ℕ) (made : Option Made)
       → length pre ≡ n → whole ≡ pre ++ (values_at w at origin made ++ rest)
       → ((c : Place) → m c ≡ get_or whole c.node nothing)
-      → MadeAt origin source made → Meets w (nodes_at gives origin source n made) m
+      → MadeAt w at m gives origin source made → Meets w (nodes_at gives origin source n made) m
   part_holds whole pre rest origin source n None h whole_is read made_is = tt
   part_holds whole pre rest origin source n (Some made) h whole_is read made_is =
       let values : List Collection = values_at w at origin (Some made) ++ rest in
@@ -174,7 +213,7 @@ module _ (w : World) (at : ℕ → Collection) (m : Place → Collection) (gives
   pub meets_from : (whole pre : List Collection) (origin source n : ℕ) (ws : List (Option Made))
       → length pre ≡ n → whole ≡ pre ++ values_from w at origin ws
       → ((c : Place) → m c ≡ get_or whole c.node nothing)
-      → AllMade origin source ws → Meets w (nodes_from gives origin source n ws) m
+      → AllMade w at m gives origin source ws → Meets w (nodes_from gives origin source n ws) m
   meets_from whole pre origin source n [] h whole_is read all = tt
   meets_from whole pre origin source n (made ∷ ws) h whole_is read all =
       let rest : List Collection = values_from w at (suc origin) ws in

@@ -1,5 +1,5 @@
 -- Each collection of a script is a bag, with a set of traps.
-use Rattle.std.proofs.Common.{◌≡◌, ℕ, List, [], ◌∷◌, ◌++◌, map, Option, Some, None, refl, sym, ap, ◌∙◌, subst}
+use Rattle.std.proofs.Common.{◌≡◌, ℕ, List, [], ◌∷◌, ◌++◌, map, refl, subst}
 use Rattle.std.specs.List.{flat_map}
 use Rattle.bag_groups.specs.Combining.{combined_pair, groups_in, traps_of_each}
 use Rattle.bag_groups.specs.Groups.{grouped}

@@ -1,14 +1,13 @@
 -- The collections that are made of a script: which they are, and that what they are made of is made.
-use Rattle.std.proofs.Common.{◌≡◌, ℕ, zero, suc, ◌+◌, Bool, true, false, List, [], ◌∷◌, ◌++◌, map, length, get_or, Option, Some, None, refl, sym, ap, ◌∙◌, subst, arith, append_assoc, append-nil, length-append, add-zero}
-use Rattle.std.specs.Prelude.{option_map, option_and_then, if◌then◌else◌, slice_get}
-use Rattle.std.specs.Option.{option_flatten}
+use Rattle.std.proofs.Common.{◌≡◌, ℕ, zero, suc, Bool, true, false, List, [], ◌∷◌, ◌++◌, length, get_or, Option, Some, None, refl, sym, ◌∙◌, subst, arith, append_assoc, append-nil, length-append}
+use Rattle.std.specs.Prelude.{option_map, option_and_then, if◌then◌else◌}
 use Rattle.flume_value.specs.declared.value.Value.{Value}
 use Rattle.flume_collection.specs.Collection.{Collection}
 use Rattle.written_types.specs.Named.{Named}
 use Rattle.script_check.specs.declared.made.Made.{Made}
 use Rattle.script_check.specs.Script.{Node, Script}
 use Rattle.direct_meaning.specs.Direct.{collections, inputs_behind, made_as, made_at}
-use Rattle.graph_build.specs.Wanted.{is_needed}
+use Rattle.script_check.specs.Needed.{is_needed}
 use Rattle.graph_build.specs.Wanted.{wanted_from}
 
 -- ---- options
@@ -38,7 +37,7 @@ pub record Continues (script : Script) (table : List (Option Collection)) (nodes
   pub is : all ≡ table ++ tail
   pub matches : Matches tail (wanted_from script (length table) nodes)
 
-one_longer : {A : Type 0} (xs : List A) (x : A) → length (xs ++ x ∷ []) ≡ suc (length xs)
+pub one_longer : {A : Type 0} (xs : List A) (x : A) → length (xs ++ x ∷ []) ≡ suc (length xs)
 one_longer xs x = rw length-append (omega arith)
 
 -- one node more, whether it is needed or not

@@ -1,2 +1,16 @@
 //! What the execution graph of a script means: what the script means.
+//!
+//! The graph that is built of a well-formed script is well-formed (`graph_law`). In the world of
+//! the script, whose sources are the rows of the needed inputs and whose functions answer as the
+//! script's do, its outputs are the collections that the script's outputs read, the bag of each
+//! collection that has calls, groups or combinations of its own is theirs, and its traps are all
+//! those of the script (`means_law`, specs/Means.antt).
+//!
+//! It is shown by giving each node its collection: the last node of a script collection gives that,
+//! and the nodes before it what a count, a join or the greatest members are put together from. This
+//! assignment meets the equations of all nodes, and a well-formed graph has just one that does.
 #![tactic(auto)]
+
+mod laws;
+
+pub use laws::{graph_law, means_law};

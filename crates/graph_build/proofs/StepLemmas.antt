@@ -1,5 +1,5 @@
 -- One collection more: of the numbers of nodes that give collections, and of nodes.
-use Rattle.std.proofs.Common.{◌≡◌, ℕ, suc, zero, ◌+◌, ◌<◌, List, [], ◌∷◌, ◌++◌, length, get_or, drop, refl, ap, ◌∙◌, sym, append_assoc, append-nil, add-one, drop-cons}
+use Rattle.std.proofs.Common.{◌≡◌, ℕ, suc, zero, ◌+◌, ◌<◌, List, [], ◌∷◌, ◌++◌, length, get_or, drop, refl, arith, ap, ◌∙◌, sym, append_assoc, append-nil, add-one, drop-cons}
 use Rattle.std.specs.Prelude.{Option, Some, None}
 use Rattle.std.proofs.Math.Seq.{drop-length}
 use Rattle.std.specs.Prelude.{map, slice_get}
@@ -49,6 +49,13 @@ giving_next script done more all i n next below pushed ahead h =
     let fits : i < length (wanted script) = rw wanted_length below in
     rw (pushed, ahead, append_assoc)
     (ap (λ rest. done ++ rest) (sym (giving_step (wanted script) i n fits)) ∙ h)
+
+-- an element below the length
+pub found_below : {A : Type 0} (xs : List A) (i : ℕ) → i < length xs
+    → (x : A) × (slice_get xs i ≡ Some x)
+found_below [] i h = absurd (omega arith)
+found_below (x ∷ xs) zero h = (x, refl)
+found_below (x ∷ xs) (suc i) h = found_below xs i (omega arith)
 
 -- the element of a place in front of those behind it
 pub head_of : {A : Type 0} (xs : List A) (i : ℕ) (x : A) → slice_get xs i ≡ Some x

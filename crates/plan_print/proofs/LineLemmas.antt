@@ -9,13 +9,6 @@ use Rattle.script_check.specs.declared.made.Output.{Output}
 use Rattle.script_check.specs.Script.{Script}
 use Rattle.plan_print.specs.GraphText.{output_line, output_lines}
 
--- an element below the length
-pub found_below : {A : Type 0} (xs : List A) (i : ℕ) → i < length xs
-    → (x : A) × (slice_get xs i ≡ Some x)
-found_below [] i h = absurd (omega arith)
-found_below (x ∷ xs) zero h = (x, refl)
-found_below (x ∷ xs) (suc i) h = found_below xs i (omega arith)
-
 pub lines_next : (script : Script) (text more all : List ℕ) (outputs : List (List ℕ × Output))
     (places : List Place) (i : ℕ) (output : List ℕ × Output) (place : Place)
     → slice_get outputs i ≡ Some output → slice_get places i ≡ Some place

@@ -45,7 +45,7 @@ there : (before : Named Node) (n : ℕ) (type : Ty) (o : Option (List ℕ × Nod
 there before n type None is e = cc
 there before n type (Some entry) is e = slice_get_within before n entry is
 
-read_at : (before : Named Node) (n : ℕ) (type : Ty) → members_at before n ≡ Some type
+pub read_at : (before : Named Node) (n : ℕ) (type : Ty) → members_at before n ≡ Some type
     → n < length before
 read_at before n type is = there before n type (slice_get before n) refl is
 
@@ -55,7 +55,7 @@ at_source before source n type is reads =
     subst (λ m. m < length before) (only source n reads) (read_at before source type is)
 
 -- an operand of a collection is the number of one before it
-operand_before : (functions : Named Function) (before : Named Node) (how : Made) (type : Ty)
+pub operand_before : (functions : Named Function) (before : Named Node) (how : Made) (type : Ty)
     → Fits functions before how type → (n : ℕ) → Contains (operands how) n → n < length before
 operand_before functions before (made.Input file columns) type fits n reads =
     let within = reads.1 in absurd (omega arith)

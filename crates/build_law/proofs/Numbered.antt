@@ -1,0 +1,278 @@
+-- The nodes of a graph are numbered one after another, and read what lower ones give.
+use Rattle.std.proofs.Common.{◌≡◌, ℕ, zero, suc, ◌+◌, ◌<◌, ◌≤◌, Bool, true, false, cond, List, [], ◌∷◌, ◌++◌, map, length, get_or, Option, Some, None, refl, subst, arith, add-zero, ◌*◌, length-append}
+use Rattle.std.specs.Prelude.{◌==◌}
+use Rattle.std.specs.List.{AllByRecursion}
+use Rattle.std.proofs.lemmas.Bool.{eq-eqb}
+use Rattle.flume_value.proofs.EachLemmas.{Each-append, Each-weaker}
+use Rattle.exec_graph.specs.Meaning.{gives, gives_at, node_at, reads}
+use Rattle.exec_graph.specs.Wellformed.{Ascends, size, total_size}
+use Rattle.exec_graph.specs.declared.graph.Entry.{Entry}
+use Rattle.exec_graph.specs.declared.graph.Place.{Place}
+use Rattle.graph_build.specs.Graphs.{behind, giving_from, last_node, next_source, nodes_at, nodes_from, place_in}
+use Rattle.graph_build.specs.Nodes.{before_last, first_of, made_nodes}
+use Rattle.script_check.specs.Needed.{operands}
+use Rattle.script_check.specs.declared.made.Made.{Made}
+use Rattle.script_check.specs.declared.made.Made.TheVariants as made
+
+-- numbers one after another
+abbrev pub Counts : ℕ → List Entry → Type 0
+Counts n [] = Unit {0}
+Counts n (e ∷ es) = (e.number ≡ n) × Counts (suc n) es
+
+counts_append : (n : ℕ) (xs ys : List Entry) → Counts n xs → Counts (n + length xs) ys
+    → Counts n (xs ++ ys)
+counts_append n [] ys h k = subst (λ m. Counts m ys) (add-zero n) k
+counts_append n (x ∷ xs) ys h k =
+    let e : n + suc (length xs) ≡ suc n + length xs = omega arith in
+    (h.0, counts_append (suc n) xs ys h.1 (subst (λ m. Counts m ys) e k))
+
+pub above_counts : (n : ℕ) (es : List Entry) → Counts n es
+    → AllByRecursion (λ d. n ≤ d.number) es
+above_counts n [] h = tt
+above_counts n (e ∷ es) h = (
+  omega arith,
+  Each-weaker (λ (d : Entry). suc n ≤ d.number) (λ d. n ≤ d.number) (λ d k. omega arith) es
+      (above_counts (suc n) es h.1),
+)
+
+pub ascends_counts : (n : ℕ) (es : List Entry) → Counts n es → Ascends es
+ascends_counts n [] h = tt
+ascends_counts n (e ∷ es) h = (
+  Each-weaker (λ (d : Entry). suc n ≤ d.number) (λ d. e.number < d.number)
+      (λ d k. let same = h.0 in omega arith) es (above_counts (suc n) es h.1),
+  ascends_counts (suc n) es h.1,
+)
+
+pub below_counts : (n : ℕ) (es : List Entry) → Counts n es
+    → AllByRecursion (λ e. e.number < n + length es) es
+below_counts n [] h = tt
+below_counts n (e ∷ es) h = (
+  (let same = h.0 in omega arith),
+  Each-weaker (λ (d : Entry). d.number < suc n + length es)
+      (λ d. d.number < n + suc (length es)) (λ d k. omega arith) es
+      (below_counts (suc n) es h.1),
+)
+
+-- ---- what nodes give and read
+
+-- a node is one step, gives its first output, and reads first outputs of lower nodes
+pub record IsLow (e : Entry) : Type 0 where
+  pub gives : gives e.node 0 ≡ true
+  pub size : size e.node ≡ 1
+  pub reads : AllByRecursion (λ c. (c.out ≡ 0) × (c.node < e.number)) (reads e.node)
+
+found_at : (e : Entry) (es : List Entry) (k : ℕ) (b : Bool) → (e.number == k) ≡ b
+    → (b ≡ true → gives e.node 0 ≡ true)
+    → (b ≡ false → gives_at (node_at es k) 0 ≡ true)
+    → gives_at (cond b (Some e.node) (node_at es k)) 0 ≡ true
+found_at e es k true is here later = here refl
+found_at e es k false is here later = later refl
+
+pub there_counts : (n : ℕ) (es : List Entry) → Counts n es → AllByRecursion IsLow es → (k : ℕ)
+    → n ≤ k → k < n + length es → gives_at (node_at es k) 0 ≡ true
+there_counts n [] h low k above below = absurd (omega arith)
+there_counts n (e ∷ es) h low k above below =
+    found_at e es k (e.number == k) refl (λ is. low.0.gives)
+    (λ is. there_counts (suc n) es h.1 low.1 k
+    (let apart : e.number ≡ k → ⊥ = λ same. (let yes_ = eq-eqb e.number k same in cc) in
+    let same = h.0 in omega arith)
+    (omega arith))
+
+-- ---- the nodes of collections
+
+pub block_length : (gives : ℕ → Place) (origin source n : ℕ) (made : Made)
+    → length (made_nodes gives origin source n made) ≡ before_last made + 1
+block_length gives origin source n (made.Input file columns) = refl
+block_length gives origin source n (made.Do input f output) = refl
+block_length gives origin source n (made.Group input) = refl
+block_length gives origin source n (made.Combine input k) = refl
+block_length gives origin source n (made.Flatten inputs) = refl
+block_length gives origin source n (made.Count input) = refl
+block_length gives origin source n (made.Join left right) = refl
+block_length gives origin source n (made.Top many input) = refl
+
+block_counts : (gives : ℕ → Place) (origin source n : ℕ) (made : Made)
+    → Counts n (made_nodes gives origin source n made)
+block_counts gives origin source n (made.Input file columns) = (refl, tt)
+block_counts gives origin source n (made.Do input f output) = (refl, tt)
+block_counts gives origin source n (made.Group input) = (refl, tt)
+block_counts gives origin source n (made.Combine input k) = (refl, tt)
+block_counts gives origin source n (made.Flatten inputs) = (refl, tt)
+block_counts gives origin source n (made.Count input) =
+    (refl, (omega arith, (omega arith, tt)))
+block_counts gives origin source n (made.Join left right) =
+    (refl, (omega arith, (omega arith, (omega arith, (omega arith, tt)))))
+block_counts gives origin source n (made.Top many input) =
+    (refl, (omega arith, (omega arith, (omega arith, tt))))
+
+part_counts : (gives : ℕ → Place) (origin source n : ℕ) (made : Option Made) (ys : List Entry)
+    → Counts (behind n made) ys → Counts n (nodes_at gives origin source n made ++ ys)
+part_counts gives origin source n None ys h = h
+part_counts gives origin source n (Some made) ys h =
+    counts_append n (made_nodes gives origin source n made) ys
+    (block_counts gives origin source n made)
+    (subst (λ k. Counts k ys)
+    (let e : n + before_last made + 1 ≡ n + length (made_nodes gives origin source n made) =
+    omega (arith, block_length gives origin source n made) in e) h)
+
+pub all_counts : (gives : ℕ → Place) (origin source n : ℕ) (ws : List (Option Made))
+    → Counts n (nodes_from gives origin source n ws)
+all_counts gives origin source n [] = tt
+all_counts gives origin source n (made ∷ ws) =
+    part_counts gives origin source n made
+    (nodes_from gives (suc origin) (next_source source made) (behind n made) ws)
+    (all_counts gives (suc origin) (next_source source made) (behind n made) ws)
+
+-- ---- what they read
+
+-- the nodes that give what a collection reads have lower numbers
+abbrev pub OperandsLow : List ℕ → ℕ → List (Option Made) → Type 0
+OperandsLow giving n [] = Unit {0}
+OperandsLow giving n (None ∷ ws) = OperandsLow giving n ws
+OperandsLow giving n (Some made ∷ ws) =
+    AllByRecursion (λ j. get_or giving j 0 < n) (operands made)
+    × OperandsLow giving (behind n (Some made)) ws
+
+low_places : (giving : List ℕ) (n : ℕ) (js : List ℕ)
+    → AllByRecursion (λ j. get_or giving j 0 < n) js
+    → AllByRecursion (λ c. (c.out ≡ 0) × (c.node < n)) (map (place_in giving) js)
+low_places giving n [] h = tt
+low_places giving n (j ∷ js) h = ((refl, h.0), low_places giving n js h.1)
+
+low_one : (giving : List ℕ) (n j : ℕ) → get_or giving j 0 < n
+    → AllByRecursion (λ c. (c.out ≡ 0) × (c.node < n)) (place_in giving j ∷ [])
+low_one giving n j h = ((refl, h), tt)
+
+low_next : (n k : ℕ) → n < k
+    → AllByRecursion (λ c. (c.out ≡ 0) × (c.node < k)) (first_of n ∷ [])
+low_next n k h = ((refl, h), tt)
+
+block_low : (giving : List ℕ) (origin source n : ℕ) (made : Made)
+    → AllByRecursion (λ j. get_or giving j 0 < n) (operands made)
+    → AllByRecursion IsLow (made_nodes (place_in giving) origin source n made)
+block_low giving origin source n (made.Input file columns) h =
+    (record { gives = refl; size = refl; reads = tt }, tt)
+block_low giving origin source n (made.Do input f output) h =
+    (record { gives = refl; size = refl; reads = low_one giving n input h.0 }, tt)
+block_low giving origin source n (made.Group input) h =
+    (record { gives = refl; size = refl; reads = low_one giving n input h.0 }, tt)
+block_low giving origin source n (made.Combine input k) h =
+    (record { gives = refl; size = refl; reads = low_one giving n input h.0 }, tt)
+block_low giving origin source n (made.Flatten inputs) h =
+    (record { gives = refl; size = refl; reads = low_places giving n inputs h }, tt)
+block_low giving origin source n (made.Count input) h = (
+  record { gives = refl; size = refl; reads = low_one giving n input h.0 },
+  (
+    record { gives = refl; size = refl; reads = low_next n (n + 1) (omega arith) },
+    (record { gives = refl; size = refl; reads = low_next (n + 1) (n + 2) (omega arith) }, tt),
+  ),
+)
+block_low giving origin source n (made.Join left right) h = (
+  record { gives = refl; size = refl; reads = low_one giving n left h.0 },
+  (
+    record {
+      gives = refl;
+      size = refl;
+      reads =
+          low_one giving (n + 1) right (let below = h.1.0 in omega arith);
+    },
+    (
+      record { gives = refl; size = refl; reads = ((refl, omega arith), ((refl, omega arith), tt)) },
+      (
+        record { gives = refl; size = refl; reads = low_next (n + 2) (n + 3) (omega arith) },
+        (record { gives = refl; size = refl; reads = low_next (n + 3) (n + 4) (omega arith) }, tt),
+      ),
+    ),
+  ),
+)
+block_low giving origin source n (made.Top many input) h = (
+  record { gives = refl; size = refl; reads = low_one giving n input h.0 },
+  (
+    record { gives = refl; size = refl; reads = low_next n (n + 1) (omega arith) },
+    (
+      record { gives = refl; size = refl; reads = low_next (n + 1) (n + 2) (omega arith) },
+      (record { gives = refl; size = refl; reads = low_next (n + 2) (n + 3) (omega arith) }, tt),
+    ),
+  ),
+)
+
+pub all_low : (giving : List ℕ) (origin source n : ℕ) (ws : List (Option Made))
+    → OperandsLow giving n ws
+    → AllByRecursion IsLow (nodes_from (place_in giving) origin source n ws)
+all_low giving origin source n [] h = tt
+all_low giving origin source n (None ∷ ws) h = all_low giving (suc origin) source n ws h
+all_low giving origin source n (Some made ∷ ws) h =
+    Each-append IsLow (made_nodes (place_in giving) origin source n made)
+    (nodes_from (place_in giving) (suc origin) (next_source source (Some made))
+    (behind n (Some made)) ws)
+    (block_low giving origin source n made h.0)
+    (all_low giving (suc origin) (next_source source (Some made)) (behind n (Some made)) ws h.1)
+
+-- ---- how many
+
+pub one_each : (es : List Entry) → AllByRecursion IsLow es → total_size es ≡ length es
+one_each [] h = refl
+one_each (e ∷ es) h =
+    let one = h.0.size in let others = one_each es h.1 in
+    (let all : total_size (e ∷ es) ≡ suc (length es) = omega arith in all)
+
+few_before : (made : Made) → before_last made ≤ 4
+few_before (made.Input file columns) = omega arith
+few_before (made.Do input f output) = omega arith
+few_before (made.Group input) = omega arith
+few_before (made.Combine input k) = omega arith
+few_before (made.Flatten inputs) = omega arith
+few_before (made.Count input) = omega arith
+few_before (made.Join left right) = omega arith
+few_before (made.Top many input) = omega arith
+
+pub few_nodes : (gives : ℕ → Place) (origin source n : ℕ) (ws : List (Option Made))
+    → length (nodes_from gives origin source n ws) ≤ 5 * length ws
+few_nodes gives origin source n [] = omega arith
+few_nodes gives origin source n (None ∷ ws) =
+    let others = few_nodes gives (suc origin) source n ws in omega arith
+few_nodes gives origin source n (Some made ∷ ws) =
+    let rest = nodes_from gives (suc origin) (next_source source (Some made))
+    (behind n (Some made)) ws in
+    let others : length rest ≤ 5 * length ws =
+    few_nodes gives (suc origin) (next_source source (Some made)) (behind n (Some made)) ws in
+    let both = length-append (made_nodes gives origin source n made) rest in
+    let own = block_length gives origin source n made in
+    let few = few_before made in
+    omega arith
+
+-- the number behind all nodes
+abbrev pub end_of : ℕ → List (Option Made) → ℕ
+end_of n [] = n
+end_of n (w ∷ ws) = end_of (behind n w) ws
+
+pub end_up : (n : ℕ) (ws : List (Option Made)) → n ≤ end_of n ws
+end_up n [] = omega arith
+end_up n (None ∷ ws) = end_up n ws
+end_up n (Some made ∷ ws) =
+    let up = end_up (n + before_last made + 1) ws in omega arith
+
+pub nodes_end : (gives : ℕ → Place) (origin source n : ℕ) (ws : List (Option Made))
+    → n + length (nodes_from gives origin source n ws) ≡ end_of n ws
+nodes_end gives origin source n [] = omega arith
+nodes_end gives origin source n (None ∷ ws) = nodes_end gives (suc origin) source n ws
+nodes_end gives origin source n (Some made ∷ ws) =
+    let next : ℕ = n + before_last made + 1 in
+    let rest = nodes_from gives (suc origin) (next_source source (Some made)) next ws in
+    let others : next + length rest ≡ end_of next ws =
+    nodes_end gives (suc origin) (next_source source (Some made)) next ws in
+    let both = length-append (made_nodes gives origin source n made) rest in
+    let own = block_length gives origin source n made in
+    omega arith
+
+last_before : (n : ℕ) (w : Option Made) (how : Made) → w ≡ Some how → last_node n w < behind n w
+last_before n None how h = cc
+last_before n (Some made) how h = omega arith
+
+-- the last node of a needed collection has a number below the end
+pub last_in : (n j : ℕ) (ws : List (Option Made)) (how : Made) → get_or ws j None ≡ Some how
+    → get_or (giving_from n ws) j 0 < end_of n ws
+last_in n j [] how h = cc
+last_in n zero (w ∷ ws) how h =
+    let low = last_before n w how h in let up = end_up (behind n w) ws in omega arith
+last_in n (suc j) (w ∷ ws) how h = last_in (behind n w) j ws how h

@@ -1,0 +1,41 @@
+-- What an accepted script keeps beside the rules of its statements.
+use Rattle.std.specs.Prelude.{◌≡◌, ◌≤◌, List, length}
+use Rattle.std.specs.List.{AllByRecursion}
+use Rattle.flume_grammar.specs.declared.tree.Form.{Form}
+use Rattle.flume_grammar.specs.declared.tree.Form.TheVariants as form
+use Rattle.flume_grammar.specs.declared.tree.Operation.{Operation}
+use Rattle.flume_grammar.specs.declared.tree.Operation.TheVariants as operation
+use Rattle.flume_grammar.specs.declared.tree.Statement.{Statement}
+use Rattle.script_check.specs.declared.made.Made.{Made}
+use Rattle.script_check.specs.declared.made.Made.TheVariants as made
+use Rattle.script_check.specs.Script.{Script}
+
+-- at most 4096 collections are put together
+abbrev pub IsShort : Made → Type 0
+IsShort (made.Flatten sources) = length sources ≤ 4096
+IsShort _ = Unit {0}
+
+-- a function's collection has what it emits to its first output
+abbrev pub IsFirstOutput : Made → Type 0
+IsFirstOutput (made.Do source function output) = output ≡ 0
+IsFirstOutput _ = Unit {0}
+
+abbrev pub HasShortFlattens : Script → Type 0
+HasShortFlattens script = AllByRecursion (λ entry. IsShort entry.1.made) script.nodes
+
+abbrev pub HasFirstOutputs : Script → Type 0
+HasFirstOutputs script = AllByRecursion (λ entry. IsFirstOutput entry.1.made) script.nodes
+
+-- ---- scripts as they are written
+
+-- at most 4096 collections are named in one statement
+abbrev pub IsShortOperation : Operation → Type 0
+IsShortOperation (operation.Flatten sources) = length sources ≤ 4096
+IsShortOperation _ = Unit {0}
+
+abbrev pub IsShortForm : Form → Type 0
+IsShortForm (form.Let name by) = IsShortOperation by
+IsShortForm _ = Unit {0}
+
+abbrev pub AreShort : List Statement → Type 0
+AreShort statements = AllByRecursion (λ statement. IsShortForm statement.form) statements
