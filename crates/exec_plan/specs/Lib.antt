@@ -1,0 +1,4 @@
+pub mod Channels
+pub mod Meaning
+pub mod Wellformed
+pub mod Typing
