@@ -26,6 +26,11 @@ abbrev pub results : World → (PlanPlace → Collection) → Stage → List Col
 results w t (Mscr m) = flat_map (given w (map (fed t) m.inputs)) m.outputs
 results w t (Flatten takes) = together (map t takes) ∷ []
 
+-- what a stage reads
+abbrev pub stage_reads : Stage → List PlanPlace
+stage_reads (Mscr m) = map (λ c. c.reads) m.inputs
+stage_reads (Flatten takes) = takes
+
 -- the table with the results of stage k
 abbrev pub with_results : ℕ → List Collection → (PlanPlace → Collection) → PlanPlace → Collection
 with_results k cs t (at.Source n) = t (at.Source n)

@@ -15,6 +15,12 @@
 //! `plan_ok` decides whether a plan is well-formed.
 #![tactic(auto)]
 
+mod channels;
+mod checks;
+mod counts;
+mod numbers;
 mod plan;
+mod stages;
 
+pub use checks::plan_ok;
 pub use plan::{Grouping, InChannel, Mscr, OutChannel, Plan, PlanPlace, Stage, Take};
