@@ -38,7 +38,7 @@ sizes_to : (n : ℕ) → 0 < n → n ≤ 4096 → (ltb 0 n && not (ltb 4096 n)) 
 sizes_to n l h = grind (arith, nat_tests)
 
 -- ---- combiners
-comb_from : (a b : Comb) → (combs.ghosts).eq a b ≡ true → a ≡ b
+pub comb_from : (a b : Comb) → (combs.ghosts).eq a b ≡ true → a ≡ b
 comb_from by.Sum by.Sum e = refl
 comb_from by.Count by.Count e = refl
 comb_from by.Min by.Min e = refl
@@ -48,7 +48,7 @@ comb_from by.Any by.Any e = refl
 comb_from (by.Top m) (by.Top n) e = ap by.Top (eqb-true m n e)
 comb_from _ _ e = cc
 
-comb_to : (a : Comb) → (combs.ghosts).eq a a ≡ true
+pub comb_to : (a : Comb) → (combs.ghosts).eq a a ≡ true
 comb_to by.Sum = refl
 comb_to by.Count = refl
 comb_to by.Min = refl

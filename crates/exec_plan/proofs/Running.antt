@@ -1,0 +1,66 @@
+-- A plan's table keeps what it has, and what a stage gives rests on what it reads alone.
+use Rattle.std.proofs.Common.{◌≡◌, ℕ, ◌<◌, Bool, true, false, cond, eqb, List, [], ◌∷◌, map, suc, refl, ap, ◌∙◌, arith}
+use Rattle.std.proofs.lemmas.Bool.{eqb-true}
+use Rattle.std.specs.List.{AllByRecursion as Each, flat_map, slice_get}
+use Rattle.flume_collection.specs.Collection.{Collection, together}
+use Rattle.exec_graph.specs.World.{World}
+use Rattle.exec_graph.specs.Meaning.{or_nothing}
+use Rattle.exec_plan.specs.declared.plan.PlanPlace.{PlanPlace}
+use Rattle.exec_plan.specs.declared.plan.PlanPlace.TheVariants as at
+use Rattle.exec_plan.specs.declared.plan.InChannel.{InChannel}
+use Rattle.exec_plan.specs.declared.plan.Stage.{Stage}
+use Rattle.exec_plan.specs.declared.plan.Stage.TheVariants.{Mscr, Flatten}
+use Rattle.exec_plan.specs.Channels.{Fed, fed, given}
+use Rattle.exec_plan.specs.Meaning.{results, run, stage_reads, with_results}
+
+-- ---- the table
+-- a source, or a result of a stage below k
+abbrev pub IsBelow : ℕ → PlanPlace → Type 0
+IsBelow k (at.Source n) = Unit {0}
+IsBelow k (at.Result stage number) = stage < k
+
+pub more_below : (k : ℕ) (c : PlanPlace) → IsBelow k c → IsBelow (suc k) c
+more_below k (at.Source n) h = tt
+more_below k (at.Result stage number) h = omega arith
+
+not_this : {X : Type 0} (v u : X) (b : Bool) → (b ≡ true → ⊥) → cond b v u ≡ u
+not_this v u true h = absurd (h refl)
+not_this v u false h = refl
+
+pub with_below : (t : PlanPlace → Collection) (cs : List Collection) (k : ℕ) (c : PlanPlace)
+    → IsBelow k c → with_results k cs t c ≡ t c
+with_below t cs k (at.Source n) h = refl
+with_below t cs k (at.Result stage number) h =
+    not_this (or_nothing (slice_get cs number)) (t (at.Result stage number)) (eqb stage k)
+    (λ e. let same : stage ≡ k = eqb-true stage k e in omega arith)
+
+pub run_below : (w : World) (k : ℕ) (ss : List Stage) (t : PlanPlace → Collection) (c : PlanPlace)
+    → IsBelow k c → run w k ss t c ≡ t c
+run_below w k [] t c h = refl
+run_below w k (s ∷ ss) t c h =
+    run_below w (suc k) ss (with_results k (results w t s) t) c (more_below k c h)
+    ∙ with_below t (results w t s) k c h
+
+-- ---- stages over tables that are alike
+fed_alike : (t u : PlanPlace → Collection) (cs : List InChannel)
+    → Each (λ c. t c ≡ u c) (map (λ (c : InChannel). c.reads) cs)
+    → map (fed t) cs ≡ map (fed u) cs
+fed_alike t u [] a = refl
+fed_alike t u (c ∷ cs) a =
+    ap (λ (v : Collection). let x : Fed = record { value = v; does = c.does } in
+    x ∷ map (fed t) cs) a.0
+    ∙ ap (λ (l : List Fed). fed u c ∷ l) (fed_alike t u cs a.1)
+
+values_alike : (t u : PlanPlace → Collection) (cs : List PlanPlace) → Each (λ c. t c ≡ u c) cs
+    → map t cs ≡ map u cs
+values_alike t u [] a = refl
+values_alike t u (c ∷ cs) a =
+    ap (λ (v : Collection). v ∷ map t cs) a.0
+    ∙ ap (λ (l : List Collection). u c ∷ l) (values_alike t u cs a.1)
+
+pub results_alike : (w : World) (t u : PlanPlace → Collection) (s : Stage)
+    → Each (λ c. t c ≡ u c) (stage_reads s) → results w t s ≡ results w u s
+results_alike w t u (Mscr m) a =
+    ap (λ (cs : List Fed). flat_map (given w cs) m.outputs) (fed_alike t u m.inputs a)
+results_alike w t u (Flatten takes) a =
+    ap (λ (cs : List Collection). together cs ∷ []) (values_alike t u takes a)

@@ -1,0 +1,26 @@
+//! Plans: stages of MapShuffleCombineReduce in order, and what a plan means.
+//!
+//! A `Plan` reads sources, and each of its stages gives results to later ones. A stage is an `Mscr`
+//! or a Flatten. Over each input channel of an `Mscr` runs a forest of steps, whose outputs are
+//! taken by output channels: a grouping channel groups what it takes and runs its reducer on the
+//! groups, and a pass-through channel gives on what it takes. Like graphs, plans name inputs and
+//! functions by their numbers, and hold neither rows, bodies nor types.
+//!
+//! `results` (specs/Meaning.antt) says what a stage gives over any table of collections, and `run`
+//! does so stage by stage, so that every plan has just one meaning: `plan_collection`. In a
+//! well-formed plan (`IsPlanOk`, specs/Wellformed.antt) each stage reads sources and results of
+//! earlier stages alone. Types are an assignment to collections that fits each stage
+//! (`IsPlanTyped`, specs/Typing.antt).
+//!
+//! `plan_ok` decides whether a plan is well-formed.
+#![tactic(auto)]
+
+mod channels;
+mod checks;
+mod counts;
+mod numbers;
+mod plan;
+mod stages;
+
+pub use checks::plan_ok;
+pub use plan::{Grouping, InChannel, Mscr, OutChannel, Plan, PlanPlace, Stage, Take};
