@@ -10,3 +10,4 @@ pub mod Renaming
 pub mod Kids
 pub mod Lifting
 pub mod Columns
+pub mod SingleSteps
