@@ -1,0 +1,5 @@
+pub mod Outs
+pub mod Instead
+pub mod Absorbing
+pub mod Copying
+pub mod SinkMeaning
