@@ -176,7 +176,7 @@ there_nodes es up a = true_entries (λ e. reads_given es e.node) es
 abbrev pub Says : Bool → Type 0 → Type 0
 Says b P = (IsTrue b → P) × (P → IsTrue b)
 
-no_such : (P : Type 0) → (P → ⊥) → Says false P
+pub no_such : (P : Type 0) → (P → ⊥) → Says false P
 no_such P h = (λ t. absurd (false≢true t), λ p. absurd (h p))
 
 pub not_rising : (g : Graph) (ns : List Entry) (b : Bool) → ns ≡ g.nodes

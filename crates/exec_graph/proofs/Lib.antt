@@ -11,3 +11,6 @@ pub mod Spotting
 pub mod Coding
 pub mod Edging
 pub mod Founding
+pub mod Ordering
+pub mod Rooted
+pub mod Checking

@@ -36,7 +36,7 @@ out_found_by : (w : World) (v : Collection) (l : Label) (kids rest : Forest) (j 
     → (has_out j kids ≡ true → (u : Collection) × (out_of w (through w l v) kids j ≡ Some u))
     → (has_out j rest ≡ true → (u : Collection) × (out_of w v rest j ≡ Some u)) → (u : Collection)
     × (cond b (Some (through w l v)) (first (out_of w (through w l v) kids j) (out_of w v rest j))
-        ≡ Some u)
+    ≡ Some u)
 out_found_by w v l kids rest j true h f g = (through w l v, refl)
 out_found_by w v l kids rest j false h f g = pair_found (out_of w (through w l v) kids j)
     (out_of w v rest j) (has_out j kids) (has_out j rest) h f g
@@ -124,7 +124,7 @@ kept_same m k n j (Some i) u h a b = ap (λ (e : ℕ). k (place n e)) (sym (eqb-
 
 one_value : (w : World) (m k : Place → Collection) (n : ℕ) (v : Collection) (f : Forest) (j : ℕ)
     → FitsForest w m n v f → FitsForest w k n v f → has_out j f ≡ true → k (place n j) ≡ m
-        (place n j)
+    (place n j)
 one_value w m k n v Bare j a b h = absurd (false≢true h)
 one_value w m k n v (Grow l kids rest) j a b h =
     elim (or_cases (is_out l.out j) (has_out j kids || has_out j rest) h) [

@@ -1,5 +1,6 @@
 -- Who reads a collection.
 use Rattle.std.specs.Prelude.{ℕ, ◌==◌, ◌&&◌, ◌||◌, Bool, false, cond, List, [], ◌∷◌}
+use Rattle.std.specs.List.{list_any}
 use Rattle.exec_graph.specs.declared.graph.Place.{Place}
 use Rattle.exec_graph.specs.declared.graph.Node.{Node}
 use Rattle.exec_graph.specs.declared.graph.Node.TheVariants.{Source, Flatten, Pdo, Gbk}
@@ -10,8 +11,7 @@ abbrev pub same_place : Place → Place → Bool
 same_place c d = (c.node == d.node) && (c.out == d.out)
 
 abbrev pub among : Place → List Place → Bool
-among c [] = false
-among c (d ∷ ds) = same_place c d || among c ds
+among c ds = list_any (same_place c) ds
 
 -- whether the node is a Pdo that reads c
 abbrev pub calls_on : Place → Node → Bool
@@ -28,8 +28,7 @@ collects c (Pdo d f) = false
 collects c (Gbk d o l k) = same_place c d
 
 abbrev pub any_node : (Node → Bool) → List Entry → Bool
-any_node t [] = false
-any_node t (e ∷ es) = t e.node || any_node t es
+any_node t es = list_any (λ e. t e.node) es
 
 -- the numbers of the nodes that pass a test, in their order
 abbrev pub those : (Node → Bool) → List Entry → List ℕ

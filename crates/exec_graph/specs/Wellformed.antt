@@ -1,8 +1,7 @@
 -- When a graph is well-formed.
-use Rattle.std.specs.Prelude.{◌≡◌, ℕ, ◌+◌, ◌==◌, ◌<◌, ◌≤◌, Bool, true, false, List, [], ◌∷◌, length, Option, Some, None}
+use Rattle.std.specs.Prelude.{◌≡◌, ℕ, ◌+◌, ◌<◌, ◌≤◌, Bool, true, false, List, [], ◌∷◌, length, Option, Some, None}
 use Rattle.std.specs.List.{AllByRecursion}
 use Rattle.combine_table.specs.declared.comb.Comb.{Comb}
-use Rattle.combine_table.specs.declared.comb.Comb.TheVariants as by
 use Rattle.exec_graph.specs.declared.step.Does.{Does}
 use Rattle.exec_graph.specs.declared.step.Does.TheVariants as does
 use Rattle.exec_graph.specs.Forests.{Forest, Bare, Grow, steps, numbered}
@@ -35,32 +34,22 @@ pub record IsForestOk (g : Graph) (n : ℕ) (f : Forest) : Type 0 where
   pub order : numbered 0 f ≡ f
   pub read : (j : ℕ) → has_out j f ≡ true → is_read g (place n j) ≡ true
 
--- a combiner's number, so that combiners are told apart
-abbrev pub comb_rank : Comb → ℕ
-comb_rank by.Sum = 0
-comb_rank by.Count = 1
-comb_rank by.Min = 2
-comb_rank by.Max = 3
-comb_rank by.All = 4
-comb_rank by.Any = 5
-comb_rank (by.Top n) = 6 + n
+abbrev pub comb_of : Does → Option Comb
+comb_of (does.Combine k) = Some k
+comb_of _ = None
 
-abbrev pub combines_by : Comb → Does → Bool
-combines_by k (does.Combine c) = comb_rank c == comb_rank k
-combines_by k _ = false
+-- the combiner of a forest whose one root combines
+abbrev pub root_comb : Forest → Option Comb
+root_comb Bare = None
+root_comb (Grow l kids Bare) = comb_of l.does
+root_comb (Grow l kids (Grow m others rest)) = None
 
--- whether the only root is a step of the combiner
-abbrev pub one_root : Comb → Forest → Bool
-one_root k Bare = false
-one_root k (Grow l kids Bare) = combines_by k l.does
-one_root k (Grow l kids (Grow m others rest)) = false
-
-abbrev pub has_root : Comb → Option Node → Bool
-has_root k None = false
-has_root k (Some (Source r)) = false
-has_root k (Some (Flatten ins)) = false
-has_root k (Some (Pdo c f)) = one_root k f
-has_root k (Some (Gbk c o l i)) = false
+abbrev pub comb_at : Option Node → Option Comb
+comb_at None = None
+comb_at (Some (Source r)) = None
+comb_at (Some (Flatten ins)) = None
+comb_at (Some (Pdo c f)) = root_comb f
+comb_at (Some (Gbk c o l k)) = None
 
 -- a lifted Gbk is no script output and is read by one Pdo alone, whose only root is a step of its
 -- combiner
@@ -69,7 +58,7 @@ pub record IsLiftedOk (g : Graph) (n : ℕ) (k : Comb) : Type 0 where
   pub uncollected : any_node (collects (place n 0)) g.nodes ≡ false
   pub reader : ℕ
   pub alone : readers g.nodes (place n 0) ≡ reader ∷ []
-  pub root : has_root k (node_at g.nodes reader) ≡ true
+  pub root : comb_at (node_at g.nodes reader) ≡ Some k
 
 -- how many inputs a Flatten may have, and how many nodes a graph
 abbrev pub most : ℕ

@@ -4,3 +4,4 @@ pub mod Spots
 pub mod Numbers
 pub mod Edges
 pub mod Order
+pub mod Checks

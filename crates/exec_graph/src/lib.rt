@@ -20,17 +20,23 @@
 //! to its node.
 #![tactic(auto)]
 
+mod callers;
+mod checks;
 mod copies;
 mod edges;
+mod forests;
 mod founded;
 mod given;
 mod graph;
 mod laws;
 mod order;
 mod places;
+mod readers;
+mod sizes;
 mod spots;
 mod step;
 
+pub use checks::graph_ok;
 pub use copies::copy_steps;
 pub use founded::is_founded;
 pub use graph::{Blocked, Entry, Graph, Node, Place};

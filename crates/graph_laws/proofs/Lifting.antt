@@ -10,7 +10,7 @@ use Rattle.flume_collection.specs.declared.trap.Trap.{Trap}
 use Rattle.flume_collection.specs.Traps.{trap_le}
 use Rattle.flume_collection.specs.Sets.{set_of}
 use Rattle.exec_graph.specs.Forests.{Forest, Bare, Grow}
-use Rattle.exec_graph.specs.Wellformed.{combines_by, one_root, has_root, IsLiftedOk, IsNodeOk, size, total_size, Ascends, IsGraphOk}
+use Rattle.exec_graph.specs.Wellformed.{comb_at, IsLiftedOk, IsNodeOk, size, total_size, Ascends, IsGraphOk}
 use Rattle.exec_graph.specs.Meaning.{place, Holds, own, traps, node_at, reads, gives, gives_at, IsThere, KeepsMeaning, SameMeaning}
 use Rattle.flume_collection.specs.Collection.{Collection}
 use Rattle.exec_graph.specs.World.{World}
@@ -82,12 +82,12 @@ collects-marked c h (Flatten ins) = refl
 collects-marked c h (Pdo d f) = refl
 collects-marked c h (Gbk d o l k) = refl
 
-root-marked : (k : Comb) (h : Option Comb → Option Comb) (x : Node)
-    → has_root k (Some (marked h x)) ≡ has_root k (Some x)
-root-marked k h (Source r) = refl
-root-marked k h (Flatten ins) = refl
-root-marked k h (Pdo d f) = refl
-root-marked k h (Gbk d o l i) = refl
+root-marked : (h : Option Comb → Option Comb) (x : Node)
+    → comb_at (Some (marked h x)) ≡ comb_at (Some x)
+root-marked h (Source r) = refl
+root-marked h (Flatten ins) = refl
+root-marked h (Pdo d f) = refl
+root-marked h (Gbk d o l i) = refl
 
 -- ---- lists of nodes
 abbrev marked_at : (Option Comb → Option Comb) → Option Node → Option Node
@@ -142,10 +142,10 @@ gives_at-marked : (h : Option Comb → Option Comb) (o : Option Node) (j : ℕ)
 gives_at-marked h None j = refl
 gives_at-marked h (Some x) j = gives-marked h x j
 
-root_at-marked : (k : Comb) (h : Option Comb → Option Comb) (o : Option Node)
-    → has_root k (marked_at h o) ≡ has_root k o
-root_at-marked k h None = refl
-root_at-marked k h (Some x) = root-marked k h x
+root_at-marked : (h : Option Comb → Option Comb) (o : Option Node)
+    → comb_at (marked_at h o) ≡ comb_at o
+root_at-marked h None = refl
+root_at-marked h (Some x) = root-marked h x
 
 there-marked : (s : ℕ → Option Comb → Option Comb) (es : List Entry) (c : Place) → IsThere es c
     → IsThere (map (marked_entry s) es) c
@@ -190,8 +190,8 @@ lifted-marked s g n k a = record {
       ∙ a.uncollected;
   reader = a.reader;
   alone = those-marked (calls_on (place n 0)) (calls-marked (place n 0)) s g.nodes ∙ a.alone;
-  root = ap (has_root k) (node_at-marked s g.nodes a.reader)
-      ∙ root_at-marked k (s a.reader) (node_at g.nodes a.reader) ∙ a.root;
+  root = ap comb_at (node_at-marked s g.nodes a.reader)
+      ∙ root_at-marked (s a.reader) (node_at g.nodes a.reader) ∙ a.root;
 }
 
 -- the new marks are right
@@ -275,28 +275,6 @@ IsTyped-remarked marks s g (types, a) = (
 )
 
 -- ---- what may be lifted
-combines_self : (d : Does) (k : Comb) → comb_of d ≡ Some k → combines_by k d ≡ true
-combines_self (does.Combine c) k e = let i : c ≡ k = cc in rw i (eq-eqb _ _ refl)
-combines_self (does.Call f) k e = let bad : ⊥ = cc in absurd bad
-combines_self does.Pair k e = let bad : ⊥ = cc in absurd bad
-combines_self does.TagLeft k e = let bad : ⊥ = cc in absurd bad
-combines_self does.TagRight k e = let bad : ⊥ = cc in absurd bad
-combines_self does.Split k e = let bad : ⊥ = cc in absurd bad
-combines_self does.Solo k e = let bad : ⊥ = cc in absurd bad
-combines_self does.Spread k e = let bad : ⊥ = cc in absurd bad
-
-root_self : (f : Forest) (k : Comb) → root_comb f ≡ Some k → one_root k f ≡ true
-root_self Bare k e = let bad : ⊥ = cc in absurd bad
-root_self (Grow l kids Bare) k e = combines_self l.does k e
-root_self (Grow l kids (Grow m others rest)) k e = let bad : ⊥ = cc in absurd bad
-
-at_self : (o : Option Node) (k : Comb) → comb_at o ≡ Some k → has_root k o ≡ true
-at_self None k e = let bad : ⊥ = cc in absurd bad
-at_self (Some (Source r)) k e = let bad : ⊥ = cc in absurd bad
-at_self (Some (Flatten ins)) k e = let bad : ⊥ = cc in absurd bad
-at_self (Some (Pdo c f)) k e = root_self f k e
-at_self (Some (Gbk c o l i)) k e = let bad : ⊥ = cc in absurd bad
-
 lift_by : (g : Graph) (n : ℕ) (k : Comb) (a b : Bool) (ns : List ℕ)
     → among (place n 0) g.outputs ≡ a → any_node (collects (place n 0)) g.nodes ≡ b
     → readers g.nodes (place n 0) ≡ ns → cond a None (cond b None (only_comb g.nodes ns)) ≡ Some k
@@ -305,7 +283,7 @@ lift_by g n k true b ns p q r e = let bad : ⊥ = cc in absurd bad
 lift_by g n k false true ns p q r e = let bad : ⊥ = cc in absurd bad
 lift_by g n k false false [] p q r e = let bad : ⊥ = cc in absurd bad
 lift_by g n k false false (x ∷ []) p q r e = record
-    { untold = p; uncollected = q; reader = x; alone = r; root = at_self (node_at g.nodes x) k e }
+    { untold = p; uncollected = q; reader = x; alone = r; root = e }
 lift_by g n k false false (x ∷ (y ∷ ns)) p q r e = let bad : ⊥ = cc in absurd bad
 
 pub lift_allowed : (g : Graph) (n : ℕ) (o : Option Comb) → lift_of g n ≡ o → Allowed g n o

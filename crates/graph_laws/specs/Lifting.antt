@@ -1,9 +1,7 @@
 -- Lifting: a Gbk whose only reader is one CombineValues is marked with its combiner.
 use Rattle.std.specs.Prelude.{ℕ, ◌==◌, cond, List, [], ◌∷◌, map, Option, Some, None}
 use Rattle.combine_table.specs.declared.comb.Comb.{Comb}
-use Rattle.exec_graph.specs.declared.step.Does.{Does}
-use Rattle.exec_graph.specs.declared.step.Does.TheVariants as does
-use Rattle.exec_graph.specs.Forests.{Forest, Bare, Grow}
+use Rattle.exec_graph.specs.Wellformed.{comb_at}
 use Rattle.exec_graph.specs.Meaning.{place, node_at}
 use Rattle.exec_graph.specs.Readers.{among, any_node, collects, readers}
 use Rattle.exec_graph.specs.declared.graph.Node.{Node}
@@ -29,23 +27,6 @@ remarked s g =
     record { nodes = map (marked_entry s) g.nodes; outputs = g.outputs; next = g.next }
 
 -- ---- what may be lifted
-
-abbrev pub comb_of : Does → Option Comb
-comb_of (does.Combine k) = Some k
-comb_of _ = None
-
--- the combiner of a forest whose one root combines
-abbrev pub root_comb : Forest → Option Comb
-root_comb Bare = None
-root_comb (Grow l kids Bare) = comb_of l.does
-root_comb (Grow l kids (Grow m others rest)) = None
-
-abbrev pub comb_at : Option Node → Option Comb
-comb_at None = None
-comb_at (Some (Source r)) = None
-comb_at (Some (Flatten ins)) = None
-comb_at (Some (Pdo c f)) = root_comb f
-comb_at (Some (Gbk c o l k)) = None
 
 -- the combiner where one Pdo alone reads
 abbrev pub only_comb : List Entry → List ℕ → Option Comb

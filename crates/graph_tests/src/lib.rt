@@ -1,5 +1,7 @@
-//! Tests of execution graphs: a table of graphs, and whether each is founded.
+//! Tests of execution graphs: tables of graphs, and whether each is founded, and well-formed.
 #![tactic(auto)]
 
+#[cfg(test)]
+mod formed;
 #[cfg(test)]
 mod founded;

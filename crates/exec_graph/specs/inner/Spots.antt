@@ -1,5 +1,5 @@
 -- The outputs of a forest's steps, in preorder.
-use Rattle.std.specs.Prelude.{◌==◌, List, [], ◌∷◌, ◌++◌}
+use Rattle.std.specs.Prelude.{◌==◌, ◌+◌, ℕ, Bool, cond, List, [], ◌∷◌, ◌++◌}
 use Rattle.exec_graph.specs.Forests.{Label, Forest, Bare, Grow}
 use Rattle.exec_graph.specs.declared.spots.Spot.{Spot}
 
@@ -9,3 +9,11 @@ spot_of l = record { first = l.at == 0; out = l.out }
 abbrev pub spots : Forest → List Spot
 spots Bare = []
 spots (Grow l kids rest) = spot_of l ∷ (spots kids ++ spots rest)
+
+abbrev pub one_first : Bool → ℕ
+one_first b = cond b 1 0
+
+-- how many outputs are the first of their step
+abbrev pub firsts : List Spot → ℕ
+firsts [] = 0
+firsts (s ∷ ss) = one_first s.first + firsts ss

@@ -1,0 +1,62 @@
+ghost use Rattle.std.specs.Prelude.{OnOk, IfOk};
+ghost use Rattle.exec_graph.specs.Readers.{among, calls_on, collects, is_read};
+ghost use Rattle.exec_graph.specs.inner.Checks.{is_held};
+ghost use Rattle.exec_graph.specs.inner.Numbers.{HasPlaces, HasAlso};
+
+use crate::graph::{Graph, Node, Place};
+use crate::places::add_place;
+use std::alloc::{AllocError, Global};
+use std::collections::HashSet;
+
+/// The collections that a Gbk, a Flatten or a script output reads.
+pub(crate) fn held_places(alloc: Global, graph: &Graph) -> Result<HashSet<u64>, AllocError>
+    ensures { IfOk result (λ s. HasPlaces s (is_held graph.now)) }
+{
+    let mut places = HashSet::new(alloc);
+    for e in graph.nodes.as_slice() {
+        add_collected(&e.node, &mut places)?;
+    }
+    add_places(graph.outputs.as_slice(), &mut places)?;
+    Ok(places)
+}
+
+/// The collections that a node or a script output reads.
+pub(crate) fn read_places(alloc: Global, graph: &Graph) -> Result<HashSet<u64>, AllocError>
+    ensures { IfOk result (λ s. HasPlaces s (is_read graph.now)) }
+{
+    let mut places = held_places(alloc, graph)?;
+    for e in graph.nodes.as_slice() {
+        add_called(&e.node, &mut places)?;
+    }
+    Ok(places)
+}
+
+/// Adds what a Gbk or a Flatten reads.
+fn add_collected(node: &Node, places: &mut HashSet<u64>) -> Result<(), AllocError>
+    ensures { OnOk result (HasAlso places.old places.new (λ d. collects d node.now)) }
+{
+    match node {
+        Node::Flatten(inputs) => add_places(inputs.as_slice(), places),
+        Node::Gbk(c, _, _, _) => add_place(*c, places),
+        Node::Source(_) | Node::Pdo(_, _) => Ok(()),
+    }
+}
+
+/// Adds what a Pdo reads.
+fn add_called(node: &Node, places: &mut HashSet<u64>) -> Result<(), AllocError>
+    ensures { OnOk result (HasAlso places.old places.new (λ d. calls_on d node.now)) }
+{
+    match node {
+        Node::Pdo(c, _) => add_place(*c, places),
+        Node::Source(_) | Node::Flatten(_) | Node::Gbk(_, _, _, _) => Ok(()),
+    }
+}
+
+fn add_places(cs: &[Place], places: &mut HashSet<u64>) -> Result<(), AllocError>
+    ensures { OnOk result (HasAlso places.old places.new (λ d. among d cs.now)) }
+{
+    for c in cs {
+        add_place(*c, places)?;
+    }
+    Ok(())
+}

@@ -1,0 +1,78 @@
+ghost use Rattle.std.specs.Prelude.{◌≡◌, ◌↔◌, ◌≤◌, IsTrue, IfOk, length};
+ghost use Rattle.exec_graph.specs.Wellformed.{size, total_size, most};
+ghost use Rattle.exec_graph.specs.inner.Checks.{flatten_ok};
+ghost use Rattle.exec_graph.specs.inner.Spots.{firsts};
+ghost use Rattle.std.specs.List.{list_all};
+
+use crate::graph::{Entry, Node};
+use crate::spots::{Spot, spots_of};
+use std::alloc::{AllocError, Global};
+
+/// How many inputs a Flatten may have, and how many nodes a graph, where a Pdo counts once for each
+/// step.
+const MOST: usize = 4096;
+
+/// Whether the nodes are few enough.
+pub(crate) fn are_few(alloc: Global, nodes: &[Entry]) -> Result<bool, AllocError>
+    ensures { IfOk result (λ b. IsTrue b ↔ (total_size nodes.now ≤ most)) }
+{
+    let mut left = MOST;
+    for e in nodes {
+        let size = size_of(alloc, &e.node)?;
+        if size > left {
+            return Ok(false);
+        }
+        left -= size;
+    }
+    Ok(true)
+}
+
+#[tactic(auto, using(crate::proofs::Ordering::firsts_steps))]
+fn size_of(alloc: Global, node: &Node) -> Result<usize, AllocError>
+    ensures { IfOk result (λ n. n ≡ size node.now) }
+{
+    match node {
+        Node::Pdo(_, roots) => {
+            let spots = spots_of(alloc, roots)?;
+            Ok(count_steps(spots.as_slice()))
+        }
+        Node::Source(_) | Node::Flatten(_) | Node::Gbk(_, _, _, _) => Ok(1),
+    }
+}
+
+/// How many steps have these outputs.
+fn count_steps(spots: &[Spot]) -> usize
+    ensures { result ≡ firsts spots.now }
+{
+    let mut count = 0;
+    for spot in spots {
+        if spot.first {
+            count += 1;
+        }
+    }
+    count
+}
+
+/// Whether each Flatten has inputs, and not too many.
+pub(crate) fn are_flattens_ok(nodes: &[Entry]) -> bool
+    ensures { result ≡ list_all (λ e. flatten_ok e.node) nodes.now }
+{
+    for e in nodes {
+        if !is_flatten_ok(&e.node) {
+            return false;
+        }
+    }
+    true
+}
+
+fn is_flatten_ok(node: &Node) -> bool
+    ensures { result ≡ flatten_ok node.now }
+{
+    match node {
+        Node::Flatten(inputs) => {
+            let count = inputs.as_slice().len();
+            0 < count && count <= MOST
+        }
+        Node::Source(_) | Node::Pdo(_, _) | Node::Gbk(_, _, _, _) => true,
+    }
+}

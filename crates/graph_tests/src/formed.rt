@@ -1,0 +1,106 @@
+use combine_table::Comb;
+use exec_graph::{Does, Entry, Graph, Node, Output, Place, Roots, Step, graph_ok};
+use flume_value::Pile;
+use std::alloc::{AllocError, Global};
+use std::test::Fail;
+
+/// What is changed in the graph of a word count.
+#[derive(Clone, Copy, PartialEq, Eq)]
+enum Change {
+    Nothing,
+    Lifted(Comb),
+    LiftedAndWrittenOut,
+    LiftedAndReadTwice,
+    LastUnread,
+    NumberedFromOne,
+    FlattenOfNothing,
+}
+
+fn first_of(node: u32) -> Place {
+    Place { node, out: 0 }
+}
+
+/// One step on each element, whose output has the number.
+fn pdo(alloc: Global, input: u32, does: Does, number: u32) -> Result<Node, AllocError> {
+    let output = Output::new(Some(number), Vec::new(alloc));
+    let mut steps = Vec::new(alloc);
+    steps.push(Step::new(1, true, does, output, Vec::new(alloc)))?;
+    Ok(Node::Pdo(first_of(input), Roots::new(steps)))
+}
+
+fn lift(change: Change) -> Option<Comb> {
+    match change {
+        Change::Lifted(comb) => Some(comb),
+        Change::LiftedAndWrittenOut | Change::LiftedAndReadTwice => Some(Comb::Sum),
+        _ => None,
+    }
+}
+
+fn node(alloc: Global, number: u32, change: Change) -> Result<Node, AllocError> {
+    match number {
+        0 if change == Change::FlattenOfNothing => Ok(Node::Flatten(Pile::new(alloc))),
+        0 => Ok(Node::Source(0)),
+        1 => pdo(alloc, 0, Does::Call(0), 0),
+        2 => pdo(alloc, 1, Does::Pair, 0),
+        3 => Ok(Node::Gbk(first_of(2), 1, false, lift(change))),
+        4 if change == Change::NumberedFromOne => pdo(alloc, 3, Does::Combine(Comb::Sum), 1),
+        4 => pdo(alloc, 3, Does::Combine(Comb::Sum), 0),
+        _ => pdo(alloc, 3, Does::Combine(Comb::Sum), 0),
+    }
+}
+
+fn outputs(alloc: Global, change: Change) -> Result<Pile<Place>, AllocError> {
+    let mut outputs = Pile::new(alloc);
+    match change {
+        Change::LastUnread => outputs.push(first_of(3))?,
+        Change::NumberedFromOne => outputs.push(Place { node: 4, out: 1 })?,
+        Change::LiftedAndWrittenOut => {
+            outputs.push(first_of(4))?;
+            outputs.push(first_of(3))?;
+        }
+        Change::LiftedAndReadTwice => {
+            outputs.push(first_of(4))?;
+            outputs.push(first_of(5))?;
+        }
+        _ => outputs.push(first_of(4))?,
+    }
+    Ok(outputs)
+}
+
+/// Words are cut, each is paired with 1, and the pairs are grouped and summed.
+fn word_count(alloc: Global, change: Change) -> Result<Graph, AllocError> {
+    let next = if change == Change::LiftedAndReadTwice { 6 } else { 5 };
+    let mut nodes = Pile::new(alloc);
+    for number in 0..next {
+        nodes.push(Entry {
+            number,
+            node: node(alloc, number, change)?,
+        })?;
+    }
+    let outputs = outputs(alloc, change)?;
+    Ok(Graph {
+        nodes,
+        outputs,
+        next,
+    })
+}
+
+#[test]
+fn tells_well_formed_graphs_from_others(rt: HostRuntime) -> Result<(), Fail> {
+    let alloc = rt.alloc();
+    let table = [
+        ("the word count", Change::Nothing, true),
+        ("a lifted group", Change::Lifted(Comb::Sum), true),
+        ("a group lifted with another combiner", Change::Lifted(Comb::Max), false),
+        ("a lifted group that is written out", Change::LiftedAndWrittenOut, false),
+        ("a lifted group with a second reader", Change::LiftedAndReadTwice, false),
+        ("an output that nothing reads", Change::LastUnread, false),
+        ("an output that is not the next", Change::NumberedFromOne, false),
+        ("a flatten of nothing", Change::FlattenOfNothing, false),
+    ];
+    for (name, change, well_formed) in &table {
+        let graph = word_count(alloc, *change)?;
+        assert_eq!(rt; graph_ok(alloc, &graph)?, *well_formed, "{name}");
+    }
+    Ok(())
+}
