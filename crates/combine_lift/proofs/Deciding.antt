@@ -13,7 +13,8 @@ use Rattle.exec_graph.specs.declared.graph.Entry.{Entry}
 use Rattle.exec_graph.specs.declared.graph.Graph.{Graph}
 use Rattle.exec_graph.proofs.Solving.{each_found}
 use Rattle.exec_graph.proofs.Soundness.{differ_ascends}
-use Rattle.graph_laws.specs.Lifting.{comb_at, root_comb, only_comb, lift_of, marked, marked_entry}
+use Rattle.exec_graph.specs.Wellformed.{comb_at, root_comb}
+use Rattle.graph_laws.specs.Lifting.{only_comb, lift_of, marked, marked_entry}
 use Rattle.combine_lift.specs.inner.Readings.{both, reader_of, by_places, by_node, by_nodes, reading, combiner}
 use Rattle.combine_lift.specs.declared.readings.Reader.{Reader}
 use Rattle.combine_lift.specs.declared.readings.Reader.TheVariants.{Other}

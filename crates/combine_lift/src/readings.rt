@@ -1,11 +1,10 @@
-ghost use Rattle.std.specs.Prelude.{◌≡◌, ◌∷◌, [], ℕ, OnOk, IfOk, nat_eq};
+ghost use Rattle.std.specs.Prelude.{◌≡◌, ℕ, OnOk, IfOk, nat_eq};
 ghost use Rattle.std.specs.HashMap.{get};
-ghost use Rattle.exec_graph.specs.Forests.{grown};
-ghost use Rattle.graph_laws.specs.Lifting.{root_comb};
+ghost use Rattle.exec_graph.specs.Wellformed.{root_comb};
 ghost use Rattle.combine_lift.specs.inner.Readings as is;
 
 use combine_table::Comb;
-use exec_graph::{Does, Entry, Graph, Node, Place, Roots, Step};
+use exec_graph::{Entry, Graph, Node, Place, Roots, root_comb};
 use std::alloc::{AllocError, Global};
 use std::collections::HashMap;
 
@@ -71,23 +70,12 @@ fn note(place: Place, reader: Reader, readings: &mut HashMap<u32, Reader>) -> Re
     Ok(())
 }
 
+/// A Pdo with this forest as a reader.
 fn reader_of(roots: &Roots) -> Reader
     ensures { result ≡ is.reader_of (root_comb roots.now) }
 {
-    match roots.steps() {
-        [step] => single_reader(step),
-        _ => Reader::Other,
-    }
-}
-
-fn single_reader(step: &Step) -> Reader
-    ensures { result ≡ is.reader_of (root_comb (grown (step.now ∷ []))) }
-{
-    if !step.more.is_empty() {
-        return Reader::Other;
-    }
-    match step.does {
-        Does::Combine(comb) => Reader::Combines(comb),
-        _ => Reader::Other,
+    match root_comb(roots) {
+        Some(comb) => Reader::Combines(comb),
+        None => Reader::Other,
     }
 }

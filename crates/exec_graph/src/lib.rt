@@ -36,6 +36,7 @@ mod sizes;
 mod spots;
 mod step;
 
+pub use callers::root_comb;
 pub use checks::graph_ok;
 pub use copies::copy_steps;
 pub use founded::is_founded;

@@ -16,7 +16,7 @@ use Rattle.flume_collection.specs.Collection.{Collection}
 use Rattle.exec_graph.specs.World.{World}
 use Rattle.exec_graph.specs.Readers.{among, calls_on, collects, any_node, those, readers, uses, is_read}
 use Rattle.exec_graph.specs.Typing.{IsTyped, NodeTyped, Signatures}
-use Rattle.graph_laws.specs.Lifting.{marked, marked_entry, remarked, comb_of, root_comb, comb_at, only_comb, lift_of, lifted, lifted_at}
+use Rattle.graph_laws.specs.Lifting.{marked, marked_entry, remarked, only_comb, lift_of, lifted, lifted_at}
 use Rattle.exec_graph.proofs.Entries.{all_map}
 use Rattle.exec_graph.proofs.Soundness.{SameMeaning-kept}
 use Rattle.exec_graph.specs.declared.step.Does.{Does}

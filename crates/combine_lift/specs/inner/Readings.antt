@@ -9,7 +9,7 @@ use Rattle.exec_graph.specs.declared.graph.Node.{Node}
 use Rattle.exec_graph.specs.declared.graph.Node.TheVariants.{Source, Flatten, Pdo, Gbk}
 use Rattle.exec_graph.specs.declared.graph.Entry.{Entry}
 use Rattle.exec_graph.specs.declared.graph.Graph.{Graph}
-use Rattle.graph_laws.specs.Lifting.{root_comb}
+use Rattle.exec_graph.specs.Wellformed.{root_comb}
 use Rattle.combine_lift.specs.declared.readings.Reader.{Reader}
 use Rattle.combine_lift.specs.declared.readings.Reader.TheVariants.{Combines, Other}
 
