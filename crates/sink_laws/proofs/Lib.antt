@@ -5,3 +5,6 @@ pub mod Copying
 pub mod SinkMeaning
 pub mod Ranges
 pub mod SinkFounded
+pub mod Unread
+pub mod Dropping
+pub mod MergeMeaning
