@@ -8,3 +8,9 @@ pub mod SinkFounded
 pub mod Unread
 pub mod Dropping
 pub mod MergeMeaning
+pub mod Readership
+pub mod Rerouting
+pub mod SinkNodes
+pub mod DropNodes
+pub mod MergeNodes
+pub mod Steps
