@@ -14,3 +14,4 @@ pub mod SinkNodes
 pub mod DropNodes
 pub mod MergeNodes
 pub mod Steps
+pub mod TypesKept

@@ -9,6 +9,8 @@
 //! Nothing here runs: the rewrites are definitions, and the functions state what holds of them.
 #![tactic(auto)]
 
+mod laws;
 mod pair;
 
+pub use laws::{merge_law, sink_law};
 pub use pair::Pair;
