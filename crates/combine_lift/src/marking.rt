@@ -1,7 +1,7 @@
 ghost use Rattle.std.specs.Prelude.{◌≡◌, ℕ, IfOk, map, nat_eq};
 ghost use Rattle.std.specs.HashMap.{get};
 ghost use Rattle.exec_graph.specs.Meaning.{SameMeaning};
-ghost use Rattle.exec_graph.specs.Typing.{IsTyped, Signatures};
+ghost use Rattle.exec_graph.specs.Typing.{KeepsTypes};
 ghost use Rattle.exec_graph.specs.Wellformed.{IsGraphOk};
 ghost use Rattle.graph_laws.specs.Lifting.{lifted, marked_entry};
 ghost use Rattle.graph_laws.specs.Single.{IsUnfused};
@@ -21,7 +21,7 @@ pub fn lift(alloc: Global, graph: Graph) -> Result<Graph, AllocError>
     ensures lifted { IfOk result (λ h. h ≡ lifted graph) }
     ensures well_formed { IfOk result (λ h. IsGraphOk h) }
     ensures same { IfOk result (λ h. SameMeaning graph h) }
-    ensures typed { IfOk result (λ h. (s : Signatures) → IsTyped s graph → IsTyped s h) }
+    ensures types { IfOk result (λ h. KeepsTypes graph h) }
     ensures unfused { IfOk result (λ h. IsUnfused graph → IsUnfused h) }
 {
     let readings = readings_of(alloc, &graph)?;

@@ -110,6 +110,10 @@ IsTypedBy s g types = AllByRecursion (λ e. NodeTyped s types e.number e.node) g
 abbrev pub IsTyped : Signatures → Graph → Type 0
 IsTyped s g = (types : Place → Ty) × IsTypedBy s g types
 
+-- whatever signatures give types to g give types to h
+abbrev pub KeepsTypes : Graph → Graph → Type 0
+KeepsTypes g h = (s : Signatures) → IsTyped s g → IsTyped s h
+
 -- ---- worlds
 
 -- a call gives emissions of its outputs' types, or it traps

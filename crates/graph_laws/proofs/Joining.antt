@@ -62,7 +62,7 @@ fits_graft w m n j v g l kids rest true h a b c d = (
   a.0,
   fits_beside w m n (through w l v) kids g a.1
       (subst (λ (u : Collection). FitsForest w m n u g) (kept_value m n j l.out
-          (through w l v) h a.0)
+      (through w l v) h a.0)
       b),
   a.2,
 )
@@ -136,10 +136,10 @@ gather_grafted w {Y = Y} q s p m n j v (Grow l kids rest) g a (inr (inl h)) b =
     let more : List Y = total w p (m (place n j)) g in
     let same : grafted j g rest ≡ rest = lacks_grafted j rest g h.2 in
     rw e (ap (λ (x : Forest). gather q (p v l ++ (total w p u
-        (grafted j g kids) ++ total w p v x)) b)
+    (grafted j g kids) ++ total w p v x)) b)
     same
     ∙ more_between q s (p v l) (total w p u kids) (total w p u (grafted j g kids))
-        (total w p v rest) more
+    (total w p v rest) more
     b (λ c. gather_grafted w q s p m n j u kids g a.1 h.1 c))
 gather_grafted w {Y = Y} q s p m n j v (Grow l kids rest) g a (inr (inr h)) b =
     let e : is_out l.out j ≡ false = h.0 in
@@ -147,28 +147,28 @@ gather_grafted w {Y = Y} q s p m n j v (Grow l kids rest) g a (inr (inr h)) b =
     let more : List Y = total w p (m (place n j)) g in
     let same : grafted j g kids ≡ kids = lacks_grafted j kids g h.1 in
     rw e (ap (λ (x : Forest). gather q (p v l ++ (total w p u x ++ total w p v
-        (grafted j g rest))) b)
+    (grafted j g rest))) b)
     same
     ∙ more_behind q s (p v l) (total w p u kids) (total w p v rest) (total w p v
-        (grafted j g rest)) more
+    (grafted j g rest)) more
     b (gather_grafted w q s p m n j v rest g a.2 h.2 b))
 
 -- ---- the values after the join
-abbrev pub joined_values : (Place → Collection) → ℕ → ℕ → Forest → Place → Collection
+abbrev pub joined_values : {A : Type 0} → (Place → A) → ℕ → ℕ → Forest → Place → A
 joined_values m p q h c = cond (eqb c.node p && has_out c.out h) (m (place q c.out)) (m c)
 
-taken_over : (m : Place → Collection) (p q j : ℕ) (h : Forest) → has_out j h ≡ true
+pub taken_over : {A : Type 0} (m : Place → A) (p q j : ℕ) (h : Forest) → has_out j h ≡ true
     → joined_values m p q h (place p j) ≡ m (place q j)
 taken_over m p q j h e = rw (eq-eqb p p refl, e) refl
 
-elsewhere : (m : Place → Collection) (p q : ℕ) (h : Forest) (c : Place) (b : Bool)
+pub elsewhere : {A : Type 0} (m : Place → A) (p q : ℕ) (h : Forest) (c : Place) (b : Bool)
     → eqb c.node p ≡ b → (c.node ≡ p → has_out c.out h ≡ false)
     → cond (b && has_out c.out h) (m (place q c.out)) (m c) ≡ m c
 elsewhere m p q h c true i f = rw (f (eqb-true c.node p i)) refl
 elsewhere m p q h c false i f = refl
 
 -- what the kept Pdo's own outputs are stays
-own_stays : (g : Graph) (m : Place → Collection) (p q : ℕ) (c d : Place) (f h : Forest)
+pub own_stays : {A : Type 0} (g : Graph) (m : Place → A) (p q : ℕ) (c d : Place) (f h : Forest)
     → CanJoin g p q c d f h → (j : ℕ) → has_out j f ≡ true
     → joined_values m p q h (place p j) ≡ m (place p j)
 own_stays g m p q c d f h can j e = elsewhere m p q h (place p j) (eqb p p) refl
@@ -179,7 +179,7 @@ pub there_at : (es : List Entry) (c : Place) (n : ℕ) (t : Place) (f : Forest) 
 there_at es c n t f e a h = sym (ap (λ (o : Option Node). gives_at o c.out) (ap (node_at es) e ∙ a))
     ∙ h
 
-moved_by : (g : Graph) (m : Place → Collection) (p q : ℕ) (c d : Place) (f h : Forest)
+moved_by : {A : Type 0} (g : Graph) (m : Place → A) (p q : ℕ) (c d : Place) (f h : Forest)
     → CanJoin g p q c d f h → (x : Place) (b : Bool) → eqb x.node q ≡ b → IsThere g.nodes x
     → joined_values m p q h (cond b (place p x.out) x) ≡ m x
 moved_by g m p q c d f h can x true i t =
@@ -190,7 +190,7 @@ moved_by g m p q c d f h can x false i t =
     elsewhere m p q h x (eqb x.node p) refl (λ e. not_true (has_out x.out h)
     (λ j. can.disjoint x.out (there_at g.nodes x p c f e can.keeper t) j))
 
-pub moved_same : (g : Graph) (m : Place → Collection) (p q : ℕ) (c d : Place) (f h : Forest)
+pub moved_same : {A : Type 0} (g : Graph) (m : Place → A) (p q : ℕ) (c d : Place) (f h : Forest)
     → CanJoin g p q c d f h → (x : Place) → IsThere g.nodes x
     → joined_values m p q h (moved p q x) ≡ m x
 moved_same g m p q c d f h can x t = moved_by g m p q c d f h can x (eqb x.node q) refl t
@@ -282,7 +282,7 @@ KeepsMeaning-joined g p q c d f h new ok can joins w m meets =
     let k_p : FitsForest w k p (m c) f = fits_moved w m k p p (m c) f
     (λ i e. own_stays g m p q c d f h can i e) at_p in
     let k_q : FitsForest w k p (m d) h = fits_moved w m k q p (m d) h
-        (λ i e. taken_over m p q i h e)
+    (λ i e. taken_over m p q i h e)
     at_q in
     let H : Entry → Type 0 = λ e. Holds w k e.number (reread r e.node) in
     let others : AllByRecursion (λ e. (e.number ≡ p → ⊥) → H e) (without g.nodes q) =

@@ -4,8 +4,15 @@ pub mod Disjoint
 pub mod Wellness
 pub mod Numbering
 pub mod NumberedHas
+pub mod TypedForests
 pub mod Refitting
+pub mod TypedGraphs
 pub mod ReadPlaces
+pub mod Roots
+pub mod Reading
+pub mod Nearly
+pub mod NearJoins
+pub mod Formed
 pub mod Renaming
 pub mod Kids
 pub mod Lifting

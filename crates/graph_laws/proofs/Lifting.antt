@@ -1,7 +1,7 @@
 -- Other marks on Gbks keep a graph's meaning: no definition of the meaning reads them.
 use Rattle.std.proofs.Common.{◌≡◌, ℕ, ◌<◌, ◌≤◌, Bool, true, false, cond, eqb, ◌||◌, List, [], ◌∷◌, Option, Some, None, map, refl, sym, ap, ◌∙◌, subst}
 use Rattle.std.specs.List.{flat_map, AllByRecursion}
-use Rattle.std.proofs.lemmas.Bool.{eqb-true, eq-eqb}
+use Rattle.std.proofs.lemmas.Bool.{eqb-true}
 use Rattle.std.proofs.lemmas.List.Folds.{flat_map-map}
 use Rattle.combine_table.specs.declared.comb.Comb.{Comb}
 use Rattle.flume_types.specs.declared.types.Ty.{Ty}
@@ -9,18 +9,15 @@ use Rattle.flume_value.specs.Bag.{bag_of}
 use Rattle.flume_collection.specs.declared.trap.Trap.{Trap}
 use Rattle.flume_collection.specs.Traps.{trap_le}
 use Rattle.flume_collection.specs.Sets.{set_of}
-use Rattle.exec_graph.specs.Forests.{Forest, Bare, Grow}
 use Rattle.exec_graph.specs.Wellformed.{comb_at, IsLiftedOk, IsNodeOk, size, total_size, Ascends, IsGraphOk}
 use Rattle.exec_graph.specs.Meaning.{place, Holds, own, traps, node_at, reads, gives, gives_at, IsThere, KeepsMeaning, SameMeaning}
 use Rattle.flume_collection.specs.Collection.{Collection}
 use Rattle.exec_graph.specs.World.{World}
 use Rattle.exec_graph.specs.Readers.{among, calls_on, collects, any_node, those, readers, uses, is_read}
-use Rattle.exec_graph.specs.Typing.{IsTyped, NodeTyped, Signatures}
+use Rattle.exec_graph.specs.Typing.{KeepsTypes, NodeTyped, Signatures}
 use Rattle.graph_laws.specs.Lifting.{marked, marked_entry, remarked, only_comb, lift_of, lifted, lifted_at}
 use Rattle.exec_graph.proofs.Entries.{all_map}
 use Rattle.exec_graph.proofs.Soundness.{SameMeaning-kept}
-use Rattle.exec_graph.specs.declared.step.Does.{Does}
-use Rattle.exec_graph.specs.declared.step.Does.TheVariants as does
 use Rattle.exec_graph.specs.declared.graph.Place.{Place}
 use Rattle.exec_graph.specs.declared.graph.Node.{Node}
 use Rattle.exec_graph.specs.declared.graph.Node.TheVariants.{Source, Flatten, Pdo, Gbk}
@@ -165,12 +162,12 @@ KeepsMeaning-remarked s g w m meets = (
     own = λ i. sym (ap bag_of (flat_map-map (λ (e : Entry). own w m i e.node)
         (marked_entry s) g.nodes
         ∙ flat_map_same (λ (e : Entry). own w m i (marked (s e.number) e.node))
-            (λ e. own w m i e.node)
+        (λ e. own w m i e.node)
         (λ e. own-marked w m i (s e.number) e.node) g.nodes));
     traps = sym (ap (λ (l : List Trap). set_of trap_le l)
         (flat_map-map (λ (e : Entry). traps w m e.node) (marked_entry s) g.nodes
         ∙ flat_map_same (λ (e : Entry). traps w m (marked (s e.number) e.node))
-            (λ e. traps w m e.node)
+        (λ e. traps w m e.node)
         (λ e. traps-marked w m (s e.number) e.node) g.nodes));
   },
 )
@@ -265,9 +262,9 @@ typed_marked s types n h (Flatten ins) a = a
 typed_marked s types n h (Pdo c f) a = a
 typed_marked s types n h (Gbk c o l k) a = a
 
-pub IsTyped-remarked : (marks : ℕ → Option Comb → Option Comb) (s : Signatures) (g : Graph)
-    → IsTyped s g → IsTyped s (remarked marks g)
-IsTyped-remarked marks s g (types, a) = (
+pub KeepsTypes-remarked : (marks : ℕ → Option Comb → Option Comb) (g : Graph)
+    → KeepsTypes g (remarked marks g)
+KeepsTypes-remarked marks g s (types, a) = (
   types,
   all_map (marked_entry marks) (λ (e : Entry). NodeTyped s types e.number e.node)
       (λ e. NodeTyped s types e.number e.node)

@@ -1,5 +1,5 @@
 -- Lifting: a Gbk whose only reader is one CombineValues is marked with its combiner.
-use Rattle.std.specs.Prelude.{ℕ, ◌==◌, cond, List, [], ◌∷◌, map, Option, Some, None}
+use Rattle.std.specs.Prelude.{ℕ, ◌==◌, cond, List, [], ◌∷◌, map, Option, None}
 use Rattle.combine_table.specs.declared.comb.Comb.{Comb}
 use Rattle.exec_graph.specs.Wellformed.{comb_at}
 use Rattle.exec_graph.specs.Meaning.{place, node_at}

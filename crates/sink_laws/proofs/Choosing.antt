@@ -6,7 +6,7 @@ use Rattle.flume_value.proofs.EachLemmas.{Each-both, Each-weaker}
 use Rattle.exec_graph.specs.Forests.{Forest}
 use Rattle.exec_graph.specs.Meaning.{place, node_at, reads, gives, IsThere, KeepsMeaning}
 use Rattle.exec_graph.specs.Readers.{same_place, among, is_read}
-use Rattle.exec_graph.specs.Typing.{IsTyped, Signatures}
+use Rattle.exec_graph.specs.Typing.{KeepsTypes}
 use Rattle.exec_graph.specs.Wellformed.{IsGraphOk, IsNodeOk, most, total_size}
 use Rattle.exec_graph.specs.declared.graph.Place.{Place}
 use Rattle.exec_graph.specs.declared.graph.Node.{Node}
@@ -169,13 +169,13 @@ next_nest_can g ok =
 -- what every merge and every step keeps
 pub record IsKept (g h : Graph) : Type 0 where
   pub good : IsGood g h
-  pub typed : (s : Signatures) → IsTyped s g → IsTyped s h
+  pub types : KeepsTypes g h
   pub unfused : IsUnfused g → IsUnfused h
 
 pub IsKept-trans : (g h i : Graph) → IsKept g h → IsKept h i → IsKept g i
 IsKept-trans g h i a b = record {
   good = IsGood-trans g h i a.good b.good;
-  typed = λ s t. b.typed s (a.typed s t);
+  types = λ s t. b.types s (a.types s t);
   unfused = λ u. b.unfused (a.unfused u);
 }
 
@@ -185,7 +185,7 @@ IsKept-refl g ok = record {
     ok = ok;
     keeps = λ w m h. (m, h, record { outputs = refl; own = λ i. refl; traps = refl });
   };
-  typed = λ s t. t;
+  types = λ s t. t;
   unfused = λ u. u;
 }
 
@@ -195,7 +195,7 @@ IsKept-nest g n ok can =
     let es : List Place = inputs_of (node_at g.nodes n.other) in
     record {
       good = IsGood-merge_step g n.flatten ins n.other es ok can;
-      typed = λ s t. IsTyped-tidied s (merged g n.flatten ins n.other es) n.other
+      types = λ s t. IsTyped-tidied s (merged g n.flatten ins n.other es) n.other
           (IsTyped-merged s g n.flatten ins n.other es can t);
       unfused = IsUnfused-merge_step g n.flatten ins n.other es;
     }
@@ -207,7 +207,7 @@ IsKept-call g p ok can room =
     let f : Forest = forest_of (node_at g.nodes p.other) in
     record {
       good = IsGood-sink_step g p.flatten p.other f ins ok can room;
-      typed = λ s t. IsTyped-tidied s (sunk g p.other f ins) p.flatten
+      types = λ s t. IsTyped-tidied s (sunk g p.other f ins) p.flatten
           (IsTyped-sunk s g p.flatten p.other f ins ok.founded.below ok.founded.there can t);
       unfused = IsUnfused-sink_step g p.flatten p.other f ins can;
     }

@@ -1,7 +1,7 @@
 ghost use Rattle.std.specs.Prelude.{ℕ, List, ◌≤◌};
 ghost use Rattle.exec_graph.specs.Forests.{Forest};
 ghost use Rattle.exec_graph.specs.Meaning.{SameMeaning};
-ghost use Rattle.exec_graph.specs.Typing.{IsTyped, Signatures};
+ghost use Rattle.exec_graph.specs.Typing.{KeepsTypes};
 ghost use Rattle.exec_graph.specs.Wellformed.{IsGraphOk, most, total_size};
 ghost use Rattle.exec_graph.specs.declared.graph.Graph.{Graph};
 ghost use Rattle.exec_graph.specs.declared.graph.Place.{Place};
@@ -16,9 +16,8 @@ pub fn merge_law()
         IsGraphOk g → CanMerge g f ins e es → IsGraphOk (merge_step g f ins e es) }
     ensures same { (g : Graph) (f : ℕ) (ins : List Place) (e : ℕ) (es : List Place) →
         IsGraphOk g → CanMerge g f ins e es → SameMeaning g (merge_step g f ins e es) }
-    ensures typed { (s : Signatures) (g : Graph) (f : ℕ) (ins : List Place) (e : ℕ)
-        (es : List Place) → CanMerge g f ins e es → IsTyped s g →
-        IsTyped s (merge_step g f ins e es) }
+    ensures types { (g : Graph) (f : ℕ) (ins : List Place) (e : ℕ) (es : List Place) →
+        CanMerge g f ins e es → KeepsTypes g (merge_step g f ins e es) }
     ensures unfused { (g : Graph) (f : ℕ) (ins : List Place) (e : ℕ) (es : List Place) →
         IsUnfused g → IsUnfused (merge_step g f ins e es) }
 {}
@@ -32,8 +31,8 @@ pub fn sink_law()
     ensures same { (g : Graph) (n p : ℕ) (f : Forest) (ins : List Place) → IsGraphOk g →
         CanSink g n p f ins → total_size (sink_step g n p f ins).nodes ≤ most →
         SameMeaning g (sink_step g n p f ins) }
-    ensures typed { (s : Signatures) (g : Graph) (n p : ℕ) (f : Forest) (ins : List Place) →
-        IsGraphOk g → CanSink g n p f ins → IsTyped s g → IsTyped s (sink_step g n p f ins) }
+    ensures types { (g : Graph) (n p : ℕ) (f : Forest) (ins : List Place) → IsGraphOk g →
+        CanSink g n p f ins → KeepsTypes g (sink_step g n p f ins) }
     ensures unfused { (g : Graph) (n p : ℕ) (f : Forest) (ins : List Place) →
         CanSink g n p f ins → IsUnfused g → IsUnfused (sink_step g n p f ins) }
 {}

@@ -1,12 +1,12 @@
 use Rattle.std.proofs.Common.{◌≡◌, List, nat_eq, sym, ap, ◌∙◌, subst}
 use Rattle.std.specs.HashMap.{get}
 use Rattle.exec_graph.specs.Meaning.{SameMeaning}
-use Rattle.exec_graph.specs.Typing.{IsTyped}
+use Rattle.exec_graph.specs.Typing.{KeepsTypes}
 use Rattle.exec_graph.specs.Wellformed.{IsGraphOk}
 use Rattle.exec_graph.specs.declared.graph.Entry.{Entry}
 use Rattle.exec_graph.specs.declared.graph.Graph.{Graph}
 use Rattle.graph_laws.specs.Lifting.{lifted, lift_of}
-use Rattle.graph_laws.proofs.Lifting.{IsGraphOk-lifted, IsTyped-remarked, SameMeaning-lifted}
+use Rattle.graph_laws.proofs.Lifting.{IsGraphOk-lifted, KeepsTypes-remarked, SameMeaning-lifted}
 use Rattle.graph_laws.proofs.SingleSteps.{IsUnfused-remarked}
 use Rattle.graph_laws.specs.Single.{IsUnfused}
 use Rattle.combine_lift.specs.inner.Readings.{combiner}
@@ -25,7 +25,7 @@ returns c =
       lifted = is;
       well_formed = subst IsGraphOk (sym is) (IsGraphOk-lifted g c.requires);
       same = subst (λ (h : Graph). SameMeaning g h) (sym is) (SameMeaning-lifted g c.requires);
-      typed = λ s t. subst (λ (h : Graph). IsTyped s h) (sym is)
-          (IsTyped-remarked (λ n k. lift_of g n) s g t);
+      types = subst (λ (h : Graph). KeepsTypes g h) (sym is)
+          (KeepsTypes-remarked (λ n k. lift_of g n) g);
       unfused = λ u. subst IsUnfused (sym is) (IsUnfused-remarked (λ n k. lift_of g n) g u);
     }

@@ -1,4 +1,4 @@
-use Rattle.graph_laws.proofs.Lifting.{IsGraphOk-lifted, IsGraphOk-lifted_at, IsTyped-remarked, KeepsMeaning-remarked, SameMeaning-lifted, SameMeaning-lifted_at}
+use Rattle.graph_laws.proofs.Lifting.{IsGraphOk-lifted, IsGraphOk-lifted_at, KeepsTypes-remarked, KeepsMeaning-remarked, SameMeaning-lifted, SameMeaning-lifted_at}
 use Rattle.graph_laws.proofs.SingleSteps.{IsUnfused-remarked}
 use Rattle.graph_laws.proofs.laws.lift_law.Goals as goal
 
@@ -18,7 +18,7 @@ pub returns-clause-marks : goal.returns-clause-marks
 returns-clause-marks c = KeepsMeaning-remarked
 
 pub returns-clause-typed : goal.returns-clause-typed
-returns-clause-typed c = IsTyped-remarked
+returns-clause-typed c = KeepsTypes-remarked
 
 pub returns-clause-unfused : goal.returns-clause-unfused
 returns-clause-unfused c = IsUnfused-remarked

@@ -11,8 +11,8 @@ pub returns-clause-same : goal.returns-clause-same
 returns-clause-same c = λ g f ins e es ok can. let a = IsGood-merge_step g f ins e es ok can in
     SameMeaning-kept g (merge_step g f ins e es) ok a.ok a.keeps
 
-pub returns-clause-typed : goal.returns-clause-typed
-returns-clause-typed c = λ s g f ins e es can t.
+pub returns-clause-types : goal.returns-clause-types
+returns-clause-types c = λ g f ins e es can s t.
     IsTyped-tidied s (merged g f ins e es) e (IsTyped-merged s g f ins e es can t)
 
 pub returns-clause-unfused : goal.returns-clause-unfused

@@ -13,8 +13,8 @@ returns-clause-same c = λ g n p f ins ok can room.
     let a = IsGood-sink_step g n p f ins ok can room in
     SameMeaning-kept g (sink_step g n p f ins) ok a.ok a.keeps
 
-pub returns-clause-typed : goal.returns-clause-typed
-returns-clause-typed c = λ s g n p f ins ok can t. IsTyped-tidied s (sunk g p f ins) n
+pub returns-clause-types : goal.returns-clause-types
+returns-clause-types c = λ g n p f ins ok can s t. IsTyped-tidied s (sunk g p f ins) n
     (IsTyped-sunk s g n p f ins ok.founded.below ok.founded.there can t)
 
 pub returns-clause-unfused : goal.returns-clause-unfused
