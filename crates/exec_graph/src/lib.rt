@@ -40,6 +40,7 @@ pub use callers::root_comb;
 pub use checks::graph_ok;
 pub use copies::copy_steps;
 pub use founded::is_founded;
+pub use sizes::{count_outputs, size_of};
 pub use graph::{Blocked, Entry, Graph, Node, Place};
 pub use laws::{meaning_law, step_law, typed_law};
 pub use step::{Does, Output, Roots, Step};

@@ -17,3 +17,4 @@ pub mod Renaming
 pub mod Kids
 pub mod Lifting
 pub mod Columns
+pub mod SingleSteps

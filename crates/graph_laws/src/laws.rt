@@ -13,6 +13,7 @@ ghost use Rattle.flume_collection.specs.Collection.{Collection, together};
 ghost use Rattle.flume_collection.specs.Traps.{trap_set};
 ghost use Rattle.graph_laws.specs.Kids.{CanKid, CanPair, with_kid, with_sibling};
 ghost use Rattle.graph_laws.specs.Lifting.{lifted, lifted_at, remarked};
+ghost use Rattle.graph_laws.specs.Single.{IsUnfused};
 
 /// Lifting all groups that may be lifted, or one of them, keeps a graph well-formed and its meaning
 /// the same. Marks on groups have no part in what a graph means, nor in its types.
@@ -25,6 +26,8 @@ pub fn lift_law()
         KeepsMeaning g (remarked marks g) }
     ensures typed { (marks : ℕ → Option Comb → Option Comb) (g : Graph) →
         KeepsTypes g (remarked marks g) }
+    ensures unfused { (marks : ℕ → Option Comb → Option Comb) (g : Graph) →
+        IsUnfused g → IsUnfused (remarked marks g) }
 {}
 
 /// Where a Pdo reads an output of another, its roots may become kids of the step with that output:
