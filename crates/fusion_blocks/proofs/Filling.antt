@@ -80,7 +80,7 @@ put_right scales es n v x first now new f found has is puts =
             let e : n ≡ k = eqb-true n k q in
             let r = f.partly k w h in
             let s : r.node ≡ x = same_node es k r.node x r.found
-                (subst (λ (j : ℕ). node_at es j ≡ Some x) e found) in
+            (subst (λ (j : ℕ). node_at es j ≡ Some x) e found) in
             let d : w ≡ v = r.value ∙ ap (estimate scales (λ j. or_zero (now j))) s ∙ sym is in
             puts k ∙ ap (λ (b : Bool). cond b (Some v) (now k)) q ∙ ap Some (sym d)
 
@@ -93,7 +93,7 @@ put_right scales es n v x first now new f found has is puts =
         by true q =
             let e : n ≡ k = eqb-true n k q in
             let p : Some v ≡ Some w =
-                sym (ap (λ (b : Bool). cond b (Some v) (now k)) q) ∙ sym (puts k) ∙ h in
+            sym (ap (λ (b : Bool). cond b (Some v) (now k)) q) ∙ sym (puts k) ∙ h in
             let d : v ≡ w = cc in
             right_grown scales es now new k w grows (record {
               node = x;
@@ -152,7 +152,7 @@ pub filling_more : (scales : List ℕ) (es : List Entry) (turns i : ℕ) (places
 filling_more scales es turns i places d first now new l w f h =
     let c : Place = get_or places i d in
     let e : drop i places ≡ c ∷ drop (i + 1) places =
-        item places i c l (get_or_default places i d c l) in
+    item places i c l (get_or_default places i d c l) in
     record {
       below = (subst (AllBelow es turns) e w.below).1;
       fills = fills_more scales es first now new w.fills f;
@@ -204,15 +204,20 @@ all_done scales es i now r l w =
     (each_found es r.differ)
 
 -- as many turns as there are nodes, and one, are enough
-pub entry_below : (es : List Entry) (i : ℕ) (e : Entry) → IsRanked es → i < length es
-    → drop i es ≡ e ∷ drop (i + 1) es → IsBelow es (length es + 1) e.number
-entry_below es i e r l d = record {
+pub found_below : (es : List Entry) (n : ℕ) (x : Node) → IsRanked es → node_at es n ≡ Some x
+    → IsBelow es (length es + 1) n
+found_below es n x r h = record {
   there = r.there;
   rank = place_of r.rank es;
   ranked = short_ranked r.rank es es r.there r.ranked;
-  below = let most = lower_most r.rank es (r.rank e.number) in omega arith;
-  node = e.node;
-  found = (subst (AllByRecursion (λ (x : Entry). node_at es x.number ≡ Some x.node)) d
-      (Each-drop (λ (x : Entry). node_at es x.number ≡ Some x.node) i es
-      (each_found es r.differ))).0;
+  below = let most = lower_most r.rank es (r.rank n) in omega arith;
+  node = x;
+  found = h;
 }
+
+pub entry_below : (es : List Entry) (i : ℕ) (e : Entry) → IsRanked es
+    → drop i es ≡ e ∷ drop (i + 1) es → IsBelow es (length es + 1) e.number
+entry_below es i e r d = found_below es e.number e.node r
+    (subst (AllByRecursion (λ (x : Entry). node_at es x.number ≡ Some x.node)) d
+    (Each-drop (λ (x : Entry). node_at es x.number ≡ Some x.node) i es
+    (each_found es r.differ))).0

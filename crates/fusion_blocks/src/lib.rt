@@ -7,6 +7,11 @@
 //! to what the Pdo of the output reads.
 #![tactic(auto)]
 
+mod blocks;
+mod chains;
 mod estimates;
+mod feeding;
+mod marks;
 mod nodes;
 
+pub use blocks::block;

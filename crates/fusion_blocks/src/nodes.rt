@@ -20,11 +20,7 @@ pub(crate) fn index_of(alloc: Global, nodes: &[Entry]) -> Result<HashMap<u32, us
 }
 
 /// Puts a node where none of that number was put before.
-fn put_first(
-    number: u32,
-    at: usize,
-    index: &mut HashMap<u32, usize>,
-) -> Result<(), AllocError>
+fn put_first(number: u32, at: usize, index: &mut HashMap<u32, usize>) -> Result<(), AllocError>
     ensures { OnOk result ((n : ℕ) → get nat_eq index.new n
         ≡ first_index (get nat_eq index.old n) (cond (number == n) (Some at) None)) }
 {
