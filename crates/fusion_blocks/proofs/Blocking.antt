@@ -1,9 +1,9 @@
 -- The marks of a whole graph.
-use Rattle.std.proofs.Common.{◌≡◌, ℕ, ◌<◌, Bool, true, false, cond, eqb, ◌&&◌, ◌||◌, ◌⊎◌, inl, inr, List, [], ◌∷◌, ◌++◌, Option, Some, None, refl, sym, ap, ◌∙◌, subst, arith}
+use Rattle.std.proofs.Common.{◌≡◌, ℕ, Bool, true, false, cond, ◌&&◌, ◌||◌, ◌⊎◌, inl, inr, List, [], ◌∷◌, refl, sym, ap, ◌∙◌, subst}
 use Rattle.std.proofs.lemmas.Bool.{false≢true}
 use Rattle.std.specs.List.{AllByRecursion, list_any}
 use Rattle.flume_value.proofs.EachLemmas.{Each-append, Each-right}
-use Rattle.exec_graph.specs.Meaning.{IsSound, IsThere, node_at, place, reads}
+use Rattle.exec_graph.specs.Meaning.{IsThere, node_at, place, reads}
 use Rattle.exec_graph.specs.Readers.{among, same_place}
 use Rattle.exec_graph.specs.Wellformed.{IsBlockedOk, IsGraphOk, is_lifted}
 use Rattle.exec_graph.specs.declared.graph.Place.{Place}
@@ -14,8 +14,8 @@ use Rattle.exec_graph.specs.declared.graph.Graph.{Graph}
 use Rattle.exec_graph.proofs.Bools.{or_else, or_left, or_right}
 use Rattle.exec_graph.proofs.Entries.{all_found}
 use Rattle.exec_graph.proofs.Soundness.{IsSound-ok}
-use Rattle.fusion_blocks.specs.Blocks.{IsBlocked, IsMarkOf, IsMarked}
-use Rattle.fusion_blocks.specs.Chains.{IsChain, group, lifted, then, IsFirstLeast}
+use Rattle.fusion_blocks.specs.Blocks.{IsBlocked, IsMarkOf}
+use Rattle.fusion_blocks.specs.Chains.{IsChain, group, lifted, then}
 use Rattle.fusion_blocks.specs.Feeding.{feeds, feeds_by, flattens, groups, is_grouped}
 use Rattle.fusion_blocks.specs.inner.Stretches.{AreMarks, MarkedBy, MarkedFrom, fed}
 use Rattle.fusion_blocks.specs.inner.Tables.{AllThere, IsRanked}

@@ -1,11 +1,11 @@
 -- How estimates become known.
-use Rattle.std.proofs.Common.{◌≡◌, ℕ, ◌+◌, ◌*◌, ◌/◌, ◌<◌, ◌≤◌, Bool, true, false, cond, eqb, List, [], ◌∷◌, length, map, drop, get_or, Option, Some, None, zero, suc, refl, sym, ap, ◌∙◌, subst, arith}
+use Rattle.std.proofs.Common.{◌≡◌, ℕ, ◌+◌, ◌*◌, ◌/◌, ◌<◌, ◌≤◌, Bool, true, false, cond, eqb, List, [], ◌∷◌, length, drop, get_or, Option, Some, None, zero, suc, refl, sym, ap, ◌∙◌, subst, arith}
 use Rattle.std.proofs.Math.Seq.{drop-cons}
 use Rattle.std.proofs.lemmas.Bool.{eqb-true}
 use Rattle.std.proofs.lemmas.List.{get_or_default}
 use Rattle.std.specs.List.{AllByRecursion}
 use Rattle.flume_value.proofs.EachLemmas.{Each-weaker, Each-both, Each-drop}
-use Rattle.exec_graph.specs.Meaning.{node_at, reads, IsThere, IsRankedBy}
+use Rattle.exec_graph.specs.Meaning.{node_at, reads, IsThere}
 use Rattle.exec_graph.proofs.Entries.{all_found, map_alike}
 use Rattle.exec_graph.proofs.Solving.{each_found, ranked_at, short_ranked, lower_most, place_of, there_found}
 use Rattle.exec_graph.specs.declared.graph.Place.{Place}
@@ -13,7 +13,7 @@ use Rattle.exec_graph.specs.declared.graph.Node.{Node}
 use Rattle.exec_graph.specs.declared.graph.Node.TheVariants.{Source, Flatten, Pdo, Gbk}
 use Rattle.exec_graph.specs.declared.graph.Entry.{Entry}
 use Rattle.fusion_blocks.specs.Estimates.{capped, estimate, scale_of, sum_of, AreEstimates}
-use Rattle.fusion_blocks.specs.inner.Tables.{AllBelow, AllThere, Fills, Grows, Has, HasAll, IsBelow, IsPartly, IsRanked, IsRight, or_zero}
+use Rattle.fusion_blocks.specs.inner.Tables.{AllBelow, Fills, Grows, Has, HasAll, IsBelow, IsPartly, IsRanked, IsRight, or_zero}
 
 -- what a loop comes to next
 pub item : {X : Type 0} (xs : List X) (i : ℕ) (x : X) → i < length xs → x ≡ get_or xs i x

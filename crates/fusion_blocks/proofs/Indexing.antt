@@ -1,9 +1,7 @@
 -- Where nodes stand by their numbers.
-use Rattle.std.proofs.Common.{◌≡◌, ℕ, ◌+◌, ◌-◌, ◌<◌, ◌≤◌, Bool, true, false, cond, eqb, List, [], ◌∷◌, length, get_or, Option, Some, None, zero, suc, refl, sym, ap, ◌∙◌, subst, arith}
-use Rattle.std.proofs.lemmas.Bool.{eqb-true}
+use Rattle.std.proofs.Common.{◌≡◌, ℕ, ◌+◌, ◌-◌, ◌<◌, ◌≤◌, Bool, true, false, cond, eqb, List, [], ◌∷◌, length, get_or, Some, None, zero, suc, refl, sym, ap, ◌∙◌, arith}
 use Rattle.std.specs.List.{slice_get}
 use Rattle.exec_graph.specs.Meaning.{node_at}
-use Rattle.exec_graph.specs.declared.graph.Node.{Node}
 use Rattle.exec_graph.specs.declared.graph.Entry.{Entry}
 use Rattle.fusion_blocks.specs.inner.Nodes.{index_from}
 

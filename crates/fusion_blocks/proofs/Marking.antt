@@ -1,16 +1,15 @@
 -- What is marked.
-use Rattle.std.proofs.Common.{◌≡◌, ℕ, ◌+◌, ◌<◌, ◌≤◌, ◌^◌, Bool, true, false, cond, eqb, ◌&&◌, ◌||◌, ◌⊎◌, inl, inr, List, [], ◌∷◌, ◌++◌, length, drop, get_or, Option, Some, None, refl, sym, ap, ◌∙◌, subst, arith}
+use Rattle.std.proofs.Common.{◌≡◌, ℕ, Bool, true, false, eqb, ◌||◌, ◌⊎◌, inl, inr, List, [], ◌∷◌, ◌++◌, refl, sym, ap, ◌∙◌, subst}
 use Rattle.std.specs.Prelude.{nat_eq}
-use Rattle.std.specs.List.{AllByRecursion, list_any}
 use Rattle.std.specs.HashSet.{HashSet, contains}
-use Rattle.std.proofs.lemmas.Bool.{eqb-true, eq-eqb, false≢true}
+use Rattle.std.proofs.lemmas.Bool.{eqb-true, eq-eqb}
 use Rattle.exec_graph.specs.Meaning.{place}
 use Rattle.exec_graph.specs.Places.{code, HasAlso}
 use Rattle.exec_graph.specs.Readers.{among, same_place}
 use Rattle.exec_graph.specs.declared.graph.Place.{Place}
-use Rattle.exec_graph.proofs.Bools.{or_left, or_right, or_cases, no_or}
+use Rattle.exec_graph.proofs.Bools.{or_left, or_right, or_cases}
 use Rattle.flume_value.proofs.BoolLemmas.{both_true, and_both}
-use Rattle.fusion_blocks.specs.inner.Stretches.{HasCodes, IsStretch, MarksAlso}
+use Rattle.fusion_blocks.specs.inner.Stretches.{HasCodes, MarksAlso}
 
 pub same_is : (c d : Place) → same_place c d ≡ true → c ≡ d
 same_is c d h =

@@ -1,6 +1,6 @@
 -- Which collections feed a Gbk: its input does, and where that is a Flatten's, so do the inputs of
 -- the Flatten.
-use Rattle.std.specs.Prelude.{ℕ, ◌&&◌, ◌||◌, Bool, false, List}
+use Rattle.std.specs.Prelude.{◌&&◌, ◌||◌, Bool, false, List}
 use Rattle.std.specs.List.{list_any}
 use Rattle.exec_graph.specs.Meaning.{place}
 use Rattle.exec_graph.specs.Readers.{same_place, among, any_node}

@@ -1,5 +1,5 @@
 -- What is known of the chain to a collection, and what is marked so far.
-use Rattle.std.specs.Prelude.{◌≡◌, ◌⊎◌, ◌<◌, ◌^◌, ℕ, true, cond, nat_lt, List, [], ◌∷◌, Option, Some, nat_eq}
+use Rattle.std.specs.Prelude.{◌≡◌, ◌⊎◌, ◌<◌, ◌^◌, ℕ, true, cond, nat_lt, List, [], ◌∷◌, Some, nat_eq}
 use Rattle.std.specs.HashMap.{HashMap, get}
 use Rattle.std.specs.HashSet.{HashSet, contains}
 use Rattle.exec_graph.specs.Forests.{Forest}
