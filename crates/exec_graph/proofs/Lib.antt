@@ -14,3 +14,4 @@ pub mod Founding
 pub mod Ordering
 pub mod Rooted
 pub mod Checking
+pub mod OutCounts

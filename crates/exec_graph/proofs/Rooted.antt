@@ -71,7 +71,7 @@ read_either g c =
     (λ (e : Entry). collects c e.node) g.nodes))
 
 -- ---- the only Pdo that reads a collection
-those_differ : (t : Node → Bool) (es : List Entry) (n : ℕ)
+pub those_differ : (t : Node → Bool) (es : List Entry) (n : ℕ)
     → Each (λ (d : Entry). d.number ≡ n → ⊥) es → Each (λ q. q ≡ n → ⊥) (those t es)
 those_differ t [] n a = tt
 those_differ t (e ∷ es) n a =

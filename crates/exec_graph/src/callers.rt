@@ -27,7 +27,7 @@ pub(crate) enum Callers {
 
 /// The combiner of a forest whose one root combines.
 #[tactic(auto, using(crate::proofs::Rooted::not_one))]
-fn root_comb(roots: &Roots) -> Option<Comb>
+pub fn root_comb(roots: &Roots) -> Option<Comb>
     ensures { result ≡ root_comb roots.now }
 {
     let steps = roots.steps();

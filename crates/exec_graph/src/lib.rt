@@ -16,8 +16,8 @@
 //! functions (`IsTyped`, specs/Typing.antt). Each member of a collection then has its type, where
 //! the world is typed too (`typed_law`).
 //!
-//! `is_founded` decides what the meaning rests on: all that is read is there, and no path returns
-//! to its node.
+//! `graph_ok` decides whether a graph is well-formed, and `is_founded` the part that its meaning
+//! rests on: all that is read is there, and no path returns to its node.
 #![tactic(auto)]
 
 mod callers;
@@ -36,9 +36,11 @@ mod sizes;
 mod spots;
 mod step;
 
+pub use callers::root_comb;
 pub use checks::graph_ok;
 pub use copies::copy_steps;
 pub use founded::is_founded;
+pub use sizes::{count_outputs, size_of};
 pub use graph::{Blocked, Entry, Graph, Node, Place};
 pub use laws::{meaning_law, step_law, typed_law};
 pub use places::{add_place, code_of};

@@ -1,11 +1,13 @@
 ghost use Rattle.std.specs.Prelude.{◌≡◌, ◌↔◌, ◌≤◌, IsTrue, IfOk, length};
 ghost use Rattle.exec_graph.specs.Wellformed.{size, total_size, most};
 ghost use Rattle.exec_graph.specs.inner.Checks.{flatten_ok};
-ghost use Rattle.exec_graph.specs.inner.Spots.{firsts};
+ghost use Rattle.exec_graph.specs.inner.Spots.{firsts, kept};
+ghost use Rattle.exec_graph.specs.Forests.{after};
 ghost use Rattle.std.specs.List.{list_all};
 
 use crate::graph::{Entry, Node};
 use crate::spots::{Spot, spots_of};
+use crate::step::Roots;
 use std::alloc::{AllocError, Global};
 
 /// How many inputs a Flatten may have, and how many nodes a graph, where a Pdo counts once for each
@@ -27,8 +29,9 @@ pub(crate) fn are_few(alloc: Global, nodes: &[Entry]) -> Result<bool, AllocError
     Ok(true)
 }
 
+/// How many nodes the node counts as: a Pdo is one for each step.
 #[tactic(auto, using(crate::proofs::Ordering::firsts_steps))]
-fn size_of(alloc: Global, node: &Node) -> Result<usize, AllocError>
+pub fn size_of(alloc: Global, node: &Node) -> Result<usize, AllocError>
     ensures { IfOk result (λ n. n ≡ size node.now) }
 {
     match node {
@@ -47,6 +50,28 @@ fn count_steps(spots: &[Spot]) -> usize
     let mut count = 0;
     for spot in spots {
         if spot.first {
+            count += 1;
+        }
+    }
+    count
+}
+
+/// How many outputs the steps of a forest keep.
+#[tactic(auto, using(crate::proofs::OutCounts::kept_after))]
+pub fn count_outputs(alloc: Global, roots: &Roots) -> Result<usize, AllocError>
+    ensures { IfOk result (λ n. n ≡ after 0 roots.now) }
+{
+    let spots = spots_of(alloc, roots)?;
+    Ok(count_kept(spots.as_slice()))
+}
+
+/// How many of the outputs are kept.
+fn count_kept(spots: &[Spot]) -> usize
+    ensures { result ≡ kept spots.now }
+{
+    let mut count = 0;
+    for spot in spots {
+        if spot.out.is_some() {
             count += 1;
         }
     }

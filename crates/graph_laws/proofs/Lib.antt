@@ -8,7 +8,13 @@ pub mod TypedForests
 pub mod Refitting
 pub mod TypedGraphs
 pub mod ReadPlaces
+pub mod Roots
+pub mod Reading
+pub mod Nearly
+pub mod NearJoins
+pub mod Formed
 pub mod Renaming
 pub mod Kids
 pub mod Lifting
 pub mod Columns
+pub mod SingleSteps

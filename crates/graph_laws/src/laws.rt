@@ -13,9 +13,10 @@ ghost use Rattle.flume_collection.specs.Collection.{Collection, together};
 ghost use Rattle.flume_collection.specs.Traps.{trap_set};
 ghost use Rattle.graph_laws.specs.Kids.{CanKid, CanPair, with_kid, with_sibling};
 ghost use Rattle.graph_laws.specs.Lifting.{lifted, lifted_at, remarked};
+ghost use Rattle.graph_laws.specs.Single.{IsUnfused};
 
 /// Lifting all groups that may be lifted, or one of them, keeps a graph well-formed and its meaning
-/// the same. Marks on groups have no part in what a graph means.
+/// the same. Marks on groups have no part in what a graph means, nor in its types.
 pub fn lift_law()
     ensures well_formed { (g : Graph) → IsGraphOk g → IsGraphOk (lifted g) }
     ensures same { (g : Graph) → IsGraphOk g → SameMeaning g (lifted g) }
@@ -25,10 +26,13 @@ pub fn lift_law()
         KeepsMeaning g (remarked marks g) }
     ensures typed { (marks : ℕ → Option Comb → Option Comb) (g : Graph) →
         KeepsTypes g (remarked marks g) }
+    ensures unfused { (marks : ℕ → Option Comb → Option Comb) (g : Graph) →
+        IsUnfused g → IsUnfused (remarked marks g) }
 {}
 
 /// Where a Pdo reads an output of another, its roots may become kids of the step with that output:
-/// a sound graph stays sound and means the same.
+/// a sound graph stays sound, means the same and keeps its types, and a well-formed one stays
+/// well-formed.
 pub fn kid_law()
     ensures sound { (g : Graph) (p k q : ℕ) (c : Place) (f h : Forest) → IsSound g →
         CanKid g p k q c f h → IsSound (with_kid g p k q c f h) }
@@ -36,12 +40,15 @@ pub fn kid_law()
         CanKid g p k q c f h → KeepsMeaning g (with_kid g p k q c f h) }
     ensures same { (g : Graph) (p k q : ℕ) (c : Place) (f h : Forest) → IsSound g →
         CanKid g p k q c f h → SameMeaning g (with_kid g p k q c f h) }
+    ensures well_formed { (g : Graph) (p k q : ℕ) (c : Place) (f h : Forest) → IsGraphOk g →
+        CanKid g p k q c f h → IsGraphOk (with_kid g p k q c f h) }
     ensures typed { (g : Graph) (p k q : ℕ) (c : Place) (f h : Forest) → IsSound g →
         CanKid g p k q c f h → KeepsTypes g (with_kid g p k q c f h) }
 {}
 
 /// Where two Pdos read one collection, the roots of the one may stand behind those of the other: a
-/// sound graph stays sound and means the same.
+/// sound graph stays sound, means the same and keeps its types, and a well-formed one stays
+/// well-formed.
 pub fn sibling_law()
     ensures sound { (g : Graph) (p q : ℕ) (c : Place) (f h : Forest) → IsSound g →
         CanPair g p q c f h → IsSound (with_sibling g p q c f h) }
@@ -49,6 +56,8 @@ pub fn sibling_law()
         CanPair g p q c f h → KeepsMeaning g (with_sibling g p q c f h) }
     ensures same { (g : Graph) (p q : ℕ) (c : Place) (f h : Forest) → IsSound g →
         CanPair g p q c f h → SameMeaning g (with_sibling g p q c f h) }
+    ensures well_formed { (g : Graph) (p q : ℕ) (c : Place) (f h : Forest) → IsGraphOk g →
+        CanPair g p q c f h → IsGraphOk (with_sibling g p q c f h) }
     ensures typed { (g : Graph) (p q : ℕ) (c : Place) (f h : Forest) → IsSound g →
         CanPair g p q c f h → KeepsTypes g (with_sibling g p q c f h) }
 {}

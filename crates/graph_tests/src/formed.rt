@@ -69,7 +69,11 @@ fn outputs(alloc: Global, change: Change) -> Result<Pile<Place>, AllocError> {
 
 /// Words are cut, each is paired with 1, and the pairs are grouped and summed.
 fn word_count(alloc: Global, change: Change) -> Result<Graph, AllocError> {
-    let next = if change == Change::LiftedAndReadTwice { 6 } else { 5 };
+    let next = if change == Change::LiftedAndReadTwice {
+        6
+    } else {
+        5
+    };
     let mut nodes = Pile::new(alloc);
     for number in 0..next {
         nodes.push(Entry {
@@ -91,11 +95,27 @@ fn tells_well_formed_graphs_from_others(rt: HostRuntime) -> Result<(), Fail> {
     let table = [
         ("the word count", Change::Nothing, true),
         ("a lifted group", Change::Lifted(Comb::Sum), true),
-        ("a group lifted with another combiner", Change::Lifted(Comb::Max), false),
-        ("a lifted group that is written out", Change::LiftedAndWrittenOut, false),
-        ("a lifted group with a second reader", Change::LiftedAndReadTwice, false),
+        (
+            "a group lifted with another combiner",
+            Change::Lifted(Comb::Max),
+            false,
+        ),
+        (
+            "a lifted group that is written out",
+            Change::LiftedAndWrittenOut,
+            false,
+        ),
+        (
+            "a lifted group with a second reader",
+            Change::LiftedAndReadTwice,
+            false,
+        ),
         ("an output that nothing reads", Change::LastUnread, false),
-        ("an output that is not the next", Change::NumberedFromOne, false),
+        (
+            "an output that is not the next",
+            Change::NumberedFromOne,
+            false,
+        ),
         ("a flatten of nothing", Change::FlattenOfNothing, false),
     ];
     for (name, change, well_formed) in &table {

@@ -1,4 +1,5 @@
 use Rattle.graph_laws.proofs.Lifting.{IsGraphOk-lifted, IsGraphOk-lifted_at, KeepsTypes-remarked, KeepsMeaning-remarked, SameMeaning-lifted, SameMeaning-lifted_at}
+use Rattle.graph_laws.proofs.SingleSteps.{IsUnfused-remarked}
 use Rattle.graph_laws.proofs.laws.lift_law.Goals as goal
 
 pub returns-clause-well_formed : goal.returns-clause-well_formed
@@ -18,3 +19,6 @@ returns-clause-marks c = KeepsMeaning-remarked
 
 pub returns-clause-typed : goal.returns-clause-typed
 returns-clause-typed c = KeepsTypes-remarked
+
+pub returns-clause-unfused : goal.returns-clause-unfused
+returns-clause-unfused c = IsUnfused-remarked

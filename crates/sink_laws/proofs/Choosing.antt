@@ -1,0 +1,295 @@
+-- What is next in the chain can be done, and what stands where nothing is next.
+use Rattle.std.proofs.Common.{◌≡◌, ℕ, ◌+◌, ◌-◌, ◌<◌, ◌≤◌, Bool, true, false, cond, eqb, leb, ◌||◌, List, [], ◌∷◌, length, Option, Some, None, refl, sym, ap, ◌∙◌, subst, arith, inl, inr, ◌⊎◌}
+use Rattle.std.proofs.lemmas.Bool.{eqb-true, eq-eqb, false≢true, leb-true, leb-false}
+use Rattle.std.specs.List.{AllByRecursion}
+use Rattle.flume_value.proofs.EachLemmas.{Each-both, Each-weaker}
+use Rattle.exec_graph.specs.Forests.{Forest}
+use Rattle.exec_graph.specs.Meaning.{place, node_at, reads, gives, IsThere, KeepsMeaning}
+use Rattle.exec_graph.specs.Readers.{same_place, among, is_read}
+use Rattle.exec_graph.specs.Typing.{KeepsTypes}
+use Rattle.exec_graph.specs.Wellformed.{IsGraphOk, IsNodeOk, most, total_size}
+use Rattle.exec_graph.specs.declared.graph.Place.{Place}
+use Rattle.exec_graph.specs.declared.graph.Node.{Node}
+use Rattle.exec_graph.specs.declared.graph.Node.TheVariants.{Source, Flatten, Pdo, Gbk}
+use Rattle.exec_graph.specs.declared.graph.Entry.{Entry}
+use Rattle.exec_graph.specs.declared.graph.Graph.{Graph}
+use Rattle.exec_graph.proofs.Bools.{or_left, or_right}
+use Rattle.exec_graph.proofs.Entries.{all_found}
+use Rattle.exec_graph.proofs.Solving.{each_found}
+use Rattle.exec_graph.proofs.Soundness.{differ_ascends}
+use Rattle.graph_laws.specs.Single.{IsUnfused}
+use Rattle.graph_laws.proofs.Kids.{KeepsMeaning-then}
+use Rattle.graph_laws.proofs.ReadPlaces.{same_self, all_among}
+use Rattle.graph_laws.proofs.Wellness.{gives_of}
+use Rattle.sink_laws.specs.declared.pair.Pair.{Pair}
+use Rattle.sink_laws.specs.Merging.{spliced, merged, dropped, CanMerge}
+use Rattle.sink_laws.specs.Sinking.{outputs_of, sunk, CanSink}
+use Rattle.sink_laws.specs.Chain.{is_before, lesser, least, inputs_of, forest_of, nest_of, nest_at, next_nest, after_nest, call_of, call_at, next_call, after_call, has_room, sink_next, next_by, next_graph, Leads, stay, go, IsSunk, ReadsNoFlatten, NoPdoReadsFlatten, IsFull}
+use Rattle.sink_laws.proofs.MergeMeaning.{IsFounded-merged}
+use Rattle.sink_laws.proofs.Steps.{IsGood, IsGood-trans, IsGood-merge_step, IsGood-sink_step}
+use Rattle.sink_laws.proofs.TypesKept.{IsTyped-sunk, IsTyped-merged, IsTyped-tidied, IsUnfused-sink_step, IsUnfused-merge_step}
+use Rattle.sink_laws.proofs.Weights.{total_weight, merge_lighter}
+
+-- P holds of what is there
+abbrev pub Only : {X : Type 0} → (X → Type 0) → Option X → Type 0
+Only {X} P o = (x : X) → o ≡ Some x → P x
+
+pick : (P : Pair → Type 0) (a b : Pair) (t : Bool) → P a → P b → (x : Pair)
+    → cond t (Some b) (Some a) ≡ Some x → P x
+pick P a b true p q x h = let e : b ≡ x = cc in subst P e q
+pick P a b false p q x h = let e : a ≡ x = cc in subst P e p
+
+lesser_only : (P : Pair → Type 0) (a b : Option Pair) → Only P a → Only P b → Only P (lesser a b)
+lesser_only P None b p q = q
+lesser_only P (Some a) None p q = p
+lesser_only P (Some a) (Some b) p q = pick P a b (is_before b a) (p a refl) (q b refl)
+
+least_only : {Y : Type 0} (P : Pair → Type 0) (f : Y → Option Pair) (b : Option Pair) (ys : List Y)
+    → Only P b → AllByRecursion (λ y. Only P (f y)) ys → Only P (least f b ys)
+least_only P f b [] p a = p
+least_only P f b (y ∷ ys) p a =
+    least_only P f (lesser b (f y)) ys (lesser_only P b (f y) p a.0) a.1
+
+none_only : (P : Pair → Type 0) → Only P None
+none_only P x h = let bad : ⊥ = cc in absurd bad
+
+some_only : (P : Pair → Type 0) (x : Pair) → P x → Only P (Some x)
+some_only P x p y h = let e : x ≡ y = cc in subst P e p
+
+-- ---- a step that is next
+
+abbrev pub CanCall : Graph → Pair → Type 0
+CanCall g p =
+    CanSink g p.flatten p.other (forest_of (node_at g.nodes p.other))
+    (inputs_of (node_at g.nodes p.flatten))
+
+abbrev pub CanNest : Graph → Pair → Type 0
+CanNest g n =
+    CanMerge g n.flatten (inputs_of (node_at g.nodes n.flatten)) n.other
+    (inputs_of (node_at g.nodes n.other))
+
+call_can : (g : Graph) (n p : ℕ) (f : Forest) (o : Option Node) → node_at g.nodes n ≡ o
+    → node_at g.nodes p ≡ Some (Pdo (place n 0) f) → Only (CanCall g) (call_of n p o)
+call_can g n p f None e h = none_only (CanCall g)
+call_can g n p f (Some (Source r)) e h = none_only (CanCall g)
+call_can g n p f (Some (Flatten ins)) e h =
+    some_only (CanCall g) (record { flatten = n; other = p })
+    (record {
+      flatten = e ∙ ap (λ (l : List Place). Some (Flatten l)) (sym (ap inputs_of e));
+      pdo = h ∙ ap (λ (k : Forest). Some (Pdo (place n 0) k)) (sym (ap forest_of h));
+    })
+call_can g n p f (Some (Pdo c k)) e h = none_only (CanCall g)
+call_can g n p f (Some (Gbk c o l k)) e h = none_only (CanCall g)
+
+call_can_at : (g : Graph) (p : ℕ) (x : Node) → node_at g.nodes p ≡ Some x
+    → AllByRecursion (IsThere g.nodes) (reads x) → Only (CanCall g) (call_at g.nodes p x)
+call_can_at g p (Source r) h t = none_only (CanCall g)
+call_can_at g p (Flatten ins) h t = none_only (CanCall g)
+call_can_at g p (Pdo c f) h t = by (node_at g.nodes c.node) refl
+  where
+    first : (ins : List Place) → node_at g.nodes c.node ≡ Some (Flatten ins) → c ≡ place c.node 0
+    first ins e = ap (λ (j : ℕ). place c.node j)
+        (eqb-true c.out 0 (gives_of g.nodes c c.node (Flatten ins) refl e t.0))
+    by : (o : Option Node) → node_at g.nodes c.node ≡ o → Only (CanCall g) (call_of c.node p o)
+    by None e = none_only (CanCall g)
+    by (Some (Source r)) e = none_only (CanCall g)
+    by (Some (Flatten ins)) e = call_can g c.node p f (Some (Flatten ins)) e
+        (h ∙ ap (λ (d : Place). Some (Pdo d f)) (first ins e))
+    by (Some (Pdo d k)) e = none_only (CanCall g)
+    by (Some (Gbk d o l k)) e = none_only (CanCall g)
+call_can_at g p (Gbk c o l k) h t = none_only (CanCall g)
+
+pub next_call_can : (g : Graph) → IsGraphOk g → Only (CanCall g) (next_call g.nodes)
+next_call_can g ok =
+    least_only (CanCall g) (λ (e : Entry). call_at g.nodes e.number e.node) None g.nodes
+    (none_only (CanCall g))
+    (Each-both (λ (e : Entry). node_at g.nodes e.number ≡ Some e.node)
+    (λ (e : Entry). AllByRecursion (IsThere g.nodes) (reads e.node))
+    (λ (e : Entry). Only (CanCall g) (call_at g.nodes e.number e.node))
+    (λ e a b. call_can_at g e.number e.node a b) g.nodes
+    (each_found g.nodes (differ_ascends g.nodes ok.founded.ascends)) ok.founded.there)
+
+-- ---- a merge that is next
+
+nest_room : (g : Graph) (n e : ℕ) (ins es : List Place) (b : Bool)
+    → leb (length (spliced e es ins)) 4096 ≡ b → node_at g.nodes n ≡ Some (Flatten ins)
+    → node_at g.nodes e ≡ Some (Flatten es) → among (place e 0) ins ≡ true
+    → Only (CanNest g) (cond b (Some (record { flatten = n; other = e })) None)
+nest_room g n e ins es true i a b r =
+    let p : inputs_of (node_at g.nodes n) ≡ ins = ap inputs_of a in
+    let q : inputs_of (node_at g.nodes e) ≡ es = ap inputs_of b in
+    some_only (CanNest g) (record { flatten = n; other = e })
+    (subst (λ (l : List Place). CanMerge g n l e (inputs_of (node_at g.nodes e))) (sym p)
+    (subst (λ (l : List Place). CanMerge g n ins e l) (sym q) (record {
+      outer = a;
+      inner = b;
+      nested = r;
+      room = leb-true (length (spliced e es ins)) 4096 i;
+    })))
+nest_room g n e ins es false i a b r = none_only (CanNest g)
+
+nest_can : (g : Graph) (n : ℕ) (ins : List Place) (c : Place) (o : Option Node)
+    → node_at g.nodes c.node ≡ o → node_at g.nodes n ≡ Some (Flatten ins) → among c ins ≡ true
+    → IsThere g.nodes c → Only (CanNest g) (nest_of n ins c.node o)
+nest_can g n ins c None h a r t = none_only (CanNest g)
+nest_can g n ins c (Some (Source i)) h a r t = none_only (CanNest g)
+nest_can g n ins c (Some (Flatten es)) h a r t =
+    let first : c ≡ place c.node 0 = ap (λ (j : ℕ). place c.node j)
+    (eqb-true c.out 0 (gives_of g.nodes c c.node (Flatten es) refl h t)) in
+    nest_room g n c.node ins es (leb (length (spliced c.node es ins)) 4096) refl a h
+    (subst (λ (d : Place). among d ins ≡ true) first r)
+nest_can g n ins c (Some (Pdo d k)) h a r t = none_only (CanNest g)
+nest_can g n ins c (Some (Gbk d o l k)) h a r t = none_only (CanNest g)
+
+nest_can_at : (g : Graph) (n : ℕ) (x : Node) → node_at g.nodes n ≡ Some x
+    → AllByRecursion (IsThere g.nodes) (reads x) → Only (CanNest g) (nest_at g.nodes n x)
+nest_can_at g n (Source r) h t = none_only (CanNest g)
+nest_can_at g n (Flatten ins) h t =
+    least_only (CanNest g) (λ (c : Place). nest_of n ins c.node (node_at g.nodes c.node)) None ins
+    (none_only (CanNest g))
+    (Each-both (λ (c : Place). among c ins ≡ true) (IsThere g.nodes)
+    (λ (c : Place). Only (CanNest g) (nest_of n ins c.node (node_at g.nodes c.node)))
+    (λ c r u. nest_can g n ins c (node_at g.nodes c.node) refl h r u) ins
+    (all_among (λ c. among c ins ≡ true) ins (λ c i. i)) t)
+nest_can_at g n (Pdo c f) h t = none_only (CanNest g)
+nest_can_at g n (Gbk c o l k) h t = none_only (CanNest g)
+
+pub next_nest_can : (g : Graph) → IsGraphOk g → Only (CanNest g) (next_nest g.nodes)
+next_nest_can g ok =
+    least_only (CanNest g) (λ (e : Entry). nest_at g.nodes e.number e.node) None g.nodes
+    (none_only (CanNest g))
+    (Each-both (λ (e : Entry). node_at g.nodes e.number ≡ Some e.node)
+    (λ (e : Entry). AllByRecursion (IsThere g.nodes) (reads e.node))
+    (λ (e : Entry). Only (CanNest g) (nest_at g.nodes e.number e.node))
+    (λ e a b. nest_can_at g e.number e.node a b) g.nodes
+    (each_found g.nodes (differ_ascends g.nodes ok.founded.ascends)) ok.founded.there)
+
+-- ---- the chain
+
+-- what every merge and every step keeps
+pub record IsKept (g h : Graph) : Type 0 where
+  pub good : IsGood g h
+  pub types : KeepsTypes g h
+  pub unfused : IsUnfused g → IsUnfused h
+
+pub IsKept-trans : (g h i : Graph) → IsKept g h → IsKept h i → IsKept g i
+IsKept-trans g h i a b = record {
+  good = IsGood-trans g h i a.good b.good;
+  types = λ s t. b.types s (a.types s t);
+  unfused = λ u. b.unfused (a.unfused u);
+}
+
+pub IsKept-refl : (g : Graph) → IsGraphOk g → IsKept g g
+IsKept-refl g ok = record {
+  good = record {
+    ok = ok;
+    keeps = λ w m h. (m, h, record { outputs = refl; own = λ i. refl; traps = refl });
+  };
+  types = λ s t. t;
+  unfused = λ u. u;
+}
+
+pub IsKept-nest : (g : Graph) (n : Pair) → IsGraphOk g → CanNest g n → IsKept g (after_nest g n)
+IsKept-nest g n ok can =
+    let ins : List Place = inputs_of (node_at g.nodes n.flatten) in
+    let es : List Place = inputs_of (node_at g.nodes n.other) in
+    record {
+      good = IsGood-merge_step g n.flatten ins n.other es ok can;
+      types = λ s t. IsTyped-tidied s (merged g n.flatten ins n.other es) n.other
+          (IsTyped-merged s g n.flatten ins n.other es can t);
+      unfused = IsUnfused-merge_step g n.flatten ins n.other es;
+    }
+
+pub IsKept-call : (g : Graph) (p : Pair) → IsGraphOk g → CanCall g p
+    → total_size (after_call g p).nodes ≤ most → IsKept g (after_call g p)
+IsKept-call g p ok can room =
+    let ins : List Place = inputs_of (node_at g.nodes p.flatten) in
+    let f : Forest = forest_of (node_at g.nodes p.other) in
+    record {
+      good = IsGood-sink_step g p.flatten p.other f ins ok can room;
+      types = λ s t. IsTyped-tidied s (sunk g p.other f ins) p.flatten
+          (IsTyped-sunk s g p.flatten p.other f ins ok.founded.below ok.founded.there can t);
+      unfused = IsUnfused-sink_step g p.flatten p.other f ins can;
+    }
+
+pub Leads-trans : (g h i : Graph) → Leads g h → Leads h i → Leads g i
+Leads-trans g h i a (stay x) = a
+Leads-trans g h i a (go x y z b e) = go g y z (Leads-trans g x y a b) e
+
+pub next_is_nest : (g : Graph) (n : Pair) → next_nest g.nodes ≡ Some n
+    → next_graph g ≡ Some (after_nest g n)
+unfolding next_graph
+next_is_nest g n h = ap (next_by g) h
+
+pub next_is_call : (g : Graph) (p : Pair) → next_nest g.nodes ≡ None
+    → next_call g.nodes ≡ Some p → has_room g p ≡ true → next_graph g ≡ Some (after_call g p)
+unfolding next_graph
+next_is_call g p a b c = ap (next_by g) a ∙ ap (sink_next g) b ∙ rw c refl
+
+pub next_is_none : (g : Graph) → next_nest g.nodes ≡ None → next_call g.nodes ≡ None
+    → next_graph g ≡ None
+unfolding next_graph
+next_is_none g a b = ap (next_by g) a ∙ ap (sink_next g) b
+
+pub next_has_no_room : (g : Graph) (p : Pair) → next_nest g.nodes ≡ None
+    → next_call g.nodes ≡ Some p → has_room g p ≡ false → next_graph g ≡ None
+unfolding next_graph
+next_has_no_room g p a b c = ap (next_by g) a ∙ ap (sink_next g) b ∙ rw c refl
+
+pub nest_lighter : (g : Graph) (n : Pair) → IsGraphOk g → CanNest g n
+    → total_weight (after_nest g n) < total_weight g
+nest_lighter g n ok can =
+    let ins : List Place = inputs_of (node_at g.nodes n.flatten) in
+    let es : List Place = inputs_of (node_at g.nodes n.other) in
+    merge_lighter g n.flatten ins n.other es ok.founded
+    (IsFounded-merged g n.flatten ins n.other es ok.founded can) can
+
+-- ---- the normal form
+
+lesser_none : (a b : Option Pair) → lesser a b ≡ None → (a ≡ None) × (b ≡ None)
+lesser_none None b h = (refl, h)
+lesser_none (Some a) None h = let bad : ⊥ = cc in absurd bad
+lesser_none (Some a) (Some b) h = absurd (by (is_before b a) h)
+  where
+    by : (t : Bool) → cond t (Some b) (Some a) ≡ None → ⊥
+    by true k = cc
+    by false k = cc
+
+least_none : {Y : Type 0} (f : Y → Option Pair) (b : Option Pair) (ys : List Y)
+    → least f b ys ≡ None → (b ≡ None) × AllByRecursion (λ y. f y ≡ None) ys
+least_none f b [] h = (h, tt)
+least_none f b (y ∷ ys) h =
+    let r = least_none f (lesser b (f y)) ys h in
+    let p = lesser_none b (f y) r.0 in
+    (p.0, (p.1, r.1))
+
+no_call_of : (n p : ℕ) (ins : List Place) (o : Option Node) → call_of n p o ≡ None
+    → o ≡ Some (Flatten ins) → ⊥
+no_call_of n p ins o h e =
+    let i : call_of n p (Some (Flatten ins)) ≡ None = ap (call_of n p) (sym e) ∙ h in cc
+
+no_call : (es : List Entry) (p : ℕ) (x : Node) → call_at es p x ≡ None → ReadsNoFlatten es x
+no_call es p (Source r) h = tt
+no_call es p (Flatten ins) h = tt
+no_call es p (Pdo c f) h = λ ins e. no_call_of c.node p ins (node_at es c.node) h e
+no_call es p (Gbk c o l k) h = tt
+
+no_room : (g h : Graph) (b : Bool) → cond b (Some h) None ≡ None → b ≡ false
+no_room g h true e = let bad : ⊥ = cc in absurd bad
+no_room g h false e = refl
+
+normal_by : (g : Graph) (o : Option Pair) → next_call g.nodes ≡ o → sink_next g o ≡ None
+    → NoPdoReadsFlatten g ⊎ IsFull g
+normal_by g None h e = inl (Each-weaker (λ (e : Entry). call_at g.nodes e.number e.node ≡ None)
+    (λ (e : Entry). ReadsNoFlatten g.nodes e.node) (λ e i. no_call g.nodes e.number e.node i)
+    g.nodes (least_none (λ (e : Entry). call_at g.nodes e.number e.node) None g.nodes h).1)
+normal_by g (Some p) h e = inr (
+  p,
+  h,
+  leb-false (total_size (after_call g p).nodes) 4096 (no_room g (after_call g p) (has_room g p) e),
+)
+
+pub normal_form : (g : Graph) → next_nest g.nodes ≡ None → next_graph g ≡ None
+    → NoPdoReadsFlatten g ⊎ IsFull g
+unfolding next_graph
+normal_form g n h = normal_by g (next_call g.nodes) refl (ap (next_by g) (sym n) ∙ h)

@@ -1,0 +1,255 @@
+-- Merges and steps keep types, and each Pdo its one step.
+use Rattle.std.proofs.Common.{◌≡◌, ℕ, ◌+◌, ◌-◌, ◌<◌, ◌≤◌, Bool, true, false, cond, ltb, eqb, List, [], ◌∷◌, Option, Some, None, map, length, zero, suc, refl, sym, ap, ◌∙◌, subst, arith}
+use Rattle.std.proofs.lemmas.Bool.{eqb-true, lt-ltb, le-ltb}
+use Rattle.std.specs.List.{AllByRecursion}
+use Rattle.flume_value.proofs.EachLemmas.{Each-both, Each-weaker}
+use Rattle.flume_types.specs.declared.types.Ty.{Ty}
+use Rattle.exec_graph.specs.Forests.{Forest, Bare, Grow}
+use Rattle.exec_graph.specs.Meaning.{place, node_at, reads, IsThere}
+use Rattle.exec_graph.specs.Readers.{is_read}
+use Rattle.exec_graph.specs.Typing.{Signatures, OutTyped, ForestTyped, IsGrouped, NodeTyped, IsTypedBy, IsTyped}
+use Rattle.exec_graph.specs.declared.graph.Place.{Place}
+use Rattle.exec_graph.specs.declared.graph.Node.{Node}
+use Rattle.exec_graph.specs.declared.graph.Node.TheVariants.{Source, Flatten, Pdo, Gbk}
+use Rattle.exec_graph.specs.declared.graph.Entry.{Entry}
+use Rattle.exec_graph.specs.declared.graph.Graph.{Graph}
+use Rattle.exec_graph.proofs.Entries.{all_found, all_map}
+use Rattle.graph_laws.specs.Joining.{reread, reread_entry}
+use Rattle.graph_laws.specs.Single.{IsOneStep, HasOneStep, IsUnfused}
+use Rattle.graph_laws.proofs.Changes.{all_set, all_without}
+use Rattle.sink_laws.specs.Merging.{spliced, merged, dropped, tidied, merge_step, CanMerge}
+use Rattle.sink_laws.specs.Sinking.{copies, copied, flattens, outputs_of, flatten_number, rerouted, sunk, sink_step, CanSink}
+use Rattle.sink_laws.proofs.MergeMeaning.{all_spliced}
+use Rattle.sink_laws.proofs.SinkFounded.{all_sunk, p_below}
+use Rattle.sink_laws.proofs.SinkMeaning.{there_below}
+
+-- ---- types after a step
+
+abbrev pub new_types : (Place → Ty) → ℕ → ℕ → ℕ → Place → Ty
+new_types types next base p c =
+    cond (ltb c.node next) (types c)
+    (cond (ltb c.node base) (types (place p c.out)) (types (place p (suc (c.node - base)))))
+
+type_old : (types : Place → Ty) (next base p : ℕ) (c : Place) → c.node < next
+    → new_types types next base p c ≡ types c
+type_old types next base p c h = rw (lt-ltb c.node next h) refl
+
+type_copy : (types : Place → Ty) (next base p n j : ℕ) → next ≤ n → n < base
+    → new_types types next base p (place n j) ≡ types (place p j)
+type_copy types next base p n j h l = rw (le-ltb n next h, lt-ltb n base l) refl
+
+type_flatten : (types : Place → Ty) (next base p j : ℕ) → next ≤ base
+    → new_types types next base p (place (base + j) 0) ≡ types (place p (suc j))
+type_flatten types next base p j h =
+    let e : (base + j) - base ≡ j = omega arith in
+    rw (le-ltb (base + j) next (omega arith), le-ltb (base + j) base (omega arith), e) refl
+
+type_number : (types : Place → Ty) (next base p j : ℕ) → next ≤ base → p < next
+    → new_types types next base p (place (flatten_number p base j) 0) ≡ types (place p j)
+type_number types next base p zero h l = type_old types next base p (place p 0) l
+type_number types next base p (suc j) h l = type_flatten types next base p j h
+
+type_by : (types : Place → Ty) (next base p : ℕ) (c : Place) (b : Bool) → eqb c.node p ≡ b
+    → next ≤ base → p < next → c.node < next
+    → new_types types next base p (cond b (place (flatten_number p base c.out) 0) c) ≡ types c
+type_by types next base p c true i h l k =
+    type_number types next base p c.out h l
+    ∙ ap (λ (n : ℕ). types (place n c.out)) (sym (eqb-true c.node p i))
+type_by types next base p c false i h l k = type_old types next base p c k
+
+-- ---- nodes that read elsewhere
+
+out_moved : (types more : Place → Ty) (n i : ℕ) (o : Option ℕ) (u : Ty)
+    → ((j : ℕ) → more (place i j) ≡ types (place n j)) → OutTyped types n o u → OutTyped more i o u
+out_moved types more n i None u h a = tt
+out_moved types more n i (Some j) u h a = h j ∙ a
+
+forest_moved : (s : Signatures) (types more : Place → Ty) (n i : ℕ) (t : Ty) (f : Forest)
+    → ((j : ℕ) → more (place i j) ≡ types (place n j)) → ForestTyped s types n t f
+    → ForestTyped s more i t f
+forest_moved s types more n i t Bare h a = tt
+forest_moved s types more n i t (Grow l kids rest) h a = (
+  (a.0.0, a.0.1, out_moved types more n i l.out a.0.0 h a.0.2,
+      forest_moved s types more n i a.0.0 kids h a.0.3),
+  forest_moved s types more n i t rest h a.1,
+)
+
+node_reread : (s : Signatures) (types more : Place → Ty) (r : Place → Place) (n : ℕ) (x : Node)
+    → AllByRecursion (λ c. more (r c) ≡ types c) (reads x)
+    → ((j : ℕ) → more (place n j) ≡ types (place n j)) → NodeTyped s types n x
+    → NodeTyped s more n (reread r x)
+node_reread s types more r n (Source k) a o h = o 0 ∙ h
+node_reread s types more r n (Flatten ins) a o h =
+    all_map r (λ (c : Place). (more (r c) ≡ types c) × (types c ≡ types (place n 0)))
+    (λ c. more c ≡ more (place n 0)) (λ c k. k.0 ∙ k.1 ∙ sym (o 0)) ins
+    (Each-both (λ (c : Place). more (r c) ≡ types c) (λ (c : Place). types c ≡ types (place n 0))
+    (λ (c : Place). (more (r c) ≡ types c) × (types c ≡ types (place n 0))) (λ c u v. (u, v))
+    ins a h)
+node_reread s types more r n (Pdo c f) a o h =
+    subst (λ (t : Ty). ForestTyped s more n t f) (sym a.0) (forest_moved s types more n n (types c)
+    f o h)
+node_reread s types more r n (Gbk c i l k) a o h =
+    subst (λ (t : Ty). IsGrouped t (more (place n 0))) (sym a.0)
+    (subst (λ (u : Ty). IsGrouped (types c) u) (sym (o 0)) h)
+
+kept_typed : (s : Signatures) (types more : Place → Ty) (r : Place → Place) (es : List Entry)
+    → AllByRecursion (λ e. AllByRecursion (λ c. more (r c) ≡ types c) (reads e.node)) es
+    → AllByRecursion (λ e. (j : ℕ) → more (place e.number j) ≡ types (place e.number j)) es
+    → AllByRecursion (λ e. NodeTyped s types e.number e.node) es
+    → AllByRecursion (λ e. NodeTyped s more e.number e.node) (map (reread_entry r) es)
+kept_typed s types more r [] a b h = tt
+kept_typed s types more r (e ∷ es) a b h = (
+  node_reread s types more r e.number e.node a.0 b.0 h.0,
+  kept_typed s types more r es a.1 b.1 h.1,
+)
+
+copied_typed : (types : Place → Ty) (next base p m j : ℕ) (u : Ty) (cs : List Place) → next ≤ m
+    → m + length cs ≤ base → types (place p j) ≡ u
+    → AllByRecursion (λ c. new_types types next base p c ≡ u) (copied m j cs)
+copied_typed types next base p m j u [] h l e = tt
+copied_typed types next base p m j u (c ∷ cs) h l e = (
+  type_copy types next base p m j h (omega arith) ∙ e,
+  copied_typed types next base p (m + 1) j u cs (omega arith) (omega arith) e,
+)
+
+copies_typed : (s : Signatures) (types : Place → Ty) (next base p m : ℕ) (f : Forest) (t : Ty)
+    (cs : List Place) → next ≤ m → m + length cs ≤ base → ForestTyped s types p t f
+    → AllByRecursion (λ c. types c ≡ t) cs → AllByRecursion (λ c. c.node < next) cs
+    → AllByRecursion (λ e. NodeTyped s (new_types types next base p) e.number e.node)
+    (copies m f cs)
+copies_typed s types next base p m f t [] h l a b c = tt
+copies_typed s types next base p m f t (d ∷ ds) h l a b c = (
+  subst (λ (u : Ty). ForestTyped s (new_types types next base p) m u f)
+      (sym (type_old types next base p d c.0 ∙ b.0))
+      (forest_moved s types (new_types types next base p) p m t f
+      (λ j. type_copy types next base p m j h (omega arith)) a),
+  copies_typed s types next base p (m + 1) f t ds (omega arith) (omega arith) a b.1 c.1,
+)
+
+flattens_typed : (s : Signatures) (types : Place → Ty) (next base p m : ℕ) (ins : List Place)
+    (j r : ℕ) → next + length ins ≤ base → m ≡ base + j
+    → AllByRecursion (λ e. NodeTyped s (new_types types next base p) e.number e.node)
+    (flattens m next ins j r)
+flattens_typed s types next base p m ins j zero h e = tt
+flattens_typed s types next base p m ins j (suc r) h e = (
+  copied_typed types next base p next (suc j) (new_types types next base p (place m 0)) ins
+      (omega arith) h
+      (sym (ap (λ (n : ℕ). new_types types next base p (place n 0)) e
+      ∙ type_flatten types next base p j (omega arith))),
+  flattens_typed s types next base p (m + 1) ins (suc j) r h (omega arith),
+)
+
+pub IsTyped-sunk : (s : Signatures) (g : Graph) (n p : ℕ) (f : Forest) (ins : List Place)
+    → AllByRecursion (λ e. e.number < g.next) g.nodes
+    → AllByRecursion (λ e. AllByRecursion (IsThere g.nodes) (reads e.node)) g.nodes
+    → CanSink g n p f ins → IsTyped s g → IsTyped s (sunk g p f ins)
+IsTyped-sunk s g n p f ins below there can typed =
+    let types : Place → Ty = typed.0 in
+    let base : ℕ = g.next + length ins in
+    let more : Place → Ty = new_types types g.next base p in
+    let r : Place → Place = rerouted p base in
+    let l : p < g.next = p_below g n p f ins below can in
+    let low : (cs : List Place) → AllByRecursion (IsThere g.nodes) cs
+    → AllByRecursion (λ c. c.node < g.next) cs =
+    λ cs a. Each-weaker (IsThere g.nodes) (λ c. c.node < g.next) (λ c t. there_below g c below t)
+    cs a in
+    let at_n : AllByRecursion (λ c. types c ≡ types (place n 0)) ins =
+    all_found (λ e. NodeTyped s types e.number e.node) g.nodes n (Flatten ins) can.flatten
+    typed.1 in
+    let at_p : ForestTyped s types p (types (place n 0)) f =
+    all_found (λ e. NodeTyped s types e.number e.node) g.nodes p (Pdo (place n 0) f) can.pdo
+    typed.1 in (
+      more,
+      all_sunk (λ e. NodeTyped s more e.number e.node) g p f ins
+          (kept_typed s types more r g.nodes
+          (Each-weaker (λ (e : Entry). AllByRecursion (IsThere g.nodes) (reads e.node))
+          (λ e. AllByRecursion (λ c. more (r c) ≡ types c) (reads e.node))
+          (λ e a. Each-weaker (λ (c : Place). c.node < g.next) (λ c. more (r c) ≡ types c)
+          (λ c k. type_by types g.next base p c (eqb c.node p) refl (omega arith) l k)
+          (reads e.node) (low (reads e.node) a)) g.nodes there)
+          (Each-weaker (λ (e : Entry). e.number < g.next)
+          (λ (e : Entry). (j : ℕ) → more (place e.number j) ≡ types (place e.number j))
+          (λ e k j. type_old types g.next base p (place e.number j) k) g.nodes below) typed.1)
+          (λ _. copied_typed types g.next base p g.next 0 (more (place p 0)) ins (omega arith)
+          (omega arith) (sym (type_old types g.next base p (place p 0) l)))
+          (copies_typed s types g.next base p g.next f (types (place n 0)) ins (omega arith)
+          (omega arith) at_p at_n
+          (low ins (all_found (λ e. AllByRecursion (IsThere g.nodes) (reads e.node)) g.nodes n
+          (Flatten ins) can.flatten there)))
+          (flattens_typed s types g.next base p base ins 0 (outputs_of f - 1) (omega arith)
+          (omega arith)),
+    )
+
+pub IsTyped-merged : (s : Signatures) (g : Graph) (f : ℕ) (ins : List Place) (e : ℕ)
+    (es : List Place) → CanMerge g f ins e es → IsTyped s g → IsTyped s (merged g f ins e es)
+IsTyped-merged s g f ins e es can typed =
+    let types : Place → Ty = typed.0 in
+    let at_f : AllByRecursion (λ c. types c ≡ types (place f 0)) ins =
+    all_found (λ e. NodeTyped s types e.number e.node) g.nodes f (Flatten ins) can.outer
+    typed.1 in
+    let at_e : AllByRecursion (λ c. types c ≡ types (place e 0)) es =
+    all_found (λ e. NodeTyped s types e.number e.node) g.nodes e (Flatten es) can.inner
+    typed.1 in (
+      types,
+      all_set (λ e. NodeTyped s types e.number e.node) g.nodes f (Flatten (spliced e es ins))
+          typed.1
+          (all_spliced (λ c. types c ≡ types (place f 0)) e es ins
+          (Each-weaker (λ (c : Place). types c ≡ types (place f 0))
+          (λ (c : Place). (types c ≡ types (place f 0))
+          × (c ≡ place e 0 → AllByRecursion (λ (d : Place). types d ≡ types (place f 0)) es))
+          (λ c t. (t, λ i. Each-weaker (λ (d : Place). types d ≡ types (place e 0))
+          (λ (d : Place). types d ≡ types (place f 0)) (λ d u. u ∙ sym (ap types i) ∙ t) es at_e))
+          ins at_f)),
+    )
+
+typed_by : (s : Signatures) (g : Graph) (n : ℕ) (b : Bool) → IsTyped s g
+    → IsTyped s (cond b g (dropped g n))
+typed_by s g n true typed = typed
+typed_by s g n false typed =
+    (typed.0, all_without (λ e. NodeTyped s typed.0 e.number e.node) g.nodes n typed.1)
+
+pub IsTyped-tidied : (s : Signatures) (g : Graph) (n : ℕ) → IsTyped s g → IsTyped s (tidied g n)
+IsTyped-tidied s g n typed = typed_by s g n (is_read g (place n 0)) typed
+
+-- ---- one step a Pdo
+
+step_reread : (r : Place → Place) (x : Node) → HasOneStep x → HasOneStep (reread r x)
+step_reread r (Source k) h = tt
+step_reread r (Flatten ins) h = tt
+step_reread r (Pdo c f) h = h
+step_reread r (Gbk c o l k) h = tt
+
+copies_unfused : (n : ℕ) (f : Forest) (cs : List Place) → IsOneStep f
+    → AllByRecursion (λ e. HasOneStep e.node) (copies n f cs)
+copies_unfused n f [] h = tt
+copies_unfused n f (c ∷ cs) h = (h, copies_unfused (n + 1) f cs h)
+
+flattens_unfused : (n first : ℕ) (ins : List Place) (j r : ℕ)
+    → AllByRecursion (λ e. HasOneStep e.node) (flattens n first ins j r)
+flattens_unfused n first ins j zero = tt
+flattens_unfused n first ins j (suc r) = (tt, flattens_unfused (n + 1) first ins (suc j) r)
+
+unfused_by : (g : Graph) (n : ℕ) (b : Bool) → IsUnfused g → IsUnfused (cond b g (dropped g n))
+unfused_by g n true u = u
+unfused_by g n false u = all_without (λ e. HasOneStep e.node) g.nodes n u
+
+pub IsUnfused-tidied : (g : Graph) (n : ℕ) → IsUnfused g → IsUnfused (tidied g n)
+IsUnfused-tidied g n u = unfused_by g n (is_read g (place n 0)) u
+
+pub IsUnfused-sink_step : (g : Graph) (n p : ℕ) (f : Forest) (ins : List Place)
+    → CanSink g n p f ins → IsUnfused g → IsUnfused (sink_step g n p f ins)
+IsUnfused-sink_step g n p f ins can u =
+    IsUnfused-tidied (sunk g p f ins) n
+    (all_sunk (λ e. HasOneStep e.node) g p f ins
+    (all_map (reread_entry (rerouted p (g.next + length ins))) (λ (e : Entry). HasOneStep e.node)
+    (λ (e : Entry). HasOneStep e.node)
+    (λ e h. step_reread (rerouted p (g.next + length ins)) e.node h) g.nodes u) (λ _. tt)
+    (copies_unfused g.next f ins
+    (all_found (λ e. HasOneStep e.node) g.nodes p (Pdo (place n 0) f) can.pdo u))
+    (flattens_unfused (g.next + length ins) g.next ins 0 (outputs_of f - 1)))
+
+pub IsUnfused-merge_step : (g : Graph) (f : ℕ) (ins : List Place) (e : ℕ) (es : List Place)
+    → IsUnfused g → IsUnfused (merge_step g f ins e es)
+IsUnfused-merge_step g f ins e es u =
+    IsUnfused-tidied (merged g f ins e es) e
+    (all_set (λ e. HasOneStep e.node) g.nodes f (Flatten (spliced e es ins)) u tt)
