@@ -5,6 +5,7 @@ pub mod Derived
 pub mod Calls
 pub mod Meaning
 pub mod Readers
+pub mod Places
 pub mod Typing
 pub mod Wellformed
 pub mod inner

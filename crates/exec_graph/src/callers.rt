@@ -5,7 +5,7 @@ ghost use Rattle.exec_graph.specs.declared.graph.Place.{Place as GhostPlace};
 ghost use Rattle.exec_graph.specs.Readers.{same_place};
 ghost use Rattle.exec_graph.specs.Wellformed.{comb_of, root_comb};
 ghost use Rattle.exec_graph.specs.Forests.{Bare, limb};
-ghost use Rattle.exec_graph.specs.inner.Numbers.{HasPlaces, code};
+ghost use Rattle.exec_graph.specs.Places.{HasPlaces, code};
 ghost use Rattle.exec_graph.specs.inner.Checks.{HasCallers, callers_from, called_by, is_held, lifted_ok, more_callers};
 
 use crate::graph::{Entry, Graph, Node, Place};

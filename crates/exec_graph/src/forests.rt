@@ -1,7 +1,7 @@
 ghost use Rattle.std.specs.Prelude.{◌≡◌, IfOk};
 ghost use Rattle.std.specs.List.{list_all};
 ghost use Rattle.exec_graph.specs.Readers.{is_read};
-ghost use Rattle.exec_graph.specs.inner.Numbers.{HasPlaces};
+ghost use Rattle.exec_graph.specs.Places.{HasPlaces};
 ghost use Rattle.exec_graph.specs.inner.Checks.{all_read, forest_ok, in_order, is_next, out_read};
 
 use crate::graph::{Entry, Graph, Node, Place};

@@ -1,6 +1,7 @@
 ghost use Rattle.std.specs.Prelude.{◌≡◌, OnOk, IfOk};
 ghost use Rattle.std.specs.List.{list_any, list_all};
-ghost use Rattle.exec_graph.specs.inner.Numbers.{HasPlaces, HasAlso, gives_place, spot_place, is_given, reads_given};
+ghost use Rattle.exec_graph.specs.Places.{HasPlaces, HasAlso};
+ghost use Rattle.exec_graph.specs.inner.Numbers.{gives_place, spot_place, is_given, reads_given};
 
 use crate::graph::{Entry, Node, Place};
 use crate::places::{add_place, code_of};

@@ -43,4 +43,5 @@ pub use founded::is_founded;
 pub use sizes::{count_outputs, size_of};
 pub use graph::{Blocked, Entry, Graph, Node, Place};
 pub use laws::{meaning_law, step_law, typed_law};
+pub use places::{add_place, code_of};
 pub use step::{Does, Output, Roots, Step};

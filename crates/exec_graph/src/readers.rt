@@ -1,7 +1,7 @@
 ghost use Rattle.std.specs.Prelude.{OnOk, IfOk};
 ghost use Rattle.exec_graph.specs.Readers.{among, calls_on, collects, is_read};
 ghost use Rattle.exec_graph.specs.inner.Checks.{is_held};
-ghost use Rattle.exec_graph.specs.inner.Numbers.{HasPlaces, HasAlso};
+ghost use Rattle.exec_graph.specs.Places.{HasPlaces, HasAlso};
 
 use crate::graph::{Graph, Node, Place};
 use crate::places::add_place;

@@ -16,7 +16,7 @@ use Rattle.exec_graph.specs.Meaning.{place}
 use Rattle.exec_graph.specs.Forests.{after_out}
 use Rattle.exec_graph.specs.Readers.{among, any_node, calls_on, collects, is_read}
 use Rattle.exec_graph.specs.Wellformed.{comb_at, most}
-use Rattle.exec_graph.specs.inner.Numbers.{code}
+use Rattle.exec_graph.specs.Places.{code}
 use Rattle.exec_graph.specs.inner.Spots.{spots}
 
 -- ---- flattens

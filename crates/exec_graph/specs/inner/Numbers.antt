@@ -1,26 +1,12 @@
--- Collections as numbers, and sets of them.
-use Rattle.std.specs.Prelude.{◌≡◌, ℕ, ◌+◌, ◌*◌, ◌^◌, ◌<◌, ◌==◌, nat_lt, ◌&&◌, ◌||◌, Bool, true, List, [], ◌∷◌, Option, Some, None, nat_eq}
+-- What is given, and what is read, as sets of collections are asked for it.
+use Rattle.std.specs.Prelude.{ℕ, ◌==◌, nat_lt, ◌&&◌, Bool, true, List, [], ◌∷◌, Option, Some, None}
 use Rattle.std.specs.List.{list_any, list_all}
-use Rattle.std.specs.HashSet.{HashSet, contains}
 use Rattle.exec_graph.specs.Meaning.{gives, is_out}
 use Rattle.exec_graph.specs.declared.graph.Node.{Node}
 use Rattle.exec_graph.specs.declared.graph.Node.TheVariants.{Source, Flatten, Pdo, Gbk}
 use Rattle.exec_graph.specs.declared.graph.Place.{Place}
 use Rattle.exec_graph.specs.declared.graph.Entry.{Entry}
 use Rattle.exec_graph.specs.declared.spots.Spot.{Spot}
-
-abbrev pub code : Place → ℕ
-code c = c.node * 4294967296 + c.out
-
--- the set has the collections that pass the test
-abbrev pub HasPlaces : {S : Type 0} → HashSet ℕ S → (Place → Bool) → Type 0
-HasPlaces s p = (c : Place) → c.out < 2 ^ 32 → contains nat_eq s (code c) ≡ p c
-
--- the set has what it had, and beside that the collections that pass the test
-abbrev pub HasAlso : {S : Type 0} → HashSet ℕ S → HashSet ℕ S → (Place → Bool) → Type 0
-HasAlso old new p =
-    (c : Place) → c.out < 2 ^ 32 →
-    contains nat_eq new (code c) ≡ (contains nat_eq old (code c) || p c)
 
 -- whether the node gives the collection
 abbrev pub gives_place : Place → Entry → Bool

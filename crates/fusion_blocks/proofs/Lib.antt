@@ -1,0 +1,5 @@
+pub mod Indexing
+pub mod Filling
+pub mod Marking
+pub mod Chaining
+pub mod Blocking

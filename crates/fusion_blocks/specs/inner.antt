@@ -1,0 +1,3 @@
+pub mod Nodes
+pub mod Tables
+pub mod Stretches

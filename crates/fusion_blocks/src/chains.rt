@@ -1,0 +1,101 @@
+ghost use Rattle.std.specs.Prelude.{◌≡◌, OnOk, IfOk};
+ghost use Rattle.fusion_blocks.specs.inner.Nodes.{IsIndex};
+ghost use Rattle.fusion_blocks.specs.inner.Stretches.{AreBefore, IsPdoOf, IsStretch, longer};
+ghost use Rattle.fusion_blocks.specs.inner.Tables.{IsBelow, known};
+
+use crate::estimates::known;
+use crate::nodes::find_node;
+use exec_graph::{Entry, Node, Place};
+use std::alloc::AllocError;
+use std::collections::HashMap;
+
+/// What is known of the chain to a collection.
+#[derive(Clone, Copy, Debug)]
+pub(crate) enum Stretch {
+    /// There is none: the way back through Pdos does not end at a Gbk.
+    Open,
+    /// It is empty: the collection is the output of a lifted Gbk.
+    Empty,
+    /// Its first collection of least estimate.
+    Least(Place),
+}
+
+/// What is known of the chain to an output of a Pdo, by that to what the Pdo reads.
+fn longer(estimates: &HashMap<u32, u64>, before: Stretch, c: Place) -> Stretch
+    ensures { result ≡ longer (known estimates.now) before c }
+{
+    match before {
+        Stretch::Open => Stretch::Open,
+        Stretch::Empty => Stretch::Least(c),
+        Stretch::Least(d) => {
+            if known(estimates, c.node) < known(estimates, d.node) {
+                Stretch::Least(c)
+            } else {
+                Stretch::Least(d)
+            }
+        }
+    }
+}
+
+/// What is known of the chain to a collection.
+#[cycle(walk)]
+pub(crate) fn stretch_to(
+    nodes: &[Entry],
+    index: &HashMap<u32, usize>,
+    estimates: &HashMap<u32, u64>,
+    turns: usize,
+    c: Place,
+    before: &mut HashMap<u32, Stretch>,
+) -> Result<Stretch, AllocError>
+    requires index { IsIndex index.now nodes.now }
+    requires below { IsBelow nodes.now turns c.node }
+    requires before { AreBefore nodes.now (known estimates.now) before.old }
+    ensures before { OnOk result (AreBefore nodes.now (known estimates.now) before.new) }
+    ensures is { IfOk result (λ s. IsStretch nodes.now (known estimates.now) c s) }
+{
+    match find_node(nodes, index, c.node) {
+        Some(Node::Pdo(input, _)) => {
+            let stretch = stretch_before(
+                nodes,
+                index,
+                estimates,
+                turns - 1,
+                c.node,
+                *input,
+                before,
+            )?;
+            Ok(longer(estimates, stretch, c))
+        }
+        Some(Node::Gbk(_, _, _, None)) => Ok(Stretch::Least(c)),
+        Some(Node::Gbk(_, _, _, Some(_))) => Ok(Stretch::Empty),
+        Some(Node::Source(_)) | Some(Node::Flatten(_)) | None => Ok(Stretch::Open),
+    }
+}
+
+/// What is known of the chain to what a Pdo reads. It is worked out once.
+#[cycle(walk)]
+fn stretch_before(
+    nodes: &[Entry],
+    index: &HashMap<u32, usize>,
+    estimates: &HashMap<u32, u64>,
+    turns: usize,
+    number: u32,
+    input: Place,
+    before: &mut HashMap<u32, Stretch>,
+) -> Result<Stretch, AllocError>
+    requires index { IsIndex index.now nodes.now }
+    requires below { IsBelow nodes.now turns input.node }
+    requires pdo { IsPdoOf nodes.now number input }
+    requires before { AreBefore nodes.now (known estimates.now) before.old }
+    ensures before { OnOk result (AreBefore nodes.now (known estimates.now) before.new) }
+    ensures is { IfOk result (λ s. IsStretch nodes.now (known estimates.now) input s) }
+{
+    match before.get(&number).copied() {
+        Some(stretch) => Ok(stretch),
+        None => {
+            let stretch = stretch_to(nodes, index, estimates, turns, input, before)?;
+            before.insert(number, stretch)?;
+            Ok(stretch)
+        }
+    }
+}
