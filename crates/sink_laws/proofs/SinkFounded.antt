@@ -22,7 +22,7 @@ use Rattle.sink_laws.proofs.Outs.{has_from, has_below}
 use Rattle.sink_laws.proofs.Ranges.{copies_low, copies_high, ascends_copies, flattens_low, flattens_high, ascends_flattens, IsFoundIn, there_copied, found_flatten}
 use Rattle.sink_laws.proofs.SinkMeaning.{there_below}
 
-ascends_map : (r : Place → Place) (es : List Entry) → Ascends es
+pub ascends_map : (r : Place → Place) (es : List Entry) → Ascends es
     → Ascends (map (reread_entry r) es)
 ascends_map r [] a = tt
 ascends_map r (e ∷ es) a = (
