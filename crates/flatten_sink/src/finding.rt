@@ -153,7 +153,5 @@ fn others_use(nodes: &[Entry], flatten: u32, pdo: u32) -> bool
     ensures { result ≡ list_any
         (λ e. not (e.number == pdo) && uses (place flatten 0) e.node) nodes.now }
 {
-    nodes
-        .iter()
-        .any(|entry| entry.number != pdo && uses_first(flatten, &entry.node))
+    nodes.iter().any(|entry| entry.number != pdo && uses_first(flatten, &entry.node))
 }

@@ -43,7 +43,10 @@ fn joined(alloc: Global, graph: Graph, pdo: u32, parts: Parts) -> Result<Graph, 
     let outputs = rerouted_places(alloc, pdo, parts.base, outputs.as_slice())?;
     let nodes = rerouted_nodes(alloc, pdo, parts.base, nodes)?;
     let Parts {
-        first, added, next, ..
+        first,
+        added,
+        next,
+        ..
     } = parts;
     let nodes = with_nodes(with_or_without(nodes, pdo, first), added)?;
     Ok(Graph {

@@ -81,6 +81,7 @@ call_can_at g p (Pdo c f) h t = by (node_at g.nodes c.node) refl
     first : (ins : List Place) → node_at g.nodes c.node ≡ Some (Flatten ins) → c ≡ place c.node 0
     first ins e = ap (λ (j : ℕ). place c.node j)
         (eqb-true c.out 0 (gives_of g.nodes c c.node (Flatten ins) refl e t.0))
+
     by : (o : Option Node) → node_at g.nodes c.node ≡ o → Only (CanCall g) (call_of c.node p o)
     by None e = none_only (CanCall g)
     by (Some (Source r)) e = none_only (CanCall g)
