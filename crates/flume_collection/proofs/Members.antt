@@ -101,7 +101,7 @@ put_known le o t (x ∷ xs) h = elim (head_or_tail x xs t h) [
 
 gather_known : {X : Type 0} (le : X → X → Bool) → IsOrder le → (ys xs : List X)
     → ((t : X) → Contains ys t → Contains xs t) → gather (put_new le) ys (set_of le xs)
-        ≡ set_of le xs
+    ≡ set_of le xs
 gather_known le o [] xs h = refl
 gather_known le o (y ∷ ys) xs h =
     ap (put_new le y) (gather_known le o ys xs (λ t i. h t (at_tail y ys t i)))

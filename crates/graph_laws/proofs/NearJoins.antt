@@ -49,7 +49,7 @@ node_without (d ∷ es) q m far = by (eqb d.number q) refl (node_without es q m 
         ≡ cond (eqb d.number m) (Some d.node) (node_at es m)
     by true e i = sym (ap (λ b. cond b (Some d.node) (node_at es m))
         (not_true (eqb d.number m) (λ j. far (sym (eqb-true d.number m j)
-            ∙ eqb-true d.number q e))))
+        ∙ eqb-true d.number q e))))
     by false e i = ap (cond (eqb d.number m) (Some d.node)) i
 
 node_set : (es : List Entry) (p m : ℕ) (x : Node) → (m ≡ p → ⊥)
@@ -62,7 +62,7 @@ node_set (d ∷ es) p m x far = by (eqb d.number p) refl (node_set es p m x far)
         ≡ cond (eqb d.number m) (Some d.node) (node_at es m)
     by true e i =
         ap (λ b. cond b (Some x) (node_at es m)) (not_true (eqb p m) (λ j. far (sym
-            (eqb-true p m j))))
+        (eqb-true p m j))))
         ∙ sym (ap (λ b. cond b (Some d.node) (node_at es m)) (not_true (eqb d.number m)
         (λ j. far (sym (eqb-true d.number m j) ∙ eqb-true d.number p e))))
     by false e i = ap (cond (eqb d.number m) (Some d.node)) i

@@ -87,7 +87,7 @@ those_set t (d ∷ es) n x y h e = by (eqb d.number n) refl h (λ i. those_set t
         let is : t x ≡ t d.node = e ∙ ap t (sym same) in
         ap (λ b. cond b (n ∷ those t es) (those t es)) is
         ∙ ap (λ (m : ℕ). cond (t d.node) (m ∷ those t es) (those t es)) (sym
-            (eqb-true d.number n q))
+        (eqb-true d.number n q))
     by false q i f = ap (λ l. cond (t d.node) (d.number ∷ l) l) (f i)
 
 pub those_without : (t : Node → Bool) (es : List Entry) (n : ℕ) (y : Node)
