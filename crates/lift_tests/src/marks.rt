@@ -27,7 +27,11 @@ fn sums_of_groups(alloc: Global) -> Result<Pile<Entry>, AllocError> {
     add(&mut nodes, 0, Node::Source(0))?;
     add(&mut nodes, 1, one_step(alloc, 0, 1, Does::Call(0))?)?;
     add(&mut nodes, 2, Node::Gbk(first_of(1), 2, true, None))?;
-    add(&mut nodes, 3, one_step(alloc, 2, 3, Does::Combine(Comb::Sum))?)?;
+    add(
+        &mut nodes,
+        3,
+        one_step(alloc, 2, 3, Does::Combine(Comb::Sum))?,
+    )?;
     Ok(nodes)
 }
 

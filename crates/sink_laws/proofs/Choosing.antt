@@ -22,11 +22,12 @@ use Rattle.graph_laws.proofs.Kids.{KeepsMeaning-then}
 use Rattle.graph_laws.proofs.ReadPlaces.{same_self, all_among}
 use Rattle.graph_laws.proofs.Wellness.{gives_of}
 use Rattle.sink_laws.specs.declared.pair.Pair.{Pair}
+use Rattle.sink_laws.specs.Kept.{IsKept}
 use Rattle.sink_laws.specs.Merging.{spliced, merged, dropped, CanMerge}
 use Rattle.sink_laws.specs.Sinking.{outputs_of, sunk, CanSink}
-use Rattle.sink_laws.specs.Chain.{is_before, lesser, least, inputs_of, forest_of, nest_of, nest_at, next_nest, after_nest, call_of, call_at, next_call, after_call, has_room, sink_next, next_by, next_graph, Leads, stay, go, IsSunk, ReadsNoFlatten, NoPdoReadsFlatten, IsFull}
+use Rattle.sink_laws.specs.Chain.{is_before, lesser, least, inputs_of, forest_of, nest_of, nest_at, next_nest, after_nest, call_of, call_at, next_call, after_call, CanCall, CanNest, has_room, sink_next, next_by, next_graph, Leads, stay, go, IsSunk, ReadsNoFlatten, NoPdoReadsFlatten, IsFull}
 use Rattle.sink_laws.proofs.MergeMeaning.{IsFounded-merged}
-use Rattle.sink_laws.proofs.Steps.{IsGood, IsGood-trans, IsGood-merge_step, IsGood-sink_step}
+use Rattle.sink_laws.proofs.Steps.{IsGood-trans, IsGood-merge_step, IsGood-sink_step}
 use Rattle.sink_laws.proofs.TypesKept.{IsTyped-sunk, IsTyped-merged, IsTyped-tidied, IsUnfused-sink_step, IsUnfused-merge_step}
 use Rattle.sink_laws.proofs.Weights.{total_weight, merge_lighter}
 
@@ -58,16 +59,6 @@ some_only P x p y h = let e : x ≡ y = cc in subst P e p
 
 -- ---- a step that is next
 
-abbrev pub CanCall : Graph → Pair → Type 0
-CanCall g p =
-    CanSink g p.flatten p.other (forest_of (node_at g.nodes p.other))
-    (inputs_of (node_at g.nodes p.flatten))
-
-abbrev pub CanNest : Graph → Pair → Type 0
-CanNest g n =
-    CanMerge g n.flatten (inputs_of (node_at g.nodes n.flatten)) n.other
-    (inputs_of (node_at g.nodes n.other))
-
 call_can : (g : Graph) (n p : ℕ) (f : Forest) (o : Option Node) → node_at g.nodes n ≡ o
     → node_at g.nodes p ≡ Some (Pdo (place n 0) f) → Only (CanCall g) (call_of n p o)
 call_can g n p f None e h = none_only (CanCall g)
@@ -90,6 +81,7 @@ call_can_at g p (Pdo c f) h t = by (node_at g.nodes c.node) refl
     first : (ins : List Place) → node_at g.nodes c.node ≡ Some (Flatten ins) → c ≡ place c.node 0
     first ins e = ap (λ (j : ℕ). place c.node j)
         (eqb-true c.out 0 (gives_of g.nodes c c.node (Flatten ins) refl e t.0))
+
     by : (o : Option Node) → node_at g.nodes c.node ≡ o → Only (CanCall g) (call_of c.node p o)
     by None e = none_only (CanCall g)
     by (Some (Source r)) e = none_only (CanCall g)
@@ -165,12 +157,6 @@ next_nest_can g ok =
     (each_found g.nodes (differ_ascends g.nodes ok.founded.ascends)) ok.founded.there)
 
 -- ---- the chain
-
--- what every merge and every step keeps
-pub record IsKept (g h : Graph) : Type 0 where
-  pub good : IsGood g h
-  pub types : KeepsTypes g h
-  pub unfused : IsUnfused g → IsUnfused h
 
 pub IsKept-trans : (g h i : Graph) → IsKept g h → IsKept h i → IsKept g i
 IsKept-trans g h i a b = record {

@@ -185,9 +185,12 @@ IsFounded-merged g f ins e es ok can =
             (Each-weaker (λ (c : Place). r c.node < r f)
             (λ (c : Place). (r c.node < r f)
             × (c ≡ place e 0 → AllByRecursion (λ (d : Place). r d.node < r f) es))
-            (λ c t. (t, λ i. let j : r c.node ≡ r e = ap (λ (d : Place). r d.node) i in
-            Each-weaker (λ (d : Place). r d.node < r e) (λ (d : Place). r d.node < r f)
-            (λ d u. omega arith) es (ranked_at r g.nodes e (Flatten es) below can.inner))) ins
+            (λ c t. (
+              t,
+              λ i. let j : r c.node ≡ r e = ap (λ (d : Place). r d.node) i in
+                  Each-weaker (λ (d : Place). r d.node < r e) (λ (d : Place). r d.node < r f)
+                  (λ d u. omega arith) es (ranked_at r g.nodes e (Flatten es) below can.inner),
+            )) ins
             (ranked_at r g.nodes f (Flatten ins) below can.outer))),
       );
     }

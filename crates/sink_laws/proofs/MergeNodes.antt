@@ -58,6 +58,7 @@ among_stays c e es (d ∷ ins) h i =
         → (b || among c (spliced e es ins)) ≡ true
     piece true k f = refl
     piece false k f = f k
+
     by : (b : Bool) → same_place (place e 0) d ≡ b → (same_place c d || among c ins) ≡ true
         → (among c ins ≡ true → among c (spliced e es ins) ≡ true)
         → among c (cond b es (d ∷ []) ++ spliced e es ins) ≡ true

@@ -158,8 +158,11 @@ those_pass t all (e ∷ es) a = by (t e.node) refl (those_pass t all es a.1)
         → AllByRecursion (λ n. (x : Node) → node_at all n ≡ Some x → t x ≡ true) (those t es)
         → AllByRecursion (λ n. (x : Node) → node_at all n ≡ Some x → t x ≡ true)
         (cond b (e.number ∷ those t es) (those t es))
-    by true i rest = (λ x h. (let f : node_at all e.number ≡ Some e.node = a.0 in
-        let s : e.node ≡ x = cc in ap t (sym s) ∙ i), rest)
+    by true i rest = (
+      λ x h. (let f : node_at all e.number ≡ Some e.node = a.0 in
+          let s : e.node ≡ x = cc in ap t (sym s) ∙ i),
+      rest,
+    )
     by false i rest = rest
 
 pub only_passes : (t : Node → Bool) (all es : List Entry) (n : ℕ) (x : Node)

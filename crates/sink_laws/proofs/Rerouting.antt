@@ -74,13 +74,13 @@ uses_rerouted c p next base x o l =
 
 -- ---- the new nodes read none of the old collections but the inputs
 
-not_copied : (c : Place) (n j : ℕ) (cs : List Place) → c.node < n → among c (copied n j cs) ≡ false
+pub not_copied : (c : Place) (n j : ℕ) (cs : List Place) → c.node < n → among c (copied n j cs) ≡ false
 not_copied c n j [] h = refl
 not_copied c n j (d ∷ ds) h =
     let x : eqb c.node n ≡ false = unlike c.node n (λ e. omega arith) in
     rw x (not_copied c (n + 1) j ds (omega arith))
 
-flattens_skip : (t : Node → Bool) (n first : ℕ) (ins : List Place) (j r : ℕ)
+pub flattens_skip : (t : Node → Bool) (n first : ℕ) (ins : List Place) (j r : ℕ)
     → ((i : ℕ) → t (Flatten (copied first i ins)) ≡ false)
     → AllByRecursion (λ e. t e.node ≡ false) (flattens n first ins j r)
 flattens_skip t n first ins j zero h = tt

@@ -22,7 +22,7 @@ use Rattle.sink_laws.proofs.Outs.{has_from, has_below}
 use Rattle.sink_laws.proofs.Ranges.{copies_low, copies_high, ascends_copies, flattens_low, flattens_high, ascends_flattens, IsFoundIn, there_copied, found_flatten}
 use Rattle.sink_laws.proofs.SinkMeaning.{there_below}
 
-ascends_map : (r : Place → Place) (es : List Entry) → Ascends es
+pub ascends_map : (r : Place → Place) (es : List Entry) → Ascends es
     → Ascends (map (reread_entry r) es)
 ascends_map r [] a = tt
 ascends_map r (e ∷ es) a = (
@@ -302,9 +302,12 @@ copies_lower : (r : ℕ → ℕ) (next base n p m : ℕ) (f : Forest) (cs : List
     (copies m f cs)
 copies_lower r next base n p m f [] h l a b = tt
 copies_lower r next base n p m f (c ∷ cs) h l a b = (
-  (let e = rank_copy r next base n p m h (omega arith) in
-  let d = rank_old r next base n p c.node b.0 in
-  let low : r c.node < r n = a.0 in omega arith, tt),
+  (
+    let e = rank_copy r next base n p m h (omega arith) in
+        let d = rank_old r next base n p c.node b.0 in
+        let low : r c.node < r n = a.0 in omega arith,
+    tt,
+  ),
   copies_lower r next base n p (m + 1) f cs (omega arith) (omega arith) a.1 b.1,
 )
 

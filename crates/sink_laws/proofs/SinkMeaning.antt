@@ -334,8 +334,7 @@ pub KeepsMeaning-sunk : (g : Graph) (n p : ℕ) (f : Forest) (ins : List Place) 
     → CanSink g n p f ins → KeepsMeaning g (sunk g p f ins)
 KeepsMeaning-sunk g n p f ins s can w m meets =
     let k : Place → Collection = fresh w m g.next p f ins in
-    let r : Place → Place = rerouted p (g.next + length ins) in
-    (
+    let r : Place → Place = rerouted p (g.next + length ins) in (
       k,
       meets_sunk w m g n p f ins s can meets,
       record {

@@ -82,12 +82,14 @@ old_lifted g n p f ins q c o l m k ok can at apart below a =
         → AllByRecursion (λ e. collects d e.node ≡ false) (copies i f cs)
     copies_collect d f [] i = tt
     copies_collect d f (c ∷ cs) i = (refl, copies_collect d f cs (i + 1))
+
     comb_reread : (r : Place → Place) (x : Node) (k : Comb) → comb_at (Some x) ≡ Some k
         → comb_at (Some (reread r x)) ≡ Some k
     comb_reread r (Source s) k h = h
     comb_reread r (Flatten ins) k h = h
     comb_reread r (Pdo c f) k h = h
     comb_reread r (Gbk c o l m) k h = h
+
     comb_kept : (g : Graph) (p q : ℕ) (f : Forest) (ins : List Place) (k : Comb) (o : Option Node)
         → node_at g.nodes q ≡ o → (q ≡ p → ⊥) → comb_at (node_at g.nodes q) ≡ Some k
         → comb_at (node_at (sunk g p f ins).nodes q) ≡ Some k

@@ -19,6 +19,7 @@ use Rattle.graph_laws.specs.Joining.{set_node, without}
 use Rattle.graph_laws.proofs.Changes.{node_at-without_other}
 use Rattle.graph_laws.proofs.Kids.{KeepsMeaning-then}
 use Rattle.graph_laws.proofs.Wellness.{node_at-set_same, node_at-set_other}
+use Rattle.sink_laws.specs.Kept.{IsGood}
 use Rattle.sink_laws.specs.Merging.{spliced, merged, dropped, tidied, merge_step, CanMerge}
 use Rattle.sink_laws.specs.Sinking.{copies, outputs_of, rerouted, sunk, sink_step, CanSink}
 use Rattle.sink_laws.proofs.Dropping.{CanDrop, KeepsMeaning-dropped, IsFounded-dropped}
@@ -31,11 +32,6 @@ use Rattle.sink_laws.proofs.SinkFounded.{IsFounded-sunk, copies_there, inputs_ap
 use Rattle.sink_laws.proofs.SinkMeaning.{IsSinkable, KeepsMeaning-sunk}
 use Rattle.sink_laws.proofs.SinkNodes.{NodesOk, NodesOk-sunk}
 use Rattle.sink_laws.proofs.Unread.{same_true}
-
--- what is shown of each step
-pub record IsGood (g h : Graph) : Type 0 where
-  pub ok : IsGraphOk h
-  pub keeps : KeepsMeaning g h
 
 pub IsGood-trans : (g h i : Graph) → IsGood g h → IsGood h i → IsGood g i
 IsGood-trans g h i a b = record { ok = b.ok; keeps = KeepsMeaning-then g h i a.keeps b.keeps }

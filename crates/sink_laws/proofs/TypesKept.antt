@@ -69,8 +69,12 @@ forest_moved : (s : Signatures) (types more : Place → Ty) (n i : ℕ) (t : Ty)
     → ForestTyped s more i t f
 forest_moved s types more n i t Bare h a = tt
 forest_moved s types more n i t (Grow l kids rest) h a = (
-  (a.0.0, a.0.1, out_moved types more n i l.out a.0.0 h a.0.2,
-      forest_moved s types more n i a.0.0 kids h a.0.3),
+  (
+    a.0.0,
+    a.0.1,
+    out_moved types more n i l.out a.0.0 h a.0.2,
+    forest_moved s types more n i a.0.0 kids h a.0.3,
+  ),
   forest_moved s types more n i t rest h a.1,
 )
 
@@ -197,8 +201,11 @@ IsTyped-merged s g f ins e es can typed =
           (Each-weaker (λ (c : Place). types c ≡ types (place f 0))
           (λ (c : Place). (types c ≡ types (place f 0))
           × (c ≡ place e 0 → AllByRecursion (λ (d : Place). types d ≡ types (place f 0)) es))
-          (λ c t. (t, λ i. Each-weaker (λ (d : Place). types d ≡ types (place e 0))
-          (λ (d : Place). types d ≡ types (place f 0)) (λ d u. u ∙ sym (ap types i) ∙ t) es at_e))
+          (λ c t. (
+            t,
+            λ i. Each-weaker (λ (d : Place). types d ≡ types (place e 0))
+                (λ (d : Place). types d ≡ types (place f 0)) (λ d u. u ∙ sym (ap types i) ∙ t) es at_e,
+          ))
           ins at_f)),
     )
 

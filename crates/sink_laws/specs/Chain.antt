@@ -9,8 +9,8 @@ use Rattle.exec_graph.specs.declared.graph.Node.{Node}
 use Rattle.exec_graph.specs.declared.graph.Node.TheVariants.{Source, Flatten, Pdo, Gbk}
 use Rattle.exec_graph.specs.declared.graph.Entry.{Entry}
 use Rattle.exec_graph.specs.declared.graph.Graph.{Graph}
-use Rattle.sink_laws.specs.Merging.{spliced, merge_step}
-use Rattle.sink_laws.specs.Sinking.{sink_step}
+use Rattle.sink_laws.specs.Merging.{spliced, merge_step, CanMerge}
+use Rattle.sink_laws.specs.Sinking.{sink_step, CanSink}
 use Rattle.sink_laws.specs.declared.pair.Pair.{Pair}
 
 -- ---- the least pair
@@ -72,6 +72,12 @@ after_nest g n =
     merge_step g n.flatten (inputs_of (node_at g.nodes n.flatten)) n.other
     (inputs_of (node_at g.nodes n.other))
 
+-- the pair is of a Flatten with room for the inputs of another
+abbrev pub CanNest : Graph → Pair → Type 0
+CanNest g n =
+    CanMerge g n.flatten (inputs_of (node_at g.nodes n.flatten)) n.other
+    (inputs_of (node_at g.nodes n.other))
+
 -- ---- Pdos that read Flattens
 
 abbrev pub call_of : ℕ → ℕ → Option Node → Option Pair
@@ -94,6 +100,12 @@ next_call es = least (λ (e : Entry). call_at es e.number e.node) None es
 abbrev pub after_call : Graph → Pair → Graph
 after_call g p =
     sink_step g p.flatten p.other (forest_of (node_at g.nodes p.other))
+    (inputs_of (node_at g.nodes p.flatten))
+
+-- the pair is of a Flatten and a Pdo that reads it
+abbrev pub CanCall : Graph → Pair → Type 0
+CanCall g p =
+    CanSink g p.flatten p.other (forest_of (node_at g.nodes p.other))
     (inputs_of (node_at g.nodes p.flatten))
 
 -- ---- the chain
