@@ -19,3 +19,6 @@ pub mod Owning
 pub mod Trapping
 pub mod Meanings
 pub mod Accepting
+pub mod TypedBlocks
+pub mod TypedGraphs
+pub mod OneStep

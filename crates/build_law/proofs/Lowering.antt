@@ -126,7 +126,7 @@ module _ (script : Script) (well : IsWellFormed script) where
         (subst (λ o. IsSomeAnd o (λ (it : Made). Contains (operands it) j)) (sym is) reads, path.1),
       )
 
-  how_at : (before nodes : Named Node) (entry : List ℕ × Node) (origin : ℕ)
+  pub how_at : (before nodes : Named Node) (entry : List ℕ × Node) (origin : ℕ)
       → script.nodes ≡ before ++ entry ∷ nodes → length before ≡ origin
       → slice_get (made_of script) origin ≡ Some entry.1.made
   how_at before nodes entry origin is size =

@@ -90,7 +90,7 @@ pub regrouped : {A : Type 0} (whole pre mid rest : List A) → whole ≡ pre ++ 
     → whole ≡ (pre ++ mid) ++ rest
 regrouped whole pre mid rest h = h ∙ sym (append_assoc pre mid rest)
 
-seam : {A : Type 0} (xs ys : List A) (y : A) (n : ℕ) (d : A) → length xs ≡ n
+pub seam : {A : Type 0} (xs ys : List A) (y : A) (n : ℕ) (d : A) → length xs ≡ n
     → get_or ((xs ++ y ∷ []) ++ ys) n d ≡ y
 seam xs ys y n d h =
     ap (λ zs. get_or zs n d) (append_assoc xs (y ∷ []) ys)

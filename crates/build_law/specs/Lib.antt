@@ -1,3 +1,4 @@
 pub mod Worlds
 pub mod Limits
 pub mod Means
+pub mod Signatures

@@ -2,14 +2,17 @@ ghost use Rattle.std.specs.Prelude.{◌≡◌, List, Ok, Option, Some};
 ghost use Rattle.flume_value.specs.declared.value.Value.{Value};
 ghost use Rattle.flume_collection.specs.Collection.{Collection};
 ghost use Rattle.flume_grammar.specs.declared.tree.Statement.{Statement};
+ghost use Rattle.exec_graph.specs.Typing.{IsTyped};
 ghost use Rattle.exec_graph.specs.Wellformed.{IsGraphOk};
 ghost use Rattle.script_check.specs.Rules.{script_of};
 ghost use Rattle.script_check.specs.Script.{Script};
 ghost use Rattle.script_laws.specs.WellFormed.{IsWellFormed};
 ghost use Rattle.direct_meaning.specs.Direct.{meaning};
 ghost use Rattle.graph_build.specs.Graphs.{graph_of};
+ghost use Rattle.graph_laws.specs.Single.{IsUnfused};
 ghost use Rattle.build_law.specs.Limits.{AreShort, HasFirstOutputs, HasShortFlattens};
 ghost use Rattle.build_law.specs.Means.{IsMeaning};
+ghost use Rattle.build_law.specs.Signatures.{signatures_of};
 ghost use Rattle.build_law.specs.Worlds.{world_of};
 
 /// The graph of a well-formed script, as each accepted one is, is well-formed, where no statement
@@ -21,7 +24,12 @@ pub fn graph_law()
         AreShort statements → script_of statements ≡ Ok script → IsGraphOk (graph_of script) }
 {}
 
-/// That graph means what the script means, over all rows of its inputs.
+/// Each Pdo of a script's graph has one step.
+pub fn one_step_law()
+    ensures { (script : Script) → IsUnfused (graph_of script) }
+{}
+
+/// The graph of a well-formed script means what the script means, over all rows of its inputs.
 pub fn means_law()
     ensures well_formed { (script : Script) (inputs : List (List Value))
         (made : List (Option Collection)) →
@@ -33,4 +41,14 @@ pub fn means_law()
         AreShort statements → script_of statements ≡ Ok script →
         meaning script inputs ≡ Some made →
         IsMeaning (world_of script inputs) script made (graph_of script) }
+{}
+
+/// Types fit the graph of a well-formed script: each step takes what it is given, by the types of
+/// the script's inputs and functions.
+pub fn types_law()
+    ensures well_formed { (script : Script) → IsWellFormed script → HasFirstOutputs script →
+        IsTyped (signatures_of script) (graph_of script) }
+    ensures accepted { (statements : List Statement) (script : Script) →
+        AreShort statements → script_of statements ≡ Ok script →
+        IsTyped (signatures_of script) (graph_of script) }
 {}

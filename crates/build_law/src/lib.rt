@@ -4,7 +4,8 @@
 //! the script, whose sources are the rows of the needed inputs and whose functions answer as the
 //! script's do, its outputs are the collections that the script's outputs read, the bag of each
 //! collection that has calls, groups or combinations of its own is theirs, and its traps are all
-//! those of the script (`means_law`, specs/Means.antt).
+//! those of the script (`means_law`, specs/Means.antt). Types fit it, by those of the script's
+//! inputs and functions (`types_law`), and each of its Pdos has one step (`one_step_law`).
 //!
 //! It is shown by giving each node its collection: the last node of a script collection gives that,
 //! and the nodes before it what a count, a join or the greatest members are put together from. This
@@ -13,4 +14,4 @@
 
 mod laws;
 
-pub use laws::{graph_law, means_law};
+pub use laws::{graph_law, means_law, one_step_law, types_law};

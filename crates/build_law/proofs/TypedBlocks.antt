@@ -1,0 +1,311 @@
+-- The nodes of a collection of a script have types that fit.
+use Rattle.std.proofs.Common.{◌≡◌, ℕ, ◌+◌, List, [], ◌∷◌, ◌++◌, map, length, get_or, Some, refl, sym, ap, ◌∙◌, subst, add-zero}
+use Rattle.std.specs.Prelude.{slice_get}
+use Rattle.std.specs.List.{AllByRecursion}
+use Rattle.combine_table.specs.declared.comb.Comb.{Comb}
+use Rattle.flume_types.specs.declared.types.Ty.{Ty}
+use Rattle.flume_types.specs.declared.types.Ty.TheVariants as type
+use Rattle.flume_types.specs.Tables.{table_of}
+use Rattle.flume_value.proofs.EachLemmas.{each_from}
+use Rattle.exec_graph.specs.Typing.{NodeTyped, Signatures}
+use Rattle.exec_graph.specs.declared.graph.Place.{Place}
+use Rattle.graph_build.specs.Nodes.{before_last, first_of, made_nodes}
+use Rattle.script_check.specs.Needed.{operands}
+use Rattle.direct_meaning.proofs.TypeLemmas.{taken}
+use Rattle.script_check.specs.declared.made.Made.{Made}
+use Rattle.script_check.specs.declared.made.Made.TheVariants as made
+use Rattle.script_check.specs.Script.{Function, Node}
+use Rattle.written_types.specs.Named.{Named}
+use Rattle.script_laws.specs.WellFormed.{Fits, IsCombined, IsCounted, IsDone, IsGrouped, IsJoined, IsTop, function_at, members_at}
+use Rattle.build_law.specs.Limits.{IsFirstOutput}
+
+module _ (functions : Named Function) (before : Named Node) where
+  -- the types of the nodes before the last
+  abbrev pub inner_types : (made : Made) (t : Ty) → Fits functions before made t → List Ty
+  inner_types (made.Input file columns) t fit = []
+  inner_types (made.Do input f output) t fit = []
+  inner_types (made.Group input) t fit = []
+  inner_types (made.Combine input k) t fit = []
+  inner_types (made.Flatten inputs) t fit = []
+  inner_types (made.Count input) t fit =
+      table_of fit.member type.Int ∷ table_of fit.member (type.List type.Int) ∷ []
+  inner_types (made.Join left right) t fit =
+      table_of fit.key (type.Either fit.left_value fit.right_value)
+      ∷ table_of fit.key (type.Either fit.left_value fit.right_value)
+      ∷ table_of fit.key (type.Either fit.left_value fit.right_value)
+      ∷ table_of fit.key (type.List (type.Either fit.left_value fit.right_value)) ∷ []
+  inner_types (made.Top many input) t fit =
+      table_of type.Int t ∷ table_of type.Int (type.List t)
+      ∷ table_of type.Int (type.List t) ∷ []
+
+  pub inner_count : (made : Made) (t : Ty) (fit : Fits functions before made t)
+      → length (inner_types made t fit) ≡ before_last made
+  inner_count (made.Input file columns) t fit = refl
+  inner_count (made.Do input f output) t fit = refl
+  inner_count (made.Group input) t fit = refl
+  inner_count (made.Combine input k) t fit = refl
+  inner_count (made.Flatten inputs) t fit = refl
+  inner_count (made.Count input) t fit = refl
+  inner_count (made.Join left right) t fit = refl
+  inner_count (made.Top many input) t fit = refl
+
+-- ---- types of places
+
+module _ (s : Signatures) (functions : Named Function) (before : Named Node)
+    (τ : Place → Ty) (gives : ℕ → Place) where
+  -- what is read has the type that it has in the script
+  abbrev pub Known : ℕ → Type 0
+  Known j = (u : Ty) → members_at before j ≡ Some u → τ (gives j) ≡ u
+
+  all_known : (inputs : List ℕ) (t : Ty) (c : Place) → τ c ≡ t
+      → AllByRecursion Known inputs
+      → AllByRecursion (λ j. members_at before j ≡ Some t) inputs
+      → AllByRecursion (λ d. τ d ≡ τ c) (map gives inputs)
+  all_known [] t c is known read = tt
+  all_known (j ∷ inputs) t c is known read =
+      (known.0 t read.0 ∙ sym is, all_known inputs t c is known.1 read.1)
+
+  module _ (calls : (f : ℕ) (function : Function) → function_at functions f ≡ Some function
+      → (s.takes f ≡ function.signature.takes) × (s.gives f ≡ function.signature.gives))
+      (origin source n : ℕ) (rest : List Ty) where
+    abbrev pub Typed : Made → Type 0
+    Typed made =
+        AllByRecursion (λ e. NodeTyped s τ e.number e.node)
+        (made_nodes gives origin source n made)
+
+    abbrev Facts : (made : Made) (t : Ty) → Fits functions before made t → Type 0
+    Facts made t fit =
+        (k : ℕ)
+        → τ (first_of (n + k))
+        ≡ get_or ((inner_types functions before made t fit ++ t ∷ []) ++ rest) k type.Int
+
+    at_start : {t : Ty} → τ (first_of (n + 0)) ≡ t → τ (first_of n) ≡ t
+    at_start {t} h = subst (λ k. τ (first_of k) ≡ t) (add-zero n) h
+
+    do_typed : (input f output : ℕ) (t : Ty) (fit : IsDone functions before input f output t)
+        → output ≡ 0 → Facts (made.Do input f output) t fit → Known input
+        → Typed (made.Do input f output)
+    do_typed input f output t fit first fact known =
+        let call = calls f fit.function fit.calls in
+        let takes : τ (gives input) ≡ s.takes f =
+        known fit.function.signature.takes fit.takes ∙ sym call.0 in
+        let given : slice_get (s.gives f) 0 ≡ Some t =
+        (λ i. slice_get (call.1 i) (sym first i)) ∙ fit.gives in
+        (((t, (takes, given), at_start (fact 0), tt), tt), tt)
+
+    group_typed : (input : ℕ) (t : Ty) (fit : IsGrouped before input t)
+        → Facts (made.Group input) t fit → Known input → Typed (made.Group input)
+    group_typed input t fit fact known = (
+      record {
+        key = fit.key;
+        value = fit.value;
+        takes = known (table_of fit.key fit.value) fit.reads;
+        gives = at_start (fact 0) ∙ fit.gives;
+      },
+      tt,
+    )
+
+    combine_typed : (input : ℕ) (k : Comb) (t : Ty) (fit : IsCombined before input k t)
+        → Facts (made.Combine input k) t fit → Known input → Typed (made.Combine input k)
+    combine_typed input k t fit fact known =
+        let suits = taken k fit.member fit.value fit.suits in (
+          (
+            (
+              t,
+              (
+                refl,
+                record {
+                  key = fit.key;
+                  value = fit.member;
+                  takes = known (table_of fit.key (type.List fit.member)) fit.reads;
+                  suits = suits.0;
+                  gives = fit.gives ∙ ap (table_of fit.key) suits.1;
+                },
+              ),
+              at_start (fact 0),
+              tt,
+            ),
+            tt,
+          ),
+          tt,
+        )
+
+    count_typed : (input : ℕ) (t : Ty) (fit : IsCounted before input t)
+        → Facts (made.Count input) t fit → Known input → Typed (made.Count input)
+    count_typed input t fit fact known =
+        let read : τ (gives input) ≡ fit.member = known fit.member fit.reads in
+        let first : τ (first_of n) ≡ table_of fit.member type.Int = at_start (fact 0) in
+        let second : τ (first_of (n + 1)) ≡ table_of fit.member (type.List type.Int) = fact 1 in (
+          (
+            (
+              table_of fit.member type.Int,
+              (refl, ap (λ u. table_of u type.Int) (sym read)),
+              first,
+              tt,
+            ),
+            tt,
+          ),
+          (
+            record { key = fit.member; value = type.Int; takes = first; gives = second },
+            (
+              (
+                (
+                  t,
+                  (
+                    refl,
+                    record {
+                      key = fit.member;
+                      value = type.Int;
+                      takes = second;
+                      suits = refl;
+                      gives = fit.gives;
+                    },
+                  ),
+                  fact 2,
+                  tt,
+                ),
+                tt,
+              ),
+              tt,
+            ),
+          ),
+        )
+
+    join_typed : (left right : ℕ) (t : Ty) (fit : IsJoined before left right t)
+        → Facts (made.Join left right) t fit → Known left → Known right
+        → Typed (made.Join left right)
+    join_typed left right t fit fact known other =
+        let either : Ty = type.Either fit.left_value fit.right_value in
+        let first : τ (first_of n) ≡ table_of fit.key either = at_start (fact 0) in
+        let second : τ (first_of (n + 1)) ≡ table_of fit.key either = fact 1 in
+        let third : τ (first_of (n + 2)) ≡ table_of fit.key either = fact 2 in
+        let fourth : τ (first_of (n + 3)) ≡ table_of fit.key (type.List either) = fact 3 in (
+          (
+            (
+              table_of fit.key either,
+              (
+                refl,
+                record {
+                  key = fit.key;
+                  left = fit.left_value;
+                  right = fit.right_value;
+                  takes = known (table_of fit.key fit.left_value) fit.reads_left;
+                  gives = refl;
+                },
+              ),
+              first,
+              tt,
+            ),
+            tt,
+          ),
+          (
+            (
+              (
+                table_of fit.key either,
+                (
+                  refl,
+                  record {
+                    key = fit.key;
+                    left = fit.left_value;
+                    right = fit.right_value;
+                    takes = other (table_of fit.key fit.right_value) fit.reads_right;
+                    gives = refl;
+                  },
+                ),
+                second,
+                tt,
+              ),
+              tt,
+            ),
+            (
+              (first ∙ sym third, (second ∙ sym third, tt)),
+              (
+                record { key = fit.key; value = either; takes = third; gives = fourth },
+                (
+                  (
+                    (
+                      t,
+                      (
+                        refl,
+                        record {
+                          key = fit.key;
+                          left = fit.left_value;
+                          right = fit.right_value;
+                          takes = fourth;
+                          gives = fit.gives;
+                        },
+                      ),
+                      fact 4,
+                      tt,
+                    ),
+                    tt,
+                  ),
+                  tt,
+                ),
+              ),
+            ),
+          ),
+        )
+
+    top_typed : (many input : ℕ) (t : Ty) (fit : IsTop before many input t)
+        → Facts (made.Top many input) t fit → Known input → Typed (made.Top many input)
+    top_typed many input t fit fact known =
+        let read : τ (gives input) ≡ t = known t fit.reads in
+        let first : τ (first_of n) ≡ table_of type.Int t = at_start (fact 0) in
+        let second : τ (first_of (n + 1)) ≡ table_of type.Int (type.List t) = fact 1 in
+        let third : τ (first_of (n + 2)) ≡ table_of type.Int (type.List t) = fact 2 in (
+          ((table_of type.Int t, (refl, ap (table_of type.Int) (sym read)), first, tt), tt),
+          (
+            record { key = type.Int; value = t; takes = first; gives = second },
+            (
+              (
+                (
+                  table_of type.Int (type.List t),
+                  (
+                    refl,
+                    record {
+                      key = type.Int;
+                      value = t;
+                      takes = second;
+                      suits = tt;
+                      gives = refl;
+                    },
+                  ),
+                  third,
+                  tt,
+                ),
+                tt,
+              ),
+              (((t, (refl, record { key = type.Int; takes = third }), fact 3, tt), tt), tt),
+            ),
+          ),
+        )
+
+    -- an input is the next one
+    abbrev pub HasInput : Made → Ty → Type 0
+    HasInput (made.Input file columns) t = s.inputs source ≡ t
+    HasInput _ t = Unit {0}
+
+    pub block_typed : (made : Made) (t : Ty) (fit : Fits functions before made t)
+        → IsFirstOutput made → Facts made t fit
+        → HasInput made t
+        → AllByRecursion Known (operands made) → Typed made
+    block_typed (made.Input file columns) t fit first fact input_ known =
+        (at_start (fact 0) ∙ sym input_, tt)
+    block_typed (made.Do input f output) t fit first fact input_ known =
+        do_typed input f output t fit first fact known.0
+    block_typed (made.Group input) t fit first fact input_ known =
+        group_typed input t fit fact known.0
+    block_typed (made.Combine input k) t fit first fact input_ known =
+        combine_typed input k t fit fact known.0
+    block_typed (made.Flatten inputs) t fit first fact input_ known = (
+      all_known inputs t (first_of n) (at_start (fact 0)) known
+          (each_from (λ j. members_at before j ≡ Some t) inputs fit.read),
+      tt,
+    )
+    block_typed (made.Count input) t fit first fact input_ known =
+        count_typed input t fit fact known.0
+    block_typed (made.Join left right) t fit first fact input_ known =
+        join_typed left right t fit fact known.0 known.1.0
+    block_typed (made.Top many input) t fit first fact input_ known =
+        top_typed many input t fit fact known.0
