@@ -18,7 +18,7 @@ fn refuses_words(rt: HostRuntime) -> Result<(), Fail> {
         (&["flume"], 2, USAGE),
         (&["flume", "run", "-s"], 2, USAGE),
         (&["flume", "run", ""], 2, USAGE),
-        (&["flume", "plan", "s"], 2, USAGE),
+        (&["flume", "make", "s"], 2, USAGE),
         (&["flume", "run", "s", "s"], 2, USAGE),
         (&["flume", "run", "a\"\n"], 11, b"no file: \"a\\\"\\n\"\n"),
     ];
