@@ -112,7 +112,8 @@ module _ (w : World) (at : ℕ → Collection) (m : Place → Collection) (gives
                 (
                   (
                     fifth ∙ is
-                        ∙ sym (join_is w origin (at left) (at right) (settled left).set (settled right).set)
+                        ∙ sym (join_is w origin (at left) (at right) (settled left).set
+                        (settled right).set)
                         ∙ ap (through w split) (sym fourth),
                     tt,
                     tt,
@@ -143,7 +144,8 @@ module _ (w : World) (at : ℕ → Collection) (m : Place → Collection) (gives
               (
                 (
                   fourth ∙ is
-                      ∙ sym (top_is w origin many (at input) (settled input).set (settled input).bag)
+                      ∙ sym (top_is w origin many (at input) (settled input).set
+                      (settled input).bag)
                       ∙ ap (through w spread) (sym third),
                   tt,
                   tt,

@@ -177,7 +177,12 @@ block_low giving origin source n (made.Join left right) h = (
           low_one giving (n + 1) right (let below = h.1.0 in omega arith);
     },
     (
-      record { gives = refl; size = refl; reads = ((refl, omega arith), ((refl, omega arith), tt)) },
+      record {
+        gives = refl;
+        size = refl;
+        reads =
+            ((refl, omega arith), ((refl, omega arith), tt));
+      },
       (
         record { gives = refl; size = refl; reads = low_next (n + 2) (n + 3) (omega arith) },
         (record { gives = refl; size = refl; reads = low_next (n + 3) (n + 4) (omega arith) }, tt),

@@ -1,4 +1,5 @@
--- The collections that are made of a script: which they are, and that what they are made of is made.
+-- The collections that are made of a script: which they are, and that what they are made of is
+-- made.
 use Rattle.std.proofs.Common.{◌≡◌, ℕ, zero, suc, Bool, true, false, List, [], ◌∷◌, ◌++◌, length, get_or, Option, Some, None, refl, sym, ◌∙◌, subst, arith, append_assoc, append-nil, length-append}
 use Rattle.std.specs.Prelude.{option_map, option_and_then, if◌then◌else◌}
 use Rattle.flume_value.specs.declared.value.Value.{Value}

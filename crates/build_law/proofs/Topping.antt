@@ -57,7 +57,8 @@ top_are n many [] bag h g =
     ((λ i. flat_map (spread_listed i)
     (combined_each (combined (by.Top many)) (zeros_grouped bag i)))
     ∙ listed-top many bag)
-    ∙ bag_of-settled (greatest many (bag_of bag)) (greatest-IsSorted many bag) ∙ ap (greatest many) g)
+    ∙ bag_of-settled (greatest many (bag_of bag)) (greatest-IsSorted many bag)
+    ∙ ap (greatest many) g)
     (ap (λ ts. trap_set (trap_set (map (trap_named n) ts)))
     (ap (traps_of_each (combined (by.Top many))) (zeros_grouped bag) ∙ top-traps many bag))
 top_are n many (trap ∷ traps) bag h g =
@@ -78,5 +79,6 @@ top_is w n many c h g =
     (through_combined w n false (by.Top many)
     (by_key (through w (only_label n false does.Solo) c))
     ∙ ap (λ d. combined_by n (by.Top many) (by_key d))
-    (through_given w n false does.Solo under_zero (solo_answers w) c ∙ same_collection _ _ _ _ refl h))
+    (through_given w n false does.Solo under_zero (solo_answers w) c
+    ∙ same_collection _ _ _ _ refl h))
     ∙ top_are n many c.traps c.bag h g

@@ -249,7 +249,8 @@ module _ (script : Script) (well : IsWellFormed script) where
         whole_is more here many ones.0)
         (all_typed (before ++ entry ∷ []) nodes (suc origin) (next_source source w) (behind n w)
         (pre ++ types) (given ++ own) fit.1
-        (regrouped script.nodes before (entry ∷ []) nodes is) (one_longer before entry ∙ ap suc size)
+        (regrouped script.nodes before (entry ∷ []) nodes is)
+        (one_longer before entry ∙ ap suc size)
         (regrouped all_types pre types rest whole_is)
         (next_types script.functions before mk t fit.0 b pre n more)
         (regrouped (inputs_of script) given own later here)

@@ -17,7 +17,8 @@ use Rattle.claim_board.proofs.Totals.{one_if_ne, times-cons}
 pub below_latest : (n d : ℕ) (xs : List ℕ) → All (λ x. x < n) xs → 0 < times d xs → d < n
 below_latest n d [] h some_time = absurd (omega arith)
 below_latest n d (x ∷ xs) h some_time = ⊎_elim
-    (λ (y : (eqb x d ≡ true) × (x ≡ d)). subst (λ (k : ℕ). k < n) y.1 (All-head (λ y. y < n) x xs h))
+    (λ (y : (eqb x d ≡ true) × (x ≡ d)). subst (λ (k : ℕ). k < n) y.1
+    (All-head (λ y. y < n) x xs h))
     (λ (y : (eqb x d ≡ false) × (x ≢ d)).
     let none : one_if (eqb x d) ≡ 0 = ap one_if y.0 in
     below_latest n d xs (All-tail (λ y. y < n) x xs h) (omega (arith, times-cons d x xs)))
@@ -28,7 +29,12 @@ module _ (b : Board) (p : PassState) (d : Drawn) (h : IsOpenDraw b p d) where
   claimable_after_draw most n =
       let c = h.claimable in
       let more = sum_by_push (λ (x : ℕ). one_if (eqb x d.number)) p.draws n in
-      record { claimable = ((let own = c.0 in omega arith), c.1, c.2, c.3); task = h.task; attempt = h.attempt }
+      record {
+        claimable = ((let own = c.0 in omega arith), c.1, c.2, c.3);
+        task = h.task;
+        attempt =
+            h.attempt;
+      }
 
   pub claimable_after_look : (t x : ℕ) → IsOpenDraw b (looked p t x) d
   claimable_after_look t x = record { claimable = h.claimable; task = h.task; attempt = h.attempt }
@@ -38,35 +44,61 @@ module _ (b : Board) (p : PassState) (d : Drawn) (h : IsOpenDraw b p d) where
       let c = h.claimable in
       let more = sum_by_push (λ (x : ℕ). one_if (eqb x d.number)) p.won n in
       let none = one_if_ne n d.number other in
-      record { claimable = (c.0, c.1, (let won = c.2 in omega arith), c.3); task = h.task; attempt = h.attempt }
+      record {
+        claimable = (c.0, c.1, (let won = c.2 in omega arith), c.3);
+        task = h.task;
+        attempt =
+            h.attempt;
+      }
 
   pub claimable_after_loss : (n x : ℕ) → n ≢ d.number → IsOpenDraw b (losing p n x) d
   claimable_after_loss n x other =
       let c = h.claimable in
       let more = sum_by_push (λ (y : ℕ × ℕ). one_if (eqb y.0 d.number)) p.lost (n, x) in
       let none = one_if_ne n d.number other in
-      record { claimable = (c.0, c.1, c.2, (let lost = c.3 in omega arith)); task = h.task; attempt = h.attempt }
+      record {
+        claimable = (c.0, c.1, c.2, (let lost = c.3 in omega arith));
+        task =
+            h.task;
+        attempt = h.attempt;
+      }
 
 -- whatever a draw finds
-pub draw_keeps : (b : Board) (m w : Seated) (old : PassState) (n : ℕ) → pass_in m.0 ≡ old → Steps m w (λ k p q. Drawing k p n q) → KeepsClaims b old (pass_in w.0)
+pub draw_keeps : (b : Board) (m w : Seated) (old : PassState) (n : ℕ) → pass_in m.0 ≡ old
+    → Steps m w (λ k p q. Drawing k p n q) → KeepsClaims b old (pass_in w.0)
 draw_keeps b m w old n is goes d h =
-    subst (λ (r : PassState). IsOpenDraw b r d) (sym goes.1.0) (claimable_after_draw b (pass_in m.0) d (subst (λ (r : PassState). IsOpenDraw b r d) (sym is) h) (limit_at m.0.size) n)
+    subst (λ (r : PassState). IsOpenDraw b r d) (sym goes.1.0)
+    (claimable_after_draw b (pass_in m.0) d
+    (subst (λ (r : PassState). IsOpenDraw b r d) (sym is) h) (limit_at m.0.size) n)
 
 -- the draw that an attempt of a task names
-named_draw : (tasks d t a : ℕ) → t ≡ task_of tasks d → a ≡ attempt_of tasks d → draw_of tasks (t + 1 - 1) a ≡ d
+named_draw : (tasks d t a : ℕ) → t ≡ task_of tasks d → a ≡ attempt_of tasks d
+    → draw_of tasks (t + 1 - 1) a ≡ d
 named_draw tasks d t a at by =
     let x : t + 1 - 1 ≡ t = omega arith in let y : a - 1 ≡ d / tasks = omega arith in
-    ap (λ (z : ℕ). (a - 1) * tasks + z) (x ∙ at) ∙ (ap (λ (z : ℕ). z * tasks + d % tasks) y ∙ div-add-mod' d tasks)
+    ap (λ (z : ℕ). (a - 1) * tasks + z) (x ∙ at)
+    ∙ (ap (λ (z : ℕ). z * tasks + d % tasks) y ∙ div-add-mod' d tasks)
 
 -- whatever a claim finds
-claim_keeps : (b : Board) (p q : PassState) (found n : ℕ) → MatchBool (eqb found 0) (q ≡ winning p n) (q ≡ losing p n found) → KeepsOtherClaims b p q n
+claim_keeps : (b : Board) (p q : PassState) (found n : ℕ)
+    → MatchBool (eqb found 0) (q ≡ winning p n) (q ≡ losing p n found) → KeepsOtherClaims b p q n
 claim_keeps b p q found n goes d other h = ⊎_elim
-    (λ (y : (eqb found 0 ≡ true) × (found ≡ 0)). subst (λ (r : PassState). IsOpenDraw b r d) (sym (subst (λ (x : Bool). MatchBool x (q ≡ winning p n) (q ≡ losing p n found)) y.0 goes)) (claimable_after_win b p d h n other))
-    (λ (y : (eqb found 0 ≡ false) × (found ≢ 0)). subst (λ (r : PassState). IsOpenDraw b r d) (sym (subst (λ (x : Bool). MatchBool x (q ≡ winning p n) (q ≡ losing p n found)) y.0 goes)) (claimable_after_loss b p d h n found other))
+    (λ (y : (eqb found 0 ≡ true) × (found ≡ 0)). subst (λ (r : PassState). IsOpenDraw b r d)
+    (sym (subst (λ (x : Bool). MatchBool x (q ≡ winning p n) (q ≡ losing p n found)) y.0 goes))
+    (claimable_after_win b p d h n other))
+    (λ (y : (eqb found 0 ≡ false) × (found ≢ 0)). subst (λ (r : PassState). IsOpenDraw b r d)
+    (sym (subst (λ (x : Bool). MatchBool x (q ≡ winning p n) (q ≡ losing p n found)) y.0 goes))
+    (claimable_after_loss b p d h n found other))
     (eqb_tells found 0)
 
-pub commit_keeps : (b : Board) (m w : Seated) (old : PassState) (found t a n : ℕ) → pass_in m.0 ≡ old → m.0.size.tasks ≡ b.tasks → t ≡ task_of b.tasks n → a ≡ attempt_of b.tasks n
-    → Steps m w (λ k p q. Claiming k p (draw_of k.tasks (t + 1 - 1) a) found q) → KeepsOtherClaims b old (pass_in w.0) n
+pub commit_keeps : (b : Board) (m w : Seated) (old : PassState) (found t a n : ℕ) → pass_in m.0
+    ≡ old → m.0.size.tasks ≡ b.tasks → t ≡ task_of b.tasks n → a ≡ attempt_of b.tasks n
+    → Steps m w (λ k p q. Claiming k p (draw_of k.tasks (t + 1 - 1) a) found q)
+    → KeepsOtherClaims b old (pass_in w.0) n
 commit_keeps b m w old found t a n is size task attempt goes =
-    let named : draw_of m.0.size.tasks (t + 1 - 1) a ≡ n = ap (λ (k : ℕ). draw_of k (t + 1 - 1) a) size ∙ named_draw b.tasks n t a task attempt in
-    subst (λ (x : PassState × ℕ). KeepsOtherClaims b x.0 (pass_in w.0) x.1) (λ i. (is i, named i)) (claim_keeps b (pass_in m.0) (pass_in w.0) found (draw_of m.0.size.tasks (t + 1 - 1) a) goes.1.0)
+    let named : draw_of m.0.size.tasks (t + 1 - 1) a
+    ≡ n = ap (λ (k : ℕ). draw_of k (t + 1 - 1) a) size
+    ∙ named_draw b.tasks n t a task attempt in
+    subst (λ (x : PassState × ℕ). KeepsOtherClaims b x.0 (pass_in w.0) x.1) (λ i. (is i, named i))
+    (claim_keeps b (pass_in m.0) (pass_in w.0) found (draw_of m.0.size.tasks (t + 1 - 1) a)
+    goes.1.0)

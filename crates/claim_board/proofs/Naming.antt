@@ -28,4 +28,5 @@ pub same_table : (y z : TableId) (j k : Size) → board_of y j ≡ board_of z k 
 same_table y z j k e = ap (λ (b : Board). table_of b.name) e
 
 pub same_size : (y z : TableId) (j k : Size) → board_of y j ≡ board_of z k → j ≡ k
-same_size y z j k e = ap (λ (b : Board). record { tasks = b.tasks; tries = b.tries; crew = b.crew }) e
+same_size y z j k e = ap (λ (b : Board). record { tasks = b.tasks; tries = b.tries; crew = b.crew })
+    e

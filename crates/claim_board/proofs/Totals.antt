@@ -59,10 +59,12 @@ module _ {A : Type 0} (P : A → Type 0) where
   all_map Q xs f h = All-weaker P Q f xs h
 
 pub one_if_eq : (x y : ℕ) → x ≡ y → one_if (eqb x y) ≡ 1
-one_if_eq x y e = ⊎_elim (λ (t : (eqb x y ≡ true) × (x ≡ y)). ap one_if t.0) (λ (t : (eqb x y ≡ false) × (x ≢ y)). absurd (t.1 e)) (eqb_tells x y)
+one_if_eq x y e = ⊎_elim (λ (t : (eqb x y ≡ true) × (x ≡ y)). ap one_if t.0)
+    (λ (t : (eqb x y ≡ false) × (x ≢ y)). absurd (t.1 e)) (eqb_tells x y)
 
 pub one_if_ne : (x y : ℕ) → x ≢ y → one_if (eqb x y) ≡ 0
-one_if_ne x y n = ⊎_elim (λ (t : (eqb x y ≡ true) × (x ≡ y)). absurd (n t.1)) (λ (t : (eqb x y ≡ false) × (x ≢ y)). ap one_if t.0) (eqb_tells x y)
+one_if_ne x y n = ⊎_elim (λ (t : (eqb x y ≡ true) × (x ≡ y)). absurd (n t.1))
+    (λ (t : (eqb x y ≡ false) × (x ≢ y)). ap one_if t.0) (eqb_tells x y)
 
 -- a fact that depends on whether two numbers are equal
 pub at_test : (x y : ℕ) (F : ℕ → Type 0) → (x ≡ y → F 1) → (x ≢ y → F 0) → F (one_if (eqb x y))

@@ -116,7 +116,8 @@ marked_alike h i (Pdo c f) e = refl
 marked_alike h i (Gbk c o l k) e = ap (λ m. Gbk c o l m) (e k)
 
 -- the nodes with marks that are alike
-pub marked_same : (s t : ℕ → Option Comb → Option Comb) → ((n : ℕ) (k : Option Comb) → s n k ≡ t n k)
+pub marked_same : (s t : ℕ → Option Comb → Option Comb)
+    → ((n : ℕ) (k : Option Comb) → s n k ≡ t n k)
     → (es : List Entry) → map (marked_entry s) es ≡ map (marked_entry t) es
 marked_same s t h [] = refl
 marked_same s t h (e ∷ es) =

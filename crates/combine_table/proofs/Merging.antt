@@ -1,4 +1,5 @@
--- Merging keeps the shape, is associative and commutative, and has the empty bag's accumulator as its unit.
+-- Merging keeps the shape, is associative and commutative, and has the empty bag's accumulator as
+-- its unit.
 use Rattle.std.proofs.Common.{◌≡◌, ℕ, ◌≤◌, ℤ, pos, ◌+ℤ◌, Bool, true, false, ◌&&◌, ◌||◌, List, [], ◌∷◌, ◌++◌, length, refl, sym, ap, ◌∙◌, subst, arith, length-take}
 use Rattle.std.specs.Int.{w128}
 use Rattle.std.specs.Int.RustNames.{FitsSigned}

@@ -104,4 +104,19 @@ module _ (line : ℕ) where
       → slots_of line (parsed.Pick c a b) s ≡ pick_slots line (slots_of line) c a b s
   slots-Pick c a b s = at _ _ s (parsed.outs-Pick c a b)
 
-pub ruleset slots_rules = (slots-Number, slots-Text, slots-Bool, slots-Name, slots-Empty, slots-Unary, slots-Binary, slots-Field, slots-Index, slots-Record, slots-List, slots-Side, slots-Concat, slots-Pick)
+pub ruleset slots_rules = (
+  slots-Number,
+  slots-Text,
+  slots-Bool,
+  slots-Name,
+  slots-Empty,
+  slots-Unary,
+  slots-Binary,
+  slots-Field,
+  slots-Index,
+  slots-Record,
+  slots-List,
+  slots-Side,
+  slots-Concat,
+  slots-Pick,
+)

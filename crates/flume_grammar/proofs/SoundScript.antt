@@ -120,7 +120,10 @@ module _ (limits : Limits) (fair : IsFair limits) where
               (let z : Body × ℕ = (body.If n a.got.0 c.got.0 [], max (max a.got.1 c.got.1) 0 + 1) in
               moved (key keyword.If n ∷ ts) (key keyword.If n ∷ ts) c.rest us z x refl (r
               ∙ v.1)
-              (ap (λ (k : Block). (body.If n a.got.0 c.got.0 k.0, max (max a.got.1 c.got.1) k.1 + 1)) (sym o) ∙ v.0) (g.if_ e f))
+              (ap (λ (k : Block). (
+                body.If n a.got.0 c.got.0 k.0,
+                max (max a.got.1 c.got.1) k.1 + 1,
+              )) (sym o) ∙ v.0) (g.if_ e f))
           | inr (m, ws, r, k) ↦ moved (key keyword.If n ∷ ts) (key keyword.If n ∷ ts) d.rest us y x
               refl v.1 v.0 (g.if_else e (subst (λ z. (IsBlock limits) a.rest z c.got.0 c.got.1) r f)
               k)

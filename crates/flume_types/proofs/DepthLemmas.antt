@@ -5,7 +5,9 @@ use Rattle.flume_types.specs.declared.types.Ty.TheVariants as variant
 use Rattle.flume_types.specs.declared.types.Field.{Field}
 use Rattle.flume_types.specs.Depth.{deepest, layer_depth, depth_of}
 
-deepest_mapped : {X Y : Type 0} (h : Field X → Field Y) (m : Y → ℕ) (n : X → ℕ) → ((f : Field X) → m (h f).ty ≡ n f.ty) → (fields : List (Field X)) → deepest m (map h fields) ≡ deepest n fields
+deepest_mapped : {X Y : Type 0} (h : Field X → Field Y) (m : Y → ℕ) (n : X → ℕ)
+    → ((f : Field X) → m (h f).ty ≡ n f.ty) → (fields : List (Field X)) → deepest m (map h fields)
+    ≡ deepest n fields
 deepest_mapped h m n e [] = refl
 deepest_mapped h m n e (f ∷ fields) = λ i. max (e f i) (deepest_mapped h m n e fields i)
 
@@ -28,10 +30,13 @@ depth_of-Text = depth_of-step variant.Text ∙ ap (layer_depth depth_of) variant
 pub depth_of-List : (t : Ty) → depth_of (variant.List t) ≡ depth_of t + 1
 depth_of-List t = depth_of-step (variant.List t) ∙ ap (layer_depth depth_of) (variant.outs-List t)
 
-pub depth_of-Rec : (fields : List (Field Ty)) → depth_of (variant.Rec fields) ≡ deepest depth_of fields + 1
-depth_of-Rec fields = depth_of-step (variant.Rec fields) ∙ ap (layer_depth depth_of) (variant.outs-Rec fields)
+pub depth_of-Rec : (fields : List (Field Ty)) → depth_of (variant.Rec fields)
+    ≡ deepest depth_of fields + 1
+depth_of-Rec fields = depth_of-step (variant.Rec fields)
+    ∙ ap (layer_depth depth_of) (variant.outs-Rec fields)
 
 pub depth_of-Either : (t u : Ty) → depth_of (variant.Either t u) ≡ max (depth_of t) (depth_of u) + 1
-depth_of-Either t u = depth_of-step (variant.Either t u) ∙ ap (layer_depth depth_of) (variant.outs-Either t u)
+depth_of-Either t u = depth_of-step (variant.Either t u)
+    ∙ ap (layer_depth depth_of) (variant.outs-Either t u)
 
 pub ruleset depth_rules = (depth_of-List, depth_of-Rec, depth_of-Either)

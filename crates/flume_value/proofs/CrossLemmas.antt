@@ -35,4 +35,13 @@ Value-send = search (sendable, crosses, knot.crosses, Str-send, Pile-send, Held-
 pub Value-sync : IsSync value.the_row
 Value-sync = search (sendable, crosses, knot.crosses, Str-sync, Pile-sync, Held-sync) depth 60
 
-pub ruleset values_cross = (Str-send, Str-sync, Pile-send, Pile-sync, Held-send, Held-sync, Value-send, Value-sync)
+pub ruleset values_cross = (
+  Str-send,
+  Str-sync,
+  Pile-send,
+  Pile-sync,
+  Held-send,
+  Held-sync,
+  Value-send,
+  Value-sync,
+)

@@ -107,7 +107,8 @@ put_right scales es n v x first now new f found has is puts =
 -- what a node reads is below it
 pub reads_below : (es : List Entry) (turns less n : ℕ) (x : Node) → less + 1 ≡ turns
     → IsBelow es turns n → node_at es n ≡ Some x → AllBelow es less (reads x)
-reads_below es turns less n x e b h = Each-both (IsThere es) (λ (c : Place). b.rank c.node < b.rank n)
+reads_below es turns less n x e b h =
+    Each-both (IsThere es) (λ (c : Place). b.rank c.node < b.rank n)
     (λ (c : Place). IsBelow es less c.node) (λ c t l. let y = there_found es c t in
     let under = b.below in record {
       there = b.there;
@@ -144,7 +145,8 @@ fills_more scales es first now new f g =
     record { partly = g.partly; grows = λ n v h. g.grows n v (f.grows n v h) }
 
 -- the loop's next collection, by whatever default
-pub filling_more : (scales : List ℕ) (es : List Entry) (turns i : ℕ) (places : List Place) (d : Place)
+pub filling_more : (scales : List ℕ) (es : List Entry) (turns i : ℕ) (places : List Place)
+    (d : Place)
     (first now new : ℕ → Option ℕ) → i < length places
     → IsFilling scales es turns places (drop i places) first now → Fills scales es now new
     → Has new (get_or places i d).node

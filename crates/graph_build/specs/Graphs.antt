@@ -11,7 +11,8 @@ use Rattle.graph_build.specs.Wanted.{wanted}
 
 -- ---- numbers
 
--- the number of the last node of a collection whose first has the number n; 0 where it is not needed
+-- the number of the last node of a collection whose first has the number n; 0 where it is not
+-- needed
 abbrev pub last_node : ℕ → Option Made → ℕ
 last_node n None = 0
 last_node n (Some made) = n + before_last made

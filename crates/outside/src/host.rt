@@ -42,8 +42,8 @@ pub trait Host {
 
     /// Asks whether the attempt may go on.
     ///
-    /// A host that tells after the call told before it, and has noted this place: as passed, or where
-    /// it is down among its downs. Down comes only where the count rose.
+    /// A host that tells after the call told before it, and has noted this place: as passed, or
+    /// where it is down among its downs. Down comes only where the count rose.
     fn pass(&mut self, at: At) -> Result<(), Down>
         ensures notes { IfSome (notes self.new) (λ new.
             IsSomeAnd (notes self.old) (λ old. new ≡ noted old at (is_ok result))) }

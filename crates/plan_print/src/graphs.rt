@@ -201,7 +201,8 @@ fn push_output(
     place: Place,
 ) -> Result<(), AllocError>
     requires { number < length program.now.script.outputs }
-    ensures { (output : List ℕ × Output) → slice_get program.now.script.outputs number ≡ Some output →
+    ensures { (output : List ℕ × Output) →
+        slice_get program.now.script.outputs number ≡ Some output →
         OnOk result (text.new.items ≡ text.old.items
         ++ spec.output_line program.now.script output place) }
 {

@@ -1,4 +1,5 @@
--- Where files are told, one refusal at most has a cause, and none where a call has all that it needs.
+-- Where files are told, one refusal at most has a cause, and none where a call has all that it
+-- needs.
 use Rattle.std.proofs.Common.{◌≡◌, ℕ, ◌<◌, inl, inr, ◌⊎◌, List, [], ◌∷◌, ◌++◌, length, Option, Some, None, Result, Ok, Err, ap, sym, ◌∙◌, subst, arith, refl}
 use Rattle.std.specs.Prelude.{IsSome, IsSomeAnd}
 use Rattle.csv_rows.specs.Rows.{rows_of}

@@ -64,7 +64,8 @@ module _ (line : ℕ) (s after : State) (good : IsGood s) where
       let t = both (whole_type line type s.types) _ after new.then in
       let columns = both (or_fault line NotFlat (input_columns_of t.part)) _ after t.then in
       subst IsGood (ok-same _ after columns.then)
-      (node-more line few.part s name _ good few.first (there line NotFlat _ columns.part columns.first))
+      (node-more line few.part s name _ good few.first
+      (there line NotFlat _ columns.part columns.first))
 
   function-good : (function : WrittenFunction) → spec.rule_function line function s ≡ Ok after
       → IsGood after
@@ -92,7 +93,8 @@ module _ (line : ℕ) (s after : State) (good : IsGood s) where
       let node = both (made_by line by s) _ after new.then in
       let low = both (shallow line node.part.type) _ after node.then in
       subst IsGood (ok-same _ after low.then)
-      (node-more line few.part s name node.part good few.first (made-fits line s by node.part node.first))
+      (node-more line few.part s name node.part good few.first
+      (made-fits line s by node.part node.first))
 
   output-good : (name file : List ℕ) → spec.rule_output line name file s ≡ Ok after → IsGood after
   output-good name file e =

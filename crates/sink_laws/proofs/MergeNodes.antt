@@ -66,7 +66,8 @@ among_stays c e es (d ∷ ins) h i =
         let z : same_place c d ≡ false =
         ap (same_place c) (sym (same_true (place e 0) d s)) ∙ h in
         let l : among c ins ≡ true = rw z at k in
-        among-append c es (spliced e es ins) ∙ or_right (among c es) (among c (spliced e es ins)) (f l)
+        among-append c es (spliced e es ins)
+        ∙ or_right (among c es) (among c (spliced e es ins)) (f l)
     by false s k f = piece (same_place c d) k f
 
 -- nothing else is

@@ -35,7 +35,8 @@ NodesOk g = AllByRecursion (λ e. IsNodeOk g e.number e.node) g.nodes
 
 pub two_kinds : (g : Graph) (n q : ℕ) (x y : Node) → node_at g.nodes n ≡ Some x
     → node_at g.nodes q ≡ Some y → (x ≡ y → ⊥) → n ≡ q → ⊥
-two_kinds g n q x y a b h e = let t : node_at g.nodes n ≡ node_at g.nodes q = ap (node_at g.nodes) e in
+two_kinds g n q x y a b h e = let t : node_at g.nodes n
+    ≡ node_at g.nodes q = ap (node_at g.nodes) e in
     let s : x ≡ y = cc in h s
 
 -- ---- the nodes that stood there

@@ -204,7 +204,8 @@ IsTyped-merged s g f ins e es can typed =
           (λ c t. (
             t,
             λ i. Each-weaker (λ (d : Place). types d ≡ types (place e 0))
-                (λ (d : Place). types d ≡ types (place f 0)) (λ d u. u ∙ sym (ap types i) ∙ t) es at_e,
+                (λ (d : Place). types d ≡ types (place f 0)) (λ d u. u ∙ sym (ap types i) ∙ t) es
+                at_e,
           ))
           ins at_f)),
     )

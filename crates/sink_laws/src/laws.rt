@@ -9,8 +9,8 @@ ghost use Rattle.graph_laws.specs.Single.{IsUnfused};
 ghost use Rattle.sink_laws.specs.Merging.{CanMerge, merge_step};
 ghost use Rattle.sink_laws.specs.Sinking.{CanSink, sink_step};
 
-/// A merge of a Flatten into one that has it among its inputs, and room for the inputs in its place,
-/// keeps a graph well-formed and its meaning the same, and keeps types and one step a Pdo.
+/// A merge of a Flatten into one that has it among its inputs, and room for the inputs in its
+/// place, keeps a graph well-formed and its meaning the same, and keeps types and one step a Pdo.
 pub fn merge_law()
     ensures well_formed { (g : Graph) (f : ℕ) (ins : List Place) (e : ℕ) (es : List Place) →
         IsGraphOk g → CanMerge g f ins e es → IsGraphOk (merge_step g f ins e es) }
@@ -22,8 +22,8 @@ pub fn merge_law()
         IsUnfused g → IsUnfused (merge_step g f ins e es) }
 {}
 
-/// A step that puts a Pdo below the Flatten that it reads keeps a graph well-formed, where there are
-/// not too many nodes after it, and its meaning the same, and keeps types and one step a Pdo.
+/// A step that puts a Pdo below the Flatten that it reads keeps a graph well-formed, where there
+/// are not too many nodes after it, and its meaning the same, and keeps types and one step a Pdo.
 pub fn sink_law()
     ensures well_formed { (g : Graph) (n p : ℕ) (f : Forest) (ins : List Place) → IsGraphOk g →
         CanSink g n p f ins → total_size (sink_step g n p f ins).nodes ≤ most →

@@ -78,7 +78,9 @@ names-kept old new more names held =
 
 -- ---- one name more
 
-module _ {A B S : Type 0} (f : A → B) (old new : IndexMap (List ℕ) A S) (name : List ℕ) (x : A) (absent : find name (map (mapped f) old.entries) ≡ None) (put : new.entries ≡ insert_entry bytes_eq old.entries name x) where
+module _ {A B S : Type 0} (f : A → B) (old new : IndexMap (List ℕ) A S) (name : List ℕ) (x : A)
+    (absent : find name (map (mapped f) old.entries) ≡ None)
+    (put : new.entries ≡ insert_entry bytes_eq old.entries name x) where
   pub entries-put : new.entries ≡ old.entries ++ (name, x) ∷ []
   entries-put =
       put

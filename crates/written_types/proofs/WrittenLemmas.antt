@@ -74,7 +74,8 @@ fields-kept old new more parts within =
     same-map (field_at new) (field_at old) (λ (part : Part). part.ty < length old)
     (λ part in_ i. record { name = part.name; ty = more.same part.ty in_ i }) parts within
 
-module _ (line : ℕ) (fields : List (Field Ty)) (names : List (List ℕ)) (types : List tree.Type) (known : Named Ty) (i : ℕ) where
+module _ (line : ℕ) (fields : List (Field Ty)) (names : List (List ℕ)) (types : List tree.Type)
+    (known : Named Ty) (i : ℕ) where
   abbrev rest : Checked (List (Field Ty))
   rest = fields_behind line (written line) fields (drop i names) (drop i types) known
 
@@ -95,7 +96,9 @@ module _ (line : ℕ) (fields : List (Field Ty)) (names : List (List ℕ)) (type
       no-types [] = refl
       no-types (name ∷ names) = refl
 
-  module _ (name : List ℕ) (type : tree.Type) (name_in : i < length names) (type_in : i < length types) (name_is : name ≡ get_or names i name) (type_is : type ≡ get_or types i type) where
+  module _ (name : List ℕ) (type : tree.Type) (name_in : i < length names)
+      (type_in : i < length types) (name_is : name ≡ get_or names i name)
+      (type_is : type ≡ get_or types i type) where
     after : Ty → Checked (List (Field Ty))
     after t =
         fields_behind line (written line) (fields ++ record { name = name; ty = t } ∷ [])

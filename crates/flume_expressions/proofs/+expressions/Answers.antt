@@ -43,7 +43,8 @@ pub expression::continued-returns-in_err-left : goal.expression::continued-retur
 expression::continued-returns-in_err-left t c =
     let inner = expression_below c.args.limit in
     let part = next_suffix c.args.limit inner c.args.least in
-    let s = sym (c.in-Some.ensures ∙ ap (λ o. suffix_of o c.more.left.rank c.args.least) c.peek.ensures) in
+    let s = sym (c.in-Some.ensures
+    ∙ ap (λ o. suffix_of o c.more.left.rank c.args.least) c.peek.ensures) in
     let p = err_from_is_err_and c.from_residual.result c.from_residual.ensures.1 in
     rw (p.1, p.2) (λ other.
     lost (all_of (goes_on c.args.least) part c.args.first c.args.tokens.now) _ _

@@ -23,6 +23,8 @@ join_seat-requires c =
       same_table _ _ _ _ of,
       ap (λ (m : Seated). m.1) me,
       c.requires.table.2,
-      joins_as words.key c.args.maker.me.0.made c.loop-pass.maker.me.0.passes _ _ (pass_in c.pass.inside.seat.me.0) _ _ i.first (ap (λ (m : Seated). m.0) i.view)
-          (ap (λ (m : Seated). m.0) me ∙ ap (λ (k : _). pass_view k (pass_in c.pass.inside.seat.me.0)) (same_size _ _ _ _ of)),
+      joins_as words.key c.args.maker.me.0.made c.loop-pass.maker.me.0.passes _ _
+          (pass_in c.pass.inside.seat.me.0) _ _ i.first (ap (λ (m : Seated). m.0) i.view)
+          (ap (λ (m : Seated). m.0) me ∙ ap
+          (λ (k : _). pass_view k (pass_in c.pass.inside.seat.me.0)) (same_size _ _ _ _ of)),
     )

@@ -8,5 +8,6 @@ split_seat-seat-requires c =
     let i = c.loop-made.invariant in (
       i.table,
       c.requires.table.2,
-      makes_as c.args.words.now.key c.loop-made._made [] _ _ i.first (ap (λ (m : Seated). m.0) i.view) (omega arith),
+      makes_as c.args.words.now.key c.loop-made._made [] _ _ i.first
+          (ap (λ (m : Seated). m.0) i.view) (omega arith),
     )

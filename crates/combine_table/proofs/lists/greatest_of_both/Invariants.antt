@@ -8,6 +8,7 @@ abbrev pub invariant-loop : goal.invariant-loop
 invariant-loop l = record {
   left : IsSorted value_cmp l.left.items;
   right : IsSorted value_cmp l.right.items;
-  all : bag_of (l.initial.left.items ++ l.initial.right.items) ≡ bag_of (l.left.items ++ l.right.items) ++ reverse l.descending.items;
+  all : bag_of (l.initial.left.items ++ l.initial.right.items)
+      ≡ bag_of (l.left.items ++ l.right.items) ++ reverse l.descending.items;
   count : vec_len l.descending ≡ l.counter;
 }

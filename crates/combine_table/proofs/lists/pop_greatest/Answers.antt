@@ -4,16 +4,22 @@ use Rattle.combine_table.proofs.Popped.{upto_last, popped_last, right_greatest, 
 use Rattle.combine_table.proofs.lists.pop_greatest.Goals as goal
 
 pub returns-in-None-clause-greatest : goal.returns-in-None-clause-greatest
-returns-in-None-clause-greatest c = right_alone _ _ _ _ _ c.deref.ensures.value c.in-None.ensures.value c.requires.right c.pop.ensures.items
+returns-in-None-clause-greatest c =
+    right_alone _ _ _ _ _ c.deref.ensures.value c.in-None.ensures.value c.requires.right
+    c.pop.ensures.items
 
 pub returns-in-None-last-clause-left : goal.returns-in-None-last-clause-left
-returns-in-None-last-clause-left c = popped-IsSorted _ _ _ c.requires.left c.pop-in-None-last.ensures.items
+returns-in-None-last-clause-left c =
+    popped-IsSorted _ _ _ c.requires.left c.pop-in-None-last.ensures.items
 
 pub returns-in-None-last-clause-greatest : goal.returns-in-None-last-clause-greatest
-returns-in-None-last-clause-greatest c = left_alone _ _ _ _ _ c.deref-in-Some.ensures.value c.in-None-last.ensures.value c.requires.left c.pop-in-None-last.ensures.items
+returns-in-None-last-clause-greatest c =
+    left_alone _ _ _ _ _ c.deref-in-Some.ensures.value c.in-None-last.ensures.value c.requires.left
+    c.pop-in-None-last.ensures.items
 
 pub returns-then-is_lt-clause-right : goal.returns-then-is_lt-clause-right
-returns-then-is_lt-clause-right c = popped-IsSorted _ _ _ c.requires.right c.pop-then-is_lt.ensures.items
+returns-then-is_lt-clause-right c =
+    popped-IsSorted _ _ _ c.requires.right c.pop-then-is_lt.ensures.items
 
 pub returns-then-is_lt-clause-greatest : goal.returns-then-is_lt-clause-greatest
 returns-then-is_lt-clause-greatest c =
@@ -21,11 +27,14 @@ returns-then-is_lt-clause-greatest c =
     (upto_last _ _ _ c.requires.left c.deref.ensures.value c.in-Some.ensures.value)
     c.requires.right
     c.pop-then-is_lt.ensures.items
-    (popped_last _ _ _ _ _ _ c.deref-in-Some.ensures.value c.deref-in-Some.ensures.len c.in-Some-last.ensures.value c.pop-then-is_lt.ensures.items c.pop-then-is_lt.ensures.variant)
+    (popped_last _ _ _ _ _ _ c.deref-in-Some.ensures.value c.deref-in-Some.ensures.len
+    c.in-Some-last.ensures.value c.pop-then-is_lt.ensures.items
+    c.pop-then-is_lt.ensures.variant)
     (lower _ _ (sym (ap is_lt c.compare.ensures) ∙ sym c.is_lt.ensures ∙ c.if-is_lt.true))
 
 pub returns-else-is_lt-clause-left : goal.returns-else-is_lt-clause-left
-returns-else-is_lt-clause-left c = popped-IsSorted _ _ _ c.requires.left c.pop-else-is_lt.ensures.items
+returns-else-is_lt-clause-left c =
+    popped-IsSorted _ _ _ c.requires.left c.pop-else-is_lt.ensures.items
 
 pub returns-else-is_lt-clause-greatest : goal.returns-else-is_lt-clause-greatest
 returns-else-is_lt-clause-greatest c =
@@ -33,5 +42,6 @@ returns-else-is_lt-clause-greatest c =
     (upto_last _ _ _ c.requires.right c.deref-in-Some.ensures.value c.in-Some-last.ensures.value)
     c.requires.left
     c.pop-else-is_lt.ensures.items
-    (popped_last _ _ _ _ _ _ c.deref.ensures.value c.deref.ensures.len c.in-Some.ensures.value c.pop-else-is_lt.ensures.items c.pop-else-is_lt.ensures.variant)
+    (popped_last _ _ _ _ _ _ c.deref.ensures.value c.deref.ensures.len c.in-Some.ensures.value
+    c.pop-else-is_lt.ensures.items c.pop-else-is_lt.ensures.variant)
     (sym (ap is_lt c.compare.ensures) ∙ sym c.is_lt.ensures ∙ c.if-is_lt.false)

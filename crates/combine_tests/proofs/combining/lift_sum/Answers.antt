@@ -6,4 +6,5 @@ use Rattle.combine_table.proofs.Merging.{accumulator-HasShape}
 use Rattle.combine_tests.proofs.combining.lift_sum.Goals as goal
 
 pub returns : goal.returns
-returns c = IfOk-weaker c.lift.result _ _ (λ v e. subst (HasShape by.Sum) (sym e) (accumulator-HasShape by.Sum (_ ∷ []))) c.lift.ensures
+returns c = IfOk-weaker c.lift.result _ _
+    (λ v e. subst (HasShape by.Sum) (sym e) (accumulator-HasShape by.Sum (_ ∷ []))) c.lift.ensures

@@ -6,4 +6,6 @@ use Rattle.combine_table.proofs.Merging.{merged-HasShape}
 use Rattle.combine_tests.proofs.combining.merge_sums.Goals as goal
 
 pub returns : goal.returns
-returns c = IfOk-weaker c.merge.result _ _ (λ v e. subst (HasShape by.Sum) (sym e) (merged-HasShape by.Sum c.args.left c.args.right)) c.merge.ensures
+returns c = IfOk-weaker c.merge.result _ _
+    (λ v e. subst (HasShape by.Sum) (sym e) (merged-HasShape by.Sum c.args.left c.args.right))
+    c.merge.ensures

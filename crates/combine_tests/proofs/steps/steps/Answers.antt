@@ -10,4 +10,5 @@ group-requires c = all_pairs ty.Int ty.Int c.args.pairs.items c.requires.typed
 pub combine_each-requires : goal.combine_each-requires
 combine_each-requires c =
     let whole : c.deref.result.now ≡ grouped c.args.pairs.items = search rules in
-    grouped_suited c.args.comb ty.Int ty.Int c.args.pairs.items c.deref.result.now c.requires.takes c.requires.typed whole
+    grouped_suited c.args.comb ty.Int ty.Int c.args.pairs.items c.deref.result.now c.requires.takes
+    c.requires.typed whole

@@ -16,7 +16,12 @@ fetch_add-number-requires c =
     )
 
 pub returns-then-number-tasks-clause-claims : goal.returns-then-number-tasks-clause-claims
-returns-then-number-tasks-clause-claims c = draw_keeps c.args.self.now c.pass.inside.seat.me c.fetch_add-number.new.seat.me _ c.fetch_add-number.result (ap (λ (p : Pass). p.state) c.pass.view_is) c.fetch_add-number.ensures.2
+returns-then-number-tasks-clause-claims c =
+    draw_keeps c.args.self.now c.pass.inside.seat.me c.fetch_add-number.new.seat.me _
+    c.fetch_add-number.result (ap (λ (p : Pass). p.state) c.pass.view_is)
+    c.fetch_add-number.ensures.2
 
 pub returns-clause-claims : goal.returns-clause-claims
-returns-clause-claims c = draw_keeps c.args.self.now c.pass.inside.seat.me c.fetch_add-number.new.seat.me _ c.fetch_add-number.result (ap (λ (p : Pass). p.state) c.pass.view_is) c.fetch_add-number.ensures.2
+returns-clause-claims c = draw_keeps c.args.self.now c.pass.inside.seat.me
+    c.fetch_add-number.new.seat.me _ c.fetch_add-number.result
+    (ap (λ (p : Pass). p.state) c.pass.view_is) c.fetch_add-number.ensures.2

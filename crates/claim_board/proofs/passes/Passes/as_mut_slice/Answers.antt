@@ -11,8 +11,13 @@ returns c =
     let maker = c.self.inside.maker in (
       (
         refl,
-        λ (w : List Pass). ap (λ (n : ℕ). maker_passes maker.table_id maker.me.0 (refill n items w)) c.self.inside.members.ok.0
+        λ (w : List Pass). ap (λ (n : ℕ). maker_passes maker.table_id maker.me.0 (refill n items w))
+            c.self.inside.members.ok.0
             ∙ ap (λ (ps : Passes). with_members ps w) c.self.view_is,
       ),
-      record { writes_back = tt; value = c.as_mut_slice.ensures.value ∙ ap (λ (ps : Passes). ps.members) c.self.view_is },
+      record {
+        writes_back = tt;
+        value = c.as_mut_slice.ensures.value
+            ∙ ap (λ (ps : Passes). ps.members) c.self.view_is;
+      },
     )
