@@ -19,7 +19,8 @@ use Rattle.exec_graph.specs.declared.graph.Graph.{Graph}
 use Rattle.exec_graph.specs.Meaning.{AllDiffer, place}
 use Rattle.exec_graph.specs.Readers.{among, any_node, collects}
 use Rattle.exec_graph.specs.Wellformed.{IsFounded, IsGraphOk, IsLiftedOk, IsNodeOk, total_size}
-use Rattle.exec_graph.specs.inner.Checks.{all_read, called_by, callers_from, flatten_ok, forest_ok, in_order, is_held, lifted_ok}
+use Rattle.exec_graph.specs.Readers.{is_held}
+use Rattle.exec_graph.specs.inner.Checks.{all_read, called_by, callers_from, flatten_ok, forest_ok, in_order, lifted_ok}
 use Rattle.exec_graph.specs.inner.Spots.{spots}
 use Rattle.exec_graph.proofs.Bools.{no_or, or_false}
 use Rattle.exec_graph.proofs.Founding.{Says, no_such}

@@ -43,6 +43,10 @@ readers es c = those (calls_on c) es
 abbrev pub uses : Place → Node → Bool
 uses c x = calls_on c x || collects c x
 
+-- whether a Gbk, a Flatten or a script output reads c
+abbrev pub is_held : Graph → Place → Bool
+is_held g c = any_node (collects c) g.nodes || among c g.outputs
+
 -- whether a node or a script output reads c
 abbrev pub is_read : Graph → Place → Bool
 is_read g c = any_node (uses c) g.nodes || among c g.outputs

@@ -43,5 +43,6 @@ pub use founded::is_founded;
 pub use graph::{Blocked, Entry, Graph, Node, Place};
 pub use laws::{meaning_law, step_law, typed_law};
 pub use places::{add_place, code_of};
+pub use readers::{held_places, read_places};
 pub use sizes::{count_outputs, size_of};
 pub use step::{Does, Output, Roots, Step};

@@ -1,6 +1,6 @@
 ghost use Rattle.std.specs.Prelude.{OnOk, IfOk};
 ghost use Rattle.exec_graph.specs.Readers.{among, calls_on, collects, is_read};
-ghost use Rattle.exec_graph.specs.inner.Checks.{is_held};
+ghost use Rattle.exec_graph.specs.Readers.{is_held};
 ghost use Rattle.exec_graph.specs.Places.{HasPlaces, HasAlso};
 
 use crate::graph::{Graph, Node, Place};
@@ -9,7 +9,7 @@ use std::alloc::{AllocError, Global};
 use std::collections::HashSet;
 
 /// The collections that a Gbk, a Flatten or a script output reads.
-pub(crate) fn held_places(alloc: Global, graph: &Graph) -> Result<HashSet<u64>, AllocError>
+pub fn held_places(alloc: Global, graph: &Graph) -> Result<HashSet<u64>, AllocError>
     ensures { IfOk result (λ s. HasPlaces s (is_held graph.now)) }
 {
     let mut places = HashSet::new(alloc);
@@ -21,7 +21,7 @@ pub(crate) fn held_places(alloc: Global, graph: &Graph) -> Result<HashSet<u64>, 
 }
 
 /// The collections that a node or a script output reads.
-pub(crate) fn read_places(alloc: Global, graph: &Graph) -> Result<HashSet<u64>, AllocError>
+pub fn read_places(alloc: Global, graph: &Graph) -> Result<HashSet<u64>, AllocError>
     ensures { IfOk result (λ s. HasPlaces s (is_read graph.now)) }
 {
     let mut places = held_places(alloc, graph)?;

@@ -64,7 +64,7 @@ out_kept n (Some j) = (
   λ k h. kept_by n j k (eqb j n) refl h,
 )
 
-grow_parts : (l m : Label) (a b c d : Forest) → Grow l a b ≡ Grow m c d
+pub grow_parts : (l m : Label) (a b c d : Forest) → Grow l a b ≡ Grow m c d
     → (l ≡ m) × (a ≡ c) × (b ≡ d)
 grow_parts l m a b c d h = (cc, cc, cc)
 

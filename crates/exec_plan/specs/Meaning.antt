@@ -1,5 +1,5 @@
 -- What a plan means: a bag and a set of traps for each of its collections, stage by stage.
-use Rattle.std.specs.Prelude.{ℕ, Bool, cond, ◌==◌, ◌&&◌, List, [], ◌∷◌, ◌++◌, map, Option, Some, None}
+use Rattle.std.specs.Prelude.{◌≡◌, ◌<◌, ℕ, Bool, cond, ◌==◌, ◌&&◌, List, [], ◌∷◌, ◌++◌, map, length, Option, Some, None}
 use Rattle.std.proofs.Common.{suc}
 use Rattle.std.specs.List.{flat_map, slice_get}
 use Rattle.flume_value.specs.declared.value.Value.{Value}
@@ -50,6 +50,21 @@ sources w (at.Result stage number) = record { bag = []; traps = [] }
 -- what each collection of a plan is
 abbrev pub plan_collection : World → Plan → PlanPlace → Collection
 plan_collection w p = run w 1 p.stages (sources w)
+
+-- ---- the meaning as a relation
+
+-- the results of the stages from number k on are what the stages give over the table
+abbrev pub MeetsStages : World → (PlanPlace → Collection) → ℕ → List Stage → Type 0
+MeetsStages w t k [] = Unit {0}
+MeetsStages w t k (s ∷ ss) =
+    ((i : ℕ) → i < length (results w t s) →
+    slice_get (results w t s) i ≡ Some (t (at.Result k i)))
+    × MeetsStages w t (suc k) ss
+
+-- the table says of each source its rows, and of each result what its stage gives over the table
+pub record MeetsPlan (w : World) (p : Plan) (t : PlanPlace → Collection) : Type 0 where
+  pub sources : (n : ℕ) → t (at.Source n) ≡ sources w (at.Source n)
+  pub stages : MeetsStages w t 1 p.stages
 
 -- ---- what stages add up to
 

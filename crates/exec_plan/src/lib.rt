@@ -7,10 +7,10 @@
 //! functions by their numbers, and hold neither rows, bodies nor types.
 //!
 //! `results` (specs/Meaning.antt) says what a stage gives over any table of collections, and `run`
-//! does so stage by stage, so that every plan has just one meaning: `plan_collection`. In a
-//! well-formed plan (`IsPlanOk`, specs/Wellformed.antt) each stage reads sources and results of
-//! earlier stages alone. Types are an assignment to collections that fits each stage
-//! (`IsPlanTyped`, specs/Typing.antt).
+//! does so stage by stage: `plan_collection`. In a well-formed plan (`IsPlanOk`,
+//! specs/Wellformed.antt) each stage reads sources and results of earlier stages alone, so that
+//! just one table says of each result what its stage gives over that table (`meaning_law`). Types
+//! are an assignment to collections that fits each stage (`IsPlanTyped`, specs/Typing.antt).
 //!
 //! `plan_ok` decides whether a plan is well-formed.
 #![tactic(auto)]
@@ -18,9 +18,11 @@
 mod channels;
 mod checks;
 mod counts;
+mod laws;
 mod numbers;
 mod plan;
 mod stages;
 
 pub use checks::plan_ok;
+pub use laws::meaning_law;
 pub use plan::{Grouping, InChannel, Mscr, OutChannel, Plan, PlanPlace, Stage, Take};

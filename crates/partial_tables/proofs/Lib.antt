@@ -1,5 +1,6 @@
 pub mod Adding
 pub mod Equals
+pub mod Finishing
 pub mod Keys
 pub mod Merged
 pub mod Regrouping

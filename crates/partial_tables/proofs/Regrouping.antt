@@ -2,7 +2,7 @@
 use Rattle.std.proofs.Common.{◌≡◌, true, false, cond, Bool, ◌||◌, List, [], ◌∷◌, ◌++◌, refl, sym, ap, ◌∙◌, subst, append_assoc, append-nil}
 use Rattle.std.specs.Prelude.{Option, Some, None, option_map, unwrap_or}
 use Rattle.std.specs.List.{cons_option}
-use Rattle.std.proofs.lemmas.List.Elements.{filter_map-append}
+use Rattle.std.proofs.lemmas.List.Elements.{All-from_recursion, filter_map-append, recursion_from_All}
 use Rattle.flume_value.specs.declared.value.Value.{Value}
 use Rattle.flume_value.specs.Equality.{value_eq}
 use Rattle.flume_value.proofs.EachLemmas.{Each-append, Each-left, Each-right}
@@ -11,7 +11,7 @@ use Rattle.bag_groups.proofs.PairOrder.{same-value_eq}
 use Rattle.combine_table.specs.declared.comb.Comb.{Comb}
 use Rattle.combine_table.specs.Accumulators.{accumulator, HasShape, merged}
 use Rattle.combine_table.proofs.Merging.{merged-HasShape, merged-comm, merged-assoc, merged-unit_right}
-use Rattle.partial_tables.specs.Tables.{Pairs, has_key, added, HaveShape}
+use Rattle.partial_tables.specs.Tables.{Pairs, has_key, added, IsPartialOf, HaveShape}
 use Rattle.partial_tables.specs.Merges.{values_at, merged_all, StandFor}
 use Rattle.partial_tables.specs.inner.Lifted.{lifted}
 use Rattle.partial_tables.specs.inner.Regrouped.{Regrouped}
@@ -20,7 +20,7 @@ use Rattle.partial_tables.proofs.Standing.{merged_all-HasShape, merged_all-appen
 pub regrouped_stands : (c : Comb) (xs ys ps : Pairs) → Regrouped c xs ys → StandFor c xs ps
     → StandFor c ys ps
 regrouped_stands c xs ys ps r s = record {
-  shape = r.shape;
+  shape = All-from_recursion (IsPartialOf c) ys r.shape;
   keys = λ k. r.keys k ∙ s.keys k;
   merges = λ k. r.merges k ∙ s.merges k;
 }
@@ -170,7 +170,8 @@ pub lifted_more : (c d : Comb) (old now : Pairs) (xs : List Value) (pair k a : V
 lifted_more c d old now xs pair k a is s lift put =
     subst (StandFor c now) (sym (filter_map-append parts_of xs (pair ∷ [])))
     (parts_more c old now (pairs_of xs) k a (parts_of pair) s lift
-    (subst (λ e. HaveShape e old → Regrouped e (old ++ (k, a) ∷ []) now) is put s.shape))
+    (subst (λ e. HaveShape e old → Regrouped e (old ++ (k, a) ∷ []) now) is put
+    (recursion_from_All (IsPartialOf c) old s.shape)))
 
 -- an accumulator more
 pub merged_more : (c : Comb) (old now ps : Pairs) (k a : Value) → Regrouped c ps old

@@ -3,18 +3,17 @@ use Rattle.std.proofs.Common.{◌≡◌, true, false, cond, ◌||◌, List, [], 
 use Rattle.std.specs.Prelude.{filter}
 use Rattle.std.specs.Ordering.{is_lt}
 use Rattle.std.proofs.lemmas.List.{map-append}
-use Rattle.std.proofs.lemmas.List.Elements.{filter-append}
+use Rattle.std.proofs.lemmas.List.Elements.{All-append, All-cons, All-nil, filter-append}
 use Rattle.std.proofs.lemmas.List.Folds.{list_any-append}
 use Rattle.flume_value.specs.declared.value.Value.{Value}
 use Rattle.flume_value.specs.Order.{value_cmp}
 use Rattle.flume_value.specs.Bag.{put, bag_of}
 use Rattle.flume_value.specs.Equality.{value_eq}
-use Rattle.flume_value.proofs.EachLemmas.{Each-append}
 use Rattle.combine_table.specs.declared.comb.Comb.{Comb}
 use Rattle.combine_table.specs.Accumulators.{accumulator, HasShape, merged}
 use Rattle.combine_table.proofs.Parts.{merged-accumulator}
 use Rattle.combine_table.proofs.Merging.{accumulator-HasShape, merged-HasShape, merged-comm, merged-assoc, merged-unit_left, merged-unit_right}
-use Rattle.partial_tables.specs.Tables.{Pairs, has_key}
+use Rattle.partial_tables.specs.Tables.{Pairs, has_key, IsPartialOf}
 use Rattle.partial_tables.specs.Merges.{values_at, merged_all, StandFor}
 
 -- ---- accumulators merged into one
@@ -76,12 +75,12 @@ has_key-append k xs ys = list_any-append (λ (p : Value × Value). value_eq p.0 
 -- ---- parts together
 
 pub stands_none : (c : Comb) → StandFor c [] []
-stands_none c = record { shape = tt; keys = λ k. refl; merges = λ k. refl }
+stands_none c = record { shape = All-nil (IsPartialOf c); keys = λ k. refl; merges = λ k. refl }
 
 pub stands_both : (c : Comb) (es ps fs qs : Pairs) → StandFor c es ps → StandFor c fs qs
     → StandFor c (es ++ fs) (ps ++ qs)
 stands_both c es ps fs qs g h = record {
-  shape = Each-append (λ (p : Value × Value). HasShape c p.1) es fs g.shape h.shape;
+  shape = All-append (IsPartialOf c) es fs g.shape h.shape;
   keys = λ k. has_key-append k es fs ∙ (λ i. g.keys k i || h.keys k i)
       ∙ sym (has_key-append k ps qs);
   merges = λ k. ap (merged_all c) (values_at-append k es fs)
@@ -98,7 +97,8 @@ one_stands : (c : Comb) (k v : Value)
 one_stands c k v =
     let a = accumulator c (v ∷ []) in
     record {
-      shape = (accumulator-HasShape c (v ∷ []), tt);
+      shape = All-cons (IsPartialOf c) (k, a) [] (accumulator-HasShape c (v ∷ []))
+          (All-nil (IsPartialOf c));
       keys = λ j. refl;
       merges = λ j. ap (merged_all c) (values_at-cons j k a [])
           ∙ elim (value_eq k j) as

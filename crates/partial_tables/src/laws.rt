@@ -1,7 +1,11 @@
-ghost use Rattle.std.specs.Prelude.{◌≡◌, ◌++◌, []};
+ghost use Rattle.std.specs.Prelude.{◌≡◌, ◌++◌, [], List};
+ghost use Rattle.flume_value.specs.declared.value.Value.{Value};
+ghost use Rattle.bag_groups.specs.Pairs.{pairs_of};
+ghost use Rattle.bag_groups.specs.Groups.{grouped};
+ghost use Rattle.bag_groups.specs.Combining.{groups_in};
 ghost use Rattle.combine_table.specs.declared.comb.Comb.{Comb};
 ghost use Rattle.partial_tables.specs.Tables.{Pairs};
-ghost use Rattle.partial_tables.specs.Merges.{StandFor, merged_by_key, accumulated};
+ghost use Rattle.partial_tables.specs.Merges.{StandFor, merged_by_key, accumulated, finished_each, combined_groups};
 
 /// Accumulators that stand for parts of the pairs stand together for all of them, and merged by
 /// key are the accumulators of the keys' values: however the pairs were shared out, and however
@@ -12,4 +16,8 @@ pub fn partials_law()
         StandFor c more others → StandFor c (partials ++ more) (pairs ++ others) }
     ensures merged { (c : Comb) (partials pairs : Pairs) → StandFor c partials pairs →
         merged_by_key c partials ≡ accumulated c pairs }
+    // They finish as the groups of the pairs combine, traps included.
+    ensures finished { (c : Comb) (pairs : List Value) →
+        finished_each c (accumulated c (pairs_of pairs))
+        ≡ combined_groups c (groups_in (grouped pairs)) }
 {}

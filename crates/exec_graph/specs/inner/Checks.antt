@@ -14,7 +14,7 @@ use Rattle.exec_graph.specs.declared.callers.Callers.{Callers}
 use Rattle.exec_graph.specs.declared.callers.Callers.TheVariants.{One, Several}
 use Rattle.exec_graph.specs.Meaning.{place}
 use Rattle.exec_graph.specs.Forests.{after_out}
-use Rattle.exec_graph.specs.Readers.{among, any_node, calls_on, collects, is_read}
+use Rattle.exec_graph.specs.Readers.{calls_on, is_held, is_read}
 use Rattle.exec_graph.specs.Wellformed.{comb_at, most}
 use Rattle.exec_graph.specs.Places.{code}
 use Rattle.exec_graph.specs.inner.Spots.{spots}
@@ -51,10 +51,6 @@ forest_ok g n (Pdo c f) = in_order 0 (spots f) && all_read g n (spots f)
 forest_ok g n (Gbk c o l k) = true
 
 -- ---- lifted groups
-
--- whether a Gbk, a Flatten or a script output reads c
-abbrev pub is_held : Graph → Place → Bool
-is_held g c = any_node (collects c) g.nodes || among c g.outputs
 
 abbrev pub more_callers : Option Callers → Option Comb → Callers
 more_callers None root = One root

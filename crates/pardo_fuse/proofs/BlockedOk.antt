@@ -1,0 +1,353 @@
+-- The fused graph with its marks is ok
+use Rattle.std.proofs.Common.{◌≡◌, ℕ, ◌+◌, ◌<◌, ◌≤◌, Bool, true, false, cond, ◌||◌, ◌&&◌, List, [], ◌∷◌, ◌++◌, map, length, length-append, Option, Some, None, refl, sym, ap, ◌∙◌, subst, arith}
+use Rattle.std.proofs.lemmas.Bool.{false≢true}
+use Rattle.std.specs.List.{flat_map, AllByRecursion}
+use Rattle.exec_graph.specs.Forests.{Label, Forest, Bare, Grow, steps, numbered, new_label, new_out, after, after_out, with_out}
+use Rattle.exec_graph.specs.declared.graph.Place.{Place}
+use Rattle.exec_graph.specs.declared.graph.Node.{Node}
+use Rattle.exec_graph.specs.declared.graph.Node.TheVariants.{Source, Flatten, Pdo, Gbk}
+use Rattle.exec_graph.specs.declared.graph.Entry.{Entry}
+use Rattle.exec_graph.specs.Meaning.{place, node_at, has_out, gives_at, IsThere, IsSound, SameMeaning}
+use Rattle.graph_laws.specs.Joining.{reread}
+use Rattle.exec_graph.proofs.Entries.{all_found, all_map}
+use Rattle.flume_value.proofs.EachLemmas.{Each-weaker, Each-both, Each-append}
+use Rattle.exec_graph.proofs.Solving.{each_found, there_found}
+use Rattle.exec_graph.specs.declared.graph.Blocked.{Blocked}
+use Rattle.pardo_fuse.specs.Readers.{Cut, cut_of, is_outer}
+use Rattle.pardo_fuse.specs.Readers.{same_place, among, calls_on, collects, any_node, is_pdo, is_marked, is_kept, CanFuse}
+use Rattle.graph_laws.specs.Kids.{kept_by}
+use Rattle.pardo_fuse.specs.Fusing.{keeps_output, leads, forest_of, left_of, joined_nodes, with_numbers, finished, holds_out, fused, fused_by}
+use Rattle.exec_graph.specs.Wellformed.{Ascends, IsForestOk, IsNodeOk, is_lifted, size, total_size, IsBlockedOk}
+use Rattle.exec_graph.specs.Readers.{uses, is_read}
+use Rattle.pardo_fuse.specs.Wellformed.{IsFusible}
+use Rattle.pardo_fuse.proofs.Partition.{numbers}
+use Rattle.pardo_fuse.proofs.Once.{Found, AllGrown, all_of, left_numbers, all_left}
+use Rattle.pardo_fuse.proofs.Levels.{all_grown}
+use Rattle.pardo_fuse.proofs.Few.{left_length, steps_length, steps-pruned}
+use Rattle.exec_graph.proofs.Soundness.{SameMeaning-kept}
+use Rattle.pardo_fuse.proofs.Meaning.{KeepsMeaning-fused}
+use Rattle.pardo_fuse.proofs.Fusible.{can_fuse}
+use Rattle.pardo_fuse.proofs.Naming.{all_joined, all_cond, differ_joined}
+use Rattle.pardo_fuse.proofs.Finding.{search_place, any_joined, not_new, no_joined, IsSeen, IsNew, right}
+use Rattle.pardo_fuse.proofs.Seeing.{all_among, or_first}
+use Rattle.pardo_fuse.proofs.Wellness.{at_finished, done_node, well, well_kept, others_left, IsSound-fused}
+use Rattle.pardo_fuse.proofs.Settling.{now, nodes_now, IsLeader}
+use Rattle.pardo_fuse.proofs.Using.{graph_now, outs_read}
+use Rattle.pardo_fuse.proofs.Lifting.{gbk, lifted_ok}
+
+-- what else has to hold of the graph: its nodes are ok, no marked Gbk is lifted, and no marked
+-- output is fused away
+pub record IsCutOk (b : Cut) : Type 0 where
+  pub ascends : Ascends b.graph.nodes
+  pub below : AllByRecursion (λ e. e.number < b.graph.next) b.graph.nodes
+  pub nodes : AllByRecursion (λ e. IsNodeOk b.graph e.number e.node) b.graph.nodes
+  pub unlifted : AllByRecursion (λ c. is_lifted (node_at b.graph.nodes c.node) ≡ false) b.marks
+  pub outer : AllByRecursion (λ c. is_outer b c ≡ true) b.marks
+
+-- ---- sizes
+steps-numbered : (s : ℕ) (f : Forest) → steps (numbered s f) ≡ steps f
+steps-numbered s Bare = refl
+steps-numbered s (Grow l kids rest) = let a = steps-numbered (after_out s l.out) kids in let b =
+    steps-numbered (after (after_out s l.out) kids) rest in omega arith
+
+size_done : (r : Place → Place) (x : Node) → size (reread r (with_numbers x)) ≡ size x
+size_done r (Source s) = refl
+size_done r (Flatten ins) = refl
+size_done r (Pdo c f) = steps-numbered 0 f
+size_done r (Gbk c o l k) = refl
+
+total_done : (r : Place → Place) (hs : List Entry) → total_size (map (finished r) hs)
+    ≡ total_size hs
+total_done r [] = refl
+total_done r (h ∷ hs) = let a = total_done r hs in let e = size_done r h.node in omega arith
+
+left_size : (b : Cut) (n : ℕ) (x : Node) (hs : List Entry)
+    → total_size (left_of b n x ++ hs) ≤ length (left_numbers b n x) + total_size hs
+left_size b n (Source r) hs = omega arith
+left_size b n (Flatten ins) hs = omega arith
+left_size b n (Pdo c f) hs = by (leads b n c)
+  where
+    by : (r : Bool) → total_size (cond r ((record {
+      number = n;
+      node =
+          Pdo c (forest_of b c);
+    }) ∷ []) [] ++ hs) ≤ length (cond r (numbers (all_of b c)) []) +
+        total_size hs
+    by true = let e = steps_length (all_of b c) in let f : steps (forest_of b c)
+        ≡ steps (all_of b c) = steps-pruned (keeps_output b) (all_of b c) in omega arith
+    by false = omega arith
+left_size b n (Gbk c o l k) hs = omega arith
+
+joined_size : (b : Cut) (es : List Entry) → total_size (flat_map (λ e. left_of b e.number e.node)
+    es) ≤ length (all_left b es)
+joined_size b [] = omega arith
+joined_size b (e ∷ es) =
+    let i = joined_size b es in
+    let a = left_size b e.number e.node (flat_map (λ e. left_of b e.number e.node) es) in
+    omega (arith, length-append (left_numbers b e.number e.node) (all_left b es))
+
+-- ---- each node
+same_label : (s : ℕ) (l : Label) → new_label s (new_label s l) ≡ new_label s l
+same_label s l = ap (λ (o : Option ℕ). let m : Label = with_out o l in m) (by l.out)
+  where
+    by : (o : Option ℕ) → new_out s (new_out s o) ≡ new_out s o
+    by None = refl
+    by (Some j) = refl
+
+after_new : (s : ℕ) (o : Option ℕ) → after_out s (new_out s o) ≡ after_out s o
+after_new s None = refl
+after_new s (Some j) = refl
+
+after_numbered : (s : ℕ) (f : Forest) → after s (numbered s f) ≡ after s f
+after_numbered s Bare = refl
+after_numbered s (Grow l kids rest) =
+    ap (λ (k : ℕ). after (after k (numbered (after_out s l.out) kids)) (numbered (after (after_out
+    s l.out) kids) rest)) (after_new s l.out)
+    ∙ ap (λ (k : ℕ). after k (numbered (after (after_out s l.out) kids) rest)) (after_numbered
+    (after_out s l.out) kids)
+    ∙ after_numbered (after (after_out s l.out) kids) rest
+
+numbered_again : (s : ℕ) (f : Forest) → numbered s (numbered s f) ≡ numbered s f
+numbered_again s Bare = refl
+numbered_again s (Grow l kids rest) =
+    let a : ℕ = after_out s l.out in
+    let c : ℕ = after a kids in
+    ap (λ (m : Label). Grow m (numbered (after_out s (new_out s l.out)) (numbered a kids))
+    (numbered (after (after_out s (new_out s l.out)) (numbered a kids)) (numbered c rest)))
+    (same_label s l)
+    ∙ ap (λ (k : ℕ). Grow (new_label s l) (numbered k (numbered a kids)) (numbered (after k
+    (numbered a kids)) (numbered c rest))) (after_new s l.out)
+    ∙ ap (λ (k : ℕ). Grow (new_label s l) (numbered a (numbered a kids)) (numbered k (numbered c
+    rest))) (after_numbered a kids)
+    ∙ ap (λ (f : Forest). Grow (new_label s l) f (numbered c (numbered c rest))) (numbered_again a
+    kids)
+    ∙ ap (λ (f : Forest). Grow (new_label s l) (numbered a kids) f) (numbered_again c rest)
+
+abbrev OkNow : Cut → Entry → Type 0
+OkNow b h = node_at (joined_nodes b) h.number ≡ Some h.node
+    → IsNodeOk (graph_now b) h.number (reread (now b) (with_numbers h.node))
+
+length-map : (r : Place → Place) (ds : List Place) → length (map r ds) ≡ length ds
+length-map r [] = refl
+length-map r (d ∷ ds) = let i = length-map r ds in omega arith
+
+left_ok : (b : Cut) → (can : CanFuse b) → AllGrown b → IsCutOk b → (n : ℕ) (x : Node)
+    → node_at b.graph.nodes n ≡ Some x → AllByRecursion (OkNow b) (left_of b n x)
+left_ok b can g fu n (Source r) at = (λ _. tt, tt)
+left_ok b can g fu n (Flatten ins) at =
+    let a = all_found (λ e. IsNodeOk b.graph e.number e.node) b.graph.nodes n (Flatten ins) at
+    fu.nodes in
+    let x = a.0 in
+    let y = a.1 in
+    let e = length-map (now b) ins in
+    (λ _. (omega arith, omega arith), tt)
+left_ok b can g fu n (Pdo c f) at =
+    all_cond (OkNow b) (leads b n c) (record {
+      number = n;
+      node =
+          Pdo c (forest_of b c);
+    }) (λ l found.
+    record {
+      order = numbered_again 0 (forest_of b c);
+      read = λ j h. outs_read b n c j can g (record { old = f; at = at; leads = l }) found h;
+    })
+left_ok b can g fu n (Gbk c o l None) at = (λ _. tt, tt)
+left_ok b can g fu n (Gbk c o l (Some k)) at = (
+  λ _. lifted_ok b n k can g (gbk b n c o l (Some k) can g at) (all_found (λ e. IsNodeOk b.graph
+      e.number e.node) b.graph.nodes n (Gbk c o l (Some k)) at fu.nodes),
+  tt,
+)
+
+-- ---- marks
+uses_cases : (c : Place) (es : List Entry) → any_node (uses c) es ≡ true
+    → (any_node (calls_on c) es || any_node (collects c) es) ≡ true
+uses_cases c [] h = h
+uses_cases c (e ∷ es) h = by (calls_on c e.node) (collects c e.node) (any_node (calls_on c) es)
+    (any_node (collects c) es) (uses_cases c es) h
+  where
+    by : (p q r s : Bool) → (any_node (uses c) es ≡ true → (r || s) ≡ true)
+        → ((p || q) || any_node (uses c) es) ≡ true → ((p || r) || (q || s)) ≡ true
+    by true q r s f i = refl
+    by false true r s f i = right r true refl
+    by false false r s f i = f i
+
+marked_kept : (b : Cut) (c : Place) → is_outer b c ≡ true → is_read b.graph c ≡ true
+    → is_kept b c ≡ true
+marked_kept b c m h = by (any_node (uses c) b.graph.nodes) (among c b.graph.outputs) (any_node
+    (collects c) b.graph.nodes) (any_node (calls_on c) b.graph.nodes) (is_outer b c) m h
+    (uses_cases c b.graph.nodes)
+  where
+    by : (u o p q i : Bool) → i ≡ true → (u || o) ≡ true → (u ≡ true → (q || p) ≡ true)
+        → (p || (o || (i && q))) ≡ true
+    by u o true q i m h f = refl
+    by u true false q i m h f = refl
+    by true false false true i m h f = rw m refl
+    by true false false false i m h f = absurd (false≢true (f refl))
+    by false false false q i m h f = absurd (false≢true h)
+
+there_read : (b : Cut) (c : Place) → IsCutOk b → IsThere b.graph.nodes c
+    → (d : Place) (f : Forest) → node_at b.graph.nodes c.node ≡ Some (Pdo d f)
+    → is_read b.graph c ≡ true
+there_read b c fu t d f at = (all_found (λ e. IsNodeOk b.graph e.number e.node) b.graph.nodes
+    c.node (Pdo d f) at fu.nodes).read c.out (sym (ap (λ (o : Option Node). gives_at o c.out) at)
+    ∙ t)
+
+pdo_read : (b : Cut) (c : Place) → IsCutOk b → IsThere b.graph.nodes c → (o : Option Node)
+    → node_at b.graph.nodes c.node ≡ o → is_pdo o ≡ true → is_read b.graph c ≡ true
+pdo_read b c fu t None at h = absurd (false≢true h)
+pdo_read b c fu t (Some (Source r)) at h = absurd (false≢true h)
+pdo_read b c fu t (Some (Flatten ins)) at h = absurd (false≢true h)
+pdo_read b c fu t (Some (Pdo d f)) at h = there_read b c fu t d f at
+pdo_read b c fu t (Some (Gbk d o l k)) at h = absurd (false≢true h)
+
+mark_seen : (b : Cut) → CanFuse b → IsCutOk b → AllByRecursion (IsSeen b) b.marks
+mark_seen b can fu = Each-both (IsThere b.graph.nodes) (λ c. is_outer b c
+    ≡ true) (IsSeen b) (λ c t m. record {
+      there = t;
+      kept =
+          λ h. marked_kept b c m (pdo_read b c fu t (node_at b.graph.nodes c.node) refl h);
+    }) b.marks
+    can.marked fu.outer
+
+lifted_done : (r : Place → Place) (p : ℕ) (x : Node) → holds_out p x ≡ true
+    → is_lifted (Some (reread r (with_numbers x))) ≡ false
+lifted_done r p (Source s) h = refl
+lifted_done r p (Flatten ins) h = refl
+lifted_done r p (Pdo c f) h = refl
+lifted_done r p (Gbk c o l k) h = absurd (false≢true h)
+
+lifted_same : (r : Place → Place) (x : Node) → is_lifted (Some (reread r (with_numbers x)))
+    ≡ is_lifted (Some x)
+lifted_same r (Source s) = refl
+lifted_same r (Flatten ins) = refl
+lifted_same r (Pdo c f) = refl
+lifted_same r (Gbk c o l None) = refl
+lifted_same r (Gbk c o l (Some k)) = refl
+
+abbrev Here : Cut → Entry → Type 0
+Here b e = node_at (joined_nodes b) e.number ≡ Some e.node
+
+unlifted_by : (b : Cut) (c : Place) → (can : CanFuse b) → AllGrown b → IsSeen b c
+    → is_lifted (node_at b.graph.nodes c.node) ≡ false → (t : Bool)
+    → is_pdo (node_at b.graph.nodes c.node) ≡ t → is_lifted (node_at (nodes_now b) (now b c).node)
+    ≡ false
+unlifted_by b c can g s l true h =
+    let hs : List Entry = joined_nodes b in
+    let i : IsNew (Here b) hs c = search_place (Here b) c hs (each_found hs (differ_joined b
+    b.graph.nodes can.ok.differ)) (any_joined b c.node can g h (well_kept b c can s h)) in
+    ap (λ (d : Place). is_lifted (node_at (nodes_now b) d.node)) i.is
+    ∙ ap is_lifted (at_finished (now b) hs i.here.number ∙ ap (done_node (now b)) i.holds)
+    ∙ lifted_done (now b) c.node i.here.node i.keeps
+unlifted_by b c can g s l false h =
+    let hs : List Entry = joined_nodes b in
+    let x = there_found b.graph.nodes c s.there in
+    ap (λ (d : Place). is_lifted (node_at (nodes_now b) d.node)) (not_new c hs (no_joined b c.node
+    can g h))
+    ∙ ap is_lifted (at_finished (now b) hs c.node ∙ ap (done_node (now b)) (others_left b
+    b.graph.nodes c.node x.0 x.1 (sym (ap is_pdo x.1) ∙ h)))
+    ∙ lifted_same (now b) x.0 ∙ sym (ap is_lifted x.1) ∙ l
+
+-- ---- numbers
+left_all : (b : Cut) (P : ℕ → Type 0) (n : ℕ) (x : Node) → P n
+    → AllByRecursion (λ h. P h.number) (left_of b n x)
+left_all b P n (Source r) p = (p, tt)
+left_all b P n (Flatten ins) p = (p, tt)
+left_all b P n (Pdo c f) p = all_cond (λ h. P h.number) (leads b n c)
+    (record { number = n; node = Pdo c (forest_of b c) }) (λ l. p)
+left_all b P n (Gbk c o l k) p = (p, tt)
+
+all_numbers : (b : Cut) (P : ℕ → Type 0) (es : List Entry) → AllByRecursion (λ e. P e.number) es
+    → AllByRecursion (λ h. P h.number) (flat_map (λ e. left_of b e.number e.node) es)
+all_numbers b P [] a = tt
+all_numbers b P (e ∷ es) a = Each-append (λ h. P h.number) (left_of b e.number e.node)
+    (flat_map (λ e. left_of b e.number e.node) es) (left_all b P e.number e.node a.0)
+    (all_numbers b P es a.1)
+
+left_ascends : (b : Cut) (n : ℕ) (x : Node) (hs : List Entry)
+    → AllByRecursion (λ d. n < d.number) hs → Ascends hs → Ascends (left_of b n x ++ hs)
+left_ascends b n (Source r) hs a u = (a, u)
+left_ascends b n (Flatten ins) hs a u = (a, u)
+left_ascends b n (Pdo c f) hs a u = by (leads b n c)
+  where
+    by : (r : Bool)
+        → Ascends (cond r ((record { number = n; node = Pdo c (forest_of b c) }) ∷ []) [] ++ hs)
+    by true = (a, u)
+    by false = u
+left_ascends b n (Gbk c o l k) hs a u = (a, u)
+
+joined_ascends : (b : Cut) (es : List Entry) → Ascends es
+    → Ascends (flat_map (λ e. left_of b e.number e.node) es)
+joined_ascends b [] u = tt
+joined_ascends b (e ∷ es) u = left_ascends b e.number e.node
+    (flat_map (λ e. left_of b e.number e.node) es)
+    (all_numbers b (λ m. e.number < m) es u.0) (joined_ascends b es u.1)
+
+done_ascends : (r : Place → Place) (hs : List Entry) → Ascends hs → Ascends (map (finished r) hs)
+done_ascends r [] u = tt
+done_ascends r (h ∷ hs) u = (
+  all_map (finished r) (λ d. h.number < d.number) (λ d. h.number < d.number) (λ d a. a) hs u.0,
+  done_ascends r hs u.1,
+)
+
+graph_sound : (b : Cut) → CanFuse b → IsSound (graph_now b)
+unfolding fused_by
+graph_sound b can = IsSound-fused b can
+
+pub IsBlockedOk-fused_by : (b : Cut) → CanFuse b → IsCutOk b → IsBlockedOk (fused_by b)
+unfolding fused_by
+IsBlockedOk-fused_by b can fu =
+    let g : AllGrown b = all_grown b can in
+    let hs : List Entry = joined_nodes b in
+    let sound = graph_sound b can in
+    let seen : AllByRecursion (IsSeen b) b.marks = mark_seen b can fu in
+    record {
+      ok = record {
+        founded = record {
+          ascends = done_ascends (now b) hs (joined_ascends b b.graph.nodes fu.ascends);
+          below = all_map (finished (now b)) (λ d. d.number < b.graph.next)
+              (λ d. d.number < b.graph.next) (λ d a. a) hs
+              (all_numbers b (λ m. m < b.graph.next) b.graph.nodes fu.below);
+          there = sound.there;
+          told = sound.told;
+          ranked = sound.ranked;
+        };
+        nodes = all_map (finished (now b)) (λ h. IsNodeOk (graph_now b) h.number (reread (now b)
+            (with_numbers h.node))) (λ e. IsNodeOk (graph_now b) e.number e.node) (λ e a. a) hs
+            (Each-both (Here b) (OkNow b) (λ h. IsNodeOk (graph_now b) h.number (reread (now b)
+            (with_numbers h.node))) (λ e a f. f a) hs (each_found hs (differ_joined b
+            b.graph.nodes can.ok.differ)) (all_joined b (OkNow b) (left_ok b can g fu)
+            b.graph.nodes (each_found b.graph.nodes can.ok.differ)));
+        few = let a = total_done (now b) hs in let d = joined_size b b.graph.nodes in let e =
+            left_length b can in let f = can.few in omega arith;
+      };
+      marked = all_map (now b) (IsSeen b) (IsThere (nodes_now b)) (λ c s. (well b can.ok.ranked.0 c
+          can.ok.ranked.1 can g s).there) b.marks seen;
+      unlifted = all_map (now b) (λ c. is_lifted (node_at (nodes_now b) (now b c).node)
+          ≡ false) (λ c. is_lifted (node_at (nodes_now b) c.node) ≡ false) (λ c a. a) b.marks
+          (Each-both (IsSeen b) (λ c. is_lifted (node_at b.graph.nodes c.node)
+          ≡ false) (λ c. is_lifted (node_at (nodes_now b) (now b c).node)
+          ≡ false) (λ c s l. unlifted_by b c can g s l (is_pdo (node_at b.graph.nodes c.node))
+          refl) b.marks seen fu.unlifted);
+    }
+
+marked_outer : (p m : Bool) → m ≡ true → cond (p && cond m false true) false true ≡ true
+marked_outer true true h = refl
+marked_outer true false h = absurd (false≢true h)
+marked_outer false m h = refl
+
+pub IsBlockedOk-fused : (a : Blocked) → IsFusible a → IsBlockedOk (fused a)
+IsBlockedOk-fused a fu =
+    IsBlockedOk-fused_by (cut_of a) (can_fuse a fu)
+    (record {
+      ascends = fu.ok.ok.founded.ascends;
+      below = fu.ok.ok.founded.below;
+      nodes = fu.ok.ok.nodes;
+      unlifted = fu.ok.unlifted;
+      outer = Each-weaker (λ c. among c a.marks ≡ true) (λ c. is_outer (cut_of a) c
+          ≡ true) (λ c m. marked_outer (is_pdo (node_at a.graph.nodes c.node)) (is_marked a c) m)
+          a.marks (all_among a.marks);
+    })
+
+pub SameMeaning-fused : (a : Blocked) → IsFusible a → SameMeaning a.graph (fused a).graph
+SameMeaning-fused a fu = SameMeaning-kept a.graph (fused a).graph fu.ok.ok
+    (IsBlockedOk-fused a fu).ok (KeepsMeaning-fused (cut_of a) (can_fuse a fu))

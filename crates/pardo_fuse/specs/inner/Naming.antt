@@ -1,0 +1,97 @@
+-- The names of the outputs of joined nodes: each former Pdo and where its output is then.
+use Rattle.std.specs.Prelude.{◌≡◌, ℕ, ◌+◌, ◌<◌, ◌^◌, ◌==◌, true, cond, List, [], ◌∷◌, ◌++◌, map, length, Option, Some, None, nat_eq}
+use Rattle.std.specs.List.{flat_map, AllByRecursion}
+use Rattle.std.specs.HashMap.{HashMap, get}
+use Rattle.exec_graph.specs.Forests.{Forest, Bare, Grow, Label, Branch, limb, after, after_out, new_label, new_out, numbered}
+use Rattle.exec_graph.specs.Meaning.{place}
+use Rattle.exec_graph.specs.Readers.{readers}
+use Rattle.exec_graph.specs.declared.graph.Place.{Place}
+use Rattle.exec_graph.specs.declared.graph.Node.{Node}
+use Rattle.exec_graph.specs.declared.graph.Node.TheVariants.{Source, Flatten, Pdo, Gbk}
+use Rattle.exec_graph.specs.declared.graph.Entry.{Entry}
+use Rattle.graph_laws.specs.Kids.{kept_by}
+use Rattle.pardo_fuse.specs.Readers.{Cut}
+use Rattle.pardo_fuse.specs.Fusing.{forest_of, joined_nodes, keeps_output, kept_label, kids_of, leads, left_of, step_at, trees, with_numbers}
+use Rattle.pardo_fuse.specs.declared.names.Name.{Name}
+
+-- how many outputs of steps, whether they are kept or not
+abbrev pub labels : Forest → ℕ
+labels Bare = 0
+labels (Grow l kids rest) = 1 + (labels kids + labels rest)
+
+-- ---- names
+
+abbrev pub out_names : ℕ → ℕ → Option ℕ → List Name
+out_names h s None = []
+out_names h s (Some j) = record { former = j; place = place h s } ∷ []
+
+-- of a forest of node h that is numbered from s on
+abbrev pub names_from : ℕ → ℕ → Forest → List Name
+names_from h s Bare = []
+names_from h s (Grow l kids rest) =
+    out_names h s l.out
+    ++ (names_from h (after_out s l.out) kids
+    ++ names_from h (after (after_out s l.out) kids) rest)
+
+abbrev pub left_names : Cut → ℕ → Node → List Name
+left_names b n (Source r) = []
+left_names b n (Flatten ins) = []
+left_names b n (Pdo c f) = cond (leads b n c) (names_from n 0 (forest_of b c)) []
+left_names b n (Gbk c o l k) = []
+
+abbrev pub all_names : Cut → List Name
+all_names b = flat_map (λ e. left_names b e.number e.node) b.graph.nodes
+
+-- where a former collection is by these names
+abbrev pub by_name : List Name → Place → Place
+by_name [] c = c
+by_name (x ∷ xs) c = cond (x.former == c.node) x.place (by_name xs c)
+
+abbrev pub place_or : Option Place → Place → Place
+place_or None c = c
+place_or (Some p) c = p
+
+abbrev pub by_index : {S : Type 0} → HashMap ℕ Place S → Place → Place
+by_index m c = place_or (get nat_eq m c.node) c
+
+-- ---- trees
+
+abbrev pub kept_trees : Cut → ℕ → List ℕ → Forest
+kept_trees b k ns = kept_by (keeps_output b) (trees b k ns)
+
+-- the step of Pdo n with the output that it keeps
+abbrev pub kept_step : Cut → ℕ → Label
+kept_step b n = kept_label (keeps_output b) (step_at b n)
+
+-- the outputs of a forest of node h have been named
+pub record IsNamed (h : ℕ) (f : Forest) (s t : ℕ) (old new : List Name) : Type 0 where
+  pub next : t ≡ after s f
+  pub names : new ≡ old ++ names_from h s f
+
+-- and that of one step, with those of its kids
+pub record IsTreeNamed (h : ℕ) (l : Label) (kids : Forest) (s t : ℕ) (old new : List Name)
+    : Type 0 where
+  pub next : t ≡ after (after_out s l.out) kids
+  pub names : new ≡ old ++ (out_names h s l.out ++ names_from h (after_out s l.out) kids)
+
+abbrev pub IsTree : ℕ → Label → Forest → Branch → Type 0
+IsTree s l kids t =
+    (rest : Forest)
+    → limb t rest ≡ Grow (new_label s l) (numbered (after_out s l.out) kids) rest
+
+-- ---- nodes that are left
+
+abbrev pub numbered_entry : Entry → Entry
+numbered_entry h = record { number = h.number; node = with_numbers h.node }
+
+-- the outputs of a forest that is left can be numbered
+abbrev pub LeadsShort : Cut → ℕ → Node → Type 0
+LeadsShort b n (Source r) = Unit {0}
+LeadsShort b n (Flatten ins) = Unit {0}
+LeadsShort b n (Pdo c f) =
+    leads b n c ≡ true
+    → labels (trees b (length b.graph.nodes) (readers b.graph.nodes c)) < 2 ^ 32
+LeadsShort b n (Gbk c o l k) = Unit {0}
+
+abbrev pub AllShort : Cut → List Entry → Type 0
+AllShort b es = AllByRecursion (λ e. LeadsShort b e.number e.node) es

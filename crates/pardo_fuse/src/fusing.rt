@@ -1,0 +1,108 @@
+ghost use Rattle.std.specs.Prelude.{◌≡◌, map, IfOk};
+ghost use Rattle.std.specs.List.{flat_map};
+ghost use Rattle.exec_graph.specs.Meaning.{SameMeaning};
+ghost use Rattle.exec_graph.specs.Wellformed.{IsBlockedOk};
+ghost use Rattle.graph_laws.specs.Joining.{reread, reread_entry};
+ghost use Rattle.pardo_fuse.specs.Readers.{cut_of};
+ghost use Rattle.pardo_fuse.specs.Fusing.{fused, left_of};
+ghost use Rattle.pardo_fuse.specs.Wellformed.{IsFusible, IsSettled};
+ghost use Rattle.pardo_fuse.specs.inner.Naming.{AllShort, all_names, by_index, numbered_entry};
+
+use crate::left::{Joined, joined_nodes};
+use crate::names::{Naming, index_of, place_of, places_of};
+use exec_graph::{Blocked, Entry, Graph, Node, Place, held_places, read_places};
+use flume_value::Pile;
+use std::alloc::{AllocError, Global};
+use std::collections::HashMap;
+use std::mem;
+
+/// Makes each Pdo that reads an unmarked output of a Pdo a kid of that output's step, and those
+/// that then read one collection one Pdo. Each Pdo has one step with one output before.
+pub fn fuse(alloc: Global, blocked: Blocked) -> Result<Blocked, AllocError>
+    requires { IsFusible blocked }
+    ensures fused { IfOk result (λ c. c ≡ fused blocked) }
+    ensures settled { IfOk result (λ c. IsSettled c) }
+    ensures same { IfOk result (λ c. SameMeaning blocked.graph c.graph) }
+    ensures well_formed { IfOk result (λ c. IsBlockedOk c) }
+{
+    let Joined { nodes, naming } = joined(alloc, &blocked)?;
+    let Naming { names, next: _ } = naming;
+    let index = index_of(alloc, names.as_slice())?;
+    Ok(renamed(alloc, blocked, nodes, &index))
+}
+
+/// The nodes that are left, and the names of their outputs.
+fn joined(alloc: Global, blocked: &Blocked) -> Result<Joined, AllocError>
+    requires { AllShort (cut_of blocked.now) blocked.now.graph.nodes }
+    ensures nodes { IfOk result (λ j. j.nodes.items
+        ≡ flat_map (λ e. map numbered_entry (left_of (cut_of blocked.now) e.number e.node))
+        blocked.now.graph.nodes) }
+    ensures names { IfOk result (λ j. j.naming.names.items ≡ all_names (cut_of blocked.now)) }
+{
+    let held = held_places(alloc, &blocked.graph)?;
+    let read = read_places(alloc, &blocked.graph)?;
+    let joined = joined_nodes(alloc, blocked, &held, &read)?;
+    Ok(joined)
+}
+
+/// The graph of these nodes, with what is read where it is now.
+fn renamed(
+    alloc: Global,
+    blocked: Blocked,
+    nodes: Vec<Entry>,
+    index: &HashMap<u32, Place>,
+) -> Blocked
+    ensures { result ≡ record {
+      graph = record {
+        nodes = map (reread_entry (by_index index.now)) nodes.items;
+        outputs = map (by_index index.now) blocked.graph.outputs;
+        next = blocked.graph.next;
+      };
+      marks = map (by_index index.now) blocked.marks;
+    } }
+{
+    let Blocked { graph, marks } = blocked;
+    let Graph {
+        nodes: _,
+        outputs,
+        next,
+    } = graph;
+    Blocked {
+        graph: Graph {
+            nodes: reread_all(alloc, nodes, index),
+            outputs: places_of(outputs, index),
+            next,
+        },
+        marks: places_of(marks, index),
+    }
+}
+
+fn reread_all(alloc: Global, nodes: Vec<Entry>, index: &HashMap<u32, Place>) -> Pile<Entry>
+    ensures { result ≡ map (reread_entry (by_index index.now)) nodes.items }
+{
+    let mut all = nodes;
+    for entry in all.iter_mut() {
+        reread_entry(alloc, entry, index);
+    }
+    Pile::from_vec(all)
+}
+
+fn reread_entry(alloc: Global, entry: &mut Entry, index: &HashMap<u32, Place>)
+    ensures { entry.new ≡ reread_entry (by_index index.now) entry.old }
+{
+    reread(alloc, &mut entry.node, index);
+}
+
+fn reread(alloc: Global, node: &mut Node, index: &HashMap<u32, Place>)
+    ensures { node.new ≡ reread (by_index index.now) node.old }
+{
+    match node {
+        Node::Source(_) => {}
+        Node::Flatten(inputs) => {
+            let former = mem::replace(inputs, Pile::new(alloc));
+            *inputs = places_of(former, index);
+        }
+        Node::Pdo(c, _) => *c = place_of(*c, index),
+        Node::Gbk(c, _, _, _) => *c = place_of(*c, index),
+    }
+}

@@ -1,0 +1,140 @@
+ghost use Rattle.std.specs.Prelude.{◌≡◌, ◌++◌, ◌∷◌, [], ◌<◌, ◌^◌, length, map, true, IfOk, OnOk};
+ghost use Rattle.std.specs.List.{flat_map};
+ghost use Rattle.exec_graph.specs.Forests.{numbered};
+ghost use Rattle.exec_graph.specs.Places.{HasPlaces};
+ghost use Rattle.exec_graph.specs.Readers.{is_held, is_read, readers};
+ghost use Rattle.pardo_fuse.specs.Readers.{cut_of};
+ghost use Rattle.pardo_fuse.specs.Fusing.{forest_of, left_of, trees};
+ghost use Rattle.pardo_fuse.specs.inner.Naming.{AllShort, LeadsShort, all_names, labels, left_names, names_from, numbered_entry};
+
+use crate::names::Naming;
+use crate::parents::{leads, readers_of};
+use crate::trees::trees_of;
+use exec_graph::{Blocked, Entry, Node, Place, Roots};
+use flume_value::Pile;
+use std::alloc::{AllocError, Global};
+use std::collections::HashSet;
+
+/// The nodes that are left, and the names of their outputs.
+#[derive(Drop)]
+pub(crate) struct Joined {
+    pub(crate) nodes: Vec<Entry>,
+    pub(crate) naming: Naming,
+}
+
+/// The nodes that are left, with outputs that have numbers from 0 on, and with what they read as it
+/// was.
+pub(crate) fn joined_nodes(
+    alloc: Global,
+    blocked: &Blocked,
+    held: &HashSet<u64>,
+    read: &HashSet<u64>,
+) -> Result<Joined, AllocError>
+    requires held { HasPlaces held.now (is_held blocked.now.graph) }
+    requires read { HasPlaces read.now (is_read blocked.now.graph) }
+    requires short { AllShort (cut_of blocked.now) blocked.now.graph.nodes }
+    ensures nodes { IfOk result (λ j. j.nodes.items
+        ≡ flat_map (λ e. map numbered_entry (left_of (cut_of blocked.now) e.number e.node))
+        blocked.now.graph.nodes) }
+    ensures names { IfOk result (λ j. j.naming.names.items ≡ all_names (cut_of blocked.now)) }
+{
+    let mut nodes = Vec::new(alloc);
+    let mut naming = Naming {
+        names: Vec::new(alloc),
+        next: 0,
+    };
+    for e in blocked.graph.nodes.as_slice() {
+        push_left(alloc, blocked, held, read, e, &mut nodes, &mut naming)?;
+    }
+    Ok(Joined { nodes, naming })
+}
+
+fn push_left(
+    alloc: Global,
+    blocked: &Blocked,
+    held: &HashSet<u64>,
+    read: &HashSet<u64>,
+    entry: &Entry,
+    nodes: &mut Vec<Entry>,
+    naming: &mut Naming,
+) -> Result<(), AllocError>
+    requires held { HasPlaces held.now (is_held blocked.now.graph) }
+    requires read { HasPlaces read.now (is_read blocked.now.graph) }
+    requires short { LeadsShort (cut_of blocked.now) entry.now.number entry.now.node }
+    ensures nodes { OnOk result (nodes.new.items ≡ nodes.old.items
+        ++ map numbered_entry (left_of (cut_of blocked.now) entry.now.number entry.now.node)) }
+    ensures names { OnOk result (naming.new.names.items ≡ naming.old.names.items
+        ++ left_names (cut_of blocked.now) entry.now.number entry.now.node) }
+{
+    let number = entry.number;
+    match &entry.node {
+        Node::Source(row) => push_node(number, Node::Source(*row), nodes),
+        Node::Flatten(inputs) => {
+            let copy = copied(alloc, inputs.as_slice())?;
+            push_node(number, Node::Flatten(copy), nodes)
+        }
+        Node::Pdo(c, _) => {
+            if !leads(blocked, number, *c) {
+                return Ok(());
+            }
+            let roots = forest_of(alloc, blocked, held, read, number, *c, naming)?;
+            push_node(number, Node::Pdo(*c, roots), nodes)?;
+            Ok(())
+        }
+        Node::Gbk(c, origin, last, lifted) => {
+            push_node(number, Node::Gbk(*c, *origin, *last, *lifted), nodes)
+        }
+    }
+}
+
+/// The forest of a collection in the node `lead`, with outputs that have numbers from 0 on.
+fn forest_of(
+    alloc: Global,
+    blocked: &Blocked,
+    held: &HashSet<u64>,
+    read: &HashSet<u64>,
+    lead: u32,
+    c: Place,
+    naming: &mut Naming,
+) -> Result<Roots, AllocError>
+    requires held { HasPlaces held.now (is_held blocked.now.graph) }
+    requires read { HasPlaces read.now (is_read blocked.now.graph) }
+    requires few { labels (trees (cut_of blocked.now) (length blocked.now.graph.nodes)
+        (readers blocked.now.graph.nodes c)) < 2 ^ 32 }
+    ensures forest { IfOk result (λ f. f ≡ numbered 0 (forest_of (cut_of blocked.now) c)) }
+    ensures names { OnOk result (naming.new.names.items ≡ naming.old.names.items
+        ++ names_from lead 0 (forest_of (cut_of blocked.now) c)) }
+{
+    let nodes = blocked.graph.nodes.as_slice();
+    let roots = readers_of(alloc, c, nodes)?;
+    naming.next = 0;
+    let trees = trees_of(
+        alloc,
+        blocked,
+        held,
+        read,
+        nodes.len(),
+        lead,
+        roots.as_slice(),
+        naming,
+    )?;
+    Ok(Roots::new(trees))
+}
+
+fn copied(alloc: Global, places: &[Place]) -> Result<Pile<Place>, AllocError>
+    ensures { IfOk result (λ p. p ≡ places.now) }
+{
+    let mut copy = Pile::new(alloc);
+    for c in places {
+        copy.push(*c)?;
+    }
+    Ok(copy)
+}
+
+fn push_node(number: u32, node: Node, nodes: &mut Vec<Entry>) -> Result<(), AllocError>
+    ensures { OnOk result (nodes.new.items
+        ≡ nodes.old.items ++ (record { number = number; node = node }) ∷ []) }
+{
+    nodes.push(Entry { number, node })?;
+    Ok(())
+}

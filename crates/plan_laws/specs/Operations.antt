@@ -1,0 +1,316 @@
+-- Operations of a plan, by the nodes of a graph that they carry out.
+use Rattle.std.specs.Prelude.{◌≡◌, ℕ, ◌+◌, ◌⊎◌, Bool, true, false, cond, ◌==◌, List, [], ◌∷◌, ◌++◌, map, Option, Some, None}
+use Rattle.std.proofs.Common.{suc}
+use Rattle.std.specs.List.{AllByRecursion, flat_map}
+use Rattle.flume_collection.specs.Collection.{Collection}
+use Rattle.exec_graph.specs.World.{World}
+use Rattle.exec_graph.specs.Forests.{Forest}
+use Rattle.exec_graph.specs.Meaning.{IsThere, all_traps, collection, node_at, own_bag, place}
+use Rattle.exec_graph.specs.Readers.{same_place}
+use Rattle.exec_graph.specs.declared.graph.Place.{Place}
+use Rattle.exec_graph.specs.declared.graph.Node.{Node}
+use Rattle.exec_graph.specs.declared.graph.Node.TheVariants.{Source, Flatten, Pdo, Gbk}
+use Rattle.exec_graph.specs.declared.graph.Entry.{Entry}
+use Rattle.exec_graph.specs.declared.graph.Graph.{Graph}
+use Rattle.exec_plan.specs.declared.plan.PlanPlace.{PlanPlace}
+use Rattle.exec_plan.specs.declared.plan.PlanPlace.TheVariants as at
+use Rattle.exec_plan.specs.declared.plan.Take.{Take}
+use Rattle.exec_plan.specs.declared.plan.InChannel.{InChannel}
+use Rattle.exec_plan.specs.declared.plan.Grouping.{Grouping}
+use Rattle.exec_plan.specs.declared.plan.OutChannel.{OutChannel}
+use Rattle.exec_plan.specs.declared.plan.OutChannel.TheVariants.{Group, Pass}
+use Rattle.exec_plan.specs.declared.plan.Stage.{Stage}
+use Rattle.exec_plan.specs.declared.plan.Stage.TheVariants.{Mscr, Flatten as Joined}
+use Rattle.exec_plan.specs.declared.plan.Plan.{Plan}
+use Rattle.exec_plan.specs.Channels.{Fed, outs_of}
+use Rattle.exec_plan.specs.Meaning.{emitted_by, plan_collection, plan_traps}
+use Rattle.exec_plan.specs.Wellformed.{width}
+use Rattle.plan_laws.specs.declared.operations.Key.{Key}
+use Rattle.plan_laws.specs.declared.operations.Key.TheVariants.{Mapper, Whole}
+use Rattle.plan_laws.specs.declared.operations.Grouped.{Grouped}
+use Rattle.plan_laws.specs.declared.operations.Operation.{Operation}
+use Rattle.plan_laws.specs.declared.operations.Operation.TheVariants.{Flat, Class}
+
+-- ---- input channels
+
+-- a collection of the graph, and the steps on it
+pub record Reading : Type 0 where
+  pub reads : Place
+  pub does : Option Forest
+
+-- the channel, where f says which collection of the plan each of the graph's is
+abbrev pub named : (Place → PlanPlace) → Reading → InChannel
+named f r = record { reads = f r.reads; does = r.does }
+
+-- the channel with what it reads, where m says what each collection of the graph is
+abbrev pub valued : (Place → Collection) → Reading → Fed
+valued m r = record { value = m r.reads; does = r.does }
+
+abbrev pub whole : Place → Reading
+whole c = record { reads = c; does = None }
+
+abbrev pub pdo_channel : ℕ → Option Node → Reading
+pdo_channel n (Some (Pdo c f)) = record { reads = c; does = Some f }
+pdo_channel n o = whole (place n 0)
+
+abbrev pub channel_of : List Entry → Key → Reading
+channel_of es (Mapper n) = pdo_channel n (node_at es n)
+channel_of es (Whole c) = whole c
+
+abbrev pub channels_of : List Entry → List Key → List Reading
+channels_of es keys = map (channel_of es) keys
+
+-- ---- what is taken
+
+abbrev pub has_key : Key → Place → Bool
+has_key (Mapper n) c = n == c.node
+has_key (Whole d) c = same_place d c
+
+abbrev pub key_out : Key → Place → ℕ
+key_out (Mapper n) c = c.out
+key_out (Whole d) c = 0
+
+-- the first channel that has the collection, and as which output
+abbrev pub position : List Key → Place → ℕ
+position [] c = 0
+position (k ∷ ks) c = cond (has_key k c) 0 (suc (position ks c))
+
+abbrev pub out_in : List Key → Place → ℕ
+out_in [] c = 0
+out_in (k ∷ ks) c = cond (has_key k c) (key_out k c) (out_in ks c)
+
+abbrev pub take_of : List Key → Place → Take
+take_of keys c = record { channel = position keys c; out = out_in keys c }
+
+-- ---- output channels
+
+-- what a Gbk of c groups: the inputs of the Flatten that it reads, or c
+abbrev pub inputs_at : Place → Option Node → List Place
+inputs_at c (Some (Flatten ins)) = ins
+inputs_at c o = c ∷ []
+
+abbrev pub inputs_of : List Entry → Place → List Place
+inputs_of es c = inputs_at c (node_at es c.node)
+
+abbrev pub forest_at : Option Node → Option Forest
+forest_at (Some (Pdo c f)) = Some f
+forest_at o = None
+
+abbrev pub reducer_of : List Entry → Option ℕ → Option Forest
+reducer_of es None = None
+reducer_of es (Some r) = forest_at (node_at es r)
+
+abbrev pub group_at : List Entry → List Key → Option ℕ → Option Node → Grouping
+group_at es keys r (Some (Gbk c o l k)) = record {
+  origin = o;
+  last = l;
+  lifted = k;
+  takes = map (take_of keys) (inputs_of es c);
+  does = reducer_of es r;
+  first = 0;
+}
+group_at es keys r x =
+    record { origin = 0; last = false; lifted = None; takes = []; does = None; first = 0 }
+
+abbrev pub group_of : List Entry → List Key → Grouped → OutChannel
+group_of es keys g = Group (group_at es keys g.reducer (node_at es g.gbk))
+
+abbrev pub pass_of : List Key → Place → OutChannel
+pass_of keys c = Pass (take_of keys c) 0
+
+-- results are numbered over the channels
+abbrev pub numbered_out : ℕ → OutChannel → OutChannel
+numbered_out n (Group g) = Group (record g { first = n })
+numbered_out n (Pass k i) = Pass k n
+
+abbrev pub numbered_outs : ℕ → List OutChannel → List OutChannel
+numbered_outs n [] = []
+numbered_outs n (o ∷ os) = numbered_out n o ∷ numbered_outs (n + width o) os
+
+abbrev pub class_outs : List Entry → List Key → List Grouped → List Place → List OutChannel
+class_outs es keys groups passes =
+    numbered_outs 0 (map (group_of es keys) groups ++ map (pass_of keys) passes)
+
+-- ---- the stage of an operation
+
+abbrev pub flat_inputs : Option Node → List Place
+flat_inputs (Some (Flatten ins)) = ins
+flat_inputs o = []
+
+abbrev pub stage_of : List Entry → (Place → PlanPlace) → Operation → Stage
+stage_of es f (Flat n) = Joined (map f (flat_inputs (node_at es n)))
+stage_of es f (Class keys groups passes) =
+    Mscr
+    (record {
+      inputs = map (named f) (channels_of es keys);
+      outputs = class_outs es keys groups passes;
+    })
+
+-- the collections of the graph that it reads
+abbrev pub reads_of : List Entry → Operation → List Place
+reads_of es (Flat n) = flat_inputs (node_at es n)
+reads_of es (Class keys groups passes) = map (λ c. c.reads) (channels_of es keys)
+
+-- the collections of the graph that its results are, in order
+abbrev pub outs_at : Option Node → List ℕ
+outs_at (Some (Pdo c f)) = outs_of f
+outs_at o = []
+
+abbrev pub reduced : List Entry → ℕ → Option ℕ → List Place
+reduced es n None = place n 0 ∷ []
+reduced es n (Some r) = map (place r) (outs_at (node_at es r))
+
+abbrev pub group_gives : List Entry → Grouped → List Place
+group_gives es g = reduced es g.gbk g.reducer
+
+abbrev pub gives_of : List Entry → Operation → List Place
+gives_of es (Flat n) = place n 0 ∷ []
+gives_of es (Class keys groups passes) = flat_map (group_gives es) groups ++ passes
+
+-- the nodes that it carries out
+abbrev pub key_runs : Key → List ℕ
+key_runs (Mapper n) = n ∷ []
+key_runs (Whole c) = []
+
+abbrev pub reducer_runs : Option ℕ → List ℕ
+reducer_runs None = []
+reducer_runs (Some r) = r ∷ []
+
+abbrev pub group_runs : Grouped → List ℕ
+group_runs g = g.gbk ∷ reducer_runs g.reducer
+
+abbrev pub runs : Operation → List ℕ
+runs (Flat n) = n ∷ []
+runs (Class keys groups passes) = flat_map key_runs keys ++ flat_map group_runs groups
+
+-- ---- an operation that stands for nodes of the graph
+
+abbrev pub IsPdo : Option Node → Type 0
+IsPdo (Some (Pdo c f)) = Unit {0}
+IsPdo o = ⊥
+
+abbrev pub IsKeyOk : List Entry → Key → Type 0
+IsKeyOk es (Mapper n) = IsPdo (node_at es n)
+IsKeyOk es (Whole c) = Unit {0}
+
+abbrev pub HasKey : List Key → Place → Type 0
+HasKey [] c = ⊥
+HasKey (k ∷ ks) c = (has_key k c ≡ true) ⊎ HasKey ks c
+
+-- a collection that is there and that a channel has
+abbrev pub IsTaken : List Entry → List Key → Place → Type 0
+IsTaken es keys c = HasKey keys c × IsThere es c
+
+abbrev pub Reads : Place → Option Node → Type 0
+Reads d (Some (Pdo c f)) = c ≡ d
+Reads d o = ⊥
+
+abbrev pub IsReducer : List Entry → ℕ → Option ℕ → Type 0
+IsReducer es n None = Unit {0}
+IsReducer es n (Some r) = Reads (place n 0) (node_at es r)
+
+abbrev pub TakesInputs : List Entry → List Key → Option Node → Type 0
+TakesInputs es keys (Some (Gbk c o l k)) = AllByRecursion (IsTaken es keys) (inputs_of es c)
+TakesInputs es keys o = ⊥
+
+abbrev pub IsGroupedOk : List Entry → List Key → Grouped → Type 0
+IsGroupedOk es keys g = TakesInputs es keys (node_at es g.gbk) × IsReducer es g.gbk g.reducer
+
+abbrev pub IsFlat : Option Node → Type 0
+IsFlat (Some (Flatten ins)) = Unit {0}
+IsFlat o = ⊥
+
+abbrev pub IsHonest : List Entry → Operation → Type 0
+IsHonest es (Flat n) = IsFlat (node_at es n)
+IsHonest es (Class keys groups passes) =
+    AllByRecursion (IsKeyOk es) keys × AllByRecursion (IsGroupedOk es keys) groups
+    × AllByRecursion (IsTaken es keys) passes
+
+-- ---- the plan
+
+-- the collections cs are the results of stage k from number i on, and others are where f says
+abbrev pub placed : ℕ → ℕ → List Place → (Place → PlanPlace) → Place → PlanPlace
+placed k i [] f c = f c
+placed k i (d ∷ ds) f c = cond (same_place d c) (at.Result k i) (placed k (suc i) ds f c)
+
+-- the stages of a plan from number k on, and where the graph's collections are in the end
+abbrev pub stages_of : List Entry → ℕ → (Place → PlanPlace) → List Operation → List Stage
+stages_of es k f [] = []
+stages_of es k f (o ∷ os) =
+    stage_of es f o ∷ stages_of es (suc k) (placed k 0 (gives_of es o) f) os
+
+abbrev pub places_of : List Entry → ℕ → (Place → PlanPlace) → List Operation → Place → PlanPlace
+places_of es k f [] = f
+places_of es k f (o ∷ os) = places_of es (suc k) (placed k 0 (gives_of es o) f) os
+
+-- sources stand under their numbers
+abbrev pub source_at : Option Node → ℕ
+source_at (Some (Source r)) = r
+source_at o = 0
+
+abbrev pub at_source : List Entry → Place → PlanPlace
+at_source es c = at.Source (source_at (node_at es c.node))
+
+abbrev pub plan_of : ℕ → List Entry → List Place → List Operation → Plan
+plan_of sources es outs os = record {
+  sources = sources;
+  stages = stages_of es 1 (at_source es) os;
+  outputs = map (places_of es 1 (at_source es) os) outs;
+}
+
+-- ---- operations that carry out a graph
+
+abbrev pub IsIn : Place → List Place → Type 0
+IsIn c [] = ⊥
+IsIn c (d ∷ ds) = (d ≡ c) ⊎ IsIn c ds
+
+-- each operation reads collections that are made before
+abbrev pub AreReady : List Entry → List Place → List Operation → Type 0
+AreReady es made [] = Unit {0}
+AreReady es made (o ∷ os) =
+    AllByRecursion (λ c. IsIn c made) (reads_of es o) × AreReady es (gives_of es o ++ made) os
+
+abbrev pub made_by : List Entry → List Place → List Operation → List Place
+made_by es made [] = made
+made_by es made (o ∷ os) = made_by es (gives_of es o ++ made) os
+
+abbrev pub source_place : ℕ → Node → List Place
+source_place n (Source r) = place n 0 ∷ []
+source_place n (Flatten ins) = []
+source_place n (Pdo c f) = []
+source_place n (Gbk c o l k) = []
+
+abbrev pub source_places : List Entry → List Place
+source_places [] = []
+source_places (e ∷ es) = source_place e.number e.node ++ source_places es
+
+-- how often
+abbrev pub times : ℕ → List ℕ → ℕ
+times n [] = 0
+times n (k ∷ ks) = cond (k == n) 1 0 + times n ks
+
+-- Pdos and Gbks
+abbrev pub works : Node → Bool
+works (Source r) = false
+works (Flatten ins) = false
+works (Pdo c f) = true
+works (Gbk c o l k) = true
+
+abbrev pub works_at : Option Node → Bool
+works_at None = false
+works_at (Some x) = works x
+
+-- each stands for nodes and reads what is made, what is written out is made, and each Pdo and each
+-- Gbk is carried out once
+pub record DoAll (g : Graph) (os : List Operation) : Type 0 where
+  pub sound : AllByRecursion (IsHonest g.nodes) os
+  pub ready : AreReady g.nodes (source_places g.nodes) os
+  pub told :
+      AllByRecursion (λ c. IsIn c (made_by g.nodes (source_places g.nodes) os)) g.outputs
+  pub once : (n : ℕ) → works_at (node_at g.nodes n) ≡ true → times n (flat_map runs os) ≡ 1
+
+-- the plan means what the graph means
+pub record SamePlan (w : World) (g : Graph) (p : Plan) : Type 0 where
+  pub outputs : map (collection w g) g.outputs ≡ map (plan_collection w p) p.outputs
+  pub own : (i : ℕ) → own_bag w (collection w g) g.nodes i ≡ emitted_by w p i
+  pub traps : all_traps w (collection w g) g.nodes ≡ plan_traps w p

@@ -1,0 +1,10 @@
+//! Tests of the tables of accumulators, of the shards and of the parts that are shuffled, by their
+//! public calls alone.
+#![tactic(auto)]
+
+#[cfg(test)]
+mod parts;
+#[cfg(test)]
+mod ranges;
+#[cfg(test)]
+mod tables;

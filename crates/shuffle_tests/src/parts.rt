@@ -1,0 +1,101 @@
+// What is parted by keys, and gathered.
+ghost use Rattle.std.specs.Prelude.{◌<◌, All, IfOk};
+ghost use Rattle.bag_groups.specs.Pairs.{IsPair};
+ghost use Rattle.partial_tables.specs.Merges.{IsCombinable};
+
+use bag_groups::pair;
+use combine_table::Comb;
+use flume_value::{Items, Pile, Value, partition};
+use partial_tables::lift_pairs;
+use shuffle_parts::{
+    MapOut, Sent, combine_parts, gather_pairs, gather_partials, gather_passed, part,
+};
+use std::alloc::{AllocError, Global};
+use std::test::Fail;
+
+fn ints(alloc: Global, key: i64, value: i64) -> Result<Value, AllocError>
+    ensures pair { IfOk result IsPair }
+    ensures sums { IfOk result (IsCombinable Comb.Sum) }
+{
+    pair(alloc, Value::Int(key), Value::Int(value))
+}
+
+fn three(alloc: Global, a: i64, b: i64, c: i64) -> Result<Vec<Value>, AllocError>
+    ensures pairs { IfOk result (λ pairs. All IsPair pairs.items) }
+    ensures sums { IfOk result (λ pairs. All (IsCombinable Comb.Sum) pairs.items) }
+{
+    let mut pairs = Vec::new(alloc);
+    pairs.push(ints(alloc, 1, a)?)?;
+    pairs.push(ints(alloc, 2, b)?)?;
+    pairs.push(ints(alloc, 1, c)?)?;
+    Ok(pairs)
+}
+
+// An out that groups the pairs in three partitions, and passes a value.
+fn grouped(alloc: Global, pairs: Vec<Value>, passed: i64) -> Result<MapOut, AllocError>
+    requires { All IsPair pairs.items }
+{
+    let mut values = Pile::new(alloc);
+    values.push(Value::Int(passed))?;
+    let mut sent = Pile::new(alloc);
+    sent.push(Sent::Grouped(part(alloc, pairs, 3)?))?;
+    sent.push(Sent::Passed(values))?;
+    Ok(MapOut {
+        sent,
+        counts: Pile::new(alloc),
+    })
+}
+
+#[test]
+fn pairs_are_gathered_by_the_partition_of_their_key(rt: HostRuntime) -> Result<(), Fail> {
+    let alloc = rt.alloc();
+    let mut outs = Vec::new(alloc);
+    outs.push(grouped(alloc, three(alloc, 10, 20, 11)?, 7)?)?;
+    outs.push(grouped(alloc, three(alloc, 12, 21, 13)?, 8)?)?;
+    let one = partition(&Value::Int(1), 3) as usize;
+    let two = partition(&Value::Int(2), 3) as usize;
+    let ones = gather_pairs(alloc, outs.as_slice(), 0, one)?;
+    let twos = gather_pairs(alloc, outs.as_slice(), 0, two)?;
+    assert!(rt; one != two && ones.len() == 4 && twos.len() == 2);
+    assert!(rt; ones[0] == ints(alloc, 1, 10)? && ones[3] == ints(alloc, 1, 13)?);
+    assert!(rt; twos[0] == ints(alloc, 2, 20)? && twos[1] == ints(alloc, 2, 21)?);
+    let passed = gather_passed(alloc, outs.as_slice(), 1)?;
+    assert!(rt; passed.len() == 2 && passed[0] == Value::Int(7) && passed[1] == Value::Int(8));
+    assert!(rt; gather_pairs(alloc, outs.as_slice(), 1, one)?.is_empty());
+    Ok(())
+}
+
+// The accumulators of one part.
+fn sums(alloc: Global, pairs: Vec<Value>) -> Result<MapOut, AllocError>
+    requires { All (IsCombinable Comb.Sum) pairs.items }
+{
+    let mut combined = Vec::new(alloc);
+    combined.push(Pile::from_vec(lift_pairs(alloc, Comb::Sum, pairs)?))?;
+    let mut sent = Pile::new(alloc);
+    sent.push(Sent::Combined(Pile::from_vec(combined)))?;
+    Ok(MapOut {
+        sent,
+        counts: Pile::new(alloc),
+    })
+}
+
+#[test]
+fn accumulators_are_gathered_in_order_of_tasks(rt: HostRuntime) -> Result<(), Fail> {
+    let alloc = rt.alloc();
+    let mut outs = Vec::new(alloc);
+    outs.push(sums(alloc, three(alloc, 10, 20, 11)?)?)?;
+    outs.push(sums(alloc, three(alloc, 12, 21, 13)?)?)?;
+    let all = gather_partials(alloc, outs.as_slice(), 0, 0)?;
+    assert!(rt; all.len() == 4);
+    assert!(rt; all[0].1 == Value::Wide(21) && all[1].1 == Value::Wide(20));
+    assert!(rt; all[2].1 == Value::Wide(25) && all[3].1 == Value::Wide(21));
+    Ok(())
+}
+
+#[test]
+fn no_parts_combine_to_none(rt: HostRuntime) -> Result<(), Fail> {
+    let alloc = rt.alloc();
+    let none: Pile<Items> = Pile::new(alloc);
+    assert!(rt; combine_parts(alloc, Comb::Sum, none)?.is_empty());
+    Ok(())
+}
