@@ -145,7 +145,8 @@ rows_input script well number entry at needed file columns is inputs read rows f
     let whole : HaveRows (wanted ∷ from script (suc number)) (rows ∷ drop (suc read) inputs) = (
       rows_have type columns fits rows full,
       subst (λ (l : List Wanted). HaveRows l (drop (suc read) inputs)) (next_is script number)
-          (subst (λ (n : ℕ). HaveRows (from script (number + 1)) (drop n inputs)) (add-one read) have),
+          (subst (λ (n : ℕ). HaveRows (from script (number + 1)) (drop n inputs)) (add-one read)
+          have),
     )
     in
     subst (λ (l : List Wanted). HaveRows l (drop read inputs))

@@ -50,7 +50,8 @@ out_found w v Bare j h = absurd (false≢true h)
 out_found w v (Grow l kids rest) j h = out_found_by w v l kids rest j (is_out l.out j) h
     (λ i. out_found w (through w l v) kids j i) (λ i. out_found w v rest j i)
 
-pub out_lacks : (w : World) (v : Collection) (f : Forest) (j : ℕ) → has_out j f ≡ false → out_of w v f j
+pub out_lacks : (w : World) (v : Collection) (f : Forest) (j : ℕ) → has_out j f ≡ false
+    → out_of w v f j
     ≡ None
 out_lacks w v Bare j h = refl
 out_lacks w v (Grow l kids rest) j h =

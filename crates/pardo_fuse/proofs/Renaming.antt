@@ -73,7 +73,8 @@ names_place b (e ∷ es) c = by_left b c e.number e.node
     (flat_map (λ e. left_names b e.number e.node) es)
     (flat_map (λ e. left_of b e.number e.node) es) (names_place b es c)
 
-map_same : {X Y : Type 0} (f g : X → Y) → ((x : X) → f x ≡ g x) → (xs : List X) → map f xs ≡ map g xs
+map_same : {X Y : Type 0} (f g : X → Y) → ((x : X) → f x ≡ g x) → (xs : List X) → map f xs
+    ≡ map g xs
 map_same f g e [] = refl
 map_same f g e (x ∷ xs) = let i = map_same f g e xs in let a = e x in cc
 

@@ -63,7 +63,8 @@ number_from s (Grow l kids rest) j d h = by (number_from (after_out s l.out) kid
           has =
               or_first (is_out l.out p.0) (has_out p.0 kids || has_out p.0 rest) p.1;
           is =
-              ap (λ (r : Bool). cond r s (cond (has_out p.0 kids) (number_in (after_out s l.out) kids
+              ap (λ (r : Bool). cond r s (cond (has_out p.0 kids)
+              (number_in (after_out s l.out) kids
               p.0) (number_in (after (after_out s l.out) kids) rest p.0))) p.1 ∙ p.2;
         })
         (λ i. or_else (IsFrom s (Grow l kids rest) j) (has_out j (numbered (after_out s l.out)

@@ -40,10 +40,12 @@ out_absorbed w m n j v (Grow l kids rest) b a h k =
           (total w (step_traps w) (through w l v) kids ++ total w (step_traps w) v rest) b k)
       | inr i ↦ elim (or_cases (has_out j kids) (has_out j rest) i) [
         | inl e ↦ out_absorbed w m n j (through w l v) kids b a.1 e
-            (absorbs_left (total w (step_traps w) (through w l v) kids) (total w (step_traps w) v rest)
+            (absorbs_left (total w (step_traps w) (through w l v) kids)
+            (total w (step_traps w) v rest)
             b behind)
         | inr e ↦ out_absorbed w m n j v rest b a.2 e
-            (absorbs_right (total w (step_traps w) (through w l v) kids) (total w (step_traps w) v rest)
+            (absorbs_right (total w (step_traps w) (through w l v) kids)
+            (total w (step_traps w) v rest)
             b behind)
       ]
     ]

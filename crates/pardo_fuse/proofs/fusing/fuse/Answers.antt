@@ -20,7 +20,8 @@ joined-requires c =
 pub returns-clause-fused : goal.returns-clause-fused
 returns-clause-fused c =
     c.renamed.ensures
-    ∙ fused_is (cut_of c.args.blocked) c.in_ok-nodes.field-0.nodes.items (by_index c.in_ok-index.index)
+    ∙ fused_is (cut_of c.args.blocked) c.in_ok-nodes.field-0.nodes.items
+    (by_index c.in_ok-index.index)
     c.in_ok-nodes.ensures.nodes
     (λ d. c.in_ok-index.ensures d
     ∙ ap (λ (l : List Name). by_name l d) (c.as_slice.ensures.value ∙ c.in_ok-nodes.ensures.names))

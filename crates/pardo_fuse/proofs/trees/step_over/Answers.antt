@@ -11,7 +11,8 @@ use Rattle.pardo_fuse.proofs.trees.step_over.Goals as goal
 pub returns : goal.returns
 returns c rest =
     over_step (cut_of c.args.blocked.now) c.args.number c.call_at-call.result c.args.out
-    c.args.kids.items (twig c.new.result) (map twig c.new-2.result.items) c.new-3.result (subst (λ (es : List Entry).
+    c.args.kids.items (twig c.new.result) (map twig c.new-2.result.items) c.new-3.result
+    (subst (λ (es : List Entry).
     IsCall c.call_at-call.result (step_of (node_at es c.args.number))) c.as_slice.ensures
     c.call_at-call.ensures)
     c.new.ensures (ap (map twig) c.new-2.ensures.items) c.new-3.ensures rest
