@@ -1,0 +1,4 @@
+pub mod Levels
+pub mod Reading
+pub mod Mappers
+pub mod Roles
