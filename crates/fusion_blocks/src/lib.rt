@@ -15,3 +15,4 @@ mod marks;
 mod nodes;
 
 pub use blocks::block;
+pub use nodes::{find_node, index_of, reads_of};

@@ -7,6 +7,7 @@ use Rattle.exec_graph.specs.declared.graph.Place.{Place}
 use Rattle.exec_graph.specs.declared.graph.Node.{Node}
 use Rattle.exec_graph.specs.declared.graph.Node.TheVariants.{Source, Flatten, Pdo, Gbk}
 use Rattle.exec_graph.specs.declared.graph.Entry.{Entry}
+use Rattle.exec_graph.specs.declared.graph.Graph.{Graph}
 
 -- ---- by paths
 
@@ -36,10 +37,7 @@ greatest (n ∷ ns) = max n (greatest ns)
 
 -- the level of a node, by those of the nodes that it reads
 abbrev pub level_by : (ℕ → ℕ) → Node → ℕ
-level_by l (Source r) = 0
-level_by l (Flatten ins) = greatest (map (λ (c : Place). l c.node) ins)
-level_by l (Pdo c f) = l c.node
-level_by l (Gbk c o last k) = suc (l c.node)
+level_by l x = one_gbk x + greatest (map (λ (c : Place). l c.node) (reads x))
 
 abbrev pub level_at : (ℕ → ℕ) → Option Node → ℕ
 level_at l None = 0
@@ -53,3 +51,10 @@ level_within es (suc nodes) n = level_at (level_within es nodes) (node_at es n)
 -- the level of the node n: a path has no more nodes than there are
 unfoldable pub level : List Entry → ℕ → ℕ
 level es n = level_within es (suc (length es)) n
+
+-- each node's level is what it is by those that the node reads, and the greatest number of Gbks on
+-- a path to it
+abbrev pub HasLevels : Graph → Type 0
+HasLevels g =
+    (n : ℕ) (x : Node) → node_at g.nodes n ≡ Some x →
+    (level g.nodes n ≡ level_by (level g.nodes) x) × IsLevel g.nodes n (level g.nodes n)

@@ -17,13 +17,17 @@ use Rattle.plan_roles.specs.Mappers.{is_mapper, is_reducer, is_stage, keys_in, o
 abbrev pub passes_of : Blocked → ℕ → Forest → List Place
 passes_of b n f = filter (passes b) (outputs_of n f)
 
+-- the part of the Pdo n with that forest
+abbrev pub pdo_part : Blocked → ℕ → Forest → Part
+pdo_part b n f =
+    cond (is_mapper b n) (part.Mapper (passes_of b n f))
+    (cond (is_reducer b n) part.Reducer (part.Trivial (outputs_of n f)))
+
 -- the part of the node n
 abbrev pub part_of : Blocked → ℕ → Node → Part
 part_of b n (Source r) = part.Source
 part_of b n (Flatten ins) = cond (is_stage b n) part.Stage part.Inlined
-part_of b n (Pdo c f) =
-    cond (is_mapper b n) (part.Mapper (passes_of b n f))
-    (cond (is_reducer b n) part.Reducer (part.Trivial (outputs_of n f)))
+part_of b n (Pdo c f) = pdo_part b n f
 part_of b n (Gbk c o l k) = part.Group (keys_in b n c) (reducer_of b n)
 
 abbrev pub role_of : Blocked → Entry → Role
