@@ -3,7 +3,7 @@ use Rattle.std.proofs.Common.{◌≡◌, ℕ, ◌+◌, ◌-◌, ◌<◌, ◌≤�
 use Rattle.std.specs.List.{slice_get}
 use Rattle.exec_graph.specs.Meaning.{node_at}
 use Rattle.exec_graph.specs.declared.graph.Entry.{Entry}
-use Rattle.fusion_blocks.specs.Nodes.{index_from}
+use Rattle.fusion_blocks.specs.inner.Nodes.{index_from}
 
 -- the node at a place, counted from k on, is the node n
 record StandsAt (es : List Entry) (k i n : ℕ) : Type 0 where

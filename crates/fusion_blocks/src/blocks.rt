@@ -1,7 +1,7 @@
 ghost use Rattle.std.specs.Prelude.{◌≡◌, OnOk, IfOk};
 ghost use Rattle.exec_graph.specs.Wellformed.{IsBlockedOk, IsGraphOk};
 ghost use Rattle.fusion_blocks.specs.Blocks.{IsBlocked, IsMarkOf};
-ghost use Rattle.fusion_blocks.specs.Nodes.{IsIndex};
+ghost use Rattle.fusion_blocks.specs.inner.Nodes.{IsIndex};
 ghost use Rattle.fusion_blocks.specs.inner.Stretches.{AreBefore, AreMarks, HasCodes, HasGrouped, MarkedFrom, MarksAlso, fed};
 ghost use Rattle.fusion_blocks.specs.inner.Tables.{IsRanked, known};
 ghost use Rattle.fusion_blocks.specs.declared.chains.Stretch.TheVariants as least;

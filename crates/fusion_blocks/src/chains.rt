@@ -1,5 +1,5 @@
 ghost use Rattle.std.specs.Prelude.{◌≡◌, OnOk, IfOk};
-ghost use Rattle.fusion_blocks.specs.Nodes.{IsIndex};
+ghost use Rattle.fusion_blocks.specs.inner.Nodes.{IsIndex};
 ghost use Rattle.fusion_blocks.specs.inner.Stretches.{AreBefore, IsPdoOf, IsStretch, longer};
 ghost use Rattle.fusion_blocks.specs.inner.Tables.{IsBelow, known};
 

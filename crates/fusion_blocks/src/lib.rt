@@ -15,4 +15,3 @@ mod marks;
 mod nodes;
 
 pub use blocks::block;
-pub use nodes::{find_node, index_of, reads_of};

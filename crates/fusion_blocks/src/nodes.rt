@@ -1,8 +1,7 @@
 ghost use Rattle.std.specs.Prelude.{◌≡◌, ◌==◌, ◌<◌, ℕ, cond, length, nat_eq, None, Some, IfOk, OnOk, IfSome, MatchOption};
 ghost use Rattle.std.specs.HashMap.{get};
 ghost use Rattle.exec_graph.specs.Meaning.{node_at, reads};
-ghost use Rattle.fusion_blocks.specs.Nodes.{IsIndex, index_from};
-ghost use Rattle.fusion_blocks.specs.inner.Nodes.{first_index};
+ghost use Rattle.fusion_blocks.specs.inner.Nodes.{IsIndex, first_index, index_from};
 
 use exec_graph::{Entry, Node, Place};
 use std::alloc::{AllocError, Global};
@@ -10,7 +9,7 @@ use std::collections::HashMap;
 use std::slice;
 
 /// Where each node stands, by its number.
-pub fn index_of(alloc: Global, nodes: &[Entry]) -> Result<HashMap<u32, usize>, AllocError>
+pub(crate) fn index_of(alloc: Global, nodes: &[Entry]) -> Result<HashMap<u32, usize>, AllocError>
     ensures { IfOk result (λ m. IsIndex m nodes.now) }
 {
     let mut index = HashMap::new(alloc);
@@ -43,7 +42,7 @@ fn spot_of(nodes: &[Entry], index: &HashMap<u32, usize>, number: u32) -> Option<
 
 /// The node of that number.
 #[tactic(auto, using(crate::proofs::Indexing::index_none))]
-pub fn find_node<'a>(
+pub(crate) fn find_node<'a>(
     nodes: &'a [Entry],
     index: &HashMap<u32, usize>,
     number: u32,
@@ -62,7 +61,7 @@ pub fn find_node<'a>(
 }
 
 /// The collections that a node reads.
-pub fn reads_of(node: &Node) -> &[Place]
+pub(crate) fn reads_of(node: &Node) -> &[Place]
     ensures { result.now ≡ reads node.now }
 {
     match node {

@@ -21,7 +21,7 @@ one_gbk (Gbk c o l k) = 1
 -- a path from a source to the node n, with so many Gbks on it
 pub data IsPath (es : List Entry) : ℕ → ℕ → Type 0 where
   begins : {n r : ℕ} → node_at es n ≡ Some (Source r) → IsPath es n 0
-  goes : {n gbks : ℕ} {x : Node} {c : Place} → node_at es n ≡ Some x → among c (reads x) ≡ true
+  goes : {n gbks : ℕ} {x : Node} (c : Place) → node_at es n ≡ Some x → among c (reads x) ≡ true
       → IsPath es c.node gbks → IsPath es n (one_gbk x + gbks)
 
 -- some path has so many Gbks, and none has more

@@ -9,7 +9,6 @@ use Rattle.exec_graph.specs.Wellformed.{is_lifted}
 use Rattle.exec_graph.specs.declared.graph.Place.{Place}
 use Rattle.exec_graph.specs.declared.graph.Node.{Node}
 use Rattle.exec_graph.specs.declared.graph.Node.TheVariants.{Source, Flatten, Pdo, Gbk}
-use Rattle.exec_graph.specs.declared.graph.Entry.{Entry}
 use Rattle.exec_graph.specs.declared.graph.Blocked.{Blocked}
 use Rattle.fusion_blocks.specs.Feeding.{flattens}
 use Rattle.exec_plan.specs.Channels.{outs_of}

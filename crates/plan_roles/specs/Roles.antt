@@ -1,5 +1,5 @@
 -- What each node of a fused graph is for forming.
-use Rattle.std.specs.Prelude.{ℕ, Bool, cond, List, map, Option, Some, None}
+use Rattle.std.specs.Prelude.{ℕ, cond, List, map}
 use Rattle.std.specs.List.{filter}
 use Rattle.exec_graph.specs.Forests.{Forest}
 use Rattle.exec_graph.specs.declared.graph.Place.{Place}

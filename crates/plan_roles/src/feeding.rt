@@ -2,7 +2,7 @@ ghost use Rattle.std.specs.Prelude.{◌≡◌, ◌&&◌, ◌==◌, not, OnOk, If
 ghost use Rattle.std.proofs.Common.{suc};
 ghost use Rattle.exec_graph.specs.Places.{HasAlso};
 ghost use Rattle.exec_graph.specs.Readers.{among, same_place};
-ghost use Rattle.fusion_blocks.specs.Nodes.{IsIndex};
+ghost use Rattle.node_index.specs.Index.{IsIndex};
 ghost use Rattle.plan_laws.specs.Operations.{inputs_of};
 ghost use Rattle.plan_roles.specs.Levels.{level};
 ghost use Rattle.plan_roles.specs.Reading.{takes};
@@ -11,7 +11,7 @@ ghost use Rattle.plan_roles.specs.inner.Tables.{IsFeeding};
 
 use crate::levels::Levels;
 use exec_graph::{Entry, Node, Place, add_place};
-use fusion_blocks::find_node;
+use node_index::find_node;
 use std::alloc::{AllocError, Global};
 use std::collections::{HashMap, HashSet};
 use std::slice;

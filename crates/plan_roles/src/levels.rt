@@ -1,13 +1,13 @@
 ghost use Rattle.std.specs.Prelude.{◌≡◌, ◌+◌, ◌<◌, ◌≤◌, ◌^◌, length, map, IfOk, OnOk};
 ghost use Rattle.exec_graph.specs.declared.graph.Place.{Place as GhostPlace};
 ghost use Rattle.exec_graph.specs.declared.graph.Entry.{Entry as GhostEntry};
-ghost use Rattle.fusion_blocks.specs.Nodes.{IsIndex};
+ghost use Rattle.node_index.specs.Index.{IsIndex};
 ghost use Rattle.fusion_blocks.specs.inner.Tables.{AllBelow, IsBelow, IsRanked};
 ghost use Rattle.plan_roles.specs.Levels.{greatest, level, one_gbk};
 ghost use Rattle.plan_roles.specs.inner.Known.{AreKnown, AreLevels, level_in};
 
 use exec_graph::{Entry, Node, Place};
-use fusion_blocks::{find_node, index_of, reads_of};
+use node_index::{find_node, index_of, reads_of};
 use std::alloc::{AllocError, Global};
 use std::collections::HashMap;
 

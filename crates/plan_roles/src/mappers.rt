@@ -3,7 +3,7 @@ ghost use Rattle.std.specs.HashSet.{contains};
 ghost use Rattle.std.specs.List.{list_any};
 ghost use Rattle.exec_graph.specs.Meaning.{AllDiffer, node_at};
 ghost use Rattle.exec_graph.specs.Wellformed.{is_lifted};
-ghost use Rattle.fusion_blocks.specs.Nodes.{IsIndex};
+ghost use Rattle.node_index.specs.Index.{IsIndex};
 ghost use Rattle.plan_roles.specs.Mappers.{feeds_unmarked, is_mapper, maps};
 ghost use Rattle.plan_roles.specs.Reading.{goes_past};
 ghost use Rattle.plan_roles.specs.inner.Tables.{AreFound, HasNumbers};
@@ -11,7 +11,7 @@ ghost use Rattle.plan_roles.specs.inner.Tables.{AreFound, HasNumbers};
 use crate::found::Found;
 use crate::outputs::outputs_of;
 use exec_graph::{Blocked, Entry, Node, Place, code_of};
-use fusion_blocks::find_node;
+use node_index::find_node;
 use std::alloc::{AllocError, Global};
 use std::collections::{HashMap, HashSet};
 

@@ -2,7 +2,7 @@ ghost use Rattle.std.specs.Prelude.{◌≡◌, cond, IfOk};
 ghost use Rattle.exec_graph.specs.Wellformed.{IsBlockedOk};
 ghost use Rattle.plan_roles.specs.declared.roles.Part.TheVariants as part;
 ghost use Rattle.plan_roles.specs.Mappers.{is_mapper, is_reducer, is_stage};
-ghost use Rattle.plan_roles.specs.Roles.{part_of, pdo_part, roles};
+ghost use Rattle.plan_roles.specs.Roles.{part_of, pdo_part, role_of, roles};
 ghost use Rattle.plan_roles.specs.inner.Tables.{AreFound, HasNumbers};
 
 use crate::found::{Found, find_all};
@@ -58,14 +58,30 @@ pub fn roles_of(alloc: Global, b: &Blocked) -> Result<Pile<Role>, AllocError>
     let reducers = reducers_of(alloc, b, &found, &mappers)?;
     let mut all = Pile::new(alloc);
     for e in b.graph.nodes.as_slice() {
-        let part = part_of(alloc, b, &found, &mappers, &reducers, e)?;
-        all.push(Role {
-            number: e.number,
-            level: found.levels.of(e.number),
-            part,
-        })?;
+        all.push(role_of(alloc, b, &found, &mappers, &reducers, e)?)?;
     }
     Ok(all)
+}
+
+fn role_of(
+    alloc: Global,
+    b: &Blocked,
+    found: &Found,
+    mappers: &HashSet<u32>,
+    reducers: &HashSet<u32>,
+    entry: &Entry,
+) -> Result<Role, AllocError>
+    requires found { AreFound b.now found.now }
+    requires mappers { HasNumbers mappers.now (is_mapper b.now) }
+    requires reducers { HasNumbers reducers.now (is_reducer b.now) }
+    ensures { IfOk result (λ r. r ≡ role_of b.now entry.now) }
+{
+    let part = part_of(alloc, b, found, mappers, reducers, entry)?;
+    Ok(Role {
+        number: entry.number,
+        level: found.levels.of(entry.number),
+        part,
+    })
 }
 
 fn part_of(

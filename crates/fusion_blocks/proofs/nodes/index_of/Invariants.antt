@@ -1,8 +1,7 @@
 use Rattle.std.specs.Prelude.{nat_eq}
 use Rattle.std.proofs.Common.{◌≡◌, ℕ, drop}
 use Rattle.std.specs.HashMap.{get}
-use Rattle.fusion_blocks.specs.Nodes.{index_from}
-use Rattle.fusion_blocks.specs.inner.Nodes.{first_index}
+use Rattle.fusion_blocks.specs.inner.Nodes.{first_index, index_from}
 use Rattle.fusion_blocks.proofs.nodes.index_of.Given as goal
 
 abbrev pub invariant-loop-i : goal.invariant-loop-i
