@@ -1,0 +1,164 @@
+ghost use Rattle.std.specs.Prelude.{◌≡◌, ◌&&◌, ◌||◌, OnOk, IfOk};
+ghost use Rattle.exec_graph.specs.Meaning.{place};
+ghost use Rattle.exec_graph.specs.Places.{HasAlso, HasPlaces};
+ghost use Rattle.exec_graph.specs.Readers.{calls_on};
+ghost use Rattle.fusion_blocks.specs.Feeding.{flattens};
+ghost use Rattle.plan_roles.specs.Reading.{carries_on, goes_on, goes_past};
+ghost use Rattle.plan_roles.specs.Mappers.{is_stage, is_staged};
+ghost use Rattle.plan_roles.specs.inner.Tables.{HasAmong, IsReading};
+
+use crate::sets::{add_places, set_of};
+use exec_graph::{Blocked, Entry, Node, Place, add_place, code_of};
+use std::alloc::{AllocError, Global};
+use std::collections::HashSet;
+
+/// Collections by who reads them.
+#[derive(Drop)]
+pub(crate) struct Reading {
+    /// The script outputs.
+    pub(crate) told: HashSet<u64>,
+    /// Those that a Pdo or a Flatten reads.
+    pub(crate) on: HashSet<u64>,
+    /// Those with a reader that is neither a Gbk, nor a script output, nor a Flatten whose every
+    /// reader is a Gbk or a script output.
+    pub(crate) past: HashSet<u64>,
+    /// Those that a Flatten reads that is a stage.
+    pub(crate) staged: HashSet<u64>,
+}
+
+pub(crate) fn reading_of(alloc: Global, b: &Blocked) -> Result<Reading, AllocError>
+    ensures { IfOk result (λ s. IsReading b.now s) }
+{
+    let nodes = b.graph.nodes.as_slice();
+    let told = set_of(alloc, b.graph.outputs.as_slice())?;
+    let on = on_places(alloc, nodes)?;
+    let past = past_places(alloc, nodes, &on)?;
+    let staged = staged_places(alloc, b, &told, &on)?;
+    Ok(Reading {
+        told,
+        on,
+        past,
+        staged,
+    })
+}
+
+fn on_places(alloc: Global, nodes: &[Entry]) -> Result<HashSet<u64>, AllocError>
+    ensures { IfOk result (λ s. HasPlaces s (goes_on nodes.now)) }
+{
+    let mut all = HashSet::new(alloc);
+    for e in nodes {
+        add_on(&e.node, &mut all)?;
+    }
+    Ok(all)
+}
+
+fn add_on(node: &Node, all: &mut HashSet<u64>) -> Result<(), AllocError>
+    ensures { OnOk result (HasAlso all.old all.new
+        (λ d. calls_on d node.now || flattens d node.now)) }
+{
+    match node {
+        Node::Pdo(c, _) => add_place(*c, all),
+        Node::Flatten(inputs) => add_places(inputs.as_slice(), all),
+        Node::Source(_) | Node::Gbk(_, _, _, _) => Ok(()),
+    }
+}
+
+/// Whether a Pdo or a Flatten reads the first output of the node.
+fn is_on(nodes: &[Entry], on: &HashSet<u64>, number: u32) -> bool
+    requires on { HasPlaces on.now (goes_on nodes.now) }
+    ensures { result ≡ goes_on nodes.now (place number 0) }
+{
+    on.contains(&code_of(Place {
+        node: number,
+        out: 0,
+    }))
+}
+
+fn past_places(
+    alloc: Global,
+    nodes: &[Entry],
+    on: &HashSet<u64>,
+) -> Result<HashSet<u64>, AllocError>
+    requires on { HasPlaces on.now (goes_on nodes.now) }
+    ensures { IfOk result (λ s. HasPlaces s (goes_past nodes.now)) }
+{
+    let mut all = HashSet::new(alloc);
+    for e in nodes {
+        add_past(nodes, on, e, &mut all)?;
+    }
+    Ok(all)
+}
+
+fn add_past(
+    nodes: &[Entry],
+    on: &HashSet<u64>,
+    entry: &Entry,
+    all: &mut HashSet<u64>,
+) -> Result<(), AllocError>
+    requires on { HasPlaces on.now (goes_on nodes.now) }
+    ensures { OnOk result (HasAlso all.old all.new (λ d. carries_on nodes.now d entry.now)) }
+{
+    match &entry.node {
+        Node::Pdo(c, _) => add_place(*c, all),
+        Node::Flatten(inputs) => {
+            if !is_on(nodes, on, entry.number) {
+                return Ok(());
+            }
+            add_places(inputs.as_slice(), all)
+        }
+        Node::Source(_) | Node::Gbk(_, _, _, _) => Ok(()),
+    }
+}
+
+/// Whether a script output, a Pdo or another Flatten reads the Flatten.
+pub(crate) fn is_stage(b: &Blocked, told: &HashSet<u64>, on: &HashSet<u64>, number: u32) -> bool
+    requires told { HasAmong told.now b.now.graph.outputs }
+    requires on { HasPlaces on.now (goes_on b.now.graph.nodes) }
+    ensures { result ≡ is_stage b.now number }
+{
+    let at = code_of(Place {
+        node: number,
+        out: 0,
+    });
+    told.contains(&at) || on.contains(&at)
+}
+
+fn staged_places(
+    alloc: Global,
+    b: &Blocked,
+    told: &HashSet<u64>,
+    on: &HashSet<u64>,
+) -> Result<HashSet<u64>, AllocError>
+    requires told { HasAmong told.now b.now.graph.outputs }
+    requires on { HasPlaces on.now (goes_on b.now.graph.nodes) }
+    ensures { IfOk result (λ s. HasPlaces s (is_staged b.now)) }
+{
+    let mut all = HashSet::new(alloc);
+    for e in b.graph.nodes.as_slice() {
+        add_staged(b, told, on, e, &mut all)?;
+    }
+    Ok(all)
+}
+
+fn add_staged(
+    b: &Blocked,
+    told: &HashSet<u64>,
+    on: &HashSet<u64>,
+    entry: &Entry,
+    all: &mut HashSet<u64>,
+) -> Result<(), AllocError>
+    requires told { HasAmong told.now b.now.graph.outputs }
+    requires on { HasPlaces on.now (goes_on b.now.graph.nodes) }
+    ensures { OnOk result (HasAlso all.old all.new
+        (λ d. flattens d entry.now.node && is_stage b.now entry.now.number)) }
+{
+    match &entry.node {
+        Node::Flatten(inputs) => {
+            if !is_stage(b, told, on, entry.number) {
+                return Ok(());
+            }
+            add_places(inputs.as_slice(), all)
+        }
+        Node::Source(_) | Node::Pdo(_, _) | Node::Gbk(_, _, _, _) => Ok(()),
+    }
+}

@@ -1,0 +1,148 @@
+ghost use Rattle.std.specs.Prelude.{◌≡◌, cond, IfOk};
+ghost use Rattle.exec_graph.specs.Wellformed.{IsBlockedOk};
+ghost use Rattle.plan_roles.specs.declared.roles.Part.TheVariants as part;
+ghost use Rattle.plan_roles.specs.Mappers.{is_mapper, is_reducer, is_stage};
+ghost use Rattle.plan_roles.specs.Roles.{part_of, pdo_part, role_of, roles};
+ghost use Rattle.plan_roles.specs.inner.Tables.{AreFound, HasNumbers};
+
+use crate::found::{Found, find_all};
+use crate::groups::{keys_in, reducer_of, reducers_of};
+use crate::mappers::mappers_of;
+use crate::outputs::outputs_of;
+use crate::passing::passes_of;
+use crate::reading::is_stage;
+use exec_graph::{Blocked, Entry, Node, Place, Roots};
+use flume_value::Pile;
+use plan_laws::Key;
+use std::alloc::{AllocError, Global};
+use std::collections::HashSet;
+
+/// The part of a node in forming.
+#[derive(Drop)]
+pub enum Part {
+    /// It gives the rows of an input.
+    Source,
+    /// A Flatten that a script output, a Pdo or another Flatten reads: a stage by itself.
+    Stage,
+    /// A Flatten that Gbks alone read: they take its inputs.
+    Inlined,
+    /// A Pdo whose steps run in an input channel, with those of its outputs that pass through.
+    Mapper(Pile<Place>),
+    /// A Pdo whose steps run on the groups of the Gbk that it reads.
+    Reducer,
+    /// A Pdo that is neither, with its outputs, all of which pass through.
+    Trivial(Pile<Place>),
+    /// A Gbk, with the keys of what it takes in order, and the Pdo that reduces its groups.
+    Group(Pile<Key>, Option<u32>),
+}
+
+/// What a node is for forming.
+#[derive(Drop)]
+pub struct Role {
+    /// The node's number.
+    pub number: u32,
+    /// The greatest number of Gbks on a path from a source to the node, itself included.
+    pub level: u32,
+    pub part: Part,
+}
+
+/// What each node is for forming, in the order of the nodes. It takes time in proportion to the
+/// graph's size, where the inputs of a Flatten count once more for each Gbk of it.
+pub fn roles_of(alloc: Global, b: &Blocked) -> Result<Pile<Role>, AllocError>
+    requires { IsBlockedOk b.now }
+    ensures { IfOk result (λ rs. rs ≡ roles b.now) }
+{
+    let _next = b.graph.next;
+    let found = find_all(alloc, b)?;
+    let mappers = mappers_of(alloc, b, &found)?;
+    let reducers = reducers_of(alloc, b, &found, &mappers)?;
+    let mut all = Pile::new(alloc);
+    for e in b.graph.nodes.as_slice() {
+        all.push(role_of(alloc, b, &found, &mappers, &reducers, e)?)?;
+    }
+    Ok(all)
+}
+
+fn role_of(
+    alloc: Global,
+    b: &Blocked,
+    found: &Found,
+    mappers: &HashSet<u32>,
+    reducers: &HashSet<u32>,
+    entry: &Entry,
+) -> Result<Role, AllocError>
+    requires found { AreFound b.now found.now }
+    requires mappers { HasNumbers mappers.now (is_mapper b.now) }
+    requires reducers { HasNumbers reducers.now (is_reducer b.now) }
+    ensures { IfOk result (λ r. r ≡ role_of b.now entry.now) }
+{
+    let part = part_of(alloc, b, found, mappers, reducers, entry)?;
+    Ok(Role {
+        number: entry.number,
+        level: found.levels.of(entry.number),
+        part,
+    })
+}
+
+fn part_of(
+    alloc: Global,
+    b: &Blocked,
+    found: &Found,
+    mappers: &HashSet<u32>,
+    reducers: &HashSet<u32>,
+    entry: &Entry,
+) -> Result<Part, AllocError>
+    requires found { AreFound b.now found.now }
+    requires mappers { HasNumbers mappers.now (is_mapper b.now) }
+    requires reducers { HasNumbers reducers.now (is_reducer b.now) }
+    ensures { IfOk result (λ p. p ≡ part_of b.now entry.now.number entry.now.node) }
+{
+    match &entry.node {
+        Node::Source(_) => Ok(Part::Source),
+        Node::Flatten(_) => Ok(part_of_flatten(b, found, entry.number)),
+        Node::Pdo(_, roots) => {
+            let part = part_of_pdo(alloc, b, found, mappers, reducers, entry.number, roots)?;
+            Ok(part)
+        }
+        Node::Gbk(c, _, _, _) => {
+            let keys = keys_in(alloc, b, found, mappers, entry.number, c)?;
+            Ok(Part::Group(keys, reducer_of(b, found, mappers, entry.number)))
+        }
+    }
+}
+
+fn part_of_flatten(b: &Blocked, found: &Found, number: u32) -> Part
+    requires found { AreFound b.now found.now }
+    ensures { result ≡ cond (is_stage b.now number) part.Stage part.Inlined }
+{
+    if is_stage(b, &found.reading.told, &found.reading.on, number) {
+        Part::Stage
+    } else {
+        Part::Inlined
+    }
+}
+
+fn part_of_pdo(
+    alloc: Global,
+    b: &Blocked,
+    found: &Found,
+    mappers: &HashSet<u32>,
+    reducers: &HashSet<u32>,
+    number: u32,
+    roots: &Roots,
+) -> Result<Part, AllocError>
+    requires found { AreFound b.now found.now }
+    requires mappers { HasNumbers mappers.now (is_mapper b.now) }
+    requires reducers { HasNumbers reducers.now (is_reducer b.now) }
+    ensures { IfOk result (λ p. p ≡ pdo_part b.now number roots.now) }
+{
+    if mappers.contains(&number) {
+        let passing = passes_of(alloc, b, found, number, roots)?;
+        return Ok(Part::Mapper(passing));
+    }
+    if reducers.contains(&number) {
+        return Ok(Part::Reducer);
+    }
+    let outputs = outputs_of(alloc, number, roots)?;
+    Ok(Part::Trivial(Pile::from_vec(outputs)))
+}
