@@ -1,0 +1,2 @@
+//! Making a plan of operations.
+#![tactic(auto)]

@@ -1,0 +1,2 @@
+//! Which plans of operations are well-formed and well-typed.
+#![tactic(auto)]
