@@ -9,7 +9,7 @@ ghost use Rattle.script_check.specs.Script.{Script};
 ghost use Rattle.script_laws.specs.WellFormed.{IsWellFormed};
 ghost use Rattle.direct_meaning.specs.Direct.{meaning};
 ghost use Rattle.graph_build.specs.Graphs.{graph_of};
-ghost use Rattle.graph_laws.specs.Single.{IsUnfused};
+ghost use Rattle.graph_laws.specs.Single.{HasSingleOutputs, IsUnfused};
 ghost use Rattle.build_law.specs.Limits.{AreShort, HasFirstOutputs, HasShortFlattens};
 ghost use Rattle.build_law.specs.Means.{IsMeaning};
 ghost use Rattle.build_law.specs.Signatures.{signatures_of};
@@ -24,9 +24,10 @@ pub fn graph_law()
         AreShort statements → script_of statements ≡ Ok script → IsGraphOk (graph_of script) }
 {}
 
-/// Each Pdo of a script's graph has one step.
+/// Each Pdo of a script's graph has one step, which has one output.
 pub fn one_step_law()
-    ensures { (script : Script) → IsUnfused (graph_of script) }
+    ensures unfused { (script : Script) → IsUnfused (graph_of script) }
+    ensures single { (script : Script) → HasSingleOutputs (graph_of script) }
 {}
 
 /// The graph of a well-formed script means what the script means, over all rows of its inputs.

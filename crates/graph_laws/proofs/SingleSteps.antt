@@ -1,22 +1,26 @@
--- Rewrites that leave each Pdo its one step.
+-- Rewrites that leave each Pdo its steps.
 use Rattle.std.proofs.Common.{ℕ, Option}
 use Rattle.combine_table.specs.declared.comb.Comb.{Comb}
+use Rattle.exec_graph.specs.Forests.{Forest}
 use Rattle.exec_graph.specs.declared.graph.Entry.{Entry}
 use Rattle.exec_graph.specs.declared.graph.Node.{Node}
 use Rattle.exec_graph.specs.declared.graph.Node.TheVariants.{Source, Flatten, Pdo, Gbk}
 use Rattle.exec_graph.specs.declared.graph.Graph.{Graph}
 use Rattle.exec_graph.proofs.Entries.{all_map}
 use Rattle.graph_laws.specs.Lifting.{marked, marked_entry, remarked}
-use Rattle.graph_laws.specs.Single.{HasOneStep, IsUnfused}
+use Rattle.graph_laws.specs.Single.{AllSteps, HasSteps}
 
-step-marked : (h : Option Comb → Option Comb) (x : Node) → HasOneStep x → HasOneStep (marked h x)
-step-marked h (Source r) a = a
-step-marked h (Flatten ins) a = a
-step-marked h (Pdo c f) a = a
-step-marked h (Gbk c o l k) a = a
+module _ (P : Forest → Type 0) where
+  steps-marked : (h : Option Comb → Option Comb) (x : Node) → HasSteps P x
+      → HasSteps P (marked h x)
+  steps-marked h (Source r) a = a
+  steps-marked h (Flatten ins) a = a
+  steps-marked h (Pdo c f) a = a
+  steps-marked h (Gbk c o l k) a = a
 
-pub IsUnfused-remarked : (s : ℕ → Option Comb → Option Comb) (g : Graph) → IsUnfused g
-    → IsUnfused (remarked s g)
-IsUnfused-remarked s g a =
-    all_map (marked_entry s) (λ (e : Entry). HasOneStep e.node) (λ (e : Entry). HasOneStep e.node)
-    (λ e h. step-marked (s e.number) e.node h) g.nodes a
+  pub AllSteps-remarked : (s : ℕ → Option Comb → Option Comb) (g : Graph) → AllSteps P g
+      → AllSteps P (remarked s g)
+  AllSteps-remarked s g a =
+      all_map (marked_entry s) (λ (e : Entry). HasSteps P e.node)
+      (λ (e : Entry). HasSteps P e.node)
+      (λ e h. steps-marked (s e.number) e.node h) g.nodes a

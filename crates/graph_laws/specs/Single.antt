@@ -1,10 +1,21 @@
 -- Graphs whose Pdos have one step each, as they are before steps are fused.
 use Rattle.std.specs.Prelude.{◌≡◌}
 use Rattle.std.specs.List.{AllByRecursion}
-use Rattle.exec_graph.specs.Forests.{Forest, Bare, Branch, limb}
+use Rattle.exec_graph.specs.Forests.{Forest, Label, Bare, Grow, Branch, limb}
 use Rattle.exec_graph.specs.declared.graph.Node.{Node}
 use Rattle.exec_graph.specs.declared.graph.Node.TheVariants.{Source, Flatten, Pdo, Gbk}
 use Rattle.exec_graph.specs.declared.graph.Graph.{Graph}
+
+-- P holds of the node's steps, where it has any
+abbrev pub HasSteps : (Forest → Type 0) → Node → Type 0
+HasSteps P (Source r) = Unit {0}
+HasSteps P (Flatten ins) = Unit {0}
+HasSteps P (Pdo c f) = P f
+HasSteps P (Gbk c o l k) = Unit {0}
+
+-- P holds of the steps of each Pdo
+abbrev pub AllSteps : (Forest → Type 0) → Graph → Type 0
+AllSteps P g = AllByRecursion (λ e. HasSteps P e.node) g.nodes
 
 -- the forest is one step, with none on its outputs
 pub record IsOneStep (f : Forest) : Type 0 where
@@ -13,12 +24,16 @@ pub record IsOneStep (f : Forest) : Type 0 where
   pub first : step.first.kids ≡ Bare
   pub more : AllByRecursion (λ t. t.kids ≡ Bare) step.more
 
-abbrev pub HasOneStep : Node → Type 0
-HasOneStep (Source r) = Unit {0}
-HasOneStep (Flatten ins) = Unit {0}
-HasOneStep (Pdo c f) = IsOneStep f
-HasOneStep (Gbk c o l k) = Unit {0}
-
 -- each Pdo has one step
 abbrev pub IsUnfused : Graph → Type 0
-IsUnfused g = AllByRecursion (λ e. HasOneStep e.node) g.nodes
+IsUnfused g = AllSteps IsOneStep g
+
+-- the forest is one step with one output, with none on it
+pub record IsOneOutput (f : Forest) : Type 0 where
+  pub label : Label
+  pub alone : f ≡ Grow label Bare Bare
+  pub first : label.at ≡ 0
+
+-- each Pdo has one step, which has one output
+abbrev pub HasSingleOutputs : Graph → Type 0
+HasSingleOutputs g = AllSteps IsOneOutput g

@@ -17,7 +17,7 @@ use Rattle.exec_graph.proofs.Bools.{or_left, or_right}
 use Rattle.exec_graph.proofs.Entries.{all_found}
 use Rattle.exec_graph.proofs.Solving.{each_found}
 use Rattle.exec_graph.proofs.Soundness.{differ_ascends}
-use Rattle.graph_laws.specs.Single.{IsUnfused}
+use Rattle.graph_laws.specs.Single.{IsOneOutput, IsOneStep}
 use Rattle.graph_laws.proofs.Kids.{KeepsMeaning-then}
 use Rattle.graph_laws.proofs.ReadPlaces.{same_self, all_among}
 use Rattle.graph_laws.proofs.Wellness.{gives_of}
@@ -28,7 +28,7 @@ use Rattle.sink_laws.specs.Sinking.{outputs_of, sunk, CanSink}
 use Rattle.sink_laws.specs.Chain.{is_before, lesser, least, inputs_of, forest_of, nest_of, nest_at, next_nest, after_nest, call_of, call_at, next_call, after_call, CanCall, CanNest, has_room, sink_next, next_by, next_graph, Leads, stay, go, IsSunk, ReadsNoFlatten, NoPdoReadsFlatten, IsFull}
 use Rattle.sink_laws.proofs.MergeMeaning.{IsFounded-merged}
 use Rattle.sink_laws.proofs.Steps.{IsGood-trans, IsGood-merge_step, IsGood-sink_step}
-use Rattle.sink_laws.proofs.TypesKept.{IsTyped-sunk, IsTyped-merged, IsTyped-tidied, IsUnfused-sink_step, IsUnfused-merge_step}
+use Rattle.sink_laws.proofs.TypesKept.{IsTyped-sunk, IsTyped-merged, IsTyped-tidied, AllSteps-sink_step, AllSteps-merge_step}
 use Rattle.sink_laws.proofs.Weights.{total_weight, merge_lighter}
 
 -- P holds of what is there
@@ -163,6 +163,7 @@ IsKept-trans g h i a b = record {
   good = IsGood-trans g h i a.good b.good;
   types = λ s t. b.types s (a.types s t);
   unfused = λ u. b.unfused (a.unfused u);
+  single = λ u. b.single (a.single u);
 }
 
 pub IsKept-refl : (g : Graph) → IsGraphOk g → IsKept g g
@@ -173,6 +174,7 @@ IsKept-refl g ok = record {
   };
   types = λ s t. t;
   unfused = λ u. u;
+  single = λ u. u;
 }
 
 pub IsKept-nest : (g : Graph) (n : Pair) → IsGraphOk g → CanNest g n → IsKept g (after_nest g n)
@@ -183,7 +185,8 @@ IsKept-nest g n ok can =
       good = IsGood-merge_step g n.flatten ins n.other es ok can;
       types = λ s t. IsTyped-tidied s (merged g n.flatten ins n.other es) n.other
           (IsTyped-merged s g n.flatten ins n.other es can t);
-      unfused = IsUnfused-merge_step g n.flatten ins n.other es;
+      unfused = AllSteps-merge_step IsOneStep g n.flatten ins n.other es;
+      single = AllSteps-merge_step IsOneOutput g n.flatten ins n.other es;
     }
 
 pub IsKept-call : (g : Graph) (p : Pair) → IsGraphOk g → CanCall g p
@@ -195,7 +198,8 @@ IsKept-call g p ok can room =
       good = IsGood-sink_step g p.flatten p.other f ins ok can room;
       types = λ s t. IsTyped-tidied s (sunk g p.other f ins) p.flatten
           (IsTyped-sunk s g p.flatten p.other f ins ok.founded.below ok.founded.there can t);
-      unfused = IsUnfused-sink_step g p.flatten p.other f ins can;
+      unfused = AllSteps-sink_step IsOneStep g p.flatten p.other f ins can;
+      single = AllSteps-sink_step IsOneOutput g p.flatten p.other f ins can;
     }
 
 pub Leads-trans : (g h i : Graph) → Leads g h → Leads h i → Leads g i

@@ -15,7 +15,7 @@ use Rattle.exec_graph.specs.declared.graph.Entry.{Entry}
 use Rattle.exec_graph.specs.declared.graph.Graph.{Graph}
 use Rattle.exec_graph.proofs.Entries.{all_found, all_map}
 use Rattle.graph_laws.specs.Joining.{reread, reread_entry}
-use Rattle.graph_laws.specs.Single.{IsOneStep, HasOneStep, IsUnfused}
+use Rattle.graph_laws.specs.Single.{AllSteps, HasSteps}
 use Rattle.graph_laws.proofs.Changes.{all_set, all_without}
 use Rattle.sink_laws.specs.Merging.{spliced, merged, dropped, tidied, merge_step, CanMerge}
 use Rattle.sink_laws.specs.Sinking.{copies, copied, flattens, outputs_of, flatten_number, rerouted, sunk, sink_step, CanSink}
@@ -219,45 +219,46 @@ typed_by s g n false typed =
 pub IsTyped-tidied : (s : Signatures) (g : Graph) (n : ℕ) → IsTyped s g → IsTyped s (tidied g n)
 IsTyped-tidied s g n typed = typed_by s g n (is_read g (place n 0)) typed
 
--- ---- one step a Pdo
+-- ---- what holds of the steps of each Pdo
 
-step_reread : (r : Place → Place) (x : Node) → HasOneStep x → HasOneStep (reread r x)
-step_reread r (Source k) h = tt
-step_reread r (Flatten ins) h = tt
-step_reread r (Pdo c f) h = h
-step_reread r (Gbk c o l k) h = tt
+module _ (P : Forest → Type 0) where
+  steps_reread : (r : Place → Place) (x : Node) → HasSteps P x → HasSteps P (reread r x)
+  steps_reread r (Source k) h = tt
+  steps_reread r (Flatten ins) h = tt
+  steps_reread r (Pdo c f) h = h
+  steps_reread r (Gbk c o l k) h = tt
 
-copies_unfused : (n : ℕ) (f : Forest) (cs : List Place) → IsOneStep f
-    → AllByRecursion (λ e. HasOneStep e.node) (copies n f cs)
-copies_unfused n f [] h = tt
-copies_unfused n f (c ∷ cs) h = (h, copies_unfused (n + 1) f cs h)
+  copies_steps : (n : ℕ) (f : Forest) (cs : List Place) → P f
+      → AllByRecursion (λ e. HasSteps P e.node) (copies n f cs)
+  copies_steps n f [] h = tt
+  copies_steps n f (c ∷ cs) h = (h, copies_steps (n + 1) f cs h)
 
-flattens_unfused : (n first : ℕ) (ins : List Place) (j r : ℕ)
-    → AllByRecursion (λ e. HasOneStep e.node) (flattens n first ins j r)
-flattens_unfused n first ins j zero = tt
-flattens_unfused n first ins j (suc r) = (tt, flattens_unfused (n + 1) first ins (suc j) r)
+  flattens_steps : (n first : ℕ) (ins : List Place) (j r : ℕ)
+      → AllByRecursion (λ e. HasSteps P e.node) (flattens n first ins j r)
+  flattens_steps n first ins j zero = tt
+  flattens_steps n first ins j (suc r) = (tt, flattens_steps (n + 1) first ins (suc j) r)
 
-unfused_by : (g : Graph) (n : ℕ) (b : Bool) → IsUnfused g → IsUnfused (cond b g (dropped g n))
-unfused_by g n true u = u
-unfused_by g n false u = all_without (λ e. HasOneStep e.node) g.nodes n u
+  steps_by : (g : Graph) (n : ℕ) (b : Bool) → AllSteps P g → AllSteps P (cond b g (dropped g n))
+  steps_by g n true u = u
+  steps_by g n false u = all_without (λ e. HasSteps P e.node) g.nodes n u
 
-pub IsUnfused-tidied : (g : Graph) (n : ℕ) → IsUnfused g → IsUnfused (tidied g n)
-IsUnfused-tidied g n u = unfused_by g n (is_read g (place n 0)) u
+  pub AllSteps-tidied : (g : Graph) (n : ℕ) → AllSteps P g → AllSteps P (tidied g n)
+  AllSteps-tidied g n u = steps_by g n (is_read g (place n 0)) u
 
-pub IsUnfused-sink_step : (g : Graph) (n p : ℕ) (f : Forest) (ins : List Place)
-    → CanSink g n p f ins → IsUnfused g → IsUnfused (sink_step g n p f ins)
-IsUnfused-sink_step g n p f ins can u =
-    IsUnfused-tidied (sunk g p f ins) n
-    (all_sunk (λ e. HasOneStep e.node) g p f ins
-    (all_map (reread_entry (rerouted p (g.next + length ins))) (λ (e : Entry). HasOneStep e.node)
-    (λ (e : Entry). HasOneStep e.node)
-    (λ e h. step_reread (rerouted p (g.next + length ins)) e.node h) g.nodes u) (λ _. tt)
-    (copies_unfused g.next f ins
-    (all_found (λ e. HasOneStep e.node) g.nodes p (Pdo (place n 0) f) can.pdo u))
-    (flattens_unfused (g.next + length ins) g.next ins 0 (outputs_of f - 1)))
+  pub AllSteps-sink_step : (g : Graph) (n p : ℕ) (f : Forest) (ins : List Place)
+      → CanSink g n p f ins → AllSteps P g → AllSteps P (sink_step g n p f ins)
+  AllSteps-sink_step g n p f ins can u =
+      AllSteps-tidied (sunk g p f ins) n
+      (all_sunk (λ e. HasSteps P e.node) g p f ins
+      (all_map (reread_entry (rerouted p (g.next + length ins))) (λ (e : Entry). HasSteps P e.node)
+      (λ (e : Entry). HasSteps P e.node)
+      (λ e h. steps_reread (rerouted p (g.next + length ins)) e.node h) g.nodes u) (λ _. tt)
+      (copies_steps g.next f ins
+      (all_found (λ e. HasSteps P e.node) g.nodes p (Pdo (place n 0) f) can.pdo u))
+      (flattens_steps (g.next + length ins) g.next ins 0 (outputs_of f - 1)))
 
-pub IsUnfused-merge_step : (g : Graph) (f : ℕ) (ins : List Place) (e : ℕ) (es : List Place)
-    → IsUnfused g → IsUnfused (merge_step g f ins e es)
-IsUnfused-merge_step g f ins e es u =
-    IsUnfused-tidied (merged g f ins e es) e
-    (all_set (λ e. HasOneStep e.node) g.nodes f (Flatten (spliced e es ins)) u tt)
+  pub AllSteps-merge_step : (g : Graph) (f : ℕ) (ins : List Place) (e : ℕ) (es : List Place)
+      → AllSteps P g → AllSteps P (merge_step g f ins e es)
+  AllSteps-merge_step g f ins e es u =
+      AllSteps-tidied (merged g f ins e es) e
+      (all_set (λ e. HasSteps P e.node) g.nodes f (Flatten (spliced e es ins)) u tt)
