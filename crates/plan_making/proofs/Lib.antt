@@ -1,0 +1,4 @@
+pub mod Outing
+pub mod Widths
+pub mod Choosing
+pub mod Naming
