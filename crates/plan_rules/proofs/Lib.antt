@@ -10,3 +10,7 @@ pub mod Keys
 pub mod Lifted
 pub mod Limits
 pub mod Wellness
+pub mod Counted
+pub mod TypedChannels
+pub mod TypedStages
+pub mod TypedPlans

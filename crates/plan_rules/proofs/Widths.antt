@@ -59,7 +59,7 @@ pub reducer_outs : (es : List Entry) (n : ℕ) (r : Option ℕ) → IsReducer es
 reducer_outs es n None h = refl
 reducer_outs es n (Some r) h = forest_outs n r (node_at es r) h
 
-group_width : (es : List Entry) (keys : List Key) (n : ℕ) (r : Option ℕ) (o : Option Node)
+pub group_width : (es : List Entry) (keys : List Key) (n : ℕ) (r : Option ℕ) (o : Option Node)
     → TakesInputs es keys o → IsReducer es n r
     → width (Group (group_at es keys r o)) ≡ length (reduced es n r)
 group_width es keys n r None t h = absurd t
