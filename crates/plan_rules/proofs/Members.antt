@@ -1,6 +1,6 @@
 -- Lists whose members differ: such a list weighs at most what a list does that has them all.
 use Rattle.std.proofs.Common.{◌≡◌, ℕ, ◌+◌, ◌<◌, ◌≤◌, ◌⊎◌, Bool, true, false, cond, eqb, List, [], ◌∷◌, ◌++◌, map, length, suc, refl, sym, ap, ◌∙◌, subst, arith, inl, inr}
-use Rattle.std.proofs.lemmas.Bool.{eqb-true, eq-eqb}
+use Rattle.std.proofs.lemmas.Bool.{eq-eqb, false≢true}
 use Rattle.std.specs.List.{AllByRecursion}
 use Rattle.flume_value.proofs.EachLemmas.{Each-both}
 use Rattle.plan_laws.specs.Operations.{times}
@@ -107,8 +107,7 @@ differ_right (x ∷ xs) ys d = differ_right xs ys d.1
 
 apart_by : (n k : ℕ) (b : Bool) → eqb k n ≡ b → cond b 1 0 ≤ 0 → n ≡ k → ⊥
 apart_by n k true e h = absurd (omega arith)
-apart_by n k false e h = λ i. let t : eqb k n ≡ true = eq-eqb k n (sym i) in
-    let bad : ⊥ = cc in bad
+apart_by n k false e h = λ i. false≢true (sym e ∙ eq-eqb k n (sym i))
 
 absent : (n : ℕ) (ns : List ℕ) → times n ns ≤ 0 → AllByRecursion (λ k. n ≡ k → ⊥) ns
 absent n [] h = tt
