@@ -60,11 +60,11 @@ pub fn make_plan(
 {
     let nodes = graph.nodes.as_slice();
     let index = index_of(alloc, nodes)?;
-    let drawn = draw(alloc, nodes, &index, operations)?;
-    let outputs = all_named(alloc, nodes, &index, &drawn.names, graph.outputs.as_slice())?;
+    let Drawn { stages, names } = draw(alloc, nodes, &index, operations)?;
+    let outputs = all_named(alloc, nodes, &index, &names, graph.outputs.as_slice())?;
     Ok(Plan {
         sources,
-        stages: drawn.stages,
+        stages,
         outputs,
     })
 }

@@ -111,7 +111,7 @@ pub class_bounded : (es : List Entry) (keys : List Key) (gs : List Grouped) (cs 
     → AllByRecursion (λ e. node_at es e.number ≡ Some e.node) es
     → length (collections es) ≤ 32768 → IsHonest es (Class keys gs cs)
     → IsClassFit es keys gs cs → Differ (runs (Class keys gs cs)) → Bounded es keys gs cs
-pub class_bounded es keys gs cs f m h t d =
+class_bounded es keys gs cs f m h t d =
     let w = groups_weigh es keys gs h.1 in
     let p : length gs ≤ weight (outs_of_number es) (flat_map group_runs gs) = w.groups in
     let q : length (flat_map (group_gives es) gs)

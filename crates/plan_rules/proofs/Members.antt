@@ -114,7 +114,7 @@ absent n [] h = tt
 absent n (k ∷ ks) h =
     (apart_by n k (eqb k n) refl (omega arith), absent n ks (omega arith))
 
-here_once : (n : ℕ) (ns : List ℕ) → times n (n ∷ ns) ≡ suc (times n ns)
+here_once : (n : ℕ) (ns : List ℕ) → times n (n ∷ ns) ≡ 1 + times n ns
 here_once n ns = ap (λ (b : Bool). cond b 1 0 + times n ns) (eq-eqb n n refl)
 
 pub differ_once : (ns : List ℕ) → ((n : ℕ) → times n ns ≤ 1) → Differ ns

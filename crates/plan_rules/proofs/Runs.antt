@@ -104,7 +104,7 @@ runs_stand es (Class keys gs cs ∷ os) a =
 -- ---- no node twice
 
 idle_by : (es : List Entry) (n k : ℕ) (b : Bool) → eqb k n ≡ b → works_at (node_at es n) ≡ false
-    → Works es k → cond b 1 0 ≡ 0
+    → Works es k → ◌≡◌ {A = ℕ} (cond b 1 0) 0
 idle_by es n k true e i h =
     let s : works_at (node_at es n) ≡ true =
     ap (λ (j : ℕ). works_at (node_at es j)) (sym (eqb-true k n e)) ∙ h in

@@ -79,7 +79,7 @@ all_good g (o ∷ os) ok m h t d =
 pub operations_good : (n : ℕ) (g : Graph) (os : List Operation) → IsGraphOk g → IsInBounds n g
     → DoAll g os → AreFit g.nodes os → AllByRecursion (IsGood g.nodes) os
 operations_good n g os ok b d f =
-    all_good g os ok b.collections d.sound f.fit (each_differ os (runs_differ g os d f))
+    all_good g os ok b.few d.sound f.fit (each_differ os (runs_differ g os d f))
 
 -- fewer operations than numbers of nodes
 pub operations_few : (n : ℕ) (g : Graph) (os : List Operation) → IsGraphOk g → IsInBounds n g
@@ -96,7 +96,7 @@ operations_few n g os ok b d f =
 pub plan_well_formed : (n : ℕ) (g : Graph) (os : List Operation) → IsGraphOk g → IsInBounds n g
     → DoAll g os → AreFit g.nodes os → IsPlanOk (plan_of n g.nodes g.outputs os)
 plan_well_formed n g os ok b d f =
-    plan_kept n g os d (nodes_numbered g ok) (founds g ok) b.sources
+    plan_kept n g os d (nodes_numbered g ok) (founds g ok) b.below
     (Each-weaker (IsGood g.nodes) (IsShort g.nodes) (λ o h. h.short) os
     (operations_good n g os ok b d f))
     (operations_few n g os ok b d f)

@@ -102,6 +102,6 @@ most_collections = 2 ^ 15
 
 -- the graph reads so many sources, its numbers have 32 bits, and its collections are not too many
 pub record IsInBounds (sources : ℕ) (g : Graph) : Type 0 where
-  pub sources : AllByRecursion (λ e. IsSourceBelow sources e.node) g.nodes
+  pub below : AllByRecursion (λ e. IsSourceBelow sources e.node) g.nodes
   pub numbers : g.next < 2 ^ 32
-  pub collections : length (collections g.nodes) ≤ most_collections
+  pub few : length (collections g.nodes) ≤ most_collections
