@@ -1,8 +1,8 @@
 -- The channels, results and stages of operations are not more than the graph allows.
-use Rattle.std.proofs.Common.{◌≡◌, ℕ, ◌+◌, ◌<◌, ◌≤◌, ◌^◌, ◌⊎◌, List, [], ◌∷◌, ◌++◌, map, length, Option, Some, None, refl, sym, ap, ◌∙◌, arith, inl, inr, length-append}
+use Rattle.std.proofs.Common.{◌≡◌, ℕ, ◌+◌, ◌≤◌, ◌⊎◌, List, [], ◌∷◌, ◌++◌, length, Option, Some, None, refl, arith, inl, inr, length-append}
 use Rattle.std.specs.List.{AllByRecursion, flat_map}
 use Rattle.flume_value.proofs.EachLemmas.{Each-weaker}
-use Rattle.exec_graph.specs.Meaning.{IsThere, node_at, place}
+use Rattle.exec_graph.specs.Meaning.{node_at, place}
 use Rattle.exec_graph.specs.declared.graph.Place.{Place}
 use Rattle.exec_graph.specs.declared.graph.Node.{Node}
 use Rattle.exec_graph.specs.declared.graph.Node.TheVariants.{Source, Flatten, Pdo, Gbk}
@@ -10,15 +10,14 @@ use Rattle.exec_graph.specs.declared.graph.Entry.{Entry}
 use Rattle.plan_laws.specs.declared.operations.Key.{Key}
 use Rattle.plan_laws.specs.declared.operations.Key.TheVariants.{Mapper, Whole}
 use Rattle.plan_laws.specs.declared.operations.Grouped.{Grouped}
-use Rattle.plan_laws.specs.declared.operations.Operation.{Operation}
-use Rattle.plan_laws.specs.declared.operations.Operation.TheVariants.{Flat, Class}
-use Rattle.plan_laws.specs.Operations.{DoAll, IsGroupedOk, IsHonest, IsTaken, TakesInputs, gives_of, group_gives, group_runs, key_runs, outs_at, plan_of, reduced, reducer_runs, runs}
-use Rattle.plan_rules.specs.Fitting.{AreFit, IsAlone, IsClassFit, IsFit, IsInBounds, IsUsed, collections, node_outs}
+use Rattle.plan_laws.specs.declared.operations.Operation.TheVariants.{Class}
+use Rattle.plan_laws.specs.Operations.{IsGroupedOk, IsHonest, IsTaken, TakesInputs, group_gives, group_runs, key_runs, outs_at, reduced, reducer_runs, runs}
+use Rattle.plan_rules.specs.Fitting.{IsAlone, IsClassFit, IsUsed, collections}
 use Rattle.plan_rules.proofs.Keys.{keys_short, outs_of_number, places_differ}
 use Rattle.plan_rules.proofs.Members.{Differ, Has, differ_right, lighter, shorter, weight, weight-append}
-use Rattle.plan_rules.proofs.Places.{nodes_short, numbers, numbers_weigh, outs_count, there_has}
-use Rattle.plan_rules.proofs.Runs.{all_stand, each_differ, groups_work, operations_short, runs_differ, runs_stand}
-use Rattle.plan_rules.proofs.Widths.{class_widths, length_map}
+use Rattle.plan_rules.proofs.Places.{numbers, numbers_weigh, outs_count, there_has}
+use Rattle.plan_rules.proofs.Runs.{all_stand, groups_work}
+use Rattle.plan_rules.proofs.Widths.{length_map}
 
 -- ---- groups
 

@@ -1,7 +1,7 @@
 -- No node is carried out twice, and each that is is there.
-use Rattle.std.proofs.Common.{◌≡◌, ℕ, ◌+◌, ◌<◌, ◌≤◌, ◌⊎◌, Bool, true, false, cond, eqb, List, [], ◌∷◌, ◌++◌, map, length, Option, Some, None, suc, refl, sym, ap, ◌∙◌, subst, arith, inl, inr, length-append}
+use Rattle.std.proofs.Common.{◌≡◌, ℕ, ◌<◌, ◌≤◌, ◌⊎◌, Bool, true, false, cond, eqb, List, [], ◌∷◌, length, Option, Some, None, refl, sym, ap, ◌∙◌, arith, inl, inr, length-append}
 use Rattle.std.proofs.lemmas.Bool.{eqb-true, false≢true}
-use Rattle.std.specs.List.{AllByRecursion, flat_map, list_any}
+use Rattle.std.specs.List.{AllByRecursion, flat_map}
 use Rattle.flume_value.proofs.EachLemmas.{Each-append, Each-weaker}
 use Rattle.exec_graph.specs.Meaning.{node_at, place}
 use Rattle.exec_graph.specs.declared.graph.Place.{Place}
@@ -15,7 +15,7 @@ use Rattle.plan_laws.specs.declared.operations.Grouped.{Grouped}
 use Rattle.plan_laws.specs.declared.operations.Operation.{Operation}
 use Rattle.plan_laws.specs.declared.operations.Operation.TheVariants.{Flat, Class}
 use Rattle.plan_laws.specs.Operations.{DoAll, IsFlat, IsGroupedOk, IsHonest, IsKeyOk, IsPdo, IsReducer, Reads, TakesInputs, group_runs, key_runs, reducer_runs, runs, times, works_at}
-use Rattle.plan_rules.specs.Fitting.{AreFit, IsAlone, IsClassFit, IsFit, IsUsed, flat_runs, takes_key}
+use Rattle.plan_rules.specs.Fitting.{AreFit, IsAlone, IsFit, IsUsed, flat_runs}
 use Rattle.plan_rules.proofs.Members.{Differ, Has, differ_left, differ_once, differ_right, times-append}
 use Rattle.plan_rules.proofs.Places.{number_has, numbers}
 

@@ -1,5 +1,5 @@
 -- The stage of an operation is well-formed where what it reads is made.
-use Rattle.std.proofs.Common.{◌≡◌, ℕ, ◌+◌, ◌<◌, ◌≤◌, ◌^◌, Bool, true, false, ◌||◌, List, [], ◌∷◌, ◌++◌, map, length, Option, Some, None, suc, refl, sym, ap, ◌∙◌, arith, length-append}
+use Rattle.std.proofs.Common.{◌≡◌, ℕ, ◌+◌, ◌<◌, ◌≤◌, Bool, true, false, ◌||◌, List, [], ◌∷◌, ◌++◌, map, length, Option, Some, None, refl, arith, length-append}
 use Rattle.std.specs.List.{AllByRecursion}
 use Rattle.exec_graph.specs.Meaning.{node_at}
 use Rattle.exec_graph.specs.declared.graph.Place.{Place}
@@ -8,7 +8,6 @@ use Rattle.exec_graph.specs.declared.graph.Node.TheVariants.{Source, Flatten, Pd
 use Rattle.exec_graph.specs.declared.graph.Entry.{Entry}
 use Rattle.exec_plan.specs.declared.plan.PlanPlace.{PlanPlace}
 use Rattle.exec_plan.specs.declared.plan.OutChannel.{OutChannel}
-use Rattle.exec_plan.specs.declared.plan.OutChannel.TheVariants.{Group, Pass}
 use Rattle.exec_plan.specs.declared.plan.Stage.{Stage}
 use Rattle.exec_plan.specs.Wellformed.{AreOuts, IsGroupOk, IsLiftOk, IsMade, IsStageOk, most_channels, width}
 use Rattle.plan_laws.specs.declared.operations.Key.{Key}

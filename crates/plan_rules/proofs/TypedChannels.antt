@@ -1,11 +1,10 @@
 -- The types of a graph's collections fit the channels of an operation.
-use Rattle.std.proofs.Common.{◌≡◌, ℕ, ◌+◌, Bool, true, false, cond, List, [], ◌∷◌, ◌++◌, map, length, Option, Some, None, zero, suc, refl, sym, ap, ◌∙◌, subst, arith, append_assoc}
+use Rattle.std.proofs.Common.{◌≡◌, ℕ, Bool, true, false, cond, List, [], ◌∷◌, map, Option, Some, None, suc, refl, sym, ap, ◌∙◌, subst}
 use Rattle.std.proofs.lemmas.Bool.{eqb-true}
-use Rattle.std.specs.List.{AllByRecursion, flat_map, slice_get}
+use Rattle.std.specs.List.{AllByRecursion, slice_get}
 use Rattle.flume_types.specs.declared.types.Ty.{Ty}
 use Rattle.flume_types.specs.declared.types.Ty.TheVariants as type
-use Rattle.exec_graph.specs.Forests.{Forest}
-use Rattle.exec_graph.specs.Meaning.{IsThere, gives_at, has_out, node_at, place}
+use Rattle.exec_graph.specs.Meaning.{IsThere, gives_at, node_at, place}
 use Rattle.exec_graph.specs.Typing.{ForestTyped, NodeTyped, Signatures}
 use Rattle.exec_graph.specs.declared.graph.Place.{Place}
 use Rattle.exec_graph.specs.declared.graph.Node.{Node}
@@ -13,13 +12,11 @@ use Rattle.exec_graph.specs.declared.graph.Node.TheVariants.{Source, Flatten, Pd
 use Rattle.exec_graph.specs.declared.graph.Entry.{Entry}
 use Rattle.exec_graph.proofs.Entries.{all_found}
 use Rattle.exec_plan.specs.declared.plan.PlanPlace.{PlanPlace}
-use Rattle.exec_plan.specs.declared.plan.PlanPlace.TheVariants as at
-use Rattle.exec_plan.specs.declared.plan.InChannel.{InChannel}
 use Rattle.exec_plan.specs.Typing.{ChannelTyped, InsTyped, take_type}
 use Rattle.graph_laws.proofs.TypedForests.{typed_moved}
 use Rattle.plan_laws.specs.declared.operations.Key.{Key}
 use Rattle.plan_laws.specs.declared.operations.Key.TheVariants.{Mapper, Whole}
-use Rattle.plan_laws.specs.Operations.{HasKey, IsKeyOk, IsPdo, IsTaken, Reading, channel_of, has_key, inputs_at, inputs_of, key_out, named, out_in, pdo_channel, position, take_of}
+use Rattle.plan_laws.specs.Operations.{HasKey, IsKeyOk, IsPdo, IsTaken, Reading, channel_of, has_key, inputs_at, inputs_of, key_out, out_in, pdo_channel, position, take_of}
 use Rattle.plan_laws.proofs.Carrying.{behind}
 use Rattle.plan_laws.proofs.Running.{place_same}
 use Rattle.plan_rules.proofs.Taking.{inputs}

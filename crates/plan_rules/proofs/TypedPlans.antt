@@ -1,9 +1,9 @@
 -- The types of a graph's collections fit the plan of operations that carry it out.
-use Rattle.std.proofs.Common.{◌≡◌, ℕ, ◌+◌, ◌-◌, ◌⊎◌, Bool, true, false, cond, List, [], ◌∷◌, ◌++◌, map, length, Option, Some, zero, suc, refl, sym, ap, ◌∙◌, subst, arith, inl, inr, append_assoc, length-append}
+use Rattle.std.proofs.Common.{◌≡◌, ℕ, ◌+◌, ◌-◌, ◌⊎◌, Bool, true, false, cond, List, [], ◌∷◌, ◌++◌, map, length, Option, Some, suc, refl, sym, ap, ◌∙◌, subst, arith, inl, inr, append_assoc, length-append}
 use Rattle.std.specs.List.{AllByRecursion, slice_get}
 use Rattle.flume_value.proofs.EachLemmas.{Each-weaker}
 use Rattle.flume_types.specs.declared.types.Ty.{Ty}
-use Rattle.exec_graph.specs.Meaning.{node_at, place}
+use Rattle.exec_graph.specs.Meaning.{node_at}
 use Rattle.exec_graph.specs.Readers.{same_place}
 use Rattle.exec_graph.specs.Typing.{IsTypedBy, NodeTyped, Signatures}
 use Rattle.exec_graph.specs.Wellformed.{IsGraphOk}

@@ -1,9 +1,9 @@
 -- The types of a graph's collections fit the stage of an operation.
-use Rattle.std.proofs.Common.{◌≡◌, ℕ, ◌+◌, ◌-◌, true, List, [], ◌∷◌, ◌++◌, map, length, Option, Some, None, zero, suc, refl, sym, ap, ◌∙◌, subst, arith, append_assoc}
+use Rattle.std.proofs.Common.{◌≡◌, ℕ, ◌+◌, List, [], ◌∷◌, ◌++◌, map, length, Option, Some, None, zero, suc, refl, sym, ap, ◌∙◌, subst, arith, append_assoc}
 use Rattle.std.specs.List.{AllByRecursion, flat_map, slice_get}
 use Rattle.flume_types.specs.declared.types.Ty.{Ty}
-use Rattle.exec_graph.specs.Forests.{Forest, numbered}
-use Rattle.exec_graph.specs.Meaning.{IsThere, has_out, node_at, place, reads}
+use Rattle.exec_graph.specs.Forests.{numbered}
+use Rattle.exec_graph.specs.Meaning.{IsThere, node_at, place, reads}
 use Rattle.exec_graph.specs.Typing.{ForestTyped, Signatures}
 use Rattle.exec_graph.specs.declared.graph.Place.{Place}
 use Rattle.exec_graph.specs.declared.graph.Node.{Node}
@@ -12,7 +12,6 @@ use Rattle.exec_graph.specs.declared.graph.Entry.{Entry}
 use Rattle.exec_graph.proofs.Entries.{all_found}
 use Rattle.exec_plan.specs.declared.plan.PlanPlace.{PlanPlace}
 use Rattle.exec_plan.specs.declared.plan.PlanPlace.TheVariants as at
-use Rattle.exec_plan.specs.declared.plan.OutChannel.TheVariants.{Group, Pass}
 use Rattle.exec_plan.specs.Channels.{outs_of}
 use Rattle.exec_plan.specs.Typing.{ChannelTyped, GroupTyped, OutTyped, StageTyped, types_from}
 use Rattle.exec_plan.specs.Wellformed.{width}
@@ -21,7 +20,7 @@ use Rattle.plan_laws.specs.declared.operations.Key.{Key}
 use Rattle.plan_laws.specs.declared.operations.Grouped.{Grouped}
 use Rattle.plan_laws.specs.declared.operations.Operation.{Operation}
 use Rattle.plan_laws.specs.declared.operations.Operation.TheVariants.{Flat, Class}
-use Rattle.plan_laws.specs.Operations.{IsFlat, IsGroupedOk, IsHonest, IsReducer, IsTaken, Reads, TakesInputs, flat_inputs, forest_at, gives_of, group_at, group_gives, group_of, numbered_outs, outs_at, pass_of, reads_of, reduced, reducer_of, stage_of, take_of}
+use Rattle.plan_laws.specs.Operations.{IsFlat, IsGroupedOk, IsHonest, IsReducer, IsTaken, Reads, TakesInputs, flat_inputs, forest_at, gives_of, group_at, group_gives, group_of, numbered_outs, outs_at, pass_of, reads_of, reduced, reducer_of, stage_of}
 use Rattle.plan_rules.proofs.Counted.{out_stands}
 use Rattle.plan_rules.proofs.Taking.{AreNumbered, IsNodeNumbered}
 use Rattle.plan_rules.proofs.TypedChannels.{AreNamed, AreTyped, all_inputs_typed, channel_types, taken_typed, takes_typed, typed_at}

@@ -15,7 +15,6 @@ ghost use Rattle.plan_rules.specs.Typing.{plan_types};
 /// Operations that carry out all of a well-formed graph and that fit make a well-formed plan, with
 /// all its limits: no stage has more channels than it may have, and there are fewer than 2^32
 /// stages. So the plan can be made.
-#[tactic(auto, using(crate::proofs::Wellness::operations_small, crate::proofs::Wellness::plan_well_formed))]
 pub fn form_law()
     ensures well_formed { (sources : ℕ) (g : Graph) (os : List Operation) → IsGraphOk g →
         IsInBounds sources g → DoAll g os → AreFit g.nodes os →
@@ -27,10 +26,6 @@ pub fn form_law()
 /// Types that fit a well-formed graph fit the plan of operations that carry it out: a source has
 /// its input's type, and each result that of the collection of the graph that it is. So what is
 /// written out has the same types.
-#[tactic(
-    auto,
-    using(crate::proofs::TypedPlans::plan_typed, crate::proofs::TypedPlans::outputs_typed)
-)]
 pub fn types_law()
     ensures typed { (s : Signatures) (sources : ℕ) (g : Graph) (os : List Operation)
         (types : Place → Ty) → IsGraphOk g → DoAll g os → IsTypedBy s g types →
