@@ -4,6 +4,7 @@ pub mod Taking
 pub mod Staging
 pub mod Planning
 pub mod Members
+pub mod Collections
 pub mod Places
 pub mod Runs
 pub mod Keys

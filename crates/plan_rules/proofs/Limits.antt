@@ -12,7 +12,8 @@ use Rattle.plan_laws.specs.declared.operations.Key.TheVariants.{Mapper, Whole}
 use Rattle.plan_laws.specs.declared.operations.Grouped.{Grouped}
 use Rattle.plan_laws.specs.declared.operations.Operation.TheVariants.{Class}
 use Rattle.plan_laws.specs.Operations.{IsGroupedOk, IsHonest, IsTaken, TakesInputs, group_gives, group_runs, key_runs, outs_at, reduced, reducer_runs, runs}
-use Rattle.plan_rules.specs.Fitting.{IsAlone, IsClassFit, IsUsed, collections}
+use Rattle.plan_rules.specs.Fitting.{IsAlone, IsClassFit, IsUsed}
+use Rattle.plan_rules.proofs.Collections.{collections}
 use Rattle.plan_rules.proofs.Keys.{keys_short, outs_of_number, places_differ}
 use Rattle.plan_rules.proofs.Members.{Differ, Has, differ_right, lighter, shorter, weight, weight-append}
 use Rattle.plan_rules.proofs.Places.{numbers, numbers_weigh, outs_count, there_has}

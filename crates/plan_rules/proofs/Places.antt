@@ -14,7 +14,7 @@ use Rattle.exec_graph.specs.declared.graph.Entry.{Entry}
 use Rattle.exec_graph.proofs.Bools.{or_else}
 use Rattle.exec_graph.proofs.Solving.{there_found}
 use Rattle.exec_plan.specs.Channels.{kept_out, outs_of}
-use Rattle.plan_rules.specs.Fitting.{collections, node_outs}
+use Rattle.plan_rules.proofs.Collections.{collections, node_outs}
 use Rattle.plan_rules.proofs.Members.{Has, has_left, has_map, has_right, weight}
 use Rattle.plan_rules.proofs.Widths.{length_map}
 

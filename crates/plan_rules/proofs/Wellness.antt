@@ -3,7 +3,7 @@ use Rattle.std.proofs.Common.{◌≡◌, ℕ, ◌<◌, ◌≤◌, ◌^◌, List,
 use Rattle.std.specs.List.{AllByRecursion, flat_map}
 use Rattle.flume_value.proofs.EachLemmas.{Each-weaker}
 use Rattle.exec_graph.specs.Meaning.{node_at}
-use Rattle.exec_graph.specs.Wellformed.{IsGraphOk, IsNodeOk}
+use Rattle.exec_graph.specs.Wellformed.{IsGraphOk, IsNodeOk, total_size}
 use Rattle.exec_graph.specs.declared.graph.Node.{Node}
 use Rattle.exec_graph.specs.declared.graph.Node.TheVariants.{Source, Flatten, Pdo, Gbk}
 use Rattle.exec_graph.specs.declared.graph.Entry.{Entry}
@@ -15,7 +15,8 @@ use Rattle.plan_laws.specs.declared.operations.Operation.{Operation}
 use Rattle.plan_laws.specs.declared.operations.Operation.TheVariants.{Flat, Class}
 use Rattle.plan_laws.specs.Operations.{DoAll, IsHonest, gives_of, plan_of, runs}
 use Rattle.plan_making.specs.Small.{IsNarrow, IsSmall}
-use Rattle.plan_rules.specs.Fitting.{AreFit, IsFit, IsInBounds, collections}
+use Rattle.plan_rules.specs.Fitting.{AreFit, IsFit, IsInBounds}
+use Rattle.plan_rules.proofs.Collections.{collections, few_collections}
 use Rattle.plan_rules.proofs.Lifted.{all_lifted}
 use Rattle.plan_rules.proofs.Limits.{class_bounded}
 use Rattle.plan_rules.proofs.Members.{Differ, shorter}
@@ -78,7 +79,9 @@ all_good g (o ∷ os) ok m h t d =
 pub operations_good : (n : ℕ) (g : Graph) (os : List Operation) → IsGraphOk g → IsInBounds n g
     → DoAll g os → AreFit g.nodes os → AllByRecursion (IsGood g.nodes) os
 operations_good n g os ok b d f =
-    all_good g os ok b.few d.sound f.fit (each_differ os (runs_differ g os d f))
+    let m = few_collections g.nodes b.narrow in
+    let t : total_size g.nodes ≤ 4096 = ok.few in
+    all_good g os ok (omega arith) d.sound f.fit (each_differ os (runs_differ g os d f))
 
 -- fewer operations than numbers of nodes
 pub operations_few : (n : ℕ) (g : Graph) (os : List Operation) → IsGraphOk g → IsInBounds n g

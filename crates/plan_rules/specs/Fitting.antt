@@ -1,7 +1,8 @@
 -- What operations keep to, beside carrying out a graph, so that their plan is well-formed.
-use Rattle.std.specs.Prelude.{◌≡◌, ℕ, ◌<◌, ◌≤◌, ◌^◌, ◌⊎◌, Bool, true, false, ◌==◌, List, [], ◌∷◌, map, length, Option, Some, None}
+use Rattle.std.specs.Prelude.{◌≡◌, ℕ, ◌+◌, ◌<◌, ◌≤◌, ◌^◌, ◌⊎◌, Bool, true, false, ◌==◌, List, [], ◌∷◌, length, Option, Some, None}
 use Rattle.std.specs.List.{AllByRecursion, IsDistinct, flat_map, list_any}
-use Rattle.exec_graph.specs.Meaning.{node_at, place}
+use Rattle.exec_graph.specs.Forests.{Forest, Bare, Grow}
+use Rattle.exec_graph.specs.Meaning.{node_at}
 use Rattle.exec_graph.specs.Readers.{same_place}
 use Rattle.exec_graph.specs.Wellformed.{is_lifted}
 use Rattle.exec_graph.specs.declared.graph.Place.{Place}
@@ -9,7 +10,6 @@ use Rattle.exec_graph.specs.declared.graph.Node.{Node}
 use Rattle.exec_graph.specs.declared.graph.Node.TheVariants.{Source, Flatten, Pdo, Gbk}
 use Rattle.exec_graph.specs.declared.graph.Entry.{Entry}
 use Rattle.exec_graph.specs.declared.graph.Graph.{Graph}
-use Rattle.exec_plan.specs.Channels.{outs_of}
 use Rattle.plan_laws.specs.declared.operations.Key.{Key}
 use Rattle.plan_laws.specs.declared.operations.Key.TheVariants.{Mapper, Whole}
 use Rattle.plan_laws.specs.declared.operations.Grouped.{Grouped}
@@ -85,23 +85,26 @@ IsSourceBelow n (Flatten ins) = Unit {0}
 IsSourceBelow n (Pdo c f) = Unit {0}
 IsSourceBelow n (Gbk c o l k) = Unit {0}
 
--- the outputs of a node
-abbrev pub node_outs : Node → List ℕ
-node_outs (Source r) = 0 ∷ []
-node_outs (Flatten ins) = 0 ∷ []
-node_outs (Pdo c f) = outs_of f
-node_outs (Gbk c o l k) = 0 ∷ []
+-- how many outputs a step may have
+abbrev pub most_outputs : ℕ
+most_outputs = 8
 
--- the collections of a graph
-abbrev pub collections : List Entry → List Place
-collections es = flat_map (λ e. map (place e.number) (node_outs e.node)) es
+-- the outputs of a step stand side by side from its first on, and are not too many; n is the next
+-- output of the step that stands before
+abbrev pub HasFewOutputs : ℕ → Forest → Type 0
+HasFewOutputs n Bare = Unit {0}
+HasFewOutputs n (Grow l kids rest) =
+    ((l.at ≡ 0) ⊎ ((l.at ≡ n) × (n < most_outputs)))
+    × HasFewOutputs 0 kids × HasFewOutputs (l.at + 1) rest
 
--- how many collections a graph may have: 8 for each node and step
-abbrev pub most_collections : ℕ
-most_collections = 2 ^ 15
+abbrev pub IsNarrow : Node → Type 0
+IsNarrow (Source r) = Unit {0}
+IsNarrow (Flatten ins) = Unit {0}
+IsNarrow (Pdo c f) = HasFewOutputs 0 f
+IsNarrow (Gbk c o l k) = Unit {0}
 
--- the graph reads so many sources, its numbers have 32 bits, and its collections are not too many
+-- the graph reads so many sources, its numbers have 32 bits, and no step has too many outputs
 pub record IsInBounds (sources : ℕ) (g : Graph) : Type 0 where
   pub below : AllByRecursion (λ e. IsSourceBelow sources e.node) g.nodes
   pub numbers : g.next < 2 ^ 32
-  pub few : length (collections g.nodes) ≤ most_collections
+  pub narrow : AllByRecursion (λ e. IsNarrow e.node) g.nodes
