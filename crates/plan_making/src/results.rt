@@ -151,7 +151,7 @@ fn class_gives(
 }
 
 /// The collections of the graph that the results of an operation are, in order.
-pub(crate) fn gives_of(
+pub fn gives_of(
     alloc: Global,
     nodes: &[Entry],
     index: &HashMap<u32, usize>,
