@@ -1,0 +1,17 @@
+pub mod Made
+pub mod Widths
+pub mod Taking
+pub mod Staging
+pub mod Planning
+pub mod Members
+pub mod Collections
+pub mod Places
+pub mod Runs
+pub mod Keys
+pub mod Lifted
+pub mod Limits
+pub mod Wellness
+pub mod Counted
+pub mod TypedChannels
+pub mod TypedStages
+pub mod TypedPlans

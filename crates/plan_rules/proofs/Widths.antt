@@ -1,0 +1,90 @@
+-- A stage gives as many results as its operation gives collections.
+use Rattle.std.proofs.Common.{◌≡◌, ℕ, ◌+◌, List, [], ◌∷◌, ◌++◌, map, length, Option, Some, None, refl, sym, ◌∙◌, arith, length-append}
+use Rattle.std.specs.List.{AllByRecursion, flat_map}
+use Rattle.exec_graph.specs.Forests.{Forest, Bare, Grow}
+use Rattle.exec_graph.specs.Meaning.{node_at, place}
+use Rattle.exec_graph.specs.declared.graph.Place.{Place}
+use Rattle.exec_graph.specs.declared.graph.Node.{Node}
+use Rattle.exec_graph.specs.declared.graph.Node.TheVariants.{Source, Flatten, Pdo, Gbk}
+use Rattle.exec_graph.specs.declared.graph.Entry.{Entry}
+use Rattle.exec_plan.specs.declared.plan.PlanPlace.{PlanPlace}
+use Rattle.exec_plan.specs.declared.plan.OutChannel.{OutChannel}
+use Rattle.exec_plan.specs.declared.plan.OutChannel.TheVariants.{Group, Pass}
+use Rattle.exec_plan.specs.Channels.{kept_out, outs_of}
+use Rattle.exec_plan.specs.Wellformed.{kept, out_count, outs, stage_width, width, widths}
+use Rattle.plan_laws.specs.declared.operations.Key.{Key}
+use Rattle.plan_laws.specs.declared.operations.Grouped.{Grouped}
+use Rattle.plan_laws.specs.declared.operations.Operation.{Operation}
+use Rattle.plan_laws.specs.declared.operations.Operation.TheVariants.{Flat, Class}
+use Rattle.plan_laws.specs.Operations.{IsGroupedOk, IsHonest, IsReducer, Reads, TakesInputs, forest_at, gives_of, group_at, group_gives, group_of, numbered_out, numbered_outs, outs_at, pass_of, reduced, reducer_of, stage_of}
+
+pub length_map : {X Y : Type 0} (f : X → Y) (xs : List X) → length (map f xs) ≡ length xs
+length_map f [] = refl
+length_map f (x ∷ xs) = let i = length_map f xs in omega arith
+
+kept_length : (o : Option ℕ) → length (kept_out o) ≡ out_count o
+kept_length None = refl
+kept_length (Some j) = refl
+
+pub outs_length : (f : Forest) → length (outs_of f) ≡ kept f
+outs_length Bare = refl
+outs_length (Grow l kids rest) =
+    let a = outs_length kids in
+    let b = outs_length rest in
+    let c = length-append (kept_out l.out) (outs_of kids ++ outs_of rest) in
+    let d = length-append (outs_of kids) (outs_of rest) in
+    let e = kept_length l.out in
+    omega arith
+
+numbered_width : (n : ℕ) (o : OutChannel) → width (numbered_out n o) ≡ width o
+numbered_width n (Group g) = refl
+numbered_width n (Pass k i) = refl
+
+pub numbered_widths : (n : ℕ) (os : List OutChannel) → widths (numbered_outs n os) ≡ widths os
+numbered_widths n [] = refl
+numbered_widths n (o ∷ os) =
+    let a = numbered_width n o in
+    let b = numbered_widths (n + width o) os in omega arith
+
+forest_outs : (n r : ℕ) (o : Option Node) → Reads (place n 0) o
+    → outs (forest_at o) ≡ length (map (place r) (outs_at o))
+forest_outs n r None h = absurd h
+forest_outs n r (Some (Source s)) h = absurd h
+forest_outs n r (Some (Flatten ins)) h = absurd h
+forest_outs n r (Some (Gbk c x l k)) h = absurd h
+forest_outs n r (Some (Pdo c f)) h = sym (length_map (place r) (outs_of f) ∙ outs_length f)
+
+pub reducer_outs : (es : List Entry) (n : ℕ) (r : Option ℕ) → IsReducer es n r
+    → outs (reducer_of es r) ≡ length (reduced es n r)
+reducer_outs es n None h = refl
+reducer_outs es n (Some r) h = forest_outs n r (node_at es r) h
+
+pub group_width : (es : List Entry) (keys : List Key) (n : ℕ) (r : Option ℕ) (o : Option Node)
+    → TakesInputs es keys o → IsReducer es n r
+    → width (Group (group_at es keys r o)) ≡ length (reduced es n r)
+group_width es keys n r None t h = absurd t
+group_width es keys n r (Some (Source s)) t h = absurd t
+group_width es keys n r (Some (Flatten ins)) t h = absurd t
+group_width es keys n r (Some (Pdo c f)) t h = absurd t
+group_width es keys n r (Some (Gbk c x l k)) t h = reducer_outs es n r h
+
+pub class_widths : (es : List Entry) (keys : List Key) (gs : List Grouped) (cs : List Place)
+    → AllByRecursion (IsGroupedOk es keys) gs
+    → widths (map (group_of es keys) gs ++ map (pass_of keys) cs)
+    ≡ length (flat_map (group_gives es) gs ++ cs)
+class_widths es keys [] [] h = refl
+class_widths es keys [] (c ∷ cs) h = let i = class_widths es keys [] cs tt in omega arith
+class_widths es keys (g ∷ gs) cs h =
+    let a = group_width es keys g.gbk g.reducer (node_at es g.gbk) h.0.0 h.0.1 in
+    let b = class_widths es keys gs cs h.1 in
+    let c = length-append (group_gives es g) (flat_map (group_gives es) gs) in
+    let d = length-append (flat_map (group_gives es) gs) cs in
+    let e = length-append (group_gives es g ++ flat_map (group_gives es) gs) cs in
+    omega arith
+
+pub operation_width : (es : List Entry) (f : Place → PlanPlace) (o : Operation) → IsHonest es o
+    → stage_width (stage_of es f o) ≡ length (gives_of es o)
+operation_width es f (Flat n) h = refl
+operation_width es f (Class keys gs cs) h =
+    numbered_widths 0 (map (group_of es keys) gs ++ map (pass_of keys) cs)
+    ∙ class_widths es keys gs cs h.1
