@@ -1,0 +1,4 @@
+pub mod Branching
+pub mod Listing
+pub mod Keeping
+pub mod Floats

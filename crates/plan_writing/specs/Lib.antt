@@ -1,0 +1,7 @@
+pub mod Lists
+pub mod Naming
+pub mod Places
+pub mod Forests
+pub mod PlanText
+pub mod PlanJson
+pub mod inner

@@ -1,0 +1,200 @@
+ghost use Rattle.std.specs.Prelude.{◌≡◌, ◌<◌, IfOk, Some, length, map, slice_get};
+ghost use Rattle.serde_json.specs.Data.{array};
+ghost use Rattle.serde_json.specs.View.{view, items_of};
+ghost use Rattle.serde_json.specs.Written.{compact_text};
+ghost use Rattle.plan_writing.specs.Lists.{numbered, paired};
+ghost use Rattle.plan_writing.specs.Naming.{Written};
+ghost use Rattle.plan_writing.specs.PlanJson as spec;
+
+use crate::names::Names;
+use crate::outs::outs_of;
+use crate::values::{
+    forest_value, given_value, lift_value, node_value, place_value, places_value, result_value,
+    take_value, takes_value, text_value,
+};
+use exec_plan::{Grouping, InChannel, Mscr, OutChannel, Plan, PlanPlace, Stage, Take};
+use serde_json::{Value, json};
+use std::alloc::{AllocError, Global};
+
+/// The plan as JSON: its compact text, on one line without an end.
+pub fn plan_json<N: Names>(alloc: Global, names: &N, plan: &Plan) -> Result<Vec<u8>, AllocError>
+    ensures { IfOk result (λ text.
+        text.items ≡ compact_text (spec.plan_json_of (N.naming names.now) plan.now)) }
+{
+    plan_value(alloc, names, plan)?.to_vec(alloc)
+}
+
+fn plan_value<N: Names>(alloc: Global, names: &N, plan: &Plan) -> Result<Value, AllocError>
+    ensures { IfOk result (λ value.
+        view value ≡ spec.plan_json_of (N.naming names.now) plan.now) }
+{
+    let outputs = outputs_value(alloc, names, plan.outputs.as_slice())?;
+    let stages = stages_value(alloc, names, plan.stages.as_slice())?;
+    json!(in alloc; {"outputs": outputs, "stages": stages})
+}
+
+fn outputs_value<N: Names>(
+    alloc: Global,
+    names: &N,
+    places: &[PlanPlace],
+) -> Result<Value, AllocError>
+    ensures { IfOk result (λ value. view value
+        ≡ array (items_of (paired spec.output_json (N.naming names.now).outputs places.now))) }
+{
+    let mut values = Vec::new(alloc);
+    let count = names.output_count().min(places.len());
+    for number in 0..count {
+        values.push(output_value(alloc, names, number, places[number])?)?;
+    }
+    Ok(Value::Array(values))
+}
+
+fn output_value<N: Names>(
+    alloc: Global,
+    names: &N,
+    number: usize,
+    place: PlanPlace,
+) -> Result<Value, AllocError>
+    requires { number < length (N.naming names.now).outputs }
+    ensures { (output : Written) →
+        slice_get (N.naming names.now).outputs number ≡ Some output →
+        IfOk result (λ value. view value ≡ spec.output_json output place) }
+{
+    let file = text_value(alloc, names.output_file(number))?;
+    let name = text_value(alloc, names.output_name(number))?;
+    let reads = place_value(alloc, place)?;
+    json!(in alloc; {"file": file, "name": name, "reads": reads})
+}
+
+fn stages_value<N: Names>(alloc: Global, names: &N, stages: &[Stage]) -> Result<Value, AllocError>
+    ensures { IfOk result (λ value. view value
+        ≡ array (items_of (numbered (spec.stage_json (N.naming names.now)) 1 stages.now))) }
+{
+    let mut values = Vec::new(alloc);
+    for (i, stage) in stages.iter().enumerate() {
+        values.push(stage_value(alloc, names, i as u64 + 1, stage)?)?;
+    }
+    Ok(Value::Array(values))
+}
+
+/// The stage of a number.
+fn stage_value<N: Names>(
+    alloc: Global,
+    names: &N,
+    number: u64,
+    stage: &Stage,
+) -> Result<Value, AllocError>
+    ensures { IfOk result (λ value.
+        view value ≡ spec.stage_json (N.naming names.now) number stage.now) }
+{
+    match stage {
+        Stage::Mscr(mscr) => mscr_value(alloc, names, number, mscr),
+        Stage::Flatten(takes) => flatten_value(alloc, number, takes.as_slice()),
+    }
+}
+
+fn mscr_value<N: Names>(
+    alloc: Global,
+    names: &N,
+    number: u64,
+    mscr: &Mscr,
+) -> Result<Value, AllocError>
+    ensures { IfOk result (λ value. view value
+        ≡ spec.mscr_json (N.naming names.now) number mscr.now.inputs mscr.now.outputs) }
+{
+    let inputs = ins_value(alloc, names, mscr.inputs.as_slice())?;
+    let outputs = outs_value(alloc, names, number, mscr.outputs.as_slice())?;
+    json!(in alloc; {"in": inputs, "kind": "mscr", "out": outputs})
+}
+
+fn flatten_value(alloc: Global, number: u64, takes: &[PlanPlace]) -> Result<Value, AllocError>
+    ensures { IfOk result (λ value. view value ≡ spec.flatten_json number takes.now) }
+{
+    let gives = result_value(alloc, number, 0)?;
+    let takes = places_value(alloc, takes)?;
+    json!(in alloc; {"gives": [gives], "kind": "flatten", "takes": takes})
+}
+
+fn ins_value<N: Names>(alloc: Global, names: &N, inputs: &[InChannel]) -> Result<Value, AllocError>
+    ensures { IfOk result (λ value. view value
+        ≡ array (items_of (map (spec.in_json (N.naming names.now)) inputs.now))) }
+{
+    let mut values = Vec::new(alloc);
+    for channel in inputs {
+        values.push(in_value(alloc, names, channel)?)?;
+    }
+    Ok(Value::Array(values))
+}
+
+fn outs_value<N: Names>(
+    alloc: Global,
+    names: &N,
+    stage: u64,
+    outputs: &[OutChannel],
+) -> Result<Value, AllocError>
+    ensures { IfOk result (λ value. view value
+        ≡ array (items_of (map (spec.out_json (N.naming names.now) stage) outputs.now))) }
+{
+    let mut values = Vec::new(alloc);
+    for channel in outputs {
+        values.push(out_value(alloc, names, stage, channel)?)?;
+    }
+    Ok(Value::Array(values))
+}
+
+fn in_value<N: Names>(alloc: Global, names: &N, channel: &InChannel) -> Result<Value, AllocError>
+    ensures { IfOk result (λ value.
+        view value ≡ spec.in_json (N.naming names.now) channel.now) }
+{
+    let does = forest_value(alloc, names, &channel.does)?;
+    let reads = place_value(alloc, channel.reads)?;
+    json!(in alloc; {"does": does, "reads": reads})
+}
+
+/// An output channel of a stage.
+fn out_value<N: Names>(
+    alloc: Global,
+    names: &N,
+    stage: u64,
+    channel: &OutChannel,
+) -> Result<Value, AllocError>
+    ensures { IfOk result (λ value.
+        view value ≡ spec.out_json (N.naming names.now) stage channel.now) }
+{
+    match channel {
+        OutChannel::Group(group) => group_value(alloc, names, stage, group),
+        OutChannel::Pass(take, given) => pass_value(alloc, stage, *take, *given),
+    }
+}
+
+fn group_value<N: Names>(
+    alloc: Global,
+    names: &N,
+    stage: u64,
+    group: &Grouping,
+) -> Result<Value, AllocError>
+    ensures { IfOk result (λ value.
+        view value ≡ spec.group_json (N.naming names.now) stage group.now) }
+{
+    let does = forest_value(alloc, names, &group.does)?;
+    let gives = given_value(alloc, stage, group, outs_of(alloc, &group.does)?.as_slice())?;
+    let lift = lift_value(alloc, names, group.lifted)?;
+    let name = node_value(alloc, names, group.origin)?;
+    let takes = takes_value(alloc, group.takes.as_slice())?;
+    json!(in alloc; {
+        "does": does,
+        "gives": gives,
+        "kind": "group",
+        "lift": lift,
+        "name": name,
+        "takes": takes
+    })
+}
+
+fn pass_value(alloc: Global, stage: u64, take: Take, given: u32) -> Result<Value, AllocError>
+    ensures { IfOk result (λ value. view value ≡ spec.pass_json stage take given) }
+{
+    let gives = result_value(alloc, stage, u64::from(given))?;
+    let takes = take_value(alloc, take)?;
+    json!(in alloc; {"gives": [gives], "kind": "pass", "takes": [takes]})
+}

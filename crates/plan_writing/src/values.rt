@@ -1,0 +1,134 @@
+// JSON values of texts.
+ghost use Rattle.std.specs.Prelude.{◌≡◌, IfOk};
+ghost use Rattle.serde_json.specs.View.{view};
+ghost use Rattle.plan_writing.specs.Forests.{forest_text};
+ghost use Rattle.plan_writing.specs.Places.{dotted, given_text, place_text, take_text};
+ghost use Rattle.plan_writing.specs.PlanJson as spec;
+
+use crate::forests::push_forest;
+use crate::names::Names;
+use crate::places::{push_dotted, push_place, push_take};
+use combine_table::Comb;
+use exec_graph::Roots;
+use exec_plan::{Grouping, PlanPlace, Take};
+use serde_json::Value;
+use std::alloc::{AllocError, Global};
+
+/// A text as a value.
+pub(crate) fn text_value(alloc: Global, text: &[u8]) -> Result<Value, AllocError>
+    ensures { IfOk result (λ value. view value ≡ spec.text_json text.now) }
+{
+    Ok(Value::String(String::from_utf8_lossy(alloc, text)?))
+}
+
+/// A collection.
+pub(crate) fn place_value(alloc: Global, place: PlanPlace) -> Result<Value, AllocError>
+    ensures { IfOk result (λ value. view value ≡ spec.text_json (place_text place)) }
+{
+    let mut text = Vec::new(alloc);
+    push_place(&mut text, place)?;
+    text_value(alloc, text.as_slice())
+}
+
+/// An output of an input channel.
+pub(crate) fn take_value(alloc: Global, take: Take) -> Result<Value, AllocError>
+    ensures { IfOk result (λ value. view value ≡ spec.text_json (take_text take)) }
+{
+    let mut text = Vec::new(alloc);
+    push_take(&mut text, take)?;
+    text_value(alloc, text.as_slice())
+}
+
+/// A result of a stage.
+pub(crate) fn result_value(alloc: Global, stage: u64, number: u64) -> Result<Value, AllocError>
+    ensures { IfOk result (λ value. view value ≡ spec.text_json (dotted stage number)) }
+{
+    let mut text = Vec::new(alloc);
+    push_dotted(&mut text, stage, number)?;
+    text_value(alloc, text.as_slice())
+}
+
+/// The steps of a channel.
+pub(crate) fn forest_value<N: Names>(
+    alloc: Global,
+    names: &N,
+    does: &Option<Roots>,
+) -> Result<Value, AllocError>
+    ensures { IfOk result (λ value.
+        view value ≡ spec.text_json (forest_text (N.naming names.now) does.now)) }
+{
+    let mut text = Vec::new(alloc);
+    push_forest(&mut text, names, does)?;
+    text_value(alloc, text.as_slice())
+}
+
+/// The name of a script node.
+pub(crate) fn node_value<N: Names>(
+    alloc: Global,
+    names: &N,
+    origin: u32,
+) -> Result<Value, AllocError>
+    ensures { IfOk result (λ value.
+        view value ≡ spec.text_json ((N.naming names.now).node origin)) }
+{
+    let mut text = Vec::new(alloc);
+    names.push_node(&mut text, origin)?;
+    text_value(alloc, text.as_slice())
+}
+
+/// The combiner of a lifted channel.
+pub(crate) fn lift_value<N: Names>(
+    alloc: Global,
+    names: &N,
+    lifted: Option<Comb>,
+) -> Result<Value, AllocError>
+    ensures { IfOk result (λ value.
+        view value ≡ spec.lift_json (N.naming names.now) lifted) }
+{
+    let Some(combiner) = lifted else {
+        return Ok(Value::Null);
+    };
+    let mut text = Vec::new(alloc);
+    names.push_combiner(&mut text, combiner)?;
+    text_value(alloc, text.as_slice())
+}
+
+/// Outputs of input channels.
+pub(crate) fn takes_value(alloc: Global, takes: &[Take]) -> Result<Value, AllocError>
+    ensures { IfOk result (λ value. view value ≡ spec.texts_json take_text takes.now) }
+{
+    let mut values = Vec::new(alloc);
+    for take in takes {
+        values.push(take_value(alloc, *take)?)?;
+    }
+    Ok(Value::Array(values))
+}
+
+/// The results that a grouping channel of a stage gives for these outputs of its reducer.
+pub(crate) fn given_value(
+    alloc: Global,
+    stage: u64,
+    group: &Grouping,
+    outs: &[u32],
+) -> Result<Value, AllocError>
+    ensures { IfOk result (λ value.
+        view value ≡ spec.texts_json (given_text stage group.now) outs.now) }
+{
+    let mut values = Vec::new(alloc);
+    for out in outs {
+        let number = u64::from(group.first) + u64::from(*out);
+        values.push(result_value(alloc, stage, number)?)?;
+    }
+    Ok(Value::Array(values))
+}
+
+/// Collections.
+pub(crate) fn places_value(alloc: Global, places: &[PlanPlace]) -> Result<Value, AllocError>
+    ensures { IfOk result (λ value. view value ≡ spec.texts_json place_text places.now) }
+{
+    let mut values = Vec::new(alloc);
+    for place in places {
+        values.push(place_value(alloc, *place)?)?;
+    }
+    Ok(Value::Array(values))
+}
