@@ -3,3 +3,4 @@ pub mod Tasks
 pub mod Lists
 pub mod Outs
 pub mod Plans
+pub mod Typing

@@ -7,7 +7,6 @@ use Rattle.flume_collection.specs.Calls.{or_none}
 use Rattle.shards.specs.Shards.{joined}
 use Rattle.exec_graph.specs.World.{World}
 use Rattle.exec_plan.specs.Channels.{numbers}
-use Rattle.exec_plan.specs.declared.plan.PlanPlace.{PlanPlace}
 use Rattle.exec_plan.specs.declared.plan.PlanPlace.TheVariants as at
 use Rattle.exec_plan.specs.declared.plan.InChannel.{InChannel}
 use Rattle.exec_plan.specs.declared.plan.Grouping.{Grouping}

@@ -66,11 +66,12 @@ pub record AreMapOuts (w : World) (n : Split) (t : Lists) (s : Mscr) (outs : Lis
 
 -- ---- of a reduce task
 
--- what a reduce task gives where nothing traps: what is emitted to each of its outputs, the counts of
+-- what a reduce task gives where nothing traps: what is emitted to each of its outputs, the counts
+-- of
 -- its steps, and the number of its groups
-pub record IsReduceOut (w : World) (task : Task) (outputs : List (List Value)) (counts : List ℕ)
-    (groups : ℕ) : Type 0 where
+pub record IsReduceOut (w : World) (task : Task) (given : List (List Value)) (counted : List ℕ)
+    (number : ℕ) : Type 0 where
   pub calm : IsCalm w task
-  pub outputs : outputs ≡ all_given w task.does task.elements
-  pub counts : counts ≡ kept_counts w task
-  pub groups : groups ≡ kept_count (places task)
+  pub outputs : given ≡ all_given w task.does task.elements
+  pub counts : counted ≡ kept_counts w task
+  pub groups : number ≡ kept_count (places task)

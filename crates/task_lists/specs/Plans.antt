@@ -1,5 +1,5 @@
 -- What all tasks of a plan come to: the first trap, and the sizes that they count.
-use Rattle.std.specs.Prelude.{ℕ, Bool, cond, ◌==◌, ◌&&◌, ◌+◌, List, [], ◌∷◌, ◌++◌, map, sum, Option}
+use Rattle.std.specs.Prelude.{ℕ, cond, ◌==◌, ◌&&◌, ◌+◌, List, [], ◌∷◌, ◌++◌, sum, Option}
 use Rattle.std.proofs.Common.{suc}
 use Rattle.std.specs.List.{slice_get}
 use Rattle.flume_collection.specs.declared.trap.Trap.{Trap}

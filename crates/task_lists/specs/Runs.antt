@@ -1,5 +1,5 @@
 -- What the steps of a forest give of elements that are taken one after another.
-use Rattle.std.specs.Prelude.{ℕ, Bool, cond, min, ◌+◌, ◌-◌, ◌^◌, List, [], ◌∷◌, ◌++◌, map, length, Option, Some, None}
+use Rattle.std.specs.Prelude.{ℕ, cond, min, ◌+◌, ◌-◌, ◌^◌, List, [], ◌∷◌, ◌++◌, map, length, Option, Some, None}
 use Rattle.std.specs.List.{flat_map}
 use Rattle.flume_value.specs.declared.value.Value.{Value}
 use Rattle.flume_collection.specs.declared.trap.Trap.{Trap}

@@ -1,5 +1,5 @@
 -- The tasks of a stage: which elements each has, and what the tasks of a phase give.
-use Rattle.std.specs.Prelude.{ℕ, cond, ◌==◌, ◌*◌, ◌/◌, ◌%◌, List, [], ◌∷◌, ◌++◌, length, filter_map, Option, Some, None}
+use Rattle.std.specs.Prelude.{ℕ, cond, ◌==◌, ◌*◌, ◌/◌, ◌%◌, List, [], length, filter_map, Option, Some, None}
 use Rattle.std.specs.List.{flat_map, slice_get}
 use Rattle.std.specs.Option.{option_map_or}
 use Rattle.flume_value.specs.declared.value.Value.{Value}
