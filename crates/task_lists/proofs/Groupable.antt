@@ -64,14 +64,13 @@ reducer_suited : (s : Signatures) (outs : Place → Ty) (c : Comb) (t : Ty) (f :
 reducer_suited s outs c t None ok a = absurd ok
 reducer_suited s outs c t (Some f) ok a = root_suited s outs c t f ok a
 
--- the group of one pair
-one_group : (k v : Value)
-    → group_of (pair k (variant.List (v ∷ []))) ≡ Some (k, v ∷ [])
-one_group k v =
-    let list : Value = variant.List (v ∷ []) in
-    group_by (pair k list) k list (Some (v ∷ [])) (key_of-pair k list)
+-- a key with a list is a group
+pub group_is : (k : Value) (vs : List Value) → group_of (pair k (variant.List vs)) ≡ Some (k, vs)
+group_is k vs =
+    let list : Value = variant.List vs in
+    group_by (pair k list) k list (Some vs) (key_of-pair k list)
     (ap (option_map (λ (it : Value × Value). it.1)) (parts_of-pair k list))
-    (ap list_layer (variant.outs-List (v ∷ [])))
+    (ap list_layer (variant.outs-List vs))
 
 pair_combinable : (c : Comb) (key value groups : Ty) → groups ≡ table_of key (type.List value)
     → Suited c groups → (p : Value) → Has (table_of key value) p → IsCombinable c p
@@ -83,7 +82,7 @@ pair_combinable c key value groups e suited p h =
     (has_list value (v ∷ []) (held, tt)) in
     let members : IsSomeAnd (Some (k, v ∷ [])) (λ (it : Value × List Value). All (Suits c) it.1) =
     subst (λ (o : Option (Value × List Value)). IsSomeAnd o (λ it. All (Suits c) it.1))
-    (one_group k v) (suited group (subst (λ (r : Ty). Has r group) (sym e) typed)) in
+    (group_is k (v ∷ [])) (suited group (subst (λ (r : Ty). Has r group) (sym e) typed)) in
     let one : Suits c v = (each_from (Suits c) (v ∷ []) members).0 in
     subst (λ (o : Option (Value × Value)). IsSomeAnd o (λ parts. Suits c parts.1)) (sym is) one
 

@@ -1,5 +1,5 @@
 -- What is gathered of the outs of all map tasks.
-use Rattle.std.proofs.Common.{◌≡◌, ◌<◌, ◌/◌, ◌%◌, ℕ, List, [], ◌∷◌, length, Option, Some, None, sym, ap, ◌∙◌, subst, append-nil}
+use Rattle.std.proofs.Common.{◌≡◌, ◌<◌, ◌/◌, ◌%◌, ℕ, List, [], ◌∷◌, length, map, Option, Some, None, sym, ap, ◌∙◌, subst, append-nil}
 use Rattle.std.specs.List.{flat_map, slice_get, AllZip}
 use Rattle.std.specs.Option.{IsSomeAnd, MatchOption}
 use Rattle.std.proofs.lemmas.Slice.Zip.{AllZip-left, AllZip-map}
@@ -22,13 +22,16 @@ use Rattle.shuffle_parts.specs.Partitions.{is_in, part_of}
 use Rattle.shuffle_parts.proofs.Gathered.{all_pairs-are, all_partials-stand}
 use Rattle.shuffle_parts.proofs.Passing.{grouped-passing}
 use Rattle.exec_graph.specs.World.{World}
+use Rattle.exec_graph.specs.Calls.{called}
+use Rattle.exec_graph.specs.declared.step.Does.TheVariants as does
 use Rattle.exec_plan.specs.declared.plan.Grouping.{Grouping}
 use Rattle.exec_plan.specs.declared.plan.Mscr.{Mscr}
 use Rattle.exec_plan.specs.declared.plan.OutChannel.{OutChannel}
 use Rattle.exec_plan.specs.declared.plan.OutChannel.TheVariants.{Group, Pass}
 use Rattle.exec_plan.specs.declared.plan.Take.{Take}
 use Rattle.task_lists.specs.Tasks.{Split, Lists, given_to, map_task_of, gathered, reduce_task}
-use Rattle.task_lists.specs.Outs.{AreSentPairs, IsSent, IsMapOut, AreMapOuts}
+use Rattle.task_lists.specs.Outs.{answers_of, AreSentPairs, IsSent, IsMapOut, AreMapOuts}
+use Rattle.task_lists.proofs.Answered.{groups_answered}
 use Rattle.task_lists.proofs.Numbers.{joined_two, listed, zip_listed}
 
 some_weaker : {A : Type 0} (P Q : A → Type 0) → ((x : A) → P x → Q x) → (o : Option A)
@@ -140,3 +143,16 @@ module _ (w : World) (n : Split) (t : Lists) (s : Mscr) (outs : List MapOut) (r 
       ∙ ap (λ l. combined_groups c (groups_in l))
       (ap (λ l. grouped (part_of P p l)) (given_all g.takes)
       ∙ grouped-passing (is_in P p) (gathered w n t s.inputs g.takes))
+
+  -- so the root of a lifted reducer answers of the groups what their accumulators finish as
+  pub answered_whole : (p : ℕ) (g : Grouping) (c : Comb) → p < n.partitions
+      → slice_get s.outputs r ≡ Some (Group g) → g.lifted ≡ Some c
+      → answers_of (finished_each c (merged_by_key c (all_partials outs r p)))
+      ≡ map (called w (does.Combine c)) (reduce_task w n t s.inputs g p).elements
+  answered_whole p g c below at lifted =
+      let all : List Value = gathered w n t s.inputs g.takes in
+      let same = grouped-passing (is_in n.partitions p) all in
+      ap answers_of (combined_whole p g c below at lifted)
+      ∙ ap (λ l. answers_of (combined_groups c (groups_in l))) (sym same)
+      ∙ groups_answered w c (part_of n.partitions p all)
+      ∙ ap (map (called w (does.Combine c))) same

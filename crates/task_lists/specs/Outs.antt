@@ -3,13 +3,16 @@ use Rattle.std.specs.Prelude.{◌≡◌, ℕ, ◌<◌, ◌/◌, ◌%◌, List, [
 use Rattle.std.specs.List.{AllZip}
 use Rattle.std.specs.Option.{IsSomeAnd}
 use Rattle.flume_value.specs.declared.value.Value.{Value}
+use Rattle.flume_value.specs.declared.fault.Kind.{Kind}
 use Rattle.flume_collection.specs.declared.trap.Trap.{Trap}
+use Rattle.flume_collection.specs.Calls.{Called}
 use Rattle.combine_table.specs.declared.comb.Comb.{Comb}
 use Rattle.shuffle_parts.specs.declared.out.Sent.{Sent}
 use Rattle.shuffle_parts.specs.declared.out.Sent.TheVariants.{Passed}
 use Rattle.shuffle_parts.specs.declared.out.MapOut.{MapOut}
 use Rattle.shuffle_parts.specs.Outs.{ArePairsOf, ArePartialsOf}
 use Rattle.exec_graph.specs.World.{World}
+use Rattle.exec_graph.specs.Calls.{of_combine}
 use Rattle.exec_plan.specs.declared.plan.Take.{Take}
 use Rattle.exec_plan.specs.declared.plan.OutChannel.{OutChannel}
 use Rattle.exec_plan.specs.declared.plan.OutChannel.TheVariants.{Group, Pass}
@@ -65,6 +68,10 @@ pub record AreMapOuts (w : World) (n : Split) (t : Lists) (s : Mscr) (outs : Lis
       IsSomeAnd (slice_get outs k) (IsMapOut w n t s (k / n.shards) (k % n.shards))
 
 -- ---- of a reduce task
+
+-- what a combination answers of each key beside what its list comes to
+abbrev pub answers_of : List (Value × Result Value Kind) → List Called
+answers_of finished = map (λ it. of_combine it.0 it.1) finished
 
 -- what a reduce task gives where nothing traps: what is emitted to each of its outputs, the counts
 -- of

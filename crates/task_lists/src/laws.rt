@@ -1,4 +1,4 @@
-ghost use Rattle.std.specs.Prelude.{◌≡◌, ◌<◌, ◌↔◌, ℕ, List, [], ◌∷◌, Option, Some, None, length, slice_get};
+ghost use Rattle.std.specs.Prelude.{◌≡◌, ◌<◌, ◌↔◌, ℕ, List, [], ◌∷◌, Option, Some, None, length, map, slice_get};
 ghost use Rattle.std.specs.List.{AllByRecursion, Contains};
 ghost use Rattle.std.specs.Option.{option_map_or};
 ghost use Rattle.flume_value.specs.declared.value.Value.{Value};
@@ -14,6 +14,8 @@ ghost use Rattle.shuffle_parts.specs.declared.out.MapOut.{MapOut};
 ghost use Rattle.shuffle_parts.specs.Outs.{all_passed, all_pairs, all_partials};
 ghost use Rattle.exec_graph.specs.Typing.{Signatures, IsWorldTyped};
 ghost use Rattle.exec_graph.specs.World.{World};
+ghost use Rattle.exec_graph.specs.Calls.{called};
+ghost use Rattle.exec_graph.specs.declared.step.Does.TheVariants as does;
 ghost use Rattle.exec_plan.specs.declared.plan.Grouping.{Grouping};
 ghost use Rattle.exec_plan.specs.declared.plan.Mscr.{Mscr};
 ghost use Rattle.exec_plan.specs.declared.plan.OutChannel.TheVariants.{Group, Pass};
@@ -27,7 +29,7 @@ ghost use Rattle.exec_plan.specs.Wellformed.{Exists, IsLiftOk, IsPlanOk, IsStage
 ghost use Rattle.task_lists.specs.Tasks.{Split, Lists, Task, given_to, map_task_of, gathered, reduce_task, map_phase, map_count, map_task_at, reduce_phase, reduce_count, reduce_task_at, grouping_at};
 ghost use Rattle.task_lists.specs.Lists.{lists, result_lists, source_lists, with_lists};
 ghost use Rattle.task_lists.specs.Plans.{first_trap, size_of};
-ghost use Rattle.task_lists.specs.Outs.{AreMapOuts};
+ghost use Rattle.task_lists.specs.Outs.{answers_of, AreMapOuts};
 ghost use Rattle.task_lists.specs.Typing.{AreGroupable, AreListsTyped, IsTaskTyped};
 
 /// The tasks of a plan, for any number of shards and partitions. That the sizes and the traps are
@@ -83,6 +85,12 @@ pub fn outs_law()
         AreMapOuts w n t s outs → slice_get s.outputs r ≡ Some (Group g) → g.lifted ≡ Some c →
         finished_each c (merged_by_key c (all_partials outs r p))
         ≡ combined_groups c (groups_in (reduce_task w n t s.inputs g p).elements) }
+    // So they finish as the root of the reducer answers of those groups, traps included.
+    ensures answered { (w : World) (n : Split) (t : Lists) (s : Mscr) (outs : List MapOut)
+        (r p : ℕ) (g : Grouping) (c : Comb) → 0 < n.shards → p < n.partitions →
+        AreMapOuts w n t s outs → slice_get s.outputs r ≡ Some (Group g) → g.lifted ≡ Some c →
+        answers_of (finished_each c (merged_by_key c (all_partials outs r p)))
+        ≡ map (called w (does.Combine c)) (reduce_task w n t s.inputs g p).elements }
 {}
 
 /// In a well-formed plan whose types fit, over a typed world, the lists have their collections'
