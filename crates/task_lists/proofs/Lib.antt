@@ -1,0 +1,17 @@
+pub mod Elements
+pub mod Trapping
+pub mod Says
+pub mod Maps
+pub mod Reduces
+pub mod Results
+pub mod Stepped
+pub mod Staged
+pub mod Running
+pub mod Counts
+pub mod Whole
+pub mod Numbers
+pub mod Answered
+pub mod Sending
+pub mod Typed
+pub mod TypedResults
+pub mod Groupable
