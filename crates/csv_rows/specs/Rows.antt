@@ -64,7 +64,7 @@ first_then (Err e) rest = Err e
 -- the values of a row's fields, from a column on
 abbrev pub cells_from : ℕ → ℕ → List Column → List (List ℕ) → ValuesOrFault
 cells_from row at [] fields = Ok []
-cells_from row at (column ∷ columns) [] = Ok []
+cells_from row at (column ∷ columns) [] = bad row 0 kind.Width
 cells_from row at (column ∷ columns) (field ∷ fields) =
     first_then (cell_at row at column.kind field) (cells_from row (at + 1) columns fields)
 
@@ -85,10 +85,10 @@ rows_from row columns [] = Ok []
 rows_from row columns (fields ∷ records) =
     first_then (row_at row columns fields) (rows_from (row + 1) columns records)
 
--- the first column whose name is another one, from a column on
+-- the first column whose name is another one, from a column on: 0 where names are missing
 abbrev pub other_name : ℕ → List Column → List (List ℕ) → Option ℕ
 other_name at [] names = None
-other_name at (column ∷ columns) [] = None
+other_name at (column ∷ columns) [] = Some 0
 other_name at (column ∷ columns) (name ∷ names) =
     if bytes_eq column.name name then other_name (at + 1) columns names else Some at
 
