@@ -1,5 +1,9 @@
-//! Tests of sinking: a small graph, node by node, and how many nodes many levels become.
+//! Tests of sinking: small graphs, node by node, and how many nodes many levels become.
 #![tactic(auto)]
 
 #[cfg(test)]
+mod graphs;
+#[cfg(test)]
 mod levels;
+#[cfg(test)]
+mod nests;
