@@ -81,6 +81,22 @@ fn leaves_a_group_with_a_second_reader(rt: HostRuntime) -> Result<(), Fail> {
 }
 
 #[test]
+fn leaves_a_group_that_two_combines_read(rt: HostRuntime) -> Result<(), Fail> {
+    let alloc = rt.alloc();
+    let mut nodes = sums_of_groups(alloc)?;
+    let maxima = one_step(alloc, 2, 4, Does::Combine(Comb::Max))?;
+    add(&mut nodes, 4, maxima)?;
+    let mut outputs = Pile::new(alloc);
+    outputs.push(first_of(3))?;
+    outputs.push(first_of(4))?;
+    let graph = graph(nodes, outputs);
+    assert!(rt; graph_ok(alloc, &graph)?);
+    let lifted = lift(alloc, graph)?;
+    assert_eq!(rt; lifted_with(&lifted), None);
+    Ok(())
+}
+
+#[test]
 fn leaves_a_group_that_is_written_out(rt: HostRuntime) -> Result<(), Fail> {
     let alloc = rt.alloc();
     let mut outputs = Pile::new(alloc);
