@@ -1,11 +1,12 @@
 ghost use Rattle.std.specs.Prelude.{◌≡◌, ◌==◌, ◌<◌, ℕ, cond, length, nat_eq, None, Some, IfOk, OnOk, IfSome, MatchOption};
 ghost use Rattle.std.specs.HashMap.{get};
-ghost use Rattle.exec_graph.specs.Meaning.{node_at};
-ghost use Rattle.node_index.specs.Nodes.{IsIndex, first_index, index_from};
+ghost use Rattle.exec_graph.specs.Meaning.{node_at, reads};
+ghost use Rattle.node_index.specs.Index.{IsIndex, first_index, index_from};
 
-use exec_graph::{Entry, Node};
+use exec_graph::{Entry, Node, Place};
 use std::alloc::{AllocError, Global};
 use std::collections::HashMap;
+use std::slice;
 
 /// Where each node stands, by its number.
 pub fn index_of(alloc: Global, nodes: &[Entry]) -> Result<HashMap<u32, usize>, AllocError>
@@ -56,5 +57,17 @@ pub fn find_node<'a>(
             Some(&entry.node)
         }
         None => None,
+    }
+}
+
+/// The collections that a node reads.
+pub fn reads_of(node: &Node) -> &[Place]
+    ensures { result.now ≡ reads node.now }
+{
+    match node {
+        Node::Source(_) => &[],
+        Node::Flatten(inputs) => inputs.as_slice(),
+        Node::Pdo(c, _) => slice::from_ref(c),
+        Node::Gbk(c, _, _, _) => slice::from_ref(c),
     }
 }

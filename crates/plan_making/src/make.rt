@@ -1,5 +1,5 @@
 ghost use Rattle.std.specs.Prelude.{◌≡◌, ◌<◌, ◌^◌, ◌+◌, length, map, IfOk, OnOk};
-ghost use Rattle.node_index.specs.Nodes.{IsIndex};
+ghost use Rattle.node_index.specs.Index.{IsIndex};
 ghost use Rattle.plan_laws.specs.Operations as spec;
 ghost use Rattle.plan_making.specs.Small.{IsSmall};
 ghost use Rattle.plan_making.specs.inner.Names.{name_in};

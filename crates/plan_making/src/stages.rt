@@ -1,6 +1,6 @@
 ghost use Rattle.std.specs.Prelude.{◌≡◌, ◌<◌, ◌^◌, ◌++◌, length, map, IfOk, OnOk};
 ghost use Rattle.exec_graph.specs.Meaning.{node_at};
-ghost use Rattle.node_index.specs.Nodes.{IsIndex};
+ghost use Rattle.node_index.specs.Index.{IsIndex};
 ghost use Rattle.plan_laws.specs.Operations as operations;
 ghost use Rattle.plan_making.specs.Small.{IsClassNarrow, IsNarrow};
 ghost use Rattle.plan_making.specs.inner.Channels.{AreChannels};
