@@ -1,5 +1,5 @@
 -- The labels of a fused graph are those of the Pdos that are fused, and so are its sources.
-use Rattle.std.proofs.Common.{◌≡◌, ℕ, ◌+◌, ◌<◌, Bool, true, false, cond, List, [], ◌∷◌, map, length, Option, Some, None, zero, suc, refl, ap, ◌∙◌, inl}
+use Rattle.std.proofs.Common.{◌≡◌, ℕ, ◌+◌, ◌<◌, ◌^◌, Bool, true, false, cond, List, [], ◌∷◌, map, length, Option, Some, None, zero, suc, refl, ap, ◌∙◌, inl}
 use Rattle.std.specs.List.{AllByRecursion, flat_map}
 use Rattle.flume_value.proofs.EachLemmas.{Each-append}
 use Rattle.exec_graph.specs.Forests.{Forest, Label, Bare, Grow, after, after_out, numbered}
@@ -16,7 +16,7 @@ use Rattle.graph_laws.specs.Kids.{kept_by}
 use Rattle.pardo_fuse.specs.Fusing.{finished, first_label, forest_of, fused, fused_by, joined_nodes, keeps_output, kids_of, leads, left_of, new_place, planted, step_at, step_of, trees, with_numbers}
 use Rattle.pardo_fuse.specs.Readers.{Cut, cut_of}
 use Rattle.pardo_fuse.specs.Wellformed.{HasOneOutput, IsFusible}
-use Rattle.plan_rules.specs.Fitting.{HasFewOutputs, IsInBounds, IsNarrow, IsSourceBelow}
+use Rattle.plan_rules.specs.Fitting.{HasFewOutputs, HasSourcesBelow, IsInBounds, IsNarrow, IsSourceBelow}
 
 -- each label is the first of its step
 abbrev AreFirst : Forest → Type 0
@@ -131,15 +131,24 @@ all_narrow : (r : Place → Place) (n : ℕ) (hs : List Entry)
 all_narrow r n [] a = tt
 all_narrow r n (h ∷ hs) a = (node_narrow r n h.node a.0, all_narrow r n hs a.1)
 
-pub bounds_fused : (n : ℕ) (b : Blocked) → IsFusible b → IsInBounds n b.graph
-    → IsInBounds n (fused b).graph
+pub sources_fused : (n : ℕ) (b : Blocked) → IsFusible b → HasSourcesBelow n b.graph
+    → HasSourcesBelow n (fused b).graph
 unfolding fused_by
-bounds_fused n b can h =
+sources_fused n b can h =
     let hs : List Entry = joined_nodes (cut_of b) in
-    let a : AllByRecursion (λ e. IsLeft n e.node) hs =
-    all_left (cut_of b) n b.graph.nodes can.single h.below in
-    record {
-      below = all_below (new_place hs) n hs a;
-      numbers = h.numbers;
-      narrow = all_narrow (new_place hs) n hs a;
-    }
+    all_below (new_place hs) n hs (all_left (cut_of b) n b.graph.nodes can.single h)
+
+narrow_fused : (n : ℕ) (b : Blocked) → IsFusible b → HasSourcesBelow n b.graph
+    → AllByRecursion (λ e. IsNarrow e.node) (fused b).graph.nodes
+unfolding fused_by
+narrow_fused n b can h =
+    let hs : List Entry = joined_nodes (cut_of b) in
+    all_narrow (new_place hs) n hs (all_left (cut_of b) n b.graph.nodes can.single h)
+
+pub bounds_fused : (n : ℕ) (b : Blocked) → IsFusible b → HasSourcesBelow n b.graph
+    → (fused b).graph.next < 2 ^ 32 → IsInBounds n (fused b).graph
+bounds_fused n b can h few = record {
+  below = sources_fused n b can h;
+  numbers = few;
+  narrow = narrow_fused n b can h;
+}
