@@ -85,6 +85,10 @@ IsSourceBelow n (Flatten ins) = Unit {0}
 IsSourceBelow n (Pdo c f) = Unit {0}
 IsSourceBelow n (Gbk c o l k) = Unit {0}
 
+-- the graph reads no more than so many sources
+abbrev pub HasSourcesBelow : ℕ → Graph → Type 0
+HasSourcesBelow n g = AllByRecursion (λ e. IsSourceBelow n e.node) g.nodes
+
 -- how many outputs a step may have
 abbrev pub most_outputs : ℕ
 most_outputs = 8
@@ -105,6 +109,6 @@ IsNarrow (Gbk c o l k) = Unit {0}
 
 -- the graph reads so many sources, its numbers have 32 bits, and no step has too many outputs
 pub record IsInBounds (sources : ℕ) (g : Graph) : Type 0 where
-  pub below : AllByRecursion (λ e. IsSourceBelow sources e.node) g.nodes
+  pub below : HasSourcesBelow sources g
   pub numbers : g.next < 2 ^ 32
   pub narrow : AllByRecursion (λ e. IsNarrow e.node) g.nodes
