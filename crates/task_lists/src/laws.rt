@@ -68,8 +68,8 @@ pub fn numbers_law()
         (reduce_count n s) }
 {}
 
-/// Which trap of a stage is the first: that of the least trapping map task; where none traps, that of
-/// the least trapping reduce task.
+/// Which trap of a stage is the first: that of the least trapping map task; where none traps, that
+/// of the least trapping reduce task.
 pub fn first_law()
     ensures calm { (w : World) (n : Split) (t : Lists) (s : Mscr) → 0 < n.shards →
         0 < n.partitions → ((k : ℕ) → k < map_count n s → IsCalm w (map_task_at n t s k)) →
