@@ -10,6 +10,7 @@ pub mod Running
 pub mod Counts
 pub mod Whole
 pub mod Numbers
+pub mod Least
 pub mod Answered
 pub mod Sending
 pub mod Typed

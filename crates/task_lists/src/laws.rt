@@ -22,14 +22,15 @@ ghost use Rattle.exec_plan.specs.declared.plan.OutChannel.TheVariants.{Group, Pa
 ghost use Rattle.exec_plan.specs.declared.plan.Plan.{Plan};
 ghost use Rattle.exec_plan.specs.declared.plan.PlanPlace.{PlanPlace};
 ghost use Rattle.exec_plan.specs.declared.plan.Stage.{Stage};
+ghost use Rattle.exec_plan.specs.declared.plan.Stage.TheVariants as stage;
 ghost use Rattle.exec_plan.specs.declared.plan.Take.{Take};
 ghost use Rattle.exec_plan.specs.Meaning.{plan_collection, emitted_by, plan_traps};
 ghost use Rattle.exec_plan.specs.Typing.{IsPlanTypedBy, MscrTyped, StageTyped};
 ghost use Rattle.exec_plan.specs.Wellformed.{Exists, IsLiftOk, IsPlanOk, IsStageOk};
 ghost use Rattle.task_lists.specs.Tasks.{Split, Lists, Task, given_to, map_task_of, gathered, reduce_task, map_phase, map_count, map_task_at, reduce_phase, reduce_count, reduce_task_at, grouping_at};
 ghost use Rattle.task_lists.specs.Lists.{lists, result_lists, source_lists, with_lists};
-ghost use Rattle.task_lists.specs.Plans.{first_trap, size_of};
-ghost use Rattle.task_lists.specs.Outs.{answers_of, AreMapOuts};
+ghost use Rattle.task_lists.specs.Plans.{first_trap, size_of, stage_tasks, task_traps};
+ghost use Rattle.task_lists.specs.Outs.{answers_of, AreMapOuts, IsCalm, IsFirstTrap};
 ghost use Rattle.task_lists.specs.Typing.{AreGroupable, AreListsTyped, IsTaskTyped};
 
 /// The tasks of a plan, for any number of shards and partitions. That the sizes and the traps are
@@ -65,6 +66,26 @@ pub fn numbers_law()
         (s : Mscr) → 0 < n.partitions → reduce_phase f w n t s
         ≡ joined (λ k. option_map_or (λ g. f g (reduce_task_at w n t s k)) (grouping_at n s k) [])
         (reduce_count n s) }
+{}
+
+/// Which trap of a stage is the first: that of the least trapping map task; where none traps, that
+/// of the least trapping reduce task.
+pub fn first_law()
+    ensures calm { (w : World) (n : Split) (t : Lists) (s : Mscr) → 0 < n.shards →
+        0 < n.partitions → ((k : ℕ) → k < map_count n s → IsCalm w (map_task_at n t s k)) →
+        ((k : ℕ) → k < reduce_count n s → IsCalm w (reduce_task_at w n t s k)) →
+        stage_tasks (task_traps w) w n t (stage.Mscr s) ≡ [] }
+    ensures maps { (w : World) (n : Split) (t : Lists) (s : Mscr) (k : ℕ) (e : Trap) →
+        0 < n.shards → 0 < n.partitions → k < map_count n s →
+        ((i : ℕ) → i < k → IsCalm w (map_task_at n t s i)) →
+        IsFirstTrap w (map_task_at n t s k) e →
+        slice_get (stage_tasks (task_traps w) w n t (stage.Mscr s)) 0 ≡ Some e }
+    ensures reduces { (w : World) (n : Split) (t : Lists) (s : Mscr) (k : ℕ) (e : Trap) →
+        0 < n.shards → 0 < n.partitions →
+        ((i : ℕ) → i < map_count n s → IsCalm w (map_task_at n t s i)) → k < reduce_count n s →
+        ((i : ℕ) → i < k → IsCalm w (reduce_task_at w n t s i)) →
+        IsFirstTrap w (reduce_task_at w n t s k) e →
+        slice_get (stage_tasks (task_traps w) w n t (stage.Mscr s)) 0 ≡ Some e }
 {}
 
 /// What is gathered of the outs of all map tasks of a stage: the list of a pass-through channel; of

@@ -10,7 +10,7 @@
 //! `tasks_law` ties the tasks to the plan's meaning: however many shards and partitions there are,
 //! the list of a collection has its bag, the tasks count the sizes of script nodes, and a task
 //! traps exactly where the plan has a trap, the first of them being one of the plan's
-//! (specs/Plans.antt).
+//! (specs/Plans.antt). `numbers_law` and `first_law` say the same by the numbers of tasks.
 //!
 //! Outs of map tasks (`IsMapOut`, specs/Outs.antt) may have accumulators in place of pairs.
 //! `outs_law` says what is gathered of them: what the reduce tasks need.
@@ -21,4 +21,4 @@
 
 mod laws;
 
-pub use laws::{numbers_law, outs_law, tasks_law, typed_law};
+pub use laws::{first_law, numbers_law, outs_law, tasks_law, typed_law};
