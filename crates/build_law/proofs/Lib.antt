@@ -22,3 +22,4 @@ pub mod Accepting
 pub mod TypedBlocks
 pub mod TypedGraphs
 pub mod OneStep
+pub mod Short

@@ -1,6 +1,8 @@
-ghost use Rattle.std.specs.Prelude.{◌≡◌, List, Ok, Option, Some};
+ghost use Rattle.std.specs.Prelude.{◌≡◌, ℕ, List, Ok, Option, Some};
 ghost use Rattle.flume_value.specs.declared.value.Value.{Value};
 ghost use Rattle.flume_collection.specs.Collection.{Collection};
+ghost use Rattle.flume_grammar.specs.Answer.{Accepts};
+ghost use Rattle.flume_grammar.specs.declared.tree.Ast.{Ast};
 ghost use Rattle.flume_grammar.specs.declared.tree.Statement.{Statement};
 ghost use Rattle.exec_graph.specs.Typing.{IsTyped};
 ghost use Rattle.exec_graph.specs.Wellformed.{IsGraphOk};
@@ -14,6 +16,11 @@ ghost use Rattle.build_law.specs.Limits.{AreShort, HasFirstOutputs, HasShortFlat
 ghost use Rattle.build_law.specs.Means.{IsMeaning};
 ghost use Rattle.build_law.specs.Signatures.{signatures_of};
 ghost use Rattle.build_law.specs.Worlds.{world_of};
+
+/// What is read as a script is short: the grammar lets a statement put 256 collections together.
+pub fn short_law()
+    ensures { (bytes : List ℕ) (ast : Ast) → Accepts bytes ast → AreShort ast.statements }
+{}
 
 /// The graph of a well-formed script, as each accepted one is, is well-formed, where no statement
 /// puts too many collections together.

@@ -1,7 +1,8 @@
 //! What the execution graph of a script means: what the script means.
 //!
-//! The graph that is built of a well-formed script is well-formed (`graph_law`). In the world of
-//! the script, whose sources are the rows of the needed inputs and whose functions answer as the
+//! The graph that is built of a well-formed script is well-formed (`graph_law`), where no statement
+//! puts too many collections together, as none does that is read (`short_law`). In the world of the
+//! script, whose sources are the rows of the needed inputs and whose functions answer as the
 //! script's do, its outputs are the collections that the script's outputs read, the bag of each
 //! collection that has calls, groups or combinations of its own is theirs, and its traps are all
 //! those of the script (`means_law`, specs/Means.antt). Types fit it, by those of the script's
@@ -14,4 +15,4 @@
 
 mod laws;
 
-pub use laws::{graph_law, means_law, one_step_law, types_law};
+pub use laws::{graph_law, means_law, one_step_law, short_law, types_law};

@@ -1,21 +1,9 @@
-use flume_syntax::{ScriptFault, parse};
-use graph_build::build;
-use plan_print::graph_text;
-use script_check::check;
-use std::alloc::Global;
+use crate::text::{Worked, graph_of, text_of};
+use exec_graph::graph_ok;
 use std::test::Fail;
 
-/// The text of the graph of a script.
-fn text_of(alloc: Global, script: &[u8]) -> Result<Vec<u8>, ScriptFault> {
-    let ast = parse(alloc, script)?;
-    let program = check(alloc, ast)?;
-    let graph = build(alloc, &program)?;
-    let text = graph_text(alloc, &program, &graph)?;
-    Ok(text)
-}
-
 /// Words, counted: a count is three nodes.
-const WORDS: (&[u8], &[u8]) = (
+const WORDS: Worked = (
     b"type line = {line: text}
 input lines: line from \"in.csv\"
 fn split(x: line) -> text { for w in words(x.line) { emit w } }
@@ -33,7 +21,7 @@ output c reads 4 to \"out.csv\"
 );
 
 /// Sums by key, where another collection is not needed.
-const SUMS: (&[u8], &[u8]) = (
+const SUMS: Worked = (
     b"type r = {k: int, v: int}
 input a: r from \"in.csv\"
 fn pair(x: r) -> table<int, int> { emit {key: x.k, value: x.v} }
@@ -52,7 +40,7 @@ output s reads 3 to \"out.csv\"
 );
 
 /// Two inputs and their join, which is five nodes: the first needed input is source 0.
-const JOINED: (&[u8], &[u8]) = (
+const JOINED: Worked = (
     b"type t = table<int, text>
 input no: t from \"no.csv\"
 input a: t from \"a.csv\"
@@ -75,7 +63,7 @@ output k reads 7 to \"a \\\"k\\\".csv\"
 );
 
 /// The greatest members, which are four nodes, and another combiner of lists.
-const GREATEST: (&[u8], &[u8]) = (
+const GREATEST: Worked = (
     b"type r = {x: int}
 input a: r from \"a.csv\"
 fn x(y: r) -> table<int, int> { emit {key: 0, value: y.x} }
@@ -103,7 +91,7 @@ output t reads 4 to \"t.csv\"
 );
 
 /// A collection that names one input twice.
-const TWICE: (&[u8], &[u8]) = (
+const TWICE: Worked = (
     b"type r = {x: int}
 input a: r from \"in.csv\"
 let b = flatten a, a
@@ -121,5 +109,14 @@ fn texts_of_graphs(rt: HostRuntime) -> Result<(), Fail> {
     for (script, text) in [WORDS, SUMS, JOINED, GREATEST, TWICE] {
         assert_eq!(rt; text_of(alloc, script)?.as_slice(), text);
     }
+    Ok(())
+}
+
+#[test]
+fn a_graph_is_well_formed(rt: HostRuntime) -> Result<(), Fail> {
+    let alloc = rt.alloc();
+    let (script, _) = WORDS;
+    let graph = graph_of(alloc, script)?;
+    assert!(rt; graph_ok(alloc, &graph)?);
     Ok(())
 }

@@ -1,5 +1,9 @@
-//! Tests of the graphs of scripts: a table of scripts with the texts of their graphs.
+//! Tests of the graphs of scripts: tables of scripts with the texts of their graphs.
 #![tactic(auto)]
 
 #[cfg(test)]
 mod graph_texts;
+#[cfg(test)]
+mod steps;
+#[cfg(test)]
+mod text;

@@ -1,0 +1,39 @@
+-- What the grammar reads puts few collections together.
+use Rattle.std.proofs.Common.{ℕ, List, [], ◌∷◌, arith}
+use Rattle.flume_value.proofs.EachLemmas.{Each-append}
+use Rattle.flume_tokens.specs.declared.token.Token.{Token}
+use Rattle.flume_grammar.specs.declared.tree.Ast.{Ast}
+use Rattle.flume_grammar.specs.declared.tree.Operation.{Operation}
+use Rattle.flume_grammar.specs.declared.tree.Statement.{Statement}
+use Rattle.flume_grammar.specs.Answer.{Accepts}
+use Rattle.flume_grammar.specs.Grammar as g
+use Rattle.flume_grammar.specs.Limits.{the_limits}
+use Rattle.build_law.specs.Limits.{AreShort, IsShortForm, IsShortOperation}
+
+operation_short : {ts us : List Token} {o : Operation} → g.IsOperation the_limits ts us o
+    → IsShortOperation o
+operation_short g.do_ = tt
+operation_short g.group = tt
+operation_short (g.combine c) = tt
+operation_short (g.flatten names few) = omega arith
+operation_short g.count = tt
+operation_short g.join = tt
+operation_short g.top = tt
+
+statement_short : {ts us : List Token} {s : Statement} → g.IsStatement the_limits ts us s
+    → IsShortForm s.form
+statement_short (g.type_ w) = tt
+statement_short (g.input w) = tt
+statement_short (g.fn_ v w c b l) = tt
+statement_short (g.let_ o) = operation_short o
+statement_short g.output = tt
+
+statements_short : {ts us : List Token} {ss : List Statement} → g.AreStatements the_limits ts us ss
+    → AreShort ss
+statements_short g.none_ = tt
+statements_short (g.some {s} {ss} before x) =
+    Each-append (λ (r : Statement). IsShortForm r.form) ss (s ∷ []) (statements_short before)
+    (statement_short x, tt)
+
+pub accepted_short : (bytes : List ℕ) (ast : Ast) → Accepts bytes ast → AreShort ast.statements
+accepted_short bytes ast (list, e, spelled) = statements_short spelled
