@@ -64,7 +64,8 @@ fn add_reducer(
     requires found { AreFound blocked.now found.now }
     requires mappers { HasNumbers mappers.now (is_mapper blocked.now) }
     ensures { OnOk result ((n : ℕ) → contains nat_eq reducers.new n
-        ≡ (contains nat_eq reducers.old n || reduces blocked.now entry.now.number entry.now.node n)) }
+        ≡ (contains nat_eq reducers.old n
+        || reduces blocked.now entry.now.number entry.now.node n)) }
 {
     match &entry.node {
         Node::Gbk(_, _, _, _) => match reducer_of(blocked, found, mappers, entry.number) {
