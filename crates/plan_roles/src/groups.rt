@@ -14,20 +14,20 @@ use std::collections::HashSet;
 
 /// The Pdo that reduces the groups of the Gbk of that number.
 pub(crate) fn reducer_of(
-    b: &Blocked,
+    blocked: &Blocked,
     found: &Found,
     mappers: &HashSet<u32>,
     gbk: u32,
 ) -> Option<u32>
-    requires found { AreFound b.now found.now }
-    requires mappers { HasNumbers mappers.now (is_mapper b.now) }
-    ensures { result ≡ reducer_of b.now gbk }
+    requires found { AreFound blocked.now found.now }
+    requires mappers { HasNumbers mappers.now (is_mapper blocked.now) }
+    ensures { result ≡ reducer_of blocked.now gbk }
 {
     let c = Place { node: gbk, out: 0 };
     if found.marked.contains(&code_of(c)) {
         return None;
     }
-    let reader = only_reader(&b.graph, &found.lone, c)?;
+    let reader = only_reader(&blocked.graph, &found.lone, c)?;
     if mappers.contains(&reader) {
         None
     } else {
@@ -38,36 +38,37 @@ pub(crate) fn reducer_of(
 /// The numbers of the Pdos that reduce the groups of a Gbk.
 pub(crate) fn reducers_of(
     alloc: Global,
-    b: &Blocked,
+    blocked: &Blocked,
     found: &Found,
     mappers: &HashSet<u32>,
 ) -> Result<HashSet<u32>, AllocError>
-    requires found { AreFound b.now found.now }
-    requires mappers { HasNumbers mappers.now (is_mapper b.now) }
-    ensures { IfOk result (λ s. HasNumbers s (is_reducer b.now)) }
+    requires found { AreFound blocked.now found.now }
+    requires mappers { HasNumbers mappers.now (is_mapper blocked.now) }
+    ensures { IfOk result (λ s. HasNumbers s (is_reducer blocked.now)) }
 {
     let mut reducers = HashSet::new(alloc);
-    for e in b.graph.nodes.as_slice() {
-        add_reducer(b, found, mappers, e, &mut reducers)?;
+    for e in blocked.graph.nodes.as_slice() {
+        add_reducer(blocked, found, mappers, e, &mut reducers)?;
     }
     Ok(reducers)
 }
 
 /// Adds the reducer of the node, where it is a Gbk and has one.
 fn add_reducer(
-    b: &Blocked,
+    blocked: &Blocked,
     found: &Found,
     mappers: &HashSet<u32>,
     entry: &Entry,
     reducers: &mut HashSet<u32>,
 ) -> Result<(), AllocError>
-    requires found { AreFound b.now found.now }
-    requires mappers { HasNumbers mappers.now (is_mapper b.now) }
+    requires found { AreFound blocked.now found.now }
+    requires mappers { HasNumbers mappers.now (is_mapper blocked.now) }
     ensures { OnOk result ((n : ℕ) → contains nat_eq reducers.new n
-        ≡ (contains nat_eq reducers.old n || reduces b.now entry.now.number entry.now.node n)) }
+        ≡ (contains nat_eq reducers.old n
+        || reduces blocked.now entry.now.number entry.now.node n)) }
 {
     match &entry.node {
-        Node::Gbk(_, _, _, _) => match reducer_of(b, found, mappers, entry.number) {
+        Node::Gbk(_, _, _, _) => match reducer_of(blocked, found, mappers, entry.number) {
             Some(reducer) => {
                 reducers.insert(reducer)?;
                 Ok(())
@@ -81,30 +82,30 @@ fn add_reducer(
 /// The keys of what a Gbk of the collection takes, in order.
 pub(crate) fn keys_in(
     alloc: Global,
-    b: &Blocked,
+    blocked: &Blocked,
     found: &Found,
     mappers: &HashSet<u32>,
     gbk: u32,
     c: &Place,
 ) -> Result<Pile<Key>, AllocError>
-    requires found { AreFound b.now found.now }
-    requires mappers { HasNumbers mappers.now (is_mapper b.now) }
-    ensures { IfOk result (λ ks. ks ≡ keys_in b.now gbk c.now) }
+    requires found { AreFound blocked.now found.now }
+    requires mappers { HasNumbers mappers.now (is_mapper blocked.now) }
+    ensures { IfOk result (λ ks. ks ≡ keys_in blocked.now gbk c.now) }
 {
     let gbk_level = found.levels.of(gbk);
     let mut keys = Pile::new(alloc);
-    for input in inputs_of(b.graph.nodes.as_slice(), &found.levels.index, c) {
-        keys.push(key_of(b, found, mappers, gbk_level, *input))?;
+    for input in inputs_of(blocked.graph.nodes.as_slice(), &found.levels.index, c) {
+        keys.push(key_of(blocked, found, mappers, gbk_level, *input))?;
     }
     Ok(keys)
 }
 
-fn key_of(b: &Blocked, found: &Found, mappers: &HashSet<u32>, gbk_level: u32, c: Place) -> Key
-    requires found { AreFound b.now found.now }
-    requires mappers { HasNumbers mappers.now (is_mapper b.now) }
-    ensures { result ≡ key_of b.now gbk_level c }
+fn key_of(blocked: &Blocked, found: &Found, mappers: &HashSet<u32>, gbk_level: u32, c: Place) -> Key
+    requires found { AreFound blocked.now found.now }
+    requires mappers { HasNumbers mappers.now (is_mapper blocked.now) }
+    ensures { result ≡ key_of blocked.now gbk_level c }
 {
-    let nodes = b.graph.nodes.as_slice();
+    let nodes = blocked.graph.nodes.as_slice();
     if mappers.contains(&c.node) && is_next(nodes, &found.levels, c, gbk_level) {
         Key::Mapper(c.node)
     } else {

@@ -18,33 +18,33 @@ use std::collections::{HashMap, HashSet};
 /// The numbers of the mappers.
 pub(crate) fn mappers_of(
     alloc: Global,
-    b: &Blocked,
+    blocked: &Blocked,
     found: &Found,
 ) -> Result<HashSet<u32>, AllocError>
-    requires differ { AllDiffer b.now.graph.nodes }
-    requires found { AreFound b.now found.now }
-    ensures { IfOk result (λ s. HasNumbers s (is_mapper b.now)) }
+    requires differ { AllDiffer blocked.now.graph.nodes }
+    requires found { AreFound blocked.now found.now }
+    ensures { IfOk result (λ s. HasNumbers s (is_mapper blocked.now)) }
 {
     let mut mappers = HashSet::new(alloc);
-    for e in b.graph.nodes.as_slice() {
-        add_mapper(alloc, b, found, e, &mut mappers)?;
+    for e in blocked.graph.nodes.as_slice() {
+        add_mapper(alloc, blocked, found, e, &mut mappers)?;
     }
     Ok(mappers)
 }
 
 fn add_mapper(
     alloc: Global,
-    b: &Blocked,
+    blocked: &Blocked,
     found: &Found,
     entry: &Entry,
     mappers: &mut HashSet<u32>,
 ) -> Result<(), AllocError>
-    requires found { AreFound b.now found.now }
+    requires found { AreFound blocked.now found.now }
     ensures { OnOk result ((n : ℕ) → contains nat_eq mappers.new n
         ≡ (contains nat_eq mappers.old n
-        || ((entry.now.number == n) && maps b.now entry.now.number entry.now.node))) }
+        || ((entry.now.number == n) && maps blocked.now entry.now.number entry.now.node))) }
 {
-    if !maps(alloc, b, found, entry)? {
+    if !maps(alloc, blocked, found, entry)? {
         return Ok(());
     }
     mappers.insert(entry.number)?;
@@ -52,17 +52,20 @@ fn add_mapper(
 }
 
 /// Whether the node is a mapper.
-fn maps(alloc: Global, b: &Blocked, found: &Found, entry: &Entry) -> Result<bool, AllocError>
-    requires found { AreFound b.now found.now }
-    ensures { IfOk result (λ r. r ≡ maps b.now entry.now.number entry.now.node) }
+fn maps(alloc: Global, blocked: &Blocked, found: &Found, entry: &Entry) -> Result<bool, AllocError>
+    requires found { AreFound blocked.now found.now }
+    ensures { IfOk result (λ r. r ≡ maps blocked.now entry.now.number entry.now.node) }
 {
     match &entry.node {
         Node::Pdo(c, roots) => {
-            if is_lifted(b.graph.nodes.as_slice(), &found.levels.index, c.node) {
+            if is_lifted(blocked.graph.nodes.as_slice(), &found.levels.index, c.node) {
                 return Ok(false);
             }
             let outputs = outputs_of(alloc, entry.number, roots)?;
-            Ok(any_feeds(b, found, outputs.as_slice()) && !any_past(b, found, outputs.as_slice()))
+            Ok(
+                any_feeds(blocked, found, outputs.as_slice())
+                    && !any_past(blocked, found, outputs.as_slice()),
+            )
         }
         Node::Source(_) | Node::Flatten(_) | Node::Gbk(_, _, _, _) => Ok(false),
     }
@@ -80,21 +83,21 @@ fn is_lifted(nodes: &[Entry], index: &HashMap<u32, usize>, number: u32) -> bool
 }
 
 /// Whether an unmarked one of the collections feeds a Gbk of the next level.
-fn any_feeds(b: &Blocked, found: &Found, places: &[Place]) -> bool
-    requires found { AreFound b.now found.now }
-    ensures { result ≡ list_any (feeds_unmarked b.now) places.now }
+fn any_feeds(blocked: &Blocked, found: &Found, places: &[Place]) -> bool
+    requires found { AreFound blocked.now found.now }
+    ensures { result ≡ list_any (feeds_unmarked blocked.now) places.now }
 {
     for c in places {
-        if feeds_unmarked(b, found, *c) {
+        if feeds_unmarked(blocked, found, *c) {
             return true;
         }
     }
     false
 }
 
-fn feeds_unmarked(b: &Blocked, found: &Found, c: Place) -> bool
-    requires found { AreFound b.now found.now }
-    ensures { result ≡ feeds_unmarked b.now c }
+fn feeds_unmarked(blocked: &Blocked, found: &Found, c: Place) -> bool
+    requires found { AreFound blocked.now found.now }
+    ensures { result ≡ feeds_unmarked blocked.now c }
 {
     let at = code_of(c);
     !found.marked.contains(&at) && found.feeding.next.contains(&at)
@@ -102,21 +105,21 @@ fn feeds_unmarked(b: &Blocked, found: &Found, c: Place) -> bool
 
 /// Whether one of the collections is read by another than a Gbk, a script output, or a Flatten
 /// whose every reader is a Gbk or a script output.
-fn any_past(b: &Blocked, found: &Found, places: &[Place]) -> bool
-    requires found { AreFound b.now found.now }
-    ensures { result ≡ list_any (goes_past b.now.graph.nodes) places.now }
+fn any_past(blocked: &Blocked, found: &Found, places: &[Place]) -> bool
+    requires found { AreFound blocked.now found.now }
+    ensures { result ≡ list_any (goes_past blocked.now.graph.nodes) places.now }
 {
     for c in places {
-        if is_past(b, found, *c) {
+        if is_past(blocked, found, *c) {
             return true;
         }
     }
     false
 }
 
-fn is_past(b: &Blocked, found: &Found, c: Place) -> bool
-    requires found { AreFound b.now found.now }
-    ensures { result ≡ goes_past b.now.graph.nodes c }
+fn is_past(blocked: &Blocked, found: &Found, c: Place) -> bool
+    requires found { AreFound blocked.now found.now }
+    ensures { result ≡ goes_past blocked.now.graph.nodes c }
 {
     found.reading.past.contains(&code_of(c))
 }

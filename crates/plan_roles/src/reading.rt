@@ -26,14 +26,14 @@ pub(crate) struct Reading {
     pub(crate) staged: HashSet<u64>,
 }
 
-pub(crate) fn reading_of(alloc: Global, b: &Blocked) -> Result<Reading, AllocError>
-    ensures { IfOk result (λ s. IsReading b.now s) }
+pub(crate) fn reading_of(alloc: Global, blocked: &Blocked) -> Result<Reading, AllocError>
+    ensures { IfOk result (λ s. IsReading blocked.now s) }
 {
-    let nodes = b.graph.nodes.as_slice();
-    let told = set_of(alloc, b.graph.outputs.as_slice())?;
+    let nodes = blocked.graph.nodes.as_slice();
+    let told = set_of(alloc, blocked.graph.outputs.as_slice())?;
     let on = on_places(alloc, nodes)?;
     let past = past_places(alloc, nodes, &on)?;
-    let staged = staged_places(alloc, b, &told, &on)?;
+    let staged = staged_places(alloc, blocked, &told, &on)?;
     Ok(Reading {
         told,
         on,
@@ -111,10 +111,15 @@ fn add_past(
 }
 
 /// Whether a script output, a Pdo or another Flatten reads the Flatten.
-pub(crate) fn is_stage(b: &Blocked, told: &HashSet<u64>, on: &HashSet<u64>, number: u32) -> bool
-    requires told { HasAmong told.now b.now.graph.outputs }
-    requires on { HasPlaces on.now (goes_on b.now.graph.nodes) }
-    ensures { result ≡ is_stage b.now number }
+pub(crate) fn is_stage(
+    blocked: &Blocked,
+    told: &HashSet<u64>,
+    on: &HashSet<u64>,
+    number: u32,
+) -> bool
+    requires told { HasAmong told.now blocked.now.graph.outputs }
+    requires on { HasPlaces on.now (goes_on blocked.now.graph.nodes) }
+    ensures { result ≡ is_stage blocked.now number }
 {
     let at = code_of(Place {
         node: number,
@@ -125,36 +130,36 @@ pub(crate) fn is_stage(b: &Blocked, told: &HashSet<u64>, on: &HashSet<u64>, numb
 
 fn staged_places(
     alloc: Global,
-    b: &Blocked,
+    blocked: &Blocked,
     told: &HashSet<u64>,
     on: &HashSet<u64>,
 ) -> Result<HashSet<u64>, AllocError>
-    requires told { HasAmong told.now b.now.graph.outputs }
-    requires on { HasPlaces on.now (goes_on b.now.graph.nodes) }
-    ensures { IfOk result (λ s. HasPlaces s (is_staged b.now)) }
+    requires told { HasAmong told.now blocked.now.graph.outputs }
+    requires on { HasPlaces on.now (goes_on blocked.now.graph.nodes) }
+    ensures { IfOk result (λ s. HasPlaces s (is_staged blocked.now)) }
 {
     let mut all = HashSet::new(alloc);
-    for e in b.graph.nodes.as_slice() {
-        add_staged(b, told, on, e, &mut all)?;
+    for e in blocked.graph.nodes.as_slice() {
+        add_staged(blocked, told, on, e, &mut all)?;
     }
     Ok(all)
 }
 
 fn add_staged(
-    b: &Blocked,
+    blocked: &Blocked,
     told: &HashSet<u64>,
     on: &HashSet<u64>,
     entry: &Entry,
     all: &mut HashSet<u64>,
 ) -> Result<(), AllocError>
-    requires told { HasAmong told.now b.now.graph.outputs }
-    requires on { HasPlaces on.now (goes_on b.now.graph.nodes) }
+    requires told { HasAmong told.now blocked.now.graph.outputs }
+    requires on { HasPlaces on.now (goes_on blocked.now.graph.nodes) }
     ensures { OnOk result (HasAlso all.old all.new
-        (λ d. flattens d entry.now.node && is_stage b.now entry.now.number)) }
+        (λ d. flattens d entry.now.node && is_stage blocked.now entry.now.number)) }
 {
     match &entry.node {
         Node::Flatten(inputs) => {
-            if !is_stage(b, told, on, entry.number) {
+            if !is_stage(blocked, told, on, entry.number) {
                 return Ok(());
             }
             add_places(inputs.as_slice(), all)

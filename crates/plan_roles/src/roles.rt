@@ -48,35 +48,35 @@ pub struct Role {
 
 /// What each node is for forming, in the order of the nodes. It takes time in proportion to the
 /// graph's size, where the inputs of a Flatten count once more for each Gbk of it.
-pub fn roles_of(alloc: Global, b: &Blocked) -> Result<Pile<Role>, AllocError>
-    requires { IsBlockedOk b.now }
-    ensures { IfOk result (λ rs. rs ≡ roles b.now) }
+pub fn roles_of(alloc: Global, blocked: &Blocked) -> Result<Pile<Role>, AllocError>
+    requires { IsBlockedOk blocked.now }
+    ensures { IfOk result (λ rs. rs ≡ roles blocked.now) }
 {
-    let _next = b.graph.next;
-    let found = find_all(alloc, b)?;
-    let mappers = mappers_of(alloc, b, &found)?;
-    let reducers = reducers_of(alloc, b, &found, &mappers)?;
+    let _next = blocked.graph.next;
+    let found = find_all(alloc, blocked)?;
+    let mappers = mappers_of(alloc, blocked, &found)?;
+    let reducers = reducers_of(alloc, blocked, &found, &mappers)?;
     let mut all = Pile::new(alloc);
-    for e in b.graph.nodes.as_slice() {
-        all.push(role_of(alloc, b, &found, &mappers, &reducers, e)?)?;
+    for e in blocked.graph.nodes.as_slice() {
+        all.push(role_of(alloc, blocked, &found, &mappers, &reducers, e)?)?;
     }
     Ok(all)
 }
 
 fn role_of(
     alloc: Global,
-    b: &Blocked,
+    blocked: &Blocked,
     found: &Found,
     mappers: &HashSet<u32>,
     reducers: &HashSet<u32>,
     entry: &Entry,
 ) -> Result<Role, AllocError>
-    requires found { AreFound b.now found.now }
-    requires mappers { HasNumbers mappers.now (is_mapper b.now) }
-    requires reducers { HasNumbers reducers.now (is_reducer b.now) }
-    ensures { IfOk result (λ r. r ≡ role_of b.now entry.now) }
+    requires found { AreFound blocked.now found.now }
+    requires mappers { HasNumbers mappers.now (is_mapper blocked.now) }
+    requires reducers { HasNumbers reducers.now (is_reducer blocked.now) }
+    ensures { IfOk result (λ r. r ≡ role_of blocked.now entry.now) }
 {
-    let part = part_of(alloc, b, found, mappers, reducers, entry)?;
+    let part = part_of(alloc, blocked, found, mappers, reducers, entry)?;
     Ok(Role {
         number: entry.number,
         level: found.levels.of(entry.number),
@@ -86,36 +86,44 @@ fn role_of(
 
 fn part_of(
     alloc: Global,
-    b: &Blocked,
+    blocked: &Blocked,
     found: &Found,
     mappers: &HashSet<u32>,
     reducers: &HashSet<u32>,
     entry: &Entry,
 ) -> Result<Part, AllocError>
-    requires found { AreFound b.now found.now }
-    requires mappers { HasNumbers mappers.now (is_mapper b.now) }
-    requires reducers { HasNumbers reducers.now (is_reducer b.now) }
-    ensures { IfOk result (λ p. p ≡ part_of b.now entry.now.number entry.now.node) }
+    requires found { AreFound blocked.now found.now }
+    requires mappers { HasNumbers mappers.now (is_mapper blocked.now) }
+    requires reducers { HasNumbers reducers.now (is_reducer blocked.now) }
+    ensures { IfOk result (λ p. p ≡ part_of blocked.now entry.now.number entry.now.node) }
 {
     match &entry.node {
         Node::Source(_) => Ok(Part::Source),
-        Node::Flatten(_) => Ok(part_of_flatten(b, found, entry.number)),
+        Node::Flatten(_) => Ok(part_of_flatten(blocked, found, entry.number)),
         Node::Pdo(_, roots) => {
-            let part = part_of_pdo(alloc, b, found, mappers, reducers, entry.number, roots)?;
+            let part = part_of_pdo(
+                alloc,
+                blocked,
+                found,
+                mappers,
+                reducers,
+                entry.number,
+                roots,
+            )?;
             Ok(part)
         }
         Node::Gbk(c, _, _, _) => {
-            let keys = keys_in(alloc, b, found, mappers, entry.number, c)?;
-            Ok(Part::Group(keys, reducer_of(b, found, mappers, entry.number)))
+            let keys = keys_in(alloc, blocked, found, mappers, entry.number, c)?;
+            Ok(Part::Group(keys, reducer_of(blocked, found, mappers, entry.number)))
         }
     }
 }
 
-fn part_of_flatten(b: &Blocked, found: &Found, number: u32) -> Part
-    requires found { AreFound b.now found.now }
-    ensures { result ≡ cond (is_stage b.now number) part.Stage part.Inlined }
+fn part_of_flatten(blocked: &Blocked, found: &Found, number: u32) -> Part
+    requires found { AreFound blocked.now found.now }
+    ensures { result ≡ cond (is_stage blocked.now number) part.Stage part.Inlined }
 {
-    if is_stage(b, &found.reading.told, &found.reading.on, number) {
+    if is_stage(blocked, &found.reading.told, &found.reading.on, number) {
         Part::Stage
     } else {
         Part::Inlined
@@ -124,20 +132,20 @@ fn part_of_flatten(b: &Blocked, found: &Found, number: u32) -> Part
 
 fn part_of_pdo(
     alloc: Global,
-    b: &Blocked,
+    blocked: &Blocked,
     found: &Found,
     mappers: &HashSet<u32>,
     reducers: &HashSet<u32>,
     number: u32,
     roots: &Roots,
 ) -> Result<Part, AllocError>
-    requires found { AreFound b.now found.now }
-    requires mappers { HasNumbers mappers.now (is_mapper b.now) }
-    requires reducers { HasNumbers reducers.now (is_reducer b.now) }
-    ensures { IfOk result (λ p. p ≡ pdo_part b.now number roots.now) }
+    requires found { AreFound blocked.now found.now }
+    requires mappers { HasNumbers mappers.now (is_mapper blocked.now) }
+    requires reducers { HasNumbers reducers.now (is_reducer blocked.now) }
+    ensures { IfOk result (λ p. p ≡ pdo_part blocked.now number roots.now) }
 {
     if mappers.contains(&number) {
-        let passing = passes_of(alloc, b, found, number, roots)?;
+        let passing = passes_of(alloc, blocked, found, number, roots)?;
         return Ok(Part::Mapper(passing));
     }
     if reducers.contains(&number) {
