@@ -37,7 +37,7 @@ all_grown s t cs g a = Each-weaker (λ (c : Place). Has s c.node) (λ (c : Place
 
 -- ---- one more estimate
 
-estimate_alike : (scales : List ℕ) (l m : ℕ → ℕ) (x : Node)
+pub estimate_alike : (scales : List ℕ) (l m : ℕ → ℕ) (x : Node)
     → AllByRecursion (λ (c : Place). m c.node ≡ l c.node) (reads x)
     → estimate scales m x ≡ estimate scales l x
 estimate_alike scales l m (Source r) a = refl

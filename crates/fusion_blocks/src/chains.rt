@@ -1,11 +1,11 @@
 ghost use Rattle.std.specs.Prelude.{◌≡◌, OnOk, IfOk};
-ghost use Rattle.fusion_blocks.specs.inner.Nodes.{IsIndex};
+ghost use Rattle.node_index.specs.Index.{IsIndex};
 ghost use Rattle.fusion_blocks.specs.inner.Stretches.{AreBefore, IsPdoOf, IsStretch, longer};
 ghost use Rattle.fusion_blocks.specs.inner.Tables.{IsBelow, known};
 
 use crate::estimates::known;
-use crate::nodes::find_node;
 use exec_graph::{Entry, Node, Place};
+use node_index::find_node;
 use std::alloc::AllocError;
 use std::collections::HashMap;
 

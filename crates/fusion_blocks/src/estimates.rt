@@ -1,11 +1,11 @@
 ghost use Rattle.std.specs.Prelude.{◌≡◌, ◌*◌, ◌/◌, ℕ, map, IfOk, OnOk};
 ghost use Rattle.exec_graph.specs.declared.graph.Place.{Place as GhostPlace};
 ghost use Rattle.fusion_blocks.specs.Estimates.{AreEstimates, capped, estimate, scale_of, step_scale, sum_of};
-ghost use Rattle.fusion_blocks.specs.inner.Nodes.{IsIndex};
+ghost use Rattle.node_index.specs.Index.{IsIndex};
 ghost use Rattle.fusion_blocks.specs.inner.Tables.{AllBelow, Fills, Has, HasAll, IsBelow, IsPartly, IsRanked, known, table};
 
-use crate::nodes::{find_node, reads_of};
 use exec_graph::{Does, Entry, Node, Place, Roots};
+use node_index::{find_node, reads_of};
 use std::alloc::{AllocError, Global};
 use std::collections::HashMap;
 

@@ -1,5 +1,5 @@
 -- The fused graph with its marks is ok
-use Rattle.std.proofs.Common.{◌≡◌, ℕ, ◌+◌, ◌<◌, ◌≤◌, Bool, true, false, cond, ◌||◌, ◌&&◌, List, [], ◌∷◌, ◌++◌, map, length, length-append, Option, Some, None, refl, sym, ap, ◌∙◌, subst, arith}
+use Rattle.std.proofs.Common.{◌≡◌, ℕ, ◌+◌, ◌<◌, ◌≤◌, Bool, true, false, cond, ◌||◌, ◌&&◌, List, [], ◌∷◌, ◌++◌, map, length, length-append, Option, Some, None, refl, sym, ap, ◌∙◌, arith}
 use Rattle.std.proofs.lemmas.Bool.{false≢true}
 use Rattle.std.specs.List.{flat_map, AllByRecursion}
 use Rattle.exec_graph.specs.Forests.{Label, Forest, Bare, Grow, steps, numbered, new_label, new_out, after, after_out, with_out}
@@ -7,21 +7,20 @@ use Rattle.exec_graph.specs.declared.graph.Place.{Place}
 use Rattle.exec_graph.specs.declared.graph.Node.{Node}
 use Rattle.exec_graph.specs.declared.graph.Node.TheVariants.{Source, Flatten, Pdo, Gbk}
 use Rattle.exec_graph.specs.declared.graph.Entry.{Entry}
-use Rattle.exec_graph.specs.Meaning.{place, node_at, has_out, gives_at, IsThere, IsSound, SameMeaning}
+use Rattle.exec_graph.specs.Meaning.{node_at, gives_at, IsThere, IsSound, SameMeaning}
 use Rattle.graph_laws.specs.Joining.{reread}
 use Rattle.exec_graph.proofs.Entries.{all_found, all_map}
 use Rattle.flume_value.proofs.EachLemmas.{Each-weaker, Each-both, Each-append}
 use Rattle.exec_graph.proofs.Solving.{each_found, there_found}
 use Rattle.exec_graph.specs.declared.graph.Blocked.{Blocked}
 use Rattle.pardo_fuse.specs.Readers.{Cut, cut_of, is_outer}
-use Rattle.pardo_fuse.specs.Readers.{same_place, among, calls_on, collects, any_node, is_pdo, is_marked, is_kept, CanFuse}
-use Rattle.graph_laws.specs.Kids.{kept_by}
+use Rattle.pardo_fuse.specs.Readers.{among, calls_on, collects, any_node, is_pdo, is_marked, is_kept, CanFuse}
 use Rattle.pardo_fuse.specs.Fusing.{keeps_output, leads, forest_of, left_of, joined_nodes, with_numbers, finished, holds_out, fused, fused_by}
-use Rattle.exec_graph.specs.Wellformed.{Ascends, IsForestOk, IsNodeOk, is_lifted, size, total_size, IsBlockedOk}
+use Rattle.exec_graph.specs.Wellformed.{Ascends, IsNodeOk, is_lifted, size, total_size, IsBlockedOk}
 use Rattle.exec_graph.specs.Readers.{uses, is_read}
 use Rattle.pardo_fuse.specs.Wellformed.{IsFusible}
 use Rattle.pardo_fuse.proofs.Partition.{numbers}
-use Rattle.pardo_fuse.proofs.Once.{Found, AllGrown, all_of, left_numbers, all_left}
+use Rattle.pardo_fuse.proofs.Once.{AllGrown, all_of, left_numbers, all_left}
 use Rattle.pardo_fuse.proofs.Levels.{all_grown}
 use Rattle.pardo_fuse.proofs.Few.{left_length, steps_length, steps-pruned}
 use Rattle.exec_graph.proofs.Soundness.{SameMeaning-kept}
@@ -29,9 +28,9 @@ use Rattle.pardo_fuse.proofs.Meaning.{KeepsMeaning-fused}
 use Rattle.pardo_fuse.proofs.Fusible.{can_fuse}
 use Rattle.pardo_fuse.proofs.Naming.{all_joined, all_cond, differ_joined}
 use Rattle.pardo_fuse.proofs.Finding.{search_place, any_joined, not_new, no_joined, IsSeen, IsNew, right}
-use Rattle.pardo_fuse.proofs.Seeing.{all_among, or_first}
+use Rattle.pardo_fuse.proofs.Seeing.{all_among}
 use Rattle.pardo_fuse.proofs.Wellness.{at_finished, done_node, well, well_kept, others_left, IsSound-fused}
-use Rattle.pardo_fuse.proofs.Settling.{now, nodes_now, IsLeader}
+use Rattle.pardo_fuse.proofs.Settling.{now, nodes_now}
 use Rattle.pardo_fuse.proofs.Using.{graph_now, outs_read}
 use Rattle.pardo_fuse.proofs.Lifting.{gbk, lifted_ok}
 

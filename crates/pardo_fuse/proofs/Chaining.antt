@@ -1,17 +1,15 @@
 -- One collection more whose readers are fused: its forest is grafted under the step that gives it
-use Rattle.std.proofs.Common.{◌≡◌, ℕ, ◌+◌, ◌<◌, ◌≤◌, Bool, true, false, cond, eqb, ◌||◌, List, [], ◌∷◌, ◌++◌, length, Option, Some, None, refl, sym, ap, ◌∙◌, subst, arith}
+use Rattle.std.proofs.Common.{◌≡◌, ℕ, ◌≤◌, Bool, true, false, cond, eqb, ◌||◌, List, [], ◌∷◌, refl, sym, ap, ◌∙◌, subst, arith}
 use Rattle.std.proofs.lemmas.Bool.{eqb-true, eq-eqb, false≢true}
 use Rattle.exec_graph.specs.Forests.{Label, Forest, Bare, Grow}
 use Rattle.exec_graph.specs.declared.graph.Place.{Place}
-use Rattle.exec_graph.specs.declared.graph.Graph.{Graph}
 use Rattle.exec_graph.specs.Meaning.{place, is_out}
 use Rattle.graph_laws.specs.Joining.{beside, grafted}
 use Rattle.graph_laws.proofs.Numbering.{label_old}
 use Rattle.pardo_fuse.specs.Readers.{Cut, same_place, readers}
-use Rattle.pardo_fuse.specs.Fusing.{named, step_at, kids_of, Grown, trees}
+use Rattle.pardo_fuse.specs.Fusing.{kids_of, Grown}
 use Rattle.pardo_fuse.proofs.Counting.{one_if, hit, times, sum_append}
 use Rattle.pardo_fuse.proofs.Partition.{numbers}
-use Rattle.pardo_fuse.proofs.Places.{place_is, same_is, same_self}
 use Rattle.pardo_fuse.proofs.Once.{AllGrown, all_of}
 
 -- a forest is determined by its roots

@@ -1,31 +1,26 @@
 -- Where each collection that is still read is found in the fused graph, and back
-use Rattle.std.proofs.Common.{◌≡◌, ℕ, ◌+◌, ◌<◌, ◌≤◌, Bool, true, false, cond, eqb, ◌||◌, ◌&&◌, List, [], ◌∷◌, ◌++◌, length, map, Option, Some, None, refl, sym, ap, ◌∙◌, subst, arith, zero, suc}
-use Rattle.std.proofs.lemmas.Bool.{eqb-true, eq-eqb, false≢true}
+use Rattle.std.proofs.Common.{◌≡◌, ℕ, ◌<◌, Bool, true, false, cond, eqb, ◌||◌, List, [], ◌∷◌, ◌++◌, Option, Some, None, refl, sym, ap, ◌∙◌, arith, zero, suc}
+use Rattle.std.proofs.lemmas.Bool.{eqb-true, false≢true}
 use Rattle.std.specs.List.{flat_map, AllByRecursion}
-use Rattle.flume_collection.specs.Collection.{Collection}
-use Rattle.exec_graph.specs.Forests.{Label, Forest, Bare, Grow}
+use Rattle.exec_graph.specs.Forests.{Forest}
 use Rattle.exec_graph.specs.declared.graph.Place.{Place}
 use Rattle.exec_graph.specs.declared.graph.Node.{Node}
 use Rattle.exec_graph.specs.declared.graph.Node.TheVariants.{Source, Flatten, Pdo, Gbk}
 use Rattle.exec_graph.specs.declared.graph.Entry.{Entry}
-use Rattle.exec_graph.specs.Meaning.{place, node_at, reads, is_out, has_out, AllDiffer, OutsDiffer, IsThere, IsSound}
-use Rattle.graph_laws.specs.Kids.{number_in}
+use Rattle.exec_graph.specs.Meaning.{place, node_at, has_out, AllDiffer, IsThere}
 use Rattle.graph_laws.proofs.Numbering.{old_in}
 use Rattle.exec_graph.proofs.Entries.{all_found}
-use Rattle.flume_value.proofs.EachLemmas.{Each-weaker, Each-both, Each-append}
 use Rattle.graph_laws.proofs.Numbering.{number_back}
 use Rattle.exec_graph.proofs.Solving.{each_found}
-use Rattle.exec_graph.specs.declared.graph.Blocked.{Blocked}
-use Rattle.pardo_fuse.specs.Readers.{Cut, cut_of}
-use Rattle.pardo_fuse.specs.Readers.{same_place, among, calls_on, collects, any_node, is_pdo, is_outer, is_inner, is_kept, readers, CanFuse}
-use Rattle.graph_laws.specs.Kids.{kept_by}
-use Rattle.pardo_fuse.specs.Fusing.{keeps_output, leads, is_first, forest_of, left_of, joined_nodes, holds_out, out_number, new_place}
-use Rattle.pardo_fuse.proofs.Counting.{one_if, hit, sum_by, times, sum_append, passes}
-use Rattle.pardo_fuse.proofs.Places.{pdo_is, place_is, same_self}
+use Rattle.pardo_fuse.specs.Readers.{Cut}
+use Rattle.pardo_fuse.specs.Readers.{any_node, is_pdo, is_kept, readers, CanFuse}
+use Rattle.pardo_fuse.specs.Fusing.{keeps_output, leads, forest_of, left_of, joined_nodes, holds_out, out_number, new_place}
+use Rattle.pardo_fuse.proofs.Counting.{one_if, hit, times, sum_append}
+use Rattle.pardo_fuse.proofs.Places.{pdo_is, place_is}
 use Rattle.pardo_fuse.proofs.Partition.{numbers}
-use Rattle.pardo_fuse.proofs.Once.{Found, AllGrown, all_of, left_numbers, all_left, each_once, any, some_pdo, there_zero}
-use Rattle.pardo_fuse.proofs.Reading.{all_readers, or_else}
-use Rattle.pardo_fuse.proofs.Naming.{times_has, outs_pdos, pdos, has_pruned, all_joined, all_cond, differ_joined, or_last}
+use Rattle.pardo_fuse.proofs.Once.{Found, AllGrown, all_of, left_numbers, all_left, each_once, some_pdo, there_zero}
+use Rattle.pardo_fuse.proofs.Reading.{all_readers}
+use Rattle.pardo_fuse.proofs.Naming.{times_has, outs_pdos, pdos, has_pruned, all_joined, all_cond, differ_joined}
 
 -- ---- back to the former collection
 abbrev pub former_at : Option Node → Place → Place

@@ -1,8 +1,7 @@
 -- A graph that is ok and has one step a Pdo can be fused
-use Rattle.std.proofs.Common.{◌≡◌, ℕ, ◌+◌, ◌<◌, ◌≤◌, Bool, true, false, cond, List, [], ◌∷◌, length, Option, Some, None, refl, sym, ap, ◌∙◌, subst, arith}
+use Rattle.std.proofs.Common.{◌≡◌, ℕ, ◌+◌, true, false, cond, List, [], ◌∷◌, length, Option, Some, None, refl, sym, ap, ◌∙◌, subst, arith}
 use Rattle.std.specs.List.{AllByRecursion}
-use Rattle.exec_graph.specs.Forests.{Label, Forest, Bare, Grow, steps, one_at, numbered, new_out}
-use Rattle.exec_graph.specs.declared.graph.Place.{Place}
+use Rattle.exec_graph.specs.Forests.{Forest, Bare, Grow, steps, one_at, numbered, new_out}
 use Rattle.exec_graph.specs.declared.graph.Node.{Node}
 use Rattle.exec_graph.specs.declared.graph.Node.TheVariants.{Source, Flatten, Pdo, Gbk}
 use Rattle.exec_graph.specs.declared.graph.Entry.{Entry}
@@ -13,7 +12,7 @@ use Rattle.pardo_fuse.specs.Readers.{IsFirst, IsSingle, HasOneStep, CanFuse, cut
 use Rattle.exec_graph.specs.Meaning.{node_at}
 use Rattle.exec_graph.proofs.Soundness.{IsSound-ok}
 use Rattle.pardo_fuse.proofs.Places.{and_left}
-use Rattle.exec_graph.specs.Wellformed.{IsNodeOk, size, total_size, IsBlockedOk}
+use Rattle.exec_graph.specs.Wellformed.{IsNodeOk, size, total_size}
 use Rattle.pardo_fuse.specs.Wellformed.{HasOneOutput, IsOneStep, IsFusible}
 
 first_out : (o : Option ℕ) → new_out 0 o ≡ o → IsFirst o

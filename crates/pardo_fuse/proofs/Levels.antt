@@ -1,18 +1,17 @@
 -- As many levels as there are nodes are enough for every forest
-use Rattle.std.proofs.Common.{◌≡◌, ℕ, ◌+◌, ◌<◌, ◌≤◌, Bool, true, false, cond, List, [], ◌∷◌, length, Option, Some, None, refl, sym, ap, ◌∙◌, subst, arith, zero, suc}
+use Rattle.std.proofs.Common.{◌≡◌, ℕ, ◌+◌, ◌<◌, ◌≤◌, Bool, true, false, cond, List, [], ◌∷◌, length, refl, sym, subst, arith, zero, suc}
 use Rattle.std.proofs.lemmas.Bool.{false≢true}
 use Rattle.std.specs.List.{AllByRecursion}
-use Rattle.exec_graph.specs.Forests.{Forest, Bare, Grow}
+use Rattle.exec_graph.specs.Forests.{Forest}
 use Rattle.exec_graph.specs.declared.graph.Place.{Place}
 use Rattle.exec_graph.specs.declared.graph.Node.{Node}
 use Rattle.exec_graph.specs.declared.graph.Node.TheVariants.{Source, Flatten, Pdo, Gbk}
 use Rattle.exec_graph.specs.declared.graph.Entry.{Entry}
-use Rattle.exec_graph.specs.Meaning.{place, node_at, reads, IsRankedBy, IsSound}
+use Rattle.exec_graph.specs.Meaning.{place, reads, IsRankedBy}
 use Rattle.flume_value.proofs.EachLemmas.{Each-weaker}
 use Rattle.exec_graph.proofs.Solving.{place_of, lower_most, short_ranked}
-use Rattle.exec_graph.specs.declared.graph.Blocked.{Blocked}
-use Rattle.pardo_fuse.specs.Readers.{Cut, cut_of}
-use Rattle.pardo_fuse.specs.Readers.{same_place, calls_on, those, readers, is_inner, CanFuse}
+use Rattle.pardo_fuse.specs.Readers.{Cut}
+use Rattle.pardo_fuse.specs.Readers.{calls_on, readers, is_inner, CanFuse}
 use Rattle.pardo_fuse.specs.Fusing.{kids_of, Grown, planted, trees, step_at}
 use Rattle.pardo_fuse.proofs.Places.{same_is}
 use Rattle.pardo_fuse.proofs.Once.{AllGrown}

@@ -8,6 +8,7 @@ pub mod Naming
 pub mod Finding
 pub mod Seeing
 pub mod Meaning
+pub mod Typed
 pub mod Wellness
 pub mod Fusible
 pub mod Settling
@@ -20,3 +21,5 @@ pub mod Keeping
 pub mod Planting
 pub mod Shortness
 pub mod Renaming
+pub mod Singleness
+pub mod OneOutput

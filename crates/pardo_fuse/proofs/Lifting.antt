@@ -1,5 +1,5 @@
 -- A lifted Gbk stays one that may be lifted
-use Rattle.std.proofs.Common.{◌≡◌, ℕ, ◌+◌, ◌<◌, ◌≤◌, Bool, true, false, cond, eqb, ◌||◌, ◌&&◌, List, [], ◌∷◌, ◌++◌, map, length, Option, Some, None, refl, sym, ap, ◌∙◌, subst, arith}
+use Rattle.std.proofs.Common.{◌≡◌, ℕ, ◌+◌, Bool, true, false, cond, eqb, ◌||◌, List, [], ◌∷◌, ◌++◌, map, Option, Some, refl, sym, ap, ◌∙◌, subst, arith}
 use Rattle.std.proofs.lemmas.Bool.{eqb-true, eq-eqb, false≢true}
 use Rattle.std.specs.List.{flat_map, AllByRecursion}
 use Rattle.exec_graph.specs.Forests.{Label, Forest, Bare, Grow, numbered}
@@ -8,25 +8,24 @@ use Rattle.exec_graph.specs.declared.graph.Place.{Place}
 use Rattle.exec_graph.specs.declared.graph.Node.{Node}
 use Rattle.exec_graph.specs.declared.graph.Node.TheVariants.{Source, Flatten, Pdo, Gbk}
 use Rattle.exec_graph.specs.declared.graph.Entry.{Entry}
-use Rattle.exec_graph.specs.Meaning.{place, node_at, reads, gives_at, IsThere, IsSound}
+use Rattle.exec_graph.specs.Meaning.{place, node_at, reads, gives_at}
 use Rattle.graph_laws.specs.Joining.{reread}
 use Rattle.flume_value.proofs.EachLemmas.{Each-weaker}
 use Rattle.exec_graph.proofs.Entries.{all_found}
 use Rattle.exec_graph.proofs.Solving.{each_found}
-use Rattle.exec_graph.specs.declared.graph.Blocked.{Blocked}
-use Rattle.pardo_fuse.specs.Readers.{Cut, cut_of}
+use Rattle.pardo_fuse.specs.Readers.{Cut}
 use Rattle.pardo_fuse.specs.Readers.{same_place, among, calls_on, collects, any_node, is_pdo, is_inner, readers, those, CanFuse}
 use Rattle.graph_laws.specs.Kids.{kept_by}
-use Rattle.pardo_fuse.specs.Fusing.{Grown, step_at, step_of, first_label, keeps_output, leads, is_first, forest_of, left_of, joined_nodes, new_place, with_numbers, finished}
+use Rattle.pardo_fuse.specs.Fusing.{Grown, step_at, step_of, first_label, keeps_output, leads, is_first, forest_of, left_of, joined_nodes, with_numbers, finished}
 use Rattle.exec_graph.specs.Wellformed.{IsLiftedOk, comb_at, comb_of, root_comb}
-use Rattle.pardo_fuse.proofs.Counting.{one_if, times, hit, passes, times_those}
+use Rattle.pardo_fuse.proofs.Counting.{one_if, times, passes, times_those}
 use Rattle.pardo_fuse.proofs.Places.{same_is, same_self}
 use Rattle.pardo_fuse.proofs.Once.{Found, AllGrown, all_of}
 use Rattle.pardo_fuse.proofs.Reading.{IsReader, all_readers}
 use Rattle.pardo_fuse.proofs.Naming.{all_joined, all_cond}
-use Rattle.pardo_fuse.proofs.Finding.{not_new, no_joined, IsSeen, any_none}
+use Rattle.pardo_fuse.proofs.Finding.{not_new, no_joined, IsSeen}
 use Rattle.pardo_fuse.proofs.Seeing.{seen_left, seen_outputs, leads_seen}
-use Rattle.pardo_fuse.proofs.Settling.{now, nodes_now, now_apart}
+use Rattle.pardo_fuse.proofs.Settling.{now, now_apart}
 use Rattle.pardo_fuse.proofs.Using.{leader_at, graph_now}
 
 -- ---- what does not read the Gbk's output does not read it now

@@ -1,6 +1,5 @@
 -- The fused graph means what the graph means
-use Rattle.std.proofs.Common.{◌≡◌, ℕ, Bool, true, false, cond, leb, ◌||◌, ◌&&◌, List, [], ◌∷◌, ◌++◌, length, map, Option, Some, None, refl, sym, ap, ◌∙◌, subst, append-nil}
-use Rattle.std.proofs.lemmas.Bool.{false≢true}
+use Rattle.std.proofs.Common.{◌≡◌, ℕ, Bool, true, false, cond, List, [], ◌∷◌, ◌++◌, map, Option, Some, None, refl, sym, ap, ◌∙◌, subst, append-nil}
 use Rattle.std.proofs.lemmas.List.Concat.{flat_map-append}
 use Rattle.std.proofs.lemmas.List.Folds.{flat_map-map}
 use Rattle.std.specs.List.{flat_map, AllByRecursion}
@@ -16,25 +15,21 @@ use Rattle.exec_graph.specs.declared.graph.Place.{Place}
 use Rattle.exec_graph.specs.declared.graph.Node.{Node}
 use Rattle.exec_graph.specs.declared.graph.Node.TheVariants.{Source, Flatten, Pdo, Gbk}
 use Rattle.exec_graph.specs.declared.graph.Entry.{Entry}
-use Rattle.exec_graph.specs.declared.graph.Graph.{Graph}
-use Rattle.exec_graph.specs.Meaning.{through, place, FitsForest, total, step_own, step_traps, Holds, Meets, own, traps, node_at, reads, has_out, IsThere, IsSound, KeepsMeaning, Agrees, AllDiffer}
+use Rattle.exec_graph.specs.Meaning.{through, place, FitsForest, total, step_own, step_traps, Holds, Meets, own, traps, node_at, reads, KeepsMeaning}
 use Rattle.graph_laws.specs.Joining.{reread}
-use Rattle.graph_laws.proofs.Numbering.{old_in}
 use Rattle.graph_laws.specs.Kids.{number_in}
 use Rattle.exec_graph.proofs.Entries.{all_found, all_map}
-use Rattle.flume_value.proofs.EachLemmas.{Each-weaker, Each-both, Each-append}
+use Rattle.flume_value.proofs.EachLemmas.{Each-weaker, Each-both}
 use Rattle.graph_laws.proofs.Joining.{map_reread, holds_reread, own-reread, traps-reread}
 use Rattle.graph_laws.proofs.Numbering.{number_back, fits_numbered, total-numbered}
 use Rattle.exec_graph.proofs.Solving.{each_found}
-use Rattle.exec_graph.specs.declared.graph.Blocked.{Blocked}
-use Rattle.pardo_fuse.specs.Readers.{Cut, cut_of}
-use Rattle.pardo_fuse.specs.Readers.{among, calls_on, collects, any_node, is_pdo, is_outer, is_inner, is_kept, readers, those, CanFuse, HasOneStep, IsSingle}
+use Rattle.pardo_fuse.specs.Readers.{Cut}
+use Rattle.pardo_fuse.specs.Readers.{is_pdo, readers, those, CanFuse, HasOneStep, IsSingle}
 use Rattle.graph_laws.specs.Kids.{kept_by}
-use Rattle.pardo_fuse.specs.Fusing.{named, first_label, step_at, step_of, Grown, kept_label, keeps_output, leads, is_first, forest_of, left_of, joined_nodes, new_place, with_numbers, finished, renamed, fused_by}
-use Rattle.pardo_fuse.proofs.Counting.{times, passes, gather_same, times_those, one_if}
-use Rattle.pardo_fuse.proofs.Places.{same_self}
+use Rattle.pardo_fuse.specs.Fusing.{named, first_label, step_of, kept_label, keeps_output, leads, forest_of, left_of, joined_nodes, new_place, with_numbers, finished, fused_by}
+use Rattle.pardo_fuse.proofs.Counting.{gather_same, times_those}
 use Rattle.pardo_fuse.proofs.Partition.{numbers}
-use Rattle.pardo_fuse.proofs.Once.{Found, AllGrown, all_of, left_numbers, all_left, each_once, any, left_times, IsOnce}
+use Rattle.pardo_fuse.proofs.Once.{Found, AllGrown, all_of, left_numbers, all_left, each_once, any}
 use Rattle.pardo_fuse.proofs.Levels.{all_grown}
 use Rattle.pardo_fuse.proofs.Reading.{all_readers, given_readers, total_grown, fits_grown}
 use Rattle.pardo_fuse.proofs.Naming.{outs_differ, all_joined, all_cond, differ_joined}

@@ -1,7 +1,7 @@
 -- The names of all outputs say where each collection is, so what is made is the fused graph.
 use Rattle.std.proofs.Common.{◌≡◌, ℕ, Bool, true, false, cond, eqb, ◌||◌, List, [], ◌∷◌, ◌++◌, map, Option, Some, None, refl, sym, ap, ◌∙◌, append_assoc, append-nil}
 use Rattle.std.specs.List.{flat_map}
-use Rattle.exec_graph.specs.Forests.{Label, Forest, Bare, Grow, after, after_out, numbered}
+use Rattle.exec_graph.specs.Forests.{Forest, Bare, Grow, after, after_out, numbered}
 use Rattle.exec_graph.specs.declared.graph.Place.{Place}
 use Rattle.exec_graph.specs.declared.graph.Node.{Node}
 use Rattle.exec_graph.specs.declared.graph.Node.TheVariants.{Source, Flatten, Pdo, Gbk}
@@ -11,8 +11,8 @@ use Rattle.exec_graph.specs.Meaning.{place, is_out, has_out}
 use Rattle.graph_laws.specs.Joining.{reread, reread_entry}
 use Rattle.graph_laws.specs.Kids.{number_in}
 use Rattle.pardo_fuse.specs.declared.names.Name.{Name}
-use Rattle.pardo_fuse.specs.Readers.{Cut, cut_of}
-use Rattle.pardo_fuse.specs.Fusing.{holds_out, out_number, new_place, with_numbers, finished, forest_of, joined_nodes, leads, left_of, renamed, fused_by}
+use Rattle.pardo_fuse.specs.Readers.{Cut}
+use Rattle.pardo_fuse.specs.Fusing.{new_place, finished, forest_of, joined_nodes, leads, left_of, fused_by}
 use Rattle.pardo_fuse.specs.inner.Naming.{all_names, by_name, left_names, names_from, numbered_entry, out_names}
 
 joint : (c : Place) (h s x y : ℕ) (o : Option ℕ) (k r : Bool) (z : Place) (rest : List Name)

@@ -1,5 +1,5 @@
 -- Nothing is left to fuse in the fused graph
-use Rattle.std.proofs.Common.{◌≡◌, ℕ, Bool, true, false, cond, eqb, ◌||◌, ◌&&◌, List, [], ◌∷◌, map, Option, Some, None, refl, sym, ap, ◌∙◌, subst}
+use Rattle.std.proofs.Common.{◌≡◌, ℕ, Bool, true, false, cond, ◌||◌, ◌&&◌, List, [], ◌∷◌, map, Option, Some, None, refl, sym, ap, ◌∙◌}
 use Rattle.std.proofs.lemmas.Bool.{eqb-true, false≢true}
 use Rattle.std.specs.List.{AllByRecursion}
 use Rattle.exec_graph.specs.Forests.{Forest, numbered}
@@ -7,17 +7,16 @@ use Rattle.exec_graph.specs.declared.graph.Place.{Place}
 use Rattle.exec_graph.specs.declared.graph.Node.{Node}
 use Rattle.exec_graph.specs.declared.graph.Node.TheVariants.{Source, Flatten, Pdo, Gbk}
 use Rattle.exec_graph.specs.declared.graph.Entry.{Entry}
-use Rattle.exec_graph.specs.Meaning.{place, node_at, IsSound}
-use Rattle.graph_laws.specs.Joining.{reread}
-use Rattle.exec_graph.proofs.Entries.{all_found, entry}
+use Rattle.exec_graph.specs.Meaning.{node_at}
+use Rattle.exec_graph.proofs.Entries.{all_found}
 use Rattle.exec_graph.proofs.Solving.{each_found}
 use Rattle.exec_graph.specs.declared.graph.Blocked.{Blocked}
 use Rattle.pardo_fuse.specs.Readers.{Cut, cut_of}
 use Rattle.pardo_fuse.specs.Readers.{same_place, among, is_pdo, is_marked, is_unmarked, is_inner, is_kept, is_marked_or_needed, any_node, collects, calls_on, readers, CanFuse}
-use Rattle.pardo_fuse.specs.Fusing.{leads, is_first, forest_of, left_of, joined_nodes, new_place, with_numbers, finished, fused, fused_by}
+use Rattle.pardo_fuse.specs.Fusing.{leads, is_first, forest_of, left_of, joined_nodes, new_place, finished, fused, fused_by}
 use Rattle.pardo_fuse.specs.Wellformed.{IsSettled}
-use Rattle.pardo_fuse.proofs.Places.{same_is, same_self, pdo_is}
-use Rattle.pardo_fuse.proofs.Once.{Found, AllGrown}
+use Rattle.pardo_fuse.proofs.Places.{same_is, same_self}
+use Rattle.pardo_fuse.proofs.Once.{AllGrown}
 use Rattle.pardo_fuse.proofs.Levels.{all_grown}
 use Rattle.pardo_fuse.proofs.Naming.{all_joined, all_cond}
 use Rattle.pardo_fuse.proofs.Finding.{former, not_new, no_joined, joined_pdos, found_again, IsSeen, right}

@@ -1,6 +1,5 @@
 -- A forest that is left has no more outputs than there are nodes.
-use Rattle.std.proofs.Common.{◌≡◌, ℕ, ◌+◌, ◌<◌, ◌≤◌, ◌^◌, Bool, true, false, cond, List, [], ◌∷◌, ◌++◌, length, length-append, Option, Some, None, refl, sym, ap, ◌∙◌, subst, arith}
-use Rattle.std.specs.List.{AllByRecursion}
+use Rattle.std.proofs.Common.{◌≡◌, ℕ, Bool, cond, [], length, length-append, Some, refl, ap, arith}
 use Rattle.flume_value.proofs.EachLemmas.{Each-weaker}
 use Rattle.exec_graph.specs.Forests.{Forest, Bare, Grow}
 use Rattle.exec_graph.specs.Meaning.{node_at}
@@ -9,10 +8,9 @@ use Rattle.exec_graph.specs.declared.graph.Node.TheVariants.{Source, Flatten, Pd
 use Rattle.exec_graph.specs.declared.graph.Entry.{Entry}
 use Rattle.exec_graph.proofs.Solving.{each_found}
 use Rattle.pardo_fuse.specs.Readers.{CanFuse, Cut}
-use Rattle.pardo_fuse.specs.Fusing.{leads}
 use Rattle.pardo_fuse.specs.inner.Naming.{AllShort, LeadsShort, labels}
 use Rattle.pardo_fuse.proofs.Partition.{numbers}
-use Rattle.pardo_fuse.proofs.Once.{all_left, all_of, left_numbers}
+use Rattle.pardo_fuse.proofs.Once.{all_of, left_numbers}
 use Rattle.pardo_fuse.proofs.Few.{left_length, part_short}
 
 labels_length : (f : Forest) → labels f ≡ length (numbers f)

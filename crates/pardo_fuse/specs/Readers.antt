@@ -1,12 +1,11 @@
 -- Who reads a collection, in a graph with marked collections
-use Rattle.std.specs.Prelude.{◌≡◌, ℕ, ◌==◌, ◌&&◌, ◌||◌, ◌≤◌, length, Bool, true, false, cond, List, [], ◌∷◌, Option, Some, None}
+use Rattle.std.specs.Prelude.{◌≡◌, ℕ, ◌&&◌, ◌||◌, ◌≤◌, length, Bool, true, false, cond, List, Option, Some, None}
 use Rattle.std.specs.List.{AllByRecursion}
 use Rattle.exec_graph.specs.Forests.{Forest, Bare, Grow}
-use Rattle.exec_graph.specs.Meaning.{place, node_at, IsThere, IsSound}
+use Rattle.exec_graph.specs.Meaning.{node_at, IsThere, IsSound}
 use Rattle.exec_graph.specs.declared.graph.Place.{Place}
 use Rattle.exec_graph.specs.declared.graph.Node.{Node}
 use Rattle.exec_graph.specs.declared.graph.Node.TheVariants.{Source, Flatten, Pdo, Gbk}
-use Rattle.exec_graph.specs.declared.graph.Entry.{Entry}
 use Rattle.exec_graph.specs.declared.graph.Graph.{Graph}
 use Rattle.exec_graph.specs.declared.graph.Blocked.{Blocked}
 pub use Rattle.exec_graph.specs.Readers.{same_place, among, calls_on, collects, any_node, those, readers}

@@ -1,15 +1,14 @@
 -- When a graph with marked collections is ok, and when nothing is left to fuse in it
-use Rattle.std.specs.Prelude.{◌≡◌, ℕ, ◌+◌, ◌<◌, ◌≤◌, ◌==◌, ◌||◌, Bool, true, false, List, [], ◌∷◌, length, Option, Some, None}
+use Rattle.std.specs.Prelude.{◌≡◌, ℕ, ◌≤◌, false, length, Some}
 use Rattle.std.specs.List.{AllByRecursion}
 use Rattle.exec_graph.specs.Forests.{Forest, Label, Bare, Grow}
-use Rattle.combine_table.specs.declared.comb.Comb.{Comb}
-use Rattle.exec_graph.specs.Meaning.{place, node_at, has_out, IsThere, IsSound}
+use Rattle.exec_graph.specs.Meaning.{node_at}
 use Rattle.exec_graph.specs.declared.graph.Place.{Place}
 use Rattle.exec_graph.specs.declared.graph.Node.{Node}
 use Rattle.exec_graph.specs.declared.graph.Node.TheVariants.{Source, Flatten, Pdo, Gbk}
-use Rattle.exec_graph.specs.declared.graph.Entry.{Entry}
 use Rattle.exec_graph.specs.declared.graph.Graph.{Graph}
 use Rattle.exec_graph.specs.declared.graph.Blocked.{Blocked}
+use Rattle.exec_graph.specs.Typing.{Signatures}
 use Rattle.exec_graph.specs.Wellformed.{IsBlockedOk}
 use Rattle.pardo_fuse.specs.Readers.{is_unmarked}
 
@@ -25,9 +24,17 @@ HasOneOutput (Flatten ins) = Unit {0}
 HasOneOutput (Pdo c f) = IsOneStep f
 HasOneOutput (Gbk c o l k) = Unit {0}
 
+-- each Pdo has one step with one output
+abbrev pub HasSingleSteps : Graph → Type 0
+HasSingleSteps g = AllByRecursion (λ e. HasOneOutput e.node) g.nodes
+
+-- no function has more than one output
+abbrev pub GivesOne : Signatures → Type 0
+GivesOne s = (f : ℕ) → length (s.gives f) ≤ 1
+
 pub record IsFusible (b : Blocked) : Type 0 where
   pub ok : IsBlockedOk b
-  pub single : AllByRecursion (λ e. HasOneOutput e.node) b.graph.nodes
+  pub single : HasSingleSteps b.graph
 
 -- no Pdo reads an unmarked output of a Pdo, and no two read one collection
 pub record IsSettled (b : Blocked) : Type 0 where

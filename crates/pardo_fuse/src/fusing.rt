@@ -1,6 +1,7 @@
 ghost use Rattle.std.specs.Prelude.{◌≡◌, map, IfOk};
 ghost use Rattle.std.specs.List.{flat_map};
 ghost use Rattle.exec_graph.specs.Meaning.{SameMeaning};
+ghost use Rattle.exec_graph.specs.Typing.{KeepsTypes};
 ghost use Rattle.exec_graph.specs.Wellformed.{IsBlockedOk};
 ghost use Rattle.graph_laws.specs.Joining.{reread, reread_entry};
 ghost use Rattle.pardo_fuse.specs.Readers.{cut_of};
@@ -10,7 +11,8 @@ ghost use Rattle.pardo_fuse.specs.inner.Naming.{AllShort, all_names, by_index, n
 
 use crate::left::{Joined, joined_nodes};
 use crate::names::{Naming, index_of, place_of, places_of};
-use exec_graph::{Blocked, Entry, Graph, Node, Place, held_places, read_places};
+use crate::tables::tables_of;
+use exec_graph::{Blocked, Entry, Graph, Node, Place};
 use flume_value::Pile;
 use std::alloc::{AllocError, Global};
 use std::collections::HashMap;
@@ -23,6 +25,7 @@ pub fn fuse(alloc: Global, blocked: Blocked) -> Result<Blocked, AllocError>
     ensures fused { IfOk result (λ c. c ≡ fused blocked) }
     ensures settled { IfOk result (λ c. IsSettled c) }
     ensures same { IfOk result (λ c. SameMeaning blocked.graph c.graph) }
+    ensures types { IfOk result (λ c. KeepsTypes blocked.graph c.graph) }
     ensures well_formed { IfOk result (λ c. IsBlockedOk c) }
 {
     let Joined { nodes, naming } = joined(alloc, &blocked)?;
@@ -39,9 +42,8 @@ fn joined(alloc: Global, blocked: &Blocked) -> Result<Joined, AllocError>
         blocked.now.graph.nodes) }
     ensures names { IfOk result (λ j. j.naming.names.items ≡ all_names (cut_of blocked.now)) }
 {
-    let held = held_places(alloc, &blocked.graph)?;
-    let read = read_places(alloc, &blocked.graph)?;
-    let joined = joined_nodes(alloc, blocked, &held, &read)?;
+    let tables = tables_of(alloc, blocked)?;
+    let joined = joined_nodes(alloc, blocked, &tables)?;
     Ok(joined)
 }
 

@@ -1,19 +1,19 @@
 ghost use Rattle.std.specs.Prelude.{◌≡◌, ◌++◌, ◌∷◌, [], ◌<◌, ◌^◌, length, map, true, IfOk, OnOk};
 ghost use Rattle.std.specs.List.{flat_map};
 ghost use Rattle.exec_graph.specs.Forests.{numbered};
-ghost use Rattle.exec_graph.specs.Places.{HasPlaces};
-ghost use Rattle.exec_graph.specs.Readers.{is_held, is_read, readers};
+ghost use Rattle.exec_graph.specs.Readers.{readers};
 ghost use Rattle.pardo_fuse.specs.Readers.{cut_of};
 ghost use Rattle.pardo_fuse.specs.Fusing.{forest_of, left_of, trees};
 ghost use Rattle.pardo_fuse.specs.inner.Naming.{AllShort, LeadsShort, all_names, labels, left_names, names_from, numbered_entry};
+ghost use Rattle.pardo_fuse.specs.inner.Tables.{AreTables};
 
 use crate::names::Naming;
 use crate::parents::{leads, readers_of};
+use crate::tables::Tables;
 use crate::trees::trees_of;
 use exec_graph::{Blocked, Entry, Node, Place, Roots};
 use flume_value::Pile;
 use std::alloc::{AllocError, Global};
-use std::collections::HashSet;
 
 /// The nodes that are left, and the names of their outputs.
 #[derive(Drop)]
@@ -27,11 +27,9 @@ pub(crate) struct Joined {
 pub(crate) fn joined_nodes(
     alloc: Global,
     blocked: &Blocked,
-    held: &HashSet<u64>,
-    read: &HashSet<u64>,
+    tables: &Tables,
 ) -> Result<Joined, AllocError>
-    requires held { HasPlaces held.now (is_held blocked.now.graph) }
-    requires read { HasPlaces read.now (is_read blocked.now.graph) }
+    requires tables { AreTables blocked.now tables.now }
     requires short { AllShort (cut_of blocked.now) blocked.now.graph.nodes }
     ensures nodes { IfOk result (λ j. j.nodes.items
         ≡ flat_map (λ e. map numbered_entry (left_of (cut_of blocked.now) e.number e.node))
@@ -44,7 +42,7 @@ pub(crate) fn joined_nodes(
         next: 0,
     };
     for e in blocked.graph.nodes.as_slice() {
-        push_left(alloc, blocked, held, read, e, &mut nodes, &mut naming)?;
+        push_left(alloc, blocked, tables, e, &mut nodes, &mut naming)?;
     }
     Ok(Joined { nodes, naming })
 }
@@ -52,14 +50,12 @@ pub(crate) fn joined_nodes(
 fn push_left(
     alloc: Global,
     blocked: &Blocked,
-    held: &HashSet<u64>,
-    read: &HashSet<u64>,
+    tables: &Tables,
     entry: &Entry,
     nodes: &mut Vec<Entry>,
     naming: &mut Naming,
 ) -> Result<(), AllocError>
-    requires held { HasPlaces held.now (is_held blocked.now.graph) }
-    requires read { HasPlaces read.now (is_read blocked.now.graph) }
+    requires tables { AreTables blocked.now tables.now }
     requires short { LeadsShort (cut_of blocked.now) entry.now.number entry.now.node }
     ensures nodes { OnOk result (nodes.new.items ≡ nodes.old.items
         ++ map numbered_entry (left_of (cut_of blocked.now) entry.now.number entry.now.node)) }
@@ -74,10 +70,10 @@ fn push_left(
             push_node(number, Node::Flatten(copy), nodes)
         }
         Node::Pdo(c, _) => {
-            if !leads(blocked, number, *c) {
+            if !leads(blocked, tables, number, *c) {
                 return Ok(());
             }
-            let roots = forest_of(alloc, blocked, held, read, number, *c, naming)?;
+            let roots = forest_of(alloc, blocked, tables, number, *c, naming)?;
             push_node(number, Node::Pdo(*c, roots), nodes)?;
             Ok(())
         }
@@ -91,31 +87,27 @@ fn push_left(
 fn forest_of(
     alloc: Global,
     blocked: &Blocked,
-    held: &HashSet<u64>,
-    read: &HashSet<u64>,
+    tables: &Tables,
     lead: u32,
     c: Place,
     naming: &mut Naming,
 ) -> Result<Roots, AllocError>
-    requires held { HasPlaces held.now (is_held blocked.now.graph) }
-    requires read { HasPlaces read.now (is_read blocked.now.graph) }
+    requires tables { AreTables blocked.now tables.now }
     requires few { labels (trees (cut_of blocked.now) (length blocked.now.graph.nodes)
         (readers blocked.now.graph.nodes c)) < 2 ^ 32 }
     ensures forest { IfOk result (λ f. f ≡ numbered 0 (forest_of (cut_of blocked.now) c)) }
     ensures names { OnOk result (naming.new.names.items ≡ naming.old.names.items
         ++ names_from lead 0 (forest_of (cut_of blocked.now) c)) }
 {
-    let nodes = blocked.graph.nodes.as_slice();
-    let roots = readers_of(alloc, c, nodes)?;
+    let roots = readers_of(blocked, tables, c);
     naming.next = 0;
     let trees = trees_of(
         alloc,
         blocked,
-        held,
-        read,
-        nodes.len(),
+        tables,
+        blocked.graph.nodes.len(),
         lead,
-        roots.as_slice(),
+        roots,
         naming,
     )?;
     Ok(Roots::new(trees))

@@ -13,7 +13,10 @@ mod laws;
 mod left;
 mod names;
 mod parents;
+mod single;
+mod tables;
 mod trees;
 
 pub use fusing::fuse;
-pub use laws::fuse_law;
+pub use laws::{fuse_law, single_law};
+pub use single::has_single_steps;

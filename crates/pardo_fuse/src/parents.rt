@@ -1,63 +1,24 @@
-ghost use Rattle.std.specs.Prelude.{◌≡◌, IfOk};
-ghost use Rattle.exec_graph.specs.Meaning.{node_at, place};
-ghost use Rattle.exec_graph.specs.Places.{HasPlaces};
-ghost use Rattle.exec_graph.specs.Readers.{among, calls_on, is_held, is_read, readers, same_place};
+ghost use Rattle.std.specs.Prelude.{◌≡◌, ◌<◌, ◌^◌, Some};
+ghost use Rattle.exec_graph.specs.Meaning.{node_at};
+ghost use Rattle.exec_graph.specs.Readers.{readers};
 ghost use Rattle.pardo_fuse.specs.Readers.{cut_of, is_pdo, is_unmarked};
 ghost use Rattle.pardo_fuse.specs.Fusing.{is_first, keeps_output, kids_of, leads};
+ghost use Rattle.pardo_fuse.specs.inner.Tables.{AreTables};
 
-use exec_graph::{Blocked, Entry, Node, Place, code_of};
-use std::alloc::{AllocError, Global};
-use std::collections::HashSet;
-
-fn is_same(c: Place, d: Place) -> bool
-    ensures { result ≡ same_place c d }
-{
-    c.node == d.node && c.out == d.out
-}
-
-fn is_among(c: Place, places: &[Place]) -> bool
-    ensures { result ≡ among c places.now }
-{
-    for d in places {
-        if is_same(c, *d) {
-            return true;
-        }
-    }
-    false
-}
-
-/// Whether the node is a Pdo that reads the collection.
-fn is_call(c: Place, node: &Node) -> bool
-    ensures { result ≡ calls_on c node.now }
-{
-    match node {
-        Node::Pdo(d, _) => is_same(c, *d),
-        Node::Source(_) | Node::Flatten(_) | Node::Gbk(_, _, _, _) => false,
-    }
-}
+use crate::tables::Tables;
+use exec_graph::{Blocked, Node, Place, code_of};
+use node_index::find_node;
 
 /// The Pdos that read the collection, in the order of the nodes.
-pub(crate) fn readers_of(alloc: Global, c: Place, nodes: &[Entry]) -> Result<Vec<u32>, AllocError>
-    ensures { IfOk result (λ v. v.items ≡ readers nodes.now c) }
+pub(crate) fn readers_of<'a>(blocked: &Blocked, tables: &'a Tables, c: Place) -> &'a [u32]
+    requires { AreTables blocked.now tables.now }
+    ensures { result.now ≡ readers blocked.now.graph.nodes c }
 {
-    let mut found = Vec::new(alloc);
-    for e in nodes {
-        if is_call(c, &e.node) {
-            found.push(e.number)?;
-        }
+    let _out = c.out;
+    match tables.readers.get(&code_of(c)) {
+        Some(numbers) => numbers.as_slice(),
+        None => &[],
     }
-    Ok(found)
-}
-
-fn is_first_reader(number: u32, c: Place, nodes: &[Entry]) -> bool
-    ensures { result ≡ is_first number (readers nodes.now c) }
-{
-    for e in nodes {
-        if is_call(c, &e.node) {
-            return number == e.number;
-        }
-    }
-    false
 }
 
 fn is_pdo_node(node: &Node) -> bool
@@ -69,69 +30,75 @@ fn is_pdo_node(node: &Node) -> bool
     }
 }
 
-fn is_pdo_at(number: u32, nodes: &[Entry]) -> bool
-    ensures { result ≡ is_pdo (node_at nodes.now number) }
+fn is_pdo_at(blocked: &Blocked, tables: &Tables, number: u32) -> bool
+    requires { AreTables blocked.now tables.now }
+    ensures { result ≡ is_pdo (node_at blocked.now.graph.nodes number) }
 {
-    for e in nodes {
-        if e.number == number {
-            return is_pdo_node(&e.node);
-        }
+    match find_node(blocked.graph.nodes.as_slice(), &tables.index, number) {
+        Some(node) => is_pdo_node(node),
+        None => false,
     }
-    false
 }
 
 /// Whether it is an unmarked output of a Pdo.
-fn is_inner(blocked: &Blocked, c: Place) -> bool
+fn is_inner(blocked: &Blocked, tables: &Tables, c: Place) -> bool
+    requires { AreTables blocked.now tables.now }
     ensures { result ≡ is_unmarked blocked.now c }
 {
-    is_pdo_at(c.node, blocked.graph.nodes.as_slice()) && !is_among(c, blocked.marks.as_slice())
+    let _out = c.out;
+    is_pdo_at(blocked, tables, c.node) && !tables.marks.contains(&code_of(c))
 }
 
 /// The Pdos that become kids of the step of a Pdo.
-pub(crate) fn kids_of(alloc: Global, blocked: &Blocked, number: u32) -> Result<Vec<u32>, AllocError>
-    ensures { IfOk result (λ v. v.items ≡ kids_of (cut_of blocked.now) number) }
+pub(crate) fn kids_of<'a>(blocked: &Blocked, tables: &'a Tables, number: u32) -> &'a [u32]
+    requires { AreTables blocked.now tables.now }
+    ensures { result.now ≡ kids_of (cut_of blocked.now) number }
 {
     let output = Place {
         node: number,
         out: 0,
     };
-    if is_inner(blocked, output) {
-        readers_of(alloc, output, blocked.graph.nodes.as_slice())
+    if is_inner(blocked, tables, output) {
+        readers_of(blocked, tables, output)
     } else {
-        Ok(Vec::new(alloc))
+        &[]
+    }
+}
+
+fn is_first(number: u32, numbers: &[u32]) -> bool
+    ensures { result ≡ is_first number numbers.now }
+{
+    match numbers.first() {
+        Some(first) => number == *first,
+        None => false,
     }
 }
 
 /// Whether the Pdo, which reads the collection, is the first of those that become one.
-pub(crate) fn leads(blocked: &Blocked, number: u32, c: Place) -> bool
+pub(crate) fn leads(blocked: &Blocked, tables: &Tables, number: u32, c: Place) -> bool
+    requires { AreTables blocked.now tables.now }
     ensures { result ≡ leads (cut_of blocked.now) number c }
 {
-    if is_inner(blocked, c) {
+    if is_inner(blocked, tables, c) {
         false
     } else {
-        is_first_reader(number, c, blocked.graph.nodes.as_slice())
+        is_first(number, readers_of(blocked, tables, c))
     }
 }
 
 /// Whether the step of a Pdo keeps its output.
 #[tactic(auto, using(crate::proofs::Keeping::kept_inner, crate::proofs::Keeping::kept_outer))]
-pub(crate) fn keeps_output(
-    blocked: &Blocked,
-    held: &HashSet<u64>,
-    read: &HashSet<u64>,
-    number: u32,
-) -> bool
-    requires held { HasPlaces held.now (is_held blocked.now.graph) }
-    requires read { HasPlaces read.now (is_read blocked.now.graph) }
+pub(crate) fn keeps_output(blocked: &Blocked, tables: &Tables, number: u32) -> bool
+    requires { AreTables blocked.now tables.now }
     ensures { result ≡ keeps_output (cut_of blocked.now) number }
 {
     let output = Place {
         node: number,
         out: 0,
     };
-    if is_inner(blocked, output) {
-        held.contains(&code_of(output))
+    if is_inner(blocked, tables, output) {
+        tables.held.contains(&code_of(output))
     } else {
-        read.contains(&code_of(output))
+        tables.read.contains(&code_of(output))
     }
 }

@@ -1,18 +1,18 @@
 ghost use Rattle.std.specs.Prelude.{◌≡◌, ◌++◌, ◌+◌, ◌<◌, ◌^◌, [], IfOk, OnOk, Some};
 ghost use Rattle.exec_graph.specs.Forests.{Forest, Grow, after_out, grown, limb, new_out, numbered, with_out};
 ghost use Rattle.exec_graph.specs.Meaning.{node_at};
-ghost use Rattle.exec_graph.specs.Places.{HasPlaces};
-ghost use Rattle.exec_graph.specs.Readers.{is_held, is_read};
 ghost use Rattle.pardo_fuse.specs.Readers.{cut_of};
 ghost use Rattle.pardo_fuse.specs.Fusing.{blank, first_label, kids_of, step_at, step_of, trees};
 ghost use Rattle.pardo_fuse.specs.inner.Calls.{IsCall};
 ghost use Rattle.pardo_fuse.specs.inner.Naming.{IsNamed, IsTree, IsTreeNamed, kept_step, kept_trees, labels, out_names};
+ghost use Rattle.pardo_fuse.specs.inner.Tables.{AreTables};
 
 use crate::names::{Name, Naming};
 use crate::parents::{keeps_output, kids_of};
-use exec_graph::{Blocked, Does, Entry, Node, Output, Place, Step};
+use crate::tables::Tables;
+use exec_graph::{Blocked, Does, Node, Output, Place, Step};
+use node_index::find_node;
 use std::alloc::{AllocError, Global};
-use std::collections::HashSet;
 
 /// What the step of a Pdo does.
 #[derive(Clone, Copy, Debug)]
@@ -55,29 +55,30 @@ fn node_call(node: &Node) -> Call
     }
 }
 
-fn call_at(number: u32, nodes: &[Entry]) -> Call
-    ensures { IsCall result (step_of (node_at nodes.now number)) }
+fn call_at(blocked: &Blocked, tables: &Tables, number: u32) -> Call
+    requires { AreTables blocked.now tables.now }
+    ensures { IsCall result (step_of (node_at blocked.now.graph.nodes number)) }
 {
-    for e in nodes {
-        if e.number == number {
-            return node_call(&e.node);
-        }
+    match find_node(blocked.graph.nodes.as_slice(), &tables.index, number) {
+        Some(node) => node_call(node),
+        None => no_call(),
     }
-    no_call()
 }
 
 /// The step of a Pdo over these kids.
 fn step_over(
     alloc: Global,
     blocked: &Blocked,
+    tables: &Tables,
     number: u32,
     out: Option<u32>,
     kids: Vec<Step>,
 ) -> Step
+    requires { AreTables blocked.now tables.now }
     ensures { (rest : Forest) → limb result rest
         ≡ Grow (with_out out (step_at (cut_of blocked.now) number)) (grown kids.items) rest }
 {
-    let call = call_at(number, blocked.graph.nodes.as_slice());
+    let call = call_at(blocked, tables, number);
     Step::new(
         call.origin,
         call.last,
@@ -90,14 +91,12 @@ fn step_over(
 /// Gives the output of a Pdo's step the next number in the forest of `lead`, where it is kept.
 fn name_output(
     blocked: &Blocked,
-    held: &HashSet<u64>,
-    read: &HashSet<u64>,
+    tables: &Tables,
     lead: u32,
     number: u32,
     naming: &mut Naming,
 ) -> Result<Option<u32>, AllocError>
-    requires held { HasPlaces held.now (is_held blocked.now.graph) }
-    requires read { HasPlaces read.now (is_read blocked.now.graph) }
+    requires tables { AreTables blocked.now tables.now }
     requires few { naming.old.next + 1 < 2 ^ 32 }
     ensures out { IfOk result
         (λ o. o ≡ new_out naming.old.next (kept_step (cut_of blocked.now) number).out) }
@@ -106,7 +105,7 @@ fn name_output(
     ensures names { OnOk result (naming.new.names.items ≡ naming.old.names.items
         ++ out_names lead naming.old.next (kept_step (cut_of blocked.now) number).out) }
 {
-    if !keeps_output(blocked, held, read, number) {
+    if !keeps_output(blocked, tables, number) {
         return Ok(None);
     }
     let out = naming.next;
@@ -123,15 +122,13 @@ fn name_output(
 pub(crate) fn trees_of(
     alloc: Global,
     blocked: &Blocked,
-    held: &HashSet<u64>,
-    read: &HashSet<u64>,
+    tables: &Tables,
     levels: usize,
     lead: u32,
     numbers: &[u32],
     naming: &mut Naming,
 ) -> Result<Vec<Step>, AllocError>
-    requires held { HasPlaces held.now (is_held blocked.now.graph) }
-    requires read { HasPlaces read.now (is_read blocked.now.graph) }
+    requires tables { AreTables blocked.now tables.now }
     requires few { naming.old.next + labels (trees (cut_of blocked.now) levels numbers.now)
         < 2 ^ 32 }
     ensures trees { IfOk result (λ v. grown v.items ≡ numbered naming.old.next
@@ -144,16 +141,7 @@ pub(crate) fn trees_of(
         return Ok(found);
     }
     for number in numbers {
-        let tree = tree_of(
-            alloc,
-            blocked,
-            held,
-            read,
-            levels - 1,
-            lead,
-            *number,
-            naming,
-        )?;
+        let tree = tree_of(alloc, blocked, tables, levels - 1, lead, *number, naming)?;
         found.push(tree)?;
     }
     Ok(found)
@@ -164,15 +152,13 @@ pub(crate) fn trees_of(
 fn tree_of(
     alloc: Global,
     blocked: &Blocked,
-    held: &HashSet<u64>,
-    read: &HashSet<u64>,
+    tables: &Tables,
     levels: usize,
     lead: u32,
     number: u32,
     naming: &mut Naming,
 ) -> Result<Step, AllocError>
-    requires held { HasPlaces held.now (is_held blocked.now.graph) }
-    requires read { HasPlaces read.now (is_read blocked.now.graph) }
+    requires tables { AreTables blocked.now tables.now }
     requires few { naming.old.next + (1 + labels (trees (cut_of blocked.now) levels
         (kids_of (cut_of blocked.now) number))) < 2 ^ 32 }
     ensures tree { IfOk result (IsTree naming.old.next (kept_step (cut_of blocked.now) number)
@@ -181,17 +167,8 @@ fn tree_of(
         (kept_trees (cut_of blocked.now) levels (kids_of (cut_of blocked.now) number))
         naming.old.next naming.new.next naming.old.names.items naming.new.names.items) }
 {
-    let kids = kids_of(alloc, blocked, number)?;
-    let out = name_output(blocked, held, read, lead, number, naming)?;
-    let below = trees_of(
-        alloc,
-        blocked,
-        held,
-        read,
-        levels,
-        lead,
-        kids.as_slice(),
-        naming,
-    )?;
-    Ok(step_over(alloc, blocked, number, out, below))
+    let kids = kids_of(blocked, tables, number);
+    let out = name_output(blocked, tables, lead, number, naming)?;
+    let below = trees_of(alloc, blocked, tables, levels, lead, kids, naming)?;
+    Ok(step_over(alloc, blocked, tables, number, out, below))
 }

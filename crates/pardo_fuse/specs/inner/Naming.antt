@@ -1,8 +1,8 @@
 -- The names of the outputs of joined nodes: each former Pdo and where its output is then.
-use Rattle.std.specs.Prelude.{◌≡◌, ℕ, ◌+◌, ◌<◌, ◌^◌, ◌==◌, true, cond, List, [], ◌∷◌, ◌++◌, map, length, Option, Some, None, nat_eq}
+use Rattle.std.specs.Prelude.{◌≡◌, ℕ, ◌+◌, ◌<◌, ◌^◌, ◌==◌, true, cond, List, [], ◌∷◌, ◌++◌, length, Option, Some, None, nat_eq}
 use Rattle.std.specs.List.{flat_map, AllByRecursion}
 use Rattle.std.specs.HashMap.{HashMap, get}
-use Rattle.exec_graph.specs.Forests.{Forest, Bare, Grow, Label, Branch, limb, after, after_out, new_label, new_out, numbered}
+use Rattle.exec_graph.specs.Forests.{Forest, Bare, Grow, Label, Branch, limb, after, after_out, new_label, numbered}
 use Rattle.exec_graph.specs.Meaning.{place}
 use Rattle.exec_graph.specs.Readers.{readers}
 use Rattle.exec_graph.specs.declared.graph.Place.{Place}
@@ -11,7 +11,7 @@ use Rattle.exec_graph.specs.declared.graph.Node.TheVariants.{Source, Flatten, Pd
 use Rattle.exec_graph.specs.declared.graph.Entry.{Entry}
 use Rattle.graph_laws.specs.Kids.{kept_by}
 use Rattle.pardo_fuse.specs.Readers.{Cut}
-use Rattle.pardo_fuse.specs.Fusing.{forest_of, joined_nodes, keeps_output, kept_label, kids_of, leads, left_of, step_at, trees, with_numbers}
+use Rattle.pardo_fuse.specs.Fusing.{forest_of, keeps_output, kept_label, leads, step_at, trees, with_numbers}
 use Rattle.pardo_fuse.specs.declared.names.Name.{Name}
 
 -- how many outputs of steps, whether they are kept or not

@@ -1,7 +1,7 @@
 ghost use Rattle.std.specs.Prelude.{◌≡◌, ◌==◌, ◌<◌, ℕ, cond, length, nat_eq, None, Some, IfOk, OnOk, IfSome, MatchOption};
 ghost use Rattle.std.specs.HashMap.{get};
 ghost use Rattle.exec_graph.specs.Meaning.{node_at, reads};
-ghost use Rattle.fusion_blocks.specs.inner.Nodes.{IsIndex, first_index, index_from};
+ghost use Rattle.node_index.specs.Index.{IsIndex, first_index, index_from};
 
 use exec_graph::{Entry, Node, Place};
 use std::alloc::{AllocError, Global};
@@ -9,7 +9,7 @@ use std::collections::HashMap;
 use std::slice;
 
 /// Where each node stands, by its number.
-pub(crate) fn index_of(alloc: Global, nodes: &[Entry]) -> Result<HashMap<u32, usize>, AllocError>
+pub fn index_of(alloc: Global, nodes: &[Entry]) -> Result<HashMap<u32, usize>, AllocError>
     ensures { IfOk result (λ m. IsIndex m nodes.now) }
 {
     let mut index = HashMap::new(alloc);
@@ -42,7 +42,7 @@ fn spot_of(nodes: &[Entry], index: &HashMap<u32, usize>, number: u32) -> Option<
 
 /// The node of that number.
 #[tactic(auto, using(crate::proofs::Indexing::index_none))]
-pub(crate) fn find_node<'a>(
+pub fn find_node<'a>(
     nodes: &'a [Entry],
     index: &HashMap<u32, usize>,
     number: u32,
@@ -61,7 +61,7 @@ pub(crate) fn find_node<'a>(
 }
 
 /// The collections that a node reads.
-pub(crate) fn reads_of(node: &Node) -> &[Place]
+pub fn reads_of(node: &Node) -> &[Place]
     ensures { result.now ≡ reads node.now }
 {
     match node {
