@@ -2,7 +2,7 @@ use crate::graphs::{chain, diamond, first_of, read_by_all, three_between_groups,
 use crate::seen::{Call, calls, reads};
 use exec_graph::{Blocked, Graph, Place, graph_ok, size_of};
 use fusion_blocks::block;
-use pardo_fuse::{fuse, has_single_steps};
+use pardo_fuse::{fuse, has_single_outputs};
 use std::alloc::Global;
 use std::process::Abort;
 use std::test::Fail;
@@ -12,7 +12,7 @@ fn fused(alloc: Global, scales: &[u32], graph: Graph) -> Result<Blocked, Fail> {
     if !graph_ok(alloc, &graph)? {
         return Err(Fail::new("the graph is not well-formed"));
     }
-    if !has_single_steps(&graph) {
+    if !has_single_outputs(&graph) {
         return Err(Fail::new("a Pdo has more than one step"));
     }
     let blocked = block(alloc, scales, graph)?;
