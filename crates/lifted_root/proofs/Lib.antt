@@ -1,3 +1,0 @@
-pub mod Lifting
-pub mod Groups
-pub mod Finishing
