@@ -15,7 +15,8 @@ use Rattle.graph_laws.specs.Joining.{reread}
 use Rattle.graph_laws.specs.Kids.{kept_by}
 use Rattle.pardo_fuse.specs.Fusing.{finished, first_label, forest_of, fused, fused_by, joined_nodes, keeps_output, kids_of, leads, left_of, new_place, planted, step_at, step_of, trees, with_numbers}
 use Rattle.pardo_fuse.specs.Readers.{Cut, cut_of}
-use Rattle.pardo_fuse.specs.Wellformed.{HasOneOutput, IsFusible}
+use Rattle.graph_laws.specs.Single.{HasSteps, IsOneOutput}
+use Rattle.pardo_fuse.specs.Wellformed.{IsFusible}
 use Rattle.plan_rules.specs.Fitting.{HasFewOutputs, HasSourcesBelow, IsInBounds, IsNarrow, IsSourceBelow}
 
 -- each label is the first of its step
@@ -44,7 +45,7 @@ numbered_first n (Grow l kids rest) h = (
 -- ---- trees
 
 abbrev AreSingle : List Entry → Type 0
-AreSingle es = AllByRecursion (λ e. HasOneOutput e.node) es
+AreSingle es = AllByRecursion (λ e. HasSteps IsOneOutput e.node) es
 
 step_first : (es : List Entry) (n : ℕ) (o : Option Node) → AreSingle es → node_at es n ≡ o
     → (step_of o).at ≡ 0
@@ -53,7 +54,7 @@ step_first es n (Some (Source r)) a h = refl
 step_first es n (Some (Flatten ins)) a h = refl
 step_first es n (Some (Gbk c o l k)) a h = refl
 step_first es n (Some (Pdo c f)) a h =
-    let one = all_found (λ e. HasOneOutput e.node) es n (Pdo c f) h a in
+    let one = all_found (λ e. HasSteps IsOneOutput e.node) es n (Pdo c f) h a in
     ap (λ (x : Forest). (first_label x).at) one.alone ∙ one.first
 
 planted_first : (l : ℕ → Label) (f : ℕ → Forest) (ns : List ℕ) → ((n : ℕ) → (l n).at ≡ 0)

@@ -1,7 +1,12 @@
 -- What the passes of the optimiser give in order.
-use Rattle.std.specs.Prelude.{◌≡◌, ℕ, List}
+use Rattle.std.specs.Prelude.{◌≡◌, ℕ, ◌+◌, List, [], ◌∷◌}
 use Rattle.exec_graph.specs.declared.graph.Blocked.{Blocked}
+use Rattle.exec_graph.specs.declared.graph.Entry.{Entry}
 use Rattle.exec_graph.specs.declared.graph.Graph.{Graph}
+use Rattle.exec_graph.specs.declared.graph.Node.{Node}
+use Rattle.exec_graph.specs.declared.graph.Node.TheVariants.{Source, Flatten, Pdo, Gbk}
+use Rattle.exec_plan.specs.declared.plan.Plan.{Plan}
+use Rattle.form_laws.specs.Formed.{IsFormed}
 use Rattle.fusion_blocks.specs.Blocks.{IsBlocked}
 use Rattle.graph_laws.specs.Lifting.{lifted}
 use Rattle.pardo_fuse.specs.Fusing.{fused}
@@ -16,3 +21,21 @@ pub record IsRefined (scales : List ℕ) (g : Graph) (refined : Blocked) : Type 
   pub is_lifted : blocked.graph ≡ lifted sunk
   pub is_blocked : IsBlocked scales blocked
   pub is_fused : refined ≡ fused blocked
+
+-- how many sources a graph has
+abbrev pub source_count_at : Node → ℕ
+source_count_at (Source r) = 1
+source_count_at (Flatten ins) = 0
+source_count_at (Pdo c f) = 0
+source_count_at (Gbk c o l k) = 0
+
+abbrev pub source_count : List Entry → ℕ
+source_count [] = 0
+source_count (e ∷ es) = source_count_at e.node + source_count es
+
+-- The plan that is formed of the graph after all other passes, over as many sources as it has.
+pub record IsOptimised (scales : List ℕ) (g : Graph) (p : Plan) : Type 0 where
+  pub refined : Blocked
+  pub is_refined : IsRefined scales g refined
+  pub is_formed : IsFormed refined p
+  pub sources : p.sources ≡ source_count g.nodes

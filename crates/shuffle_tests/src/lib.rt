@@ -6,5 +6,3 @@
 mod parts;
 #[cfg(test)]
 mod ranges;
-#[cfg(test)]
-mod tables;

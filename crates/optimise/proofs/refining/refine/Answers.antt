@@ -1,15 +1,20 @@
-use Rattle.std.proofs.Common.{subst, sym}
+use Rattle.std.proofs.Common.{ℕ, ◌<◌, ◌^◌, subst, sym}
 use Rattle.exec_graph.specs.Meaning.{SameMeaning}
+use Rattle.exec_graph.specs.Typing.{KeepsTypes}
 use Rattle.exec_graph.specs.declared.graph.Graph.{Graph}
+use Rattle.exec_graph.specs.declared.graph.Blocked.{Blocked}
 use Rattle.graph_laws.specs.Single.{HasSingleOutputs}
-use Rattle.optimise.proofs.Passes.{SameMeaning-then, fusible}
+use Rattle.pardo_fuse.specs.Wellformed.{IsFusible}
+use Rattle.plan_rules.specs.Fitting.{HasSourcesBelow, IsInBounds}
+use Rattle.optimise.proofs.Passes.{SameMeaning-then}
 use Rattle.optimise.proofs.refining.refine.Goals as goal
 
 pub fuse-requires : goal.fuse-requires
-fuse-requires c =
-    fusible c.in_ok-blocked.blocked c.in_ok-blocked.ensures.well_formed
-    (subst HasSingleOutputs (sym c.in_ok-blocked.ensures.same)
-    (c.in_ok-lifted.ensures.single (c.in_ok-sunk.ensures.single c.requires.single)))
+fuse-requires c = record {
+  ok = c.in_ok-blocked.ensures.well_formed;
+  single = subst HasSingleOutputs (sym c.in_ok-blocked.ensures.same)
+      (c.in_ok-lifted.ensures.single (c.in_ok-sunk.ensures.single c.requires.single));
+}
 
 pub returns-clause-same : goal.returns-clause-same
 returns-clause-same c =
@@ -19,3 +24,33 @@ returns-clause-same c =
     c.in_ok-lifted.ensures.same
     (subst (λ (g : Graph). SameMeaning g c.in_ok-fused.fused.graph)
     c.in_ok-blocked.ensures.same c.in_ok-fused.ensures.same))
+
+pub returns-clause-types : goal.returns-clause-types
+returns-clause-types c = λ s typed.
+    c.in_ok-fused.ensures.types s
+    (subst (λ (g : Graph). KeepsTypes c.in_ok-lifted.lifted g)
+    (sym c.in_ok-blocked.ensures.same) (λ s t. t) s
+    (c.in_ok-lifted.ensures.types s (c.in_ok-sunk.ensures.types s typed)))
+
+pub returns-clause-bounds : goal.returns-clause-bounds
+returns-clause-bounds c = λ sources below.
+    let b : Blocked = c.in_ok-blocked.blocked in
+    let d : Blocked = c.in_ok-fused.fused in
+    let can : IsFusible b = record {
+      ok = c.in_ok-blocked.ensures.well_formed;
+      single = subst HasSingleOutputs (sym c.in_ok-blocked.ensures.same)
+          (c.in_ok-lifted.ensures.single (c.in_ok-sunk.ensures.single c.requires.single));
+    } in
+    let sunk : HasSourcesBelow sources c.in_ok-sunk.sunk =
+    c.sources_law.ensures.sunk sources c.args.graph c.in_ok-sunk.sunk c.in_ok-sunk.ensures.sunk
+    below in
+    let lifted : HasSourcesBelow sources c.in_ok-lifted.lifted =
+    subst (λ (g : Graph). HasSourcesBelow sources g) (sym c.in_ok-lifted.ensures.lifted)
+    (c.sources_law.ensures.lifted sources c.in_ok-sunk.sunk sunk) in
+    let blocked : HasSourcesBelow sources b.graph =
+    subst (λ (g : Graph). HasSourcesBelow sources g) (sym c.in_ok-blocked.ensures.same) lifted in
+    let small : d.graph.next < 2 ^ 32 =
+    subst (λ (n : ℕ). n < 2 ^ 32) c.next_number-next.ensures.same c.next_number-next.ensures.small in
+    subst (λ (x : Blocked). IsInBounds sources x.graph) (sym c.in_ok-fused.ensures.fused)
+    (c.bounds_law.ensures sources b can blocked
+    (subst (λ (x : Blocked). x.graph.next < 2 ^ 32) c.in_ok-fused.ensures.fused small))

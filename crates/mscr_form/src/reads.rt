@@ -1,0 +1,120 @@
+ghost use Rattle.std.specs.Prelude.{◌≡◌, ◌++◌, map, IfOk, OnOk};
+ghost use Rattle.exec_graph.specs.Meaning.{node_at};
+ghost use Rattle.exec_graph.specs.Places.{HasAlso, HasPlaces};
+ghost use Rattle.exec_graph.specs.Readers.{among};
+ghost use Rattle.node_index.specs.Index.{IsIndex};
+ghost use Rattle.plan_laws.specs.Operations as operations;
+
+use exec_graph::{Entry, Node, Place, add_place};
+use flume_value::Pile;
+use node_index::find_node;
+use plan_laws::{Key, Operation};
+use std::alloc::{AllocError, Global};
+use std::collections::{HashMap, HashSet};
+
+/// What an input channel reads.
+fn key_reads(nodes: &[Entry], index: &HashMap<u32, usize>, key: Key) -> Place
+    requires { IsIndex index.now nodes.now }
+    ensures { result ≡ (operations.channel_of nodes.now key).reads }
+{
+    match key {
+        Key::Whole(c) => c,
+        Key::Mapper(number) => match find_node(nodes, index, number) {
+            Some(Node::Pdo(c, _)) => *c,
+            _ => Place {
+                node: number,
+                out: 0,
+            },
+        },
+    }
+}
+
+fn keys_read(
+    alloc: Global,
+    nodes: &[Entry],
+    index: &HashMap<u32, usize>,
+    keys: &[Key],
+) -> Result<Pile<Place>, AllocError>
+    requires { IsIndex index.now nodes.now }
+    ensures { IfOk result (λ cs. cs
+        ≡ map (λ c. c.reads) (operations.channels_of nodes.now keys.now)) }
+{
+    let mut all = Pile::new(alloc);
+    for key in keys {
+        all.push(key_reads(nodes, index, *key))?;
+    }
+    Ok(all)
+}
+
+/// The inputs of a Flatten.
+fn flatten_reads(
+    alloc: Global,
+    nodes: &[Entry],
+    index: &HashMap<u32, usize>,
+    number: u32,
+) -> Result<Pile<Place>, AllocError>
+    requires { IsIndex index.now nodes.now }
+    ensures { IfOk result (λ cs. cs ≡ operations.flat_inputs (node_at nodes.now number)) }
+{
+    match find_node(nodes, index, number) {
+        Some(Node::Flatten(inputs)) => {
+            let copied = Vec::from_slice(alloc, inputs.as_slice())?;
+            Ok(Pile::from_vec(copied))
+        }
+        _ => Ok(Pile::new(alloc)),
+    }
+}
+
+/// The collections of the graph that an operation reads.
+pub(crate) fn reads_of(
+    alloc: Global,
+    nodes: &[Entry],
+    index: &HashMap<u32, usize>,
+    operation: &Operation,
+) -> Result<Pile<Place>, AllocError>
+    requires { IsIndex index.now nodes.now }
+    ensures { IfOk result (λ cs. cs ≡ operations.reads_of nodes.now operation.now) }
+{
+    match operation {
+        Operation::Flat(number) => flatten_reads(alloc, nodes, index, *number),
+        Operation::Class(keys, _, _) => keys_read(alloc, nodes, index, keys.as_slice()),
+    }
+}
+
+/// Adds what a source gives.
+fn add_source(entry: &Entry, places: &mut HashSet<u64>) -> Result<(), AllocError>
+    ensures { OnOk result (HasAlso places.old places.new
+        (λ d. among d (operations.source_place entry.now.number entry.now.node))) }
+{
+    match &entry.node {
+        Node::Source(_) => add_place(
+            Place {
+                node: entry.number,
+                out: 0,
+            },
+            places,
+        ),
+        Node::Flatten(_) | Node::Pdo(_, _) | Node::Gbk(_, _, _, _) => Ok(()),
+    }
+}
+
+/// What the sources give.
+pub(crate) fn sources_of(alloc: Global, nodes: &[Entry]) -> Result<HashSet<u64>, AllocError>
+    ensures { IfOk result (λ s. HasPlaces s (λ d. among d (operations.source_places nodes.now))) }
+{
+    let mut places = HashSet::new(alloc);
+    for entry in nodes {
+        add_source(entry, &mut places)?;
+    }
+    Ok(places)
+}
+
+/// Adds these collections.
+pub(crate) fn add_places(cs: &[Place], places: &mut HashSet<u64>) -> Result<(), AllocError>
+    ensures { OnOk result (HasAlso places.old places.new (λ d. among d cs.now)) }
+{
+    for c in cs {
+        add_place(*c, places)?;
+    }
+    Ok(())
+}

@@ -1,0 +1,98 @@
+-- The sources of a script's graph are numbered below their count.
+use Rattle.std.proofs.Common.{◌≡◌, ℕ, suc, ◌+◌, ◌<◌, ◌≤◌, List, [], ◌∷◌, ◌++◌, Option, Some, None, refl, sym, subst, arith}
+use Rattle.std.specs.List.{AllByRecursion}
+use Rattle.flume_value.proofs.EachLemmas.{Each-append, Each-weaker}
+use Rattle.exec_graph.specs.declared.graph.Entry.{Entry}
+use Rattle.exec_graph.specs.declared.graph.Node.{Node}
+use Rattle.exec_graph.specs.declared.graph.Node.TheVariants.{Source, Flatten, Pdo, Gbk}
+use Rattle.exec_graph.specs.declared.graph.Place.{Place}
+use Rattle.graph_build.specs.Graphs.{behind, giving, graph_of, next_source, nodes_at, nodes_from, place_in}
+use Rattle.graph_build.specs.Nodes.{made_nodes}
+use Rattle.graph_build.specs.Wanted.{wanted}
+use Rattle.optimise.specs.Optimised.{source_count, source_count_at}
+use Rattle.plan_rules.specs.Fitting.{HasSourcesBelow, IsSourceBelow}
+use Rattle.script_check.specs.declared.made.Made.{Made}
+use Rattle.script_check.specs.declared.made.Made.TheVariants as made
+use Rattle.script_check.specs.Script.{Script}
+
+abbrev Below : ℕ → List Entry → Type 0
+Below m es = AllByRecursion (λ e. IsSourceBelow m e.node) es
+
+node_below : (m n : ℕ) (x : Node) → m ≤ n → IsSourceBelow m x → IsSourceBelow n x
+node_below m n (Source r) le h = omega arith
+node_below m n (Flatten ins) le h = tt
+node_below m n (Pdo c f) le h = tt
+node_below m n (Gbk c o l k) le h = tt
+
+all_below_more : (m n : ℕ) (es : List Entry) → m ≤ n → Below m es → Below n es
+all_below_more m n es le h =
+    Each-weaker (λ (e : Entry). IsSourceBelow m e.node) (λ (e : Entry). IsSourceBelow n e.node)
+    (λ e below. node_below m n e.node le below) es h
+
+count_append : (xs ys : List Entry) → source_count (xs ++ ys) ≡ source_count xs + source_count ys
+count_append [] ys = omega arith
+count_append (x ∷ xs) ys =
+    let e = count_append xs ys in
+    omega arith
+
+module _ (gives : ℕ → Place) where
+  block_below : (origin source n : ℕ) (mk : Made)
+      → Below (source + source_count (made_nodes gives origin source n mk))
+      (made_nodes gives origin source n mk)
+  block_below origin source n (made.Input file columns) = (omega arith, tt)
+  block_below origin source n (made.Do input f output) = (tt, tt)
+  block_below origin source n (made.Group input) = (tt, tt)
+  block_below origin source n (made.Combine input k) = (tt, tt)
+  block_below origin source n (made.Flatten inputs) = (tt, tt)
+  block_below origin source n (made.Count input) = (tt, (tt, (tt, tt)))
+  block_below origin source n (made.Join left right) =
+      (tt, (tt, (tt, (tt, (tt, tt)))))
+  block_below origin source n (made.Top many input) = (tt, (tt, (tt, (tt, tt))))
+
+  block_next : (origin source n : ℕ) (mk : Made)
+      → next_source source (Some mk) ≡ source + source_count (made_nodes gives origin source n mk)
+  block_next origin source n (made.Input file columns) = refl
+  block_next origin source n (made.Do input f output) = refl
+  block_next origin source n (made.Group input) = refl
+  block_next origin source n (made.Combine input k) = refl
+  block_next origin source n (made.Flatten inputs) = refl
+  block_next origin source n (made.Count input) = refl
+  block_next origin source n (made.Join left right) = refl
+  block_next origin source n (made.Top many input) = refl
+
+  part_below : (origin source n : ℕ) (w : Option Made)
+      → Below (source + source_count (nodes_at gives origin source n w))
+      (nodes_at gives origin source n w)
+  part_below origin source n None = tt
+  part_below origin source n (Some mk) = block_below origin source n mk
+
+  part_next : (origin source n : ℕ) (w : Option Made)
+      → next_source source w ≡ source + source_count (nodes_at gives origin source n w)
+  part_next origin source n None = omega arith
+  part_next origin source n (Some mk) = block_next origin source n mk
+
+  all_below : (origin source n : ℕ) (ws : List (Option Made))
+      → Below (source + source_count (nodes_from gives origin source n ws))
+      (nodes_from gives origin source n ws)
+  all_below origin source n [] = tt
+  all_below origin source n (w ∷ ws) =
+      let block : List Entry = nodes_at gives origin source n w in
+      let rest : List Entry =
+      nodes_from gives (suc origin) (next_source source w) (behind n w) ws in
+      let e : source_count (block ++ rest) ≡ source_count block + source_count rest
+      = count_append block rest in
+      let next : next_source source w ≡ source + source_count block
+      = part_next origin source n w in
+      let all : ℕ = source + source_count (block ++ rest) in
+      Each-append (λ (x : Entry). IsSourceBelow all x.node) block rest
+      (all_below_more (source + source_count block) all block (omega arith)
+      (part_below origin source n w))
+      (all_below_more (next_source source w + source_count rest) all rest (omega arith)
+      (all_below (suc origin) (next_source source w) (behind n w) ws))
+
+pub sources_below : (script : Script)
+    → HasSourcesBelow (source_count (graph_of script).nodes) (graph_of script)
+sources_below script =
+    let es : List Entry = (graph_of script).nodes in
+    let e : 0 + source_count es ≡ source_count es = omega arith in
+    subst (λ (m : ℕ). Below m es) e (all_below (place_in (giving script)) 0 0 0 (wanted script))

@@ -1,0 +1,23 @@
+use Rattle.std.proofs.Common.{subst, sym}
+use Rattle.exec_graph.specs.declared.graph.Graph.{Graph}
+use Rattle.exec_graph.specs.World.{World}
+use Rattle.graph_laws.specs.Single.{HasSingleOutputs}
+use Rattle.optimise.specs.Optimised.{source_count}
+use Rattle.plan_laws.specs.Operations.{SamePlan}
+use Rattle.plan_rules.specs.Fitting.{HasSourcesBelow}
+use Rattle.script_plans.proofs.Sourced.{sources_below}
+use Rattle.script_plans.proofs.plans.plan_of.Goals as goal
+
+pub optimise-requires : goal.optimise-requires
+optimise-requires c = record {
+  ok = c.requires.ok;
+  single = subst HasSingleOutputs (sym c.requires.built)
+      (c.one_step_law.ensures.single c.args.program.now.script);
+  sources = subst (λ (g : Graph). HasSourcesBelow (source_count g.nodes) g)
+      (sym c.requires.built) (sources_below c.args.program.now.script);
+}
+
+pub returns-clause-same : goal.returns-clause-same
+returns-clause-same c = λ w.
+    subst (λ (g : Graph). SamePlan w g c.in_ok-plan.plan) c.requires.built
+    (c.in_ok-plan.ensures.same w)

@@ -1,0 +1,30 @@
+ghost use Rattle.std.specs.Prelude.{◌≡◌, IfOk};
+ghost use Rattle.exec_graph.specs.Wellformed.{IsGraphOk};
+ghost use Rattle.exec_graph.specs.World.{World};
+ghost use Rattle.exec_plan.specs.Wellformed.{IsPlanOk};
+ghost use Rattle.graph_build.specs.Graphs.{graph_of};
+ghost use Rattle.plan_laws.specs.Operations.{SamePlan};
+ghost use Rattle.script_plans.specs.Plans.{IsScriptPlan};
+
+use crate::scales::scales_of;
+use build_law::one_step_law;
+use exec_graph::Graph;
+use exec_plan::Plan;
+use optimise::optimise;
+use script_check::Program;
+use std::alloc::{AllocError, Global};
+
+/// The plan of a program, whose execution graph this is.
+pub fn plan_of(alloc: Global, program: &Program, graph: Graph) -> Result<Plan, AllocError>
+    requires built { graph ≡ graph_of program.now.script }
+    requires ok { IsGraphOk graph }
+    ensures optimised { IfOk result (λ plan. IsScriptPlan program.now.script plan) }
+    ensures same { IfOk result (λ plan. (w : World) →
+        SamePlan w (graph_of program.now.script) plan) }
+    ensures well_formed { IfOk result (λ plan. IsPlanOk plan) }
+{
+    one_step_law();
+    let scales = scales_of(alloc, program)?;
+    let plan = optimise(alloc, scales.as_slice(), graph)?;
+    Ok(plan)
+}
