@@ -1,5 +1,4 @@
-//! Tests of the tables of accumulators, of the shards and of the parts that are shuffled, by their
-//! public calls alone.
+//! Tests of the shards and of the parts that are shuffled, by their public calls alone.
 #![tactic(auto)]
 
 #[cfg(test)]
