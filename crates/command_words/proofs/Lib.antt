@@ -1,0 +1,3 @@
+pub mod OperandLemmas
+pub mod GrammarLemmas
+pub mod AnswerLemmas

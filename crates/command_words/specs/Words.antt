@@ -1,9 +1,55 @@
--- The words of a command line.
-use Rattle.std.specs.Prelude.{ℕ, Bool, false, not, ◌==◌, List, [], ◌∷◌, Option, Some, None, codes, if◌then◌else◌, option_and_then}
+-- What the words of a command line ask for: by the definitions of `clap`, of the commands that
+-- `flume` has.
+use Rattle.std.specs.Prelude.{ℕ, Bool, true, false, not, ◌==◌, List, [], ◌∷◌, Option, Some, None, codes, if◌then◌else◌, option_and_then, unwrap_or}
+use Rattle.std.specs.Option.{option_map_or}
 use Rattle.std.specs.Str.{bytes_eq}
+use Rattle.clap.specs.Words.{App, Row, Rule, Shape, Text, fault_of, first_of, new_app, new_rule, subcommand_of, with_rule, with_subcommand}
+use Rattle.clap.specs.Walk.{is_empty}
+use Rattle.clap.specs.declared.builder.action.ArgAction.TheVariants.{Set, SetTrue}
 use Rattle.command_words.specs.declared.words.Command.{Command}
 use Rattle.command_words.specs.declared.words.Command.TheVariants.{Check, Plan, Direct, Run}
-use Rattle.command_words.specs.declared.words.PlanForm.TheVariants.{Text, Json}
+use Rattle.command_words.specs.declared.words.PlanForm.{PlanForm}
+use Rattle.command_words.specs.declared.words.PlanForm.TheVariants.{Text as AsText, Json}
+
+-- ---- the command line
+
+-- the script, by its place
+abbrev pub script_rule : Rule
+script_rule = record (new_rule (codes "script")) { required = true; action = Some Set }
+
+-- the flag `--json`
+abbrev pub json_rule : Rule
+json_rule = record (new_rule (codes "json")) { long = Some (codes "json"); action = Some SetTrue }
+
+-- a command that takes a script
+abbrev pub script_app : Text → App
+script_app name = with_rule (new_app name) script_rule
+
+-- the command `plan`, which takes a flag too
+abbrev pub plan_app : App
+plan_app = with_rule (script_app (codes "plan")) json_rule
+
+-- the program's own settings: a command has to come, and there is no help to ask for
+abbrev pub asking_for_command : Shape → Shape
+asking_for_command s = record s {
+  subcommand_required = true;
+  disable_help_flag = true;
+  disable_help_subcommand = true;
+}
+
+abbrev pub program_app : App
+program_app = record { top = asking_for_command (new_app (codes "flume")).top; subs = [] }
+
+-- the program, with its four commands
+abbrev pub flume_app : App
+flume_app =
+    with_subcommand
+    (with_subcommand
+    (with_subcommand (with_subcommand program_app (script_app (codes "check")).top) plan_app.top)
+    (script_app (codes "direct")).top)
+    (script_app (codes "run")).top
+
+-- ---- what is asked for
 
 -- the code of `-`, with which options begin
 abbrev pub dash : ℕ
@@ -13,15 +59,6 @@ dash = 45
 abbrev pub is_operand : List ℕ → Bool
 is_operand [] = false
 is_operand (first ∷ rest) = not (first == dash)
-
--- the command of a word
-abbrev pub command_of : List ℕ → Option Command
-command_of word =
-    if bytes_eq word (codes "check") then Some Check
-    else if bytes_eq word (codes "plan") then Some (Plan Text)
-    else if bytes_eq word (codes "direct") then Some Direct
-    else if bytes_eq word (codes "run") then Some Run
-    else None
 
 -- what is asked for: a command, and the name of a script
 pub record Asked : Type 0 where
@@ -33,18 +70,32 @@ abbrev pub asking : Command → List ℕ → Option Asked
 asking command script =
     if is_operand script then Some (record { command = command; script = script }) else None
 
--- the plan as JSON of the script that one of two words names, where the other is the option
-abbrev pub as_json : List ℕ → List ℕ → Option Asked
-as_json first second =
-    if bytes_eq first (codes "--json") then asking (Plan Json) second
-    else if bytes_eq second (codes "--json") then asking (Plan Json) first
+-- how a plan is shown, by the flag's text
+abbrev pub form_of : Option Text → PlanForm
+form_of flag = if option_map_or (λ text. bytes_eq text (codes "true")) flag false then Json else
+    AsText
+
+-- the command of a name, with the flag's text
+abbrev pub command_of : Text → Option Text → Option Command
+command_of name flag =
+    if bytes_eq name (codes "check") then Some Check
+    else if bytes_eq name (codes "plan") then Some (Plan (form_of flag))
+    else if bytes_eq name (codes "direct") then Some Direct
+    else if bytes_eq name (codes "run") then Some Run
     else None
 
--- what the words ask for: behind the program's name stand a command and a script, and for `plan`
--- maybe the option, before the script or behind it
-abbrev pub asked_for : List (List ℕ) → Option Asked
-asked_for (program ∷ command ∷ script ∷ []) =
-    option_and_then (λ command. asking command script) (command_of command)
-asked_for (program ∷ command ∷ first ∷ second ∷ []) =
-    if bytes_eq command (codes "plan") then as_json first second else None
-asked_for words = None
+-- what a command that was met asks for, with the matches of its own arguments; a script that has no
+-- value is the empty word
+abbrev pub asked_at : Text → List Row → Option Asked
+asked_at name rows = option_and_then
+    (λ command. asking command (unwrap_or (first_of (codes "script") rows) []))
+    (command_of name (first_of (codes "json") rows))
+
+-- what the matches of the command line ask for
+abbrev pub asked_of : Option (Text × List Row) → Option Asked
+asked_of met = option_and_then (λ p. asked_at p.0 p.1) met
+
+-- what the words ask for: nothing where `clap` refuses them, and else what their matches say
+abbrev pub asked_for : List Text → Option Asked
+asked_for words =
+    if is_empty (fault_of flume_app words) then asked_of (subcommand_of flume_app words) else None

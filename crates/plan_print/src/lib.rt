@@ -11,4 +11,5 @@ mod names;
 mod steps;
 
 pub use graphs::graph_text;
-pub use steps::push_combiner;
+pub use names::node_name;
+pub use steps::{push_combiner, push_step};

@@ -5,8 +5,8 @@ use itoa::Buffer;
 use script_check::Program;
 use std::alloc::AllocError;
 
-/// The name of the collection of a number.
-pub(crate) fn node_name(program: &Program, number: usize) -> &[u8]
+/// The name of the collection of a number, or no byte where it has none.
+pub fn node_name(program: &Program, number: usize) -> &[u8]
     ensures { result.now ≡ name_at program.now.script.nodes number }
 {
     if number < program.node_count() {

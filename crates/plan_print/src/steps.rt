@@ -45,8 +45,8 @@ fn push_does(text: &mut Vec<u8>, program: &Program, does: Does) -> Result<(), Al
     }
 }
 
-/// Adds a step of a collection.
-pub(crate) fn push_step(
+/// Adds a step of a collection: the name of the collection, and what the step does.
+pub fn push_step(
     text: &mut Vec<u8>,
     program: &Program,
     origin: u32,

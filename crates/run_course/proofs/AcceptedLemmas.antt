@@ -1,6 +1,5 @@
 -- Bytes are accepted as one script or refused for one reason, and not both.
 use Rattle.std.proofs.Common.{◌≡◌, ℕ, Bool, true, false, inl, inr, Ok, Err, List, sym, ap, ◌∙◌, subst}
-use Rattle.std.specs.Prelude.{IsFalse, IsTrue}
 use Rattle.flume_grammar.proofs.Answered.{one_ast, one_refusal, not_both as parse_not_both}
 use Rattle.flume_grammar.specs.declared.fault.ScriptFault.TheVariants as fault
 use Rattle.flume_grammar.specs.declared.fault.ScriptKind.{ScriptKind}
@@ -8,8 +7,7 @@ use Rattle.flume_grammar.specs.declared.tree.Ast.{Ast}
 use Rattle.script_check.specs.Rules.{script_of}
 use Rattle.script_check.specs.Script.{Script}
 use Rattle.written_types.specs.Answer.{Checked}
-use Rattle.run_course.specs.Accepted.{Accepted, IsRefusedBy, Refused, is_taken}
-use Rattle.run_course.specs.declared.words.Command.{Command}
+use Rattle.run_course.specs.Accepted.{Accepted, Refused}
 
 -- ---- one answer of the checker
 
@@ -60,30 +58,3 @@ one_reason bytes n m j k (inr first) (inr second) =
     let trees : first.0 ≡ second.0 = one_ast bytes first.0 second.0 first.1 second.1 in
     same_fault (script_of first.0.statements) n m j k first.2
     (ap (λ (ast : Ast). script_of ast.statements) trees ∙ second.2)
-
--- ---- what a command takes
-
-not_true_and_false : (b : Bool) → IsTrue b → IsFalse b → ⊥
-not_true_and_false true holds fails = cc
-not_true_and_false false holds fails = cc
-
-pub taken_not_refused : (command : Command) (bytes : List ℕ) (script : Script) (line : ℕ)
-    (kind : ScriptKind) → Accepted bytes script → IsTrue (is_taken command script)
-    → IsRefusedBy command bytes line kind → ⊥
-taken_not_refused command bytes script line kind accepted taken (inl refused) =
-    not_both bytes script line kind accepted refused
-taken_not_refused command bytes script line kind accepted taken (inr other) =
-    let same : other.0 ≡ script = accepted_once bytes other.0 script other.1 accepted in
-    not_true_and_false (is_taken command script) taken
-    (subst (λ (s : Script). IsFalse (is_taken command s)) same other.2)
-
-pub one_reason_by : (command : Command) (bytes : List ℕ) (n m : ℕ) (j k : ScriptKind)
-    → IsRefusedBy command bytes n j → IsRefusedBy command bytes m k → (n ≡ m) × (j ≡ k)
-one_reason_by command bytes n m j k (inl first) (inl second) =
-    one_reason bytes n m j k first second
-one_reason_by command bytes n m j k (inl first) (inr second) =
-    absurd (not_both bytes second.0 n j second.1 first)
-one_reason_by command bytes n m j k (inr first) (inl second) =
-    absurd (not_both bytes first.0 m k first.1 second)
-one_reason_by command bytes n m j k (inr first) (inr second) =
-    (first.3 ∙ sym second.3, first.4 ∙ sym second.4)

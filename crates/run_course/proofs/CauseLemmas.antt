@@ -1,6 +1,6 @@
 -- The cause of each answer, from the causes of its parts.
 use Rattle.std.proofs.Common.{◌≡◌, ℕ, ◌≤◌, inl, inr, List, ◌∷◌, ◌++◌, Option, Result, Ok, Err, sym, refl, subst, arith}
-use Rattle.std.specs.Prelude.{IfOk, IsTrue, OnOk}
+use Rattle.std.specs.Prelude.{IfOk}
 use Rattle.direct_meaning.specs.Direct.{traps_of}
 use Rattle.direct_meaning.specs.Inputs.{Wanted, inputs_of}
 use Rattle.flume_collection.specs.Traps.{IsLeast}
@@ -24,7 +24,6 @@ use Rattle.script_laws.proofs.RuleLemmas.{well-formed}
 use Rattle.script_laws.specs.WellFormed.{IsWellFormed}
 use Rattle.script_check.specs.Script.{Script}
 use Rattle.written_types.specs.Answer.{Gives as Checks}
-use Rattle.run_course.specs.Accepted.{is_taken}
 use Rattle.run_course.specs.Answers.{Answers, IsCause, IsRefused, MayTell}
 use Rattle.run_course.specs.Asked.{AllHaveRows, AskFor, IsAbove, IsAskedFor, IsMissing, IsTurnOf, Loads, Reads, inputs_read}
 use Rattle.run_course.specs.World.{World}
@@ -33,8 +32,8 @@ use Rattle.run_course.specs.declared.limits.TheConstants.{SCRIPT_LIMIT, INPUT_LI
 use Rattle.run_course.specs.declared.stop.Stop.{Stop}
 use Rattle.run_course.specs.declared.stop.Stop.TheVariants as stop
 use Rattle.run_course.specs.declared.stop.Trapped.{Trapped}
-use Rattle.run_course.specs.declared.words.Command.{Command}
-use Rattle.run_course.specs.declared.words.Command.TheVariants.{Check, Plan, Direct, Run}
+use Rattle.command_words.specs.declared.words.Command.{Command}
+use Rattle.command_words.specs.declared.words.Command.TheVariants.{Check, Plan, Direct, Run}
 use Rattle.run_course.specs.inner.Course.{Delivers, HasTrap, IsCommandStop, IsEvaluating, IsInputCause, IsInputsCause, IsLoaded, IsMeaningStop, IsReady, IsScriptCause, IsScriptFault, IsStopped, IsTrapped}
 use Rattle.run_course.proofs.NameLemmas.{script_ready}
 
@@ -88,7 +87,7 @@ pub script_cause : (words : Words) (before after : SeenSource) (command : Comman
     (status : Status) → AskFor words command name → IsScriptCause before after name status
     → IsCause words before after status
 script_cause words before after command name (ScriptRefused line kind) asked cause =
-    (command, name, cause.0, asked, cause.1, inl cause.2)
+    (command, name, cause.0, asked, cause.1, cause.2)
 script_cause words before after command name (NoFile other) asked cause = (
   SCRIPT_LIMIT,
   script_asked_for words before.told command name other SCRIPT_LIMIT asked cause.0 refl,
@@ -212,22 +211,20 @@ IsAt words told command name script =
     AskFor words command name × IsLoaded told name script
 
 reads : (words : Words) (told : Option (List NamedBytes)) (command : Command) (name : List ℕ)
-    (script : Script) → IsAt words told command name script → IsTrue (is_taken command script)
-    → Reads words told command script
-reads words told command name script at taken =
-    (name, at.1.0, at.0, at.1.1, at.1.2, taken)
+    (script : Script) → IsAt words told command name script → Reads words told command script
+reads words told command name script at = (name, at.1.0, at.0, at.1.1, at.1.2)
 
 pub written : (words : Words) (told : Option (List NamedBytes)) (command : Command)
     (name : List ℕ) (script : Script) (files : List NamedBytes) (text : List ℕ)
-    → IsAt words told command name script → IsTrue (is_taken command script)
-    → Writes command told script files text → IsWritten words told files text
-written words told command name script files text at taken writes =
-    (command, script, reads words told command name script at taken, writes)
+    → IsAt words told command name script → Writes command told script files text
+    → IsWritten words told files text
+written words told command name script files text at writes =
+    (command, script, reads words told command name script at, writes)
 
 may_tell : (command : Command) (traps : List TrapOf) (trap : TrapOf) → IsEvaluating command
     → IsLeast traps trap → MayTell command traps trap
 may_tell Check traps trap evaluating least = absurd evaluating
-may_tell Plan traps trap evaluating least = absurd evaluating
+may_tell (Plan form) traps trap evaluating least = absurd evaluating
 may_tell Direct traps trap evaluating least = least
 may_tell Run traps trap evaluating least = least.0
 
@@ -239,13 +236,10 @@ command_cause : (words : Words) (before middle after : SeenSource) (command : Co
     → IsCause words before after status
 command_cause words before middle after command name script status at told later (inl memory) =
     subst (λ (s : Status). IsCause words before after s) (sym memory) tt
-command_cause words before middle after command name script status at told later (inr (inl other)) =
-    subst (λ (s : Status). IsCause words before after s) (sym other.1)
-    (command, name, at.1.0, at.0, at.1.1, inr (script, at.1.2, other.0, refl, refl))
-command_cause words before middle after command name script status at told later (inr (inr taken)) =
+command_cause words before middle after command name script status at told later (inr cause) =
     inputs_cause words before after command script status
-    (reads words before.told command name script at taken.0)
-    (inputs_since before middle after (inputs_read command script) status told later taken.1)
+    (reads words before.told command name script at)
+    (inputs_since before middle after (inputs_read command script) status told later cause)
 
 pub command_stop : (words : Words) (before middle after : SeenSource) (command : Command)
     (name : List ℕ) (script : Script) (why : Stop)
@@ -257,31 +251,27 @@ command_stop words before middle after command name script (stop.Refused status)
     command_cause words before middle after command name script status at told later stops
 command_stop words before middle after command name script (stop.Trapped trap) at told later stops =
     let trapped
-    = subst (λ (t : Option (List NamedBytes)). IsTrapped t script trap) told stops.2 in (
+    = subst (λ (t : Option (List NamedBytes)). IsTrapped t script trap) told stops.1 in (
       command,
       script,
       trapped.0,
       trapped.1,
-      reads words before.told command name script at stops.0,
+      reads words before.told command name script at,
       trapped.2,
-      may_tell command (traps_of trapped.1) trap.trap stops.1 trapped.3,
+      may_tell command (traps_of trapped.1) trap.trap stops.0 trapped.3,
       trapped.4,
     )
 
 -- what stops the meaning stops each command that asks for it
 pub meaning_stop : (command : Command) (before after : SeenSource) (script : Script) (why : Stop)
-    → IsTrue (is_taken command script) → IsEvaluating command
-    → inputs_read command script ≡ inputs_of script → IsMeaningStop before after script why
-    → IsCommandStop command before after script why
-meaning_stop command before after script (stop.Refused status) taken evaluating same (inl memory) =
+    → IsEvaluating command → inputs_read command script ≡ inputs_of script
+    → IsMeaningStop before after script why → IsCommandStop command before after script why
+meaning_stop command before after script (stop.Refused status) evaluating same (inl memory) =
     inl memory
-meaning_stop command before after script (stop.Refused status) taken evaluating same (inr cause) =
-    inr (inr (
-      taken,
-      subst (λ (l : List Wanted). IsInputsCause before after l status) (sym same) cause,
-    ))
-meaning_stop command before after script (stop.Trapped trap) taken evaluating same trapped =
-    (taken, evaluating, trapped)
+meaning_stop command before after script (stop.Refused status) evaluating same (inr cause) =
+    inr (subst (λ (l : List Wanted). IsInputsCause before after l status) (sym same) cause)
+meaning_stop command before after script (stop.Trapped trap) evaluating same trapped =
+    (evaluating, trapped)
 
 -- ---- the answer
 
@@ -327,10 +317,3 @@ pub trapped : (words : Words) (before after : World) (trap : Trapped)
     → Answers words before after (Trap trap.trap.origin trap.trap.kind trap.trap.element)
 trapped words before after trap has shelf line =
     (has.0, has.1, has.2, has.3, trap.name, has.4, has.5, has.6, has.7, shelf, line)
-
--- two facts of what is Ok
-pub both_ok : {T E : Type 0} (P : Type 0) (Q : T → Type 0) (r : Result T E) → OnOk r P
-    → IfOk r Q
-    → IfOk r (λ x. P × Q x)
-both_ok P Q (Ok x) first second = (first, second)
-both_ok P Q (Err e) first second = tt

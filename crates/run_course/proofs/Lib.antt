@@ -1,4 +1,5 @@
 pub mod AcceptedLemmas
+pub mod GraphLemmas
 pub mod TurnLemmas
 pub mod CauseLemmas
 pub mod PromiseLemmas

@@ -19,8 +19,8 @@ use Rattle.direct_meaning.specs.Inputs.{inputs_of}
 use Rattle.outside.specs.Saves.{FailsAt}
 use Rattle.run_course.specs.Promises.{CanRun, EndsAs, EndsWith, IsEnd, IsEnded, IsRefusal, IsShelfCalm, IsUnlessFailed, Promises}
 use Rattle.run_course.specs.Written.{IsMeant, IsThrough, IsWritten, Table, Writes}
-use Rattle.run_course.specs.declared.words.Command.{Command}
-use Rattle.run_course.specs.declared.words.Command.TheVariants.{Check, Plan, Direct, Run}
+use Rattle.command_words.specs.declared.words.Command.{Command}
+use Rattle.command_words.specs.declared.words.Command.TheVariants.{Check, Plan, Direct, Run}
 use Rattle.run_course.specs.World.{Keeps, World}
 use Rattle.run_course.proofs.TurnLemmas.{Stops, asked_some, input_stops, no_file_stops, no_run, one_stop, same_command, same_meaning, script_stops, too_long_stops}
 
@@ -43,8 +43,8 @@ written_rows : (words : Words) (told : Option (List NamedBytes)) (files : List N
     → HasRead words told
 written_rows words told files text Check script reads writes =
     record { command = Check; script = script; rows = []; reads = reads; inputs = tt }
-written_rows words told files text Plan script reads writes =
-    record { command = Plan; script = script; rows = []; reads = reads; inputs = tt }
+written_rows words told files text (Plan form) script reads writes =
+    record { command = Plan form; script = script; rows = []; reads = reads; inputs = tt }
 written_rows words told files text Direct script reads writes =
     record {
       command = Direct;
@@ -74,7 +74,7 @@ trap_rows : (words : Words) (told : Option (List NamedBytes)) (command : Command
     (trap : TrapOf) → Reads words told command script → IsMeant told script rows table
     → MayTell command (traps_of table) trap → HasRead words told
 trap_rows words told Check script rows table trap reads meant tells = absurd tells
-trap_rows words told Plan script rows table trap reads meant tells = absurd tells
+trap_rows words told (Plan form) script rows table trap reads meant tells = absurd tells
 trap_rows words told Direct script rows table trap reads meant tells =
     record { command = Direct; script = script; rows = rows; reads = reads; inputs = meant.inputs }
 trap_rows words told Run script rows table trap reads meant tells =
@@ -205,7 +205,7 @@ done_as : (words : Words) (before after : World) (c d : Command) (p q : Script) 
     → Writes d before.source.told q files text
     → EndsAs c p rows Done
 done_as words before after Check d p q rows files text same can read writes = refl
-done_as words before after Plan d p q rows files text same can read writes = refl
+done_as words before after (Plan form) d p q rows files text same can read writes = refl
 done_as words before after Direct Direct p q rows files text same can read writes =
     through_end words before after Direct Direct p q rows [] files text writes.0 writes.1 can.told
     can.reads read can.inputs writes.2
@@ -213,17 +213,17 @@ done_as words before after Run Run p q rows files text same can read writes =
     through_end words before after Run Run p q rows writes.0 files text writes.2.0 writes.2.1
     can.told can.reads read can.inputs writes.2.2
 done_as words before after Direct Check p q rows files text same can read writes = absurd (cc)
-done_as words before after Direct Plan p q rows files text same can read writes = absurd (cc)
+done_as words before after Direct (Plan form) p q rows files text same can read writes = absurd (cc)
 done_as words before after Direct Run p q rows files text same can read writes = absurd (cc)
 done_as words before after Run Check p q rows files text same can read writes = absurd (cc)
-done_as words before after Run Plan p q rows files text same can read writes = absurd (cc)
+done_as words before after Run (Plan form) p q rows files text same can read writes = absurd (cc)
 done_as words before after Run Direct p q rows files text same can read writes = absurd (cc)
 
 told_end : (command : Command) (traps : List TrapOf) (origin : ℕ) (kind : Kind) (element : Value)
     (trap : TrapOf) → MayTell command traps trap
     → EndsWith traps (Trap origin kind element)
 told_end Check traps origin kind element trap tells = absurd tells
-told_end Plan traps origin kind element trap tells = absurd tells
+told_end (Plan form) traps origin kind element trap tells = absurd tells
 told_end Direct traps origin kind element trap tells = trapped_end traps origin kind element trap
     tells.0
 told_end Run traps origin kind element trap tells = trapped_end traps origin kind element trap tells
@@ -265,8 +265,8 @@ trapped_as : (words : Words) (before after : World) (c : Command) (p : Script) (
     → EndsAs c p rows (Trap origin kind element)
 trapped_as words before after Check p rows origin kind element can it =
     absurd (told_by words before after Check p origin kind element can.reads it)
-trapped_as words before after Plan p rows origin kind element can it =
-    absurd (told_by words before after Plan p origin kind element can.reads it)
+trapped_as words before after (Plan form) p rows origin kind element can it =
+    absurd (told_by words before after (Plan form) p origin kind element can.reads it)
 trapped_as words before after Direct p rows origin kind element can it =
     trapped_meaning words before after Direct p rows origin kind element can.told can.reads
     can.inputs it
@@ -292,14 +292,14 @@ no_file_fault Direct d told q files text place before after same calm writes fai
 no_file_fault Run d told q files text place before after same calm writes fails = calm fails.faults
 no_file_fault Check Check told q files text place before after same calm writes fails =
     none_fails files place before after writes.0 fails
-no_file_fault Check Plan told q files text place before after same calm writes fails = absurd (cc)
+no_file_fault Check (Plan form) told q files text place before after same calm writes fails = absurd (cc)
 no_file_fault Check Direct told q files text place before after same calm writes fails = absurd (cc)
 no_file_fault Check Run told q files text place before after same calm writes fails = absurd (cc)
-no_file_fault Plan Plan told q files text place before after same calm writes fails =
+no_file_fault (Plan form) (Plan other) told q files text place before after same calm writes fails =
     none_fails files place before after writes.0 fails
-no_file_fault Plan Check told q files text place before after same calm writes fails = absurd (cc)
-no_file_fault Plan Direct told q files text place before after same calm writes fails = absurd (cc)
-no_file_fault Plan Run told q files text place before after same calm writes fails = absurd (cc)
+no_file_fault (Plan form) Check told q files text place before after same calm writes fails = absurd (cc)
+no_file_fault (Plan form) Direct told q files text place before after same calm writes fails = absurd (cc)
+no_file_fault (Plan form) Run told q files text place before after same calm writes fails = absurd (cc)
 
 stopped : {A : Type 0} (words : Words) (before after : World) (status : Status) (c : Command)
     (script : Script) (rows : List (List Value))

@@ -15,14 +15,14 @@ use Rattle.outside.specs.declared.file.File.{File as NamedBytes}
 use Rattle.run_texts.specs.declared.status.Status.{Status}
 use Rattle.run_texts.specs.declared.status.Status.TheVariants.{ScriptRefused, InputRefused, TooLong, NoFile}
 use Rattle.script_check.specs.Script.{Script}
-use Rattle.run_course.specs.Accepted.{Accepted, IsRefusedBy}
+use Rattle.run_course.specs.Accepted.{Accepted, Refused}
 use Rattle.run_course.specs.Answers.{IsInputRefused, IsNoFile, IsScriptRefused, IsTooLong}
 use Rattle.run_course.specs.Asked.{AllHaveRows, AskFor, HasRows, IsAbove, IsAskedFor, IsMissing, IsTurnOf, Loads, Reads, inputs_read}
-use Rattle.run_course.specs.Words.{Asked, asked_for}
+use Rattle.command_words.specs.Words.{Asked, asked_for}
 use Rattle.run_course.specs.Written.{IsMeant, Table}
 use Rattle.run_course.specs.declared.limits.TheConstants.{SCRIPT_LIMIT, INPUT_LIMIT}
-use Rattle.run_course.specs.declared.words.Command.{Command}
-use Rattle.run_course.proofs.AcceptedLemmas.{accepted_once, one_reason_by, taken_not_refused}
+use Rattle.command_words.specs.declared.words.Command.{Command}
+use Rattle.run_course.proofs.AcceptedLemmas.{accepted_once, one_reason, not_both}
 
 abbrev pub Told : Type 0
 Told = Option (List NamedBytes)
@@ -125,15 +125,14 @@ same_meaning words told c d p q rows others table tells first second inputs mean
 -- ---- files that stop a call
 
 -- the script's file stops the command so
-pub data BadScript (told : Told) (command : Command) (name : List ℕ) (status : Status) : Type 0
-  where
-    missing : IsMissing told name → status ≡ NoFile name → BadScript told command name status
-    above : IsAbove told name SCRIPT_LIMIT → status ≡ TooLong name SCRIPT_LIMIT
-        → BadScript told command name status
-    refused : (bytes : List ℕ) (line : ℕ) (kind : ScriptKind)
-        → Loads told name SCRIPT_LIMIT bytes
-        → IsRefusedBy command bytes line kind → status ≡ ScriptRefused line kind
-        → BadScript told command name status
+pub data BadScript (told : Told) (name : List ℕ) (status : Status) : Type 0 where
+  missing : IsMissing told name → status ≡ NoFile name → BadScript told name status
+  above : IsAbove told name SCRIPT_LIMIT → status ≡ TooLong name SCRIPT_LIMIT
+      → BadScript told name status
+  refused : (bytes : List ℕ) (line : ℕ) (kind : ScriptKind)
+      → Loads told name SCRIPT_LIMIT bytes
+      → Refused bytes line kind → status ≡ ScriptRefused line kind
+      → BadScript told name status
 
 -- an input's file stops it so
 pub data BadInput (told : Told) (wanted : Wanted) (status : Status) : Type 0 where
@@ -150,12 +149,12 @@ pub data BadInput (told : Told) (wanted : Wanted) (status : Status) : Type 0 whe
 abbrev pub Stops : Words → Told → Status → Type 0
 Stops words told status =
     ((command : Command) × (name : List ℕ) × AskFor words command name
-    × BadScript told command name status)
+    × BadScript told name status)
     ⊎ ((wanted : Wanted) × IsTurnOf words told wanted × BadInput told wanted status)
 
 unread : (words : Words) (told : Told) (command other : Command) (name : List ℕ) (status :
     Status) (script : Script)
-    → IsSome told → AskFor words command name → BadScript told command name status
+    → IsSome told → AskFor words command name → BadScript told name status
     → Reads words told other script → ⊥
 unread words told command other name status script tells asked (missing gone is) read =
     let same = (same_asked words other command read.0 name read.2 asked).1 in
@@ -171,9 +170,7 @@ unread words told command other name status script tells asked (refused bytes li
     let equal : read.1 ≡ bytes
     = same_bytes told name read.1 bytes _ _ tells (subst (λ (n : List ℕ). Loads told n
     SCRIPT_LIMIT read.1) both.1 read.3) loads in
-    taken_not_refused other bytes script line kind (subst (λ (b : List ℕ). Accepted b script)
-    equal read.4) read.5
-    (subst (λ (c : Command). IsRefusedBy c bytes line kind) (sym both.0) why)
+    not_both bytes script line kind (subst (λ (b : List ℕ). Accepted b script) equal read.4) why
 
 no_rows : (told : Told) (wanted : Wanted) (status : Status) → IsSome told
     → BadInput told wanted status → (rows : List Value) → HasRows told wanted rows → ⊥
@@ -188,27 +185,27 @@ no_rows told wanted status tells (bad_rows bytes row column kind loads bad is) r
     = sym has.2 ∙ (ap (λ (b : List ℕ). rows_of b wanted.type) equal ∙ bad) in
     absurd (cc)
 
-one_bad_script : (told : Told) (command : Command) (name : List ℕ) (a b : Status) → IsSome told
-    → BadScript told command name a → BadScript told command name b → a ≡ b
-one_bad_script told command name a b tells (missing gone is) (missing gone' is') = is ∙ sym is'
-one_bad_script told command name a b tells (missing gone is) (above longer is') = absurd
+one_bad_script : (told : Told) (name : List ℕ) (a b : Status) → IsSome told
+    → BadScript told name a → BadScript told name b → a ≡ b
+one_bad_script told name a b tells (missing gone is) (missing gone' is') = is ∙ sym is'
+one_bad_script told name a b tells (missing gone is) (above longer is') = absurd
     (not_gone_and_long told name SCRIPT_LIMIT tells gone longer)
-one_bad_script told command name a b tells (missing gone is) (refused bytes' line' kind' loads'
+one_bad_script told name a b tells (missing gone is) (refused bytes' line' kind' loads'
     why' is') = absurd (not_missing told name bytes' SCRIPT_LIMIT tells loads' gone)
-one_bad_script told command name a b tells (above longer is) (missing gone is') = absurd
+one_bad_script told name a b tells (above longer is) (missing gone is') = absurd
     (not_gone_and_long told name SCRIPT_LIMIT tells gone longer)
-one_bad_script told command name a b tells (above longer is) (above longer' is') = is ∙ sym is'
-one_bad_script told command name a b tells (above longer is) (refused bytes' line' kind' loads'
+one_bad_script told name a b tells (above longer is) (above longer' is') = is ∙ sym is'
+one_bad_script told name a b tells (above longer is) (refused bytes' line' kind' loads'
     why' is') = absurd (not_above told name bytes' SCRIPT_LIMIT tells loads' longer)
-one_bad_script told command name a b tells (refused bytes line kind loads why is) (missing gone
+one_bad_script told name a b tells (refused bytes line kind loads why is) (missing gone
     is') = absurd (not_missing told name bytes SCRIPT_LIMIT tells loads gone)
-one_bad_script told command name a b tells (refused bytes line kind loads why is) (above longer
+one_bad_script told name a b tells (refused bytes line kind loads why is) (above longer
     is') = absurd (not_above told name bytes SCRIPT_LIMIT tells loads longer)
-one_bad_script told command name a b tells (refused bytes line kind loads why is) (refused bytes'
+one_bad_script told name a b tells (refused bytes line kind loads why is) (refused bytes'
     line' kind' loads' why' is') =
     let equal : bytes ≡ bytes' = same_bytes told name bytes bytes' _ _ tells loads loads' in
-    let one = one_reason_by command bytes' line line' kind kind' (subst (λ (b : List ℕ).
-    IsRefusedBy command b line kind) equal why) why' in
+    let one = one_reason bytes' line line' kind kind' (subst (λ (b : List ℕ).
+    Refused b line kind) equal why) why' in
     is ∙ ((λ i. ScriptRefused (one.0 i) (one.1 i)) ∙ sym is')
 
 one_bad_input : (told : Told) (wanted : Wanted) (a b : Status) → IsSome told
@@ -317,9 +314,8 @@ pub one_stop : (words : Words) (told : Told) (a b : Status) → IsSome told → 
     → Stops words told b → a ≡ b
 one_stop words told a b tells (inl first) (inl second) =
     let both = same_asked words first.0 second.0 first.1 second.1 first.2 second.2 in
-    one_bad_script told second.0 second.1 a b tells
-    (subst (λ (n : List ℕ). BadScript told second.0 n a) both.1
-    (subst (λ (c : Command). BadScript told c first.1 a) both.0 first.3)) second.3
+    one_bad_script told second.1 a b tells
+    (subst (λ (n : List ℕ). BadScript told n a) both.1 first.3) second.3
 one_stop words told a b tells (inl first) (inr second) =
     absurd (unread words told first.0 second.1.0 first.1 a second.1.1 tells first.2 first.3
     second.1.5)

@@ -24,14 +24,14 @@ use Rattle.flume_grammar.specs.declared.fault.ScriptKind.{ScriptKind}
 use Rattle.run_texts.specs.declared.status.Status.{Status}
 use Rattle.run_texts.specs.declared.status.Status.TheVariants.{Done, Usage, ScriptRefused, InputRefused, Trap, ReadFault, WriteFault, WantOfMemory, TooLong, NoFile}
 use Rattle.script_check.specs.Script.{Script}
-use Rattle.run_course.specs.Accepted.{IsRefusedBy}
+use Rattle.run_course.specs.Accepted.{Refused}
 use Rattle.run_course.specs.Asked.{AskFor, IsAbove, IsAskedFor, IsMissing, IsTurnOf, Loads, Reads}
-use Rattle.run_course.specs.Words.{asked_for}
+use Rattle.command_words.specs.Words.{asked_for}
 use Rattle.run_course.specs.World.{World}
 use Rattle.run_course.specs.Written.{IsMeant, IsWritten, Table}
 use Rattle.run_course.specs.declared.limits.TheConstants.{SCRIPT_LIMIT, INPUT_LIMIT, TRIES}
-use Rattle.run_course.specs.declared.words.Command.{Command}
-use Rattle.run_course.specs.declared.words.Command.TheVariants.{Check, Plan, Direct, Run}
+use Rattle.command_words.specs.declared.words.Command.{Command}
+use Rattle.command_words.specs.declared.words.Command.TheVariants.{Check, Plan, Direct, Run}
 
 -- ---- what is written
 
@@ -84,7 +84,7 @@ IsWriteFault Screen words before after = IsScreenFault words before after
 -- `check` and `plan` of none
 abbrev pub MayTell : Command → List TrapOf → TrapOf → Type 0
 MayTell Check traps trap = ⊥
-MayTell Plan traps trap = ⊥
+MayTell (Plan form) traps trap = ⊥
 MayTell Direct traps trap = IsLeast traps trap
 MayTell Run traps trap = Contains traps trap
 
@@ -126,11 +126,11 @@ abbrev pub IsReadFault : List ℕ → List (List ℕ) → Seen (List NamedBytes)
 IsReadFault name words before after =
     (limit : ℕ) × IsAskedFor words before.told name limit × RoseBy TRIES before.faults after.faults
 
--- ScriptRefused: the script was loaded, and the command refuses its bytes so
+-- ScriptRefused: the script was loaded, and its bytes are refused so
 abbrev pub IsScriptRefused : ℕ → ScriptKind → List (List ℕ) → Seen (List NamedBytes) → Type 0
 IsScriptRefused line kind words source =
     (command : Command) × (name : List ℕ) × (bytes : List ℕ) × AskFor words command name
-    × Loads source.told name SCRIPT_LIMIT bytes × IsRefusedBy command bytes line kind
+    × Loads source.told name SCRIPT_LIMIT bytes × Refused bytes line kind
 
 -- InputRefused: it is the input's turn, its file was loaded, and this is the first fault of its
 -- rows

@@ -1,16 +1,16 @@
 -- The files that a call asks for, what is in them, and the turn of each.
-use Rattle.std.specs.Prelude.{◌≡◌, ◌⊎◌, ◌<◌, ◌≤◌, ℕ, List, [], ◌∷◌, ◌++◌, length, Option, Some, None, Ok, IfSome, IsSomeAnd, IsTrue, ⊤}
+use Rattle.std.specs.Prelude.{◌≡◌, ◌⊎◌, ◌<◌, ◌≤◌, ℕ, List, [], ◌∷◌, ◌++◌, length, Option, Some, None, Ok, IfSome, IsSomeAnd, ⊤}
 use Rattle.csv_rows.specs.Rows.{rows_of}
 use Rattle.direct_meaning.specs.Inputs.{Wanted, inputs_of}
 use Rattle.flume_value.specs.declared.value.Value.{Value}
 use Rattle.outside.specs.Files.{bytes_of}
 use Rattle.outside.specs.declared.file.File.{File}
 use Rattle.script_check.specs.Script.{Script}
-use Rattle.run_course.specs.Accepted.{Accepted, is_taken}
-use Rattle.run_course.specs.Words.{asked_for}
+use Rattle.run_course.specs.Accepted.{Accepted}
+use Rattle.command_words.specs.Words.{asked_for}
 use Rattle.run_course.specs.declared.limits.TheConstants.{SCRIPT_LIMIT, INPUT_LIMIT}
-use Rattle.run_course.specs.declared.words.Command.{Command}
-use Rattle.run_course.specs.declared.words.Command.TheVariants.{Check, Plan, Direct, Run}
+use Rattle.command_words.specs.declared.words.Command.{Command}
+use Rattle.command_words.specs.declared.words.Command.TheVariants.{Check, Plan, Direct, Run}
 
 -- the file of that name has these bytes, where files are told, and they are within the limit
 abbrev pub Loads : Option (List File) → List ℕ → ℕ → List ℕ → Type 0
@@ -30,12 +30,11 @@ IsMissing told name = IfSome told (λ files. bytes_of files name ≡ None)
 abbrev pub AskFor : List (List ℕ) → Command → List ℕ → Type 0
 AskFor words command name = asked_for words ≡ Some (record { command = command; script = name })
 
--- the words ask for this command on a script whose bytes are accepted as this script, which the
--- command takes
+-- the words ask for this command on a script whose bytes are accepted as this script
 abbrev pub Reads : List (List ℕ) → Option (List File) → Command → Script → Type 0
 Reads words told command script =
     (name : List ℕ) × (bytes : List ℕ) × AskFor words command name
-    × Loads told name SCRIPT_LIMIT bytes × Accepted bytes script × IsTrue (is_taken command script)
+    × Loads told name SCRIPT_LIMIT bytes × Accepted bytes script
 
 -- the file of an input has these rows
 abbrev pub HasRows : Option (List File) → Wanted → List Value → Type 0
@@ -54,7 +53,7 @@ AllHaveRows told (wanted ∷ inputs) (rows ∷ others) =
 -- the inputs that a command reads of a script: those that are needed, and none to check or plan it
 abbrev pub inputs_read : Command → Script → List Wanted
 inputs_read Check script = []
-inputs_read Plan script = []
+inputs_read (Plan form) script = []
 inputs_read Direct script = inputs_of script
 inputs_read Run script = inputs_of script
 

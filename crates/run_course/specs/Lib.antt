@@ -2,7 +2,6 @@ pub mod Accepted
 pub mod Answers
 pub mod Asked
 pub mod Promises
-pub mod Words
 pub mod World
 pub mod Written
 pub mod inner

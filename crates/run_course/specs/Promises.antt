@@ -12,8 +12,8 @@ use Rattle.run_course.specs.Asked.{AllHaveRows, Reads, inputs_read}
 use Rattle.run_course.specs.World.{Keeps, World}
 use Rattle.run_course.specs.Written.{Table}
 use Rattle.run_course.specs.declared.limits.TheConstants.{TRIES}
-use Rattle.run_course.specs.declared.words.Command.{Command}
-use Rattle.run_course.specs.declared.words.Command.TheVariants.{Check, Plan, Direct, Run}
+use Rattle.command_words.specs.declared.words.Command.{Command}
+use Rattle.command_words.specs.declared.words.Command.TheVariants.{Check, Plan, Direct, Run}
 use Rattle.script_check.specs.Script.{Script}
 use Rattle.run_texts.specs.declared.status.Place.TheVariants.{File, Screen}
 use Rattle.flume_grammar.specs.declared.fault.ScriptKind.{ScriptKind}
@@ -48,7 +48,7 @@ IsEnded status shelf = shelf.begun ≡ false
 -- the shelf does not fail, where a command writes files
 abbrev pub IsShelfCalm : Command → SeenShelf → SeenShelf → Type 0
 IsShelfCalm Check before after = ⊤
-IsShelfCalm Plan before after = ⊤
+IsShelfCalm (Plan form) before after = ⊤
 IsShelfCalm Direct before after = Rose before.faults after.faults → ⊥
 IsShelfCalm Run before after = Rose before.faults after.faults → ⊥
 
@@ -81,7 +81,7 @@ EndsByMeaning script rows status =
 -- a command came to its end: a script is checked and planned whatever its traps, else they decide
 abbrev pub EndsAs : Command → Script → List (List Value) → Status → Type 0
 EndsAs Check script rows status = status ≡ Done
-EndsAs Plan script rows status = status ≡ Done
+EndsAs (Plan form) script rows status = status ≡ Done
 EndsAs Direct script rows status = EndsByMeaning script rows status
 EndsAs Run script rows status = EndsByMeaning script rows status
 

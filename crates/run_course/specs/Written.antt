@@ -9,12 +9,18 @@ use Rattle.flume_value.specs.declared.value.Value.{Value}
 use Rattle.graph_build.specs.Graphs.{graph_of}
 use Rattle.outside.specs.declared.file.File.{File}
 use Rattle.plan_print.specs.GraphText.{graph_text}
-use Rattle.run_texts.specs.Texts.{plan_of, size_lines}
+use Rattle.exec_plan.specs.declared.plan.Plan.{Plan}
+use Rattle.plan_texts.specs.Texts.{plan_json_of, plan_text_of}
+use Rattle.run_texts.specs.Texts.{size_lines}
+use Rattle.script_plans.specs.Plans.{IsScriptPlan}
+use Rattle.serde_json.specs.Written.{compact_text}
 use Rattle.script_check.specs.declared.made.Output.{Output}
 use Rattle.script_check.specs.Script.{Script}
 use Rattle.run_course.specs.Asked.{AllHaveRows, Reads}
-use Rattle.run_course.specs.declared.words.Command.{Command}
-use Rattle.run_course.specs.declared.words.Command.TheVariants.{Check, Plan, Direct, Run}
+use Rattle.command_words.specs.declared.words.Command.{Command}
+use Rattle.command_words.specs.declared.words.Command.TheVariants.{Check, Plan as Show, Direct, Run}
+use Rattle.command_words.specs.declared.words.PlanForm.{PlanForm}
+use Rattle.command_words.specs.declared.words.PlanForm.TheVariants.{Text, Json}
 
 -- the collections of a script by their numbers, where they are made
 abbrev pub Table : Type 0
@@ -55,16 +61,25 @@ WritesMeaning told script front files text =
     (rows : List (List Value)) × (table : Table)
     × IsThrough told script front files text rows table
 
--- What a command writes of a script: `check` no file and `ok`; `plan` no file and the text of its
--- execution graph; `direct` the files of its direct meaning, the sizes of its collections and
--- `done`; `run` the same, with its graph and plan first.
+-- a plan is shown as text behind the text of the execution graph, or as JSON on a line
+abbrev pub shown_as : PlanForm → Script → Plan → List ℕ
+shown_as Text script plan = graph_text script (graph_of script) ++ plan_text_of script plan
+shown_as Json script plan = compact_text (plan_json_of script plan) ++ codes "\n"
+
+-- the text shows the script's plan
+abbrev pub ShowsPlan : PlanForm → Script → List ℕ → Type 0
+ShowsPlan form script text =
+    (plan : Plan) × IsScriptPlan script plan × (text ≡ shown_as form script plan)
+
+-- What a command writes of a script: `check` no file and `ok`; `plan` no file and its plan;
+-- `direct` the files of its direct meaning, the sizes of its collections and `done`; `run` the
+-- same, with its graph and plan first.
 abbrev pub Writes : Command → Option (List File) → Script → List File → List ℕ → Type 0
 Writes Check told script files text = (files ≡ []) × (text ≡ codes "ok\n")
-Writes Plan told script files text =
-    (files ≡ []) × (text ≡ graph_text script (graph_of script))
+Writes (Show form) told script files text = (files ≡ []) × ShowsPlan form script text
 Writes Direct told script files text = WritesMeaning told script [] files text
 Writes Run told script files text =
-    (plan : List ℕ) × (plan_of script ≡ Some plan) × WritesMeaning told script plan files text
+    (front : List ℕ) × ShowsPlan Text script front × WritesMeaning told script front files text
 
 -- the words ask for a command that writes these files and this text
 abbrev pub IsWritten : List (List ℕ) → Option (List File) → List File → List ℕ → Type 0

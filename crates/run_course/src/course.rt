@@ -1,29 +1,30 @@
 // The course of a call: every growth comes first, then the output files, then the screen.
-ghost use Rattle.std.specs.Prelude.{◌≡◌, ◌≤◌, ◌<◌, [], IfErr, IfOk, IsTrue, OnOk, Some, codes, length, map, slice_get, string_bytes};
+ghost use Rattle.std.specs.Prelude.{◌≡◌, ◌≤◌, ◌<◌, [], IfErr, IfOk, Some, codes, length, map, slice_get, string_bytes};
 ghost use Rattle.std.specs.Option.{option_map};
+ghost use Rattle.command_words.specs.declared.words.PlanForm.TheVariants.{Json, Text};
+ghost use Rattle.exec_graph.specs.Wellformed.{IsGraphOk};
 ghost use Rattle.graph_build.specs.Graphs.{graph_of};
 ghost use Rattle.outside.specs.Saves.{output_file};
 ghost use Rattle.outside.specs.Seen.{seen, seen_shelf};
-ghost use Rattle.plan_print.specs.GraphText.{graph_text as graph_text_of};
 ghost use Rattle.script_laws.specs.WellFormed.{IsWellFormed};
-ghost use Rattle.run_course.specs.Accepted.{is_taken};
 ghost use Rattle.run_course.specs.Answers.{Answers};
 ghost use Rattle.run_course.specs.Promises.{Promises};
 ghost use Rattle.run_course.specs.World.{Keeps, world};
-ghost use Rattle.run_course.specs.Written.{IsWritten, Writes, WritesMeaning};
+ghost use Rattle.run_course.specs.Written.{IsWritten, ShowsPlan, Writes, WritesMeaning};
 ghost use Rattle.run_course.specs.inner.Course.{Delivers, IsCommandStop, IsMeaningStop, IsReady, IsStopped};
 
 use crate::evaluation::{Written, written_meaning};
 use crate::loading::{rows_of_inputs, script_of};
 use crate::stop::Stop;
-use crate::words::{Command, asked_for};
-use flume_grammar::ScriptKind;
+use command_words::{Command, PlanForm, asked_for};
 use flume_value::Str;
 use graph_build::build;
 use outside::{Output, Screen, Shelf, Source, save_all, say};
 use plan_print::graph_text;
-use run_texts::{Place, Status, plan_text, tell, tell_trap};
+use plan_texts::{plan_json, plan_text};
+use run_texts::{Place, Status, tell, tell_trap};
 use script_check::Program;
+use script_plans::plan_of;
 use std::alloc::{AllocError, Global};
 
 /// Runs the command that the words ask for, and answers how that ended.
@@ -91,7 +92,7 @@ fn prepare<R: Source>(alloc: Global, words: &[String], source: &mut R) -> Result
     ensures files { R.files source.new ≡ R.files source.old }
     ensures later { R.faults source.old ≤ R.faults source.new }
 {
-    let Some(asked) = asked_for(words) else {
+    let Some(asked) = asked_for(alloc, words)? else {
         return Err(Stop::Refused(Status::Usage));
     };
     let program = script_of(alloc, asked.script, source)?;
@@ -107,7 +108,7 @@ fn carried_out<R: Source>(
 ) -> Result<Written, Stop>
     requires well_formed { IsWellFormed program.now.script }
     requires ready { IsReady program.now.script }
-    ensures taken { OnOk result (IsTrue (is_taken command program.now.script)) }
+    requires graph { IsGraphOk (graph_of program.now.script) }
     ensures written { IfOk result (λ it. Writes command (R.files source.old) program.now.script
         (map output_file it.outputs.items) it.screen.items) }
     ensures stop { IfErr result (IsCommandStop command (seen R.files R.faults source.old)
@@ -117,15 +118,12 @@ fn carried_out<R: Source>(
 {
     match command {
         Command::Check => Ok(accepted(alloc)?),
-        Command::Plan => Ok(planned(alloc, program)?),
+        Command::Plan(form) => Ok(planned(alloc, program, form)?),
         Command::Direct => meant(alloc, program, Vec::new(alloc), source),
-        Command::Run => match plan_text(alloc, program)? {
-            Some(plan) => meant(alloc, program, plan, source),
-            None => Err(Stop::Refused(Status::ScriptRefused {
-                line: 0,
-                kind: ScriptKind::Syntax,
-            })),
-        },
+        Command::Run => {
+            let front = plan_shown(alloc, program)?;
+            meant(alloc, program, front, source)
+        }
     }
 }
 
@@ -141,16 +139,52 @@ fn accepted(alloc: Global) -> Result<Written, AllocError>
 }
 
 // What `plan` writes of a script.
-fn planned(alloc: Global, program: &Program) -> Result<Written, AllocError>
+fn planned(alloc: Global, program: &Program, form: PlanForm) -> Result<Written, AllocError>
+    requires { IsGraphOk (graph_of program.now.script) }
     ensures files { IfOk result (λ it. map output_file it.outputs.items ≡ []) }
-    ensures text { IfOk result (λ it. it.screen.items
-        ≡ graph_text_of program.now.script (graph_of program.now.script)) }
+    ensures text { IfOk result (λ it. ShowsPlan form program.now.script it.screen.items) }
 {
-    let graph = build(alloc, program)?;
+    let screen = shown(alloc, program, form)?;
     Ok(Written {
         outputs: Vec::new(alloc),
-        screen: graph_text(alloc, program, &graph)?,
+        screen,
     })
+}
+
+// The plan of a script in either form.
+fn shown(alloc: Global, program: &Program, form: PlanForm) -> Result<Vec<u8>, AllocError>
+    requires { IsGraphOk (graph_of program.now.script) }
+    ensures { IfOk result (λ text. ShowsPlan form program.now.script text.items) }
+{
+    match form {
+        PlanForm::Text => plan_shown(alloc, program),
+        PlanForm::Json => json_shown(alloc, program),
+    }
+}
+
+// The text of a script's execution graph, and of its plan.
+fn plan_shown(alloc: Global, program: &Program) -> Result<Vec<u8>, AllocError>
+    requires { IsGraphOk (graph_of program.now.script) }
+    ensures { IfOk result (λ text. ShowsPlan Text program.now.script text.items) }
+{
+    let graph = build(alloc, program)?;
+    let mut text = graph_text(alloc, program, &graph)?;
+    let plan = plan_of(alloc, program, graph)?;
+    let mut behind = plan_text(alloc, program, &plan)?;
+    text.append(&mut behind)?;
+    Ok(text)
+}
+
+// A script's plan as JSON, on a line.
+fn json_shown(alloc: Global, program: &Program) -> Result<Vec<u8>, AllocError>
+    requires { IsGraphOk (graph_of program.now.script) }
+    ensures { IfOk result (λ text. ShowsPlan Json program.now.script text.items) }
+{
+    let graph = build(alloc, program)?;
+    let plan = plan_of(alloc, program, graph)?;
+    let mut text = plan_json(alloc, program, &plan)?;
+    text.extend_from_slice(b"\n")?;
+    Ok(text)
 }
 
 // What the meaning of a script writes, with this text first.

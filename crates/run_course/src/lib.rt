@@ -1,6 +1,6 @@
 //! The course of a call, and what each of its answers says (specs/Answers.antt).
 //!
-//! The words are read (`words`), the script and its input are loaded and decoded (`loading`), the
+//! The words are read (crate command_words), the script and its inputs are loaded and decoded (`loading`), the
 //! program is evaluated (`evaluation`), and only then its file is written, and the text of the
 //! screen (`course`). A call that traps, or the first refusal met, is the answer, and leaves its
 //! line.
@@ -12,7 +12,6 @@ mod laws;
 mod limits;
 mod loading;
 mod stop;
-mod words;
 
 pub use course::run;
 pub use laws::accepted_law;

@@ -28,11 +28,24 @@ pub fn check_command<X: Threads + Sync + Abort>(
     inputs: &[Named],
     want: Left,
 ) -> Result<(), Fail> {
+    check_words(rt, alloc, &["flume", command, "s"], script, inputs, want)
+}
+
+/// Makes the call with these words, over the script `s` and these inputs, and compares what it
+/// leaves.
+pub fn check_words<X: Threads + Sync + Abort>(
+    rt: &X,
+    alloc: Global,
+    words: &[&str],
+    script: &[u8],
+    inputs: &[Named],
+    want: Left,
+) -> Result<(), Fail> {
     let mut source = MemSource::new(files(alloc, script, inputs)?, Pile::new(alloc))?;
     let mut shelf = MemShelf::new(alloc, Pile::new(alloc), Pile::new(alloc), 4, 10_000)?;
     let mut screen = MemScreen::new(alloc, Pile::new(alloc), 10_000)?;
     let mut hosts = [CalmHost; 16];
-    let words = strings(alloc, &["flume", command, "s"])?;
+    let words = strings(alloc, words)?;
     let status = flume(
         rt,
         alloc,

@@ -155,18 +155,14 @@ fn an_input_that_is_needed(rt: HostRuntime) -> Result<(), Fail> {
 }
 
 #[test]
-fn a_script_without_a_plan_is_not_run(rt: HostRuntime) -> Result<(), Fail> {
+fn flattens_one_input_twice(rt: HostRuntime) -> Result<(), Fail> {
     let alloc = rt.alloc();
     let left = Left {
-        code: 3,
-        files: &[],
-        screen: b"script refused at line 0: Syntax\n",
-    };
-    check_command(&rt, alloc, "run", FLATTEN, &[("a.csv", b"n\n1\n")], left)?;
-    let left = Left {
         code: 0,
-        files: &[],
-        screen: b"ok\n",
+        files: &[("b.csv", b"n\n7\n7\n")],
+        screen: b"graph\n0 source a\n1 flatten 0 0 b\noutput b reads 1 to \"b.csv\"\n\
+              plan\nstage 1 flatten takes s0 s0 gives 1.0\noutput b reads 1.0 to \"b.csv\"\n\
+              size a 1\nsize b 2\ndone\n",
     };
-    check_command(&rt, alloc, "check", FLATTEN, &[], left)
+    check_command(&rt, alloc, "run", FLATTEN, &[("a.csv", b"n\n7\n")], left)
 }

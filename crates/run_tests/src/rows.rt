@@ -223,13 +223,18 @@ fn refuses_scripts_that_break_a_rule(rt: HostRuntime) -> Result<(), Fail> {
     Ok(())
 }
 
-// The graph and the plan of two collections that are made from one are not known yet.
+// A collection that no output needs is neither shown nor evaluated.
 #[test]
-fn refuses_scripts_without_a_plan(rt: HostRuntime) -> Result<(), Fail> {
+fn plans_what_is_needed(rt: HostRuntime) -> Result<(), Fail> {
     let alloc = rt.alloc();
     let ty = b"type r = {n: int, t: text}\n";
     let function = b"fn f(x: r) -> int { emit x.n }\nlet c = do a f\n";
     let script = script(alloc, ty, function)?;
-    let line = b"script refused at line 0: Syntax\n";
-    check_refused(&rt, alloc, &script, b"n,t\n1,a\n", 3, line)
+    let screen = text_of(alloc, &[SHOWN, b"size a 1\nsize b 1\ndone\n"])?;
+    let left = Left {
+        code: 0,
+        file: Some(b"value\n1\n"),
+        screen: &screen,
+    };
+    check_run(&rt, alloc, &script, b"n,t\n1,a\n", left)
 }

@@ -1,4 +1,3 @@
 pub mod Codes
 pub mod Lines
 pub mod Texts
-pub mod inner

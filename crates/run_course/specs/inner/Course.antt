@@ -1,5 +1,5 @@
 -- The parts of the course of a call.
-use Rattle.std.specs.Prelude.{◌≡◌, ◌⊎◌, ℕ, List, [], ◌∷◌, ◌++◌, IsFalse, IsTrue, codes, drop, Option, Some, Err, IsSome, IsUtf8, ⊤}
+use Rattle.std.specs.Prelude.{◌≡◌, ◌⊎◌, ℕ, List, [], ◌∷◌, ◌++◌, codes, drop, Option, Some, Err, IsSome, IsUtf8, ⊤}
 use Rattle.std.specs.List.{All, AllZip, filter, flat_map}
 use Rattle.csv_rows.specs.Rows.{rows_of}
 use Rattle.csv_rows.specs.Text.{table_text}
@@ -13,7 +13,6 @@ use Rattle.flume_collection.specs.Traps.{IsLeast}
 use Rattle.flume_collection.specs.declared.trap.Trap.{Trap}
 use Rattle.flume_grammar.specs.declared.fault.ScriptFault.{ScriptFault}
 use Rattle.flume_grammar.specs.declared.fault.ScriptFault.TheVariants as script_fault
-use Rattle.flume_grammar.specs.declared.fault.ScriptKind.TheVariants.{Syntax}
 use Rattle.flume_value.specs.declared.value.Value.{Value}
 use Rattle.outside.specs.Cause.{RoseBy}
 use Rattle.outside.specs.Saves.{HasFiles}
@@ -33,27 +32,21 @@ use Rattle.script_check.specs.declared.made.Output.{Output}
 use Rattle.script_check.specs.Needed.{is_needed, numbered}
 use Rattle.script_check.specs.Script.{Node, Script}
 use Rattle.written_types.specs.Named.{Named}
-use Rattle.run_course.specs.Accepted.{Accepted, Refused, is_taken}
+use Rattle.run_course.specs.Accepted.{Accepted, Refused}
 use Rattle.run_course.specs.Answers.{FailsAtFile, HasText, IsCause, IsCutOff, MayTell, name_at}
 use Rattle.run_course.specs.Asked.{AllHaveRows, IsAbove, IsMissing, Loads, Reads, inputs_read}
-use Rattle.run_course.specs.Words.{Asked}
 use Rattle.run_course.specs.Written.{IsMeant, Table, files_of}
 use Rattle.run_course.specs.declared.limits.TheConstants.{SCRIPT_LIMIT, INPUT_LIMIT, TRIES}
 use Rattle.run_course.specs.declared.stop.Stop.{Stop}
 use Rattle.run_course.specs.declared.stop.Trapped.{Trapped}
 use Rattle.run_course.specs.declared.stop.Stop.TheVariants as stop
-use Rattle.run_course.specs.declared.words.Asked.{Asked as HeldAsked}
-use Rattle.run_course.specs.declared.words.Command.{Command}
-use Rattle.run_course.specs.declared.words.Command.TheVariants.{Check, Plan, Direct, Run}
-
--- what the words ask for, as it is borrowed
-abbrev pub asked_in : HeldAsked → Asked
-asked_in held = record { command = held.command; script = held.script.now }
+use Rattle.command_words.specs.declared.words.Command.{Command}
+use Rattle.command_words.specs.declared.words.Command.TheVariants.{Check, Plan, Direct, Run}
 
 -- whether a command asks for a script's meaning
 abbrev pub IsEvaluating : Command → Type 0
 IsEvaluating Check = ⊥
-IsEvaluating Plan = ⊥
+IsEvaluating (Plan form) = ⊥
 IsEvaluating Direct = ⊤
 IsEvaluating Run = ⊤
 
@@ -199,26 +192,13 @@ IsMeaningStop before after script (stop.Refused status) =
     (status ≡ WantOfMemory) ⊎ IsInputsCause before after (inputs_of script) status
 IsMeaningStop before after script (stop.Trapped trap) = IsTrapped before.told script trap
 
--- why a command on this script, which it takes, meets a refusal
-abbrev pub IsTakenCause : Command → Seen (List NamedBytes) → Seen (List NamedBytes) → Script →
-    Status → Type 0
-IsTakenCause command before after script status =
-    IsTrue (is_taken command script)
-    × IsInputsCause before after (inputs_read command script) status
-
--- why a command on this script, which it doesn't take, meets a refusal
-abbrev pub IsOtherCause : Command → Script → Status → Type 0
-IsOtherCause command script status =
-    IsFalse (is_taken command script) × (status ≡ ScriptRefused 0 Syntax)
-
 -- why a command writes nothing of this script
 abbrev pub IsCommandStop : Command → Seen (List NamedBytes) → Seen (List NamedBytes) → Script →
     Stop → Type 0
 IsCommandStop command before after script (stop.Refused status) =
-    (status ≡ WantOfMemory) ⊎ IsOtherCause command script status
-    ⊎ IsTakenCause command before after script status
+    (status ≡ WantOfMemory) ⊎ IsInputsCause before after (inputs_read command script) status
 IsCommandStop command before after script (stop.Trapped trap) =
-    IsTrue (is_taken command script) × IsEvaluating command × IsTrapped before.told script trap
+    IsEvaluating command × IsTrapped before.told script trap
 
 -- the words ask for a script's meaning with this trap, of which the command may tell
 abbrev pub HasTrap : List (List ℕ) → Option (List NamedBytes) → Trapped → Type 0

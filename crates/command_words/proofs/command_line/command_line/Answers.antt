@@ -1,0 +1,18 @@
+use Rattle.std.proofs.Common.{◌∙◌, ap, ap₂}
+use Rattle.std.proofs.lemmas.Result.{IfOk-weaker}
+use Rattle.clap.specs.Words.{App, with_subcommand}
+use Rattle.command_words.proofs.command_line.command_line.Goals as goal
+
+pub returns : goal.returns
+returns c =
+    let top = λ (a : App). a.top in
+    let one = c.in_ok-subcommand.ensures.shape c.in_ok-check.ensures.local
+    ∙ ap₂ with_subcommand c.program.ensures (ap top c.in_ok-check.ensures.app) in
+    let two = c.in_ok-subcommand-2.ensures.shape c.in_ok-plan.ensures.local
+    ∙ ap₂ with_subcommand one (ap top c.in_ok-plan.ensures.app) in
+    let three = c.in_ok-subcommand-3.ensures.shape c.in_ok-direct.ensures.local
+    ∙ ap₂ with_subcommand two (ap top c.in_ok-direct.ensures.app) in
+    IfOk-weaker c.subcommand-4.result _ _
+    (λ line h. h.shape c.in_ok-run.ensures.local
+    ∙ ap₂ with_subcommand three (ap top c.in_ok-run.ensures.app))
+    c.subcommand-4.ensures

@@ -1,0 +1,23 @@
+-- The words of the grammar, written out, and what they ask for.
+use Rattle.std.specs.Prelude.{◌≡◌, List, [], ◌∷◌, Some, codes}
+use Rattle.clap.specs.Words.{Text}
+use Rattle.command_words.specs.Words.{asked_for}
+use Rattle.command_words.specs.declared.words.Command.{Command}
+use Rattle.command_words.specs.declared.words.Command.TheVariants.{Check, Plan, Direct, Run}
+use Rattle.command_words.specs.declared.words.PlanForm.TheVariants.{Text as AsText, Json}
+
+-- the words behind the program's name ask for a command on a script
+abbrev pub AsksFor : List Text → Command → Text → Type 0
+AsksFor words command script =
+    (program : Text) → asked_for (program ∷ words)
+    ≡ Some (record { command = command; script = script })
+
+-- the words of the grammar: a command and its script, and for `plan` maybe the flag, before the
+-- script or behind it
+pub record TakesGrammar (script : Text) : Type 0 where
+  pub check : AsksFor (codes "check" ∷ script ∷ []) Check script
+  pub plan : AsksFor (codes "plan" ∷ script ∷ []) (Plan AsText) script
+  pub json_before : AsksFor (codes "plan" ∷ codes "--json" ∷ script ∷ []) (Plan Json) script
+  pub json_behind : AsksFor (codes "plan" ∷ script ∷ codes "--json" ∷ []) (Plan Json) script
+  pub direct : AsksFor (codes "direct" ∷ script ∷ []) Direct script
+  pub run : AsksFor (codes "run" ∷ script ∷ []) Run script

@@ -1,0 +1,55 @@
+// The commands of the program, as `clap` is told of them.
+ghost use Rattle.std.specs.Prelude.{◌≡◌, IfOk, false};
+ghost use Rattle.clap.specs.Words.{app_of};
+ghost use Rattle.clap.specs.declared.builder.command.Command.TheViews.{out-Command};
+ghost use Rattle.command_words.specs.Words as spec;
+
+use clap::{Arg, ArgAction, Command};
+use std::alloc::{AllocError, Global};
+
+// The program with its four commands. There is no help to ask for: a refusal shows the usage.
+pub fn command_line<'a>(alloc: Global) -> Result<Command<'a>, AllocError>
+    ensures { IfOk result (λ line. app_of line ≡ spec.flume_app) }
+{
+    let check = script_command(alloc, "check")?;
+    let plan = plan_command(alloc)?;
+    let direct = script_command(alloc, "direct")?;
+    let run = script_command(alloc, "run")?;
+    program(alloc)
+        .subcommand(check)?
+        .subcommand(plan)?
+        .subcommand(direct)?
+        .subcommand(run)
+}
+
+// The program alone.
+fn program<'a>(alloc: Global) -> Command<'a>
+    ensures { app_of result ≡ spec.program_app }
+{
+    Command::new(alloc, "flume")
+        .subcommand_required(true)
+        .disable_help_flag(true)
+        .disable_help_subcommand(true)
+}
+
+// The command `plan`, with its flag.
+fn plan_command<'a>(alloc: Global) -> Result<Command<'a>, AllocError>
+    ensures app { IfOk result (λ command. app_of command ≡ spec.plan_app) }
+    ensures local { IfOk result (λ command. (out-Command command).has_globals ≡ false) }
+{
+    let json = Arg::new(alloc, "json")
+        .long("json")
+        .action(ArgAction::SetTrue);
+    script_command(alloc, "plan")?.arg(json)
+}
+
+// A command that takes a script.
+fn script_command<'a>(alloc: Global, name: &'a str) -> Result<Command<'a>, AllocError>
+    ensures app { IfOk result (λ command. app_of command ≡ spec.script_app name.entry.now) }
+    ensures local { IfOk result (λ command. (out-Command command).has_globals ≡ false) }
+{
+    let script = Arg::new(alloc, "script")
+        .required(true)
+        .action(ArgAction::Set);
+    Command::new(alloc, name).arg(script)
+}

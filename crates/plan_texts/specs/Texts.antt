@@ -1,0 +1,31 @@
+-- The text and the JSON of a plan of a script, whose names they print.
+use Rattle.std.specs.Prelude.{ℕ, List, map}
+use Rattle.serde_json.specs.Data.{Data}
+use Rattle.exec_plan.specs.declared.plan.Plan.{Plan}
+use Rattle.script_check.specs.declared.made.Output.{Output}
+use Rattle.script_check.specs.Script.{Script}
+use Rattle.plan_print.specs.Names.{name_at}
+use Rattle.plan_print.specs.Steps.{combiner_text, step_text}
+use Rattle.plan_writing.specs.Naming.{Naming, Written}
+use Rattle.plan_writing.specs.PlanText as text
+use Rattle.plan_writing.specs.PlanJson as json
+
+-- an output by its file: the collection that it writes, by its name
+abbrev pub written_of : Script → List ℕ × Output → Written
+written_of script output =
+    record { name = name_at script.nodes output.1.reads; file = output.0 }
+
+-- what a script calls the numbers of its plans
+abbrev pub naming_of : Script → Naming
+naming_of script = record {
+  step = step_text script;
+  node = name_at script.nodes;
+  combiner = combiner_text;
+  outputs = map (written_of script) script.outputs;
+}
+
+abbrev pub plan_text_of : Script → Plan → List ℕ
+plan_text_of script plan = text.plan_text_of (naming_of script) plan
+
+abbrev pub plan_json_of : Script → Plan → Data
+plan_json_of script plan = json.plan_json_of (naming_of script) plan

@@ -1,0 +1,16 @@
+-- The execution graph of an accepted script is well-formed.
+use Rattle.std.proofs.Common.{ℕ, List}
+use Rattle.build_law.proofs.Accepting.{accepted_kept}
+use Rattle.build_law.proofs.Short.{accepted_short}
+use Rattle.build_law.proofs.WellFormed.{is_graph_ok}
+use Rattle.exec_graph.specs.Wellformed.{IsGraphOk}
+use Rattle.graph_build.specs.Graphs.{graph_of}
+use Rattle.script_check.specs.Script.{Script}
+use Rattle.script_laws.proofs.RuleLemmas.{well-formed}
+use Rattle.run_course.specs.Accepted.{Accepted}
+
+pub accepted_graph : (bytes : List ℕ) (script : Script) → Accepted bytes script
+    → IsGraphOk (graph_of script)
+accepted_graph bytes script (ast, spells, is) =
+    is_graph_ok script (well-formed ast.statements script is)
+    (accepted_kept ast.statements script (accepted_short bytes ast spells) is).short
