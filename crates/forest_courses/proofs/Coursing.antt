@@ -1,0 +1,47 @@
+-- What the elements of a task come to.
+use Rattle.std.proofs.Common.{◌≡◌, ◌<◌, ◌^◌, ℕ, List, [], ◌∷◌, Some, None, refl, sym, ap, ◌∙◌, subst}
+use Rattle.std.specs.Prelude.{Ok, Err}
+use Rattle.std.specs.List.{flat_map}
+use Rattle.flume_value.specs.declared.value.Value.{Value}
+use Rattle.flume_collection.specs.declared.trap.Trap.{Trap}
+use Rattle.shards.proofs.Alike.{flat_map-itself, flat_map-nothing}
+use Rattle.exec_graph.specs.Calls.{trapped}
+use Rattle.exec_graph.specs.Forests.{Forest, after, numbered}
+use Rattle.exec_graph.specs.World.{World}
+use Rattle.task_lists.specs.Runs.{visits}
+use Rattle.forest_steps.specs.Fresh.{none_given}
+use Rattle.forest_steps.specs.Places.{outputs_in, sizes_in}
+use Rattle.forest_steps.specs.Running.{Given, run, run_each}
+use Rattle.forest_courses.specs.Courses.{IsCourse}
+use Rattle.forest_courses.proofs.Counting.{all_counted}
+use Rattle.forest_courses.proofs.Trapping.{Traps, all_traps}
+use Rattle.forest_courses.proofs.Pouring.{all_poured}
+use Rattle.forest_courses.proofs.Numbering.{from_numbered, poured_whole}
+
+module _ (w : World) where
+  pub trapped_course : (sizes : List ℕ) (f : Forest) (xs : List Value) (given : Given)
+      (trap : Trap) → run_each (run w sizes 0 f) xs given ≡ Err trap
+      → IsCourse w (Some f) xs (Err trap)
+  trapped_course sizes f xs given trap e =
+      subst (Traps (flat_map (visits w (trapped w) f) xs)) e (all_traps w sizes 0 f xs given)
+
+  pub made_course : (f : Forest) (xs : List Value) (given : Given) → numbered 0 f ≡ f
+      → outputs_in f < 2 ^ 64
+      → run_each (run w (sizes_in f) 0 f) xs (none_given (after 0 f) (outputs_in f)) ≡ Ok given
+      → IsCourse w (Some f) xs (Ok given)
+  made_course f xs given is few e =
+      let start = none_given (after 0 f) (outputs_in f) in record {
+        calm = subst (Traps (flat_map (visits w (trapped w) f) xs)) e
+            (all_traps w (sizes_in f) 0 f xs start);
+        lists = all_poured w (sizes_in f) 0 f xs start given e
+            ∙ poured_whole w f xs (from_numbered 0 f is);
+        counts = all_counted w (sizes_in f) f xs start given refl few refl e;
+      }
+
+  pub whole_course : (xs : List Value) (given : Given) → given.lists ≡ xs ∷ []
+      → given.counts ≡ [] → IsCourse w None xs (Ok given)
+  whole_course xs given e none = record {
+    calm = flat_map-nothing xs;
+    lists = e ∙ ap (λ l. l ∷ []) (sym (flat_map-itself xs));
+    counts = none;
+  }

@@ -1,0 +1,22 @@
+-- What the elements of a task come to.
+use Rattle.std.specs.Prelude.{◌≡◌, List, [], map, Option, Some, Result, Ok, Err, slice_get}
+use Rattle.flume_value.specs.declared.value.Value.{Value}
+use Rattle.flume_collection.specs.declared.trap.Trap.{Trap}
+use Rattle.exec_graph.specs.Forests.{Forest}
+use Rattle.exec_graph.specs.World.{World}
+use Rattle.task_lists.specs.Runs.{all_given, counts_of, kept_count, traps_of}
+use Rattle.forest_steps.specs.Running.{Given}
+
+-- nothing traps; what each output that is kept is given, and how many elements each output of each
+-- step
+-- emits
+pub record IsMade (w : World) (does : Option Forest) (xs : List Value) (given : Given)
+    : Type 0 where
+  pub calm : traps_of w does xs ≡ []
+  pub lists : given.lists ≡ all_given w does xs
+  pub counts : given.counts ≡ map kept_count (counts_of w does xs)
+
+-- what the outputs are given, or the first trap
+abbrev pub IsCourse : World → Option Forest → List Value → Result Given Trap → Type 0
+IsCourse w does xs (Ok given) = IsMade w does xs given
+IsCourse w does xs (Err trap) = slice_get (traps_of w does xs) 0 ≡ Some trap

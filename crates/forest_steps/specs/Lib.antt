@@ -1,0 +1,6 @@
+pub mod Functions
+pub mod Safety
+pub mod Running
+pub mod Fresh
+pub mod Places
+pub mod inner

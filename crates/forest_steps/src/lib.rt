@@ -1,0 +1,25 @@
+//! The steps of a forest on one element.
+//!
+//! What the functions of a script answer is told by `Functions`, which whoever has the script
+//! implements; derived functions and combinations are made here. A step is called on an element.
+//! What it emits to an output is counted, goes, each emission in order, to the steps on that
+//! output, and then into the output's list, where it is kept. The first trap ends it.
+//!
+//! `run` (specs/Running.antt) says what steps give, and `visit_steps` gives it; `visit_outputs`
+//! goes on with what one step has answered. Counts stand by the places of outputs in preorder, for
+//! which `sizes_of` makes a table once a task.
+#![tactic(auto)]
+
+mod answer;
+mod derived;
+mod fault;
+mod functions;
+mod outputs;
+mod sizes;
+mod visit;
+
+pub use fault::StepFault;
+pub use functions::Functions;
+pub use outputs::Outputs;
+pub use sizes::sizes_of;
+pub use visit::{visit_outputs, visit_steps};

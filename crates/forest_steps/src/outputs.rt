@@ -1,0 +1,99 @@
+// What the outputs of steps are given.
+ghost use Rattle.std.specs.Prelude.{◌≡◌, ◌++◌, IfOk, OnOk};
+ghost use Rattle.forest_steps.specs.Running.{counted, kept};
+ghost use Rattle.forest_steps.specs.Fresh.{empties, zeros};
+
+use flume_value::{Items, Pile};
+use std::alloc::{AllocError, Global};
+use std::marker::Model;
+
+/// What each output that is kept is given, by its number, and how many elements each output of each
+/// step emits, by its place in preorder. A count stops at its last value.
+#[derive(Drop)]
+pub struct Outputs {
+    lists: Vec<Items>,
+    counts: Vec<u64>,
+}
+
+impl Model for Outputs {
+    ghost use Rattle.forest_steps.specs.Running.{Given, given_code};
+
+    ghost Value = { Given };
+
+    ghost coded = { given_code };
+
+    ghost view = { λ o. record { lists = o.lists.items; counts = o.counts.items } };
+}
+
+impl Outputs {
+    /// So many empty lists, and so many counts of nothing.
+    pub fn new(alloc: Global, lists: usize, counts: usize) -> Result<Outputs, AllocError>
+        ensures { IfOk result (λ o. o ≡ record { lists = empties lists; counts = zeros counts }) }
+    {
+        Ok(Outputs {
+            lists: empty_lists(alloc, lists)?,
+            counts: no_counts(alloc, counts)?,
+        })
+    }
+
+    /// The lists, by the numbers of the outputs, and the counts. It takes no memory.
+    pub fn into_parts(self) -> (Vec<Items>, Vec<u64>)
+        ensures lists { result.0.items ≡ self.lists }
+        ensures counts { result.1.items ≡ self.counts }
+    {
+        let Outputs { lists, counts } = self;
+        (lists, counts)
+    }
+
+    /// Counts so many elements more at a place.
+    pub(crate) fn count(&mut self, at: usize, more: usize)
+        ensures { self.new ≡ counted at more self.old }
+    {
+        if at < self.counts.len() {
+            self.counts[at] = self.counts[at].saturating_add(more as u64);
+        }
+    }
+
+    /// Puts what was emitted behind the list of the output, where it is kept.
+    pub fn keep(&mut self, number: Option<u32>, emitted: Items) -> Result<(), AllocError>
+        ensures { OnOk result (self.new ≡ kept number emitted self.old) }
+    {
+        if let Some(number) = number {
+            let at = number as usize;
+            if at < self.lists.len() {
+                append(&mut self.lists[at], emitted)?;
+            }
+        }
+        Ok(())
+    }
+}
+
+fn append(list: &mut Items, more: Items) -> Result<(), AllocError>
+    ensures { OnOk result (list.new ≡ list.old ++ more) }
+{
+    for value in more.into_vec() {
+        list.push(value)?;
+    }
+    Ok(())
+}
+
+// So many empty lists.
+fn empty_lists(alloc: Global, count: usize) -> Result<Vec<Items>, AllocError>
+    ensures { IfOk result (λ lists. lists.items ≡ empties count) }
+{
+    let mut lists = Vec::with_capacity(alloc, count)?;
+    for _i in 0..count {
+        lists.push(Pile::new(alloc))?;
+    }
+    Ok(lists)
+}
+
+fn no_counts(alloc: Global, count: usize) -> Result<Vec<u64>, AllocError>
+    ensures { IfOk result (λ counts. counts.items ≡ zeros count) }
+{
+    let mut counts = Vec::with_capacity(alloc, count)?;
+    for _i in 0..count {
+        counts.push(0)?;
+    }
+    Ok(counts)
+}

@@ -1,0 +1,168 @@
+// The steps of a forest on one element.
+ghost use Rattle.std.specs.Prelude.{◌≡◌, ◌∷◌, IfOk, slice_get, drop};
+ghost use Rattle.std.specs.List.{AllByRecursion};
+ghost use Rattle.flume_collection.specs.Calls.{or_none};
+ghost use Rattle.exec_graph.specs.Forests.{Bare, grown, limb};
+ghost use Rattle.forest_steps.specs.Functions.{world_of};
+ghost use Rattle.forest_steps.specs.Safety.{Safe};
+ghost use Rattle.forest_steps.specs.Running.{run, run_out, run_twigs, below, behind, behind_all, IsRun, SafeTwigs};
+
+use crate::answer::answer;
+use crate::fault::StepFault;
+use crate::functions::Functions;
+use crate::outputs::Outputs;
+use exec_graph::{Output, Step};
+use flume_value::{Items, Pile, Value};
+use std::alloc::Global;
+use std::vec::IntoIter;
+
+/// The steps on an element, each in order. What a step emits to an output is counted, goes, each
+/// emission in order, to the steps on that output, and then into the output's list, where it is
+/// kept. The first output of the steps is at place `at`.
+pub fn visit_steps<F: Functions>(
+    alloc: Global,
+    functions: &F,
+    sizes: &[usize],
+    steps: &[Step],
+    at: usize,
+    x: &Value,
+    outputs: &mut Outputs,
+) -> Result<(), StepFault>
+    requires { Safe (world_of (F.called functions.now)) (F.can_call functions.now)
+        (grown steps.now) x.now }
+    ensures { IsRun (run (world_of (F.called functions.now)) sizes.now at (grown steps.now) x.now
+        outputs.old) outputs.new result }
+{
+    let mut next = at;
+    for step in steps {
+        next = visit_step(alloc, functions, sizes, step, next, x, outputs)?;
+    }
+    Ok(())
+}
+
+#[cycle(visit)]
+fn visit_step<F: Functions>(
+    alloc: Global,
+    functions: &F,
+    sizes: &[usize],
+    step: &Step,
+    at: usize,
+    x: &Value,
+    outputs: &mut Outputs,
+) -> Result<usize, StepFault>
+    requires { Safe (world_of (F.called functions.now)) (F.can_call functions.now)
+        (limb step.now Bare) x.now }
+    ensures ran { IsRun (run (world_of (F.called functions.now)) sizes.now at (limb step.now Bare)
+        x.now outputs.old) outputs.new result }
+    ensures place { IfOk result (λ next.
+        next ≡ behind_all sizes.now at (step.now.first ∷ step.now.more)) }
+{
+    let answers = answer(alloc, functions, step.origin, step.does, x)?;
+    visit_outputs(alloc, functions, sizes, step, at, answers, outputs)
+}
+
+/// What a step answered, to each of its outputs in order. It gives the place behind them.
+#[cycle(visit)]
+pub fn visit_outputs<F: Functions>(
+    alloc: Global,
+    functions: &F,
+    sizes: &[usize],
+    step: &Step,
+    at: usize,
+    answers: Vec<Items>,
+    outputs: &mut Outputs,
+) -> Result<usize, StepFault>
+    requires { SafeTwigs (world_of (F.called functions.now)) (F.can_call functions.now)
+        answers.items (step.now.first ∷ step.now.more) }
+    ensures ran { IsRun (run_twigs (world_of (F.called functions.now)) sizes.now at answers.items
+        (step.now.first ∷ step.now.more) outputs.old) outputs.new result }
+    ensures place { IfOk result (λ next.
+        next ≡ behind_all sizes.now at (step.now.first ∷ step.now.more)) }
+{
+    let mut answers = answers.into_iter();
+    let emitted = next_list(alloc, &mut answers);
+    visit_output(alloc, functions, sizes, &step.first, at, emitted, outputs)?;
+    let mut next = behind(sizes, at);
+    for output in &step.more {
+        let emitted = next_list(alloc, &mut answers);
+        visit_output(alloc, functions, sizes, output, next, emitted, outputs)?;
+        next = behind(sizes, next);
+    }
+    Ok(next)
+}
+
+#[cycle(visit)]
+fn visit_output<F: Functions>(
+    alloc: Global,
+    functions: &F,
+    sizes: &[usize],
+    output: &Output,
+    at: usize,
+    emitted: Items,
+    outputs: &mut Outputs,
+) -> Result<(), StepFault>
+    requires { AllByRecursion (Safe (world_of (F.called functions.now)) (F.can_call functions.now)
+        (grown output.now.kids.items)) emitted }
+    ensures { IsRun (run_out output.now.number at (run (world_of (F.called functions.now))
+        sizes.now (below at) (grown output.now.kids.items)) emitted outputs.old)
+        outputs.new result }
+{
+    outputs.count(at, emitted.len());
+    let first = below(at);
+    for y in emitted.as_slice() {
+        visit_kids(alloc, functions, sizes, output, first, y, outputs)?;
+    }
+    outputs.keep(output.number, emitted)?;
+    Ok(())
+}
+
+/// The steps on an output, on one emission to it.
+#[cycle(visit)]
+fn visit_kids<F: Functions>(
+    alloc: Global,
+    functions: &F,
+    sizes: &[usize],
+    output: &Output,
+    at: usize,
+    y: &Value,
+    outputs: &mut Outputs,
+) -> Result<(), StepFault>
+    requires { Safe (world_of (F.called functions.now)) (F.can_call functions.now)
+        (grown output.now.kids.items) y.now }
+    ensures { IsRun (run (world_of (F.called functions.now)) sizes.now at
+        (grown output.now.kids.items) y.now outputs.old) outputs.new result }
+{
+    let mut next = at;
+    for kid in &output.kids {
+        next = visit_step(alloc, functions, sizes, kid, next, y, outputs)?;
+    }
+    Ok(())
+}
+
+/// The list for the next output. Where a step has more outputs than it answered to, they get none.
+fn next_list(alloc: Global, answers: &mut IntoIter<Items>) -> Items
+    ensures next { result ≡ or_none (slice_get answers.old.rest.items 0) }
+    ensures rest { answers.new.rest.items ≡ drop 1 answers.old.rest.items }
+{
+    match answers.next() {
+        Some(list) => list,
+        None => Pile::new(alloc),
+    }
+}
+
+/// The place of the first output on the one at this place.
+fn below(at: usize) -> usize
+    ensures { result ≡ below at }
+{
+    at.saturating_add(1)
+}
+
+/// The place of the first output behind the one at this place and all on it.
+fn behind(sizes: &[usize], at: usize) -> usize
+    ensures { result ≡ behind sizes.now at }
+{
+    match sizes.get(at) {
+        Some(size) => at.saturating_add(*size),
+        None => at,
+    }
+}

@@ -1,0 +1,3 @@
+pub mod Lifting
+pub mod Groups
+pub mod Finishing

@@ -1,0 +1,116 @@
+-- The map tasks of a stage: what they read, when they can be made, and what is right for them to
+-- give.
+use Rattle.std.specs.Prelude.{◌≡◌, ℕ, ◌<◌, ◌*◌, ◌/◌, ◌%◌, ◌^◌, All, List, [], length, Option, Some, None, Result, Ok, Err, refl}
+use Rattle.std.specs.List.{AllByRecursion, AllZip}
+use Rattle.std.specs.Coded.{Coded, code_by, coded×, coded_ℕ, coded_list}
+use Rattle.flume_value.specs.declared.value.Value.{Value}
+use Rattle.flume_value.specs.contracts.value.Value as values
+use Rattle.flume_collection.specs.declared.trap.Trap.{Trap}
+use Rattle.flume_collection.specs.Calls.{Called}
+use Rattle.bag_groups.specs.Pairs.{IsPair}
+use Rattle.combine_table.specs.declared.comb.Comb.{Comb}
+use Rattle.partial_tables.specs.Merges.{IsCombinable}
+use Rattle.shuffle_parts.specs.declared.out.MapOut.{MapOut}
+use Rattle.exec_graph.specs.World.{World}
+use Rattle.exec_plan.specs.Wellformed.{Exists, IsNumbered}
+use Rattle.exec_plan.specs.declared.plan.InChannel.{InChannel}
+use Rattle.exec_plan.specs.declared.plan.OutChannel.{OutChannel}
+use Rattle.exec_plan.specs.declared.plan.OutChannel.TheVariants.{Group, Pass}
+use Rattle.exec_plan.specs.declared.plan.Mscr.{Mscr}
+use Rattle.exec_plan.specs.declared.plan.Take.{Take}
+use Rattle.exec_plan.specs.contracts.plan.Mscr as stages
+use Rattle.task_lists.specs.Outs.{IsMapValue}
+use Rattle.task_lists.specs.Tasks.{Lists, Split, Task, given_to, map_count, map_task_of, places}
+use Rattle.forest_steps.specs.Functions.{world_of}
+use Rattle.forest_steps.specs.Safety.{SafeOf}
+use Rattle.map_shard.specs.Tables.{split, table}
+
+-- functions, the lists of the sources and of the results of earlier stages, a stage, and into how
+-- many shards and partitions its channels are split
+pub record Work (F : Type 0) : Type 0 where
+  pub functions : F
+  pub sources : List (List Value)
+  pub results : List (List (List Value))
+  pub stage : Mscr
+  pub shards : ℕ
+  pub partitions : ℕ
+
+abbrev pub work_code : {F : Type 0} → Coded F → Coded (Work F)
+work_code {F} code =
+    code_by
+    (F × (List (List Value) × (List (List (List Value)) × (Mscr × (ℕ × ℕ)))))
+    (coded× code
+    (coded× (coded_list (coded_list values.the_row.coded))
+    (coded× (coded_list (coded_list (coded_list values.the_row.coded)))
+    (coded× stages.the_row.coded (coded× coded_ℕ coded_ℕ)))))
+    (λ w. (w.functions, (w.sources, (w.results, (w.stage, (w.shards, w.partitions))))))
+    (λ p. record {
+      functions = p.0;
+      sources = p.1.0;
+      results = p.1.1.0;
+      stage = p.1.1.1.0;
+      shards = p.1.1.1.1.0;
+      partitions = p.1.1.1.1.1;
+    })
+    (λ _. refl)
+
+module _ {F : Type 0} where
+  abbrev pub split_of : Work F → Split
+  split_of w = split w.shards w.partitions
+
+  abbrev pub lists_of : Work F → Lists
+  lists_of w = table w.sources w.results
+
+  -- shard i of input channel m
+  abbrev pub shard_task : Work F → ℕ → ℕ → Task
+  shard_task w m i = map_task_of (split_of w) (lists_of w) w.stage.inputs m i
+
+  abbrev pub work_count : Work F → ℕ
+  work_count w = map_count (split_of w) w.stage
+
+  -- task k is shard k % shards of input channel k / shards
+  abbrev pub task_at : Work F → ℕ → Task
+  task_at w k = shard_task w (k / w.shards) (k % w.shards)
+
+  abbrev pub work_places : Work F → ℕ → ℕ
+  work_places w k = places (task_at w k)
+
+-- ---- when the tasks can be made
+
+-- what a grouping channel is given are pairs, and where it is lifted pairs that its combiner takes
+abbrev pub ArePairs : Option Comb → List Value → Type 0
+ArePairs None given = All IsPair given
+ArePairs (Some c) given = All (IsCombinable c) given
+
+-- what an output channel takes is there, and fit for it, where `given` says what it is given
+abbrev pub IsFit : List InChannel → (List Take → List Value) → OutChannel → Type 0
+IsFit ins given (Pass k number) = Exists ins k
+IsFit ins given (Group g) = AllByRecursion (Exists ins) g.takes × ArePairs g.lifted (given g.takes)
+
+-- the steps of shard i of input channel m may be called on its elements, and what they give is fit
+-- for the output channels
+pub record IsReady {F : Type 0} (w : World) (takes : ℕ → Value → Type 0) (work : Work F) (m i : ℕ)
+    : Type 0 where
+  pub safe : AllByRecursion (SafeOf w takes (shard_task work m i).does)
+      (shard_task work m i).elements
+  pub fit : AllByRecursion
+      (IsFit work.stage.inputs (given_to w (shard_task work m i) m)) work.stage.outputs
+
+pub record CanWork {F : Type 0} (w : World) (takes : ℕ → Value → Type 0) (work : Work F)
+    : Type 0 where
+  pub shards : 0 < work.shards
+  pub partitions : 0 < work.partitions
+  pub few : length work.stage.inputs * work.shards < 2 ^ 32
+  pub steps : AllByRecursion (λ c. IsNumbered c.does) work.stage.inputs
+  pub ready : (m i : ℕ) → m < length work.stage.inputs → i < work.shards
+      → IsReady w takes work m i
+
+-- ---- what is right to give
+
+-- the value of task k, in each world in which functions answer so
+abbrev pub IsWorkValue : {F : Type 0} → (ℕ → Value → Called) → Work F → ℕ
+    → Result MapOut Trap → Type 0
+IsWorkValue called work k out =
+    (w : World) → w.called ≡ called
+    → IsMapValue w (split_of work) (lists_of work) work.stage (k / work.shards) (k % work.shards)
+    out

@@ -1,0 +1,68 @@
+-- What all tasks of a plan come to: the first trap, and the sizes that they count.
+use Rattle.std.specs.Prelude.{ℕ, cond, ◌==◌, ◌&&◌, ◌+◌, List, [], ◌∷◌, ◌++◌, sum, Option}
+use Rattle.std.proofs.Common.{suc}
+use Rattle.std.specs.List.{slice_get}
+use Rattle.flume_collection.specs.declared.trap.Trap.{Trap}
+use Rattle.exec_graph.specs.World.{World}
+use Rattle.exec_plan.specs.declared.plan.Grouping.{Grouping}
+use Rattle.exec_plan.specs.declared.plan.Stage.{Stage}
+use Rattle.exec_plan.specs.declared.plan.Stage.TheVariants.{Mscr, Flatten}
+use Rattle.exec_plan.specs.declared.plan.Plan.{Plan}
+use Rattle.task_lists.specs.Runs.{traps_of, counts_of, labels_of, own_count}
+use Rattle.task_lists.specs.Tasks.{Split, Lists, Task, places, map_phase, reduce_phase}
+use Rattle.task_lists.specs.Lists.{result_lists, with_lists, source_lists}
+
+-- what is said of a map task, and of a reduce task of a channel
+pub record Says (Y : Type 0) : Type 0 where
+  pub maps : Task → List Y
+  pub reduces : Grouping → Task → List Y
+
+-- of the tasks of a stage: first those of the map phase, then those of the reduce phase. A Flatten
+-- stage has no tasks
+abbrev pub stage_tasks : {Y : Type 0} → Says Y → World → Split → Lists → Stage → List Y
+stage_tasks q w n t (Mscr s) = map_phase q.maps n t s ++ reduce_phase q.reduces w n t s
+stage_tasks q w n t (Flatten takes) = []
+
+-- of the stages from number k on, each over the lists that it finds
+abbrev pub tasks_from : {Y : Type 0} → Says Y → World → Split → ℕ → List Stage → Lists → List Y
+tasks_from q w n k [] t = []
+tasks_from q w n k (s ∷ ss) t =
+    stage_tasks q w n t s ++ tasks_from q w n (suc k) ss (with_lists k (result_lists w n t s) t)
+
+-- of all tasks of a plan, phase after phase and in order of tasks
+abbrev pub all_tasks : {Y : Type 0} → Says Y → World → Split → Plan → List Y
+all_tasks q w n p = tasks_from q w n 1 p.stages (source_lists w)
+
+-- ---- traps
+
+abbrev pub task_traps : World → Says Trap
+task_traps w = record {
+  maps = λ task. traps_of w task.does task.elements;
+  reduces = λ g task. traps_of w task.does task.elements;
+}
+
+-- the first trap of the least trapping task of the first phase that has one. A run ends there, and
+-- no list after it counts
+abbrev pub first_trap : World → Split → Plan → Option Trap
+first_trap w n p = slice_get (all_tasks (task_traps w) w n p) 0
+
+-- ---- sizes
+
+-- what a task's steps count for script node i
+abbrev pub steps_count : World → ℕ → Task → ℕ
+steps_count w i task =
+    own_count i (labels_of task.does) (counts_of w task.does task.elements)
+
+-- a task's groups, where they are members of the bag of script node i
+abbrev pub groups_count : ℕ → Grouping → Task → ℕ
+groups_count i g task = cond (g.last && (g.origin == i)) (places task) 0
+
+abbrev pub task_counts : World → ℕ → Says ℕ
+task_counts w i = record {
+  maps = λ task. steps_count w i task ∷ [];
+  reduces = λ g task. (groups_count i g task + steps_count w i task) ∷ [];
+}
+
+-- how many members the tasks count for script node i
+abbrev pub size_of : World → Split → Plan → ℕ → ℕ
+size_of w n p i = sum (all_tasks (task_counts w i) w n p)

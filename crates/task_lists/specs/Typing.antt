@@ -1,0 +1,32 @@
+-- The types of the lists of a plan's collections, and of the elements of its tasks.
+use Rattle.std.specs.Prelude.{ℕ, All, List, Option, Some, None}
+use Rattle.flume_value.specs.declared.value.Value.{Value}
+use Rattle.flume_types.specs.declared.types.Ty.{Ty}
+use Rattle.flume_types.specs.Typing.{AllHave}
+use Rattle.bag_groups.specs.Pairs.{IsPair}
+use Rattle.combine_table.specs.declared.comb.Comb.{Comb}
+use Rattle.partial_tables.specs.Merges.{IsCombinable}
+use Rattle.exec_graph.specs.declared.graph.Place.{Place}
+use Rattle.exec_graph.specs.Typing.{Signatures}
+use Rattle.exec_plan.specs.declared.plan.PlanPlace.{PlanPlace}
+use Rattle.exec_plan.specs.Typing.{ChannelTyped}
+use Rattle.task_lists.specs.Tasks.{Lists, Task}
+
+-- each list has its collection's type
+abbrev pub AreListsTyped : (PlanPlace → Ty) → Lists → Type 0
+AreListsTyped types t = (c : PlanPlace) → AllHave (types c) (t c)
+
+-- the elements of a task have a type whose members its steps take
+pub record IsTaskTyped (s : Signatures) (task : Task) : Type 0 where
+  pub element : Ty
+  -- the types of its outputs
+  pub outs : Place → Ty
+  pub node : ℕ
+  pub members : AllHave element task.elements
+  pub steps : ChannelTyped s outs node element task.does
+
+-- what a grouping channel may be given: pairs, and a lifted one pairs of a key and a value that its
+-- combiner takes
+abbrev pub AreGroupable : Option Comb → List Value → Type 0
+AreGroupable None pairs = All IsPair pairs
+AreGroupable (Some c) pairs = All (IsCombinable c) pairs
