@@ -1,0 +1,10 @@
+//! Worked scripts: all files, the screen and the exit status of a call of `flume` over the forms in
+//! memory. `direct` has those of the command `direct`, and `plans` those of `plan`.
+#![tactic(auto)]
+
+#[cfg(test)]
+mod calls;
+#[cfg(test)]
+mod direct;
+#[cfg(test)]
+mod plans;
