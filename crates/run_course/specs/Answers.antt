@@ -2,11 +2,14 @@
 use Rattle.std.specs.Prelude.{◌≡◌, ◌++◌, ℕ, List, Option, Some, None, Err, slice_get, ⊤}
 use Rattle.std.specs.List.{Contains}
 use Rattle.std.specs.Option.{option_map}
+use Rattle.build_law.specs.Worlds.{world_of}
+use Rattle.crew.specs.Hosts.{Account}
 use Rattle.csv_rows.specs.Rows.{rows_of}
 use Rattle.csv_rows.specs.declared.fault.RowFault.TheVariants.{Bad}
 use Rattle.csv_rows.specs.declared.fault.RowKind.{RowKind}
 use Rattle.direct_meaning.specs.Direct.{traps_of}
-use Rattle.direct_meaning.specs.Inputs.{Wanted}
+use Rattle.direct_meaning.specs.Inputs.{Wanted, inputs_of}
+use Rattle.exec_plan.specs.declared.plan.Plan.{Plan}
 use Rattle.flume_collection.specs.Traps.{IsLeast}
 use Rattle.flume_collection.specs.declared.trap.Trap.{Trap as TrapOf}
 use Rattle.flume_value.specs.declared.fault.Kind.{Kind}
@@ -17,21 +20,27 @@ use Rattle.outside.specs.Says.{HasFront, HasLine}
 use Rattle.outside.specs.Seen.{Seen, SeenShelf}
 use Rattle.outside.specs.Told.{WhereTold}
 use Rattle.outside.specs.declared.file.File.{File as NamedBytes}
+use Rattle.outside.specs.declared.host.Phase.{Phase}
+use Rattle.plan_phases.specs.Phases.{phases}
+use Rattle.plan_phases.specs.Told.{IsGivenUp}
+use Rattle.run_settings.specs.Settings.{RunSettings}
 use Rattle.run_texts.specs.Lines.{line_of, trap_line}
 use Rattle.run_texts.specs.declared.status.Place.{Place}
 use Rattle.run_texts.specs.declared.status.Place.TheVariants.{File, Screen}
 use Rattle.flume_grammar.specs.declared.fault.ScriptKind.{ScriptKind}
 use Rattle.run_texts.specs.declared.status.Status.{Status}
-use Rattle.run_texts.specs.declared.status.Status.TheVariants.{Done, Usage, ScriptRefused, InputRefused, Trap, ReadFault, WriteFault, WantOfMemory, TooLong, NoFile}
+use Rattle.run_texts.specs.declared.status.Status.TheVariants.{Done, GaveUp, Usage, ScriptRefused, InputRefused, Trap, ReadFault, WriteFault, WantOfMemory, TooLong, NoFile}
 use Rattle.script_check.specs.Script.{Script}
+use Rattle.script_plans.specs.Plans.{IsScriptPlan}
+use Rattle.task_lists.specs.Plans.{first_trap}
 use Rattle.run_course.specs.Accepted.{Refused}
-use Rattle.run_course.specs.Asked.{AskFor, IsAbove, IsAskedFor, IsMissing, IsTurnOf, Loads, Reads}
+use Rattle.run_course.specs.Asked.{AllHaveRows, AskFor, IsAbove, IsAskedFor, IsMissing, IsTurnOf, Loads, Reads, tries_of}
 use Rattle.command_words.specs.Words.{asked_for}
 use Rattle.run_course.specs.World.{World}
-use Rattle.run_course.specs.Written.{IsMeant, IsWritten, Table}
-use Rattle.run_course.specs.declared.limits.TheConstants.{SCRIPT_LIMIT, INPUT_LIMIT, TRIES}
+use Rattle.run_course.specs.Written.{IsMeant, IsWritten, Table, lent, split_of}
+use Rattle.run_course.specs.declared.limits.TheConstants.{SCRIPT_LIMIT, INPUT_LIMIT}
 use Rattle.command_words.specs.declared.words.Command.{Command}
-use Rattle.command_words.specs.declared.words.Command.TheVariants.{Check, Plan, Direct, Run}
+use Rattle.command_words.specs.declared.words.Command.TheVariants.{Check, Plan as Show, Direct, Run}
 
 -- ---- what is written
 
@@ -53,24 +62,28 @@ FailsAtFile name files before after =
     × FailsAt place files before after
 
 -- Done: each output file of the command is whole and ended, and the screen has got its text. For
--- `direct` and `run` no call traps, and a file is the sorted text of the script's direct meaning.
+-- `direct` and `run` no call traps, and a file is the sorted text of the script's direct meaning,
+-- and for `run` each task of the plan was run.
 abbrev pub IsDone : List (List ℕ) → World → World → Type 0
 IsDone words before after =
-    (files : List NamedBytes) × (text : List ℕ) × IsWritten words before.source.told files text
+    (files : List NamedBytes) × (text : List ℕ)
+    × IsWritten words before.source.told before.hosts after.hosts files text
     × HasFiles files before.shelf after.shelf × HasText text before.screen after.screen
 
 -- WriteFault of a file: the call came to its writing, so no call of a function traps, and the shelf
 -- failed there
 abbrev pub IsFileFault : List ℕ → List (List ℕ) → World → World → Type 0
 IsFileFault name words before after =
-    (files : List NamedBytes) × (text : List ℕ) × IsWritten words before.source.told files text
+    (files : List NamedBytes) × (text : List ℕ)
+    × IsWritten words before.source.told before.hosts after.hosts files text
     × FailsAtFile name files before.shelf after.shelf
     × HasLine (line_of (WriteFault (File name))) before.screen after.screen
 
 -- WriteFault of the screen: every output file is whole and ended, and the screen failed in its text
 abbrev pub IsScreenFault : List (List ℕ) → World → World → Type 0
 IsScreenFault words before after =
-    (files : List NamedBytes) × (text : List ℕ) × IsWritten words before.source.told files text
+    (files : List NamedBytes) × (text : List ℕ)
+    × IsWritten words before.source.told before.hosts after.hosts files text
     × HasFiles files before.shelf after.shelf × IsCutOff text before.screen after.screen
 
 -- what a call that came to its writing left, where that failed
@@ -80,13 +93,19 @@ IsWriteFault Screen words before after = IsScreenFault words before after
 
 -- ---- what is not
 
--- the trap that a command may tell of, among those of the script: `direct` tells of the least, and
--- `check` and `plan` of none
-abbrev pub MayTell : Command → List TrapOf → TrapOf → Type 0
-MayTell Check traps trap = ⊥
-MayTell (Plan form) traps trap = ⊥
-MayTell Direct traps trap = IsLeast traps trap
-MayTell Run traps trap = Contains traps trap
+-- it is the first trap of the tasks of the script's plan, as the settings split it
+abbrev pub IsFirstOfTasks : RunSettings → Script → List (List Value) → TrapOf → Type 0
+IsFirstOfTasks s script rows trap =
+    (plan : Plan) × IsScriptPlan script plan
+    × (first_trap (world_of script rows) (split_of s) plan ≡ Some trap)
+
+-- the trap that a command may tell of, among those of the script over these rows: `direct` tells of
+-- the least, `run` of the first of its tasks, and `check` and `plan` of none
+abbrev pub MayTell : Command → Script → List (List Value) → List TrapOf → TrapOf → Type 0
+MayTell Check script rows traps trap = ⊥
+MayTell (Show form) script rows traps trap = ⊥
+MayTell Direct script rows traps trap = IsLeast traps trap
+MayTell (Run s) script rows traps trap = Contains traps trap × IsFirstOfTasks s script rows trap
 
 -- the name of the collection of a number, where there is one
 abbrev pub name_at : Script → ℕ → Option (List ℕ)
@@ -100,7 +119,7 @@ IsTrap origin kind element words before after =
     × (name : List ℕ)
     × Reads words before.source.told command script
     × IsMeant before.source.told script rows table
-    × MayTell command (traps_of table)
+    × MayTell command script rows (traps_of table)
     (record { origin = origin; element = element; kind = kind })
     × (name_at script origin ≡ Some name)
     × (after.shelf ≡ before.shelf)
@@ -113,18 +132,22 @@ IsUsage words = asked_for words ≡ None
 -- NoFile: it is the file's turn, and the source has none of that name
 abbrev pub IsNoFile : List ℕ → List (List ℕ) → Seen (List NamedBytes) → Type 0
 IsNoFile name words source =
-    (limit : ℕ) × IsAskedFor words source.told name limit × IsMissing source.told name
+    (command : Command) × (limit : ℕ) × IsAskedFor words source.told command name limit
+    × IsMissing source.told name
 
 -- TooLong: it is the file's turn, and it has more bytes than its limit
 abbrev pub IsTooLong : List ℕ → ℕ → List (List ℕ) → Seen (List NamedBytes) → Type 0
 IsTooLong name limit words source =
-    IsAskedFor words source.told name limit × IsAbove source.told name limit
+    (command : Command) × IsAskedFor words source.told command name limit
+    × IsAbove source.told name limit
 
--- ReadFault: it is the file's turn, and the source failed in each of its loads
+-- ReadFault: it is the file's turn, and the source failed in each of its loads, as often as the
+-- command tries
 abbrev pub IsReadFault : List ℕ → List (List ℕ) → Seen (List NamedBytes) →
     Seen (List NamedBytes) → Type 0
 IsReadFault name words before after =
-    (limit : ℕ) × IsAskedFor words before.told name limit × RoseBy TRIES before.faults after.faults
+    (command : Command) × (limit : ℕ) × IsAskedFor words before.told command name limit
+    × RoseBy (tries_of command) before.faults after.faults
 
 -- ScriptRefused: the script was loaded, and its bytes are refused so
 abbrev pub IsScriptRefused : ℕ → ScriptKind → List (List ℕ) → Seen (List NamedBytes) → Type 0
@@ -137,9 +160,22 @@ IsScriptRefused line kind words source =
 abbrev pub IsInputRefused : List ℕ → ℕ → ℕ → RowKind → List (List ℕ) → Seen (List NamedBytes) →
     Type 0
 IsInputRefused name row column kind words source =
-    (wanted : Wanted) × (bytes : List ℕ) × IsTurnOf words source.told wanted × (name ≡ wanted.file)
+    (command : Command) × (wanted : Wanted) × (bytes : List ℕ)
+    × IsTurnOf words source.told command wanted × (name ≡ wanted.file)
     × Loads source.told wanted.file INPUT_LIMIT bytes
     × (rows_of bytes wanted.type ≡ Some (Err (Bad row column kind)))
+
+-- GaveUp: the words ask for a run, all its inputs have rows, and of this task of a phase of its plan
+-- no attempt has won: the drill and the losses of the lent hosts account for each of its tries. No
+-- phase before it traps, and no smaller task of it
+abbrev pub IsGaveUp : ℕ → Phase → ℕ → List (List ℕ) → Option (List NamedBytes) → List Account
+    → List Account → Type 0
+IsGaveUp stage phase task words told olds news =
+    (s : RunSettings) × (script : Script) × (rows : List (List Value)) × (plan : Plan)
+    × Reads words told (Run s) script × AllHaveRows told (inputs_of script) rows
+    × IsScriptPlan script plan
+    × IsGivenUp s.tries s.drill (world_of script rows)
+    (phases (world_of script rows) (split_of s) plan) (lent s olds) (lent s news) stage phase task
 
 -- a refusal before anything is written: the shelf is untouched, and the screen has the refusal's
 -- line
@@ -150,19 +186,22 @@ pub record IsRefused (status : Status) (before after : World) : Type 0 where
 -- ---- the answer
 
 -- the cause of each refusal that comes before anything is written; want of memory needs none
-abbrev pub IsCause : List (List ℕ) → Seen (List NamedBytes) → Seen (List NamedBytes) → Status →
-    Type 0
-IsCause words before after Usage = IsUsage words
-IsCause words before after (NoFile name) = IsNoFile name words before
-IsCause words before after (TooLong name limit) = IsTooLong name limit words before
-IsCause words before after (ReadFault name) = IsReadFault name words before after
-IsCause words before after (ScriptRefused line kind) = IsScriptRefused line kind words before
-IsCause words before after (InputRefused name row column kind) =
+abbrev pub IsCause : List (List ℕ) → Seen (List NamedBytes) → Seen (List NamedBytes)
+    → List Account → List Account → Status → Type 0
+IsCause words before after olds news Usage = IsUsage words
+IsCause words before after olds news (NoFile name) = IsNoFile name words before
+IsCause words before after olds news (TooLong name limit) = IsTooLong name limit words before
+IsCause words before after olds news (ReadFault name) = IsReadFault name words before after
+IsCause words before after olds news (ScriptRefused line kind) =
+    IsScriptRefused line kind words before
+IsCause words before after olds news (InputRefused name row column kind) =
     IsInputRefused name row column kind words before
-IsCause words before after WantOfMemory = ⊤
-IsCause words before after Done = ⊥
-IsCause words before after (Trap origin kind element) = ⊥
-IsCause words before after (WriteFault place) = ⊥
+IsCause words before after olds news (GaveUp stage phase task) =
+    IsGaveUp stage phase task words before.told olds news
+IsCause words before after olds news WantOfMemory = ⊤
+IsCause words before after olds news Done = ⊥
+IsCause words before after olds news (Trap origin kind element) = ⊥
+IsCause words before after olds news (WriteFault place) = ⊥
 
 -- what each answer says of the words, of what stood before the call and of what stands after it
 abbrev pub Answers : List (List ℕ) → World → World → Status → Type 0
@@ -171,4 +210,5 @@ Answers words before after (Trap origin kind element) =
     IsTrap origin kind element words before after
 Answers words before after (WriteFault place) = IsWriteFault place words before after
 Answers words before after status =
-    IsCause words before.source after.source status × IsRefused status before after
+    IsCause words before.source after.source before.hosts after.hosts status
+    × IsRefused status before after

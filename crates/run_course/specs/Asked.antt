@@ -8,7 +8,7 @@ use Rattle.outside.specs.declared.file.File.{File}
 use Rattle.script_check.specs.Script.{Script}
 use Rattle.run_course.specs.Accepted.{Accepted}
 use Rattle.command_words.specs.Words.{asked_for}
-use Rattle.run_course.specs.declared.limits.TheConstants.{SCRIPT_LIMIT, INPUT_LIMIT}
+use Rattle.run_course.specs.declared.limits.TheConstants.{SCRIPT_LIMIT, INPUT_LIMIT, TRIES}
 use Rattle.command_words.specs.declared.words.Command.{Command}
 use Rattle.command_words.specs.declared.words.Command.TheVariants.{Check, Plan, Direct, Run}
 
@@ -25,6 +25,11 @@ IsAbove told name limit =
 -- the source has no file of that name, where files are told
 abbrev pub IsMissing : Option (List File) → List ℕ → Type 0
 IsMissing told name = IfSome told (λ files. bytes_of files name ≡ None)
+
+-- how often a file is loaded for a command before the source's failure is the answer
+abbrev pub tries_of : Command → ℕ
+tries_of (Run settings) = settings.tries
+tries_of _ = TRIES
 
 -- the words ask for this command on the script of that name
 abbrev pub AskFor : List (List ℕ) → Command → List ℕ → Type 0
@@ -55,20 +60,21 @@ abbrev pub inputs_read : Command → Script → List Wanted
 inputs_read Check script = []
 inputs_read (Plan form) script = []
 inputs_read Direct script = inputs_of script
-inputs_read Run script = inputs_of script
+inputs_read (Run settings) script = inputs_of script
 
--- it is the turn of an input: the words ask for a command that reads it, and the inputs before it
--- have rows
-abbrev pub IsTurnOf : List (List ℕ) → Option (List File) → Wanted → Type 0
-IsTurnOf words told wanted =
-    (command : Command) × (script : Script) × (before : List Wanted) × (behind : List Wanted)
+-- it is the turn of an input: the words ask for this command, which reads it, and the inputs
+-- before it have rows
+abbrev pub IsTurnOf : List (List ℕ) → Option (List File) → Command → Wanted → Type 0
+IsTurnOf words told command wanted =
+    (script : Script) × (before : List Wanted) × (behind : List Wanted)
     × (rows : List (List Value))
     × Reads words told command script × (inputs_read command script ≡ before ++ wanted ∷ behind)
     × AllHaveRows told before rows
 
--- it is the turn of a file to be loaded, with that limit: the script's, or an input's
-abbrev pub IsAskedFor : List (List ℕ) → Option (List File) → List ℕ → ℕ → Type 0
-IsAskedFor words told name limit =
-    ((command : Command) × AskFor words command name × (limit ≡ SCRIPT_LIMIT))
-    ⊎ ((wanted : Wanted) × IsTurnOf words told wanted × (name ≡ wanted.file)
+-- the words ask for this command, and it is the turn of a file to be loaded, with that limit: the
+-- script's, or an input's
+abbrev pub IsAskedFor : List (List ℕ) → Option (List File) → Command → List ℕ → ℕ → Type 0
+IsAskedFor words told command name limit =
+    (AskFor words command name × (limit ≡ SCRIPT_LIMIT))
+    ⊎ ((wanted : Wanted) × IsTurnOf words told command wanted × (name ≡ wanted.file)
     × (limit ≡ INPUT_LIMIT))

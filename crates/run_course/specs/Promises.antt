@@ -1,24 +1,30 @@
 -- What a call promises.
 use Rattle.std.specs.Prelude.{◌≡◌, ◌⊎◌, ℕ, false, List, [], ◌∷◌, Some, IsSome, ⊤}
+use Rattle.build_law.specs.Worlds.{world_of}
+use Rattle.crew.specs.Hosts.{Account}
 use Rattle.csv_rows.specs.declared.fault.RowKind.{RowKind}
 use Rattle.direct_meaning.specs.Direct.{meaning, traps_of}
+use Rattle.exec_plan.specs.declared.plan.Plan.{Plan}
 use Rattle.flume_collection.specs.declared.trap.Trap.{Trap as TrapOf}
 use Rattle.flume_value.specs.declared.fault.Kind.{Kind}
 use Rattle.flume_value.specs.declared.value.Value.{Value}
 use Rattle.outside.specs.Cause.{Rose, RoseBy}
 use Rattle.outside.specs.Seen.{SeenShelf}
-use Rattle.run_course.specs.Answers.{IsDone, IsFileFault, IsInputRefused, IsNoFile, IsReadFault, IsRefused, IsScreenFault, IsScriptRefused, IsTooLong, IsTrap, IsUsage}
-use Rattle.run_course.specs.Asked.{AllHaveRows, Reads, inputs_read}
+use Rattle.outside.specs.declared.host.Phase.{Phase}
+use Rattle.plan_phases.specs.Phases.{phases}
+use Rattle.plan_phases.specs.Told.{CanFinishAll}
+use Rattle.run_course.specs.Answers.{IsDone, IsFileFault, IsGaveUp, IsInputRefused, IsNoFile, IsReadFault, IsRefused, IsScreenFault, IsScriptRefused, IsTooLong, IsTrap, IsUsage}
+use Rattle.run_course.specs.Asked.{AllHaveRows, Reads, inputs_read, tries_of}
 use Rattle.run_course.specs.World.{Keeps, World}
-use Rattle.run_course.specs.Written.{Table}
-use Rattle.run_course.specs.declared.limits.TheConstants.{TRIES}
+use Rattle.run_course.specs.Written.{Table, lent, split_of}
 use Rattle.command_words.specs.declared.words.Command.{Command}
-use Rattle.command_words.specs.declared.words.Command.TheVariants.{Check, Plan, Direct, Run}
+use Rattle.command_words.specs.declared.words.Command.TheVariants.{Check, Plan as Show, Direct, Run}
 use Rattle.script_check.specs.Script.{Script}
+use Rattle.script_plans.specs.Plans.{IsScriptPlan}
 use Rattle.run_texts.specs.declared.status.Place.TheVariants.{File, Screen}
 use Rattle.flume_grammar.specs.declared.fault.ScriptKind.{ScriptKind}
 use Rattle.run_texts.specs.declared.status.Status.{Status}
-use Rattle.run_texts.specs.declared.status.Status.TheVariants.{Done, Usage, ScriptRefused, InputRefused, Trap, ReadFault, WriteFault, WantOfMemory, TooLong, NoFile}
+use Rattle.run_texts.specs.declared.status.Status.TheVariants.{Done, GaveUp, Usage, ScriptRefused, InputRefused, Trap, ReadFault, WriteFault, WantOfMemory, TooLong, NoFile}
 
 -- what stands after each answer that comes before anything is written
 abbrev pub IsRefusal : Status → World → World → Type 0
@@ -29,6 +35,7 @@ IsRefusal (ReadFault name) before after = IsRefused (ReadFault name) before afte
 IsRefusal (ScriptRefused line kind) before after = IsRefused (ScriptRefused line kind) before after
 IsRefusal (InputRefused name row column kind) before after =
     IsRefused (InputRefused name row column kind) before after
+IsRefusal (GaveUp stage phase task) before after = IsRefused (GaveUp stage phase task) before after
 IsRefusal WantOfMemory before after = IsRefused WantOfMemory before after
 IsRefusal Done before after = ⊤
 IsRefusal (Trap origin kind element) before after = ⊤
@@ -48,21 +55,31 @@ IsEnded status shelf = shelf.begun ≡ false
 -- the shelf does not fail, where a command writes files
 abbrev pub IsShelfCalm : Command → SeenShelf → SeenShelf → Type 0
 IsShelfCalm Check before after = ⊤
-IsShelfCalm (Plan form) before after = ⊤
+IsShelfCalm (Show form) before after = ⊤
 IsShelfCalm Direct before after = Rose before.faults after.faults → ⊥
-IsShelfCalm Run before after = Rose before.faults after.faults → ⊥
+IsShelfCalm (Run s) before after = Rose before.faults after.faults → ⊥
+
+-- the hosts can bring each task of a command to its end: for each task of a run's plan some try is
+-- neither in the drill nor accounted for by the losses of the lent hosts
+abbrev pub CanEnd : Command → Script → List (List Value) → List Account → List Account → Type 0
+CanEnd (Run s) script rows olds news =
+    (plan : Plan) → IsScriptPlan script plan
+    → CanFinishAll s.tries s.drill (phases (world_of script rows) (split_of s) plan) (lent s olds)
+    (lent s news)
+CanEnd _ script rows olds news = ⊤
 
 -- All is there that a command needs: files are told, the words ask for it on this script, the
 -- inputs that it reads have these rows, the source fails less often than each file may be tried,
--- and neither the shelf, where it writes files, nor the screen fails.
+-- neither the shelf, where it writes files, nor the screen fails, and its hosts can end its tasks.
 pub record CanRun (words : List (List ℕ)) (before after : World) (command : Command)
     (script : Script) (rows : List (List Value)) : Type 0 where
   pub told : IsSome before.source.told
   pub reads : Reads words before.source.told command script
   pub inputs : AllHaveRows before.source.told (inputs_read command script) rows
-  pub source : RoseBy TRIES before.source.faults after.source.faults → ⊥
+  pub source : RoseBy (tries_of command) before.source.faults after.source.faults → ⊥
   pub shelf : IsShelfCalm command before.shelf after.shelf
   pub screen : Rose before.screen.faults after.screen.faults → ⊥
+  pub hosts : CanEnd command script rows before.hosts after.hosts
 
 abbrev pub IsTrapped : Status → Type 0
 IsTrapped (Trap origin kind element) = ⊤
@@ -81,9 +98,9 @@ EndsByMeaning script rows status =
 -- a command came to its end: a script is checked and planned whatever its traps, else they decide
 abbrev pub EndsAs : Command → Script → List (List Value) → Status → Type 0
 EndsAs Check script rows status = status ≡ Done
-EndsAs (Plan form) script rows status = status ≡ Done
+EndsAs (Show form) script rows status = status ≡ Done
 EndsAs Direct script rows status = EndsByMeaning script rows status
-EndsAs Run script rows status = EndsByMeaning script rows status
+EndsAs (Run s) script rows status = EndsByMeaning script rows status
 
 -- the same, or no memory was found
 abbrev pub IsEnd : Command → Script → List (List Value) → Status → Type 0
@@ -94,7 +111,8 @@ IsEnd command script rows status = (status ≡ WantOfMemory) ⊎ EndsAs command 
 pub record Promises (words : List (List ℕ)) (before after : World) (status : Status) : Type 0 where
   -- the headline: every output file is whole, ended and right, and so is the screen's text
   pub done : status ≡ Done → IsDone words before after
-  -- one of the script's traps is named, for `direct` the least, and nothing is written
+  -- one of the script's traps is named, for `direct` the least and for `run` the first of its tasks,
+  -- and nothing is written
   pub trap : (origin : ℕ) (kind : Kind) (element : Value) → status ≡ Trap origin kind element →
       IsTrap origin kind element words before after
   -- the cause of each refusal that comes before anything is written, want of memory aside
@@ -109,6 +127,8 @@ pub record Promises (words : List (List ℕ)) (before after : World) (status : S
   pub input_refused : (name : List ℕ) (row column : ℕ) (kind : RowKind) →
       status ≡ InputRefused name row column kind →
       IsInputRefused name row column kind words before.source
+  pub gave_up : (stage : ℕ) (phase : Phase) (task : ℕ) → status ≡ GaveUp stage phase task →
+      IsGaveUp stage phase task words before.source.told before.hosts after.hosts
   -- these come wherever their cause stands, where files are told
   pub always_usage : IsUsage words → IsUnlessFailed Usage status
   pub always_too_long : IsSome before.source.told → (name : List ℕ) (limit : ℕ) →
@@ -130,7 +150,7 @@ pub record Promises (words : List (List ℕ)) (before after : World) (status : S
   -- for has a trap
   pub complete : (command : Command) (script : Script) (rows : List (List Value)) →
       CanRun words before after command script rows → IsEnd command script rows status
-  -- the source tells what it told, and no count of failures falls
+  -- the source tells what it told, no count of failures falls, and what hosts tell only grows
   pub kept : Keeps before after
   -- no file is left begun
   pub ended : before.shelf.begun ≡ false → IsEnded status after.shelf

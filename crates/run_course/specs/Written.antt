@@ -1,6 +1,9 @@
 -- What a command writes where no trap is met: its files, and the text of the screen.
-use Rattle.std.specs.Prelude.{◌≡◌, ℕ, List, [], ◌∷◌, ◌++◌, Option, Some, codes, option_and_then}
+use Rattle.std.specs.Prelude.{◌≡◌, ℕ, List, [], ◌∷◌, ◌++◌, Option, Some, codes, option_and_then, take}
+use Rattle.std.specs.List.{AllByRecursion}
 use Rattle.std.specs.Option.{option_map}
+use Rattle.build_law.specs.Worlds.{world_of}
+use Rattle.crew.specs.Hosts.{Account}
 use Rattle.csv_rows.specs.Text.{table_text}
 use Rattle.direct_meaning.specs.Direct.{made_at, meaning, sizes_of, traps_of}
 use Rattle.direct_meaning.specs.Inputs.{inputs_of}
@@ -8,12 +11,17 @@ use Rattle.flume_collection.specs.Collection.{Collection}
 use Rattle.flume_value.specs.declared.value.Value.{Value}
 use Rattle.graph_build.specs.Graphs.{graph_of}
 use Rattle.outside.specs.declared.file.File.{File}
+use Rattle.plan_phases.specs.Phases.{phases}
+use Rattle.plan_phases.specs.Told.{AreWinners}
+use Rattle.plan_phases.specs.declared.winners.PhaseWinners.{PhaseWinners}
 use Rattle.plan_print.specs.GraphText.{graph_text}
+use Rattle.run_settings.specs.Settings.{RunSettings}
 use Rattle.exec_plan.specs.declared.plan.Plan.{Plan}
 use Rattle.plan_texts.specs.Texts.{plan_json_of, plan_text_of}
 use Rattle.run_texts.specs.Texts.{size_lines}
 use Rattle.script_plans.specs.Plans.{IsScriptPlan}
 use Rattle.serde_json.specs.Written.{compact_text}
+use Rattle.task_lists.specs.Tasks.{Split}
 use Rattle.script_check.specs.declared.made.Output.{Output}
 use Rattle.script_check.specs.Script.{Script}
 use Rattle.run_course.specs.Asked.{AllHaveRows, Reads}
@@ -71,18 +79,46 @@ abbrev pub ShowsPlan : PlanForm → Script → List ℕ → Type 0
 ShowsPlan form script text =
     (plan : Plan) × IsScriptPlan script plan × (text ≡ shown_as form script plan)
 
+-- ---- runs
+
+abbrev pub split_of : RunSettings → Split
+split_of s = record { shards = s.shards; partitions = s.partitions }
+
+-- the hosts that a run lends to its workers, one each
+abbrev pub lent : RunSettings → List Account → List Account
+lent s hosts = take s.workers hosts
+
+-- Each task of the plan was run: of each phase there are winners, an attempt of each task that the
+-- drill does not name, and some lent host has let all places of that attempt through.
+abbrev pub WereRun : RunSettings → Script → List (List Value) → Plan → List Account → List Account
+    → Type 0
+WereRun s script rows plan olds news =
+    AllByRecursion
+    (λ phase. (winners : PhaseWinners) × AreWinners s.tries s.drill olds news phase winners)
+    (phases (world_of script rows) (split_of s) plan)
+
+-- What a run writes and leaves: the files of its script's direct meaning; its graph and its plan,
+-- the sizes of its collections and `done`. Each task of the plan was run.
+abbrev pub WritesRun : RunSettings → Option (List File) → List Account → List Account → Script
+    → List File → List ℕ → Type 0
+WritesRun s told olds news script files text =
+    (plan : Plan) × (rows : List (List Value)) × (table : Table) × IsScriptPlan script plan
+    × IsThrough told script (shown_as Text script plan) files text rows table
+    × WereRun s script rows plan (lent s olds) (lent s news)
+
 -- What a command writes of a script: `check` no file and `ok`; `plan` no file and its plan;
 -- `direct` the files of its direct meaning, the sizes of its collections and `done`; `run` the
 -- same, with its graph and plan first.
-abbrev pub Writes : Command → Option (List File) → Script → List File → List ℕ → Type 0
-Writes Check told script files text = (files ≡ []) × (text ≡ codes "ok\n")
-Writes (Show form) told script files text = (files ≡ []) × ShowsPlan form script text
-Writes Direct told script files text = WritesMeaning told script [] files text
-Writes Run told script files text =
-    (front : List ℕ) × ShowsPlan Text script front × WritesMeaning told script front files text
+abbrev pub Writes : Command → Option (List File) → List Account → List Account → Script
+    → List File → List ℕ → Type 0
+Writes Check told olds news script files text = (files ≡ []) × (text ≡ codes "ok\n")
+Writes (Show form) told olds news script files text = (files ≡ []) × ShowsPlan form script text
+Writes Direct told olds news script files text = WritesMeaning told script [] files text
+Writes (Run s) told olds news script files text = WritesRun s told olds news script files text
 
--- the words ask for a command that writes these files and this text
-abbrev pub IsWritten : List (List ℕ) → Option (List File) → List File → List ℕ → Type 0
-IsWritten words told files text =
+-- the words ask for a command that writes these files and this text, and has the hosts gain so much
+abbrev pub IsWritten : List (List ℕ) → Option (List File) → List Account → List Account
+    → List File → List ℕ → Type 0
+IsWritten words told olds news files text =
     (command : Command) × (script : Script) × Reads words told command script
-    × Writes command told script files text
+    × Writes command told olds news script files text

@@ -27,45 +27,62 @@ use script_check::Program;
 use script_plans::plan_of;
 use std::alloc::{AllocError, Global};
 
-/// Runs the command that the words ask for, and answers how that ended.
-pub fn run<R: Source, K: Shelf, P: Screen>(
+/// Runs the command that the words ask for, and answers how that ended. A run is lent the first
+/// hosts, one for each of its workers.
+pub fn run<X: Threads + Sync, R: Source, H: Host + Send, K: Shelf, P: Screen>(
+    rt: &X,
     alloc: Global,
     words: &[String],
     source: &mut R,
+    hosts: &mut [H],
     shelf: &mut K,
     screen: &mut P,
 ) -> Status
-    ensures { Promises (map string_bytes words.now)
+    requires { length hosts.old ≡ 16 }
+    ensures promises { Promises (map string_bytes words.now)
         (world (seen R.files R.faults source.old)
-        (seen_shelf K.files K.begun K.left K.faults shelf.old) (seen P.text P.faults screen.old))
+        (seen_shelf K.files K.begun K.left K.faults shelf.old) (seen P.text P.faults screen.old)
+        (map (account H.notes H.losses) hosts.old))
         (world (seen R.files R.faults source.new)
-        (seen_shelf K.files K.begun K.left K.faults shelf.new) (seen P.text P.faults screen.new))
+        (seen_shelf K.files K.begun K.left K.faults shelf.new) (seen P.text P.faults screen.new)
+        (map (account H.notes H.losses) hosts.new))
         result }
+    ensures hosts { drop (lent_to (map string_bytes words.now)) hosts.new
+        ≡ drop (lent_to (map string_bytes words.now)) hosts.old }
 {
-    answer(alloc, words, source, shelf, screen)
+    answer(rt, alloc, words, source, hosts, shelf, screen)
 }
 
 // Runs the command, and tells of a refusal or a trap.
-fn answer<R: Source, K: Shelf, P: Screen>(
+fn answer<X: Threads + Sync, R: Source, H: Host + Send, K: Shelf, P: Screen>(
+    rt: &X,
     alloc: Global,
     words: &[String],
     source: &mut R,
+    hosts: &mut [H],
     shelf: &mut K,
     screen: &mut P,
 ) -> Status
+    requires { length hosts.old ≡ 16 }
     ensures answers { Answers (map string_bytes words.now)
         (world (seen R.files R.faults source.old)
-        (seen_shelf K.files K.begun K.left K.faults shelf.old) (seen P.text P.faults screen.old))
+        (seen_shelf K.files K.begun K.left K.faults shelf.old) (seen P.text P.faults screen.old)
+        (map (account H.notes H.losses) hosts.old))
         (world (seen R.files R.faults source.new)
-        (seen_shelf K.files K.begun K.left K.faults shelf.new) (seen P.text P.faults screen.new))
+        (seen_shelf K.files K.begun K.left K.faults shelf.new) (seen P.text P.faults screen.new)
+        (map (account H.notes H.losses) hosts.new))
         result }
     ensures kept { Keeps
         (world (seen R.files R.faults source.old)
-        (seen_shelf K.files K.begun K.left K.faults shelf.old) (seen P.text P.faults screen.old))
+        (seen_shelf K.files K.begun K.left K.faults shelf.old) (seen P.text P.faults screen.old)
+        (map (account H.notes H.losses) hosts.old))
         (world (seen R.files R.faults source.new)
-        (seen_shelf K.files K.begun K.left K.faults shelf.new) (seen P.text P.faults screen.new)) }
+        (seen_shelf K.files K.begun K.left K.faults shelf.new) (seen P.text P.faults screen.new)
+        (map (account H.notes H.losses) hosts.new)) }
+    ensures hosts { drop (lent_to (map string_bytes words.now)) hosts.new
+        ≡ drop (lent_to (map string_bytes words.now)) hosts.old }
 {
-    match prepare(alloc, words, source) {
+    match prepare(rt, alloc, words, source, hosts) {
         Ok(written) => deliver(written, shelf, screen),
         Err(Stop::Refused(status)) => {
             tell(screen, &status);
@@ -84,46 +101,65 @@ fn answer<R: Source, K: Shelf, P: Screen>(
 }
 
 // Does all that a call does but its writing. Every growth of a call is here.
-fn prepare<R: Source>(alloc: Global, words: &[String], source: &mut R) -> Result<Written, Stop>
+fn prepare<X: Threads + Sync, R: Source, H: Host + Send>(
+    rt: &X,
+    alloc: Global,
+    words: &[String],
+    source: &mut R,
+    hosts: &mut [H],
+) -> Result<Written, Stop>
+    requires { length hosts.old ≡ 16 }
     ensures ok { IfOk result (λ written. IsWritten (map string_bytes words.now)
-        (R.files source.old) (map output_file written.outputs.items) written.screen.items) }
+        (R.files source.old) (map (account H.notes H.losses) hosts.old)
+        (map (account H.notes H.losses) hosts.new)
+        (map output_file written.outputs.items) written.screen.items) }
     ensures err { IfErr result (IsStopped (map string_bytes words.now)
-        (seen R.files R.faults source.old) (seen R.files R.faults source.new)) }
+        (seen R.files R.faults source.old) (seen R.files R.faults source.new)
+        (map (account H.notes H.losses) hosts.old) (map (account H.notes H.losses) hosts.new)) }
     ensures files { R.files source.new ≡ R.files source.old }
     ensures later { R.faults source.old ≤ R.faults source.new }
+    ensures grew { AllZip Grew (map (account H.notes H.losses) hosts.old)
+        (map (account H.notes H.losses) hosts.new) }
+    ensures hosts { drop (lent_to (map string_bytes words.now)) hosts.new
+        ≡ drop (lent_to (map string_bytes words.now)) hosts.old }
 {
     let Some(asked) = asked_for(alloc, words)? else {
         return Err(Stop::Refused(Status::Usage));
     };
-    let program = script_of(alloc, asked.script, source)?;
-    carried_out(alloc, asked.command, &program, source)
+    let program = script_of(alloc, asked.script, source, tries_of(&asked.command))?;
+    carried_out(rt, alloc, &asked.command, &program, source, hosts)
 }
 
 // What a command writes of a script, or why it writes nothing.
-fn carried_out<R: Source>(
+fn carried_out<X: Threads + Sync, R: Source, H: Host + Send>(
+    rt: &X,
     alloc: Global,
-    command: Command,
+    command: &Command,
     program: &Program,
     source: &mut R,
+    hosts: &mut [H],
 ) -> Result<Written, Stop>
     requires well_formed { IsWellFormed program.now.script }
     requires ready { IsReady program.now.script }
-    requires graph { IsGraphOk (graph_of program.now.script) }
-    ensures written { IfOk result (λ it. Writes command (R.files source.old) program.now.script
-        (map output_file it.outputs.items) it.screen.items) }
-    ensures stop { IfErr result (IsCommandStop command (seen R.files R.faults source.old)
-        (seen R.files R.faults source.new) program.now.script) }
+    requires kept { IsKept program.now.script }
+    requires sixteen { length hosts.old ≡ 16 }
+    ensures written { IfOk result (λ it. Writes command.now (R.files source.old)
+        (map (account H.notes H.losses) hosts.old) (map (account H.notes H.losses) hosts.new)
+        program.now.script (map output_file it.outputs.items) it.screen.items) }
+    ensures stop { IfErr result (IsCommandStop command.now (seen R.files R.faults source.old)
+        (seen R.files R.faults source.new) (map (account H.notes H.losses) hosts.old)
+        (map (account H.notes H.losses) hosts.new) program.now.script) }
     ensures files { R.files source.new ≡ R.files source.old }
     ensures later { R.faults source.old ≤ R.faults source.new }
+    ensures grew { AllZip Grew (map (account H.notes H.losses) hosts.old)
+        (map (account H.notes H.losses) hosts.new) }
+    ensures hosts { drop (lends command.now) hosts.new ≡ drop (lends command.now) hosts.old }
 {
     match command {
         Command::Check => Ok(accepted(alloc)?),
-        Command::Plan(form) => Ok(planned(alloc, program, form)?),
-        Command::Direct => meant(alloc, program, Vec::new(alloc), source),
-        Command::Run => {
-            let front = plan_shown(alloc, program)?;
-            meant(alloc, program, front, source)
-        }
+        Command::Plan(form) => Ok(planned(alloc, program, *form)?),
+        Command::Direct => meant(alloc, program, source),
+        Command::Run(settings) => run_on(rt, alloc, program, source, hosts, settings),
     }
 }
 
