@@ -223,24 +223,40 @@ fn json_shown(alloc: Global, program: &Program) -> Result<Vec<u8>, AllocError>
     Ok(text)
 }
 
-// What the meaning of a script writes, with this text first.
-fn meant<R: Source>(
-    alloc: Global,
-    program: &Program,
-    front: Vec<u8>,
-    source: &mut R,
-) -> Result<Written, Stop>
+// What the meaning of a script writes.
+fn meant<R: Source>(alloc: Global, program: &Program, source: &mut R) -> Result<Written, Stop>
     requires well_formed { IsWellFormed program.now.script }
     requires ready { IsReady program.now.script }
     ensures written { IfOk result (λ it. WritesMeaning (R.files source.old) program.now.script
-        front.items (map output_file it.outputs.items) it.screen.items) }
+        [] (map output_file it.outputs.items) it.screen.items) }
     ensures stop { IfErr result (IsMeaningStop (seen R.files R.faults source.old)
         (seen R.files R.faults source.new) program.now.script) }
     ensures files { R.files source.new ≡ R.files source.old }
     ensures later { R.faults source.old ≤ R.faults source.new }
 {
-    let inputs = rows_of_inputs(alloc, program, source)?;
-    written_meaning(alloc, program, inputs, front)
+    let inputs = rows_of_inputs(alloc, program, source, TRIES)?;
+    written_meaning(alloc, program, inputs)
+}
+
+// What a run of a script's plan writes, with its graph and its plan first.
+fn run_on<X: Threads + Sync, R: Source, H: Host + Send>(
+    rt: &X,
+    alloc: Global,
+    program: &Program,
+    source: &mut R,
+    hosts: &mut [H],
+    settings: &Settings,
+) -> Result<Written, Stop>
+{
+    let graph = build(alloc, program)?;
+    let mut front = graph_text(alloc, program, &graph)?;
+    let plan = plan_of(alloc, program, graph)?;
+    let mut behind = plan_text(alloc, program, &plan)?;
+    front.append(&mut behind)?;
+    let inputs = rows_of_inputs(alloc, program, source, settings.tries())?;
+    let workers = settings.workers() as usize;
+    let lent = &mut hosts[..workers];
+    written_run(rt, alloc, program, &plan, inputs, front, lent, settings)
 }
 
 // Writes the files, and then the text of the screen.
