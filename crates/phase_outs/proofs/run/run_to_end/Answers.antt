@@ -4,14 +4,14 @@ use Rattle.phase_outs.proofs.run.run_to_end.Goals as goal
 
 pub returns-in-Ok-clause-made : goal.returns-in-Ok-clause-made
 returns-in-Ok-clause-made g c =
-    IfOk-weaker c.made_outs.result _ _
-    (λ made m. settled_made _ _ _ _ _ _ _ made (rw (← c.into_vec.ensures) at c.in-Ok.ensures.settled) m)
+    let settled = rw (← c.into_vec.ensures) at c.in-Ok.ensures.settled in
+    IfOk-weaker c.made_outs.result _ _ (λ made m. settled_made _ _ _ _ _ _ _ made settled m)
     c.made_outs.ensures.made
 
 pub returns-in-Ok-clause-stop : goal.returns-in-Ok-clause-stop
 returns-in-Ok-clause-stop g c =
-    IfErr-weaker c.made_outs.result _ _
-    (λ w t. settled_stop _ _ _ _ _ _ _ w (rw (← c.into_vec.ensures) at c.in-Ok.ensures.settled) t)
+    let settled = rw (← c.into_vec.ensures) at c.in-Ok.ensures.settled in
+    IfErr-weaker c.made_outs.result _ _ (λ w t. settled_stop _ _ _ _ _ _ _ w settled t)
     c.made_outs.ensures.stop
 
 pub returns-in_err-made_outs-in-Err-GaveUp-clause-stop :
