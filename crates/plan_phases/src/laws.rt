@@ -9,6 +9,8 @@ ghost use Rattle.task_lists.specs.Plans.{all_tasks, first_trap, task_traps};
 ghost use Rattle.plan_phases.specs.Phases.{PhaseTasks, phases, phase_traps};
 ghost use Rattle.plan_phases.specs.Told.{IsCalmPhase};
 
+use task_lists::numbers_law;
+
 /// The traps of the phases of a plan are those of its tasks.
 pub fn phases_law()
     ensures traps { (w : World) (n : Split) (p : Plan) → 0 < n.shards → 0 < n.partitions →
@@ -23,4 +25,6 @@ pub fn phases_law()
         AllByRecursion (IsCalmPhase w) before → smaller ++ task ∷ greater ≡ here.tasks →
         AllByRecursion (IsCalm w) smaller → IsFirstTrap w task trap →
         first_trap w n p ≡ Some trap }
-{}
+{
+    numbers_law();
+}
