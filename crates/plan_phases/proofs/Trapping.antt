@@ -63,8 +63,8 @@ module _ (w : World) where
   -- a task that is no task has no traps
   with_grouping : (n : Split) (t : Lists) (s : Channels) (p : ℕ) (g : Option Grouping)
       → traps_in (option_map_or (λ g. reduce_task w n t s.inputs g p) g no_task)
-      ≡ option_map_or (λ d. traps_in (option_map_or (λ g. reduce_task w n t s.inputs g p) g no_task))
-      g []
+      ≡ option_map_or
+      (λ d. traps_in (option_map_or (λ g. reduce_task w n t s.inputs g p) g no_task)) g []
   with_grouping n t s p None = refl
   with_grouping n t s p (Some g) = refl
 
