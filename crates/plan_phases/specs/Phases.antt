@@ -1,0 +1,73 @@
+-- The phases of a plan and their tasks, in the order in which a run makes them.
+use Rattle.std.specs.Prelude.{ℕ, List, [], ◌∷◌, ◌++◌}
+use Rattle.std.proofs.Common.{suc}
+use Rattle.std.specs.List.{flat_map}
+use Rattle.outside.specs.declared.host.Phase.{Phase}
+use Rattle.outside.specs.declared.host.Phase.TheVariants.{Map, Reduce}
+use Rattle.flume_collection.specs.declared.trap.Trap.{Trap}
+use Rattle.shards.specs.Shards.{joined}
+use Rattle.exec_graph.specs.World.{World}
+use Rattle.exec_plan.specs.declared.plan.Grouping.{Grouping}
+use Rattle.exec_plan.specs.declared.plan.Mscr.{Mscr as Channels}
+use Rattle.exec_plan.specs.declared.plan.Stage.{Stage}
+use Rattle.exec_plan.specs.declared.plan.Stage.TheVariants.{Mscr, Flatten}
+use Rattle.exec_plan.specs.declared.plan.Plan.{Plan}
+use Rattle.task_lists.specs.Runs.{traps_of}
+use Rattle.task_lists.specs.Tasks.{Split, Lists, Task, groupings, map_count, map_task_at, reduce_count, reduce_task_at}
+use Rattle.task_lists.specs.Lists.{result_lists, source_lists, with_lists}
+
+-- a phase of a stage, and its tasks by their numbers
+pub record PhaseTasks : Type 0 where
+  pub stage : ℕ
+  pub phase : Phase
+  pub tasks : List Task
+
+-- the tasks with the numbers below a count, in order
+abbrev pub tasks_below : (ℕ → Task) → ℕ → List Task
+tasks_below task count = joined (λ k. task k ∷ []) count
+
+-- ---- the phases of stage k, over the lists that it finds
+
+abbrev pub map_phase_of : ℕ → Split → Lists → Channels → PhaseTasks
+map_phase_of k n t s = record {
+  stage = k;
+  phase = Map;
+  tasks = tasks_below (map_task_at n t s) (map_count n s);
+}
+
+abbrev pub reduce_phase_of : World → ℕ → Split → Lists → Channels → PhaseTasks
+reduce_phase_of w k n t s = record {
+  stage = k;
+  phase = Reduce;
+  tasks = tasks_below (reduce_task_at w n t s) (reduce_count n s);
+}
+
+-- where there are grouping channels
+abbrev pub reduce_phases : World → ℕ → Split → Lists → Channels → List Grouping → List PhaseTasks
+reduce_phases w k n t s [] = []
+reduce_phases w k n t s (g ∷ gs) = reduce_phase_of w k n t s ∷ []
+
+-- a Flatten stage has none
+abbrev pub stage_phases : World → ℕ → Split → Lists → Stage → List PhaseTasks
+stage_phases w k n t (Mscr s) =
+    map_phase_of k n t s ∷ reduce_phases w k n t s (groupings s.outputs)
+stage_phases w k n t (Flatten takes) = []
+
+-- ---- of a plan
+
+-- the phases of the stages from number k on, each over the lists that it finds
+abbrev pub phases_from : World → Split → ℕ → List Stage → Lists → List PhaseTasks
+phases_from w n k [] t = []
+phases_from w n k (s ∷ ss) t =
+    stage_phases w k n t s
+    ++ phases_from w n (suc k) ss (with_lists k (result_lists w n t s) t)
+
+-- all phases of a plan, in order
+abbrev pub phases : World → Split → Plan → List PhaseTasks
+phases w n p = phases_from w n 1 p.stages (source_lists w)
+
+-- ---- traps
+
+-- the traps of the tasks of a phase, in order
+abbrev pub phase_traps : World → PhaseTasks → List Trap
+phase_traps w ph = flat_map (λ task. traps_of w task.does task.elements) ph.tasks

@@ -1,0 +1,54 @@
+-- What a run tells of its phases.
+use Rattle.std.specs.Prelude.{◌≡◌, ℕ, ◌<◌, List, ◌∷◌, ◌++◌, length, slice_get, take, Some}
+use Rattle.std.specs.List.{AllByRecursion}
+use Rattle.outside.specs.declared.host.Phase.{Phase}
+use Rattle.crew.specs.declared.drill.Entry.{Entry}
+use Rattle.crew.specs.Drills.{Settings}
+use Rattle.crew.specs.Hosts.{Account}
+use Rattle.crew.specs.Phases.{CanFinish, IsLostTask}
+use Rattle.phase_outs.specs.Outs.{HasRun}
+use Rattle.exec_graph.specs.World.{World}
+use Rattle.task_lists.specs.Tasks.{Task, places}
+use Rattle.task_lists.specs.Outs.{IsCalm}
+use Rattle.plan_phases.specs.declared.winners.PhaseWinners.{PhaseWinners}
+use Rattle.plan_phases.specs.Phases.{PhaseTasks}
+
+-- no task of the phase traps
+abbrev pub IsCalmPhase : World → PhaseTasks → Type 0
+IsCalmPhase w ph = AllByRecursion (IsCalm w) ph.tasks
+
+-- how often each task of a run is tried, and the attempts that are lost on purpose
+module _ (tries : ℕ) (drill : List Entry) where
+  -- how a phase of the run is run
+  abbrev pub settings_of : PhaseTasks → Settings
+  settings_of ph = record { stage = ph.stage; phase = ph.phase; tries = tries; drill = drill }
+
+  -- the winners are those of the phase: an attempt of each task, all of whose places some host has
+  -- let through since
+  pub record AreWinners (olds news : List Account) (ph : PhaseTasks) (winners : PhaseWinners)
+      : Type 0 where
+    pub place : (winners.stage ≡ ph.stage) × (winners.phase ≡ ph.phase)
+    pub count : length winners.attempts ≡ length ph.tasks
+    pub ran : (k attempt : ℕ) (task : Task) → slice_get ph.tasks k ≡ Some task →
+        slice_get winners.attempts k ≡ Some attempt →
+        HasRun (settings_of ph) olds news k (places task) attempt
+
+  -- the task of one of the phases was given up: no phase before it traps, and no smaller task of
+  -- it; the drill and the losses of the hosts since account for each of its tries
+  pub record IsGivenUp (w : World) (phases : List PhaseTasks) (olds news : List Account)
+      (stage : ℕ) (phase : Phase) (task : ℕ) : Type 0 where
+    pub before : List PhaseTasks
+    pub here : PhaseTasks
+    pub behind : List PhaseTasks
+    pub whole : before ++ here ∷ behind ≡ phases
+    pub named : (here.stage ≡ stage) × (here.phase ≡ phase)
+    pub is_task : task < length here.tasks
+    pub calm : AllByRecursion (IsCalmPhase w) before
+    pub smaller : AllByRecursion (IsCalm w) (take task here.tasks)
+    pub lost : IsLostTask (length here.tasks) (settings_of here) olds news task
+
+  -- for each task of each phase some try is neither in the drill nor accounted for by the losses of
+  -- the hosts
+  abbrev pub CanFinishAll : List PhaseTasks → List Account → List Account → Type 0
+  CanFinishAll phases olds news =
+      AllByRecursion (λ ph. CanFinish (length ph.tasks) (settings_of ph) olds news) phases

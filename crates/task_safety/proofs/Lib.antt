@@ -1,0 +1,2 @@
+pub mod Safely
+pub mod Taken

@@ -1,0 +1,11 @@
+//! The steps of a task that fits its types may be called on all its elements.
+//!
+//! What a step may be called on is said for any account of what functions take (`SafeOf`, of
+//! `forest_steps`). Where the types of a task fit (`IsTaskTyped`, of `task_lists`) and functions
+//! answer by their signatures, each step takes what it is given, by its signature (`safe_law`); and
+//! so the steps may be called of any `Functions` that take no less (`taken_law`).
+#![tactic(auto)]
+
+mod laws;
+
+pub use laws::{safe_law, taken_law};
