@@ -1,6 +1,6 @@
 -- How a task ends.
-use Rattle.std.proofs.Common.{◌≡◌, ℕ, ◌+◌, List, length, Option, Some, sym, ap, ◌∙◌, subst, arith}
-use Rattle.std.specs.Prelude.{Result, Ok, Err, slice_get}
+use Rattle.std.proofs.Common.{ℕ, List, Option, Some, sym, ap, ◌∙◌}
+use Rattle.std.specs.Prelude.{Result, Ok, Err}
 use Rattle.flume_value.specs.declared.value.Value.{Value}
 use Rattle.flume_collection.specs.declared.trap.Trap.{Trap}
 use Rattle.exec_graph.specs.Forests.{Forest}
@@ -8,11 +8,10 @@ use Rattle.exec_graph.specs.World.{World}
 use Rattle.crew.specs.declared.drill.Entry.{Entry}
 use Rattle.crew.specs.declared.attempts.Attempt.{Attempt}
 use Rattle.crew.specs.declared.attempts.Attempt.TheVariants.{Made, Down}
-use Rattle.crew.specs.Attempts.{IsMadeOf, MatchAttempt, Ran, StoppedDown}
+use Rattle.crew.specs.Attempts.{IsMadeOf}
 use Rattle.crew.specs.Hosts.{Account}
 use Rattle.forest_steps.specs.Running.{Given}
 use Rattle.forest_courses.specs.Courses.{IsCourse}
-use Rattle.forest_run.specs.Asking.{LetThrough}
 use Rattle.forest_run.specs.Ends.{IsRest}
 
 module _ (e : Entry) (trap : Trap) (from to : ℕ) (a b : Account) where
@@ -22,10 +21,3 @@ module _ (e : Entry) (trap : Trap) (from to : ℕ) (a b : Account) where
   rest_value w does xs (Made (Ok given)) rest first = absurd rest
   rest_value w does xs (Made (Err t)) rest first = first ∙ ap Some (sym rest.0)
   rest_value w does xs Down rest first = tt
-
-  pub rest_ran : (z : Account) (places : ℕ) (r : Attempt (Result Given Trap))
-      → IsRest e trap from to a b r → LetThrough e from z a → to ≡ places + 1
-      → MatchAttempt r (Ran e places z b) (StoppedDown e places z b)
-  rest_ran z places (Made (Ok given)) rest l is = absurd rest
-  rest_ran z places (Made (Err t)) rest l is = subst (λ k. LetThrough e k z b) is (rest.1 z l)
-  rest_ran z places Down rest l is = rest z places (omega (arith, is)) l

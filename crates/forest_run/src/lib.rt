@@ -4,6 +4,7 @@
 //! attempt's start and before each element, after a trap too. It gives what each output is given,
 //! or the first trap (`IsCourse`), in the words of `task_lists`. Clauses name the functions alone
 //! (`world_of`), since nothing else of a world matters to steps (`forest_courses::worlds_law`).
+//! `ask_all` and `trapped` do the asking, and serve other loops over elements too.
 #![tactic(auto)]
 
 mod ask;

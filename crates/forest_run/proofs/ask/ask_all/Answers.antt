@@ -1,7 +1,6 @@
-use Rattle.std.proofs.Common.{arith, refl}
 use Rattle.crew.specs.Hosts.{account}
 use Rattle.crew.specs.Drills.{attempt_at}
-use Rattle.forest_run.proofs.Asking.{let_down, let_more, losses_of}
+use Rattle.forest_run.proofs.Asking.{let_more}
 use Rattle.forest_run.proofs.ask.ask_all.Goals as goal
 
 pub loop-place-preserved : goal.loop-place-preserved

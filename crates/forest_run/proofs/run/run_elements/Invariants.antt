@@ -4,7 +4,7 @@ use Rattle.crew.specs.Hosts.{account}
 use Rattle.crew.specs.Drills.{attempt_at}
 use Rattle.forest_steps.specs.Fresh.{none_given}
 use Rattle.forest_steps.specs.Functions.{world_of}
-use Rattle.forest_steps.specs.Places.{outputs_in, sizes_in}
+use Rattle.forest_steps.specs.Places.{outputs_in}
 use Rattle.forest_steps.specs.Running.{run, run_each}
 use Rattle.forest_run.specs.Asking.{LetThrough}
 use Rattle.forest_run.proofs.run.run_elements.Given as goal
