@@ -27,7 +27,7 @@ returns-in-Err-Trap-clause-value g c =
     let w = world_of (g.F.Functions.called c.args.functions.now) in
     let f = c.args.roots.now in
     let xs = c.args.elements.now in
-    let each = run_each (run w c.args.sizes.now 0 f) xs in
+    let step = run w c.args.sizes.now 0 f in
     let start = none_given (after 0 f) (outputs_in f) in
     let e = attempt_at c.args.spot.now c.args.task in
     let b = account g.H.Host.notes g.H.Host.losses c.ask_all-in-loop-k.new.host in
@@ -35,9 +35,10 @@ returns-in-Err-Trap-clause-value g c =
     rest_value e c.in-Err-Trap.trap (c.loop-k.k + 1 + 1) (length xs + 1) b z w (Some f) xs
     c.trapped.result (rw c.in-Err-Trap.trap-is at c.trapped.ensures)
     (trapped_course w c.args.sizes.now f xs start c.in-Err-Trap.trap
-    (each_ends (run w c.args.sizes.now 0 f) xs c.loop-k.k c.index-elements-k.result
-    c.loop-k.outputs (each start) (fault.Trap c.in-Err-Trap.trap) c.loop-k.invariant.goes
-    c.loop-k-test.true c.index-elements-k.is (rw c.in-Err-Trap.field-0-is at c.in-Err-Trap.ensures)))
+    (each_ends step xs c.loop-k.k c.index-elements-k.result
+    c.loop-k.outputs (run_each step xs start) (fault.Trap c.in-Err-Trap.trap) c.loop-k.invariant.goes
+    c.loop-k-test.true c.index-elements-k.is
+    (rw c.in-Err-Trap.field-0-is at c.in-Err-Trap.ensures)))
 
 pub returns-clause-value : goal.returns-clause-value
 returns-clause-value g c =
