@@ -19,7 +19,8 @@ use Rattle.task_lists.specs.Runs.{all_given, gives}
 use Rattle.task_lists.specs.Outs.{AreSentPairs, IsSent}
 use Rattle.task_lists.specs.Tasks.{Split, Lists, Task, given_to, map_task, map_task_of, no_task, task_gives}
 use Rattle.forest_courses.proofs.Numbering.{from_numbered, outs_ups, ups}
-use Rattle.map_shard.specs.Work.{ArePairs, IsFit}
+use Rattle.task_lists.specs.Typing.{AreGroupable}
+use Rattle.map_shard.specs.Work.{IsFit}
 use Rattle.map_shard.specs.inner.Sending.{CanSend, taken, taken_by}
 
 -- ---- the lists of the outputs, by their numbers
@@ -82,7 +83,7 @@ module _ (w : World) (ins : List InChannel) (m : ℕ) (c : InChannel) (task : Ta
   can_send [] all = tt
   can_send (Pass k n ∷ os) all = (tt, can_send os all.1)
   can_send (Group g ∷ os) all = (
-    subst (ArePairs g.lifted) (sym (all_taken g.takes all.0.0)) all.0.1,
+    subst (AreGroupable g.lifted) (sym (all_taken g.takes all.0.0)) all.0.1,
     can_send os all.1,
   )
 

@@ -13,6 +13,7 @@
 
 mod lists;
 mod send;
+mod tasks;
 
 pub use lists::list_of;
-pub use send::send_all;
+pub use tasks::MapTasks;
