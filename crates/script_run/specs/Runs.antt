@@ -1,6 +1,6 @@
 -- What the run of a script by its plan comes to.
-use Rattle.std.specs.Prelude.{◌≡◌, ℕ, List, Option, Some, IsSomeAnd, take}
-use Rattle.std.specs.List.{AllByRecursion, AllZip, Contains}
+use Rattle.std.specs.Prelude.{◌≡◌, ℕ, List, Option, Some, IsSomeAnd, ⊤}
+use Rattle.std.specs.List.{AllZip, Contains}
 use Rattle.build_law.specs.Signatures.{signatures_of}
 use Rattle.build_law.specs.Worlds.{world_of}
 use Rattle.crew.specs.Hosts.{Account}
@@ -15,7 +15,9 @@ use Rattle.flume_value.specs.declared.value.Value.{Value}
 use Rattle.graph_build.specs.Graphs.{graph_of}
 use Rattle.plan_laws.specs.Operations.{SamePlan}
 use Rattle.plan_phases.specs.Phases.{PhaseTasks, phases}
-use Rattle.plan_phases.specs.Told.{AreWinners, CanFinishAll, IsGivenUp}
+use Rattle.plan_phases.specs.Told.{AreWinners, IsGivenUp}
+use Rattle.plan_phases.specs.declared.fault.RunFault.{RunFault}
+use Rattle.plan_phases.specs.declared.fault.RunFault.TheVariants as fault
 use Rattle.plan_phases.specs.declared.winners.PhaseWinners.{PhaseWinners}
 use Rattle.run_settings.specs.Settings.{RunSettings}
 use Rattle.script_check.specs.Script.{Script}
@@ -68,3 +70,13 @@ pub record IsFirstOf (s : RunSettings) (script : Script) (inputs : List (List Va
   pub means : meaning script inputs ≡ Some made
   pub among : Contains (traps_of made) trap
   pub first : first_trap (world_of script inputs) (split_of s) plan ≡ Some trap
+
+-- why a run has not come to its end: a trap, or a task that was given up; want of memory comes at
+-- any time
+abbrev pub IsRunStop : RunSettings → Script → List (List Value) → Plan → List Account
+    → List Account → RunFault → Type 0
+IsRunStop s script inputs plan olds news (fault.Trap trap) = IsFirstOf s script inputs plan trap
+IsRunStop s script inputs plan olds news (fault.GaveUp stage phase task) =
+    IsGivenUp s.tries s.drill (world_of script inputs) (phases_of s script inputs plan) olds news
+    stage phase task
+IsRunStop s script inputs plan olds news fault.Memory = ⊤
