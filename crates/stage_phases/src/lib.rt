@@ -7,5 +7,6 @@
 #![tactic(auto)]
 
 mod outs;
+mod ready;
 
 pub use outs::outs_of;
