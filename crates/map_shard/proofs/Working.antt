@@ -1,5 +1,5 @@
 -- A map task by its number.
-use Rattle.std.proofs.Common.{◌≡◌, ◌<◌, ◌*◌, ◌/◌, ◌%◌, ℕ, zero, suc, cond, List, [], ◌∷◌, length, get_or, map, Option, Some, None, refl, sym, ap, ◌∙◌, subst, arith}
+use Rattle.std.proofs.Common.{◌≡◌, ◌<◌, ◌≤◌, ◌/◌, ◌%◌, ℕ, zero, suc, cond, List, [], ◌∷◌, length, get_or, map, Some, refl, sym, ap, ◌∙◌, subst, arith}
 use Rattle.std.specs.Prelude.{◌==◌, slice_get, Result, Ok, Err}
 use Rattle.std.specs.List.{AllByRecursion, AllZip, flat_map}
 use Rattle.std.specs.Option.{option_map_or}
@@ -14,8 +14,8 @@ use Rattle.exec_graph.specs.World.{World}
 use Rattle.exec_plan.specs.Wellformed.{IsNumbered}
 use Rattle.exec_plan.specs.declared.plan.InChannel.{InChannel}
 use Rattle.exec_plan.specs.declared.plan.Take.{Take}
-use Rattle.task_lists.specs.Runs.{all_given, kept_count, traps_of}
-use Rattle.task_lists.specs.Outs.{IsMapOut, IsMapValue, IsSent}
+use Rattle.task_lists.specs.Runs.{kept_count}
+use Rattle.task_lists.specs.Outs.{IsMapValue, IsSent}
 use Rattle.task_lists.specs.Tasks.{Task, given_to, map_task, no_task}
 use Rattle.forest_courses.specs.Courses.{IsCourse}
 use Rattle.forest_steps.specs.Running.{Given}
@@ -24,7 +24,6 @@ use Rattle.forest_steps.specs.Safety.{SafeOf}
 use Rattle.forest_courses.proofs.Worlds.{same_counts, same_gives, same_traps}
 use Rattle.map_shard.specs.Work.{Work, CanWork, IsReady, IsWorkValue, lists_of, shard_task, split_of, task_at, work_count}
 use Rattle.map_shard.specs.inner.Sending.{CanSend, taken}
-use Rattle.map_shard.proofs.Sending.{member}
 use Rattle.map_shard.proofs.Taking.{can_send, sent_given}
 
 get_is : {X : Type 0} (xs : List X) (i : ℕ) (x : X) → i < length xs → x ≡ get_or xs i x
@@ -70,48 +69,46 @@ module _ {F : Type 0} (work : Work F) (m i : ℕ) where
       ap (λ o. option_map_or (λ d. map_task (split_of work) (lists_of work) d i) o no_task) is
 
 -- ---- task k
-module _ {F : Type 0} (work : Work F) (called : ℕ → Value → Called) (takes : ℕ → Value → Type 0)
-    (can : CanWork (world_of called) takes work) (k : ℕ) (is_task : k < work_count work) where
-  pub channel_below : k / work.shards < length work.stage.inputs
+-- what holds of the task as it was read holds of it by its number
+pub at_task : {F : Type 0} (P : Work F → Task → Type 0) {work self : Work F} {task : Task} (k : ℕ)
+    → work ≡ self → task_at work k ≡ task → P work task → P self (task_at self k)
+at_task P {work} k view is p =
+    subst (λ x. P x (task_at x k)) view (subst (P work) (sym is) p)
+
+module _ {F : Type 0} {w : World} {takes : ℕ → Value → Type 0} {work : Work F}
+    (can : CanWork w takes work) (k : ℕ) (is_task : k < work_count work) where
+  channel_below : k / work.shards < length work.stage.inputs
   channel_below =
       let same : work.shards ≤ work.shards = omega arith in
       (row_below_turned k work.shards (length work.stage.inputs) work.shards is_task same).1
 
-  pub shard_below : k % work.shards < work.shards
-  shard_below = mod-lt k can.shards
-
-  ready : IsReady (world_of called) takes work (k / work.shards) (k % work.shards)
-  ready = can.ready (k / work.shards) (k % work.shards) channel_below shard_below
+  ready : IsReady w takes work (k / work.shards) (k % work.shards)
+  ready = can.ready (k / work.shards) (k % work.shards) channel_below (mod-lt k can.shards)
 
   -- the channel that it reads, and its elements
-  pub task_is : (c : InChannel) (list elements : List Value)
-      → c ≡ get_or work.stage.inputs (k / work.shards) c → list ≡ lists_of work c.reads
-      → elements ≡ shard work.shards (k % work.shards) list
+  pub task_is : {inputs : List InChannel} {c : InChannel} {list elements : List Value}
+      → inputs ≡ work.stage.inputs → c ≡ get_or inputs (k / work.shards) c
+      → list ≡ lists_of work c.reads → elements ≡ shard work.shards (k % work.shards) list
       → task_at work k ≡ record { elements = elements; does = c.does }
-  task_is c list elements is at e =
+  task_is {inputs} {c} {list} {elements} same is at e =
       let i = k % work.shards in
       of_channel work (k / work.shards) i c
-      (get_is work.stage.inputs (k / work.shards) c channel_below is)
+      (get_is work.stage.inputs (k / work.shards) c channel_below
+      (is ∙ ap (λ (l : List InChannel). get_or l (k / work.shards) c) same))
       ∙ (λ j. record {
         elements = sym (e ∙ ap (shard work.shards i) at) j;
         does = c.does;
       })
 
-  pub numbered : (c : InChannel) → c ≡ get_or work.stage.inputs (k / work.shards) c
-      → IsNumbered c.does
-  numbered c is =
-      member (λ d. IsNumbered d.does) work.stage.inputs (k / work.shards) c can.steps channel_below
-      is
-
-  pub safe : (task : Task) → task_at work k ≡ task
-      → AllByRecursion (SafeOf (world_of called) takes task.does) task.elements
-  safe task is =
-      subst (λ (t : Task). AllByRecursion (SafeOf (world_of called) takes t.does) t.elements) is
-      ready.safe
+  pub safe : {task : Task} → task_at work k ≡ task
+      → AllByRecursion (SafeOf w takes task.does) task.elements
+  safe is =
+      subst (λ (t : Task). AllByRecursion (SafeOf w takes t.does) t.elements) is ready.safe
 
   channel : (c : InChannel) × (slice_get work.stage.inputs (k / work.shards) ≡ Some c)
       × IsNumbered c.does
-  channel = found (λ c. IsNumbered c.does) work.stage.inputs (k / work.shards) can.steps channel_below
+  channel =
+      found (λ c. IsNumbered c.does) work.stage.inputs (k / work.shards) can.steps channel_below
 
   does_is : (task_at work k).does ≡ channel.0.does
   does_is =
@@ -119,24 +116,23 @@ module _ {F : Type 0} (work : Work F) (called : ℕ → Value → Called) (takes
       (of_channel work (k / work.shards) (k % work.shards) channel.0 channel.1)
 
   -- ---- what its steps gave is fit for the output channels, and what those get is right
-  module _ (given : Given) (course : IsCourse (world_of called) (task_at work k).does
-      (task_at work k).elements (Ok given)) (lists : List (List Value))
-      (same : lists ≡ given.lists) where
+  module _ (given : Given)
+      (course : IsCourse w (task_at work k).does (task_at work k).elements (Ok given))
+      (lists : List (List Value)) (same : lists ≡ given.lists) where
     pub can_send_all : AllByRecursion (CanSend (k / work.shards) lists) work.stage.outputs
     can_send_all =
-        can_send (world_of called) work.stage.inputs (k / work.shards) channel.0 (task_at work k)
-        channel.1 does_is channel.2 lists (same ∙ course.lists) work.stage.outputs ready.fit
+        can_send w work.stage.inputs (k / work.shards) channel.0 (task_at work k) channel.1
+        does_is channel.2 lists (same ∙ course.lists) work.stage.outputs ready.fit
 
     pub sent_out : (out : MapOut) → out.counts ≡ given.counts
         → AllZip (IsSent work.partitions (taken (k / work.shards) lists)) work.stage.outputs out.sent
-        → IsWorkValue called work k (Ok out)
+        → IsWorkValue w.called work k (Ok out)
     sent_out out count sent u alike =
-        same_out work (k / work.shards) (k % work.shards) (world_of called) u (sym alike) (Ok out)
-        (record {
+        same_out work (k / work.shards) (k % work.shards) w u (sym alike) (Ok out) (record {
           calm = course.calm;
-          sent = sent_given (world_of called) work.stage.inputs (k / work.shards) channel.0
-              (task_at work k) channel.1 does_is channel.2 lists (same ∙ course.lists)
-              work.partitions work.stage.outputs out.sent ready.fit sent;
+          sent = sent_given w work.stage.inputs (k / work.shards) channel.0 (task_at work k)
+              channel.1 does_is channel.2 lists (same ∙ course.lists) work.partitions
+              work.stage.outputs out.sent ready.fit sent;
           counts = count ∙ course.counts;
         })
 

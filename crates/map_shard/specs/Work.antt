@@ -1,7 +1,7 @@
 -- The map tasks of a stage: what they read, when they can be made, and what is right for them to
 -- give.
-use Rattle.std.specs.Prelude.{◌≡◌, ℕ, ◌<◌, ◌*◌, ◌/◌, ◌%◌, ◌^◌, List, [], length, Result, refl}
-use Rattle.std.specs.List.{AllByRecursion, AllZip}
+use Rattle.std.specs.Prelude.{◌≡◌, ℕ, ◌<◌, ◌*◌, ◌/◌, ◌%◌, ◌^◌, List, length, Result, refl}
+use Rattle.std.specs.List.{AllByRecursion}
 use Rattle.std.specs.Coded.{Coded, code_by, coded×, coded_ℕ, coded_list}
 use Rattle.flume_value.specs.declared.value.Value.{Value}
 use Rattle.flume_value.specs.contracts.value.Value as values
@@ -19,7 +19,6 @@ use Rattle.exec_plan.specs.contracts.plan.Mscr as stages
 use Rattle.task_lists.specs.Outs.{IsMapValue}
 use Rattle.task_lists.specs.Tasks.{Lists, Split, Task, given_to, map_count, map_task_of, places}
 use Rattle.task_lists.specs.Typing.{AreGroupable}
-use Rattle.forest_steps.specs.Functions.{world_of}
 use Rattle.forest_steps.specs.Safety.{SafeOf}
 use Rattle.map_shard.specs.Tables.{split, table}
 

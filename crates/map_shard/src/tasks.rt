@@ -23,6 +23,7 @@ use std::marker::Model;
 
 /// The map tasks of a stage: shard i of input channel m is task m * shards + i. Contracts see all
 /// that they read as a `Work`, whose tasks can be made.
+#[derive(Drop)]
 pub struct MapTasks<'a, F: Functions> {
     functions: &'a F,
     sources: &'a [Items],
@@ -122,7 +123,15 @@ impl<'a, F: Functions> MapTasks<'a, F> {
         let channel = &self.stage.inputs.as_slice()[(task / self.shards) as usize];
         let list = list_of(self.sources, self.results, channel.reads);
         let elements = shard_of(list, self.shards, task % self.shards);
-        run_task(alloc, self.functions, &channel.does, elements, host, at, task)
+        run_task(
+            alloc,
+            self.functions,
+            &channel.does,
+            elements,
+            host,
+            at,
+            task,
+        )
     }
 
     // What the output channels get of what the steps of a task gave, with its counts.
@@ -141,7 +150,7 @@ impl<'a, F: Functions> MapTasks<'a, F> {
     }
 }
 
-impl<'a, F: Functions> Tasks for MapTasks<'a, F> {
+impl<'a, F: Functions + Sync> Tasks for MapTasks<'a, F> {
     ghost use Rattle.map_shard.specs.Work.{IsWorkValue, work_count, work_places};
 
     type Out = Result<MapOut, Trap>;
