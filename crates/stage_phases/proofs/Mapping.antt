@@ -9,12 +9,25 @@ use Rattle.crew.specs.Drills.{Settings}
 use Rattle.shuffle_parts.specs.declared.out.MapOut.{MapOut}
 use Rattle.phase_outs.proofs.Placing.{some_at}
 use Rattle.exec_graph.specs.World.{World}
+use Rattle.exec_plan.specs.declared.plan.Mscr.{Mscr}
 use Rattle.task_lists.specs.Outs.{AreMapOuts, IsCalm, IsFirstTrap, IsMapOut}
 use Rattle.task_lists.specs.Tasks.{Task, map_count, map_task_at, places}
 use Rattle.map_shard.specs.Work.{IsWorkValue, Work, lists_of, split_of, work_count, work_places}
 use Rattle.plan_phases.specs.Phases.{map_phase_of}
+use Rattle.run_settings.specs.Settings.{RunSettings}
 use Rattle.stage_phases.specs.inner.Tasks.{AreValues, IsPhaseOf}
 use Rattle.stage_phases.proofs.Numbers.{at_below, length_below}
+
+abbrev pub work_of : {F : Type 0} → F → List (List Value) → List (List (List Value)) → Mscr
+    → RunSettings → Work F
+work_of functions sources results stage settings = record {
+  functions = functions;
+  sources = sources;
+  results = results;
+  stage = stage;
+  shards = settings.shards;
+  partitions = settings.partitions;
+}
 
 module _ {F : Type 0} (work : Work F) (w : World) where
   abbrev task_of : ℕ → Task
