@@ -1,11 +1,9 @@
 -- Threads may share the stages of plans.
-use denote.RattleType.{RattleType}
 use denote.Param.Send.{IsSync, sendable}
 use Rattle.std.proofs.Crossing.{crosses}
 use Rattle.flume_value.proofs.CrossLemmas.{values_cross}
 use Rattle.exec_graph.specs.contracts.step.Step as step
 use Rattle.exec_graph.specs.contracts.step.Does as does
-use Rattle.exec_graph.specs.contracts.step.Output as output
 use Rattle.exec_graph.specs.contracts.step.Roots as roots
 use Rattle.exec_graph.proofs.step.Step.TheLaws.TheKnot as knot
 use Rattle.exec_plan.specs.contracts.plan.Mscr as mscr

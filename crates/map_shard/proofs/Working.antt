@@ -125,8 +125,8 @@ module _ {F : Type 0} {w : World} {takes : ℕ → Value → Type 0} {work : Wor
         does_is channel.2 lists (same ∙ course.lists) work.stage.outputs ready.fit
 
     pub sent_out : (out : MapOut) → out.counts ≡ given.counts
-        → AllZip (IsSent work.partitions (taken (k / work.shards) lists)) work.stage.outputs out.sent
-        → IsWorkValue w.called work k (Ok out)
+        → AllZip (IsSent work.partitions (taken (k / work.shards) lists)) work.stage.outputs
+        out.sent → IsWorkValue w.called work k (Ok out)
     sent_out out count sent u alike =
         same_out work (k / work.shards) (k % work.shards) w u (sym alike) (Ok out) (record {
           calm = course.calm;

@@ -29,7 +29,7 @@ each_taken P (x ∷ xs) zero f = tt
 each_taken P (x ∷ xs) (suc n) f =
     (f 0 x (omega arith) refl, each_taken P xs n (λ k y h e. f (suc k) y (omega arith) e))
 
-each_placed : {A : Type 0} (P : A → Type 0) (xs : List A)
+pub each_placed : {A : Type 0} (P : A → Type 0) (xs : List A)
     → ((k : ℕ) (x : A) → slice_get xs k ≡ Some x → P x) → Each P xs
 each_placed P [] f = tt
 each_placed P (x ∷ xs) f = (f 0 x refl, each_placed P xs (λ k y e. f (suc k) y e))

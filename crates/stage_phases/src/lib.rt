@@ -6,6 +6,10 @@
 //! from the types of the plan (`CanRunStage`, specs/Stages.antt).
 #![tactic(auto)]
 
+mod inputs;
+mod map;
 mod outs;
+mod ready;
 
-pub use outs::outs_of;
+pub use inputs::Inputs;
+pub use map::map_outs;

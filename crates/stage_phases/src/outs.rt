@@ -18,7 +18,7 @@ use std::thread::Threads;
 
 /// Runs a phase to its end: what its tasks have made, in order. It tells the winners behind those
 /// of earlier phases.
-pub fn outs_of<
+pub(crate) fn outs_of<
     R: Threads + Sync,
     O: Send + Drop,
     T: Tasks<Out = Result<O, Trap>>,

@@ -18,19 +18,19 @@ use Rattle.forest_steps.proofs.Twigging.{limb_run, limb_safe, safe_member}
 use Rattle.forest_steps.proofs.Visiting.{each_member, place_begun, place_on, safe_begun, safe_first, safe_here, safe_on, steps_end, steps_on, twigs_begun, twigs_end, twigs_on}
 use Rattle.forest_steps.proofs.visit.+visit.Goals as goal
 
-pub visit_output-visit_kids-requires :
-    goal.visit_output-visit_kids-requires
+pub visit_output-visit_kids-requires : goal.visit_output-visit_kids-requires
 visit_output-visit_kids-requires g t c κs within =
     let w = world_of (g.F.Functions.called c.args.functions.now) in
     let takes = g.F.Functions.can_call c.args.functions.now in
     let kids = grown c.args.output.now.kids.items in
-    let all : AllByRecursion (Safe w takes kids) c.as_slice-y-items.result.now =
+    let items = c.as_slice-y-items.result.now in
+    let all : AllByRecursion (Safe w takes kids) items =
     subst (AllByRecursion (Safe w takes kids)) (sym c.as_slice-y-items.ensures) c.requires in (
       search rules,
       (
         search (rules, lives, within) depth 24 fits 20000,
-        each_member (Safe w takes kids) c.as_slice-y-items.result.now c.loop-y.y-index c.y-item.result
-            all c.loop-y-test.true c.y-item.is,
+        each_member (Safe w takes kids) items c.loop-y.y-index c.y-item.result all
+            c.loop-y-test.true c.y-item.is,
       ),
     )
 
@@ -91,10 +91,10 @@ visit_outputs-visit_output-requires-in-loop-output g t c κs within =
       omega (arith, c.decreases, below, more, whole, size_decreases c.step.inside c.step.invariant),
       (
         search (rules, lives, within) depth 24 fits 20000,
-        safe_here w c.args.sizes.now takes c.deref-output-items.result.now c.loop-output.output-index
-            c.output-item.result c.loop-output.answers.rest.items c.next_list-emitted-in-loop-output.result
-            c.loop-output-test.true c.output-item.is c.next_list-emitted-in-loop-output.ensures.next
-            c.loop-output.invariant.safe,
+        safe_here w c.args.sizes.now takes items c.loop-output.output-index c.output-item.result
+            c.loop-output.answers.rest.items c.next_list-emitted-in-loop-output.result
+            c.loop-output-test.true c.output-item.is
+            c.next_list-emitted-in-loop-output.ensures.next c.loop-output.invariant.safe,
       ),
     )
 
@@ -143,17 +143,17 @@ visit_outputs-loop-output-preserved g t c =
           c.output-item.is rest c.loop-output.invariant.safe;
     }
 
-pub visit_step-visit_outputs-requires :
-    goal.visit_step-visit_outputs-requires
+pub visit_step-visit_outputs-requires : goal.visit_step-visit_outputs-requires
 visit_step-visit_outputs-requires g t c κs within =
     let w = world_of (g.F.Functions.called c.args.functions.now) in
     let takes = g.F.Functions.can_call c.args.functions.now in
+    let answers = c.in_ok-answers.answers.items in
     let given = sym (ap (λ (d : Branch). called w d.does c.args.x.now) c.step.view_is)
     ∙ c.in_ok-answers.ensures.given in (
       search rules,
       (
         search (rules, lives, within) depth 24 fits 20000,
-        limb_safe w takes c.args.step.now c.args.x.now c.in_ok-answers.answers.items given c.requires,
+        limb_safe w takes c.args.step.now c.args.x.now answers given c.requires,
       ),
     )
 

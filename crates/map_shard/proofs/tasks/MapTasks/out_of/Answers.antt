@@ -15,7 +15,8 @@ send_all-requires-clause-fit g c =
     let is_task = rw (← c.self.view_is) at c.requires.task in
     let course = rw (← c.self.view_is) at c.requires.given in
     let lists = c.deref.result.now in
-    subst (AllByRecursion (CanSend (c.args.task / i.shards) lists)) (sym c.as_slice-channels.ensures)
+    subst (AllByRecursion (CanSend (c.args.task / i.shards) lists))
+    (sym c.as_slice-channels.ensures)
     (can_send_all c.self.invariant c.args.task is_task c.args.given course lists
     (c.deref.ensures.value ∙ c.into_parts-lists.ensures.lists))
 
