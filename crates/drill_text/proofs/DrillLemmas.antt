@@ -56,7 +56,8 @@ names_decide a b = (named a b, λ e. ap (names a) (sym e) ∙ names_itself a)
 
 -- ---- none comes again
 
-neither : (a b : Bool) → (a || b) ≡ false → (a ≡ false) × (b ≡ false)
+-- neither of two tests
+pub neither : (a b : Bool) → (a || b) ≡ false → (a ≡ false) × (b ≡ false)
 neither true b h = cc h
 neither false b h = (refl, h)
 

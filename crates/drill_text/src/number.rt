@@ -1,5 +1,6 @@
-ghost use Rattle.std.specs.Prelude.{◌≡◌};
+ghost use Rattle.std.specs.Prelude.{◌≡◌, IfSome};
 ghost use Rattle.int_text.specs.Ints.{is_numeral};
+ghost use Rattle.run_settings.specs.Limits.{IsUpTo};
 ghost use Rattle.drill_text.specs.Numbers as spec;
 
 /// The greatest number of six digits.
@@ -18,7 +19,8 @@ pub fn number_in(text: &str) -> Option<u32>
 
 /// The number from 1 up to a limit that a text spells.
 pub fn number_up_to(limit: u32, text: &str) -> Option<u32>
-    ensures { result ≡ spec.number_up_to limit text.now }
+    ensures value { result ≡ spec.number_up_to limit text.now }
+    ensures within { IfSome result (IsUpTo limit) }
 {
     number_in(text).filter(|number| (1..=limit).contains(number))
 }
