@@ -1,5 +1,5 @@
 -- Sizes along a script's nodes are those of the collections that its meaning makes.
-use Rattle.std.proofs.Common.{◌≡◌, ℕ, zero, suc, ◌+◌, Bool, true, false, List, [], ◌∷◌, ◌++◌, drop, length, map, Option, Some, None, slice_get, refl, sym, ap, ◌∙◌, subst, arith, add-one, append_assoc, length-append}
+use Rattle.std.proofs.Common.{◌≡◌, ℕ, zero, suc, Bool, true, false, List, [], ◌∷◌, ◌++◌, drop, length, map, Option, Some, None, slice_get, refl, sym, ap, ◌∙◌, subst, arith, add-one, append_assoc, length-append}
 use Rattle.std.proofs.lemmas.List.{length-map, map-append}
 use Rattle.std.proofs.lemmas.Option.{slice_get-map}
 use Rattle.std.specs.Prelude.{if◌then◌else◌, option_and_then, option_map, unwrap_or}
@@ -18,7 +18,7 @@ use Rattle.direct_meaning.proofs.PlaceLemmas.{at_end}
 use Rattle.build_law.specs.Means.{HasOwn}
 use Rattle.build_law.proofs.Tables.{and_then_some, continues, made_next, map_some}
 use Rattle.run_sizes.specs.Counts.{AreOwnCounts}
-use Rattle.run_sizes.specs.inner.Along.{behind, count_at, kept, named_sizes, row_count, sized_as, sizes_along, together}
+use Rattle.run_sizes.specs.inner.Along.{behind, count_at, kept, named_sizes, sized_as, sizes_along}
 use Rattle.run_sizes.proofs.Named.{meant_sizes}
 use Rattle.run_sizes.proofs.Stepping.{passed, taken}
 use Rattle.run_sizes.proofs.Together.{sized, together_sizes}

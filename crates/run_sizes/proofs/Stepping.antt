@@ -1,5 +1,5 @@
 -- One collection more, along a script's nodes.
-use Rattle.std.proofs.Common.{◌≡◌, ℕ, zero, suc, ◌+◌, ◌≤◌, Bool, true, false, List, [], ◌∷◌, ◌++◌, drop, length, Option, Some, None, slice_get, refl, sym, ap, ◌∙◌, subst, arith, add-one, length-append}
+use Rattle.std.proofs.Common.{◌≡◌, ℕ, zero, suc, ◌+◌, ◌<◌, ◌≤◌, true, false, List, [], ◌∷◌, ◌++◌, drop, length, Option, Some, None, slice_get, refl, sym, ap, ◌∙◌, subst, arith, add-one}
 use Rattle.std.specs.Prelude.{if◌then◌else◌, option_map}
 use Rattle.flume_value.specs.declared.value.Value.{Value}
 use Rattle.written_types.specs.Named.{Named}
@@ -24,6 +24,12 @@ next_entry : (nodes : Named Node) (n : ℕ) (mk : Made)
 next_entry [] n mk at = cc
 next_entry (e ∷ nodes) zero mk at = (e, refl, cc)
 next_entry (e ∷ nodes) (suc n) mk at = next_entry nodes n mk at
+
+some_entry : (nodes : Named Node) (n : ℕ) → n < length nodes
+    → (e : List ℕ × Node) × (drop n nodes ≡ e ∷ drop (suc n) nodes)
+some_entry [] n below = absurd (omega arith)
+some_entry (e ∷ nodes) zero below = (e, refl)
+some_entry (e ∷ nodes) (suc n) below = some_entry nodes n (omega arith)
 
 module _ (script : Script) (rows : List (List Value)) (counts : List ℕ) where
   pub taken : (entry : List ℕ × Node) (nodes : Named Node) (input : ℕ) (sizes : List (Option ℕ))
@@ -68,13 +74,12 @@ module _ (script : Script) (rows : List (List Value)) (counts : List ℕ) where
       ∙ subst (λ (l : Named Node). sizes_along script rows counts l input sizes ≡ whole) next
       along)
 
-  pub on_passed : (nodes : Named Node) (n input : ℕ) (sizes : List (Option ℕ)) (mk : Made)
-      (whole : List (Option ℕ)) → option_map MadeOf (slice_get nodes n) ≡ Some mk
-      → length sizes ≡ n → is_needed script n ≡ false
+  pub on_passed : (nodes : Named Node) (n input : ℕ) (sizes whole : List (Option ℕ))
+      → n < length nodes → length sizes ≡ n → is_needed script n ≡ false
       → sizes_along script rows counts (drop n nodes) input sizes ≡ whole
       → sizes_along script rows counts (drop (n + 1) nodes) input (sizes ++ None ∷ []) ≡ whole
-  on_passed nodes n input sizes mk whole at count needless along =
-      let (e, next, made) = next_entry nodes n mk at in
+  on_passed nodes n input sizes whole below count needless along =
+      let (e, next) = some_entry nodes n below in
       (λ i. sizes_along script rows counts (drop (add-one n i) nodes) input (sizes ++ None ∷ []))
       ∙ (sym (passed e (drop (suc n) nodes) input sizes (ap (is_needed script) count ∙ needless))
       ∙ subst (λ (l : Named Node). sizes_along script rows counts l input sizes ≡ whole) next

@@ -1,7 +1,7 @@
-use Rattle.std.proofs.Common.{◌≡◌, ◌∙◌, ◌+◌, ◌<◌, ◌++◌, ◌∷◌, [], ℕ, List, Option, None, Some, true, false, length, slice_get, ap, arith, drop, subst, sym}
+use Rattle.std.proofs.Common.{◌≡◌, ◌∙◌, ◌+◌, ◌<◌, ◌≤◌, ◌++◌, ◌∷◌, [], ℕ, List, Option, length, slice_get, ap, arith, drop, subst, sym}
 use Rattle.std.proofs.Common.{length-append}
-use Rattle.script_check.specs.Needed.{is_needed}
-use Rattle.script_check.specs.declared.made.Made.{Made}
+use Rattle.script_check.specs.Script.{Node}
+use Rattle.written_types.specs.Named.{Named}
 use Rattle.run_sizes.specs.inner.Along.{sized_as, sizes_along}
 use Rattle.run_sizes.proofs.Stepping.{few_behind, made_there, none_left, on_passed, on_taken}
 use Rattle.run_sizes.proofs.sizes.sizes_by_number.Goals as goal
@@ -42,5 +42,24 @@ loop-number-preserved c =
                 (sym c.is_needed.ensures ∙ w.if-is_needed.true) is here.ahead;
           }
       | else-is_needed w ↦
-          ?
+          let below : n < length script.nodes = omega arith in
+          record {
+            count = count;
+            inputs = subst (λ k. k ≤ n + 1) (sym w.input-is) (omega (arith, here.inputs));
+            ahead =
+                (λ i. sizes_along script rows counts (drop (n + 1) script.nodes) (w.input-is i)
+                ((c.in_ok-push.ensures.items ∙ (λ j. sizes ++ w.size-is j ∷ [])) i))
+                ∙ on_passed script rows counts script.nodes n c.loop-number.input sizes _ below
+                here.count (sym c.is_needed.ensures ∙ w.if-is_needed.false) here.ahead;
+          }
     ]
+
+pub returns-clause-along : goal.returns-clause-along
+returns-clause-along c =
+    let script = c.args.program.now.script in
+    let nodes = script.nodes in
+    let sizes = c.loop-number.sizes.items in
+    let end : c.loop-number.number ≡ length nodes = omega arith in
+    sym (ap (λ (l : Named Node). sizes_along script c.args.rows.now c.args.counts.now l
+    c.loop-number.input sizes) (none_left nodes c.loop-number.number end))
+    ∙ c.loop-number.invariant.ahead
