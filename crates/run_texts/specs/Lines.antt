@@ -7,7 +7,9 @@ use Rattle.flume_grammar.specs.declared.fault.ScriptKind.TheVariants as script
 use Rattle.run_texts.specs.declared.status.Place.{Place}
 use Rattle.run_texts.specs.declared.status.Place.TheVariants.{File, Screen}
 use Rattle.run_texts.specs.declared.status.Status.{Status}
-use Rattle.run_texts.specs.declared.status.Status.TheVariants.{Done, Usage, ScriptRefused, InputRefused, Trap, ReadFault, WriteFault, WantOfMemory, TooLong, NoFile}
+use Rattle.run_texts.specs.declared.status.Status.TheVariants.{Done, Usage, ScriptRefused, InputRefused, Trap, ReadFault, WriteFault, GaveUp, WantOfMemory, TooLong, NoFile}
+use Rattle.outside.specs.declared.host.Phase.{Phase}
+use Rattle.outside.specs.declared.host.Phase.TheVariants.{Map, Reduce}
 use Rattle.flume_value.specs.declared.fault.Kind.{Kind}
 use Rattle.flume_value.specs.declared.fault.Kind.TheVariants as trap
 use Rattle.flume_value.specs.declared.value.Value.{Value}
@@ -44,6 +46,11 @@ trap_kind_name trap.DivideByZero = codes "DivideByZero"
 trap_kind_name trap.BadIndex = codes "BadIndex"
 trap_kind_name trap.BadNumber = codes "BadNumber"
 
+-- the name of each phase of a stage
+abbrev pub phase_name : Phase → List ℕ
+phase_name Map = codes "map"
+phase_name Reduce = codes "reduce"
+
 -- the line of a trap, whose node has that name
 abbrev pub trap_line : List ℕ → Kind → Value → List ℕ
 trap_line name kind element =
@@ -74,6 +81,9 @@ line_of (InputRefused name row column kind) =
     ++ codes "\n")))))))
 line_of (ReadFault name) = codes "read fault: " ++ (quoted name ++ codes "\n")
 line_of (WriteFault place) = place_line place
+line_of (GaveUp stage phase task) =
+    codes "gave up at stage " ++ (decimal stage ++ (codes " " ++ (phase_name phase
+    ++ (codes " task " ++ (decimal task ++ codes "\n")))))
 line_of WantOfMemory = codes "want of memory\n"
 line_of (TooLong name limit) =
     codes "too long: " ++ (quoted name ++ (codes " above " ++ (decimal limit ++ codes " bytes\n")))
