@@ -21,7 +21,7 @@ use Rattle.script_check.specs.Needed.{made_of}
 use Rattle.script_check.specs.Script.{Script}
 use Rattle.script_check.specs.declared.made.Made.{Made}
 use Rattle.task_lists.specs.Runs.{kept_count}
-use Rattle.script_run.specs.Runs.{AreMembers}
+use Rattle.script_run.specs.Comes.{AreMembers}
 
 -- ---- lists side by side
 

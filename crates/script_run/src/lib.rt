@@ -8,6 +8,6 @@
 //! attempts are lost, a run that ends without a trap comes to the script's direct meaning.
 #![tactic(auto)]
 
-mod run;
+mod laws;
 
-pub use run::{Ran, run_script};
+pub use laws::plan_law;
