@@ -56,12 +56,13 @@ impl<'a, F: Functions> ReduceTasks<'a, F> {
         outs: &'a [MapOut],
         partitions: u32,
     ) -> ReduceTasks<'a, F>
-        requires { CanReduce (world_of (F.called functions.now)) (F.can_call functions.now) (record {
-          functions = functions.now;
-          stage = stage.now;
-          outs = outs.now;
-          partitions = partitions;
-        }) }
+        requires { CanReduce (world_of (F.called functions.now)) (F.can_call functions.now)
+            (record {
+              functions = functions.now;
+              stage = stage.now;
+              outs = outs.now;
+              partitions = partitions;
+            }) }
         ensures { result ≡ record {
           functions = functions.now;
           stage = stage.now;
