@@ -2,4 +2,4 @@ pub mod Gathering
 pub mod Channels
 pub mod Values
 pub mod Merging
-pub mod Crossing
+pub mod CrossLemmas
