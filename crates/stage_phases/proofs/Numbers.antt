@@ -14,7 +14,8 @@ length_below task (suc n) =
     let a = length-append (tasks_below task n) (task n ∷ []) in
     let b = length_below task n in omega arith
 
-get_below : (task : ℕ → Task) (n k : ℕ) (d : Task) → k < n → get_or (tasks_below task n) k d ≡ task k
+get_below : (task : ℕ → Task) (n k : ℕ) (d : Task) → k < n
+    → get_or (tasks_below task n) k d ≡ task k
 get_below task zero k d h = absurd (omega arith)
 get_below task (suc n) k d h =
     let long = length_below task n in

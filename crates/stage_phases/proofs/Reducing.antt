@@ -86,7 +86,8 @@ count_within r made is some few groups channels =
     rw is (omega arith, omega arith)
 
 module _ {F : Type 0} (r : Reducing F) (w : World) (shards : ℕ) (t : Lists)
-    (first : AreGroupsFirst r.stage.outputs) (some : 0 < shards) (some_partitions : 0 < r.partitions)
+    (first : AreGroupsFirst r.stage.outputs) (some : 0 < shards)
+    (some_partitions : 0 < r.partitions)
     (made : AreMapOuts w (split shards r.partitions) t r.stage r.outs) where
   abbrev n : Split
   n = split shards r.partitions

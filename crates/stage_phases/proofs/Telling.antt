@@ -59,7 +59,8 @@ module _ (w : World) (ph : PhaseTasks) (s : Settings) (tasks : ℕ) {O : Type 0}
 
   pub has_run : (before after : List PhaseWinners) (made : PhaseOuts O)
       → AreMade tasks s is_value asked us vs made
-      → after ≡ before ++ record { stage = s.stage; phase = s.phase; attempts = made.attempts.items }
+      → after ≡ before
+      ++ record { stage = s.stage; phase = s.phase; attempts = made.attempts.items }
       ∷ [] → HaveRun s.tries s.drill w (ph ∷ []) us vs before after
   has_run before after made m told = record {
     calm = (

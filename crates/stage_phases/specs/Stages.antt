@@ -38,8 +38,8 @@ pub record CanRunStage (w : World) (takes : ℕ → Value → Type 0) (k : ℕ) 
   pub before : List Stage
   pub ok : IsStageOk sources before s
 
--- the outs of the map tasks of the stage are right, over some lists that it finds, and the stage can
--- be run over them
+-- the outs of the map tasks of the stage are right, over some lists that it finds, and the stage
+-- can be run over them
 pub record CanReduceStage (called : ℕ → Value → Called) (takes : ℕ → Value → Type 0)
     (sources : List (List Value)) (n : Split) (k : ℕ) (s : Channels) (maps : List MapOut)
     : Type 0 where

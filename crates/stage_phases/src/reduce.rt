@@ -25,8 +25,8 @@ use shuffle_parts::MapOut;
 use std::alloc::Global;
 use std::thread::Threads;
 
-/// The outs of the reduce tasks of stage `number`, over the outs of its map tasks: none where it has
-/// no grouping channel. It tells the winners behind those of earlier phases.
+/// The outs of the reduce tasks of stage `number`, over the outs of its map tasks: none where it
+/// has no grouping channel. It tells the winners behind those of earlier phases.
 pub fn reduce_outs<R: Threads + Sync, F: Functions + Sync, H: Host + Send>(
     rt: &R,
     alloc: Global,
