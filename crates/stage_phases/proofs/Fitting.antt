@@ -1,11 +1,10 @@
 -- The tasks of a stage that fits its types can be made.
-use Rattle.std.proofs.Common.{◌≡◌, ℕ, zero, suc, ◌+◌, ◌*◌, ◌<◌, ◌≤◌, ◌^◌, Bool, cond, false, List, [], ◌∷◌, length, Option, Some, None, refl, sym, ap, ◌∙◌, subst, arith, slice_get, ◌==◌, ◌||◌}
+use Rattle.std.proofs.Common.{◌≡◌, ℕ, zero, suc, ◌+◌, ◌*◌, ◌<◌, ◌≤◌, ◌^◌, Bool, cond, false, List, [], ◌∷◌, length, Some, refl, subst, arith, slice_get, ◌==◌, ◌||◌}
 use Rattle.std.specs.List.{AllByRecursion as Each, flat_map}
 use Rattle.std.proofs.Math.Nat.{mul-le-mul_left, mul-le-mul_right}
 use Rattle.std.proofs.lemmas.Option.{none-some, same_Some}
 use Rattle.flume_value.specs.declared.value.Value.{Value}
 use Rattle.flume_collection.specs.Calls.{Called}
-use Rattle.combine_table.specs.declared.comb.Comb.{Comb}
 use Rattle.exec_graph.specs.World.{World}
 use Rattle.exec_plan.specs.declared.plan.Grouping.{Grouping}
 use Rattle.exec_plan.specs.declared.plan.InChannel.{InChannel}
@@ -14,15 +13,14 @@ use Rattle.exec_plan.specs.declared.plan.OutChannel.{OutChannel}
 use Rattle.exec_plan.specs.declared.plan.OutChannel.TheVariants.{Group, Pass}
 use Rattle.exec_plan.specs.declared.plan.Stage.TheVariants.{Mscr}
 use Rattle.exec_plan.specs.declared.plan.Take.{Take}
-use Rattle.exec_plan.specs.Wellformed.{AreOuts, Exists, IsLiftOk, IsMscrOk, IsOutOk, is_pass, most_channels, width}
-use Rattle.task_lists.specs.Runs.{gives}
-use Rattle.task_lists.specs.Tasks.{Lists, Split, Task, given_to, map_task_of}
+use Rattle.exec_plan.specs.Wellformed.{AreOuts, Exists, IsLiftOk, IsOutOk, is_pass, width}
+use Rattle.task_lists.specs.Tasks.{Task, given_to, map_task_of}
 use Rattle.task_lists.specs.Typing.{AreGroupable}
 use Rattle.forest_steps.specs.Functions.{world_of}
 use Rattle.forest_steps.specs.Safety.{SafeOf}
 use Rattle.forest_courses.proofs.Worlds.{same_gives}
 use Rattle.map_shard.specs.Tables.{split, table}
-use Rattle.map_shard.specs.Work.{CanWork, IsFit, IsReady, Work}
+use Rattle.map_shard.specs.Work.{CanWork, IsFit, Work}
 use Rattle.stage_phases.specs.Stages.{CanRunStage, run_world}
 use Rattle.stage_phases.proofs.Telling.{each_placed}
 
@@ -76,9 +74,10 @@ module _ {F : Type 0} (functions : F) (called : ℕ → Value → Called) (takes
     fit_at m i r (Pass take number) at o = o.ok.1
     fit_at m i r (Group g) at o =
         let group = o.ok in
-        let same = same_given_to World_ (world_of called) refl (task_of m i) m g.takes in
-        (group.takes,
-        subst (AreGroupable g.lifted) same (given r m i g at group.takes group.lift))
+        let same = same_given_to World_ (world_of called) refl (task_of m i) m g.takes in (
+          group.takes,
+          subst (AreGroupable g.lifted) same (given r m i g at group.takes group.lift),
+        )
 
     fits : (m i : ℕ)
         → Each (IsFit s.inputs (given_to (world_of called) (task_of m i) m)) s.outputs

@@ -6,7 +6,6 @@ use Rattle.std.specs.Option.{IsSomeAnd, MatchOption, option_map, option_map_or}
 use Rattle.std.proofs.lemmas.List.Elements.{All-weaker}
 use Rattle.std.proofs.lemmas.Slice.Zip.{AllZip-left}
 use Rattle.flume_value.specs.declared.value.Value.{Value}
-use Rattle.bag_groups.specs.Groups.{grouped}
 use Rattle.bag_groups.specs.Pairs.{IsPair, pairs_of, parts_of}
 use Rattle.combine_table.specs.declared.comb.Comb.{Comb}
 use Rattle.partial_tables.specs.Merges.{StandFor}
@@ -14,7 +13,7 @@ use Rattle.shards.specs.Shards.{joined}
 use Rattle.shards.proofs.Joined.{flat_map-joined, joined_same}
 use Rattle.shuffle_parts.specs.declared.out.MapOut.{MapOut}
 use Rattle.shuffle_parts.specs.declared.out.Sent.{Sent}
-use Rattle.shuffle_parts.specs.Outs.{sent_at, all_pairs, all_partials, ArePairsOf, ArePartialsOf}
+use Rattle.shuffle_parts.specs.Outs.{sent_at, all_partials, ArePairsOf, ArePartialsOf}
 use Rattle.shuffle_parts.specs.Partitions.{falls_in, is_in, part_of}
 use Rattle.shuffle_parts.proofs.Gathered.{all_pairs-are, all_partials-stand}
 use Rattle.shuffle_parts.proofs.Passing.{grouped-passing}
@@ -112,12 +111,13 @@ module _ (w : World) (n : Split) (t : Lists) (s : Mscr) (outs : List MapOut) (r 
       → IsGathered lifted outs r p (pairs_at g p)
   is_gathered g p below at None sent =
       let P = n.partitions in
-      let given = listed (given_by g.takes) (length outs) in
-      (sym (all_pairs-are P r p outs given below
-      (zipped g (λ out pairs. ArePairsOf P (sent_at r out) pairs) at
-      (λ k out is. pairs_are (sent_at r out) P (given_by g.takes k) (sent k out is)))
-      ∙ ap (part_of P p) (given_all g.takes)),
-      part_pairs P p (gathered w n t s.inputs g.takes))
+      let given = listed (given_by g.takes) (length outs) in (
+        sym (all_pairs-are P r p outs given below
+            (zipped g (λ out pairs. ArePairsOf P (sent_at r out) pairs) at
+            (λ k out is. pairs_are (sent_at r out) P (given_by g.takes k) (sent k out is)))
+            ∙ ap (part_of P p) (given_all g.takes)),
+        part_pairs P p (gathered w n t s.inputs g.takes),
+      )
   is_gathered g p below at (Some c) sent =
       let P = n.partitions in
       let given = listed (given_by g.takes) (length outs) in

@@ -1,9 +1,7 @@
 -- The tasks of a map phase as a crew runs them.
-use Rattle.std.proofs.Common.{◌≡◌, ℕ, ◌<◌, ◌/◌, ◌%◌, List, length, Some, Result, Ok, Err, refl, sym, ap, ◌∙◌, subst, slice_get}
+use Rattle.std.proofs.Common.{◌≡◌, ℕ, ◌<◌, ◌/◌, ◌%◌, List, refl, sym, ap, subst}
 use Rattle.std.specs.Option.{IsSomeAnd}
 use Rattle.flume_value.specs.declared.value.Value.{Value}
-use Rattle.flume_collection.specs.declared.trap.Trap.{Trap}
-use Rattle.flume_collection.specs.Calls.{Called}
 use Rattle.outside.specs.declared.host.Phase.TheVariants.{Map}
 use Rattle.crew.specs.Drills.{Settings}
 use Rattle.shuffle_parts.specs.declared.out.MapOut.{MapOut}
@@ -11,7 +9,7 @@ use Rattle.phase_outs.proofs.Placing.{some_at}
 use Rattle.exec_graph.specs.World.{World}
 use Rattle.exec_plan.specs.declared.plan.Mscr.{Mscr}
 use Rattle.task_lists.specs.Outs.{AreMapOuts, IsCalm, IsFirstTrap, IsMapOut}
-use Rattle.task_lists.specs.Tasks.{Task, map_count, map_task_at, places}
+use Rattle.task_lists.specs.Tasks.{Task, map_task_at, places}
 use Rattle.map_shard.specs.Work.{IsWorkValue, Work, lists_of, split_of, work_count, work_places}
 use Rattle.plan_phases.specs.Phases.{map_phase_of}
 use Rattle.run_settings.specs.Settings.{RunSettings}

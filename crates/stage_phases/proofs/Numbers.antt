@@ -1,7 +1,7 @@
 -- The tasks of a phase, by their numbers.
-use Rattle.std.proofs.Common.{◌≡◌, ℕ, zero, suc, ◌+◌, ◌<◌, List, [], ◌∷◌, ◌++◌, length, Some, ⊎_elim, refl, sym, ap, ◌∙◌, subst, arith, slice_get, length-append}
+use Rattle.std.proofs.Common.{◌≡◌, ℕ, zero, suc, ◌<◌, [], ◌∷◌, ◌++◌, length, Some, ⊎_elim, refl, sym, ap, ◌∙◌, arith, slice_get, length-append}
 use Rattle.std.proofs.lemmas.Bool.{cases_lt}
-use Rattle.std.proofs.lemmas.Option.{get_or_from_slice_get, same_Some, slice_get-get_or, slice_get_within}
+use Rattle.std.proofs.lemmas.Option.{get_or_from_slice_get, slice_get_within}
 use Rattle.std.proofs.Math.ListN.{get_or-append}
 use Rattle.std.proofs.Math.Seq.{get_or-append_seam}
 use Rattle.std.proofs.Common.{get_or}
@@ -14,7 +14,8 @@ length_below task (suc n) =
     let a = length-append (tasks_below task n) (task n ∷ []) in
     let b = length_below task n in omega arith
 
-get_below : (task : ℕ → Task) (n k : ℕ) (d : Task) → k < n → get_or (tasks_below task n) k d ≡ task k
+get_below : (task : ℕ → Task) (n k : ℕ) (d : Task) → k < n
+    → get_or (tasks_below task n) k d ≡ task k
 get_below task zero k d h = absurd (omega arith)
 get_below task (suc n) k d h =
     let long = length_below task n in

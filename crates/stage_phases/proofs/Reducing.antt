@@ -1,12 +1,11 @@
 -- The tasks of a reduce phase as a crew runs them.
-use Rattle.std.proofs.Common.{◌≡◌, ℕ, zero, suc, ◌<◌, ◌≤◌, ◌*◌, ◌/◌, ◌%◌, ◌^◌, List, [], ◌∷◌, length, Option, Some, None, Result, Ok, Err, refl, sym, ap, ◌∙◌, subst, arith, slice_get, mod-lt}
-use Rattle.std.specs.List.{AllByRecursion as Each}
+use Rattle.std.proofs.Common.{◌≡◌, ℕ, true, false, ◌<◌, ◌≤◌, ◌*◌, ◌/◌, ◌%◌, ◌^◌, List, [], ◌∷◌, length, Option, Some, Result, Ok, Err, refl, sym, ap, ◌∙◌, subst, arith, slice_get, mod-lt, zero-mul}
+use Rattle.std.specs.List.{AllByRecursion as Each, list_any}
 use Rattle.std.specs.Option.{IsSomeAnd, option_map_or}
-use Rattle.std.proofs.Math.Nat.{div-lt_iff_lt-mul}
+use Rattle.std.proofs.Math.Nat.{div-lt_iff_lt-mul, le-mul_of_pos_right}
 use Rattle.std.proofs.lemmas.Option.{slice_get_within}
 use Rattle.flume_value.specs.declared.value.Value.{Value}
 use Rattle.flume_collection.specs.declared.trap.Trap.{Trap}
-use Rattle.flume_collection.specs.Calls.{Called}
 use Rattle.bag_groups.specs.Groups.{grouped}
 use Rattle.combine_table.specs.declared.comb.Comb.{Comb}
 use Rattle.outside.specs.declared.host.Phase.TheVariants.{Reduce}
@@ -18,18 +17,18 @@ use Rattle.exec_plan.specs.declared.plan.Grouping.{Grouping}
 use Rattle.exec_plan.specs.declared.plan.Mscr.{Mscr as Channels}
 use Rattle.exec_plan.specs.declared.plan.OutChannel.{OutChannel}
 use Rattle.exec_plan.specs.declared.plan.OutChannel.TheVariants.{Group, Pass}
-use Rattle.exec_plan.specs.declared.plan.Stage.TheVariants.{Mscr}
 use Rattle.task_lists.specs.Outs.{AreMapOuts, IsCalm, IsFirstTrap}
 use Rattle.task_lists.specs.Tasks.{Lists, Split, Task, groupings, no_task, places, reduce_count, reduce_task, reduce_task_at}
 use Rattle.forest_steps.specs.Safety.{SafeOf}
+use Rattle.run_settings.specs.Settings.{RunSettings}
 use Rattle.reduce_part.specs.declared.out.ReduceOut.{ReduceOut}
 use Rattle.reduce_part.specs.Reducing.{AreGroupsFirst, CanReduce, IsGathered, IsReducingValue, IsReduceValue, Reducing, group_count, group_task, reducing_count, reducing_places}
 use Rattle.map_shard.specs.Tables.{split}
-use Rattle.plan_phases.specs.Phases.{reduce_phase_of, tasks_below}
+use Rattle.plan_phases.specs.Phases.{reduce_phase_of, reduce_phases, tasks_below}
 use Rattle.stage_phases.specs.Outs.{AreReduceOuts, IsOutOf}
-use Rattle.stage_phases.specs.Stages.{CanRunStage}
+use Rattle.stage_phases.specs.inner.Channels.{is_group}
 use Rattle.stage_phases.specs.inner.Tasks.{AreValues, IsPhaseOf}
-use Rattle.stage_phases.proofs.Fitting.{IsOutSomewhere, few_tasks, out_at}
+use Rattle.stage_phases.proofs.Fitting.{IsOutSomewhere, few_tasks}
 use Rattle.stage_phases.proofs.Gathering.{gathered_at, pairs_at, task_is}
 use Rattle.stage_phases.proofs.Numbers.{at_below, length_below}
 
@@ -39,8 +38,56 @@ few_groupings [] = omega arith
 few_groupings (Group g ∷ cs) = let rest = few_groupings cs in omega arith
 few_groupings (Pass k n ∷ cs) = let rest = few_groupings cs in omega arith
 
+-- whether a channel groups says whether there is a reduce phase
+pub no_groupings : (channels : List OutChannel) → list_any is_group channels ≡ false
+    → groupings channels ≡ []
+no_groupings [] e = refl
+no_groupings (Group g ∷ cs) e = cc e
+no_groupings (Pass k n ∷ cs) e = no_groupings cs e
+
+pub some_groupings : (channels : List OutChannel) → list_any is_group channels ≡ true
+    → 0 < length (groupings channels)
+some_groupings [] e = cc e
+some_groupings (Group g ∷ cs) e = omega arith
+some_groupings (Pass k n ∷ cs) e = some_groupings cs e
+
+pub one_phase : (w : World) (k : ℕ) (n : Split) (t : Lists) (s : Channels) (gs : List Grouping)
+    → 0 < length gs → reduce_phases w k n t s gs ≡ reduce_phase_of w k n t s ∷ []
+one_phase w k n t s [] h = absurd (omega arith)
+one_phase w k n t s (g ∷ gs) h = refl
+
+pub no_outs : (w : World) (n : Split) (t : Lists) (s : Channels) (outs : List ReduceOut)
+    → groupings s.outputs ≡ [] → outs ≡ [] → AreReduceOuts w n t s outs
+no_outs w n t s outs none e =
+    let count : reduce_count n s ≡ 0 = ap (λ (gs : List Grouping). length gs * n.partitions) none
+    ∙ zero-mul n.partitions in record {
+      count = ap length e ∙ sym count;
+      each = λ k below. absurd (omega arith);
+    }
+
+abbrev pub reducing_of : {F : Type 0} → F → Channels → List MapOut → RunSettings → Reducing F
+reducing_of functions stage outs settings = record {
+  functions = functions;
+  stage = stage;
+  outs = outs;
+  partitions = settings.partitions;
+}
+
+-- a phase has some tasks, and not too many for a crew
+pub count_within : {F : Type 0} (r made : Reducing F) → made ≡ r → 0 < r.partitions
+    → r.partitions ≤ 64 → 0 < length (groupings r.stage.outputs)
+    → length r.stage.outputs ≤ 2 ^ 17
+    → (0 < reducing_count made) × (reducing_count made ≤ 2 ^ 23)
+count_within r made is some few groups channels =
+    let count = length (groupings r.stage.outputs) in
+    let less = few_groupings r.stage.outputs in
+    let most = few_tasks count r.partitions (omega arith) few in
+    let least = le-mul_of_pos_right count some in
+    rw is (omega arith, omega arith)
+
 module _ {F : Type 0} (r : Reducing F) (w : World) (shards : ℕ) (t : Lists)
-    (first : AreGroupsFirst r.stage.outputs) (some : 0 < shards) (some_partitions : 0 < r.partitions)
+    (first : AreGroupsFirst r.stage.outputs) (some : 0 < shards)
+    (some_partitions : 0 < r.partitions)
     (made : AreMapOuts w (split shards r.partitions) t r.stage r.outs) where
   abbrev n : Split
   n = split shards r.partitions

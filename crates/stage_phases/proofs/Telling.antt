@@ -1,5 +1,5 @@
 -- What a phase tells, where its tasks are those of the plan.
-use Rattle.std.proofs.Common.{◌≡◌, ℕ, zero, suc, ◌<◌, List, [], ◌∷◌, ◌++◌, length, take, drop, Some, Result, Ok, Err, refl, sym, ap, ◌∙◌, subst, arith, slice_get}
+use Rattle.std.proofs.Common.{◌≡◌, ℕ, zero, suc, ◌<◌, List, [], ◌∷◌, ◌++◌, take, drop, Some, Result, refl, sym, ap, ◌∙◌, subst, arith, slice_get}
 use Rattle.std.specs.List.{AllByRecursion as Each}
 use Rattle.std.proofs.lemmas.Option.{none-some, same_Some, slice_get_within}
 use Rattle.flume_collection.specs.declared.trap.Trap.{Trap}
@@ -12,11 +12,11 @@ use Rattle.phase_outs.specs.declared.stop.PhaseStop.{PhaseStop}
 use Rattle.phase_outs.specs.declared.stop.PhaseStop.TheVariants as stop
 use Rattle.phase_outs.specs.Outs.{AreMade, AreMadeBelow, HasRun, IsStop}
 use Rattle.phase_outs.proofs.Placing.{some_at}
-use Rattle.task_lists.specs.Outs.{IsCalm, IsFirstTrap}
-use Rattle.task_lists.specs.Tasks.{Task, places}
+use Rattle.task_lists.specs.Outs.{IsCalm}
+use Rattle.task_lists.specs.Tasks.{places}
 use Rattle.plan_phases.specs.declared.winners.PhaseWinners.{PhaseWinners}
 use Rattle.plan_phases.specs.Phases.{PhaseTasks}
-use Rattle.plan_phases.specs.Told.{AreWinners, HaveRun, IsFirstOf, IsGivenUp, IsStopped, settings_of}
+use Rattle.plan_phases.specs.Told.{HaveRun, IsStopped, settings_of}
 use Rattle.stage_phases.specs.inner.Tasks.{IsPhaseOf, fault_at}
 
 -- ---- lists
@@ -59,27 +59,33 @@ module _ (w : World) (ph : PhaseTasks) (s : Settings) (tasks : ℕ) {O : Type 0}
 
   pub has_run : (before after : List PhaseWinners) (made : PhaseOuts O)
       → AreMade tasks s is_value asked us vs made
-      → after ≡ before ++ record { stage = s.stage; phase = s.phase; attempts = made.attempts.items }
+      → after ≡ before
+      ++ record { stage = s.stage; phase = s.phase; attempts = made.attempts.items }
       ∷ [] → HaveRun s.tries s.drill w (ph ∷ []) us vs before after
   has_run before after made m told = record {
-    calm =
-        (each_placed (IsCalm w) ph.tasks (λ k task at.
-        let within = slice_get_within ph.tasks k task at in
-        let count = p.count in
-        let outs = m.count.0 in
-        let out = some_at made.outs.items k (omega arith) in
-        p.calm k task out.0 at (m.values k out.0 out.1)), tt);
+    calm = (
+      each_placed (IsCalm w) ph.tasks (λ k task at.
+          let within = slice_get_within ph.tasks k task at in
+          let count = p.count in
+          let outs = m.count.0 in
+          let out = some_at made.outs.items k (omega arith) in
+          p.calm k task out.0 at (m.values k out.0 out.1)),
+      tt,
+    );
     winners =
         record { stage = s.stage; phase = s.phase; attempts = made.attempts.items } ∷ [];
     told = told;
-    won = (record {
-      place = (sym p.named.0, sym p.named.1);
-      count = m.count.1 ∙ sym p.count;
-      ran = λ k attempt task at won.
-          subst (λ x. HasRun x us vs k (places task) attempt) settings_are
-          (subst (λ n. HasRun s us vs k n attempt) (p.asks k task at)
-          (m.attempts k attempt won));
-    }, tt);
+    won = (
+      record {
+        place = (sym p.named.0, sym p.named.1);
+        count = m.count.1 ∙ sym p.count;
+        ran = λ k attempt task at won.
+            subst (λ x. HasRun x us vs k (places task) attempt) settings_are
+            (subst (λ n. HasRun s us vs k n attempt) (p.asks k task at)
+            (m.attempts k attempt won));
+      },
+      tt,
+    );
   }
 
   pub has_stopped : (e : PhaseStop) → IsStop tasks s is_value us vs e

@@ -1,5 +1,5 @@
 -- When a stage can be run over the lists that it finds.
-use Rattle.std.specs.Prelude.{ℕ, List, slice_get}
+use Rattle.std.specs.Prelude.{ℕ, ◌<◌, List, slice_get}
 use Rattle.flume_value.specs.declared.value.Value.{Value}
 use Rattle.flume_types.specs.declared.types.Ty.{Ty}
 use Rattle.flume_collection.specs.Calls.{Called, or_none}
@@ -38,11 +38,12 @@ pub record CanRunStage (w : World) (takes : ℕ → Value → Type 0) (k : ℕ) 
   pub before : List Stage
   pub ok : IsStageOk sources before s
 
--- the outs of the map tasks of the stage are right, over some lists that it finds, and the stage can
--- be run over them
+-- the outs of the map tasks of the stage are right, over some lists that it finds, and the stage
+-- can be run over them
 pub record CanReduceStage (called : ℕ → Value → Called) (takes : ℕ → Value → Type 0)
     (sources : List (List Value)) (n : Split) (k : ℕ) (s : Channels) (maps : List MapOut)
     : Type 0 where
+  pub cut : (0 < n.shards) × (0 < n.partitions)
   pub results : List (List (List Value))
   pub ready : CanRunStage (run_world called sources) takes k (table sources results) (Mscr s)
   pub made : AreMapOuts (run_world called sources) n (table sources results) s maps

@@ -10,6 +10,8 @@ mod inputs;
 mod map;
 mod outs;
 mod ready;
+mod reduce;
 
 pub use inputs::Inputs;
 pub use map::map_outs;
+pub use reduce::reduce_outs;

@@ -1,6 +1,6 @@
 // The reduce phase of a stage.
-ghost use Rattle.std.specs.Prelude.{◌≡◌, ◌<◌, ◌≤◌, ◌^◌, ◌∷◌, [], ◌↔◌, IsTrue, length, map, IfOk, IfErr, OnOk};
-ghost use Rattle.std.specs.List.{AllZip};
+ghost use Rattle.std.specs.Prelude.{◌≡◌, ◌<◌, ◌≤◌, ◌^◌, ◌∷◌, [], length, map, IfOk, IfErr, OnOk};
+ghost use Rattle.std.specs.List.{AllZip, list_any};
 ghost use Rattle.crew.specs.Hosts.{account, Grew};
 ghost use Rattle.exec_plan.specs.declared.plan.Stage.TheVariants as stages;
 ghost use Rattle.task_lists.specs.Outs.{AreMapOuts};
@@ -11,6 +11,7 @@ ghost use Rattle.plan_phases.specs.Told.{HaveRun, IsStopped};
 ghost use Rattle.reduce_part.specs.Reducing.{reducing_count};
 ghost use Rattle.stage_phases.specs.Outs.{AreReduceOuts};
 ghost use Rattle.stage_phases.specs.Stages.{CanReduceStage, run_world};
+ghost use Rattle.stage_phases.specs.inner.Channels.{is_group};
 
 use crate::inputs::Inputs;
 use crate::outs::outs_of;
@@ -19,13 +20,13 @@ use exec_plan::{Mscr, OutChannel};
 use forest_steps::Functions;
 use outside::{Host, Phase};
 use plan_phases::{PhaseWinners, RunFault};
-use reduce_part::{ReduceOut, ReduceTasks};
+use reduce_part::{ReduceOut, ReduceTasks, reducing_law};
 use shuffle_parts::MapOut;
 use std::alloc::Global;
 use std::thread::Threads;
 
-/// The outs of the reduce tasks of stage `number`, over the outs of its map tasks: none where it has
-/// no grouping channel. It tells the winners behind those of earlier phases.
+/// The outs of the reduce tasks of stage `number`, over the outs of its map tasks: none where it
+/// has no grouping channel. It tells the winners behind those of earlier phases.
 pub fn reduce_outs<R: Threads + Sync, F: Functions + Sync, H: Host + Send>(
     rt: &R,
     alloc: Global,
@@ -73,7 +74,8 @@ pub fn reduce_outs<R: Threads + Sync, F: Functions + Sync, H: Host + Send>(
         stage.now (groupings stage.now.outputs))
         (map (account H.notes H.losses) hosts.old) (map (account H.notes H.losses) hosts.new)) }
 {
-    if !has_groupings(stage.outputs.as_slice()) {
+    reducing_law();
+    if !has_groupings(stage) {
         return Ok(Vec::new(alloc));
     }
     let tasks = reduce_tasks(inputs, stage, number, maps);
@@ -81,12 +83,16 @@ pub fn reduce_outs<R: Threads + Sync, F: Functions + Sync, H: Host + Send>(
     outs_of(rt, alloc, &tasks, hosts, &phase, winners)
 }
 
-fn has_groupings(channels: &[OutChannel]) -> bool
-    ensures { IsTrue result ↔ (0 < length (groupings channels.now)) }
+fn has_groupings(stage: &Mscr) -> bool
+    ensures { result ≡ list_any is_group stage.now.outputs }
 {
-    channels
-        .iter()
-        .any(|channel| matches!(channel, OutChannel::Group(_)))
+    stage.outputs.as_slice().iter().any(is_group)
+}
+
+fn is_group(channel: &OutChannel) -> bool
+    ensures { result ≡ is_group channel.now }
+{
+    matches!(channel, OutChannel::Group(_))
 }
 
 // The reduce tasks of the stage, which are not too many for a crew.
@@ -110,10 +116,5 @@ fn reduce_tasks<'a, F: Functions>(
     ensures count { (0 < reducing_count result) × (reducing_count result ≤ 2 ^ 23) }
 {
     reduce_law(inputs.functions);
-    ReduceTasks::new(
-        inputs.functions,
-        stage,
-        maps,
-        inputs.settings.partitions(),
-    )
+    ReduceTasks::new(inputs.functions, stage, maps, inputs.settings.partitions())
 }

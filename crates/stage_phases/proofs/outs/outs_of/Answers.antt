@@ -1,5 +1,4 @@
-use Rattle.std.proofs.Common.{◌≡◌, ap, ◌∙◌}
-use Rattle.plan_phases.specs.Told.{IsStopped}
+use Rattle.std.proofs.Common.{◌∙◌}
 use Rattle.stage_phases.specs.inner.Tasks.{fault_at}
 use Rattle.stage_phases.proofs.Telling.{has_run, has_stopped}
 use Rattle.stage_phases.proofs.outs.outs_of.Goals as goal

@@ -1,5 +1,4 @@
 use Rattle.std.proofs.Common.{refl}
-use Rattle.exec_plan.specs.declared.plan.Stage.TheVariants as stage
 use Rattle.map_shard.specs.Tables.{split, table}
 use Rattle.task_lists.specs.Tasks.{map_task_of}
 use Rattle.stage_phases.specs.Stages.{run_world}
