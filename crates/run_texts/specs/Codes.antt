@@ -1,7 +1,7 @@
 -- Exit statuses.
 use Rattle.std.specs.Prelude.{ℕ}
 use Rattle.run_texts.specs.declared.status.Status.{Status}
-use Rattle.run_texts.specs.declared.status.Status.TheVariants.{Done, Usage, ScriptRefused, InputRefused, Trap, ReadFault, WriteFault, WantOfMemory, TooLong, NoFile}
+use Rattle.run_texts.specs.declared.status.Status.TheVariants.{Done, Usage, ScriptRefused, InputRefused, Trap, ReadFault, WriteFault, GaveUp, WantOfMemory, TooLong, NoFile}
 
 -- the exit status of the program for each answer
 abbrev pub code_of : Status → ℕ
@@ -12,6 +12,7 @@ code_of (InputRefused name row column kind) = 4
 code_of (Trap origin kind element) = 5
 code_of (ReadFault name) = 6
 code_of (WriteFault place) = 7
+code_of (GaveUp stage phase task) = 8
 code_of WantOfMemory = 9
 code_of (TooLong name limit) = 10
 code_of (NoFile name) = 11

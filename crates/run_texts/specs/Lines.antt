@@ -4,10 +4,12 @@ use Rattle.csv_rows.specs.declared.fault.RowKind.{RowKind}
 use Rattle.csv_rows.specs.declared.fault.RowKind.TheVariants as row
 use Rattle.flume_grammar.specs.declared.fault.ScriptKind.{ScriptKind}
 use Rattle.flume_grammar.specs.declared.fault.ScriptKind.TheVariants as script
+use Rattle.outside.specs.declared.host.Phase.{Phase}
+use Rattle.outside.specs.declared.host.Phase.TheVariants.{Map, Reduce}
 use Rattle.run_texts.specs.declared.status.Place.{Place}
 use Rattle.run_texts.specs.declared.status.Place.TheVariants.{File, Screen}
 use Rattle.run_texts.specs.declared.status.Status.{Status}
-use Rattle.run_texts.specs.declared.status.Status.TheVariants.{Done, Usage, ScriptRefused, InputRefused, Trap, ReadFault, WriteFault, WantOfMemory, TooLong, NoFile}
+use Rattle.run_texts.specs.declared.status.Status.TheVariants.{Done, Usage, ScriptRefused, InputRefused, Trap, ReadFault, WriteFault, GaveUp, WantOfMemory, TooLong, NoFile}
 use Rattle.flume_value.specs.declared.fault.Kind.{Kind}
 use Rattle.flume_value.specs.declared.fault.Kind.TheVariants as trap
 use Rattle.flume_value.specs.declared.value.Value.{Value}
@@ -55,6 +57,11 @@ abbrev pub usage_line : List ℕ
 usage_line =
     codes "usage: flume check S | plan S [--json] | direct S | run S [options] | make START ROWS\n"
 
+-- the name of each phase
+abbrev pub phase_name : Phase → List ℕ
+phase_name Map = codes "map"
+phase_name Reduce = codes "reduce"
+
 abbrev pub place_line : Place → List ℕ
 place_line (File name) = codes "write fault: " ++ (quoted name ++ codes "\n")
 place_line Screen = []
@@ -74,6 +81,9 @@ line_of (InputRefused name row column kind) =
     ++ codes "\n")))))))
 line_of (ReadFault name) = codes "read fault: " ++ (quoted name ++ codes "\n")
 line_of (WriteFault place) = place_line place
+line_of (GaveUp stage phase task) =
+    codes "gave up at stage " ++ (decimal stage ++ (codes " " ++ (phase_name phase
+    ++ (codes " task " ++ (decimal task ++ codes "\n")))))
 line_of WantOfMemory = codes "want of memory\n"
 line_of (TooLong name limit) =
     codes "too long: " ++ (quoted name ++ (codes " above " ++ (decimal limit ++ codes " bytes\n")))

@@ -1,6 +1,6 @@
 // The line of a refusal, which is written piece by piece and takes no memory.
 ghost use Rattle.std.specs.Prelude.{◌≡◌, ◌≤◌};
-ghost use Rattle.run_texts.specs.Lines.{line_of, place_line, row_kind_name, script_kind_name, trap_kind_name, trap_line};
+ghost use Rattle.run_texts.specs.Lines.{line_of, phase_name, place_line, row_kind_name, script_kind_name, trap_kind_name, trap_line};
 ghost use Rattle.outside.specs.Says.{HasLine, Says};
 ghost use Rattle.outside.specs.Seen.{seen};
 
@@ -9,7 +9,7 @@ use csv_rows::RowKind;
 use flume_grammar::ScriptKind;
 use flume_value::{Kind, Value};
 use itoa::Buffer;
-use outside::{Failed, Screen, say, say_all};
+use outside::{Failed, Phase, Screen, say, say_all};
 use printing::{say_named, say_value};
 
 /// Writes the line of a refusal as far as the screen takes it.
@@ -51,6 +51,7 @@ fn say_line<P: Screen>(screen: &mut P, status: &Status) -> Result<(), Failed>
         } => say_input_refused(screen, name.as_bytes(), *row, *column, *kind),
         Status::ReadFault { name } => say_named(screen, b"read fault: ", name.as_bytes(), &[b"\n"]),
         Status::WriteFault { place } => say_place(screen, place),
+        Status::GaveUp { stage, phase, task } => say_gave_up(screen, *stage, *phase, *task),
         Status::WantOfMemory => say_all(screen, &[b"want of memory\n"]),
         Status::TooLong { name, limit } => say_too_long(screen, name.as_bytes(), *limit),
         Status::NoFile { name } => say_named(screen, b"no file: ", name.as_bytes(), &[b"\n"]),
@@ -113,6 +114,31 @@ fn say_input_refused<P: Screen>(
         b"\n",
     ];
     say_named(screen, b"input refused: ", name, &behind)
+}
+
+fn say_gave_up<P: Screen>(
+    screen: &mut P,
+    stage: u32,
+    phase: Phase,
+    task: u32,
+) -> Result<(), Failed>
+    ensures { Says (line_of (Status.GaveUp stage phase task))
+        (seen P.text P.faults screen.old) (seen P.text P.faults screen.new) result }
+{
+    let mut stage_digits = Buffer::new();
+    let mut task_digits = Buffer::new();
+    let stage = stage_digits.format(stage).as_bytes();
+    let task = task_digits.format(task).as_bytes();
+    let pieces: [&[u8]; 7] = [
+        b"gave up at stage ",
+        stage,
+        b" ",
+        phase_text(phase),
+        b" task ",
+        task,
+        b"\n",
+    ];
+    say_all(screen, &pieces)
 }
 
 fn say_too_long<P: Screen>(screen: &mut P, name: &[u8], limit: u64) -> Result<(), Failed>
@@ -180,5 +206,14 @@ fn row_kind(kind: RowKind) -> &'static [u8]
         RowKind::NotInt => b"NotInt",
         RowKind::NotBool => b"NotBool",
         RowKind::Utf8 => b"Utf8",
+    }
+}
+
+fn phase_text(phase: Phase) -> &'static [u8]
+    ensures { result.now ≡ phase_name phase }
+{
+    match phase {
+        Phase::Map => b"map",
+        Phase::Reduce => b"reduce",
     }
 }

@@ -4,6 +4,7 @@ ghost use Rattle.run_texts.specs.Codes.{code_of};
 use csv_rows::RowKind;
 use flume_grammar::ScriptKind;
 use flume_value::{Kind, Str, Value};
+use outside::Phase;
 
 /// Where a write failed.
 #[derive(Debug, Drop)]
@@ -47,6 +48,12 @@ pub enum Status {
     WriteFault {
         place: Place,
     },
+    /// No attempt of this task of a run has won.
+    GaveUp {
+        stage: u32,
+        phase: Phase,
+        task: u32,
+    },
     /// A growth found no memory.
     WantOfMemory,
     /// The file has more bytes than its limit.
@@ -73,6 +80,7 @@ impl Status {
             Status::Trap { .. } => 5,
             Status::ReadFault { .. } => 6,
             Status::WriteFault { .. } => 7,
+            Status::GaveUp { .. } => 8,
             Status::WantOfMemory => 9,
             Status::TooLong { .. } => 10,
             Status::NoFile { .. } => 11,

@@ -20,3 +20,6 @@ returns-in-WantOfMemory g c = rw c.in-WantOfMemory.is c.say_all.ensures
 pub returns-in-TooLong : goal.returns-in-TooLong
 returns-in-TooLong g c = rw (c.in-TooLong.is, ← c.as_bytes-in-TooLong.ensures)
     c.say_too_long.ensures
+
+pub returns-in-GaveUp : goal.returns-in-GaveUp
+returns-in-GaveUp g c = rw c.in-GaveUp.is c.say_gave_up.ensures
