@@ -1,8 +1,11 @@
 -- From what a parse by `clap` says to what the words ask for.
-use Rattle.std.proofs.Common.{◌≡◌, ◌∙◌, true, false, List, [], ◌∷◌, refl, sym, ap, inl, inr, ne_eqb, arith, true≢false}
-use Rattle.std.specs.Prelude.{Err, IfOk, IsErr, None, Ok, Option, Result, if◌then◌else◌, option_map}
-use Rattle.clap.specs.Words.{App, HasKind, IsAmong, Kinds, Text, fault_of, is_simple, is_simple_and_free, kind_of, subcommand_of, subcommand_rows_of}
+use Rattle.std.proofs.Common.{◌≡◌, ◌∙◌, true, false, List, [], ◌∷◌, refl, sym, ap, ap₂, inl, inr, ne_eqb, arith, true≢false}
+use Rattle.std.specs.Prelude.{Err, IfOk, IsErr, None, Ok, Option, Result, ◌||◌, if◌then◌else◌, option_map}
+use Rattle.clap.specs.Words.{AddsArg, App, HasKind, IsAmong, Kinds, Rule, Text, app_of, fault_of, is_simple, is_simple_and_free, kind_of, rule_of, subcommand_of, subcommand_rows_of, with_rule}
 use Rattle.clap.specs.Walk.{is_empty}
+use Rattle.clap.specs.declared.builder.arg.Arg.{Arg}
+use Rattle.clap.specs.declared.builder.command.Command.{Command}
+use Rattle.clap.specs.declared.builder.command.Command.TheViews.{out-Command}
 use Rattle.clap.specs.declared.error.Error.{Error}
 use Rattle.clap.specs.declared.error.kind.ErrorKind.{ErrorKind}
 use Rattle.clap.specs.declared.error.kind.ErrorKind.TheVariants.{OutOfMemory}
@@ -14,6 +17,18 @@ simple = refl
 
 free : is_simple_and_free flume_app ≡ true
 free = refl
+
+-- ---- a command with one more argument
+
+pub added : (old new : Command) (a : Arg) (app : App) (rule : Rule) → AddsArg old a new
+    → a.global ≡ false → rule_of a ≡ rule → app_of old ≡ app → app_of new ≡ with_rule app rule
+added old new a app rule adds local is before = adds.shape local ∙ ap₂ with_rule before is
+
+pub stays_local : (old new : Command) (a : Arg) → AddsArg old a new → a.global ≡ false
+    → (out-Command old).has_globals ≡ false → (out-Command new).has_globals ≡ false
+stays_local old new a adds local before = adds.globals ∙ ap₂ (λ x y. x || y) before local
+
+-- ---- what a parse says
 
 -- words that are taken ask for what their matches say
 pub taken_asks : (line : App) (words : List Text) (m : ArgMatches) → line ≡ flume_app

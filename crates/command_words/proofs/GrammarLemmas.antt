@@ -8,12 +8,12 @@ use Rattle.clap.proofs.OnLiterals.{clap_on_literals}
 use Rattle.command_words.specs.Words.{Asked, asked_at, asking, is_operand, plan_app, program_app, script_app}
 use Rattle.command_words.specs.Grammar.{AsksFor}
 use Rattle.command_words.specs.declared.words.Command.{Command}
-use Rattle.command_words.specs.declared.words.Command.TheVariants.{Check, Plan, Direct, Run}
+use Rattle.command_words.specs.declared.words.Command.TheVariants.{Check, Plan, Direct}
 use Rattle.command_words.specs.declared.words.PlanForm.TheVariants.{Text as AsText, Json}
 use Rattle.command_words.proofs.OperandLemmas.{at_position, faults_from, operand_first, operand_taken, operand_walked}
 
 -- a command as it is built
-abbrev built_command : Shape → Shape
+abbrev pub built_command : Shape → Shape
 built_command s = built_leaf (inherited (program_app.top) s)
 
 abbrev alone : Text → Shape
@@ -22,16 +22,16 @@ alone name = built_command (script_app name).top
 abbrev planned : Shape
 planned = built_command plan_app.top
 
-abbrev at_first : Walk
+abbrev pub at_first : Walk
 at_first = at_position nothing_held 1
 
 -- the answer, by the faults of the command that was met and by its walk
-abbrev answer : Shape → Text → Kinds → Walk → Option Asked
+abbrev pub answer : Shape → Text → Kinds → Walk → Option Asked
 answer s name fault w =
     if is_empty (or_else fault []) then asked_at name (finished s.rules w.held) else None
 
-asked : (command : Command) (script : Text) → is_operand script ≡ true → asking command script
-    ≡ Some (record { command = command; script = script })
+pub asked : (command : Command) (script : Text) → is_operand script ≡ true
+    → asking command (Some script) ≡ Some (record { command = command; script = script })
 asked command script is = ap (λ b. if b then Some (record { command = command; script = script })
     else None) is
 
@@ -60,13 +60,6 @@ unfolding clap_on_literals
 done_directly script is program =
     ap₂ (answer (alone (codes "direct")) (codes "direct")) (alone_passes (codes "direct") script is)
     (alone_walked (codes "direct") script is) ∙ asked Direct script is
-
-pub run : (script : Text) → is_operand script ≡ true
-    → AsksFor (codes "run" ∷ script ∷ []) Run script
-unfolding clap_on_literals
-run script is program =
-    ap₂ (answer (alone (codes "run")) (codes "run")) (alone_passes (codes "run") script is)
-    (alone_walked (codes "run") script is) ∙ asked Run script is
 
 -- ---- a plan
 

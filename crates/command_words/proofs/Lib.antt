@@ -1,3 +1,7 @@
 pub mod OperandLemmas
 pub mod GrammarLemmas
+pub mod StepLemmas
+pub mod RowLemmas
+pub mod PartLemmas
+pub mod RunLemmas
 pub mod AnswerLemmas

@@ -17,7 +17,7 @@ at_position h position = record {
   stopped = None;
 }
 
-is_false : (b : Bool) → not b ≡ true → b ≡ false
+pub is_false : (b : Bool) → not b ≡ true → b ≡ false
 is_false true e = absurd (true≢false (sym e))
 is_false false e = refl
 
@@ -28,7 +28,7 @@ operand_met c h position (x ∷ xs) is =
     let other : (x == 45) ≡ false = is_false _ is in
     rw other (rw other refl)
 
-operand_turn : (s : Shape) (h : Held) (position : ℕ) (word : Text) → is_operand word ≡ true
+pub operand_turn : (s : Shape) (h : Held) (position : ℕ) (word : Text) → is_operand word ≡ true
     → turn_fault s [] (at_position h position) word ≡ step_fault s position h value
 operand_turn s h position [] is = absurd (true≢false (sym is))
 operand_turn s h position (x ∷ xs) is =

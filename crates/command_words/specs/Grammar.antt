@@ -1,6 +1,9 @@
 -- The words of the grammar, written out, and what they ask for.
 use Rattle.std.specs.Prelude.{◌≡◌, List, [], ◌∷◌, Some, codes}
+use Rattle.std.specs.List.{flat_map}
 use Rattle.clap.specs.Words.{Text}
+use Rattle.run_settings.specs.Settings.{RunSettings, standard}
+use Rattle.command_words.specs.Parts.{AskForRun, Part, words_of}
 use Rattle.command_words.specs.Words.{asked_for}
 use Rattle.command_words.specs.declared.words.Command.{Command}
 use Rattle.command_words.specs.declared.words.Command.TheVariants.{Check, Plan, Direct, Run}
@@ -12,12 +15,14 @@ AsksFor words command script =
     (program : Text) → asked_for (program ∷ words)
     ≡ Some (record { command = command; script = script })
 
--- the words of the grammar: a command and its script, and for `plan` maybe the flag, before the
--- script or behind it
+-- a command and its script; for `plan` maybe the flag, before the script or behind it; for `run`
+-- options with their values, in any order and with the script among them
 pub record TakesGrammar (script : Text) : Type 0 where
   pub check : AsksFor (codes "check" ∷ script ∷ []) Check script
   pub plan : AsksFor (codes "plan" ∷ script ∷ []) (Plan AsText) script
   pub json_before : AsksFor (codes "plan" ∷ codes "--json" ∷ script ∷ []) (Plan Json) script
   pub json_behind : AsksFor (codes "plan" ∷ script ∷ codes "--json" ∷ []) (Plan Json) script
   pub direct : AsksFor (codes "direct" ∷ script ∷ []) Direct script
-  pub run : AsksFor (codes "run" ∷ script ∷ []) Run script
+  pub run : AsksFor (codes "run" ∷ script ∷ []) (Run standard) script
+  pub options : (parts : List Part) (settings : RunSettings) → AskForRun parts script settings
+      → AsksFor (codes "run" ∷ flat_map words_of parts) (Run settings) script

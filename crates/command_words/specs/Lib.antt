@@ -1,3 +1,5 @@
+pub mod Options
 pub mod Words
+pub mod Parts
 pub mod Grammar
 pub mod Held

@@ -1,11 +1,13 @@
 -- What the words of a command line ask for: by the definitions of `clap`, of the commands that
 -- `flume` has.
-use Rattle.std.specs.Prelude.{ℕ, Bool, true, false, not, ◌==◌, List, [], ◌∷◌, Option, Some, None, codes, if◌then◌else◌, option_and_then, unwrap_or}
+use Rattle.std.specs.Prelude.{ℕ, Bool, true, false, not, ◌==◌, List, [], ◌∷◌, Option, Some, None, codes, if◌then◌else◌, option_and_then, option_map}
 use Rattle.std.specs.Option.{option_map_or}
 use Rattle.std.specs.Str.{bytes_eq}
 use Rattle.clap.specs.Words.{App, Row, Rule, Shape, Text, fault_of, first_of, new_app, new_rule, subcommand_of, with_rule, with_subcommand}
 use Rattle.clap.specs.Walk.{is_empty}
 use Rattle.clap.specs.declared.builder.action.ArgAction.TheVariants.{Set, SetTrue}
+use Rattle.drill_text.specs.Drills.{◌>>=◌}
+use Rattle.command_words.specs.Options.{settings_given}
 use Rattle.command_words.specs.declared.words.Command.{Command}
 use Rattle.command_words.specs.declared.words.Command.TheVariants.{Check, Plan, Direct, Run}
 use Rattle.command_words.specs.declared.words.PlanForm.{PlanForm}
@@ -29,6 +31,23 @@ script_app name = with_rule (new_app name) script_rule
 abbrev pub plan_app : App
 plan_app = with_rule (script_app (codes "plan")) json_rule
 
+-- an option with a value, under the name that it has as a word
+abbrev pub option_rule : Text → Rule
+option_rule name = record (new_rule name) { long = Some name; action = Some Set }
+
+-- the command `run`, with its options
+abbrev pub run_app : App
+run_app =
+    with_rule
+    (with_rule
+    (with_rule
+    (with_rule
+    (with_rule (script_app (codes "run")) (option_rule (codes "workers")))
+    (option_rule (codes "shards")))
+    (option_rule (codes "partitions")))
+    (option_rule (codes "tries")))
+    (option_rule (codes "fail"))
+
 -- the program's own settings: a command has to come, and there is no help to ask for
 abbrev pub asking_for_command : Shape → Shape
 asking_for_command s = record s {
@@ -47,7 +66,7 @@ flume_app =
     (with_subcommand
     (with_subcommand (with_subcommand program_app (script_app (codes "check")).top) plan_app.top)
     (script_app (codes "direct")).top)
-    (script_app (codes "run")).top
+    run_app.top
 
 -- ---- what is asked for
 
@@ -65,31 +84,31 @@ pub record Asked : Type 0 where
   pub command : Command
   pub script : List ℕ
 
--- a command on the script that a word names
-abbrev pub asking : Command → List ℕ → Option Asked
-asking command script =
-    if is_operand script then Some (record { command = command; script = script }) else None
-
 -- how a plan is shown, by the flag's text
 abbrev pub form_of : Option Text → PlanForm
 form_of flag = if option_map_or (λ text. bytes_eq text (codes "true")) flag false then Json else
     AsText
 
--- the command of a name, with the flag's text
-abbrev pub command_of : Text → Option Text → Option Command
-command_of name flag =
+-- the command of a name, by the matches of its own arguments
+abbrev pub command_of : Text → List Row → Option Command
+command_of name rows =
     if bytes_eq name (codes "check") then Some Check
-    else if bytes_eq name (codes "plan") then Some (Plan (form_of flag))
+    else if bytes_eq name (codes "plan") then Some (Plan (form_of (first_of (codes "json") rows)))
     else if bytes_eq name (codes "direct") then Some Direct
-    else if bytes_eq name (codes "run") then Some Run
+    else if bytes_eq name (codes "run") then option_map Run (settings_given rows)
     else None
 
--- what a command that was met asks for, with the matches of its own arguments; a script that has no
--- value is the empty word
+-- a command on the script that a word names
+abbrev pub asking : Command → Option Text → Option Asked
+asking command word = do
+  script ← word
+  if is_operand script then Some (record { command = command; script = script }) else None
+
+-- what a command that was met asks for, by the matches of its own arguments
 abbrev pub asked_at : Text → List Row → Option Asked
-asked_at name rows = option_and_then
-    (λ command. asking command (unwrap_or (first_of (codes "script") rows) []))
-    (command_of name (first_of (codes "json") rows))
+asked_at name rows = do
+  command ← command_of name rows
+  asking command (first_of (codes "script") rows)
 
 -- what the matches of the command line ask for
 abbrev pub asked_of : Option (Text × List Row) → Option Asked

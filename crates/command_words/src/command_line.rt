@@ -1,6 +1,6 @@
 // The commands of the program, as `clap` is told of them.
 ghost use Rattle.std.specs.Prelude.{◌≡◌, IfOk, false};
-ghost use Rattle.clap.specs.Words.{app_of};
+ghost use Rattle.clap.specs.Words.{app_of, rule_of};
 ghost use Rattle.clap.specs.declared.builder.command.Command.TheViews.{out-Command};
 ghost use Rattle.command_words.specs.Words as spec;
 
@@ -14,7 +14,7 @@ pub fn command_line<'a>(alloc: Global) -> Result<Command<'a>, AllocError>
     let check = script_command(alloc, "check")?;
     let plan = plan_command(alloc)?;
     let direct = script_command(alloc, "direct")?;
-    let run = script_command(alloc, "run")?;
+    let run = run_command(alloc)?;
     program(alloc)
         .subcommand(check)?
         .subcommand(plan)?
@@ -41,6 +41,27 @@ fn plan_command<'a>(alloc: Global) -> Result<Command<'a>, AllocError>
         .long("json")
         .action(ArgAction::SetTrue);
     script_command(alloc, "plan")?.arg(json)
+}
+
+// The command `run`, with its options.
+fn run_command<'a>(alloc: Global) -> Result<Command<'a>, AllocError>
+    ensures app { IfOk result (λ command. app_of command ≡ spec.run_app) }
+    ensures local { IfOk result (λ command. (out-Command command).has_globals ≡ false) }
+{
+    script_command(alloc, "run")?
+        .arg(option(alloc, "workers"))?
+        .arg(option(alloc, "shards"))?
+        .arg(option(alloc, "partitions"))?
+        .arg(option(alloc, "tries"))?
+        .arg(option(alloc, "fail"))
+}
+
+// An option with a value, under the name that it has as a word.
+fn option<'a>(alloc: Global, name: &'a str) -> Arg<'a>
+    ensures rule { rule_of result ≡ spec.option_rule name.entry.now }
+    ensures local { result.global ≡ false }
+{
+    Arg::new(alloc, name).long(name).action(ArgAction::Set)
 }
 
 // A command that takes a script.

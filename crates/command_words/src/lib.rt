@@ -1,12 +1,16 @@
 //! What the words of a command line ask for.
 //!
-//! `asked_for` reads them with `clap`: behind the program's name stand a command and a script, and
-//! for `plan` maybe the flag `--json`. What the words ask for is said by the matches that `clap`
-//! defines (specs/Words.antt); `grammar_law` says it in plain words (specs/Grammar.antt).
+//! `asked_for` reads them with `clap`: behind the program's name stand a command and a script, for
+//! `plan` maybe the flag `--json`, and for `run` maybe options, which say how the run is carried
+//! out. What the words ask for is said by the matches that `clap` defines (specs/Words.antt, and
+//! specs/Options.antt for the options). `grammar_law` says it in plain words (specs/Grammar.antt):
+//! the options of `run` and the script may come in any order (specs/Parts.antt).
 #![tactic(auto)]
 
 mod command_line;
 mod laws;
+mod matches;
+mod options;
 mod words;
 
 pub use laws::grammar_law;

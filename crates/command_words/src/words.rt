@@ -5,8 +5,11 @@ ghost use Rattle.command_words.specs.Held.{asked_in};
 ghost use Rattle.command_words.specs.Words as spec;
 
 use crate::command_line::command_line;
+use crate::matches::text_of;
+use crate::options::settings_given;
 use clap::ArgMatches;
 use clap::error::ErrorKind;
+use run_settings::Settings;
 use std::alloc::{AllocError, Global};
 
 /// How a plan is shown.
@@ -19,7 +22,7 @@ pub enum PlanForm {
 }
 
 /// What a call is to do with a script.
-#[derive(Clone, Copy, PartialEq, Eq, Debug)]
+#[derive(Debug, Drop)]
 pub enum Command {
     /// See whether it is accepted.
     Check,
@@ -27,25 +30,26 @@ pub enum Command {
     Plan(PlanForm),
     /// Write the files of its direct meaning.
     Direct,
-    /// Write the same files, and show its plan.
-    Run,
+    /// Write the same files by a run with these settings, and show its plan.
+    Run(Settings),
 }
 
 /// What the words of a command line ask for: a command, and the name of a script.
-#[derive(Clone, Copy)]
+#[derive(Debug, Drop)]
 pub struct Asked<'a> {
     pub command: Command,
     pub script: &'a str,
 }
 
-/// What the words ask for, the program's name first: nothing where `clap` refuses them, or where
-/// the script is empty or begins with `-`. Fails only where no memory is left.
+/// What the words ask for, the program's name first: nothing where `clap` refuses them, where the
+/// script is empty or begins with `-`, or where an option is not what it has to be. Fails only
+/// where no memory is left.
 pub fn asked_for(alloc: Global, words: &[String]) -> Result<Option<Asked<'_>>, AllocError>
     ensures { IfOk result (λ asked. option_map asked_in asked
         ≡ spec.asked_for (map string_bytes words.now)) }
 {
     match command_line(alloc)?.try_get_matches_from(words) {
-        Ok(matches) => Ok(asked_of(&matches)),
+        Ok(matches) => asked_of(alloc, &matches),
         Err(error) => refused(error.kind()),
     }
 }
@@ -62,42 +66,57 @@ fn refused<'a>(kind: ErrorKind) -> Result<Option<Asked<'a>>, AllocError>
 }
 
 // What the matches of the command line ask for.
-fn asked_of<'a>(matches: &ArgMatches<'a>) -> Option<Asked<'a>>
-    ensures { option_map asked_in result ≡ spec.asked_of (subcommand_rows_of matches.now) }
+fn asked_of<'a>(alloc: Global, matches: &ArgMatches<'a>) -> Result<Option<Asked<'a>>, AllocError>
+    ensures { IfOk result (λ asked. option_map asked_in asked
+        ≡ spec.asked_of (subcommand_rows_of matches.now)) }
 {
-    let (name, found) = matches.subcommand()?;
-    asked_at(name, found)
-}
-
-// What a command that was met asks for.
-fn asked_at<'a>(name: &str, found: &ArgMatches<'a>) -> Option<Asked<'a>>
-    ensures { option_map asked_in result ≡ spec.asked_at name.now (rows_of (found_of found.now)) }
-{
-    let command = command_of(name, found.get_str("json"))?;
-    asking(command, found.get_str("script")?)
-}
-
-// A command on the script that a word names.
-fn asking(command: Command, script: &str) -> Option<Asked<'_>>
-    ensures { option_map asked_in result ≡ spec.asking command script.now }
-{
-    if is_operand(script) {
-        Some(Asked { command, script })
-    } else {
-        None
+    match matches.subcommand() {
+        Some((name, found)) => asked_at(alloc, name, found),
+        None => Ok(None),
     }
 }
 
-// The command of a name, with the text of the flag.
-fn command_of(name: &str, flag: Option<&str>) -> Option<Command>
-    ensures { result ≡ spec.command_of name.now (option_map (λ text. text.now) flag.entry) }
+// What a command that was met asks for.
+fn asked_at<'a>(
+    alloc: Global,
+    name: &str,
+    found: &ArgMatches<'a>,
+) -> Result<Option<Asked<'a>>, AllocError>
+    ensures { IfOk result (λ asked. option_map asked_in asked
+        ≡ spec.asked_at name.now (rows_of (found_of found.now))) }
+{
+    match command_of(alloc, name, found)? {
+        Some(command) => Ok(asking(command, text_of(found, "script"))),
+        None => Ok(None),
+    }
+}
+
+// A command on the script that a word names.
+fn asking<'a>(command: Command, word: Option<&'a str>) -> Option<Asked<'a>>
+    ensures { option_map asked_in result
+        ≡ spec.asking command (option_map (λ text. text.now) word.entry) }
+{
+    match word {
+        Some(script) if is_operand(script) => Some(Asked { command, script }),
+        _ => None,
+    }
+}
+
+// The command of a name, by the matches of its own arguments.
+fn command_of(
+    alloc: Global,
+    name: &str,
+    found: &ArgMatches<'_>,
+) -> Result<Option<Command>, AllocError>
+    ensures { IfOk result (λ command.
+        command ≡ spec.command_of name.now (rows_of (found_of found.now))) }
 {
     match name {
-        "check" => Some(Command::Check),
-        "plan" => Some(Command::Plan(form_of(flag))),
-        "direct" => Some(Command::Direct),
-        "run" => Some(Command::Run),
-        _ => None,
+        "check" => Ok(Some(Command::Check)),
+        "plan" => Ok(Some(Command::Plan(form_of(text_of(found, "json"))))),
+        "direct" => Ok(Some(Command::Direct)),
+        "run" => Ok(settings_given(alloc, found)?.map(Command::Run)),
+        _ => Ok(None),
     }
 }
 

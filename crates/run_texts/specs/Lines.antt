@@ -4,12 +4,12 @@ use Rattle.csv_rows.specs.declared.fault.RowKind.{RowKind}
 use Rattle.csv_rows.specs.declared.fault.RowKind.TheVariants as row
 use Rattle.flume_grammar.specs.declared.fault.ScriptKind.{ScriptKind}
 use Rattle.flume_grammar.specs.declared.fault.ScriptKind.TheVariants as script
-use Rattle.outside.specs.declared.host.Phase.{Phase}
-use Rattle.outside.specs.declared.host.Phase.TheVariants.{Map, Reduce}
 use Rattle.run_texts.specs.declared.status.Place.{Place}
 use Rattle.run_texts.specs.declared.status.Place.TheVariants.{File, Screen}
 use Rattle.run_texts.specs.declared.status.Status.{Status}
 use Rattle.run_texts.specs.declared.status.Status.TheVariants.{Done, Usage, ScriptRefused, InputRefused, Trap, ReadFault, WriteFault, GaveUp, WantOfMemory, TooLong, NoFile}
+use Rattle.outside.specs.declared.host.Phase.{Phase}
+use Rattle.outside.specs.declared.host.Phase.TheVariants.{Map, Reduce}
 use Rattle.flume_value.specs.declared.fault.Kind.{Kind}
 use Rattle.flume_value.specs.declared.fault.Kind.TheVariants as trap
 use Rattle.flume_value.specs.declared.value.Value.{Value}
@@ -46,6 +46,11 @@ trap_kind_name trap.DivideByZero = codes "DivideByZero"
 trap_kind_name trap.BadIndex = codes "BadIndex"
 trap_kind_name trap.BadNumber = codes "BadNumber"
 
+-- the name of each phase of a stage
+abbrev pub phase_name : Phase → List ℕ
+phase_name Map = codes "map"
+phase_name Reduce = codes "reduce"
+
 -- the line of a trap, whose node has that name
 abbrev pub trap_line : List ℕ → Kind → Value → List ℕ
 trap_line name kind element =
@@ -56,11 +61,6 @@ trap_line name kind element =
 abbrev pub usage_line : List ℕ
 usage_line =
     codes "usage: flume check S | plan S [--json] | direct S | run S [options] | make START ROWS\n"
-
--- the name of each phase
-abbrev pub phase_name : Phase → List ℕ
-phase_name Map = codes "map"
-phase_name Reduce = codes "reduce"
 
 abbrev pub place_line : Place → List ℕ
 place_line (File name) = codes "write fault: " ++ (quoted name ++ codes "\n")

@@ -116,12 +116,7 @@ fn say_input_refused<P: Screen>(
     say_named(screen, b"input refused: ", name, &behind)
 }
 
-fn say_gave_up<P: Screen>(
-    screen: &mut P,
-    stage: u32,
-    phase: Phase,
-    task: u32,
-) -> Result<(), Failed>
+fn say_gave_up<P: Screen>(screen: &mut P, stage: u32, phase: Phase, task: u32) -> Result<(), Failed>
     ensures { Says (line_of (Status.GaveUp stage phase task))
         (seen P.text P.faults screen.old) (seen P.text P.faults screen.new) result }
 {
@@ -166,6 +161,15 @@ fn say_place<P: Screen>(screen: &mut P, place: &Place) -> Result<(), Failed>
     }
 }
 
+fn phase_text(phase: Phase) -> &'static [u8]
+    ensures { result.now ≡ phase_name phase }
+{
+    match phase {
+        Phase::Map => b"map",
+        Phase::Reduce => b"reduce",
+    }
+}
+
 fn trap_kind(kind: Kind) -> &'static [u8]
     ensures { result.now ≡ trap_kind_name kind }
 {
@@ -206,14 +210,5 @@ fn row_kind(kind: RowKind) -> &'static [u8]
         RowKind::NotInt => b"NotInt",
         RowKind::NotBool => b"NotBool",
         RowKind::Utf8 => b"Utf8",
-    }
-}
-
-fn phase_text(phase: Phase) -> &'static [u8]
-    ensures { result.now ≡ phase_name phase }
-{
-    match phase {
-        Phase::Map => b"map",
-        Phase::Reduce => b"reduce",
     }
 }

@@ -48,7 +48,8 @@ pub enum Status {
     WriteFault {
         place: Place,
     },
-    /// No attempt of this task of a run has won.
+    /// No attempt of this task has won, and nothing is written: the task of that phase, counted
+    /// from 0, of that stage, counted from 1 in the order of the plan.
     GaveUp {
         stage: u32,
         phase: Phase,

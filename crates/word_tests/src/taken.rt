@@ -3,32 +3,50 @@ use crate::texts::texts;
 use command_words::{Command, PlanForm, asked_for};
 use std::test::Fail;
 
+// A command without its settings.
+#[derive(Clone, Copy, PartialEq, Eq, Debug)]
+enum Named {
+    Check,
+    Plan(PlanForm),
+    Direct,
+    Run,
+}
+
+fn name_of(command: &Command) -> Named {
+    match command {
+        Command::Check => Named::Check,
+        Command::Plan(form) => Named::Plan(*form),
+        Command::Direct => Named::Direct,
+        Command::Run(_) => Named::Run,
+    }
+}
+
 #[test]
 fn asks_for_a_command_on_a_script(rt: HostRuntime) -> Result<(), Fail> {
     let alloc = rt.alloc();
-    let table: [(&[&str], Command); 8] = [
-        (&["flume", "check", "s"], Command::Check),
-        (&["flume", "plan", "s"], Command::Plan(PlanForm::Text)),
+    let table: [(&[&str], Named); 8] = [
+        (&["flume", "check", "s"], Named::Check),
+        (&["flume", "plan", "s"], Named::Plan(PlanForm::Text)),
         (
             &["flume", "plan", "--json", "s"],
-            Command::Plan(PlanForm::Json),
+            Named::Plan(PlanForm::Json),
         ),
         (
             &["flume", "plan", "s", "--json"],
-            Command::Plan(PlanForm::Json),
+            Named::Plan(PlanForm::Json),
         ),
-        (&["flume", "direct", "s"], Command::Direct),
-        (&["flume", "run", "s"], Command::Run),
+        (&["flume", "direct", "s"], Named::Direct),
+        (&["flume", "run", "s"], Named::Run),
         // the program's own name may be any word
-        (&["", "run", "s"], Command::Run),
+        (&["", "run", "s"], Named::Run),
         // beyond the grammar: what stands behind `--` is no option
-        (&["flume", "check", "--", "s"], Command::Check),
+        (&["flume", "check", "--", "s"], Named::Check),
     ];
     for (words, command) in table {
         let words = texts(alloc, words)?;
         let asked = asked_for(alloc, words.as_slice())?;
         let asked = asked.ok_or("words that are taken")?;
-        assert!(rt; asked.command == command);
+        assert!(rt; name_of(&asked.command) == command);
         assert!(rt; asked.script == "s");
     }
     Ok(())

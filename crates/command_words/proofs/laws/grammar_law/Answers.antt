@@ -1,4 +1,5 @@
-use Rattle.command_words.proofs.GrammarLemmas.{checked, done_directly, plan_alone, plan_json_before, plan_json_behind, run}
+use Rattle.command_words.proofs.GrammarLemmas.{checked, done_directly, plan_alone, plan_json_before, plan_json_behind}
+use Rattle.command_words.proofs.RunLemmas.{run_alone, run_asked}
 use Rattle.command_words.proofs.laws.grammar_law.Goals as goal
 
 pub returns : goal.returns
@@ -8,5 +9,6 @@ returns c = record {
   json_before = plan_json_before c.args.script.now c.requires;
   json_behind = plan_json_behind c.args.script.now c.requires;
   direct = done_directly c.args.script.now c.requires;
-  run = run c.args.script.now c.requires;
+  run = run_alone c.args.script.now c.requires;
+  options = λ parts settings asks. run_asked c.args.script.now parts settings c.requires asks;
 }
