@@ -6,8 +6,8 @@ use Rattle.std.specs.List.{All, AllByRecursion, AllZip}
 use Rattle.std.specs.Option.{option_map}
 use Rattle.std.proofs.lemmas.List.Elements.{recursion_from_All}
 use Rattle.csv_rows.specs.Text.{table_text}
-use Rattle.direct_meaning.specs.Evaluated.{bag_at}
-use Rattle.direct_meaning.specs.Evaluated.{IsWritten as Holds}
+use Rattle.direct_meaning.specs.Direct.{made_at}
+use Rattle.direct_meaning.specs.Evaluated.{IsWritten as Holds, bag_at}
 use Rattle.flume_collection.specs.Collection.{Collection}
 use Rattle.flume_value.specs.declared.value.Value.{Value}
 use Rattle.outside.specs.Saves.{FailsAt}
@@ -18,13 +18,20 @@ use Rattle.script_check.specs.declared.made.Output.{Output}
 use Rattle.script_check.specs.Script.{Script}
 use Rattle.run_course.specs.Answers.{FailsAtFile}
 use Rattle.run_course.specs.Written.{Table, file_of, files_of}
-use Rattle.run_course.specs.inner.Course.{AreFiles, HaveMembers, IsFileOf, IsReady}
+use Rattle.run_course.specs.inner.Course.{AreFiles, HaveMembers, IsFileOf, IsReady, file_with}
 
 abbrev Bags : Type 0
 Bags = List (Option (List Value))
 
 same_some : {A : Type 0} (o : Option A) (a b : A) → o ≡ Some a → o ≡ Some b → a ≡ b
 same_some {A = A} o a b first second = let same : Some a ≡ Some b = sym first ∙ second in cc
+
+-- an output's file has the members of the collection that it reads
+pub file_from : (table : Table) (output : NamedOutput) (collection : Collection)
+    → made_at table output.1.reads ≡ Some collection
+    → file_of table output ≡ Some (file_with output collection.bag)
+file_from table output collection reads =
+    ap (option_map (λ (c : Collection). file_with output c.bag)) reads
 
 -- each output that is held reads members
 pub ready : (script : Script) (table : Table) (bags : Bags)
@@ -39,10 +46,8 @@ file_made : (script : Script) (table : Table) (bags : Bags) (output : NamedOutpu
 file_made script table bags output file held is =
     let bag : held.collection.bag ≡ is.0
     = same_some (bag_at bags output.1.reads) held.collection.bag is.0 held.bag is.1 in
-    let made : List Value → NamedBytes
-    = λ members. record { name = output.0; bytes = table_text output.1.columns members } in
-    ap (option_map (λ (c : Collection). made c.bag)) held.reads
-    ∙ (λ i. Some (made (bag i))) ∙ ap Some (sym is.2)
+    file_from table output held.collection held.reads
+    ∙ ap Some (ap (file_with output) bag ∙ sym is.2)
 
 files_by : (script : Script) (table : Table) (bags : Bags) (outputs : List NamedOutput)
     (files : List NamedBytes)
@@ -91,26 +96,36 @@ under : {B : Type 0} (f : NamedOutput → B) (outputs : List NamedOutput) (numbe
 under f outputs number x output found is =
     same_some (option_map f (slice_get outputs number)) (f output) x (ap (option_map f) found) is
 
-pub file_of_output : (bags : Bags) (outputs : List NamedOutput) (number : ℕ) (own : Output)
-    (name text : List ℕ) (bag : List Value) (file : NamedBytes)
+pub file_of_output : (outputs : List NamedOutput) (number : ℕ) (own : Output)
+    (name text : List ℕ) (members : List Value) (file : NamedBytes)
     → Under (λ (entry : NamedOutput). entry.1) outputs number own
     → Under (λ (entry : NamedOutput). entry.0) outputs number name
-    → bag_at bags own.reads ≡ Some bag → text ≡ table_text own.columns bag
-    → file ≡ record { name = name; bytes = text }
+    → text ≡ table_text own.columns members → file ≡ record { name = name; bytes = text }
     → (output : NamedOutput) → slice_get outputs number ≡ Some output
-    → IsFileOf bags output file
-file_of_output bags outputs number own name text bag file owns named held shown is output found =
+    → file ≡ file_with output members
+file_of_output outputs number own name text members file owns named shown is output found =
     let second : output.1 ≡ own
     = under (λ (entry : NamedOutput). entry.1) outputs number own output found owns in
     let first : output.0 ≡ name
-    = under (λ (entry : NamedOutput). entry.0) outputs number name output found named in (
-      bag,
-      ap (λ (o : Output). bag_at bags o.reads) second ∙ held,
-      is ∙ (λ i. record {
-        name = sym first i;
-        bytes = (shown ∙ ap (λ (o : Output). table_text o.columns bag) (sym second)) i;
-      }),
-    )
+    = under (λ (entry : NamedOutput). entry.0) outputs number name output found named in
+    is ∙ (λ i. record {
+      name = sym first i;
+      bytes = (shown ∙ ap (λ (o : Output). table_text o.columns members) (sym second)) i;
+    })
+
+-- an output that reads these members has their file
+pub file_of_bag : (bags : Bags) (outputs : List NamedOutput) (number : ℕ) (own : Output)
+    (bag : List Value) (file : NamedBytes)
+    → Under (λ (entry : NamedOutput). entry.1) outputs number own
+    → bag_at bags own.reads ≡ Some bag
+    → ((output : NamedOutput) → slice_get outputs number ≡ Some output
+    → file ≡ file_with output bag)
+    → (output : NamedOutput) → slice_get outputs number ≡ Some output
+    → IsFileOf bags output file
+file_of_bag bags outputs number own bag file owns held is output found =
+    let second : output.1 ≡ own
+    = under (λ (entry : NamedOutput). entry.1) outputs number own output found owns in
+    (bag, ap (λ (o : Output). bag_at bags o.reads) second ∙ held, is output found)
 
 pub name_ready : (script : Script) (number : ℕ) (name : List ℕ) → IsReady script
     → Under (λ (entry : NamedOutput). entry.0) script.outputs number name → IsUtf8 name
@@ -140,7 +155,7 @@ zip_more R (z ∷ xs) [] (suc i) x y found all own = absurd all
 zip_more R (z ∷ xs) (w ∷ ys) (suc i) x y found all own =
     (all.0, zip_more R xs ys i x y found all.1 own)
 
-there : (outputs : List NamedOutput) (number : ℕ) → number < length outputs
+pub there : (outputs : List NamedOutput) (number : ℕ) → number < length outputs
     → (output : NamedOutput) × (slice_get outputs number ≡ Some output)
 there [] number within = absurd (omega arith)
 there (output ∷ outputs) zero within = (output, refl)

@@ -161,13 +161,13 @@ reads_more told script number rows entry it own found needed is has typed read =
     )
 
 -- why an input has no rows is why the inputs have none
-pub stops_at : (before after : Seen (List NamedBytes)) (script : Script) (number : ℕ)
+pub stops_at : (tries : ℕ) (before after : Seen (List NamedBytes)) (script : Script) (number : ℕ)
     (rows : List (List Value)) (entry : Entry) (it : Wanted) (status : Status)
     → slice_get script.nodes number ≡ Some entry → is_needed script number ≡ true
     → wanted entry ≡ it ∷ [] → HasRead before.told script number rows
-    → IsInputCause before after it status
-    → IsInputsCause before after (inputs_of script) status
-stops_at before after script number rows entry it status found needed is read cause = (
+    → IsInputCause tries before after it status
+    → IsInputsCause tries before after (inputs_of script) status
+stops_at tries before after script number rows entry it status found needed is read cause = (
   read.0,
   it,
   inputs_from script (suc number) (drop (suc number) script.nodes),

@@ -56,7 +56,7 @@ module _ (script : Script) (inputs : List (List Value)) (it : Direct)
     direct.made,
     record {
       means = direct.means;
-      least = subst (IsLeast (traps_of direct.made)) (sym own.0) (least trap is);
+      told = subst (IsLeast (traps_of direct.made)) (sym own.0) (least trap is);
       named = ap (λ (t : Trap). name_at script t.origin) own.0 ∙ own.1;
     },
   )
@@ -64,16 +64,16 @@ module _ (script : Script) (inputs : List (List Value)) (it : Direct)
   pub have_members : HaveMembers script it.bags.items
   have_members = ready script direct.made it.bags.items direct.written
 
-  pub gives : (front text : List ℕ) (files : List NamedBytes)
-      → slice_get it.traps.items 0 ≡ None → AreFiles it.bags.items script.outputs files
-      → text ≡ front ++ (size_lines it.sizes.items ++ codes "done\n")
-      → Gives script inputs front files text
-  gives front text files none are shown = (
+  pub gives : (text : List ℕ) (files : List NamedBytes) → slice_get it.traps.items 0 ≡ None
+      → AreFiles it.bags.items script.outputs files
+      → text ≡ [] ++ (size_lines it.sizes.items ++ codes "done\n")
+      → Gives script inputs [] files text
+  gives text files none are shown = (
     direct.made,
     record {
       means = direct.means;
       through = sym direct.traps ∙ none_there it.traps.items none;
       written = files_made script direct.made it.bags.items files direct.written are;
-      shown = shown ∙ ap (λ sizes. front ++ (size_lines sizes ++ codes "done\n")) direct.sizes;
+      shown = shown ∙ ap (λ sizes. [] ++ (size_lines sizes ++ codes "done\n")) direct.sizes;
     },
   )

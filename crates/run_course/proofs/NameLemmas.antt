@@ -23,7 +23,7 @@ use Rattle.script_check.specs.Script.{Node, Script, State, nothing, script_from}
 use Rattle.script_check.specs.Operations as op
 use Rattle.script_check.specs.Rules as spec
 use Rattle.script_laws.proofs.CheckedLemmas.{both, ok-same}
-use Rattle.run_course.specs.inner.Course.{IsReady, IsNamedMade}
+use Rattle.run_course.specs.inner.Course.{IsNamedMade}
 
 abbrev IsNamedNode : List ℕ × Node → Type 0
 IsNamedNode entry = IsNamedMade entry.1.made
@@ -161,15 +161,20 @@ defined-named (statement ∷ rest) s after named utf8 e =
 nothing-named : AreNamed nothing
 nothing-named = record { reads = All-nil IsNamedNode; writes = All-nil IsNamedOutput }
 
-from-state : (s : State) → AreNamed s → IsReady (script_from s)
+-- the files of the script are named so
+pub record HasNames (script : Script) : Type 0 where
+  pub reads : All IsNamedNode script.nodes
+  pub writes : All IsNamedOutput script.outputs
+
+from-state : (s : State) → AreNamed s → HasNames (script_from s)
 from-state s named = record { reads = named.reads; writes = named.writes }
 
-pub script_ready : (statements : List Statement) (script : Script)
+pub script_named : (statements : List Statement) (script : Script)
     → All (λ (s : Statement). IsUtf8Named s.form) statements
-    → spec.script_of statements ≡ Ok script → IsReady script
-script_ready statements script utf8 e =
+    → spec.script_of statements ≡ Ok script → HasNames script
+script_named statements script utf8 e =
     let s = both (spec.defined statements nothing) _ script e in
     let some = both (unless 0 NoOutput (nat_lt 0 (length s.part.outputs))) _ script s.then in
-    subst IsReady (ok-same _ script some.then)
+    subst HasNames (ok-same _ script some.then)
     (from-state s.part (defined-named statements nothing s.part nothing-named
     (recursion_from_All (λ (s : Statement). IsUtf8Named s.form) statements utf8) s.first))

@@ -21,7 +21,6 @@ use Rattle.outside.specs.Seen.{Seen, SeenShelf}
 use Rattle.outside.specs.Told.{WhereTold}
 use Rattle.outside.specs.declared.file.File.{File as NamedBytes}
 use Rattle.outside.specs.declared.host.Phase.{Phase}
-use Rattle.plan_phases.specs.Phases.{phases}
 use Rattle.plan_phases.specs.Told.{IsGivenUp}
 use Rattle.run_settings.specs.Settings.{RunSettings}
 use Rattle.run_texts.specs.Lines.{line_of, trap_line}
@@ -32,12 +31,14 @@ use Rattle.run_texts.specs.declared.status.Status.{Status}
 use Rattle.run_texts.specs.declared.status.Status.TheVariants.{Done, GaveUp, Usage, ScriptRefused, InputRefused, Trap, ReadFault, WriteFault, WantOfMemory, TooLong, NoFile}
 use Rattle.script_check.specs.Script.{Script}
 use Rattle.script_plans.specs.Plans.{IsScriptPlan}
+use Rattle.script_run.specs.Runs.{phases_of, split_of}
 use Rattle.task_lists.specs.Plans.{first_trap}
 use Rattle.run_course.specs.Accepted.{Refused}
 use Rattle.run_course.specs.Asked.{AllHaveRows, AskFor, IsAbove, IsAskedFor, IsMissing, IsTurnOf, Loads, Reads, tries_of}
 use Rattle.command_words.specs.Words.{asked_for}
+use Rattle.run_course.specs.Lent.{lent}
 use Rattle.run_course.specs.World.{World}
-use Rattle.run_course.specs.Written.{IsMeant, IsWritten, Table, lent, split_of}
+use Rattle.run_course.specs.Written.{IsMeant, IsWritten, Table}
 use Rattle.run_course.specs.declared.limits.TheConstants.{SCRIPT_LIMIT, INPUT_LIMIT}
 use Rattle.command_words.specs.declared.words.Command.{Command}
 use Rattle.command_words.specs.declared.words.Command.TheVariants.{Check, Plan as Show, Direct, Run}
@@ -165,17 +166,23 @@ IsInputRefused name row column kind words source =
     × Loads source.told wanted.file INPUT_LIMIT bytes
     × (rows_of bytes wanted.type ≡ Some (Err (Bad row column kind)))
 
--- GaveUp: the words ask for a run, all its inputs have rows, and of this task of a phase of its plan
--- no attempt has won: the drill and the losses of the lent hosts account for each of its tries. No
--- phase before it traps, and no smaller task of it
+-- All inputs of the script have rows, and of this task of a phase of its plan over them no attempt
+-- has won: the drill and the losses of the lent hosts account for each of its tries. No phase before
+-- it traps, and no smaller task of it
+abbrev pub GivesUp : RunSettings → Option (List NamedBytes) → List Account → List Account → Script
+    → ℕ → Phase → ℕ → Type 0
+GivesUp s told olds news script stage phase task =
+    (rows : List (List Value)) × (plan : Plan) × AllHaveRows told (inputs_of script) rows
+    × IsScriptPlan script plan
+    × IsGivenUp s.tries s.drill (world_of script rows) (phases_of s script rows plan)
+    (lent s olds) (lent s news) stage phase task
+
+-- GaveUp: the words ask for a run of a script, which gave this task up
 abbrev pub IsGaveUp : ℕ → Phase → ℕ → List (List ℕ) → Option (List NamedBytes) → List Account
     → List Account → Type 0
 IsGaveUp stage phase task words told olds news =
-    (s : RunSettings) × (script : Script) × (rows : List (List Value)) × (plan : Plan)
-    × Reads words told (Run s) script × AllHaveRows told (inputs_of script) rows
-    × IsScriptPlan script plan
-    × IsGivenUp s.tries s.drill (world_of script rows)
-    (phases (world_of script rows) (split_of s) plan) (lent s olds) (lent s news) stage phase task
+    (s : RunSettings) × (script : Script) × Reads words told (Run s) script
+    × GivesUp s told olds news script stage phase task
 
 -- a refusal before anything is written: the shelf is untouched, and the screen has the refusal's
 -- line

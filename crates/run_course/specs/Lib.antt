@@ -1,6 +1,7 @@
 pub mod Accepted
 pub mod Answers
 pub mod Asked
+pub mod Lent
 pub mod Promises
 pub mod World
 pub mod Written

@@ -1,6 +1,5 @@
 -- What a call promises.
 use Rattle.std.specs.Prelude.{◌≡◌, ◌⊎◌, ℕ, false, List, [], ◌∷◌, Some, IsSome, ⊤}
-use Rattle.build_law.specs.Worlds.{world_of}
 use Rattle.crew.specs.Hosts.{Account}
 use Rattle.csv_rows.specs.declared.fault.RowKind.{RowKind}
 use Rattle.direct_meaning.specs.Direct.{meaning, traps_of}
@@ -11,16 +10,17 @@ use Rattle.flume_value.specs.declared.value.Value.{Value}
 use Rattle.outside.specs.Cause.{Rose, RoseBy}
 use Rattle.outside.specs.Seen.{SeenShelf}
 use Rattle.outside.specs.declared.host.Phase.{Phase}
-use Rattle.plan_phases.specs.Phases.{phases}
 use Rattle.plan_phases.specs.Told.{CanFinishAll}
 use Rattle.run_course.specs.Answers.{IsDone, IsFileFault, IsGaveUp, IsInputRefused, IsNoFile, IsReadFault, IsRefused, IsScreenFault, IsScriptRefused, IsTooLong, IsTrap, IsUsage}
 use Rattle.run_course.specs.Asked.{AllHaveRows, Reads, inputs_read, tries_of}
+use Rattle.run_course.specs.Lent.{lent}
 use Rattle.run_course.specs.World.{Keeps, World}
-use Rattle.run_course.specs.Written.{Table, lent, split_of}
+use Rattle.run_course.specs.Written.{Table}
 use Rattle.command_words.specs.declared.words.Command.{Command}
 use Rattle.command_words.specs.declared.words.Command.TheVariants.{Check, Plan as Show, Direct, Run}
 use Rattle.script_check.specs.Script.{Script}
 use Rattle.script_plans.specs.Plans.{IsScriptPlan}
+use Rattle.script_run.specs.Runs.{phases_of}
 use Rattle.run_texts.specs.declared.status.Place.TheVariants.{File, Screen}
 use Rattle.flume_grammar.specs.declared.fault.ScriptKind.{ScriptKind}
 use Rattle.run_texts.specs.declared.status.Status.{Status}
@@ -64,8 +64,7 @@ IsShelfCalm (Run s) before after = Rose before.faults after.faults → ⊥
 abbrev pub CanEnd : Command → Script → List (List Value) → List Account → List Account → Type 0
 CanEnd (Run s) script rows olds news =
     (plan : Plan) → IsScriptPlan script plan
-    → CanFinishAll s.tries s.drill (phases (world_of script rows) (split_of s) plan) (lent s olds)
-    (lent s news)
+    → CanFinishAll s.tries s.drill (phases_of s script rows plan) (lent s olds) (lent s news)
 CanEnd _ script rows olds news = ⊤
 
 -- All is there that a command needs: files are told, the words ask for it on this script, the

@@ -1,8 +1,6 @@
 -- What a command writes where no trap is met: its files, and the text of the screen.
-use Rattle.std.specs.Prelude.{◌≡◌, ℕ, List, [], ◌∷◌, ◌++◌, Option, Some, codes, option_and_then, take}
-use Rattle.std.specs.List.{AllByRecursion}
+use Rattle.std.specs.Prelude.{◌≡◌, ℕ, List, [], ◌∷◌, ◌++◌, Option, Some, codes, option_and_then}
 use Rattle.std.specs.Option.{option_map}
-use Rattle.build_law.specs.Worlds.{world_of}
 use Rattle.crew.specs.Hosts.{Account}
 use Rattle.csv_rows.specs.Text.{table_text}
 use Rattle.direct_meaning.specs.Direct.{made_at, meaning, sizes_of, traps_of}
@@ -11,8 +9,6 @@ use Rattle.flume_collection.specs.Collection.{Collection}
 use Rattle.flume_value.specs.declared.value.Value.{Value}
 use Rattle.graph_build.specs.Graphs.{graph_of}
 use Rattle.outside.specs.declared.file.File.{File}
-use Rattle.plan_phases.specs.Phases.{phases}
-use Rattle.plan_phases.specs.Told.{AreWinners}
 use Rattle.plan_phases.specs.declared.winners.PhaseWinners.{PhaseWinners}
 use Rattle.plan_print.specs.GraphText.{graph_text}
 use Rattle.run_settings.specs.Settings.{RunSettings}
@@ -20,11 +16,12 @@ use Rattle.exec_plan.specs.declared.plan.Plan.{Plan}
 use Rattle.plan_texts.specs.Texts.{plan_json_of, plan_text_of}
 use Rattle.run_texts.specs.Texts.{size_lines}
 use Rattle.script_plans.specs.Plans.{IsScriptPlan}
+use Rattle.script_run.specs.Runs.{WereRun, phases_of}
 use Rattle.serde_json.specs.Written.{compact_text}
-use Rattle.task_lists.specs.Tasks.{Split}
 use Rattle.script_check.specs.declared.made.Output.{Output}
 use Rattle.script_check.specs.Script.{Script}
 use Rattle.run_course.specs.Asked.{AllHaveRows, Reads}
+use Rattle.run_course.specs.Lent.{lent}
 use Rattle.command_words.specs.declared.words.Command.{Command}
 use Rattle.command_words.specs.declared.words.Command.TheVariants.{Check, Plan as Show, Direct, Run}
 use Rattle.command_words.specs.declared.words.PlanForm.{PlanForm}
@@ -81,30 +78,20 @@ ShowsPlan form script text =
 
 -- ---- runs
 
-abbrev pub split_of : RunSettings → Split
-split_of s = record { shards = s.shards; partitions = s.partitions }
-
--- the hosts that a run lends to its workers, one each
-abbrev pub lent : RunSettings → List Account → List Account
-lent s hosts = take s.workers hosts
-
--- Each task of the plan was run: of each phase there are winners, an attempt of each task that the
--- drill does not name, and some lent host has let all places of that attempt through.
-abbrev pub WereRun : RunSettings → Script → List (List Value) → Plan → List Account → List Account
-    → Type 0
-WereRun s script rows plan olds news =
-    AllByRecursion
-    (λ phase. (winners : PhaseWinners) × AreWinners s.tries s.drill olds news phase winners)
-    (phases (world_of script rows) (split_of s) plan)
+-- each task of the plan was run over these rows: of each phase there are winners
+abbrev pub AllTasksRan : RunSettings → Script → List (List Value) → Plan → List Account
+    → List Account → Type 0
+AllTasksRan s script rows plan olds news =
+    (winners : List PhaseWinners) × WereRun s (phases_of s script rows plan) olds news winners
 
 -- What a run writes and leaves: the files of its script's direct meaning; its graph and its plan,
--- the sizes of its collections and `done`. Each task of the plan was run.
+-- the sizes of its collections and `done`. Each task of the plan was run on the lent hosts.
 abbrev pub WritesRun : RunSettings → Option (List File) → List Account → List Account → Script
     → List File → List ℕ → Type 0
 WritesRun s told olds news script files text =
     (plan : Plan) × (rows : List (List Value)) × (table : Table) × IsScriptPlan script plan
     × IsThrough told script (shown_as Text script plan) files text rows table
-    × WereRun s script rows plan (lent s olds) (lent s news)
+    × AllTasksRan s script rows plan (lent s olds) (lent s news)
 
 -- What a command writes of a script: `check` no file and `ok`; `plan` no file and its plan;
 -- `direct` the files of its direct meaning, the sizes of its collections and `done`; `run` the

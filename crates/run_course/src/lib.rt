@@ -6,11 +6,15 @@
 //! line.
 #![tactic(auto)]
 
+mod commands;
 mod course;
 mod evaluation;
+mod files;
 mod laws;
 mod limits;
 mod loading;
+mod running;
+mod showing;
 mod stop;
 
 pub use course::run;

@@ -10,7 +10,7 @@ ghost use Rattle.run_course.specs.Accepted.{Accepted};
 ghost use Rattle.run_course.specs.Asked.{AllHaveRows, HasRows, Loads};
 ghost use Rattle.run_course.specs.inner.Course.{HasRead, IsInputCause, IsInputsCause, IsLoadCause, IsLoaded, IsReady, IsScriptCause, IsScriptFault, fault_status, status_of};
 
-use crate::limits::{INPUT_LIMIT, SCRIPT_LIMIT, TRIES};
+use crate::limits::{INPUT_LIMIT, SCRIPT_LIMIT};
 use csv_rows::{RowFault, rows_under_columns};
 use flume_grammar::ScriptFault;
 use flume_syntax::parse;
@@ -22,18 +22,24 @@ use script_check::{Made, Program, check};
 use std::alloc::Global;
 use std::str;
 
-/// Loads and checks the script of that name.
-pub fn script_of<R: Source>(alloc: Global, name: &str, source: &mut R) -> Result<Program, Status>
+/// Loads and checks the script of that name, in so many tries.
+pub fn script_of<R: Source>(
+    alloc: Global,
+    name: &str,
+    source: &mut R,
+    tries: u32,
+) -> Result<Program, Status>
+    requires tries { 0 < tries }
     ensures files { R.files source.new ≡ R.files source.old }
     ensures ok { IfOk result (λ program.
         IsLoaded (R.files source.old) name.now program.script) }
     ensures well_formed { IfOk result (λ program. IsWellFormed program.script) }
     ensures ready { IfOk result (λ program. IsReady program.script) }
-    ensures err { IfErr result (IsScriptCause (seen R.files R.faults source.old)
+    ensures err { IfErr result (IsScriptCause tries (seen R.files R.faults source.old)
         (seen R.files R.faults source.new) name.now) }
     ensures later { R.faults source.old ≤ R.faults source.new }
 {
-    let bytes = loaded(alloc, source, name, SCRIPT_LIMIT)?;
+    let bytes = loaded(alloc, source, name, SCRIPT_LIMIT, tries)?;
     match program_of(alloc, &bytes) {
         Ok(program) => Ok(program),
         Err(ScriptFault::Refused { line, kind }) => Err(Status::ScriptRefused { line, kind }),
@@ -41,25 +47,27 @@ pub fn script_of<R: Source>(alloc: Global, name: &str, source: &mut R) -> Result
     }
 }
 
-/// Loads and decodes the inputs that a script needs, in its order.
+/// Loads and decodes the inputs that a script needs, in its order, each in so many tries.
 pub fn rows_of_inputs<R: Source>(
     alloc: Global,
     program: &Program,
     source: &mut R,
+    tries: u32,
 ) -> Result<Pile<Items>, Status>
+    requires tries { 0 < tries }
     requires well_formed { IsWellFormed program.now.script }
     requires ready { IsReady program.now.script }
     ensures files { R.files source.new ≡ R.files source.old }
     ensures ok { IfOk result
         (AllHaveRows (R.files source.old) (inputs_of program.now.script)) }
     ensures typed { IfOk result (AreInputs program.now.script) }
-    ensures err { IfErr result (IsInputsCause (seen R.files R.faults source.old)
+    ensures err { IfErr result (IsInputsCause tries (seen R.files R.faults source.old)
         (seen R.files R.faults source.new) (inputs_of program.now.script)) }
     ensures later { R.faults source.old ≤ R.faults source.new }
 {
     let mut rows = Pile::new(alloc);
     for number in 0..program.node_count() {
-        add_rows(alloc, program, number, source, &mut rows)?;
+        add_rows(alloc, program, number, source, tries, &mut rows)?;
     }
     Ok(rows)
 }
@@ -70,8 +78,10 @@ fn add_rows<R: Source>(
     program: &Program,
     number: usize,
     source: &mut R,
+    tries: u32,
     rows: &mut Pile<Items>,
 ) -> Result<(), Status>
+    requires tries { 0 < tries }
     requires well_formed { IsWellFormed program.now.script }
     requires ready { IsReady program.now.script }
     requires within { number < length program.now.script.nodes }
@@ -79,7 +89,7 @@ fn add_rows<R: Source>(
     ensures files { R.files source.new ≡ R.files source.old }
     ensures read { OnOk result
         (HasRead (R.files source.old) program.now.script (number + 1) rows.new) }
-    ensures err { IfErr result (IsInputsCause (seen R.files R.faults source.old)
+    ensures err { IfErr result (IsInputsCause tries (seen R.files R.faults source.old)
         (seen R.files R.faults source.new) (inputs_of program.now.script)) }
     ensures later { R.faults source.old ≤ R.faults source.new }
 {
@@ -88,7 +98,7 @@ fn add_rows<R: Source>(
     }
     match &program.node(number).made {
         Made::Input { file, columns } => {
-            let own = rows_of_file(alloc, file, columns.as_slice(), source)?;
+            let own = rows_of_file(alloc, file, columns.as_slice(), source, tries)?;
             match rows.push(own) {
                 Ok(()) => Ok(()),
                 Err(_) => Err(Status::WantOfMemory),
@@ -104,7 +114,9 @@ fn rows_of_file<R: Source>(
     file: &Str,
     columns: &[Column],
     source: &mut R,
+    tries: u32,
 ) -> Result<Items, Status>
+    requires tries { 0 < tries }
     requires named { IsUtf8 file.now }
     ensures files { R.files source.new ≡ R.files source.old }
     ensures ok { IfOk result (λ rows. (type : Ty) → input_columns_of type ≡ Some columns.now →
@@ -113,14 +125,14 @@ fn rows_of_file<R: Source>(
         AllHave type rows) }
     ensures err { IfErr result (λ status. (type : Ty) →
         input_columns_of type ≡ Some columns.now →
-        IsInputCause (seen R.files R.faults source.old) (seen R.files R.faults source.new)
+        IsInputCause tries (seen R.files R.faults source.old) (seen R.files R.faults source.new)
         (record { file = file.now; type = type }) status) }
     ensures later { R.faults source.old ≤ R.faults source.new }
 {
     let Ok(name) = str::from_utf8(file.as_bytes()) else {
         unreachable!();
     };
-    let bytes = loaded(alloc, source, name, INPUT_LIMIT)?;
+    let bytes = loaded(alloc, source, name, INPUT_LIMIT, tries)?;
     match rows_under_columns(alloc, &bytes, columns) {
         Ok(rows) => Ok(rows),
         Err(fault) => Err(input_refused(alloc, name, fault)),
@@ -138,20 +150,22 @@ fn program_of(alloc: Global, bytes: &[u8]) -> Result<Program, ScriptFault>
     check(alloc, ast)
 }
 
-// Loads a file; where the source fails, once more.
+// Loads a file; where the source fails, again, in so many tries.
 fn loaded<R: Source>(
     alloc: Global,
     source: &mut R,
     name: &str,
     limit: u64,
+    tries: u32,
 ) -> Result<Vec<u8>, Status>
+    requires tries { 0 < tries }
     ensures files { R.files source.new ≡ R.files source.old }
     ensures ok { IfOk result (λ bytes. Loads (R.files source.old) name.now limit bytes.items) }
-    ensures err { IfErr result (IsLoadCause (seen R.files R.faults source.old)
+    ensures err { IfErr result (IsLoadCause tries (seen R.files R.faults source.old)
         (seen R.files R.faults source.new) name.now limit) }
     ensures later { R.faults source.old ≤ R.faults source.new }
 {
-    match load_tried(alloc, source, name, limit, TRIES) {
+    match load_tried(alloc, source, name, limit, tries) {
         Ok(bytes) => Ok(bytes),
         Err(fault) => Err(refused(alloc, name, limit, fault)),
     }

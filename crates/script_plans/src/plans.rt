@@ -1,6 +1,8 @@
 ghost use Rattle.std.specs.Prelude.{◌≡◌, IfOk};
+ghost use Rattle.exec_graph.specs.Typing.{IsTyped, Signatures};
 ghost use Rattle.exec_graph.specs.Wellformed.{IsGraphOk};
 ghost use Rattle.exec_graph.specs.World.{World};
+ghost use Rattle.exec_plan.specs.Typing.{IsPlanTyped};
 ghost use Rattle.exec_plan.specs.Wellformed.{IsPlanOk};
 ghost use Rattle.graph_build.specs.Graphs.{graph_of};
 ghost use Rattle.plan_laws.specs.Operations.{SamePlan};
@@ -22,6 +24,8 @@ pub fn plan_of(alloc: Global, program: &Program, graph: Graph) -> Result<Plan, A
     ensures same { IfOk result (λ plan. (w : World) →
         SamePlan w (graph_of program.now.script) plan) }
     ensures well_formed { IfOk result (λ plan. IsPlanOk plan) }
+    ensures types { IfOk result (λ plan. (s : Signatures) →
+        IsTyped s (graph_of program.now.script) → IsPlanTyped s plan) }
 {
     one_step_law();
     let scales = scales_of(alloc, program)?;

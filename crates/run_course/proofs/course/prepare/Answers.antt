@@ -1,11 +1,14 @@
-use Rattle.std.proofs.Common.{List, Option, map, string_bytes, subst, sym, ap, ◌∙◌}
+use Rattle.std.proofs.Common.{ℕ, List, Option, map, string_bytes, subst, sym, ap, ◌∙◌}
 use Rattle.std.specs.Option.{option_map}
 use Rattle.command_words.specs.Held.{asked_in}
+use Rattle.crew.specs.Hosts.{account}
 use Rattle.std.proofs.lemmas.Result.{IfErr-weaker, IfOk-weaker, err_from_is_err_and}
 use Rattle.outside.specs.Saves.{output_file}
 use Rattle.outside.specs.Seen.{seen}
 use Rattle.outside.specs.declared.file.File.{File}
 use Rattle.run_course.specs.Written.{Writes}
+use Rattle.run_course.specs.inner.Course.{IsScriptCause}
+use Rattle.crew.proofs.Accounts.{all_grew_not}
 use Rattle.run_course.proofs.GraphLemmas.{accepted_graph}
 use Rattle.run_course.proofs.CauseLemmas.{command_stop, script_cause, written}
 use Rattle.run_course.proofs.course.prepare.Goals as goal
@@ -16,18 +19,31 @@ returns-in_err-program-clause-err g c =
     rw (p.1, p.2)
     (script_cause (map string_bytes c.args.words.now)
     (seen g.R.Source.files g.R.Source.faults c.args.source.now)
-    (seen g.R.Source.files g.R.Source.faults c.script_of.new.source) c.in-Some.asked.command
-    c.in-Some.asked.script.now _ (sym c.in_ok-asked.ensures ∙ ap (option_map asked_in) c.in-Some.is) c.in_err-program.ensures.err)
+    (seen g.R.Source.files g.R.Source.faults c.script_of.new.source)
+    (map (account g.H.Host.notes g.H.Host.losses) c.args.hosts.now)
+    (map (account g.H.Host.notes g.H.Host.losses) c.args.hosts.now)
+    c.in-Some.asked.command c.in-Some.asked.script.now _
+    (sym c.in_ok-asked.ensures ∙ ap (option_map asked_in) c.in-Some.is)
+    (subst (λ (n : ℕ). IsScriptCause n
+    (seen g.R.Source.files g.R.Source.faults c.args.source.now)
+    (seen g.R.Source.files g.R.Source.faults c.script_of.new.source)
+    c.in-Some.asked.script.now c.in_err-program.field-0.0) c.tries_of.ensures.value
+    c.in_err-program.ensures.err))
 
 pub returns-clause-ok : goal.returns-clause-ok
 returns-clause-ok g c =
     IfOk-weaker c.carried_out.result _ _ (λ it writes.
     written (map string_bytes c.args.words.now) (g.R.Source.files c.args.source.now)
+    (map (account g.H.Host.notes g.H.Host.losses) c.args.hosts.now)
+    (map (account g.H.Host.notes g.H.Host.losses) c.carried_out.new.hosts)
     c.in-Some.asked.command c.in-Some.asked.script.now c.in_ok-program.program.script
     (map output_file it.outputs.items) it.screen.items
     (sym c.in_ok-asked.ensures ∙ ap (option_map asked_in) c.in-Some.is, c.in_ok-program.ensures.ok)
     (subst (λ (told : Option (List File)).
-    Writes c.in-Some.asked.command told c.in_ok-program.program.script
+    Writes c.in-Some.asked.command told
+    (map (account g.H.Host.notes g.H.Host.losses) c.args.hosts.now)
+    (map (account g.H.Host.notes g.H.Host.losses) c.carried_out.new.hosts)
+    c.in_ok-program.program.script
     (map output_file it.outputs.items) it.screen.items) c.in_ok-program.ensures.files writes))
     c.carried_out.ensures.written
 
@@ -37,12 +53,27 @@ returns-clause-err g c =
     command_stop (map string_bytes c.args.words.now)
     (seen g.R.Source.files g.R.Source.faults c.args.source.now)
     (seen g.R.Source.files g.R.Source.faults c.script_of.new.source)
-    (seen g.R.Source.files g.R.Source.faults c.carried_out.new.source) c.in-Some.asked.command
-    c.in-Some.asked.script.now c.in_ok-program.program.script why
+    (seen g.R.Source.files g.R.Source.faults c.carried_out.new.source)
+    (map (account g.H.Host.notes g.H.Host.losses) c.args.hosts.now)
+    (map (account g.H.Host.notes g.H.Host.losses) c.carried_out.new.hosts)
+    c.in-Some.asked.command
+    c.in-Some.asked.script.now c.in_ok-program.program.script
     (sym c.in_ok-asked.ensures ∙ ap (option_map asked_in) c.in-Some.is, c.in_ok-program.ensures.ok) c.in_ok-program.ensures.files
-    c.in_ok-program.ensures.later stops) c.carried_out.ensures.stop
+    c.in_ok-program.ensures.later why stops) c.carried_out.ensures.stop
 
 pub carried_out-requires-clause-graph : goal.carried_out-requires-clause-graph
-carried_out-requires-clause-graph g c =
+carried_out-requires-clause-graph g c = λ κs within.
     let loaded = c.in_ok-program.ensures.ok in
     accepted_graph loaded.0 c.in_ok-program.program.script loaded.2
+
+pub returns-in_err-asked-clause-grew : goal.returns-in_err-asked-clause-grew
+returns-in_err-asked-clause-grew g c =
+    all_grew_not (map (account g.H.Host.notes g.H.Host.losses) c.args.hosts.now)
+
+pub returns-in_default-clause-grew : goal.returns-in_default-clause-grew
+returns-in_default-clause-grew g c =
+    all_grew_not (map (account g.H.Host.notes g.H.Host.losses) c.args.hosts.now)
+
+pub returns-in_err-program-clause-grew : goal.returns-in_err-program-clause-grew
+returns-in_err-program-clause-grew g c =
+    all_grew_not (map (account g.H.Host.notes g.H.Host.losses) c.args.hosts.now)

@@ -1,4 +1,4 @@
-use Rattle.std.proofs.Common.{◌≡◌, ◌++◌, Some, None, codes, map, slice_get, ap, ◌∙◌, subst}
+use Rattle.std.proofs.Common.{◌≡◌, ◌++◌, [], Some, None, codes, map, slice_get, ap, ◌∙◌, subst}
 use Rattle.outside.specs.Saves.{output_file}
 use Rattle.run_texts.specs.Texts.{size_lines}
 use Rattle.run_course.specs.inner.Course.{AreFiles}
@@ -13,24 +13,24 @@ trapped-requires c =
           c.in_ok-bags.ensures c.in-Some.trap first;
     }
 
-pub returns-in_ok-trapped-in-Some-clause-stop : goal.returns-in_ok-trapped-in-Some-clause-stop
-returns-in_ok-trapped-in-Some-clause-stop c =
+pub returns-in-Some-clause-stop : goal.returns-in-Some-clause-stop
+returns-in-Some-clause-stop c =
     let first : slice_get c.in_ok-bags.field-0.traps.items 0 ≡ Some c.in-Some.trap = cc in
     stops c.args.program.now.script c.args.inputs c.in_ok-bags.field-0 c.in_ok-bags.ensures
     c.in-Some.trap c.in_ok-trapped-in-Some.field-0 first c.in_ok-trapped-in-Some.ensures
 
-pub returns-in_ok-write_out-in-None-clause-written :
-    goal.returns-in_ok-write_out-in-None-clause-written
-returns-in_ok-write_out-in-None-clause-written c =
+pub returns-clause-written :
+    goal.returns-clause-written
+returns-clause-written c =
     let it = c.in_ok-bags.field-0 in
     let out = c.in_ok-write_out-in-None.field-0 in
     let files = map output_file out.outputs.items in
     let none : slice_get c.in_ok-bags.field-0.traps.items 0 ≡ None = cc in
     let bags : c.deref.result.now ≡ c.in_ok-bags.field-0.bags.items = cc in
     let sizes : c.deref-in-None.result.now ≡ c.in_ok-bags.field-0.sizes.items = cc in
-    gives c.args.program.now.script c.args.inputs it c.in_ok-bags.ensures c.args.front.items
-    out.screen.items files none
+    gives c.args.program.now.script c.args.inputs it c.in_ok-bags.ensures out.screen.items
+    files none
     (subst (λ l. AreFiles l c.args.program.now.script.outputs files) bags
     c.in_ok-write_out-in-None.ensures.files)
     (c.in_ok-write_out-in-None.ensures.text
-    ∙ ap (λ l. c.args.front.items ++ (size_lines l ++ codes "done\n")) sizes)
+    ∙ ap (λ l. [] ++ (size_lines l ++ codes "done\n")) sizes)

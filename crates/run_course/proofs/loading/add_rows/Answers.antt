@@ -20,7 +20,10 @@ rows_of_file-requires g c =
     let file = c.in-Input.file in
     let columns = c.in-Input.columns in
     let at = input_at script c.args.number _ file columns c.node.ensures.is c.in-Input.is in
-    record { named = its_file script c.args.number file columns at c.requires.ready }
+    record {
+      tries = c.requires.tries;
+      named = its_file script c.args.number file columns at c.requires.ready;
+    }
 
 pub returns-in_err-own-in-Input-clause-err : goal.returns-in_err-own-in-Input-clause-err
 returns-in_err-own-in-Input-clause-err g c =
@@ -34,7 +37,7 @@ returns-in_err-own-in-Input-clause-err g c =
     let end = c.from_residual in
     let p = err_from_is_err_and end.result end.ensures.1 in
     rw (p.1, p.2)
-    (stops_at (seen g.R.Source.files g.R.Source.faults c.args.source.now)
+    (stops_at c.args.tries (seen g.R.Source.files g.R.Source.faults c.args.source.now)
     (seen g.R.Source.files g.R.Source.faults c.rows_of_file.new.source) script c.args.number
     c.args.rows.now at.entry (its_wanted script c.args.number file columns at) _ at.found needed
     (wants script c.args.number file columns at) c.requires.read
@@ -63,7 +66,7 @@ returns-in-Err-clause-err g c =
     let file = c.in-Input.file in
     let columns = c.in-Input.columns in
     let at = input_at script c.args.number _ file columns c.node.ensures.is c.in-Input.is in
-    stops_at (seen g.R.Source.files g.R.Source.faults c.args.source.now)
+    stops_at c.args.tries (seen g.R.Source.files g.R.Source.faults c.args.source.now)
     (seen g.R.Source.files g.R.Source.faults c.rows_of_file.new.source) script c.args.number
     c.args.rows.now at.entry (its_wanted script c.args.number file columns at) WantOfMemory at.found
     needed (wants script c.args.number file columns at) c.requires.read tt

@@ -1,4 +1,4 @@
-use Rattle.run_course.proofs.CauseLemmas.{checked_ready, checked_well}
+use Rattle.run_course.proofs.ProgramLemmas.{checked_ready, checked_well}
 use Rattle.run_course.proofs.loading.program_of.Goals as goal
 
 pub returns-clause-well_formed : goal.returns-clause-well_formed

@@ -1,6 +1,8 @@
 use Rattle.std.proofs.Common.{subst, sym}
 use Rattle.exec_graph.specs.declared.graph.Graph.{Graph}
+use Rattle.exec_graph.specs.Typing.{IsTyped, Signatures}
 use Rattle.exec_graph.specs.World.{World}
+use Rattle.exec_plan.specs.Typing.{IsPlanTyped}
 use Rattle.graph_laws.specs.Single.{HasSingleOutputs}
 use Rattle.optimise.specs.Optimised.{source_count}
 use Rattle.plan_laws.specs.Operations.{SamePlan}
@@ -21,3 +23,8 @@ pub returns-clause-same : goal.returns-clause-same
 returns-clause-same c = λ w.
     subst (λ (g : Graph). SamePlan w g c.in_ok-plan.plan) c.requires.built
     (c.in_ok-plan.ensures.same w)
+
+pub returns-clause-types : goal.returns-clause-types
+returns-clause-types c = λ s.
+    subst (λ (g : Graph). IsTyped s g → IsPlanTyped s c.in_ok-plan.plan) c.requires.built
+    (c.in_ok-plan.ensures.types s)

@@ -1,13 +1,12 @@
 -- Where files are told, one refusal at most has a cause, and none where a call has all that it
 -- needs.
-use Rattle.std.proofs.Common.{◌≡◌, ℕ, ◌<◌, inl, inr, ◌⊎◌, List, [], ◌∷◌, ◌++◌, length, Option, Some, None, Result, Ok, Err, ap, sym, ◌∙◌, subst, arith, refl}
-use Rattle.std.specs.Prelude.{IsSome, IsSomeAnd}
+use Rattle.std.proofs.Common.{◌≡◌, ℕ, inl, inr, ◌⊎◌, List, [], ◌∷◌, ◌++◌, Option, Some, None, Result, Ok, Err, ap, sym, ◌∙◌, subst, refl}
+use Rattle.std.specs.Prelude.{IsSome}
 use Rattle.csv_rows.specs.Rows.{rows_of}
 use Rattle.csv_rows.specs.declared.fault.RowFault.{RowFault}
 use Rattle.csv_rows.specs.declared.fault.RowFault.TheVariants.{Bad}
 use Rattle.csv_rows.specs.declared.fault.RowKind.{RowKind}
-use Rattle.direct_meaning.specs.Direct.{meaning}
-use Rattle.direct_meaning.specs.Inputs.{Wanted, inputs_of}
+use Rattle.direct_meaning.specs.Inputs.{Wanted}
 use Rattle.flume_grammar.specs.declared.fault.ScriptKind.{ScriptKind}
 use Rattle.flume_value.specs.declared.value.Value.{Value}
 use Rattle.outside.specs.Seen.{Seen}
@@ -18,109 +17,11 @@ use Rattle.script_check.specs.Script.{Script}
 use Rattle.run_course.specs.Accepted.{Accepted, Refused}
 use Rattle.run_course.specs.Answers.{IsInputRefused, IsNoFile, IsScriptRefused, IsTooLong}
 use Rattle.run_course.specs.Asked.{AllHaveRows, AskFor, HasRows, IsAbove, IsAskedFor, IsMissing, IsTurnOf, Loads, Reads, inputs_read}
-use Rattle.command_words.specs.Words.{Asked, asked_for}
-use Rattle.run_course.specs.Written.{IsMeant, Table}
+use Rattle.command_words.specs.Words.{asked_for}
 use Rattle.run_course.specs.declared.limits.TheConstants.{SCRIPT_LIMIT, INPUT_LIMIT}
 use Rattle.command_words.specs.declared.words.Command.{Command}
-use Rattle.run_course.proofs.AcceptedLemmas.{accepted_once, one_reason, not_both}
-
-abbrev pub Told : Type 0
-Told = Option (List NamedBytes)
-
-abbrev pub Words : Type 0
-Words = List (List ℕ)
-
--- ---- the bytes of a file that is told
-
-same_bytes : (told : Told) (name a b : List ℕ) (limit most : ℕ) → IsSome told
-    → Loads told name limit a → Loads told name most b → a ≡ b
-same_bytes None name a b limit most tells first second = absurd (cc)
-same_bytes (Some files) name a b limit most tells first second = let same : Some a
-    ≡ Some b = sym first.0 ∙ second.0 in cc
-
-not_missing : (told : Told) (name bytes : List ℕ) (limit : ℕ) → IsSome told
-    → Loads told name limit bytes → IsMissing told name → ⊥
-not_missing None name bytes limit tells loads missing = absurd (cc)
-not_missing (Some files) name bytes limit tells loads missing = let wrong = sym loads.0
-    ∙ missing in absurd (cc)
-
-not_above : (told : Told) (name bytes : List ℕ) (limit : ℕ) → IsSome told
-    → Loads told name limit bytes → IsAbove told name limit → ⊥
-not_above None name bytes limit tells loads above = absurd (cc)
-not_above (Some files) name bytes limit tells loads above =
-    let longer : limit < length bytes = subst (λ (found : Option (List ℕ)). IsSomeAnd found (λ
-    bytes. limit < length bytes)) loads.0 above in
-    omega arith
-
-not_gone_and_long : (told : Told) (name : List ℕ) (limit : ℕ) → IsSome told
-    → IsMissing told name → IsAbove told name limit → ⊥
-not_gone_and_long None name limit tells missing above = absurd (cc)
-not_gone_and_long (Some files) name limit tells missing above =
-    let wrong = subst (λ (found : Option (List ℕ)). IsSomeAnd found (λ bytes. limit < length
-    bytes)) missing above in
-    absurd wrong
-
-same_some : {A : Type 0} (o : Option A) (a b : A) → o ≡ Some a → o ≡ Some b → a ≡ b
-same_some {A = A} o a b first second = let same : Some a ≡ Some b = sym first ∙ second in cc
-
--- ---- one call
-
--- what the words ask for
-pub same_asked : (words : Words) (c d : Command) (name other : List ℕ) → AskFor words c name
-    → AskFor words d other → (c ≡ d) × (name ≡ other)
-same_asked words c d name other first second =
-    let asked : Asked = record { command = c; script = name } in
-    let again : Asked = record { command = d; script = other } in
-    let same : asked ≡ again = same_some (asked_for words) asked again first second in
-    (ap (λ (a : Asked). a.command) same, ap (λ (a : Asked). a.script) same)
-
-pub same_command : (words : Words) (told : Told) (c d : Command) (p q : Script)
-    → Reads words told c p → Reads words told d q → c ≡ d
-same_command words told c d p q first second =
-    (same_asked words c d first.0 second.0 first.2 second.2).0
-
-pub same_script : (words : Words) (told : Told) (c d : Command) (p q : Script) → IsSome told
-    → Reads words told c p → Reads words told d q → p ≡ q
-same_script words told c d p q tells first second =
-    let name : first.0 ≡ second.0 = (same_asked words c d first.0 second.0 first.2 second.2).1 in
-    let bytes : first.1 ≡ second.1
-    = same_bytes told second.0 first.1 second.1 _ _ tells
-    (subst (λ (n : List ℕ). Loads told n SCRIPT_LIMIT first.1) name first.3) second.3 in
-    accepted_once second.1 p q (subst (λ (b : List ℕ). Accepted b p) bytes first.4) second.4
-
-one_rows : (told : Told) (wanted : Wanted) (rows other : List Value) → IsSome told
-    → HasRows told wanted rows → HasRows told wanted other → rows ≡ other
-one_rows told wanted rows other tells first second =
-    let bytes : first.0 ≡ second.0 = same_bytes told wanted.file first.0 second.0 _ _ tells
-    first.1 second.1 in
-    let same : ◌≡◌ {A = Option (Result (List Value) RowFault)} (Some (Ok rows)) (Some (Ok
-    other))
-    = sym first.2 ∙ (ap (λ (b : List ℕ). rows_of b wanted.type) bytes ∙ second.2) in
-    cc
-
-same_rows : (told : Told) (inputs : List Wanted) (rows others : List (List Value)) → IsSome told
-    → AllHaveRows told inputs rows → AllHaveRows told inputs others
-    → rows ≡ others
-same_rows told [] [] [] tells first second = refl
-same_rows told [] [] (o ∷ others) tells first second = absurd second
-same_rows told [] (r ∷ rows) others tells first second = absurd first
-same_rows told (wanted ∷ inputs) [] others tells first second = absurd first
-same_rows told (wanted ∷ inputs) (r ∷ rows) [] tells first second = absurd second
-same_rows told (wanted ∷ inputs) (r ∷ rows) (o ∷ others) tells first second =
-    λ i. one_rows told wanted r o tells first.0 second.0 i ∷ same_rows told inputs rows others
-    tells first.1 second.1 i
-
--- what a script means, whichever way it and its rows are found
-pub same_meaning : (words : Words) (told : Told) (c d : Command) (p q : Script)
-    (rows others : List (List Value)) (table : Table) → IsSome told → Reads words told c p
-    → Reads words told d q → AllHaveRows told (inputs_of p) rows → IsMeant told q others table
-    → meaning p rows ≡ Some table
-same_meaning words told c d p q rows others table tells first second inputs meant =
-    let script : p ≡ q = same_script words told c d p q tells first second in
-    let all : rows ≡ others
-    = same_rows told (inputs_of q) rows others tells
-    (subst (λ (s : Script). AllHaveRows told (inputs_of s) rows) script inputs) meant.inputs in
-    (λ i. meaning (script i) (all i)) ∙ meant.means
+use Rattle.run_course.proofs.AcceptedLemmas.{not_both, one_reason}
+use Rattle.run_course.proofs.ReadLemmas.{Told, Words, not_above, not_gone_and_long, not_missing, same_asked, same_bytes, same_command, same_script}
 
 -- ---- files that stop a call
 
@@ -150,7 +51,8 @@ abbrev pub Stops : Words → Told → Status → Type 0
 Stops words told status =
     ((command : Command) × (name : List ℕ) × AskFor words command name
     × BadScript told name status)
-    ⊎ ((wanted : Wanted) × IsTurnOf words told wanted × BadInput told wanted status)
+    ⊎ ((command : Command) × (wanted : Wanted) × IsTurnOf words told command wanted
+    × BadInput told wanted status)
 
 unread : (words : Words) (told : Told) (command other : Command) (name : List ℕ) (status :
     Status) (script : Script)
@@ -268,19 +170,18 @@ same_place told (w ∷ before) (v ∷ later) one other behind others (r ∷ rows
     let tail : before ++ one ∷ behind ≡ later ++ other ∷ others = cc in
     same_place told before later one other behind others rows more tail first.1 second.1 bad worse
 
-same_turn : (words : Words) (told : Told) (one other : Wanted) → IsSome told
-    → IsTurnOf words told one → IsTurnOf words told other
+same_turn : (words : Words) (told : Told) (c d : Command) (one other : Wanted) → IsSome told
+    → IsTurnOf words told c one → IsTurnOf words told d other
     → ((own : List Value) → HasRows told one own → ⊥) → ((own : List Value)
     → HasRows told other own → ⊥) → one ≡ other
-same_turn words told one other tells first second bad worse =
-    let command : first.0 ≡ second.0 = same_command words told first.0 second.0 first.1 second.1
-    first.5 second.5 in
-    let script : first.1 ≡ second.1 = same_script words told first.0 second.0 first.1 second.1
-    tells first.5 second.5 in
-    let inputs : inputs_read first.0 first.1
-    ≡ inputs_read second.0 second.1 = (λ i. inputs_read (command i) (script i)) in
-    same_place told first.2 second.2 one other first.3 second.3 first.4 second.4
-    (sym first.6 ∙ (inputs ∙ second.6)) first.7 second.7 bad worse
+same_turn words told c d one other tells first second bad worse =
+    let command : c ≡ d = same_command words told c d first.0 second.0 first.4 second.4 in
+    let script : first.0 ≡ second.0
+    = same_script words told c d first.0 second.0 tells first.4 second.4 in
+    let inputs : inputs_read c first.0 ≡ inputs_read d second.0
+    = (λ i. inputs_read (command i) (script i)) in
+    same_place told first.1 second.1 one other first.2 second.2 first.3 second.3
+    (sym first.5 ∙ (inputs ∙ second.5)) first.6 second.6 bad worse
 
 -- an input of those that have rows has rows
 input_rows : (told : Told) (before : List Wanted) (wanted : Wanted) (behind : List Wanted) (rows :
@@ -293,22 +194,24 @@ input_rows told (other ∷ before) wanted behind [] all = absurd all
 input_rows told (other ∷ before) wanted behind (own ∷ rows) all = input_rows told before wanted
     behind rows all.1
 
-turn_rows : (words : Words) (told : Told) (command : Command) (script : Script) (rows : List (List
-    Value)) (wanted : Wanted)
-    → IsSome told → Reads words told command script
-    → AllHaveRows told (inputs_read command script) rows
-    → IsTurnOf words told wanted → (own : List Value) × HasRows told wanted own
-turn_rows words told command script rows wanted tells reads all turn =
-    let same : turn.1 ≡ script = same_script words told turn.0 command turn.1 script tells turn.5
-    reads in
-    let again : turn.0 ≡ command = same_command words told turn.0 command turn.1 script turn.5
-    reads in
-    let inputs : inputs_read command script ≡ turn.2 ++ wanted ∷ turn.3
-    = (λ i. inputs_read (sym again i) (sym same i)) ∙ turn.6 in
-    input_rows told turn.2 wanted turn.3 rows (subst (λ (list : List Wanted). AllHaveRows told
-    list rows) inputs all)
+turn_rows : (words : Words) (told : Told) (c d : Command) (script : Script)
+    (rows : List (List Value)) (wanted : Wanted) → IsSome told → Reads words told c script
+    → AllHaveRows told (inputs_read c script) rows → IsTurnOf words told d wanted
+    → (own : List Value) × HasRows told wanted own
+turn_rows words told c d script rows wanted tells reads all turn =
+    let same : turn.0 ≡ script = same_script words told d c turn.0 script tells turn.4 reads in
+    let again : d ≡ c = same_command words told d c turn.0 script turn.4 reads in
+    let inputs : inputs_read c script ≡ turn.1 ++ wanted ∷ turn.2
+    = (λ i. inputs_read (sym again i) (sym same i)) ∙ turn.5 in
+    input_rows told turn.1 wanted turn.2 rows
+    (subst (λ (list : List Wanted). AllHaveRows told list rows) inputs all)
 
 -- ---- one refusal
+
+-- a turn asks for its command
+turn_asks : (words : Words) (told : Told) (command : Command) (wanted : Wanted)
+    → (turn : IsTurnOf words told command wanted) → AskFor words command turn.4.0
+turn_asks words told command wanted turn = turn.4.2
 
 pub one_stop : (words : Words) (told : Told) (a b : Status) → IsSome told → Stops words told a
     → Stops words told b → a ≡ b
@@ -317,17 +220,17 @@ one_stop words told a b tells (inl first) (inl second) =
     one_bad_script told second.1 a b tells
     (subst (λ (n : List ℕ). BadScript told n a) both.1 first.3) second.3
 one_stop words told a b tells (inl first) (inr second) =
-    absurd (unread words told first.0 second.1.0 first.1 a second.1.1 tells first.2 first.3
-    second.1.5)
+    absurd (unread words told first.0 second.0 first.1 a second.2.0 tells first.2 first.3
+    second.2.4)
 one_stop words told a b tells (inr first) (inl second) =
-    absurd (unread words told second.0 first.1.0 second.1 b first.1.1 tells second.2 second.3
-    first.1.5)
+    absurd (unread words told second.0 first.0 second.1 b first.2.0 tells second.2 second.3
+    first.2.4)
 one_stop words told a b tells (inr first) (inr second) =
-    let wanted : first.0 ≡ second.0
-    = same_turn words told first.0 second.0 tells first.1 second.1 (no_rows told first.0 a tells
-    first.2) (no_rows told second.0 b tells second.2) in
-    one_bad_input told second.0 a b tells (subst (λ (w : Wanted). BadInput told w a) wanted
-    first.2) second.2
+    let wanted : first.1 ≡ second.1
+    = same_turn words told first.0 second.0 first.1 second.1 tells first.2 second.2
+    (no_rows told first.1 a tells first.3) (no_rows told second.1 b tells second.3) in
+    one_bad_input told second.1 a b tells
+    (subst (λ (w : Wanted). BadInput told w a) wanted first.3) second.3
 
 pub no_run : (words : Words) (told : Told) (status : Status) (command : Command) (script : Script)
     (rows : List (List Value))
@@ -336,51 +239,48 @@ pub no_run : (words : Words) (told : Told) (status : Status) (command : Command)
 no_run words told status command script rows tells (inl stops) reads inputs =
     unread words told stops.0 command stops.1 status script tells stops.2 stops.3 reads
 no_run words told status command script rows tells (inr stops) reads inputs =
-    let own = turn_rows words told command script rows stops.0 tells reads inputs stops.1 in
-    no_rows told stops.0 status tells stops.2 own.0 own.1
+    let own = turn_rows words told command stops.0 script rows stops.1 tells reads inputs stops.2 in
+    no_rows told stops.1 status tells stops.3 own.0 own.1
 
 pub asked_some : (words : Words) (told : Told) (status : Status) → Stops words told status
     → asked_for words ≡ None → ⊥
 asked_some words told status (inl stops) none = let wrong = sym none ∙ stops.2 in absurd (cc)
-asked_some words told status (inr stops) none = let wrong = sym none ∙ stops.1.5.2 in absurd (cc)
+asked_some words told status (inr stops) none =
+    let wrong = sym none ∙ turn_asks words told stops.0 stops.1 stops.2 in absurd (cc)
 
 -- ---- the causes
 
-missing_stops : (words : Words) (told : Told) (name : List ℕ) (limit : ℕ)
-    → IsAskedFor words told name limit → IsMissing told name
+missing_stops : (words : Words) (told : Told) (command : Command) (name : List ℕ) (limit : ℕ)
+    → IsAskedFor words told command name limit → IsMissing told name
     → Stops words told (NoFile name)
-missing_stops words told name limit (inl asked) gone = inl (
-  asked.0,
-  name,
-  asked.1,
-  missing gone
-      refl,
-)
-missing_stops words told name limit (inr asked) gone =
+missing_stops words told command name limit (inl asked) gone =
+    inl (command, name, asked.0, missing gone refl)
+missing_stops words told command name limit (inr asked) gone =
     inr (
+      command,
       asked.0,
       asked.1,
-      no_input (subst (λ (n : List ℕ). IsMissing told n) asked.2 gone) (ap
-          NoFile asked.2),
+      no_input (subst (λ (n : List ℕ). IsMissing told n) asked.2 gone) (ap NoFile asked.2),
     )
 
 pub no_file_stops : (words : Words) (source : Seen (List NamedBytes)) (name : List ℕ)
     → IsNoFile name words source → Stops words source.told (NoFile name)
-no_file_stops words source name cause = missing_stops words source.told name cause.0 cause.1 cause.2
+no_file_stops words source name cause =
+    missing_stops words source.told cause.0 name cause.1 cause.2 cause.3
 
-above_stops : (words : Words) (told : Told) (name : List ℕ) (limit : ℕ)
-    → IsAskedFor words told name limit → IsAbove told name limit
+above_stops : (words : Words) (told : Told) (command : Command) (name : List ℕ) (limit : ℕ)
+    → IsAskedFor words told command name limit → IsAbove told name limit
     → Stops words told (TooLong name limit)
-above_stops words told name limit (inl asked) longer =
+above_stops words told command name limit (inl asked) longer =
     inl (
-      asked.0,
+      command,
       name,
-      asked.1,
-      above (subst (λ (m : ℕ). IsAbove told name m) asked.2 longer)
-          (ap (TooLong name) asked.2),
+      asked.0,
+      above (subst (λ (m : ℕ). IsAbove told name m) asked.1 longer) (ap (TooLong name) asked.1),
     )
-above_stops words told name limit (inr asked) longer =
+above_stops words told command name limit (inr asked) longer =
     inr (
+      command,
       asked.0,
       asked.1,
       long_input (subst (λ (n : List ℕ). IsAbove told n INPUT_LIMIT) asked.2 (subst (λ (m :
@@ -388,30 +288,26 @@ above_stops words told name limit (inr asked) longer =
           (λ i. TooLong (asked.2 i) (asked.3 i)),
     )
 
-pub too_long_stops : (words : Words) (source : Seen (List NamedBytes)) (name : List ℕ) (limit :
-    ℕ) → IsTooLong name limit words source
+pub too_long_stops : (words : Words) (source : Seen (List NamedBytes)) (name : List ℕ)
+    (limit : ℕ) → IsTooLong name limit words source
     → Stops words source.told (TooLong name limit)
-too_long_stops words source name limit cause = above_stops words source.told name limit cause.0
-    cause.1
+too_long_stops words source name limit cause =
+    above_stops words source.told cause.0 name limit cause.1 cause.2
 
-pub script_stops : (words : Words) (source : Seen (List NamedBytes)) (line : ℕ) (kind :
-    ScriptKind) → IsScriptRefused line kind words source
+pub script_stops : (words : Words) (source : Seen (List NamedBytes)) (line : ℕ)
+    (kind : ScriptKind) → IsScriptRefused line kind words source
     → Stops words source.told (ScriptRefused line kind)
-script_stops words source line kind cause = inl (
-  cause.0,
-  cause.1,
-  cause.3,
-  refused cause.2 line
-      kind cause.4 cause.5 refl,
-)
+script_stops words source line kind cause =
+    inl (cause.0, cause.1, cause.3, refused cause.2 line kind cause.4 cause.5 refl)
 
-pub input_stops : (words : Words) (source : Seen (List NamedBytes)) (name : List ℕ) (row column :
-    ℕ) (kind : RowKind) → IsInputRefused name row column kind words source
+pub input_stops : (words : Words) (source : Seen (List NamedBytes)) (name : List ℕ)
+    (row column : ℕ) (kind : RowKind) → IsInputRefused name row column kind words source
     → Stops words source.told (InputRefused name row column kind)
 input_stops words source name row column kind cause =
     inr (
       cause.0,
-      cause.2,
-      bad_rows cause.1 row column kind cause.4 cause.5 (ap (λ (n : List ℕ).
-          InputRefused n row column kind) cause.3),
+      cause.1,
+      cause.3,
+      bad_rows cause.2 row column kind cause.5 cause.6
+          (ap (λ (n : List ℕ). InputRefused n row column kind) cause.4),
     )

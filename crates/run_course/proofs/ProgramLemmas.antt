@@ -1,0 +1,44 @@
+-- The program of the bytes of a script.
+use Rattle.std.proofs.Common.{ℕ, inl, List, Result, Ok, Err}
+use Rattle.std.specs.Prelude.{IfOk}
+use Rattle.build_law.proofs.Accepting.{accepted_kept}
+use Rattle.build_law.proofs.Short.{accepted_short}
+use Rattle.flume_grammar.proofs.FileNames.{files}
+use Rattle.flume_grammar.specs.Answer.{Accepts, IsRefusal}
+use Rattle.flume_grammar.specs.declared.fault.ScriptFault.{ScriptFault}
+use Rattle.flume_grammar.specs.declared.fault.ScriptFault.TheVariants as script_fault
+use Rattle.flume_grammar.specs.declared.tree.Ast.{Ast}
+use Rattle.script_check.specs.Rules.{script_of}
+use Rattle.script_check.specs.Script.{Script}
+use Rattle.script_laws.proofs.RuleLemmas.{well-formed}
+use Rattle.script_laws.specs.WellFormed.{IsWellFormed}
+use Rattle.written_types.specs.Answer.{Gives as Checks}
+use Rattle.run_course.specs.inner.Course.{IsReady, IsScriptFault}
+use Rattle.run_course.proofs.NameLemmas.{script_named}
+
+-- a fault of the parser is one of the script
+pub parse_fault : (bytes : List ℕ) (why : ScriptFault) → IsRefusal bytes why
+    → IsScriptFault bytes why
+parse_fault bytes (script_fault.Refused line kind) refuses = inl refuses
+parse_fault bytes script_fault.Memory refuses = tt
+
+-- an accepted script is well formed
+pub checked_well : {X : Type 0} (view : X → Script) (ast : Ast) (r : Result X ScriptFault)
+    → Checks view r (script_of ast.statements) → IfOk r (λ x. IsWellFormed (view x))
+checked_well view ast (Ok x) is = well-formed ast.statements (view x) is
+checked_well view ast (Err e) is = tt
+
+-- and ready for what is done with it
+pub checked_ready : {X : Type 0} (view : X → Script) (bytes : List ℕ) (ast : Ast)
+    (r : Result X ScriptFault) → Accepts bytes ast → Checks view r (script_of ast.statements)
+    → IfOk r (λ x. IsReady (view x))
+checked_ready view bytes ast (Ok x) spells is =
+    let named = script_named ast.statements (view x) (files bytes ast spells) is in
+    let kept = accepted_kept ast.statements (view x) (accepted_short bytes ast spells) is in
+    record {
+      reads = named.reads;
+      writes = named.writes;
+      short = kept.short;
+      first = kept.first;
+    }
+checked_ready view bytes ast (Err e) spells is = tt

@@ -1,0 +1,37 @@
+use Rattle.std.proofs.Common.{map}
+use Rattle.std.proofs.lemmas.Result.{IfErr-weaker}
+use Rattle.crew.specs.Hosts.{account}
+use Rattle.crew.proofs.Accounts.{all_grew_not}
+use Rattle.outside.specs.Seen.{seen}
+use Rattle.run_course.proofs.CauseLemmas.{meaning_stop}
+use Rattle.run_course.proofs.commands.carried_out.Goals as goal
+
+pub returns-in-Direct-clause-stop : goal.returns-in-Direct-clause-stop
+returns-in-Direct-clause-stop g c =
+    rw c.in-Direct.is
+    (IfErr-weaker c.meant.result _ _ (λ why stops.
+    meaning_stop (seen g.R.Source.files g.R.Source.faults c.args.source.now)
+    (seen g.R.Source.files g.R.Source.faults c.meant.new.source)
+    (map (account g.H.Host.notes g.H.Host.losses) c.args.hosts.now)
+    (map (account g.H.Host.notes g.H.Host.losses) c.args.hosts.now) c.args.program.now.script why
+    stops) c.meant.ensures.stop)
+
+pub returns-in_err-accepted-in-Check-clause-grew : goal.returns-in_err-accepted-in-Check-clause-grew
+returns-in_err-accepted-in-Check-clause-grew g c =
+    all_grew_not (map (account g.H.Host.notes g.H.Host.losses) c.args.hosts.now)
+
+pub returns-in_err-planned-in-Plan-clause-grew : goal.returns-in_err-planned-in-Plan-clause-grew
+returns-in_err-planned-in-Plan-clause-grew g c =
+    all_grew_not (map (account g.H.Host.notes g.H.Host.losses) c.args.hosts.now)
+
+pub returns-in_ok-accepted-in-Check-clause-grew : goal.returns-in_ok-accepted-in-Check-clause-grew
+returns-in_ok-accepted-in-Check-clause-grew g c =
+    all_grew_not (map (account g.H.Host.notes g.H.Host.losses) c.args.hosts.now)
+
+pub returns-in_ok-planned-in-Plan-clause-grew : goal.returns-in_ok-planned-in-Plan-clause-grew
+returns-in_ok-planned-in-Plan-clause-grew g c =
+    all_grew_not (map (account g.H.Host.notes g.H.Host.losses) c.args.hosts.now)
+
+pub returns-in-Direct-clause-grew : goal.returns-in-Direct-clause-grew
+returns-in-Direct-clause-grew g c =
+    all_grew_not (map (account g.H.Host.notes g.H.Host.losses) c.args.hosts.now)

@@ -1,0 +1,12 @@
+use Rattle.build_law.specs.Signatures.{signatures_of}
+use Rattle.run_course.proofs.showing.plan_shown.Goals as goal
+
+pub returns-clause-of_script : goal.returns-clause-of_script
+returns-clause-of_script c =
+    let script = c.args.program.now.script in
+    record {
+      well_formed = c.in_ok-plan.ensures.well_formed;
+      typed = c.in_ok-plan.ensures.types (signatures_of script)
+          (c.types_law.ensures.well_formed script c.requires.well_formed c.requires.ready.first);
+      same = c.in_ok-plan.ensures.same;
+    }

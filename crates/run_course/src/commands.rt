@@ -1,0 +1,144 @@
+// What each command writes of a script, or why it writes nothing.
+ghost use Rattle.std.specs.Prelude.{◌≡◌, ◌≤◌, ◌<◌, [], IfErr, IfOk, codes, drop, length, map};
+ghost use Rattle.std.specs.List.{AllZip};
+ghost use Rattle.command_words.specs.declared.words.Command.TheVariants.{Run};
+ghost use Rattle.crew.specs.Hosts.{Grew, account};
+ghost use Rattle.exec_graph.specs.Wellformed.{IsGraphOk};
+ghost use Rattle.graph_build.specs.Graphs.{graph_of};
+ghost use Rattle.outside.specs.Saves.{output_file};
+ghost use Rattle.outside.specs.Seen.{seen};
+ghost use Rattle.script_laws.specs.WellFormed.{IsWellFormed};
+ghost use Rattle.run_course.specs.Asked as spec;
+ghost use Rattle.run_course.specs.Lent.{lends};
+ghost use Rattle.run_course.specs.Written.{ShowsPlan, Writes, WritesMeaning, WritesRun};
+ghost use Rattle.run_course.specs.inner.Course.{IsCommandStop, IsMeaningStop, IsReady};
+
+use crate::evaluation::written_meaning;
+use crate::files::Written;
+use crate::limits::TRIES;
+use crate::loading::rows_of_inputs;
+use crate::running::written_run;
+use crate::showing::{plan_shown, shown};
+use crate::stop::Stop;
+use command_words::{Command, PlanForm};
+use outside::{Host, Source};
+use run_settings::Settings;
+use script_check::Program;
+use std::alloc::{AllocError, Global};
+use std::thread::Threads;
+
+/// How often a file is loaded for a command before the source's failure is the answer.
+pub fn tries_of(command: &Command) -> u32
+    ensures value { result ≡ spec.tries_of command.now }
+    ensures some { 0 < result }
+{
+    match command {
+        Command::Run(settings) => settings.tries(),
+        _ => TRIES,
+    }
+}
+
+/// What a command writes of a script, or why it writes nothing. A run is lent the first hosts.
+pub fn carried_out<X: Threads + Sync, R: Source, H: Host + Send>(
+    rt: &X,
+    alloc: Global,
+    command: &Command,
+    program: &Program,
+    source: &mut R,
+    hosts: &mut [H],
+) -> Result<Written, Stop>
+    requires well_formed { IsWellFormed program.now.script }
+    requires ready { IsReady program.now.script }
+    requires graph { IsGraphOk (graph_of program.now.script) }
+    requires sixteen { length hosts.old ≡ 16 }
+    ensures written { IfOk result (λ it. Writes command.now (R.files source.old)
+        (map (account H.notes H.losses) hosts.old) (map (account H.notes H.losses) hosts.new)
+        program.now.script (map output_file it.outputs.items) it.screen.items) }
+    ensures stop { IfErr result (IsCommandStop command.now (seen R.files R.faults source.old)
+        (seen R.files R.faults source.new) (map (account H.notes H.losses) hosts.old)
+        (map (account H.notes H.losses) hosts.new) program.now.script) }
+    ensures files { R.files source.new ≡ R.files source.old }
+    ensures later { R.faults source.old ≤ R.faults source.new }
+    ensures grew { AllZip Grew (map (account H.notes H.losses) hosts.old)
+        (map (account H.notes H.losses) hosts.new) }
+    ensures hosts { drop (lends command.now) hosts.new ≡ drop (lends command.now) hosts.old }
+{
+    match command {
+        Command::Check => Ok(accepted(alloc)?),
+        Command::Plan(form) => Ok(planned(alloc, program, *form)?),
+        Command::Direct => meant(alloc, program, source),
+        Command::Run(settings) => run_on(rt, alloc, program, source, hosts, settings),
+    }
+}
+
+// What `check` writes of a script that is accepted.
+fn accepted(alloc: Global) -> Result<Written, AllocError>
+    ensures files { IfOk result (λ it. map output_file it.outputs.items ≡ []) }
+    ensures text { IfOk result (λ it. it.screen.items ≡ codes "ok\n") }
+{
+    Ok(Written {
+        outputs: Vec::new(alloc),
+        screen: Vec::from_slice(alloc, b"ok\n")?,
+    })
+}
+
+// What `plan` writes of a script.
+fn planned(alloc: Global, program: &Program, form: PlanForm) -> Result<Written, AllocError>
+    requires well_formed { IsWellFormed program.now.script }
+    requires ready { IsReady program.now.script }
+    requires graph { IsGraphOk (graph_of program.now.script) }
+    ensures files { IfOk result (λ it. map output_file it.outputs.items ≡ []) }
+    ensures text { IfOk result (λ it. ShowsPlan form program.now.script it.screen.items) }
+{
+    let screen = shown(alloc, program, form)?;
+    Ok(Written {
+        outputs: Vec::new(alloc),
+        screen,
+    })
+}
+
+// What the meaning of a script writes.
+fn meant<R: Source>(alloc: Global, program: &Program, source: &mut R) -> Result<Written, Stop>
+    requires well_formed { IsWellFormed program.now.script }
+    requires ready { IsReady program.now.script }
+    ensures written { IfOk result (λ it. WritesMeaning (R.files source.old) program.now.script
+        [] (map output_file it.outputs.items) it.screen.items) }
+    ensures stop { IfErr result (IsMeaningStop (seen R.files R.faults source.old)
+        (seen R.files R.faults source.new) program.now.script) }
+    ensures files { R.files source.new ≡ R.files source.old }
+    ensures later { R.faults source.old ≤ R.faults source.new }
+{
+    let inputs = rows_of_inputs(alloc, program, source, TRIES)?;
+    written_meaning(alloc, program, inputs)
+}
+
+// What the run of a script's plan writes, with its graph and its plan first.
+fn run_on<X: Threads + Sync, R: Source, H: Host + Send>(
+    rt: &X,
+    alloc: Global,
+    program: &Program,
+    source: &mut R,
+    hosts: &mut [H],
+    settings: &Settings,
+) -> Result<Written, Stop>
+    requires well_formed { IsWellFormed program.now.script }
+    requires ready { IsReady program.now.script }
+    requires graph { IsGraphOk (graph_of program.now.script) }
+    requires sixteen { length hosts.old ≡ 16 }
+    ensures written { IfOk result (λ it. WritesRun settings.now (R.files source.old)
+        (map (account H.notes H.losses) hosts.old) (map (account H.notes H.losses) hosts.new)
+        program.now.script (map output_file it.outputs.items) it.screen.items) }
+    ensures stop { IfErr result (IsCommandStop (Run settings.now)
+        (seen R.files R.faults source.old) (seen R.files R.faults source.new)
+        (map (account H.notes H.losses) hosts.old) (map (account H.notes H.losses) hosts.new)
+        program.now.script) }
+    ensures files { R.files source.new ≡ R.files source.old }
+    ensures later { R.faults source.old ≤ R.faults source.new }
+    ensures grew { AllZip Grew (map (account H.notes H.losses) hosts.old)
+        (map (account H.notes H.losses) hosts.new) }
+    ensures hosts { drop settings.now.workers hosts.new ≡ drop settings.now.workers hosts.old }
+{
+    let shown = plan_shown(alloc, program)?;
+    let inputs = rows_of_inputs(alloc, program, source, settings.tries())?;
+    written_run(rt, alloc, program, shown, inputs, hosts, settings)
+}
