@@ -1,0 +1,78 @@
+-- What the run of a script by its plan comes to.
+use Rattle.std.specs.Prelude.{◌≡◌, List, [], Option, Some, ⊤}
+use Rattle.std.specs.List.{AllZip, Contains}
+use Rattle.build_law.specs.Signatures.{signatures_of}
+use Rattle.build_law.specs.Worlds.{world_of}
+use Rattle.crew.specs.Hosts.{Account}
+use Rattle.direct_meaning.specs.Direct.{meaning, sizes_of, traps_of}
+use Rattle.exec_graph.specs.World.{World}
+use Rattle.exec_plan.specs.Typing.{IsPlanTyped}
+use Rattle.exec_plan.specs.Wellformed.{IsPlanOk}
+use Rattle.exec_plan.specs.declared.plan.Plan.{Plan}
+use Rattle.flume_collection.specs.Collection.{Collection}
+use Rattle.flume_collection.specs.declared.trap.Trap.{Trap}
+use Rattle.flume_value.specs.declared.value.Value.{Value}
+use Rattle.graph_build.specs.Graphs.{graph_of}
+use Rattle.plan_laws.specs.Operations.{SamePlan}
+use Rattle.plan_phases.specs.Phases.{PhaseTasks, phases}
+use Rattle.plan_phases.specs.Told.{AreWinners, IsGivenUp}
+use Rattle.plan_phases.specs.declared.fault.RunFault.{RunFault}
+use Rattle.plan_phases.specs.declared.fault.RunFault.TheVariants as fault
+use Rattle.plan_phases.specs.declared.winners.PhaseWinners.{PhaseWinners}
+use Rattle.run_settings.specs.Settings.{RunSettings}
+use Rattle.script_check.specs.Script.{Script}
+use Rattle.task_lists.specs.Plans.{first_trap}
+use Rattle.task_lists.specs.Tasks.{Split}
+use Rattle.script_run.specs.Comes.{AreMembers}
+use Rattle.script_run.specs.declared.run.Ran.{Ran}
+
+-- the plan is well-formed and typed, and means what the script's graph means, over any rows
+pub record IsPlanOf (script : Script) (plan : Plan) : Type 0 where
+  pub well_formed : IsPlanOk plan
+  pub typed : IsPlanTyped (signatures_of script) plan
+  pub same : (w : World) → SamePlan w (graph_of script) plan
+
+-- into how many shards and partitions a run splits its channels
+abbrev pub split_of : RunSettings → Split
+split_of s = record { shards = s.shards; partitions = s.partitions }
+
+-- the phases of a script's plan over the rows of its needed inputs
+abbrev pub phases_of : RunSettings → Script → List (List Value) → Plan → List PhaseTasks
+phases_of s script inputs plan = phases (world_of script inputs) (split_of s) plan
+
+-- Each task of the plan was run: of each phase there are winners, an attempt of each task that the
+-- drill does not name, and some host has let all places of that attempt through.
+abbrev pub WereRun : RunSettings → List PhaseTasks → List Account → List Account
+    → List PhaseWinners → Type 0
+WereRun s phases olds news winners =
+    AllZip (AreWinners s.tries s.drill olds news) phases winners
+
+-- Nothing in the script's meaning traps, and these are the members that its outputs write and the
+-- sizes of its collections. Each task of the plan was run.
+pub record IsRan (s : RunSettings) (script : Script) (inputs : List (List Value)) (plan : Plan)
+    (olds news : List Account) (it : Ran) : Type 0 where
+  pub made : List (Option Collection)
+  pub means : meaning script inputs ≡ Some made
+  pub through : traps_of made ≡ []
+  pub written :
+      AllZip (λ output members. AreMembers made output.1.reads members) script.outputs
+      it.outputs.items
+  pub sizes : it.sizes.items ≡ sizes_of script made
+  pub ran : WereRun s (phases_of s script inputs plan) olds news it.winners.items
+
+-- a trap of the script's meaning, the first of the tasks of the plan
+pub record IsFirstOf (s : RunSettings) (script : Script) (inputs : List (List Value)) (plan : Plan)
+    (trap : Trap) : Type 0 where
+  pub made : List (Option Collection)
+  pub means : meaning script inputs ≡ Some made
+  pub among : Contains (traps_of made) trap
+  pub first : first_trap (world_of script inputs) (split_of s) plan ≡ Some trap
+
+-- why a run of the plan came to no end: a trap, a task that was given up, or want of memory
+abbrev pub IsRunFault : RunSettings → Script → List (List Value) → Plan → List Account
+    → List Account → RunFault → Type 0
+IsRunFault s script inputs plan olds news (fault.Trap trap) = IsFirstOf s script inputs plan trap
+IsRunFault s script inputs plan olds news (fault.GaveUp stage phase task) =
+    IsGivenUp s.tries s.drill (world_of script inputs) (phases_of s script inputs plan) olds news
+    stage phase task
+IsRunFault s script inputs plan olds news fault.Memory = ⊤
