@@ -1,0 +1,3 @@
+pub mod MapCounting
+pub mod Joining
+pub mod Channeling
