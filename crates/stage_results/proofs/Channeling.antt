@@ -1,7 +1,6 @@
 -- The results of a grouping channel, out by out.
-use Rattle.std.proofs.Common.{◌≡◌, ℕ, zero, suc, ◌+◌, ◌<◌, ◌≤◌, List, [], ◌∷◌, ◌++◌, length, map, drop, Some, Option, refl, sym, ap, ◌∙◌, subst, arith, add-one, sum, slice_get}
+use Rattle.std.proofs.Common.{◌≡◌, ℕ, zero, suc, ◌+◌, ◌<◌, List, [], ◌∷◌, ◌++◌, length, map, drop, Some, refl, sym, ap, ◌∙◌, subst, arith, add-one, sum, slice_get}
 use Rattle.std.specs.Option.{IsSomeAnd}
-use Rattle.std.proofs.Math.ListN.{drop_of_length-le}
 use Rattle.std.proofs.lemmas.Option.{none-some, same_Some, slice_get_within}
 use Rattle.flume_value.specs.declared.value.Value.{Value}
 use Rattle.shards.specs.Shards.{joined}
@@ -20,7 +19,7 @@ use Rattle.task_lists.specs.Tasks.{Lists, Split, Task, reduce_task, task_gives}
 use Rattle.stage_results.specs.inner.Channels.{AreOutsOf, all_joined, each_joined}
 use Rattle.stage_results.proofs.MapCounting.{sum_more}
 
-drop_at : {A : Type 0} (xs : List A) (p : ℕ) (x : A) → slice_get xs p ≡ Some x
+pub drop_at : {A : Type 0} (xs : List A) (p : ℕ) (x : A) → slice_get xs p ≡ Some x
     → drop p xs ≡ x ∷ drop (suc p) xs
 drop_at [] p x e = absurd (none-some x e)
 drop_at (y ∷ xs) zero x e = ap (λ z. z ∷ xs) (same_Some y x e)

@@ -101,12 +101,7 @@ fn join_each(alloc: Global, lists: &mut Vec<Items>, more: Pile<Items>) -> Result
 }
 
 // Puts a list behind the one at this place, or behind all of them.
-fn join_at(
-    alloc: Global,
-    lists: &mut Vec<Items>,
-    at: usize,
-    list: Items,
-) -> Result<(), AllocError>
+fn join_at(alloc: Global, lists: &mut Vec<Items>, at: usize, list: Items) -> Result<(), AllocError>
     ensures { (first next : List (List GhostValue)) → at ≡ length next →
         lists.old.items ≡ each_joined first next →
         OnOk result (lists.new.items ≡ each_joined first (next ++ list ∷ [])) }

@@ -15,11 +15,12 @@ loop-p-preserved c = record {
   next = λ here behind count is.
       let p = c.loop-p._p in
       let left = c.loop-p.invariant.next here behind count is in
-      let x = next_out c.args.partitions here behind _ p count c.loop-p-test.true left.0 in
-      (c.in_ok-join_next.ensures.next x.0 _ x.1.first,
-      ap (λ l. all_joined l (drop (p + 1) here))
-      (c.in_ok-join_next.ensures.lists x.0 _ x.1.first)
-      ∙ ap (all_joined c.loop-p.lists.items) (sym x.1.rest) ∙ left.1);
+      let x = next_out c.args.partitions here behind _ p count c.loop-p-test.true left.0 in (
+        c.in_ok-join_next.ensures.next x.0 _ x.1.first,
+        ap (λ l. all_joined l (drop (p + 1) here))
+            (c.in_ok-join_next.ensures.lists x.0 _ x.1.first)
+            ∙ ap (all_joined c.loop-p.lists.items) (sym x.1.rest) ∙ left.1,
+      );
   grown = λ w shards t ins here behind is are.
       let p = c.loop-p._p in
       let n = split shards c.args.partitions in

@@ -21,5 +21,5 @@ invariant-loop-p l = record {
       (here behind : List ReduceOut) → into_iter_items l.fn.outs ≡ here ++ behind
       → AreOutsOf w (split shards l.partitions) t ins l.grouping here
       → HaveGrown (λ i. sum (joined (λ p. (task_counts w i).reduces l.grouping
-      (reduce_task w (split shards l.partitions) t ins l.grouping p)) l._p)) l.fn.sizes l.sizes
+      (reduce_task w (split shards l.partitions) t ins l.grouping p)) l._p)) l.fn.sizes l.sizes;
 }

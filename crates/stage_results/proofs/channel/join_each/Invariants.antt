@@ -6,5 +6,5 @@ abbrev pub invariant-loop-list : goal.invariant-loop-list
 invariant-loop-list l = record {
   whole : l.yielded ++ l.list-iterator.rest.items ≡ l.fn.more;
   at : l.at ≡ length l.yielded;
-  lists : l.lists.items ≡ each_joined l.fn.lists.items l.yielded
+  lists : l.lists.items ≡ each_joined l.fn.lists.items l.yielded;
 }

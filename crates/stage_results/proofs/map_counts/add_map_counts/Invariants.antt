@@ -1,4 +1,4 @@
-use Rattle.std.proofs.Common.{◌≡◌, ℕ, ◌∷◌, [], length, sum}
+use Rattle.std.proofs.Common.{ℕ, ◌∷◌, [], sum}
 use Rattle.shards.specs.Shards.{joined}
 use Rattle.exec_graph.specs.World.{World}
 use Rattle.map_shard.specs.Tables.{split}
