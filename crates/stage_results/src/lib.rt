@@ -1,4 +1,4 @@
-//! What the outs of a stage's tasks come to: the results of the stage, and the sizes of script nodes.
+//! What the outs of a stage's tasks come to: its results, and the sizes of script nodes.
 //!
 //! `stage_lists` makes the results of the output channels, in order. A pass-through channel gives
 //! what its map tasks gave it. A grouping channel gives for each output of its reducer the lists of
