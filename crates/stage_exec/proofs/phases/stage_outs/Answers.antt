@@ -1,0 +1,77 @@
+use Rattle.std.proofs.Common.{◌∷◌, [], map, sym}
+use Rattle.std.proofs.lemmas.Result.{err_from_is_err_and}
+use Rattle.crew.specs.Hosts.{account}
+use Rattle.map_shard.specs.Tables.{split, table}
+use Rattle.plan_phases.specs.Phases.{map_phase_of, reduce_phases}
+use Rattle.plan_phases.proofs.Joining.{run_then, stopped_before, stopped_behind}
+use Rattle.plan_phases.proofs.Lasting.{all_grew_on}
+use Rattle.stage_phases.specs.Stages.{run_world}
+use Rattle.task_lists.specs.Tasks.{groupings}
+use Rattle.stage_exec.proofs.phases.stage_outs.Goals as goal
+
+pub returns-in_err-maps-clause-stopped : goal.returns-in_err-maps-clause-stopped
+returns-in_err-maps-clause-stopped g c =
+    let inputs = c.args.inputs.now in
+    let settings = inputs.settings.now in
+    let w = run_world (g.F.Functions.called inputs.functions.now) inputs.sources.now in
+    let n = split settings.shards settings.partitions in
+    let t = table inputs.sources.now c.args.results.now in
+    let stage = c.args.stage.now in
+    let p = err_from_is_err_and c.from_residual.result c.from_residual.ensures.1 in
+    rw (p.1, p.2)
+    (stopped_before settings.tries settings.drill w (map_phase_of c.args.number n t stage ∷ [])
+    (reduce_phases w c.args.number n t stage (groupings stage.outputs)) _ _ _
+    c.in_err-maps.ensures.stopped)
+
+pub reduce_outs-requires-clause-ready : goal.reduce_outs-requires-clause-ready
+reduce_outs-requires-clause-ready g c κs within = record {
+  cut = c.requires.cut;
+  results = c.args.results.now;
+  ready = c.requires.ready;
+  made = rw c.deref.ensures.value c.in_ok-maps.ensures.outs;
+}
+
+pub returns-in_err-reduces-clause-grew : goal.returns-in_err-reduces-clause-grew
+returns-in_err-reduces-clause-grew g c =
+    all_grew_on _ _ _ c.in_ok-maps.ensures.grew c.in_err-reduces.ensures.grew
+
+pub returns-in_err-reduces-clause-stopped : goal.returns-in_err-reduces-clause-stopped
+returns-in_err-reduces-clause-stopped g c =
+    let inputs = c.args.inputs.now in
+    let settings = inputs.settings.now in
+    let w = run_world (g.F.Functions.called inputs.functions.now) inputs.sources.now in
+    let n = split settings.shards settings.partitions in
+    let t = table inputs.sources.now c.args.results.now in
+    let stage = c.args.stage.now in
+    let p =
+    err_from_is_err_and c.from_residual-in_err-reduces.result
+    c.from_residual-in_err-reduces.ensures.1 in
+    rw (p.1, p.2)
+    (stopped_behind settings.tries settings.drill w (map_phase_of c.args.number n t stage ∷ [])
+    (reduce_phases w c.args.number n t stage (groupings stage.outputs)) _ _ _ _
+    c.in_ok-maps.ensures.ran.calm (c.in_err-reduces.ensures.stopped t
+    (rw c.deref.ensures.value c.in_ok-maps.ensures.outs))
+    c.in_ok-maps.ensures.grew c.in_err-reduces.ensures.grew)
+
+pub returns-clause-grew : goal.returns-clause-grew
+returns-clause-grew g c =
+    all_grew_on _ _ _ c.in_ok-maps.ensures.grew c.in_ok-reduces.ensures.grew
+
+pub returns-clause-reduces : goal.returns-clause-reduces
+returns-clause-reduces g c =
+    let t = table c.args.inputs.now.sources.now c.args.results.now in
+    c.in_ok-reduces.ensures.outs t (rw c.deref.ensures.value c.in_ok-maps.ensures.outs)
+
+pub returns-clause-ran : goal.returns-clause-ran
+returns-clause-ran g c =
+    let inputs = c.args.inputs.now in
+    let settings = inputs.settings.now in
+    let w = run_world (g.F.Functions.called inputs.functions.now) inputs.sources.now in
+    let n = split settings.shards settings.partitions in
+    let t = table inputs.sources.now c.args.results.now in
+    let stage = c.args.stage.now in
+    run_then settings.tries settings.drill w (map_phase_of c.args.number n t stage ∷ [])
+    (reduce_phases w c.args.number n t stage (groupings stage.outputs)) _ _ _ _ _ _
+    c.in_ok-maps.ensures.ran
+    (c.in_ok-reduces.ensures.ran t (rw c.deref.ensures.value c.in_ok-maps.ensures.outs))
+    c.in_ok-maps.ensures.grew c.in_ok-reduces.ensures.grew

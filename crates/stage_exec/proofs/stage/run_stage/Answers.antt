@@ -1,0 +1,11 @@
+use Rattle.crew.proofs.Accounts.{all_grew_not}
+use Rattle.stage_exec.proofs.stage.run_stage.Goals as goal
+
+pub run_mscr-requires-clause-ready : goal.run_mscr-requires-clause-ready
+run_mscr-requires-clause-ready g c κs within = rw c.in-Mscr.is at c.requires.ready
+
+pub returns-in-Ok-clause-grew : goal.returns-in-Ok-clause-grew
+returns-in-Ok-clause-grew g c = all_grew_not _
+
+pub returns-in-Err-clause-grew : goal.returns-in-Err-clause-grew
+returns-in-Err-clause-grew g c = all_grew_not _

@@ -1,0 +1,50 @@
+// The lists of collections, one after another or side by side.
+ghost use Rattle.std.specs.Prelude.{◌≡◌, ◌++◌, IfOk, OnOk, map};
+ghost use Rattle.std.specs.List.{flat_map};
+ghost use Rattle.map_shard.specs.Tables.{table};
+
+use exec_plan::PlanPlace;
+use flume_value::{Items, Pile, Value, copy_all};
+use map_shard::list_of;
+use std::alloc::{AllocError, Global};
+
+/// The lists of these collections, one after another.
+pub(crate) fn flatten_lists(
+    alloc: Global,
+    sources: &[Items],
+    results: &[Pile<Items>],
+    places: &[PlanPlace],
+) -> Result<Items, AllocError>
+    ensures { IfOk result (λ all. all ≡ flat_map (table sources.now results.now) places.now) }
+{
+    let mut all = Vec::new(alloc);
+    for place in places {
+        append_copies(alloc, list_of(sources, results, *place), &mut all)?;
+    }
+    Ok(Pile::from_vec(all))
+}
+
+fn append_copies(alloc: Global, values: &[Value], all: &mut Vec<Value>) -> Result<(), AllocError>
+    ensures { OnOk result (all.new.items ≡ all.old.items ++ values.now) }
+{
+    for value in values {
+        all.push(value.copy(alloc)?)?;
+    }
+    Ok(())
+}
+
+/// The list of each of these collections.
+pub(crate) fn lists_of(
+    alloc: Global,
+    sources: &[Items],
+    results: &[Pile<Items>],
+    places: &[PlanPlace],
+) -> Result<Pile<Items>, AllocError>
+    ensures { IfOk result (λ lists. lists ≡ map (table sources.now results.now) places.now) }
+{
+    let mut lists = Vec::with_capacity(alloc, places.len())?;
+    for place in places {
+        lists.push(copy_all(alloc, list_of(sources, results, *place))?)?;
+    }
+    Ok(Pile::from_vec(lists))
+}

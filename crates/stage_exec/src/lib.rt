@@ -1,0 +1,22 @@
+//! The executor of plans: stage after stage, each phase by a crew on the hosts that are lent.
+//!
+//! `execute` runs the stages of a plan in order. Of a stage it runs the map tasks, and where the
+//! stage groups then the reduce tasks; what they give makes the results, which later stages read. A
+//! Flatten stage has no tasks. In the end it gives the outputs of the plan, how many members the bag
+//! of each script node has, and which attempt has won each task (`Executed`); or the first trap, or
+//! the task that was given up (`RunFault`).
+//!
+//! Whatever the hosts do, and whoever wins, what is answered is the plan's meaning (`IsExecuted`,
+//! `IsRunFault`: specs/Runs.antt).
+#![tactic(auto)]
+
+mod executed;
+mod flatten;
+mod phases;
+mod stage;
+
+
+
+pub use executed::Executed;
+pub use plan_phases::{PhaseWinners, RunFault};
+

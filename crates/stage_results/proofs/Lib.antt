@@ -1,0 +1,4 @@
+pub mod MapCounting
+pub mod Joining
+pub mod Channeling
+pub mod Staging

@@ -1,0 +1,51 @@
+-- The outs of reduce tasks, channel by channel.
+use Rattle.std.specs.Prelude.{◌≡◌, ℕ, ◌<◌, List, [], ◌∷◌, ◌++◌, length, slice_get}
+use Rattle.std.specs.Option.{IsSomeAnd}
+use Rattle.flume_value.specs.declared.value.Value.{Value}
+use Rattle.shards.specs.Shards.{joined}
+use Rattle.exec_graph.specs.World.{World}
+use Rattle.exec_plan.specs.declared.plan.Grouping.{Grouping}
+use Rattle.exec_plan.specs.declared.plan.InChannel.{InChannel}
+use Rattle.exec_plan.specs.declared.plan.OutChannel.{OutChannel}
+use Rattle.exec_plan.specs.declared.plan.OutChannel.TheVariants.{Group, Pass}
+use Rattle.reduce_part.specs.declared.out.ReduceOut.{ReduceOut}
+use Rattle.stage_phases.specs.Outs.{IsOutOf}
+use Rattle.task_lists.specs.Plans.{task_counts}
+use Rattle.task_lists.specs.Tasks.{Lists, Split, reduce_task}
+
+-- lists side by side, each of the second behind the one at its place
+abbrev pub each_joined : {A : Type 0} → List (List A) → List (List A) → List (List A)
+each_joined [] ys = ys
+each_joined (x ∷ xs) [] = x ∷ xs
+each_joined (x ∷ xs) (y ∷ ys) = (x ++ y) ∷ each_joined xs ys
+
+-- the outs of the tasks of a grouping channel, in order of partitions
+pub record AreOutsOf (w : World) (n : Split) (t : Lists) (ins : List InChannel) (g : Grouping)
+    (outs : List ReduceOut) : Type 0 where
+  pub count : length outs ≡ n.partitions
+  pub each : (p : ℕ) → p < n.partitions →
+      IsSomeAnd (slice_get outs p) (IsOutOf w (reduce_task w n t ins g p))
+
+-- the lists of the outputs of several outs, side by side
+abbrev pub all_joined : List (List Value) → List ReduceOut → List (List Value)
+all_joined lists [] = lists
+all_joined lists (out ∷ outs) = all_joined (each_joined lists out.outputs) outs
+
+-- the outs of the tasks of an output channel, which are reduce tasks where it groups
+abbrev pub AreOutsAt : World → Split → Lists → List InChannel → OutChannel → List ReduceOut → Type 0
+AreOutsAt w n t ins (Group g) outs = AreOutsOf w n t ins g outs
+AreOutsAt w n t ins (Pass k number) outs = outs ≡ []
+
+-- the outs of the tasks of several
+abbrev pub AreOutsFrom : World → Split → Lists → List InChannel → List OutChannel → List ReduceOut
+    → Type 0
+AreOutsFrom w n t ins [] outs = outs ≡ []
+AreOutsFrom w n t ins (c ∷ cs) outs =
+    (here : List ReduceOut) × (behind : List ReduceOut) × (outs ≡ here ++ behind)
+    × AreOutsAt w n t ins c here × AreOutsFrom w n t ins cs behind
+
+-- what they count for script node i
+abbrev pub channel_counts : World → ℕ → Split → Lists → List InChannel → OutChannel → List ℕ
+channel_counts w i n t ins (Group g) =
+    joined (λ p. (task_counts w i).reduces g (reduce_task w n t ins g p)) n.partitions
+channel_counts w i n t ins (Pass k number) = []

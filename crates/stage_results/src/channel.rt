@@ -1,0 +1,125 @@
+// The results of a grouping channel.
+ghost use Rattle.std.specs.Prelude.{◌≡◌, ◌<◌, ◌∷◌, ◌++◌, [], ◌+◌, ℕ, List, length, map, sum, IfOk, OnOk};
+ghost use Rattle.std.specs.Vec.Iter.{into_iter_items};
+ghost use Rattle.flume_value.specs.declared.value.Value.{Value as GhostValue};
+ghost use Rattle.shards.specs.Shards.{joined};
+ghost use Rattle.exec_graph.specs.World.{World};
+ghost use Rattle.exec_plan.specs.Channels.{numbers};
+ghost use Rattle.exec_plan.specs.declared.plan.InChannel.{InChannel};
+ghost use Rattle.map_shard.specs.Tables.{split};
+ghost use Rattle.reduce_part.specs.declared.out.ReduceOut.{ReduceOut as Out};
+ghost use Rattle.step_counts.specs.Sizes.{HaveGrown};
+ghost use Rattle.task_lists.specs.Lists.{reduced};
+ghost use Rattle.step_counts.specs.Owners.{owners_of};
+ghost use Rattle.stage_phases.specs.Outs.{IsOutOf};
+ghost use Rattle.task_lists.specs.Plans.{groups_count, steps_count, task_counts};
+ghost use Rattle.task_lists.specs.Tasks.{Lists, Task, reduce_task};
+ghost use Rattle.stage_results.specs.inner.Channels.{AreOutsOf, each_joined};
+
+use exec_plan::Grouping;
+use flume_value::{Items, Pile};
+use reduce_part::ReduceOut;
+use std::alloc::{AllocError, Global};
+use std::mem;
+use std::vec::IntoIter;
+use step_counts::{Owners, add_groups};
+
+/// The results of a grouping channel, of the outs of its tasks, which are the next: for each output
+/// of its reducer the lists of the partitions, one after another. What the tasks have counted is
+/// added to the sizes.
+pub(crate) fn channel_lists(
+    alloc: Global,
+    grouping: &Grouping,
+    partitions: u32,
+    outs: &mut IntoIter<ReduceOut>,
+    sizes: &mut [u64],
+) -> Result<Vec<Items>, AllocError>
+    requires some { 0 < partitions }
+    ensures next { (here behind : List Out) → length here ≡ partitions →
+        into_iter_items outs.old ≡ here ++ behind →
+        OnOk result (into_iter_items outs.new ≡ behind) }
+    ensures lists { (w : World) (shards : ℕ) (t : Lists) (ins : List InChannel)
+        (here behind : List Out) → into_iter_items outs.old ≡ here ++ behind →
+        AreOutsOf w (split shards partitions) t ins grouping.now here →
+        IfOk result (λ lists. lists.items
+        ≡ map (reduced w (split shards partitions) t ins grouping.now)
+        (numbers grouping.now.does)) }
+    ensures grown { (w : World) (shards : ℕ) (t : Lists) (ins : List InChannel)
+        (here behind : List Out) → into_iter_items outs.old ≡ here ++ behind →
+        AreOutsOf w (split shards partitions) t ins grouping.now here →
+        OnOk result (HaveGrown (λ i. sum (joined (λ p. (task_counts w i).reduces grouping.now
+        (reduce_task w (split shards partitions) t ins grouping.now p)) partitions))
+        sizes.old sizes.new) }
+{
+    let owners = Owners::new(alloc, &grouping.does)?;
+    let mut lists = Vec::new(alloc);
+    for _p in 0..partitions {
+        join_next(alloc, grouping, &owners, outs, &mut lists, sizes)?;
+    }
+    Ok(lists)
+}
+
+// Takes the next out, puts its lists behind the others, and adds what its task has counted.
+fn join_next(
+    alloc: Global,
+    grouping: &Grouping,
+    owners: &Owners,
+    outs: &mut IntoIter<ReduceOut>,
+    lists: &mut Vec<Items>,
+    sizes: &mut [u64],
+) -> Result<(), AllocError>
+    ensures next { (out : Out) (behind : List Out) → into_iter_items outs.old ≡ out ∷ behind →
+        into_iter_items outs.new ≡ behind }
+    ensures lists { (out : Out) (behind : List Out) → into_iter_items outs.old ≡ out ∷ behind →
+        OnOk result (lists.new.items ≡ each_joined lists.old.items out.outputs) }
+    ensures grown { (w : World) (task : Task) (out : Out) (behind : List Out) →
+        into_iter_items outs.old ≡ out ∷ behind → owners.now ≡ owners_of task.does →
+        IsOutOf w task out →
+        HaveGrown (λ i. groups_count i grouping.now task + steps_count w i task)
+        sizes.old sizes.new }
+{
+    match outs.next() {
+        None => Ok(()),
+        Some(out) => {
+            add_groups(grouping, out.groups, sizes);
+            owners.add_steps(out.counts.as_slice(), sizes);
+            join_each(alloc, lists, out.outputs)
+        }
+    }
+}
+
+// Puts each list behind the one at its place.
+fn join_each(alloc: Global, lists: &mut Vec<Items>, more: Pile<Items>) -> Result<(), AllocError>
+    ensures { OnOk result (lists.new.items ≡ each_joined lists.old.items more) }
+{
+    let mut at = 0;
+    for list in more.into_vec() {
+        join_at(alloc, lists, at, list)?;
+        at += 1;
+    }
+    Ok(())
+}
+
+// Puts a list behind the one at this place, or behind all of them.
+fn join_at(alloc: Global, lists: &mut Vec<Items>, at: usize, list: Items) -> Result<(), AllocError>
+    ensures { (first next : List (List GhostValue)) → at ≡ length next →
+        lists.old.items ≡ each_joined first next →
+        OnOk result (lists.new.items ≡ each_joined first (next ++ list ∷ [])) }
+{
+    if at < lists.len() {
+        join(alloc, &mut lists[at], list)?;
+    } else {
+        lists.push(list)?;
+    }
+    Ok(())
+}
+
+// Moves the values of a list behind those of another.
+fn join(alloc: Global, list: &mut Items, more: Items) -> Result<(), AllocError>
+    ensures { OnOk result (list.new ≡ list.old ++ more) }
+{
+    let mut values = mem::replace(list, Pile::new(alloc)).into_vec();
+    values.append(&mut more.into_vec())?;
+    *list = Pile::from_vec(values);
+    Ok(())
+}
