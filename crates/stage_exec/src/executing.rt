@@ -1,0 +1,92 @@
+ghost use Rattle.std.specs.Prelude.{◌≡◌, ◌<◌, ◌≤◌, IfErr, IfOk, length, map};
+ghost use Rattle.std.specs.List.{AllZip};
+ghost use Rattle.crew.specs.Hosts.{account, Grew};
+ghost use Rattle.exec_plan.specs.Wellformed.{IsPlanOk};
+ghost use Rattle.forest_steps.specs.Fresh.{zeros};
+ghost use Rattle.map_shard.specs.Tables.{table};
+ghost use Rattle.stage_exec.specs.Executions.{IsExecuted, IsRunFault, IsTypedRun};
+ghost use Rattle.stage_phases.specs.Stages.{run_world};
+
+use crate::executed::Executed;
+use crate::flatten::lists_of;
+use crate::stages::run_stages;
+use exec_plan::Plan;
+use flume_value::{Items, Pile};
+use forest_steps::Functions;
+use outside::Host;
+use plan_phases::{RunFault, phases_law};
+use run_settings::Settings;
+use stage_phases::Inputs;
+use std::alloc::{AllocError, Global};
+use std::thread::Threads;
+use task_lists::tasks_law;
+
+/// Executes a plan over the rows of its sources, with a worker on each of the hosts. It counts for
+/// the first so many script nodes.
+///
+/// It stops at the first trap of the plan's tasks, by phases in order and by tasks in order within
+/// one; or, where no smaller task of that phase and none of an earlier one traps, at the least task
+/// of which no attempt has won.
+pub fn execute<R: Threads + Sync, F: Functions + Sync, H: Host + Send>(
+    rt: &R,
+    alloc: Global,
+    functions: &F,
+    plan: &Plan,
+    sources: &[Items],
+    nodes: usize,
+    hosts: &mut [H],
+    settings: &Settings,
+) -> Result<Executed, RunFault>
+    requires plan { IsPlanOk plan.now }
+    requires typed { IsTypedRun (run_world (F.called functions.now) sources.now)
+        (F.can_call functions.now) plan.now }
+    requires some { 1 ≤ length hosts.old }
+    requires most { length hosts.old ≤ 16 }
+    ensures grew { AllZip Grew
+        (map (account H.notes H.losses) hosts.old) (map (account H.notes H.losses) hosts.new) }
+    ensures done { IfOk result (IsExecuted settings.now
+        (run_world (F.called functions.now) sources.now) plan.now nodes
+        (map (account H.notes H.losses) hosts.old) (map (account H.notes H.losses) hosts.new)) }
+    ensures fault { IfErr result (IsRunFault settings.now
+        (run_world (F.called functions.now) sources.now) plan.now
+        (map (account H.notes H.losses) hosts.old) (map (account H.notes H.losses) hosts.new)) }
+{
+    cut_law(settings);
+    tasks_law();
+    phases_law();
+    let inputs = Inputs {
+        functions,
+        sources,
+        settings,
+    };
+    let mut sizes = no_sizes(alloc, nodes)?;
+    let mut winners = Vec::new(alloc);
+    let stages = plan.stages.as_slice();
+    let counted = sizes.as_mut_slice();
+    let results = run_stages(rt, alloc, &inputs, stages, hosts, counted, &mut winners)?;
+    let outputs = lists_of(alloc, sources, &results, plan.outputs.as_slice())?;
+    Ok(Executed {
+        outputs,
+        counts: Pile::from_vec(sizes),
+        winners: Pile::from_vec(winners),
+    })
+}
+
+// A run cuts its inputs and its groups.
+fn cut_law(settings: &Settings)
+    ensures { (0 < settings.now.shards) × (0 < settings.now.partitions) }
+{
+    settings.shards();
+    settings.partitions();
+}
+
+// So many sizes of nothing.
+fn no_sizes(alloc: Global, nodes: usize) -> Result<Vec<u64>, AllocError>
+    ensures { IfOk result (λ sizes. sizes.items ≡ zeros nodes) }
+{
+    let mut sizes = Vec::with_capacity(alloc, nodes)?;
+    for _node in 0..nodes {
+        sizes.push(0)?;
+    }
+    Ok(sizes)
+}

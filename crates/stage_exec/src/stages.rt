@@ -1,0 +1,88 @@
+// The stages of a plan, one after another.
+ghost use Rattle.std.specs.Prelude.{◌≡◌, ◌∷◌, ◌++◌, [], ◌<◌, ◌≤◌, ◌^◌, length, map, IfErr, IfOk, OnOk};
+ghost use Rattle.std.specs.List.{AllZip};
+ghost use Rattle.crew.specs.Hosts.{account, Grew};
+ghost use Rattle.map_shard.specs.Tables.{table};
+ghost use Rattle.plan_phases.specs.Told.{HaveRun, IsStopped};
+ghost use Rattle.stage_exec.specs.inner.Along.{CanGoOn, counted_on, lists_after, phases_on};
+ghost use Rattle.stage_phases.specs.Stages.{run_world};
+ghost use Rattle.step_counts.specs.Sizes.{HaveGrown};
+ghost use Rattle.task_lists.specs.Lists.{source_lists};
+
+use crate::stage::run_stage;
+use exec_plan::Stage;
+use flume_value::{Items, Pile};
+use forest_steps::Functions;
+use outside::Host;
+use plan_phases::{PhaseWinners, RunFault};
+use stage_phases::Inputs;
+use std::alloc::{AllocError, Global};
+use std::thread::Threads;
+
+/// Runs stages in order, and gives the results of each.
+pub(crate) fn run_stages<R: Threads + Sync, F: Functions + Sync, H: Host + Send>(
+    rt: &R,
+    alloc: Global,
+    inputs: &Inputs<'_, F>,
+    stages: &[Stage],
+    hosts: &mut [H],
+    sizes: &mut [u64],
+    winners: &mut Vec<PhaseWinners>,
+) -> Result<Vec<Pile<Items>>, RunFault>
+    requires hosts { (0 < length hosts.old) × (length hosts.old ≤ 16) }
+    requires few { length stages.now < 2 ^ 32 }
+    requires ready { CanGoOn
+        (run_world (F.called inputs.now.functions.now) inputs.now.sources.now)
+        (F.can_call inputs.now.functions.now) 1 stages.now
+        (source_lists (run_world (F.called inputs.now.functions.now) inputs.now.sources.now)) }
+    ensures grew { AllZip Grew
+        (map (account H.notes H.losses) hosts.old) (map (account H.notes H.losses) hosts.new) }
+    ensures lists { IfOk result (λ results. table inputs.now.sources.now results.items
+        ≡ lists_after inputs.now.settings.now
+        (run_world (F.called inputs.now.functions.now) inputs.now.sources.now) 1 stages.now
+        (source_lists (run_world (F.called inputs.now.functions.now) inputs.now.sources.now))) }
+    ensures sizes { OnOk result (HaveGrown (counted_on inputs.now.settings.now
+        (run_world (F.called inputs.now.functions.now) inputs.now.sources.now) 1 stages.now
+        (source_lists (run_world (F.called inputs.now.functions.now) inputs.now.sources.now)))
+        sizes.old sizes.new) }
+    ensures ran { OnOk result (HaveRun
+        inputs.now.settings.now.tries inputs.now.settings.now.drill
+        (run_world (F.called inputs.now.functions.now) inputs.now.sources.now)
+        (phases_on inputs.now.settings.now
+        (run_world (F.called inputs.now.functions.now) inputs.now.sources.now) 1 stages.now
+        (source_lists (run_world (F.called inputs.now.functions.now) inputs.now.sources.now)))
+        (map (account H.notes H.losses) hosts.old) (map (account H.notes H.losses) hosts.new)
+        winners.old.items winners.new.items) }
+    ensures stopped { IfErr result (IsStopped
+        inputs.now.settings.now.tries inputs.now.settings.now.drill
+        (run_world (F.called inputs.now.functions.now) inputs.now.sources.now)
+        (phases_on inputs.now.settings.now
+        (run_world (F.called inputs.now.functions.now) inputs.now.sources.now) 1 stages.now
+        (source_lists (run_world (F.called inputs.now.functions.now) inputs.now.sources.now)))
+        (map (account H.notes H.losses) hosts.old) (map (account H.notes H.losses) hosts.new)) }
+{
+    let mut results = Vec::new(alloc);
+    for (k, stage) in stages.iter().enumerate() {
+        let number = k as u32 + 1;
+        let lists = run_stage(
+            rt,
+            alloc,
+            inputs,
+            results.as_slice(),
+            stage,
+            number,
+            hosts,
+            sizes,
+            winners,
+        )?;
+        push_results(&mut results, lists)?;
+    }
+    Ok(results)
+}
+
+fn push_results(results: &mut Vec<Pile<Items>>, lists: Pile<Items>) -> Result<(), AllocError>
+    ensures { OnOk result (results.new.items ≡ results.old.items ++ lists ∷ []) }
+{
+    results.push(lists)?;
+    Ok(())
+}
