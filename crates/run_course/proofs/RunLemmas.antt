@@ -1,9 +1,8 @@
 -- What the run of a script's plan comes to.
-use Rattle.std.proofs.Common.{◌≡◌, ℕ, suc, zero, ◌+◌, ◌<◌, inl, inr, List, [], ◌∷◌, ◌++◌, drop, length, take, Some, None, map, slice_get, ap, sym, ◌∙◌, refl, subst, arith, append_assoc, append-nil, ◌≤◌}
+use Rattle.std.proofs.Common.{◌≡◌, ℕ, suc, zero, ◌+◌, ◌<◌, List, [], ◌∷◌, ◌++◌, drop, length, Some, None, slice_get, ap, sym, ◌∙◌, refl, subst, arith, append_assoc, append-nil, ◌≤◌}
 use Rattle.std.specs.Prelude.{codes, IfOk, IsSomeAnd, Option, Result, Ok, Err}
 use Rattle.std.specs.List.{AllZip}
 use Rattle.std.proofs.lemmas.List.{drop_all}
-use Rattle.std.specs.Option.{option_map}
 use Rattle.command_words.specs.declared.words.Command.TheVariants.{Run}
 use Rattle.command_words.specs.declared.words.PlanForm.TheVariants.{Text}
 use Rattle.crew.specs.Hosts.{Account}
