@@ -1,18 +1,16 @@
 -- What a combination answers of a group.
-use Rattle.std.proofs.Common.{◌≡◌, ℕ, List, [], ◌∷◌, ◌++◌, Option, Some, None, refl, sym, ap, ◌∙◌, subst}
+use Rattle.std.proofs.Common.{◌≡◌, ℕ, List, [], ◌∷◌, ◌++◌, Option, Some, None, sym, ap, ◌∙◌}
 use Rattle.std.specs.Prelude.{Result, Ok, Err, slice_get}
 use Rattle.std.specs.List.{flat_map, cons_option}
-use Rattle.std.specs.Option.{IsSomeAnd}
 use Rattle.flume_value.specs.declared.fault.Kind.{Kind}
 use Rattle.flume_value.specs.declared.value.Value.{Value}
 use Rattle.flume_value.specs.Bag.{bag_of}
-use Rattle.bag_groups.specs.Combining.{combined_each, combined_pair, group_of, groups_in, trapped_key, traps_of_each}
+use Rattle.bag_groups.specs.Combining.{combined_each, combined_pair, group_of, trapped_key, traps_of_each}
 use Rattle.bag_groups.specs.Pairs.{pair}
 use Rattle.combine_table.specs.Combinations.{combined}
 use Rattle.combine_table.specs.declared.comb.Comb.{Comb}
 use Rattle.keyed_steps.specs.declared.fault.KeyFault.TheVariants as key
-use Rattle.keyed_steps.specs.Keyed.{IsFirst, IsGroup}
-use Rattle.flume_collection.specs.declared.trap.Trap.{Trap}
+use Rattle.keyed_steps.specs.Keyed.{IsFirst}
 use Rattle.flume_collection.specs.Calls.{Called, trap_of}
 use Rattle.exec_graph.specs.Calls.{called, of_combine, of_group}
 use Rattle.exec_graph.specs.World.{World}

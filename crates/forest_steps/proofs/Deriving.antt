@@ -6,11 +6,7 @@ use Rattle.std.specs.Option.{option_to_list}
 use Rattle.std.proofs.Math.Seq.{drop-cons}
 use Rattle.flume_value.specs.declared.value.Value.{Value}
 use Rattle.bag_groups.specs.Pairs.{pair, key_of, value_of, IsPair, parts_of}
-use Rattle.bag_groups.specs.Combining.{group_of}
-use Rattle.exec_graph.specs.Derived.{with_value, with_sides, sides_of, members_in}
-use Rattle.exec_graph.specs.declared.step.Does.{Does}
-use Rattle.exec_graph.specs.declared.step.Does.TheVariants as does
-use Rattle.forest_steps.specs.inner.Deriving.{IsDerived}
+use Rattle.exec_graph.specs.Derived.{with_value, with_sides, members_in}
 
 abbrev Parts : Type 0
 Parts = Value × Value

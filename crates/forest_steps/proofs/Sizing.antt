@@ -1,7 +1,7 @@
 -- The table of sizes, as it grows.
-use Rattle.std.proofs.Common.{◌≡◌, ℕ, ◌+◌, ◌-◌, zero, suc, List, [], ◌∷◌, ◌++◌, length, length-append, append_assoc, refl, sym, ap, ◌∙◌, arith}
+use Rattle.std.proofs.Common.{◌≡◌, ℕ, ◌-◌, suc, List, [], ◌∷◌, ◌++◌, length, length-append, append_assoc, refl, sym, ap, ◌∙◌, arith}
 use Rattle.std.specs.Prelude.{slice_set}
-use Rattle.exec_graph.specs.Forests.{Branch, Forest, Bare, Grow, Twig, grown, limb, twigs}
+use Rattle.exec_graph.specs.Forests.{Branch, Forest, Bare, Grow, Twig, grown, twigs}
 use Rattle.exec_graph.specs.Twigs.{twig}
 use Rattle.exec_graph.specs.declared.step.Output.{Output}
 use Rattle.forest_steps.specs.Places.{outputs_in, sizes_in}

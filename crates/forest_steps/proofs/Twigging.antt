@@ -1,17 +1,16 @@
 -- A step, by its outputs side by side.
-use Rattle.std.proofs.Common.{◌≡◌, ◌<◌, ◌≤◌, ◌+◌, ℕ, zero, suc, List, [], ◌∷◌, ◌++◌, length, get_or, drop, Option, Some, None, refl, sym, ap, ◌∙◌, subst, arith, add-one}
-use Rattle.std.specs.Prelude.{Result, Ok, Err}
+use Rattle.std.proofs.Common.{◌≡◌, ◌<◌, ℕ, zero, suc, List, [], ◌∷◌, length, get_or, drop, Option, refl, sym, ap, ◌∙◌, subst, arith}
+use Rattle.std.specs.Prelude.{Ok, Err}
 use Rattle.std.specs.List.{AllByRecursion, slice_get}
-use Rattle.std.proofs.Math.Seq.{drop-cons}
 use Rattle.flume_value.specs.declared.value.Value.{Value}
 use Rattle.flume_collection.specs.declared.trap.Trap.{Trap}
 use Rattle.flume_collection.specs.Calls.{Called, emissions, or_none, trap_named, trap_of}
-use Rattle.exec_graph.specs.Calls.{called, emitted}
-use Rattle.exec_graph.specs.Forests.{Branch, Forest, Bare, Grow, Twig, grown, label_at, limb, twigs}
+use Rattle.exec_graph.specs.Calls.{called}
+use Rattle.exec_graph.specs.Forests.{Branch, Forest, Bare, Twig, grown, limb, twigs}
 use Rattle.exec_graph.specs.World.{World}
 use Rattle.forest_steps.specs.Functions.{IsTrapOf}
-use Rattle.forest_steps.specs.Safety.{CanCall, Safe}
-use Rattle.forest_steps.specs.Running.{Given, Run, and_then, below, behind, behind_all, run, run_answer, run_each, run_out, run_twigs, IsRun, IsRunFault, SafeTwigs}
+use Rattle.forest_steps.specs.Safety.{Safe}
+use Rattle.forest_steps.specs.Running.{Given, Run, and_then, below, behind, behind_all, run, run_answer, run_out, run_twigs, IsRunFault, SafeTwigs}
 use Rattle.forest_steps.specs.declared.fault.StepFault.{StepFault}
 use Rattle.forest_steps.specs.declared.fault.StepFault.TheVariants as fault
 

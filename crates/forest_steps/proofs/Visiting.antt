@@ -1,12 +1,11 @@
 -- Steps, outputs and emissions, one after another.
-use Rattle.std.proofs.Common.{◌≡◌, ◌<◌, ◌≤◌, ◌+◌, ℕ, zero, suc, List, [], ◌∷◌, ◌++◌, length, get_or, drop, map, Option, Some, None, refl, sym, ap, ◌∙◌, subst, arith, add-one}
-use Rattle.std.specs.Prelude.{Result, Ok, Err}
+use Rattle.std.proofs.Common.{◌≡◌, ◌<◌, ◌≤◌, ◌+◌, ℕ, zero, suc, List, [], ◌∷◌, length, get_or, drop, map, Option, refl, sym, ap, ◌∙◌, subst, arith, add-one}
+use Rattle.std.specs.Prelude.{Ok}
 use Rattle.std.specs.List.{AllByRecursion, slice_get}
 use Rattle.std.proofs.Math.Seq.{drop-cons}
 use Rattle.flume_value.specs.declared.value.Value.{Value}
-use Rattle.flume_collection.specs.declared.trap.Trap.{Trap}
 use Rattle.flume_collection.specs.Calls.{or_none}
-use Rattle.exec_graph.specs.Forests.{Branch, Forest, Bare, Twig, grown, limb}
+use Rattle.exec_graph.specs.Forests.{Branch, Bare, Twig, grown, limb}
 use Rattle.exec_graph.specs.Twigs.{twig}
 use Rattle.exec_graph.specs.World.{World}
 use Rattle.exec_graph.specs.declared.step.Output.{Output}
@@ -212,6 +211,14 @@ module _ (w : World) (sizes : List ℕ) where
 
   -- ---- what may be called
   module _ (takes : ℕ → Value → Type 0) where
+    pub safe_first : (b : Branch) (o : Output) (answers : List (List Value)) (vs : List Value)
+        → b.first ≡ twig o → vs ≡ or_none (slice_get answers 0)
+        → SafeTwigs w takes answers (b.first ∷ b.more)
+        → AllByRecursion (Safe w takes (grown o.kids.items)) vs
+    safe_first b o answers vs first given safe =
+        subst (λ (t : Twig). AllByRecursion (Safe w takes t.kids) vs) first
+        (subst (AllByRecursion (Safe w takes b.first.kids)) (sym given) safe.0)
+
     pub safe_begun : (b : Branch) (os items : List Output) (answers left : List (List Value))
         → b.more ≡ map twig os → items ≡ os → left ≡ drop 1 answers
         → SafeTwigs w takes answers (b.first ∷ b.more) → SafeTwigs w takes left (map twig items)

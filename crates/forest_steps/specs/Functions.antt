@@ -1,5 +1,5 @@
 -- What the functions of a script answer.
-use Rattle.std.specs.Prelude.{◌≡◌, ℕ, List, [], ◌∷◌, Err}
+use Rattle.std.specs.Prelude.{◌≡◌, ℕ, [], ◌∷◌, Err}
 use Rattle.flume_value.specs.declared.value.Value.{Value}
 use Rattle.flume_value.specs.declared.fault.CallFault.{CallFault}
 use Rattle.flume_value.specs.declared.fault.CallFault.TheVariants as call

@@ -1,7 +1,7 @@
 -- The places of the outputs of a forest's steps in preorder.
 use Rattle.std.specs.Prelude.{ℕ, ◌+◌, List, [], ◌∷◌, ◌++◌}
 use Rattle.std.proofs.Common.{suc}
-use Rattle.exec_graph.specs.Forests.{Branch, Forest, Bare, Grow, Twig}
+use Rattle.exec_graph.specs.Forests.{Forest, Bare, Grow}
 
 -- how many outputs the steps of a forest have
 abbrev pub outputs_in : Forest → ℕ

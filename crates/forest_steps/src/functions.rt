@@ -6,7 +6,7 @@ use flume_value::{CallFault, Items, Value};
 use std::alloc::Global;
 
 /// The functions of a script, by their numbers.
-pub trait Functions: Sync {
+pub trait Functions {
     ghost use Rattle.std.specs.Prelude.{ℕ};
     ghost use Rattle.flume_value.specs.declared.value.Value.{Value as GhostValue};
     ghost use Rattle.flume_collection.specs.Calls.{Called};

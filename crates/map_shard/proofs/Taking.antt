@@ -1,8 +1,7 @@
 -- What a channel takes of the lists of an input channel's outputs.
-use Rattle.std.proofs.Common.{◌≡◌, ◌<◌, ◌≤◌, ◌+◌, ◌-◌, ℕ, zero, suc, true, false, cond, Bool, List, [], ◌∷◌, ◌++◌, length, map, Option, Some, None, refl, sym, ap, ◌∙◌, subst, arith, append-nil}
-use Rattle.std.specs.Prelude.{◌==◌, All, slice_get}
-use Rattle.std.specs.List.{AllByRecursion, AllZip, flat_map}
-use Rattle.std.specs.Option.{option_map_or}
+use Rattle.std.proofs.Common.{◌≡◌, ◌<◌, ◌+◌, ◌-◌, ℕ, zero, suc, true, false, cond, List, [], ◌∷◌, ◌++◌, map, Option, Some, None, refl, sym, ap, ◌∙◌, subst, arith}
+use Rattle.std.specs.Prelude.{◌==◌, slice_get}
+use Rattle.std.specs.List.{AllByRecursion, AllZip}
 use Rattle.flume_value.specs.declared.value.Value.{Value}
 use Rattle.flume_collection.specs.Calls.{or_none}
 use Rattle.shuffle_parts.specs.declared.out.Sent.{Sent}
@@ -17,9 +16,10 @@ use Rattle.exec_plan.specs.declared.plan.OutChannel.{OutChannel}
 use Rattle.exec_plan.specs.declared.plan.OutChannel.TheVariants.{Group, Pass}
 use Rattle.task_lists.specs.Runs.{all_given, gives}
 use Rattle.task_lists.specs.Outs.{AreSentPairs, IsSent}
-use Rattle.task_lists.specs.Tasks.{Split, Lists, Task, given_to, map_task, map_task_of, no_task, task_gives}
+use Rattle.task_lists.specs.Tasks.{Task, given_to, task_gives}
 use Rattle.forest_courses.proofs.Numbering.{from_numbered, outs_ups, ups}
-use Rattle.map_shard.specs.Work.{ArePairs, IsFit}
+use Rattle.task_lists.specs.Typing.{AreGroupable}
+use Rattle.map_shard.specs.Work.{IsFit}
 use Rattle.map_shard.specs.inner.Sending.{CanSend, taken, taken_by}
 
 -- ---- the lists of the outputs, by their numbers
@@ -82,7 +82,7 @@ module _ (w : World) (ins : List InChannel) (m : ℕ) (c : InChannel) (task : Ta
   can_send [] all = tt
   can_send (Pass k n ∷ os) all = (tt, can_send os all.1)
   can_send (Group g ∷ os) all = (
-    subst (ArePairs g.lifted) (sym (all_taken g.takes all.0.0)) all.0.1,
+    subst (AreGroupable g.lifted) (sym (all_taken g.takes all.0.0)) all.0.1,
     can_send os all.1,
   )
 

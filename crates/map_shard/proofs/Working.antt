@@ -1,29 +1,29 @@
--- A map task, by its channel and its elements.
-use Rattle.std.proofs.Common.{◌≡◌, ◌<◌, ◌+◌, ◌*◌, ◌/◌, ◌%◌, ℕ, zero, suc, cond, List, [], ◌∷◌, length, get_or, map, Option, Some, None, refl, sym, ap, ◌∙◌, subst, arith}
+-- A map task by its number.
+use Rattle.std.proofs.Common.{◌≡◌, ◌<◌, ◌≤◌, ◌/◌, ◌%◌, ℕ, zero, suc, cond, List, [], ◌∷◌, length, get_or, map, Some, refl, sym, ap, ◌∙◌, subst, arith}
 use Rattle.std.specs.Prelude.{◌==◌, slice_get, Result, Ok, Err}
 use Rattle.std.specs.List.{AllByRecursion, AllZip, flat_map}
 use Rattle.std.specs.Option.{option_map_or}
+use Rattle.std.proofs.lemmas.Nat.{row_below_turned}
+use Rattle.std.proofs.Math.Nat.{mod-lt}
 use Rattle.flume_value.specs.declared.value.Value.{Value}
 use Rattle.flume_collection.specs.declared.trap.Trap.{Trap}
 use Rattle.flume_collection.specs.Calls.{Called}
 use Rattle.shards.specs.Shards.{shard}
 use Rattle.shuffle_parts.specs.declared.out.MapOut.{MapOut}
-use Rattle.shuffle_parts.specs.declared.out.Sent.{Sent}
 use Rattle.exec_graph.specs.World.{World}
 use Rattle.exec_plan.specs.Wellformed.{IsNumbered}
 use Rattle.exec_plan.specs.declared.plan.InChannel.{InChannel}
 use Rattle.exec_plan.specs.declared.plan.Take.{Take}
-use Rattle.task_lists.specs.Runs.{all_given, kept_count, traps_of}
-use Rattle.task_lists.specs.Outs.{IsMapOut, IsMapValue, IsSent, kept_counts}
-use Rattle.task_lists.specs.Tasks.{Task, given_to, map_task, no_task, places}
+use Rattle.task_lists.specs.Runs.{kept_count}
+use Rattle.task_lists.specs.Outs.{IsMapValue, IsSent}
+use Rattle.task_lists.specs.Tasks.{Task, given_to, map_task, no_task}
 use Rattle.forest_courses.specs.Courses.{IsCourse}
 use Rattle.forest_steps.specs.Running.{Given}
 use Rattle.forest_steps.specs.Functions.{world_of}
 use Rattle.forest_steps.specs.Safety.{SafeOf}
 use Rattle.forest_courses.proofs.Worlds.{same_counts, same_gives, same_traps}
-use Rattle.map_shard.specs.Work.{Work, CanWork, IsReady, lists_of, shard_task, split_of}
+use Rattle.map_shard.specs.Work.{Work, CanWork, IsReady, IsWorkValue, lists_of, shard_task, split_of, task_at, work_count}
 use Rattle.map_shard.specs.inner.Sending.{CanSend, taken}
-use Rattle.map_shard.proofs.Sending.{member}
 use Rattle.map_shard.proofs.Taking.{can_send, sent_given}
 
 get_is : {X : Type 0} (xs : List X) (i : ℕ) (x : X) → i < length xs → x ≡ get_or xs i x
@@ -31,6 +31,12 @@ get_is : {X : Type 0} (xs : List X) (i : ℕ) (x : X) → i < length xs → x �
 get_is [] i x h is = absurd (omega arith)
 get_is (y ∷ xs) zero x h is = ap Some (sym is)
 get_is (y ∷ xs) (suc i) x h is = get_is xs i x (omega arith) is
+
+found : {X : Type 0} (P : X → Type 0) (xs : List X) (i : ℕ) → AllByRecursion P xs
+    → i < length xs → (x : X) × (slice_get xs i ≡ Some x) × P x
+found P [] i all h = absurd (omega arith)
+found P (x ∷ xs) zero all h = (x, refl, all.0)
+found P (x ∷ xs) (suc i) all h = found P xs i all.1 (omega arith)
 
 -- ---- the same in worlds in which functions answer alike
 same_given_to : (v w : World) → v.called ≡ w.called → (task : Task) (m : ℕ)
@@ -57,80 +63,82 @@ module _ {F : Type 0} (work : Work F) (m i : ℕ) where
       let task = shard_task work m i in
       ap (λ ts. slice_get ts 0) (sym (same_traps v w same task.does task.elements)) ∙ is
 
-  -- the channel and the elements of the task
-  pub record IsOf (c : InChannel) (elements : List Value) : Type 0 where
-    pub channel : slice_get work.stage.inputs m ≡ Some c
-    pub within : m < length work.stage.inputs
-    pub item : c ≡ get_or work.stage.inputs m c
-    pub task : shard_task work m i ≡ record { elements = elements; does = c.does }
+  of_channel : (c : InChannel) → slice_get work.stage.inputs m ≡ Some c
+      → shard_task work m i ≡ map_task (split_of work) (lists_of work) c i
+  of_channel c is =
+      ap (λ o. option_map_or (λ d. map_task (split_of work) (lists_of work) d i) o no_task) is
 
-  pub is_of : (c : InChannel) (list elements : List Value) → m < length work.stage.inputs
-      → c ≡ get_or work.stage.inputs m c → list ≡ lists_of work c.reads
-      → elements ≡ shard work.shards i list → IsOf c elements
-  is_of c list elements h is at e =
-      let found = get_is work.stage.inputs m c h is in record {
-        channel = found;
-        within = h;
-        item = is;
-        task =
-            ap (λ o. option_map_or (λ d. map_task (split_of work) (lists_of work) d i) o no_task)
-            found
-            ∙ (λ k. record {
-              elements = sym (e ∙ ap (shard work.shards i) at) k;
-              does = c.does;
-            });
-      }
+-- ---- task k
+-- what holds of the task as it was read holds of it by its number
+pub at_task : {F : Type 0} (P : Work F → Task → Type 0) {work self : Work F} {task : Task} (k : ℕ)
+    → work ≡ self → task_at work k ≡ task → P work task → P self (task_at self k)
+at_task P {work} k view is p =
+    subst (λ x. P x (task_at x k)) view (subst (P work) (sym is) p)
 
-  module _ (called : ℕ → Value → Called) (takes : ℕ → Value → Type 0) (c : InChannel)
-      (elements : List Value) (of : IsOf c elements)
-      (can : CanWork (world_of called) takes work) (within : i < work.shards) where
-    ready : IsReady (world_of called) takes work m i
-    ready = can.ready m i of.within within
+module _ {F : Type 0} {w : World} {takes : ℕ → Value → Type 0} {work : Work F}
+    (can : CanWork w takes work) (k : ℕ) (is_task : k < work_count work) where
+  channel_below : k / work.shards < length work.stage.inputs
+  channel_below =
+      let same : work.shards ≤ work.shards = omega arith in
+      (row_below_turned k work.shards (length work.stage.inputs) work.shards is_task same).1
 
-    pub numbered : IsNumbered c.does
-    numbered = member (λ d. IsNumbered d.does) work.stage.inputs m c can.steps of.within of.item
+  ready : IsReady w takes work (k / work.shards) (k % work.shards)
+  ready = can.ready (k / work.shards) (k % work.shards) channel_below (mod-lt k can.shards)
 
-    pub safe : AllByRecursion (SafeOf (world_of called) takes c.does) elements
-    safe = subst (λ (t : Task). AllByRecursion (SafeOf (world_of called) takes t.does) t.elements)
-        of.task ready.safe
+  -- the channel that it reads, and its elements
+  pub task_is : {inputs : List InChannel} {c : InChannel} {list elements : List Value}
+      → inputs ≡ work.stage.inputs → c ≡ get_or inputs (k / work.shards) c
+      → list ≡ lists_of work c.reads → elements ≡ shard work.shards (k % work.shards) list
+      → task_at work k ≡ record { elements = elements; does = c.does }
+  task_is {inputs} {c} {list} {elements} same is at e =
+      let i = k % work.shards in
+      of_channel work (k / work.shards) i c
+      (get_is work.stage.inputs (k / work.shards) c channel_below
+      (is ∙ ap (λ (l : List InChannel). get_or l (k / work.shards) c) same))
+      ∙ (λ j. record {
+        elements = sym (e ∙ ap (shard work.shards i) at) j;
+        does = c.does;
+      })
 
-    pub places_are : length elements ≡ places (shard_task work m i)
-    places_are = ap (λ (t : Task). length t.elements) (sym of.task)
+  pub safe : {task : Task} → task_at work k ≡ task
+      → AllByRecursion (SafeOf w takes task.does) task.elements
+  safe is =
+      subst (λ (t : Task). AllByRecursion (SafeOf w takes t.does) t.elements) is ready.safe
 
-    given_is : (lists : List (List Value)) → lists ≡ all_given (world_of called) c.does elements
-        → lists ≡ all_given (world_of called) (shard_task work m i).does
-        (shard_task work m i).elements
-    given_is lists e =
-        e ∙ ap (λ (t : Task). all_given (world_of called) t.does t.elements) (sym of.task)
+  channel : (c : InChannel) × (slice_get work.stage.inputs (k / work.shards) ≡ Some c)
+      × IsNumbered c.does
+  channel =
+      found (λ c. IsNumbered c.does) work.stage.inputs (k / work.shards) can.steps channel_below
 
-    pub can_send_all : (given : Given) → IsCourse (world_of called) c.does elements (Ok given)
-        → (lists : List (List Value)) → lists ≡ given.lists
-        → AllByRecursion (CanSend m lists) work.stage.outputs
-    can_send_all given course lists same =
-        can_send (world_of called) work.stage.inputs m c (shard_task work m i) of.channel
-        (ap (λ (t : Task). t.does) of.task) numbered lists (given_is lists (same ∙ course.lists))
-        work.stage.outputs ready.fit
+  does_is : (task_at work k).does ≡ channel.0.does
+  does_is =
+      ap (λ (t : Task). t.does)
+      (of_channel work (k / work.shards) (k % work.shards) channel.0 channel.1)
 
-    pub sent_out : (given : Given) (lists : List (List Value)) (out : MapOut)
-        → IsCourse (world_of called) c.does elements (Ok given) → lists ≡ given.lists
-        → out.counts ≡ given.counts
-        → AllZip (IsSent work.partitions (taken m lists)) work.stage.outputs out.sent
-        → (u : World) → u.called ≡ called → IsValue u (Ok out)
-    sent_out given lists out course same count sent u alike =
-        same_out (world_of called) u (sym alike) (Ok out) (record {
-          calm = ap (λ (t : Task). traps_of (world_of called) t.does t.elements) of.task
-              ∙ course.calm;
-          sent = sent_given (world_of called) work.stage.inputs m c (shard_task work m i) of.channel
-              (ap (λ (t : Task). t.does) of.task) numbered lists
-              (given_is lists (same ∙ course.lists)) work.partitions work.stage.outputs out.sent
-              ready.fit sent;
-          counts = count ∙ course.counts
-              ∙ ap (λ (t : Task). kept_counts (world_of called) t) (sym of.task);
+  -- ---- what its steps gave is fit for the output channels, and what those get is right
+  module _ (given : Given)
+      (course : IsCourse w (task_at work k).does (task_at work k).elements (Ok given))
+      (lists : List (List Value)) (same : lists ≡ given.lists) where
+    pub can_send_all : AllByRecursion (CanSend (k / work.shards) lists) work.stage.outputs
+    can_send_all =
+        can_send w work.stage.inputs (k / work.shards) channel.0 (task_at work k) channel.1
+        does_is channel.2 lists (same ∙ course.lists) work.stage.outputs ready.fit
+
+    pub sent_out : (out : MapOut) → out.counts ≡ given.counts
+        → AllZip (IsSent work.partitions (taken (k / work.shards) lists)) work.stage.outputs
+        out.sent → IsWorkValue w.called work k (Ok out)
+    sent_out out count sent u alike =
+        same_out work (k / work.shards) (k % work.shards) w u (sym alike) (Ok out) (record {
+          calm = course.calm;
+          sent = sent_given w work.stage.inputs (k / work.shards) channel.0 (task_at work k)
+              channel.1 does_is channel.2 lists (same ∙ course.lists) work.partitions
+              work.stage.outputs out.sent ready.fit sent;
+          counts = count ∙ course.counts;
         })
 
-    pub trapped_out : (trap : Trap) → IsCourse (world_of called) c.does elements (Err trap)
-        → (u : World) → u.called ≡ called → IsValue u (Err trap)
-    trapped_out trap course u alike =
-        same_out (world_of called) u (sym alike) (Err trap)
-        (ap (λ (t : Task). slice_get (traps_of (world_of called) t.does t.elements) 0) of.task
-        ∙ course)
+pub trapped_out : {F : Type 0} (work : Work F) (called : ℕ → Value → Called) (k : ℕ) (trap : Trap)
+    → IsCourse (world_of called) (task_at work k).does (task_at work k).elements (Err trap)
+    → IsWorkValue called work k (Err trap)
+trapped_out work called k trap course u alike =
+    same_out work (k / work.shards) (k % work.shards) (world_of called) u (sym alike) (Err trap)
+    course

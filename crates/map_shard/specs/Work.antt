@@ -1,15 +1,12 @@
 -- The map tasks of a stage: what they read, when they can be made, and what is right for them to
 -- give.
-use Rattle.std.specs.Prelude.{◌≡◌, ℕ, ◌<◌, ◌*◌, ◌/◌, ◌%◌, ◌^◌, All, List, [], length, Option, Some, None, Result, Ok, Err, refl}
-use Rattle.std.specs.List.{AllByRecursion, AllZip}
+use Rattle.std.specs.Prelude.{◌≡◌, ℕ, ◌<◌, ◌*◌, ◌/◌, ◌%◌, ◌^◌, List, length, Result, refl}
+use Rattle.std.specs.List.{AllByRecursion}
 use Rattle.std.specs.Coded.{Coded, code_by, coded×, coded_ℕ, coded_list}
 use Rattle.flume_value.specs.declared.value.Value.{Value}
 use Rattle.flume_value.specs.contracts.value.Value as values
 use Rattle.flume_collection.specs.declared.trap.Trap.{Trap}
 use Rattle.flume_collection.specs.Calls.{Called}
-use Rattle.bag_groups.specs.Pairs.{IsPair}
-use Rattle.combine_table.specs.declared.comb.Comb.{Comb}
-use Rattle.partial_tables.specs.Merges.{IsCombinable}
 use Rattle.shuffle_parts.specs.declared.out.MapOut.{MapOut}
 use Rattle.exec_graph.specs.World.{World}
 use Rattle.exec_plan.specs.Wellformed.{Exists, IsNumbered}
@@ -21,7 +18,7 @@ use Rattle.exec_plan.specs.declared.plan.Take.{Take}
 use Rattle.exec_plan.specs.contracts.plan.Mscr as stages
 use Rattle.task_lists.specs.Outs.{IsMapValue}
 use Rattle.task_lists.specs.Tasks.{Lists, Split, Task, given_to, map_count, map_task_of, places}
-use Rattle.forest_steps.specs.Functions.{world_of}
+use Rattle.task_lists.specs.Typing.{AreGroupable}
 use Rattle.forest_steps.specs.Safety.{SafeOf}
 use Rattle.map_shard.specs.Tables.{split, table}
 
@@ -77,15 +74,11 @@ module _ {F : Type 0} where
 
 -- ---- when the tasks can be made
 
--- what a grouping channel is given are pairs, and where it is lifted pairs that its combiner takes
-abbrev pub ArePairs : Option Comb → List Value → Type 0
-ArePairs None given = All IsPair given
-ArePairs (Some c) given = All (IsCombinable c) given
-
 -- what an output channel takes is there, and fit for it, where `given` says what it is given
 abbrev pub IsFit : List InChannel → (List Take → List Value) → OutChannel → Type 0
 IsFit ins given (Pass k number) = Exists ins k
-IsFit ins given (Group g) = AllByRecursion (Exists ins) g.takes × ArePairs g.lifted (given g.takes)
+IsFit ins given (Group g) =
+    AllByRecursion (Exists ins) g.takes × AreGroupable g.lifted (given g.takes)
 
 -- the steps of shard i of input channel m may be called on its elements, and what they give is fit
 -- for the output channels

@@ -5,14 +5,14 @@
 //! parted by the partition of their keys, or, where a channel is lifted, accumulators that stand
 //! for its pairs.
 //!
-//! `list_of` borrows the list of a collection, and `send_all` makes of the lists of an input
-//! channel's outputs what each output channel gets (`IsSent`, of `task_lists`). `Work`
-//! (specs/Work.antt) is all that the map tasks of a stage read, with what it asks (`CanWork`) and
-//! what is right for a task to give (`IsWorkValue`).
+//! `MapTasks` is the map tasks of a stage, as a crew takes them. Contracts see it as a `Work`
+//! (specs/Work.antt): all that the tasks read, with what it asks (`CanWork`) and what is right for
+//! a task to give (`IsWorkValue`). `list_of` borrows the list of a collection.
 #![tactic(auto)]
 
 mod lists;
 mod send;
+mod tasks;
 
 pub use lists::list_of;
-pub use send::send_all;
+pub use tasks::MapTasks;

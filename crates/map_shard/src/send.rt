@@ -2,7 +2,7 @@
 ghost use Rattle.std.specs.Prelude.{◌≡◌, ◌<◌, IfOk, OnOk, ◌++◌};
 ghost use Rattle.std.specs.List.{AllByRecursion, AllZip};
 ghost use Rattle.task_lists.specs.Outs.{AreSentPairs, IsSent};
-ghost use Rattle.map_shard.specs.Work.{ArePairs};
+ghost use Rattle.task_lists.specs.Typing.{AreGroupable};
 ghost use Rattle.map_shard.specs.inner.Sending.{CanSend, taken, taken_by};
 
 use crate::lists::list_at;
@@ -13,7 +13,7 @@ use shuffle_parts::{Sent, combine_parts, part};
 use std::alloc::{AllocError, Global};
 
 /// What each output channel gets of input channel m, whose outputs were given these lists.
-pub fn send_all(
+pub(crate) fn send_all(
     alloc: Global,
     channels: &[OutChannel],
     m: u32,
@@ -98,7 +98,7 @@ fn send_pairs(
     partitions: u32,
 ) -> Result<Sent, AllocError>
     requires some { 0 < partitions }
-    requires pairs { ArePairs lifted pairs.items }
+    requires pairs { AreGroupable lifted pairs.items }
     ensures { IfOk result (λ sent. AreSentPairs lifted partitions sent pairs.items) }
 {
     match lifted {

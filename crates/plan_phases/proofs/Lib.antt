@@ -1,1 +1,3 @@
 pub mod Trapping
+pub mod Lasting
+pub mod Joining

@@ -16,10 +16,10 @@ use Rattle.exec_plan.specs.declared.plan.Plan.{Plan}
 use Rattle.task_lists.specs.Runs.{traps_of}
 use Rattle.task_lists.specs.Tasks.{Split, Lists, Task, groupings, grouping_at, map_count, map_phase, map_task_at, no_task, reduce_count, reduce_phase, reduce_task, reduce_task_at}
 use Rattle.task_lists.specs.Lists.{result_lists, source_lists, with_lists}
-use Rattle.task_lists.specs.Outs.{IsCalm, IsFirstTrap}
+use Rattle.task_lists.specs.Outs.{IsCalm}
 use Rattle.task_lists.specs.Plans.{all_tasks, first_trap, stage_tasks, task_traps, tasks_from}
 use Rattle.plan_phases.specs.Phases.{PhaseTasks, map_phase_of, phase_traps, phases, phases_from, reduce_phase_of, reduce_phases, stage_phases, tasks_below}
-use Rattle.plan_phases.specs.Told.{IsCalmPhase}
+use Rattle.plan_phases.specs.Told.{IsCalmPhase, IsFirstOf}
 
 first_left : {A : Type 0} (e : A) (xs ys : List A) → slice_get xs 0 ≡ Some e
     → slice_get (xs ++ ys) 0 ≡ Some e
@@ -40,25 +40,23 @@ module _ (w : World) where
   calm_phases (ph ∷ phs) h = λ i. calm_tasks ph.tasks h.0 i ++ calm_phases phs h.1 i
 
   -- the first trap stands behind nothing
-  pub first_of : (before behind all : List PhaseTasks) (here : PhaseTasks)
-      (smaller greater : List Task) (task : Task) (trap : Trap) → before ++ here ∷ behind ≡ all
-      → Each (IsCalmPhase w) before → smaller ++ task ∷ greater ≡ here.tasks
-      → Each (IsCalm w) smaller → IsFirstTrap w task trap
+  pub first_of : (all : List PhaseTasks) (trap : Trap) → IsFirstOf w all trap
       → slice_get (flat_map (phase_traps w) all) 0 ≡ Some trap
-  first_of before behind all here smaller greater task trap whole calm tasks small is =
-      let in_phase : phase_traps w here ≡ traps_in task ++ flat_map traps_in greater =
-      ap (flat_map traps_in) (sym tasks)
-      ∙ flat_map-append traps_in smaller (task ∷ greater)
-      ∙ ap (λ l. l ++ flat_map traps_in (task ∷ greater)) (calm_tasks smaller small) in
-      let in_all : flat_map (phase_traps w) all
-      ≡ phase_traps w here ++ flat_map (phase_traps w) behind =
-      ap (flat_map (phase_traps w)) (sym whole)
-      ∙ flat_map-append (phase_traps w) before (here ∷ behind)
-      ∙ ap (λ l. l ++ flat_map (phase_traps w) (here ∷ behind)) (calm_phases before calm) in
+  first_of all trap h =
+      let here = traps_in h.task in
+      let later = flat_map traps_in h.greater in
+      let behind = flat_map (phase_traps w) h.behind in
+      let in_phase : phase_traps w h.here ≡ here ++ later =
+      ap (flat_map traps_in) (sym h.tasks)
+      ∙ flat_map-append traps_in h.smaller (h.task ∷ h.greater)
+      ∙ ap (λ l. l ++ (here ++ later)) (calm_tasks h.smaller h.small) in
+      let in_all : flat_map (phase_traps w) all ≡ phase_traps w h.here ++ behind =
+      ap (flat_map (phase_traps w)) (sym h.whole)
+      ∙ flat_map-append (phase_traps w) h.before (h.here ∷ h.behind)
+      ∙ ap (λ l. l ++ (phase_traps w h.here ++ behind)) (calm_phases h.before h.calm) in
       ap (λ l. slice_get l 0) in_all
-      ∙ first_left trap (phase_traps w here) (flat_map (phase_traps w) behind)
-      (ap (λ l. slice_get l 0) in_phase
-      ∙ first_left trap (traps_in task) (flat_map traps_in greater) is)
+      ∙ first_left trap (phase_traps w h.here) behind
+      (ap (λ l. slice_get l 0) in_phase ∙ first_left trap here later h.is)
 
   -- a task that is no task has no traps
   with_grouping : (n : Split) (t : Lists) (s : Channels) (p : ℕ) (g : Option Grouping)
@@ -132,12 +130,7 @@ module _ (w : World) where
     none_traps p calm =
         ap (λ l. slice_get l 0) (sym (all_traps p) ∙ calm_phases (phases w n p) calm)
 
-    pub first_traps : (p : Plan) (before behind : List PhaseTasks) (here : PhaseTasks)
-        (smaller greater : List Task) (task : Task) (trap : Trap)
-        → before ++ here ∷ behind ≡ phases w n p → Each (IsCalmPhase w) before
-        → smaller ++ task ∷ greater ≡ here.tasks → Each (IsCalm w) smaller
-        → IsFirstTrap w task trap → first_trap w n p ≡ Some trap
-    first_traps p before behind here smaller greater task trap whole calm tasks small is =
-        ap (λ l. slice_get l 0) (sym (all_traps p))
-        ∙ first_of before behind (phases w n p) here smaller greater task trap whole calm tasks
-        small is
+    pub first_traps : (p : Plan) (trap : Trap) → IsFirstOf w (phases w n p) trap
+        → first_trap w n p ≡ Some trap
+    first_traps p trap h =
+        ap (λ l. slice_get l 0) (sym (all_traps p)) ∙ first_of (phases w n p) trap h

@@ -1,7 +1,8 @@
 -- What a run tells of its phases.
-use Rattle.std.specs.Prelude.{◌≡◌, ℕ, ◌<◌, List, ◌∷◌, ◌++◌, length, slice_get, take, Some}
-use Rattle.std.specs.List.{AllByRecursion}
+use Rattle.std.specs.Prelude.{◌≡◌, ℕ, ◌<◌, List, ◌∷◌, ◌++◌, length, slice_get, take, Some, ⊤}
+use Rattle.std.specs.List.{AllByRecursion, AllZip}
 use Rattle.outside.specs.declared.host.Phase.{Phase}
+use Rattle.flume_collection.specs.declared.trap.Trap.{Trap}
 use Rattle.crew.specs.declared.drill.Entry.{Entry}
 use Rattle.crew.specs.Drills.{Settings}
 use Rattle.crew.specs.Hosts.{Account}
@@ -9,13 +10,33 @@ use Rattle.crew.specs.Phases.{CanFinish, IsLostTask}
 use Rattle.phase_outs.specs.Outs.{HasRun}
 use Rattle.exec_graph.specs.World.{World}
 use Rattle.task_lists.specs.Tasks.{Task, places}
-use Rattle.task_lists.specs.Outs.{IsCalm}
+use Rattle.task_lists.specs.Outs.{IsCalm, IsFirstTrap}
+use Rattle.plan_phases.specs.declared.fault.RunFault.{RunFault}
+use Rattle.plan_phases.specs.declared.fault.RunFault.TheVariants as fault
 use Rattle.plan_phases.specs.declared.winners.PhaseWinners.{PhaseWinners}
 use Rattle.plan_phases.specs.Phases.{PhaseTasks}
+
+-- ---- traps
 
 -- no task of the phase traps
 abbrev pub IsCalmPhase : World → PhaseTasks → Type 0
 IsCalmPhase w ph = AllByRecursion (IsCalm w) ph.tasks
+
+-- the trap is that of the least trapping task of the first of the phases that has one
+pub record IsFirstOf (w : World) (phases : List PhaseTasks) (trap : Trap) : Type 0 where
+  pub before : List PhaseTasks
+  pub here : PhaseTasks
+  pub behind : List PhaseTasks
+  pub whole : before ++ here ∷ behind ≡ phases
+  pub calm : AllByRecursion (IsCalmPhase w) before
+  pub smaller : List Task
+  pub task : Task
+  pub greater : List Task
+  pub tasks : smaller ++ task ∷ greater ≡ here.tasks
+  pub small : AllByRecursion (IsCalm w) smaller
+  pub is : IsFirstTrap w task trap
+
+-- ---- winners and lost tasks
 
 -- how often each task of a run is tried, and the attempts that are lost on purpose
 module _ (tries : ℕ) (drill : List Entry) where
@@ -33,22 +54,43 @@ module _ (tries : ℕ) (drill : List Entry) where
         slice_get winners.attempts k ≡ Some attempt →
         HasRun (settings_of ph) olds news k (places task) attempt
 
-  -- the task of one of the phases was given up: no phase before it traps, and no smaller task of
-  -- it; the drill and the losses of the hosts since account for each of its tries
+  -- the phases have run since, one after another: no task of them traps, and their winners were
+  -- told behind the others
+  pub record HaveRun (w : World) (phases : List PhaseTasks) (olds news : List Account)
+      (before after : List PhaseWinners) : Type 0 where
+    pub calm : AllByRecursion (IsCalmPhase w) phases
+    pub winners : List PhaseWinners
+    pub told : after ≡ before ++ winners
+    pub won : AllZip (AreWinners olds news) phases winners
+
+  -- a task of one of the phases was given up: no phase before it traps, and no smaller task of it;
+  -- the drill and the losses of the hosts since account for each of its tries
   pub record IsGivenUp (w : World) (phases : List PhaseTasks) (olds news : List Account)
       (stage : ℕ) (phase : Phase) (task : ℕ) : Type 0 where
     pub before : List PhaseTasks
     pub here : PhaseTasks
     pub behind : List PhaseTasks
     pub whole : before ++ here ∷ behind ≡ phases
+    pub calm : AllByRecursion (IsCalmPhase w) before
     pub named : (here.stage ≡ stage) × (here.phase ≡ phase)
     pub is_task : task < length here.tasks
-    pub calm : AllByRecursion (IsCalmPhase w) before
-    pub smaller : AllByRecursion (IsCalm w) (take task here.tasks)
+    pub small : AllByRecursion (IsCalm w) (take task here.tasks)
     pub lost : IsLostTask (length here.tasks) (settings_of here) olds news task
+
+  -- the run of the phases has stopped
+  abbrev pub IsStopped : World → List PhaseTasks → List Account → List Account → RunFault → Type 0
+  IsStopped w phases olds news (fault.Trap trap) = IsFirstOf w phases trap
+  IsStopped w phases olds news (fault.GaveUp stage phase task) =
+      IsGivenUp w phases olds news stage phase task
+  IsStopped w phases olds news fault.Memory = ⊤
 
   -- for each task of each phase some try is neither in the drill nor accounted for by the losses of
   -- the hosts
   abbrev pub CanFinishAll : List PhaseTasks → List Account → List Account → Type 0
   CanFinishAll phases olds news =
       AllByRecursion (λ ph. CanFinish (length ph.tasks) (settings_of ph) olds news) phases
+
+-- no task was given up
+abbrev pub IsNotGivenUp : RunFault → Type 0
+IsNotGivenUp (fault.GaveUp stage phase task) = ⊥
+IsNotGivenUp _ = ⊤

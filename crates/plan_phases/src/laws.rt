@@ -1,13 +1,12 @@
-ghost use Rattle.std.specs.Prelude.{◌≡◌, ◌<◌, ◌∷◌, ◌++◌, ℕ, List, length, Some, None, slice_get};
+ghost use Rattle.std.specs.Prelude.{◌≡◌, ◌<◌, Some, None};
 ghost use Rattle.std.specs.List.{AllByRecursion, flat_map};
 ghost use Rattle.flume_collection.specs.declared.trap.Trap.{Trap};
 ghost use Rattle.exec_graph.specs.World.{World};
 ghost use Rattle.exec_plan.specs.declared.plan.Plan.{Plan};
-ghost use Rattle.task_lists.specs.Tasks.{Split, Task};
-ghost use Rattle.task_lists.specs.Outs.{IsCalm, IsFirstTrap};
+ghost use Rattle.task_lists.specs.Tasks.{Split};
 ghost use Rattle.task_lists.specs.Plans.{all_tasks, first_trap, task_traps};
-ghost use Rattle.plan_phases.specs.Phases.{PhaseTasks, phases, phase_traps};
-ghost use Rattle.plan_phases.specs.Told.{IsCalmPhase};
+ghost use Rattle.plan_phases.specs.Phases.{phases, phase_traps};
+ghost use Rattle.plan_phases.specs.Told.{IsCalmPhase, IsFirstOf};
 
 use task_lists::numbers_law;
 
@@ -19,12 +18,8 @@ pub fn phases_law()
     ensures calm { (w : World) (n : Split) (p : Plan) → 0 < n.shards → 0 < n.partitions →
         AllByRecursion (IsCalmPhase w) (phases w n p) → first_trap w n p ≡ None }
     // The first is that of the least trapping task of the first phase that has one.
-    ensures first { (w : World) (n : Split) (p : Plan) (before behind : List PhaseTasks)
-        (here : PhaseTasks) (smaller greater : List Task) (task : Task) (trap : Trap) →
-        0 < n.shards → 0 < n.partitions → before ++ here ∷ behind ≡ phases w n p →
-        AllByRecursion (IsCalmPhase w) before → smaller ++ task ∷ greater ≡ here.tasks →
-        AllByRecursion (IsCalm w) smaller → IsFirstTrap w task trap →
-        first_trap w n p ≡ Some trap }
+    ensures first { (w : World) (n : Split) (p : Plan) (trap : Trap) → 0 < n.shards →
+        0 < n.partitions → IsFirstOf w (phases w n p) trap → first_trap w n p ≡ Some trap }
 {
     numbers_law();
 }

@@ -5,12 +5,15 @@
 //! the tasks of each. `phases_law` says that their traps, in order, are all traps of the plan's
 //! tasks. So the first trap is that of the least trapping task of the first phase that has one.
 //!
-//! What a run tells of its phases (specs/Told.antt): of each task the attempt that has won it
-//! (`PhaseWinners`), or the task that was given up.
+//! Phases that have run tell of each task which attempt has won it (`HaveRun`, `PhaseWinners`), and
+//! where a run stops it names the first trap or the task that was given up (`IsStopped`,
+//! `RunFault`): specs/Told.antt.
 #![tactic(auto)]
 
+mod fault;
 mod laws;
 mod winners;
 
+pub use fault::RunFault;
 pub use laws::phases_law;
 pub use winners::PhaseWinners;

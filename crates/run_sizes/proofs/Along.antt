@@ -1,5 +1,5 @@
 -- Sizes along a script's nodes are those of the collections that its meaning makes.
-use Rattle.std.proofs.Common.{◌≡◌, ℕ, zero, suc, ◌+◌, Bool, true, false, List, [], ◌∷◌, ◌++◌, drop, length, map, Option, Some, None, slice_get, refl, sym, ap, ◌∙◌, subst, arith, add-one, append_assoc, length-append}
+use Rattle.std.proofs.Common.{◌≡◌, ℕ, zero, suc, Bool, true, false, List, [], ◌∷◌, ◌++◌, drop, length, map, Option, Some, None, slice_get, refl, sym, ap, ◌∙◌, subst, arith, add-one, append_assoc, length-append}
 use Rattle.std.proofs.lemmas.List.{length-map, map-append}
 use Rattle.std.proofs.lemmas.Option.{slice_get-map}
 use Rattle.std.specs.Prelude.{if◌then◌else◌, option_and_then, option_map, unwrap_or}
@@ -18,8 +18,9 @@ use Rattle.direct_meaning.proofs.PlaceLemmas.{at_end}
 use Rattle.build_law.specs.Means.{HasOwn}
 use Rattle.build_law.proofs.Tables.{and_then_some, continues, made_next, map_some}
 use Rattle.run_sizes.specs.Counts.{AreOwnCounts}
-use Rattle.run_sizes.specs.inner.Along.{behind, count_at, kept, named_sizes, row_count, sized_as, sizes_along, together}
+use Rattle.run_sizes.specs.inner.Along.{behind, count_at, kept, named_sizes, sized_as, sizes_along}
 use Rattle.run_sizes.proofs.Named.{meant_sizes}
+use Rattle.run_sizes.proofs.Stepping.{passed, taken}
 use Rattle.run_sizes.proofs.Together.{sized, together_sizes}
 
 -- ---- rows to come
@@ -87,31 +88,6 @@ module _ (script : Script) (rows : List (List Value)) (counts : List ℕ)
 
   -- ---- all of them
 
-  taken : (entry : List ℕ × Node) (nodes : Named Node) (input : ℕ) (sizes : List (Option ℕ))
-      → is_needed script (length sizes) ≡ true
-      → sizes_along script rows counts (entry ∷ nodes) input sizes
-      ≡ sizes_along script rows counts nodes (behind entry.1.made input)
-      (sizes ++ Some (sized_as rows counts (length sizes) entry.1.made input sizes) ∷ [])
-  taken entry nodes input sizes needed =
-      ap
-      (λ b. if b
-      then sizes_along script rows counts nodes (behind entry.1.made input)
-      (sizes ++ Some (sized_as rows counts (length sizes) entry.1.made input sizes) ∷ [])
-      else sizes_along script rows counts nodes input (sizes ++ None ∷ []))
-      needed
-
-  passed : (entry : List ℕ × Node) (nodes : Named Node) (input : ℕ) (sizes : List (Option ℕ))
-      → is_needed script (length sizes) ≡ false
-      → sizes_along script rows counts (entry ∷ nodes) input sizes
-      ≡ sizes_along script rows counts nodes input (sizes ++ None ∷ [])
-  passed entry nodes input sizes needless =
-      ap
-      (λ b. if b
-      then sizes_along script rows counts nodes (behind entry.1.made input)
-      (sizes ++ Some (sized_as rows counts (length sizes) entry.1.made input sizes) ∷ [])
-      else sizes_along script rows counts nodes input (sizes ++ None ∷ []))
-      needless
-
   abbrev Ahead : Named Node → Type 0
   Ahead nodes =
       (before : Named Node) (table : List (Option Collection)) (input : ℕ)
@@ -152,7 +128,7 @@ module _ (script : Script) (rows : List (List Value)) (counts : List ℕ)
         ≡ size_of c =
         ap (λ n. sized_as rows counts n mk input (map sized table)) long
         ∙ one_size mk (length table) input left table c ahead here counted in
-        taken entry nodes input (map sized table) (ap (is_needed script) long ∙ needed)
+        taken script rows counts entry nodes input (map sized table) (ap (is_needed script) long ∙ needed)
         ∙ (ap (λ s. sizes_along script rows counts nodes (behind mk input)
         (map sized table ++ Some s ∷ [])) size
         ∙ (ap (sizes_along script rows counts nodes (behind mk input)) (with_one table (Some c))
@@ -169,7 +145,7 @@ module _ (script : Script) (rows : List (List Value)) (counts : List ℕ)
         → collections script nodes left (table ++ None ∷ []) ≡ Some all → Ahead nodes
         → sizes_along script rows counts (entry ∷ nodes) input (map sized table) ≡ map sized all
     next_passed entry nodes before table input left needless split count ahead rest more =
-        passed entry nodes input (map sized table)
+        passed script rows counts entry nodes input (map sized table)
         (ap (is_needed script) (length-map table sized) ∙ needless)
         ∙ (ap (sizes_along script rows counts nodes input) (with_one table None)
         ∙ more (before ++ entry ∷ []) (table ++ None ∷ []) input left

@@ -1,3 +1,4 @@
 pub mod Along
 pub mod Named
+pub mod Stepping
 pub mod Together

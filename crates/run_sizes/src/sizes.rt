@@ -140,7 +140,7 @@ fn named(
 {
     let mut named = Vec::new(alloc);
     for (number, size) in sizes.iter().enumerate() {
-        push_size(alloc, program.node_name(number), *size, &mut named)?;
+        push_size(alloc, program.node_name(number), size, &mut named)?;
     }
     Ok(named)
 }
@@ -149,14 +149,14 @@ fn named(
 fn push_size(
     alloc: Global,
     name: &Str,
-    size: Option<u64>,
+    size: &Option<u64>,
     named: &mut Vec<(Str, u64)>,
 ) -> Result<(), AllocError>
-    ensures { OnOk result (named.new.items ≡ named.old.items ++ size_line name.now size) }
+    ensures { OnOk result (named.new.items ≡ named.old.items ++ size_line name.now size.now) }
 {
     match size {
         Some(size) => {
-            named.push((name.copy(alloc)?, size))?;
+            named.push((name.copy(alloc)?, *size))?;
             Ok(())
         }
         None => Ok(()),

@@ -1,10 +1,10 @@
 -- What the run of a script by its plan comes to.
-use Rattle.std.specs.Prelude.{◌≡◌, ℕ, List, Option, Some, IsSomeAnd, take}
-use Rattle.std.specs.List.{AllByRecursion, AllZip, Contains}
+use Rattle.std.specs.Prelude.{◌≡◌, List, [], Option, Some, ⊤}
+use Rattle.std.specs.List.{AllZip, Contains}
 use Rattle.build_law.specs.Signatures.{signatures_of}
 use Rattle.build_law.specs.Worlds.{world_of}
 use Rattle.crew.specs.Hosts.{Account}
-use Rattle.direct_meaning.specs.Direct.{made_at, meaning, sizes_of, traps_of}
+use Rattle.direct_meaning.specs.Direct.{meaning, sizes_of, traps_of}
 use Rattle.exec_graph.specs.World.{World}
 use Rattle.exec_plan.specs.Typing.{IsPlanTyped}
 use Rattle.exec_plan.specs.Wellformed.{IsPlanOk}
@@ -15,12 +15,15 @@ use Rattle.flume_value.specs.declared.value.Value.{Value}
 use Rattle.graph_build.specs.Graphs.{graph_of}
 use Rattle.plan_laws.specs.Operations.{SamePlan}
 use Rattle.plan_phases.specs.Phases.{PhaseTasks, phases}
-use Rattle.plan_phases.specs.Told.{AreWinners, CanFinishAll, IsGivenUp}
+use Rattle.plan_phases.specs.Told.{AreWinners, IsGivenUp}
+use Rattle.plan_phases.specs.declared.fault.RunFault.{RunFault}
+use Rattle.plan_phases.specs.declared.fault.RunFault.TheVariants as fault
 use Rattle.plan_phases.specs.declared.winners.PhaseWinners.{PhaseWinners}
 use Rattle.run_settings.specs.Settings.{RunSettings}
 use Rattle.script_check.specs.Script.{Script}
 use Rattle.task_lists.specs.Plans.{first_trap}
 use Rattle.task_lists.specs.Tasks.{Split}
+use Rattle.script_run.specs.Comes.{AreMembers}
 use Rattle.script_run.specs.declared.run.Ran.{Ran}
 
 -- the plan is well-formed and typed, and means what the script's graph means, over any rows
@@ -44,10 +47,6 @@ abbrev pub WereRun : RunSettings → List PhaseTasks → List Account → List A
 WereRun s phases olds news winners =
     AllZip (AreWinners s.tries s.drill olds news) phases winners
 
--- the members are those of the collection of a number
-abbrev pub AreMembers : List (Option Collection) → ℕ → List Value → Type 0
-AreMembers made number members = IsSomeAnd (made_at made number) (λ c. members ≡ c.bag)
-
 -- Nothing in the script's meaning traps, and these are the members that its outputs write and the
 -- sizes of its collections. Each task of the plan was run.
 pub record IsRan (s : RunSettings) (script : Script) (inputs : List (List Value)) (plan : Plan)
@@ -68,3 +67,12 @@ pub record IsFirstOf (s : RunSettings) (script : Script) (inputs : List (List Va
   pub means : meaning script inputs ≡ Some made
   pub among : Contains (traps_of made) trap
   pub first : first_trap (world_of script inputs) (split_of s) plan ≡ Some trap
+
+-- why a run of the plan came to no end: a trap, a task that was given up, or want of memory
+abbrev pub IsRunFault : RunSettings → Script → List (List Value) → Plan → List Account
+    → List Account → RunFault → Type 0
+IsRunFault s script inputs plan olds news (fault.Trap trap) = IsFirstOf s script inputs plan trap
+IsRunFault s script inputs plan olds news (fault.GaveUp stage phase task) =
+    IsGivenUp s.tries s.drill (world_of script inputs) (phases_of s script inputs plan) olds news
+    stage phase task
+IsRunFault s script inputs plan olds news fault.Memory = ⊤

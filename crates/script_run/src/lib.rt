@@ -4,10 +4,13 @@
 //! over the rows of the script's needed inputs. What comes of it is told in the terms of the script:
 //! the members of each output, the sizes of all needed collections, and for each phase of the plan
 //! the attempts that have won its tasks (`IsRan`, specs/Runs.antt); or a trap of the script, or the
-//! task that was given up (`IsRunStop`). So whatever the schedule of the workers and whichever
-//! attempts are lost, a run that ends without a trap comes to the script's direct meaning.
+//! task that was given up (`IsRunFault`). So whatever the schedule of the workers and whichever
+//! attempts are lost, a run that ends without a trap comes to the script's direct meaning
+//! (`plan_law`: a plan comes to what its script means).
 #![tactic(auto)]
 
+mod laws;
 mod run;
 
+pub use laws::plan_law;
 pub use run::{Ran, run_script};

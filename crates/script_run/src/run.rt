@@ -1,21 +1,21 @@
-ghost use Rattle.std.specs.Prelude.{◌≡◌, ◌++◌, ◌∷◌, [], IfErr, IfOk, map};
+ghost use Rattle.std.specs.Prelude.{◌≡◌, IfErr, IfOk, length, map};
 ghost use Rattle.std.specs.List.{AllZip};
 ghost use Rattle.build_law.specs.Limits.{HasFirstOutputs, HasShortFlattens};
 ghost use Rattle.crew.specs.Hosts.{account, Grew};
 ghost use Rattle.direct_meaning.specs.Inputs.{AreInputs};
 ghost use Rattle.flume_value.specs.Bag.{bag_of};
 ghost use Rattle.script_laws.specs.WellFormed.{IsWellFormed};
-ghost use Rattle.script_run.specs.Runs.{CanEnd, IsPlanOf, IsRan, IsRunStop, IsNoGivingUp};
+ghost use Rattle.script_run.specs.Runs.{IsPlanOf, IsRan, IsRunFault};
 
 use exec_plan::Plan;
 use flume_value::{Items, Pile, Str, sorted};
 use outside::Host;
-use plan_phases::PhaseWinners;
+use plan_phases::{PhaseWinners, RunFault};
 use run_settings::Settings;
 use run_sizes::needed_sizes;
 use script_check::Program;
 use script_functions::ScriptFunctions;
-use stage_exec::{Executed, RunFault, execute};
+use stage_exec::execute;
 use std::alloc::{AllocError, Global};
 use std::thread::Threads;
 
@@ -30,7 +30,8 @@ pub struct Ran {
     pub winners: Vec<PhaseWinners>,
 }
 
-/// Runs the plan of a program over the rows of its needed inputs, a worker on each of the hosts.
+/// Runs the plan of a program over the rows of its needed inputs, with a worker on each of the
+/// hosts.
 pub fn run_script<X: Threads + Sync, H: Host + Send>(
     rt: &X,
     alloc: Global,
@@ -40,3 +41,38 @@ pub fn run_script<X: Threads + Sync, H: Host + Send>(
     hosts: &mut [H],
     settings: &Settings,
 ) -> Result<Ran, RunFault>
+    requires well_formed { IsWellFormed program.now.script }
+    requires short { HasShortFlattens program.now.script }
+    requires first { HasFirstOutputs program.now.script }
+    requires plan { IsPlanOf program.now.script plan.now }
+    requires inputs { AreInputs program.now.script inputs }
+    requires hosts { length hosts.old ≡ settings.now.workers }
+    ensures grew { AllZip Grew
+        (map (account H.notes H.losses) hosts.old) (map (account H.notes H.losses) hosts.new) }
+    ensures ran { IfOk result (IsRan settings.now program.now.script inputs plan.now
+        (map (account H.notes H.losses) hosts.old) (map (account H.notes H.losses) hosts.new)) }
+    ensures fault { IfErr result (IsRunFault settings.now program.now.script inputs plan.now
+        (map (account H.notes H.losses) hosts.old) (map (account H.notes H.losses) hosts.new)) }
+{
+    let functions = ScriptFunctions::new(program);
+    let origins = program.node_count() as u32;
+    let rows = inputs.as_slice();
+    let done = execute(rt, alloc, &functions, plan, rows, origins, hosts, settings)?;
+    let sizes = needed_sizes(alloc, program, rows, done.sizes.as_slice())?;
+    Ok(Ran {
+        outputs: all_sorted(alloc, done.outputs)?,
+        sizes,
+        winners: done.winners,
+    })
+}
+
+/// Each list sorted.
+fn all_sorted(alloc: Global, lists: Vec<Items>) -> Result<Vec<Items>, AllocError>
+    ensures { IfOk result (λ all. all.items ≡ map bag_of lists.items) }
+{
+    let mut all = Vec::with_capacity(alloc, lists.len())?;
+    for list in lists {
+        all.push(Pile::from_vec(sorted(list.into_vec())?))?;
+    }
+    Ok(all)
+}

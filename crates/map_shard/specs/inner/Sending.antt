@@ -6,7 +6,7 @@ use Rattle.flume_collection.specs.Calls.{or_none}
 use Rattle.exec_plan.specs.declared.plan.Take.{Take}
 use Rattle.exec_plan.specs.declared.plan.OutChannel.{OutChannel}
 use Rattle.exec_plan.specs.declared.plan.OutChannel.TheVariants.{Group, Pass}
-use Rattle.map_shard.specs.Work.{ArePairs}
+use Rattle.task_lists.specs.Typing.{AreGroupable}
 
 abbrev pub taken_by : ℕ → List (List Value) → Take → List Value
 taken_by m lists k = cond (k.channel == m) (or_none (slice_get lists k.out)) []
@@ -17,4 +17,4 @@ taken m lists takes = flat_map (taken_by m lists) takes
 -- it is fit for the channel
 abbrev pub CanSend : ℕ → List (List Value) → OutChannel → Type 0
 CanSend m lists (Pass k number) = Unit {0}
-CanSend m lists (Group g) = ArePairs g.lifted (taken m lists g.takes)
+CanSend m lists (Group g) = AreGroupable g.lifted (taken m lists g.takes)

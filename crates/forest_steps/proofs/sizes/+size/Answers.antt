@@ -1,4 +1,4 @@
-use Rattle.std.proofs.Common.{◌≡◌, ◌≤◌, ◌-◌, ◌∷◌, ◌++◌, List, length, ap, arith, append-nil, sym, ◌∙◌, drop, vec_len}
+use Rattle.std.proofs.Common.{◌≡◌, ◌≤◌, ◌-◌, ◌++◌, length, ap, arith, append-nil, sym, ◌∙◌, drop}
 use Rattle.forest_steps.specs.inner.Sizes.{branches_sizes}
 use Rattle.forest_steps.proofs.Sizing.{size_stands}
 use Rattle.forest_steps.proofs.Visiting.{drop_past}

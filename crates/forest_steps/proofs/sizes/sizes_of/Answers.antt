@@ -1,4 +1,4 @@
-use Rattle.std.proofs.Common.{◌≡◌, ◌≤◌, ◌++◌, List, length, drop, ap, arith, append-nil, sym, ◌∙◌}
+use Rattle.std.proofs.Common.{◌≡◌, ◌≤◌, ◌++◌, length, drop, ap, arith, append-nil, sym, ◌∙◌}
 use Rattle.forest_steps.specs.inner.Sizes.{branches_sizes}
 use Rattle.forest_steps.specs.Places.{sizes_in}
 use Rattle.forest_steps.proofs.Sizing.{grown_are}

@@ -1,28 +1,38 @@
-use Rattle.std.proofs.Common.{◌≡◌, ◌∷◌, List, drop, ap, subst, sym, ◌∙◌}
-use borrow.Author.Rules.{rules}
+use Rattle.std.proofs.Common.{ℕ, ◌+◌, ◌≤◌, arith, ◌≡◌, ◌∷◌, List, drop, ap, subst, sym, ◌∙◌}
+use borrow.Author.Rules.{rules, lives}
 use Rattle.std.specs.List.{AllByRecursion, slice_get}
 use Rattle.std.proofs.lemmas.Result.{err_from_is_err_and}
 use Rattle.flume_collection.specs.Calls.{or_none}
 use Rattle.flume_value.specs.declared.value.Value.{Value}
 use Rattle.exec_graph.specs.Calls.{called}
+use denote.Param.Weighed.{at_most, most}
 use Rattle.exec_graph.specs.Forests.{Branch, grown}
+use Rattle.exec_graph.specs.declared.step.Output.{Output}
+use Rattle.exec_graph.specs.declared.step.Step.TheDeep.{deep-Output}
+use Rattle.exec_graph.specs.declared.step.Step.TheView.{size}
+use Rattle.exec_graph.proofs.step.Step.TheLaws.TheFalls.{size_decreases}
 use Rattle.forest_steps.specs.Functions.{world_of}
 use Rattle.forest_steps.specs.Safety.{Safe}
 use Rattle.forest_steps.specs.Running.{Run, IsRun, run, run_twigs}
 use Rattle.forest_steps.proofs.Twigging.{limb_run, limb_safe, safe_member}
-use Rattle.forest_steps.proofs.Visiting.{each_member, place_begun, place_on, safe_begun, safe_here, safe_on, steps_end, steps_on, twigs_begun, twigs_end, twigs_on}
+use Rattle.forest_steps.proofs.Visiting.{each_member, place_begun, place_on, safe_begun, safe_first, safe_here, safe_on, steps_end, steps_on, twigs_begun, twigs_end, twigs_on}
 use Rattle.forest_steps.proofs.visit.+visit.Goals as goal
 
-pub visit_output-visit_kids-requires-after_bounds :
-    goal.visit_output-visit_kids-requires-after_bounds
-visit_output-visit_kids-requires-after_bounds g t c κs within =
+pub visit_output-visit_kids-requires : goal.visit_output-visit_kids-requires
+visit_output-visit_kids-requires g t c κs within =
     let w = world_of (g.F.Functions.called c.args.functions.now) in
     let takes = g.F.Functions.can_call c.args.functions.now in
     let kids = grown c.args.output.now.kids.items in
-    let all : AllByRecursion (Safe w takes kids) c.as_slice-y-items.result.now =
-    subst (AllByRecursion (Safe w takes kids)) (sym c.as_slice-y-items.ensures) c.requires in
-    each_member (Safe w takes kids) c.as_slice-y-items.result.now c.loop-y.y-index c.y-item.result
-    all c.loop-y-test.true c.y-item.is
+    let items = c.as_slice-y-items.result.now in
+    let all : AllByRecursion (Safe w takes kids) items =
+    subst (AllByRecursion (Safe w takes kids)) (sym c.as_slice-y-items.ensures) c.requires in (
+      search rules,
+      (
+        search (rules, lives, within) depth 24 fits 20000,
+        each_member (Safe w takes kids) items c.loop-y.y-index c.y-item.result all
+            c.loop-y-test.true c.y-item.is,
+      ),
+    )
 
 pub visit_outputs-loop-output-init : goal.visit_outputs-loop-output-init
 visit_outputs-loop-output-init g t c =
@@ -49,15 +59,44 @@ visit_outputs-loop-output-init g t c =
           c.args.answers.items c.next_list-emitted.new.answers.rest.items more same left c.requires;
     }
 
-pub visit_outputs-visit_output-requires-in-loop-output-after_bounds :
-    goal.visit_outputs-visit_output-requires-in-loop-output-after_bounds
-visit_outputs-visit_output-requires-in-loop-output-after_bounds g t c κs within =
+pub visit_outputs-visit_output-requires : goal.visit_outputs-visit_output-requires
+visit_outputs-visit_output-requires g t c κs within =
     let w = world_of (g.F.Functions.called c.args.functions.now) in
     let takes = g.F.Functions.can_call c.args.functions.now in
-    safe_here w c.args.sizes.now takes c.deref-output-items.result.now c.loop-output.output-index
-    c.output-item.result c.loop-output.answers.rest.items c.next_list-emitted-in-loop-output.result
-    c.loop-output-test.true c.output-item.is c.next_list-emitted-in-loop-output.ensures.next
-    c.loop-output.invariant.safe
+    let first = sym (ap (λ (d : Branch). d.first) c.step.view_is) in
+    let all : c.into_iter-answers.result.rest.items ≡ c.args.answers.items = search rules in
+    let given = c.next_list-emitted.ensures.next
+    ∙ ap (λ (l : List (List Value)). or_none (slice_get l 0)) all in
+    let whole = ap size c.step.view_is in (
+      omega (arith, c.decreases, whole, size_decreases c.step.inside c.step.invariant),
+      (
+        search (rules, lives, within) depth 24 fits 20000,
+        safe_first w c.args.sizes.now takes c.args.step.now c.step.inside.first c.args.answers.items
+            c.next_list-emitted.result first given c.requires,
+      ),
+    )
+
+pub visit_outputs-visit_output-requires-in-loop-output :
+    goal.visit_outputs-visit_output-requires-in-loop-output
+visit_outputs-visit_output-requires-in-loop-output g t c κs within =
+    let w = world_of (g.F.Functions.called c.args.functions.now) in
+    let takes = g.F.Functions.can_call c.args.functions.now in
+    let items = c.deref-output-items.result.now in
+    let more = ap (most deep-Output) c.deref-output-items.ensures.value in
+    let below : deep-Output c.output-item.result ≤ most deep-Output items =
+    subst (λ (o : Output). deep-Output o ≤ most deep-Output items) (sym c.output-item.is)
+    (at_most deep-Output items c.loop-output.output-index c.output-item.result
+    c.loop-output-test.true) in
+    let whole = ap size c.step.view_is in (
+      omega (arith, c.decreases, below, more, whole, size_decreases c.step.inside c.step.invariant),
+      (
+        search (rules, lives, within) depth 24 fits 20000,
+        safe_here w c.args.sizes.now takes items c.loop-output.output-index c.output-item.result
+            c.loop-output.answers.rest.items c.next_list-emitted-in-loop-output.result
+            c.loop-output-test.true c.output-item.is
+            c.next_list-emitted-in-loop-output.ensures.next c.loop-output.invariant.safe,
+      ),
+    )
 
 pub visit_outputs-returns-in_err-visit_output-2-clause-ran :
     goal.visit_outputs-returns-in_err-visit_output-2-clause-ran
@@ -104,14 +143,19 @@ visit_outputs-loop-output-preserved g t c =
           c.output-item.is rest c.loop-output.invariant.safe;
     }
 
-pub visit_step-visit_outputs-requires-after_bounds :
-    goal.visit_step-visit_outputs-requires-after_bounds
-visit_step-visit_outputs-requires-after_bounds g t c κs within =
+pub visit_step-visit_outputs-requires : goal.visit_step-visit_outputs-requires
+visit_step-visit_outputs-requires g t c κs within =
     let w = world_of (g.F.Functions.called c.args.functions.now) in
     let takes = g.F.Functions.can_call c.args.functions.now in
+    let answers = c.in_ok-answers.answers.items in
     let given = sym (ap (λ (d : Branch). called w d.does c.args.x.now) c.step.view_is)
-    ∙ c.in_ok-answers.ensures.given in
-    limb_safe w takes c.args.step.now c.args.x.now c.in_ok-answers.answers.items given c.requires
+    ∙ c.in_ok-answers.ensures.given in (
+      search rules,
+      (
+        search (rules, lives, within) depth 24 fits 20000,
+        limb_safe w takes c.args.step.now c.args.x.now answers given c.requires,
+      ),
+    )
 
 pub visit_step-returns-clause-ran : goal.visit_step-returns-clause-ran
 visit_step-returns-clause-ran g t c =
@@ -123,14 +167,24 @@ visit_step-returns-clause-ran g t c =
     c.in_ok-answers.answers.items c.args.outputs.now given))
     c.visit_outputs.ensures.ran
 
-pub visit_kids-visit_step-requires-after_bounds : goal.visit_kids-visit_step-requires-after_bounds
-visit_kids-visit_step-requires-after_bounds g t c κs within =
+pub visit_kids-visit_step-requires : goal.visit_kids-visit_step-requires
+visit_kids-visit_step-requires g t c κs within =
     let w = world_of (g.F.Functions.called c.args.functions.now) in
     let takes = g.F.Functions.can_call c.args.functions.now in
+    let items = c.deref-kid-items.result.now in
+    let μ : Branch → ℕ = λ b. size b + 1 in
+    let below : μ c.kid-item.result ≤ most μ items = subst (λ (b : Branch). μ b ≤ most μ items)
+    (sym c.kid-item.is)
+    (at_most μ items c.loop-kid.kid-index c.kid-item.result c.loop-kid-test.true) in
     let safe = subst (λ (bs : List Branch). Safe w takes (grown bs) c.args.y.now)
-    (sym c.deref-kid-items.ensures.value) c.requires in
-    safe_member w takes c.deref-kid-items.result.now c.args.y.now c.loop-kid.kid-index
-    c.kid-item.result safe c.loop-kid-test.true c.kid-item.is
+    (sym c.deref-kid-items.ensures.value) c.requires in (
+      omega (arith, c.decreases, below, ap (most μ) c.deref-kid-items.ensures.value),
+      (
+        search (rules, lives, within) depth 24 fits 20000,
+        safe_member w takes c.deref-kid-items.result.now c.args.y.now c.loop-kid.kid-index
+            c.kid-item.result safe c.loop-kid-test.true c.kid-item.is,
+      ),
+    )
 
 pub visit_kids-returns-in_err-next : goal.visit_kids-returns-in_err-next
 visit_kids-returns-in_err-next g t c =

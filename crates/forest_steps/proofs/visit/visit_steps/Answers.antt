@@ -27,8 +27,8 @@ loop-step-preserved g c =
     whole c.loop-step-test.true c.step-item.is c.in_ok-next.ensures.place c.loop-step.invariant
     c.in_ok-next.ensures.ran
 
-pub visit_step-requires-after_bounds : goal.visit_step-requires-after_bounds
-visit_step-requires-after_bounds g c κs within =
+pub visit_step-requires : goal.visit_step-requires
+visit_step-requires g c =
     let w = world_of (g.F.Functions.called c.args.functions.now) in
     let takes = g.F.Functions.can_call c.args.functions.now in
     safe_member w takes c.args.steps.now c.args.x.now c.loop-step.step-index c.step-item.result

@@ -1,7 +1,6 @@
-use Rattle.std.proofs.Common.{◌≤◌, length, arith}
 use Rattle.task_lists.specs.Outs.{IsSent}
 use Rattle.map_shard.specs.inner.Sending.{CanSend, taken}
-use Rattle.map_shard.proofs.Sending.{member, zip_all, zip_further}
+use Rattle.map_shard.proofs.Sending.{member, zip_further}
 use Rattle.map_shard.proofs.send.send_all.Goals as goal
 
 pub send-requires-clause-fit : goal.send-requires-clause-fit

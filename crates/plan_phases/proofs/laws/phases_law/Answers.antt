@@ -12,7 +12,6 @@ returns-clause-calm c w n p shards partitions =
     (λ f t s. c.numbers_law.ensures.reduce_traps f w n t s partitions) p
 
 pub returns-clause-first : goal.returns-clause-first
-returns-clause-first c w n p before behind here smaller greater task trap shards partitions =
+returns-clause-first c w n p trap shards partitions =
     first_traps w n (λ f t s. c.numbers_law.ensures.map_traps f n t s shards)
-    (λ f t s. c.numbers_law.ensures.reduce_traps f w n t s partitions) p before behind here smaller
-    greater task trap
+    (λ f t s. c.numbers_law.ensures.reduce_traps f w n t s partitions) p trap

@@ -1,0 +1,15 @@
+-- Places one after another.
+use Rattle.std.proofs.Common.{◌+◌, ℕ, [], ◌∷◌, sym, subst, add-one}
+use Rattle.crew.specs.declared.drill.Entry.{Entry}
+use Rattle.crew.specs.Hosts.{Account, Gains, at_place, places_below}
+use Rattle.crew.proofs.Accounts.{gains_on, gains_nothing}
+use Rattle.forest_run.specs.Asking.{LetThrough}
+
+pub let_none : (e : Entry) (a : Account) → LetThrough e 0 a a
+let_none e a = gains_nothing a
+
+pub let_more : (e : Entry) (n : ℕ) (a b c : Account) → LetThrough e n a b
+    → Gains b c (at_place e n ∷ []) [] → LetThrough e (n + 1) a c
+let_more e n a b c l g =
+    subst (λ k. LetThrough e k a c) (sym (add-one n))
+    (gains_on a b c (places_below e n) (at_place e n ∷ []) [] [] l g)

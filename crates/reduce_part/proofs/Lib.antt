@@ -1,0 +1,5 @@
+pub mod Gathering
+pub mod Channels
+pub mod Values
+pub mod Merging
+pub mod CrossLemmas

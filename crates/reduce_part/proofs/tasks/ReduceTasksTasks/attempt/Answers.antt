@@ -1,0 +1,57 @@
+use Rattle.std.proofs.Common.{IfOk, OnErr, subst}
+use Rattle.crew.specs.Attempts.{MatchAttempt, Ran, StoppedDown, StoppedEarly}
+use Rattle.crew.specs.Drills.{attempt_at}
+use Rattle.crew.specs.Hosts.{account}
+use Rattle.reduce_part.proofs.Channels.{channel_within, no_pass, places_are, task_ready, values_by}
+use Rattle.reduce_part.proofs.tasks.ReduceTasksTasks.attempt.Goals as goal
+
+pub bounds-as_slice-channel : goal.bounds-as_slice-channel
+bounds-as_slice-channel g c =
+    let below = rw (← c.self.view_is) at c.requires in
+    channel_within c.self.invariant c.args.task below c.as_slice.result.now c.as_slice.ensures
+
+pub reduce_partition-requires : goal.reduce_partition-requires
+reduce_partition-requires g c =
+    let below = rw (← c.self.view_is) at c.requires in record {
+      ready = task_ready c.self.invariant c.args.task below c.as_slice.result.now
+          c.as_slice.ensures c.index-as_slice-channel.result c.index-as_slice-channel.is
+          c.in-Group.grouping c.in-Group.is;
+    }
+
+pub unreachable-requires : goal.unreachable-requires
+unreachable-requires g c =
+    let below = rw (← c.self.view_is) at c.requires in
+    no_pass c.self.invariant c.args.task below c.as_slice.result.now c.as_slice.ensures
+    c.index-as_slice-channel.result c.index-as_slice-channel.is c.in-Pass.field-0
+    c.in-Pass.field-1 c.in-Pass.is
+
+pub returns-clause-value : goal.returns-clause-value
+returns-clause-value g c =
+    let below = rw (← c.self.view_is) at c.requires in
+    values_by c.self.invariant c.args.task below c.as_slice.result.now c.as_slice.ensures
+    c.index-as_slice-channel.result c.index-as_slice-channel.is c.in-Group.grouping c.in-Group.is
+    c.self.view_is g.F.Functions.called c.reduce_partition.result c.reduce_partition.ensures.value
+
+pub returns-clause-ran : goal.returns-clause-ran
+returns-clause-ran g c =
+    let below = rw (← c.self.view_is) at c.requires in
+    let places = places_are c.self.invariant c.args.task below c.as_slice.result.now
+    c.as_slice.ensures c.index-as_slice-channel.result c.index-as_slice-channel.is
+    c.in-Group.grouping c.in-Group.is c.self.view_is in
+    let e = attempt_at c.args.at.now c.args.task in
+    let a = account g.H.Host.notes g.H.Host.losses c.args.host.now in
+    let b = account g.H.Host.notes g.H.Host.losses c.reduce_partition.new.host in
+    subst (λ n. IfOk c.reduce_partition.result (λ r. MatchAttempt r (Ran e n a b)
+    (StoppedDown e n a b))) places c.reduce_partition.ensures.ran
+
+pub returns-clause-early : goal.returns-clause-early
+returns-clause-early g c =
+    let below = rw (← c.self.view_is) at c.requires in
+    let places = places_are c.self.invariant c.args.task below c.as_slice.result.now
+    c.as_slice.ensures c.index-as_slice-channel.result c.index-as_slice-channel.is
+    c.in-Group.grouping c.in-Group.is c.self.view_is in
+    let e = attempt_at c.args.at.now c.args.task in
+    let a = account g.H.Host.notes g.H.Host.losses c.args.host.now in
+    let b = account g.H.Host.notes g.H.Host.losses c.reduce_partition.new.host in
+    subst (λ n. OnErr c.reduce_partition.result (StoppedEarly e n a b)) places
+    c.reduce_partition.ensures.early

@@ -1,0 +1,10 @@
+use Rattle.std.proofs.Common.{◌≡◌, ◌≤◌, ◌+◌, drop, length}
+use Rattle.task_lists.specs.Tasks.{groupings}
+use Rattle.reduce_part.proofs.tasks.count_groupings.Given as goal
+
+abbrev pub invariant-loop-channel : goal.invariant-loop-channel
+invariant-loop-channel l = record {
+  counted : l.count + length (groupings (drop l.channel-index l.channels))
+      ≡ length (groupings l.channels);
+  few : l.count ≤ l.channel-index;
+}

@@ -1,0 +1,118 @@
+// A partition of a grouping channel.
+ghost use Rattle.std.specs.Prelude.{◌≡◌, ℕ, ◌+◌, List, All, IfOk, OnErr, Option, length};
+ghost use Rattle.std.specs.List.{AllByRecursion};
+ghost use Rattle.flume_value.specs.declared.value.Value.{Value as GhostValue};
+ghost use Rattle.bag_groups.specs.Groups.{grouped};
+ghost use Rattle.bag_groups.specs.Pairs.{IsPair};
+ghost use Rattle.crew.specs.Hosts.{account};
+ghost use Rattle.crew.specs.Drills.{attempt_at};
+ghost use Rattle.crew.specs.Attempts.{IsMadeOf, MatchAttempt, Ran, StoppedDown, StoppedEarly};
+ghost use Rattle.exec_graph.specs.Forests.{Forest};
+ghost use Rattle.exec_graph.specs.World.{World};
+ghost use Rattle.exec_plan.specs.Wellformed.{IsNumbered};
+ghost use Rattle.forest_courses.specs.Courses.{IsCourse};
+ghost use Rattle.forest_steps.specs.Functions.{world_of};
+ghost use Rattle.forest_steps.specs.Safety.{SafeOf};
+ghost use Rattle.reduce_part.specs.Reducing.{IsReducedFrom, IsReduceValue, IsReducible, group_count};
+ghost use Rattle.reduce_part.specs.inner.Merged.{IsValueOf};
+
+use crate::lifted::reduce_partials;
+use crate::out::{ReduceOut, Reduced};
+use bag_groups::group;
+use crew::{Attempt, Spot};
+use exec_graph::Roots;
+use exec_plan::Grouping;
+use flume_value::{Pile, Value};
+use forest_run::{Course, run_task};
+use forest_steps::Functions;
+use outside::Host;
+use shuffle_parts::{MapOut, gather_pairs, gather_partials};
+use std::alloc::{AllocError, Global};
+
+/// The reducer on the groups of a partition of a grouping channel, which is the output channel of
+/// that number, on a host.
+pub(crate) fn reduce_partition<F: Functions, H: Host>(
+    alloc: Global,
+    functions: &F,
+    grouping: &Grouping,
+    outs: &[MapOut],
+    channel: usize,
+    partition: usize,
+    host: &mut H,
+    spot: &Spot,
+    task: u32,
+) -> Result<Attempt<Reduced>, AllocError>
+    requires ready { IsReducible (world_of (F.called functions.now)) (F.can_call functions.now)
+        outs.now channel partition grouping.now }
+    ensures value { IfOk result (IsMadeOf (IsReducedFrom (F.called functions.now) outs.now channel
+        partition grouping.now)) }
+    ensures ran { IfOk result (λ r. MatchAttempt r
+        (Ran (attempt_at spot.now task)
+        (group_count grouping.now.lifted outs.now channel partition)
+        (account H.notes H.losses host.old) (account H.notes H.losses host.new))
+        (StoppedDown (attempt_at spot.now task)
+        (group_count grouping.now.lifted outs.now channel partition)
+        (account H.notes H.losses host.old) (account H.notes H.losses host.new))) }
+    ensures early { OnErr result
+        (StoppedEarly (attempt_at spot.now task)
+        (group_count grouping.now.lifted outs.now channel partition)
+        (account H.notes H.losses host.old) (account H.notes H.losses host.new)) }
+{
+    match (grouping.lifted, &grouping.does) {
+        (None, does) => {
+            let pairs = gather_pairs(alloc, outs, channel, partition)?;
+            reduce_pairs(alloc, functions, does, pairs, host, spot, task)
+        }
+        (Some(comb), Some(roots)) => {
+            let partials = gather_partials(alloc, outs, channel, partition)?;
+            reduce_partials(alloc, functions, roots, comb, partials, host, spot, task)
+        }
+        (Some(_), None) => unreachable!(),
+    }
+}
+
+// The steps on the groups of the pairs.
+fn reduce_pairs<F: Functions, H: Host>(
+    alloc: Global,
+    functions: &F,
+    does: &Option<Roots>,
+    pairs: Vec<Value>,
+    host: &mut H,
+    spot: &Spot,
+    task: u32,
+) -> Result<Attempt<Reduced>, AllocError>
+    requires pairs { All IsPair pairs.items }
+    requires numbered { IsNumbered does.now }
+    requires safe { AllByRecursion (SafeOf (world_of (F.called functions.now))
+        (F.can_call functions.now) does.now) (grouped pairs.items) }
+    ensures value { IfOk result (IsMadeOf (IsValueOf (F.called functions.now) does.now
+        (grouped pairs.items))) }
+    ensures ran { IfOk result (λ r. MatchAttempt r
+        (Ran (attempt_at spot.now task) (length (grouped pairs.items))
+        (account H.notes H.losses host.old) (account H.notes H.losses host.new))
+        (StoppedDown (attempt_at spot.now task) (length (grouped pairs.items))
+        (account H.notes H.losses host.old) (account H.notes H.losses host.new))) }
+    ensures early { OnErr result
+        (StoppedEarly (attempt_at spot.now task) (length (grouped pairs.items))
+        (account H.notes H.losses host.old) (account H.notes H.losses host.new)) }
+{
+    let groups = group(alloc, pairs)?;
+    match run_task(alloc, functions, does, &groups, host, spot, task)? {
+        Attempt::Made(course) => Ok(Attempt::Made(reduced(course, groups.len()))),
+        Attempt::Down => Ok(Attempt::Down),
+    }
+}
+
+/// What the groups come to, of which there are so many.
+pub(crate) fn reduced(course: Course, groups: usize) -> Reduced
+    ensures { (w : World) (does : Option Forest) (xs : List GhostValue) → groups ≡ length xs →
+        IsCourse w does xs course →
+        IsReduceValue w (record { elements = xs; does = does }) result }
+{
+    let (outputs, counts) = course?.into_parts();
+    Ok(ReduceOut {
+        outputs: Pile::from_vec(outputs),
+        counts: Pile::from_vec(counts),
+        groups: groups as u64,
+    })
+}

@@ -1,0 +1,56 @@
+-- The world of a script is typed by the script's signatures.
+use Rattle.std.proofs.Common.{◌≡◌, ℕ, zero, suc, List, [], ◌∷◌, Option, Some, None, slice_get, refl, sym, subst}
+use Rattle.std.specs.Prelude.{Ok, Err, slice_index_or}
+use Rattle.std.proofs.lemmas.List.Elements.{All-from_recursion}
+use Rattle.flume_value.specs.declared.value.Value.{Value}
+use Rattle.flume_types.specs.declared.types.Ty.{Ty}
+use Rattle.flume_types.specs.Typing.{AllHave, Has}
+use Rattle.flume_collection.specs.Calls.{Called}
+use Rattle.exec_graph.specs.Typing.{IsWorldTyped, Answers}
+use Rattle.script_check.specs.Script.{Function, Script}
+use Rattle.script_laws.specs.WellFormed.{IsWellFormed, IsWellTyped, function_at}
+use Rattle.direct_meaning.specs.Calls.{answer_of}
+use Rattle.direct_meaning.specs.Inputs.{AreInputs, HaveRows, Wanted, inputs_of}
+use Rattle.direct_meaning.proofs.CallLemmas.{CalledOf, answers}
+use Rattle.direct_meaning.proofs.MakeLemmas.{well_typed}
+use Rattle.build_law.specs.Signatures.{given_by, input_type, signatures_of, taken_by}
+use Rattle.build_law.specs.Worlds.{answered_by, or_silent, world_of}
+
+-- ---- rows
+
+rows_typed : (wanted : List Wanted) (inputs : List (List Value)) → HaveRows wanted inputs → (r : ℕ)
+    → AllHave (input_type (slice_get wanted r)) (slice_index_or inputs r [])
+rows_typed [] [] have r =
+    All-from_recursion (Has (input_type None)) [] tt
+rows_typed [] (rows ∷ inputs) have r = absurd have
+rows_typed (one ∷ wanted) [] have r = absurd have
+rows_typed (one ∷ wanted) (rows ∷ inputs) have zero = have.0
+rows_typed (one ∷ wanted) (rows ∷ inputs) have (suc r) = rows_typed wanted inputs have.1 r
+
+-- ---- calls
+
+answer_typed : (gives : List Ty) (called : Called) → CalledOf gives called → Answers gives called
+answer_typed gives (Ok lists) has = has
+answer_typed gives (Err trap) has = tt
+
+call_typed : (function : Function) → IsWellTyped function → (x : Value)
+    → Has function.signature.takes x
+    → Answers function.signature.gives (or_silent (answer_of function x))
+call_typed function typed x has =
+    let it = answers function typed x has in
+    subst (λ o. Answers function.signature.gives (or_silent o)) (sym it.is)
+    (answer_typed function.signature.gives it.called it.has)
+
+function_typed : (found : Option Function)
+    → ((function : Function) → found ≡ Some function → IsWellTyped function)
+    → (x : Value) → Has (taken_by found) x → Answers (given_by found) (answered_by found x)
+function_typed None typed x has = tt
+function_typed (Some function) typed x has = call_typed function (typed function refl) x has
+
+pub world_typed : (script : Script) (inputs : List (List Value)) → IsWellFormed script
+    → AreInputs script inputs → IsWorldTyped (signatures_of script) (world_of script inputs)
+world_typed script inputs well have = record {
+  rows = rows_typed (inputs_of script) inputs have;
+  called = λ f x has. function_typed (function_at script.functions f)
+      (well_typed script well.functions f) x has;
+}

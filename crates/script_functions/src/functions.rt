@@ -1,0 +1,87 @@
+// The functions of a script, by their numbers.
+ghost use Rattle.std.specs.Prelude.{◌≡◌, ◌∷◌, IfErr, IfOk};
+ghost use Rattle.dofn_eval.specs.Function.{Accepts};
+ghost use Rattle.dofn_eval.specs.Outcome.{Gives, IsFault};
+ghost use Rattle.dofn_eval.specs.Run.{means};
+
+use dofn_eval::{Fun, call};
+use flume_value::{CallFault, Items, Value};
+use forest_steps::Functions;
+use script_check::Program;
+use std::alloc::{AllocError, Global};
+use std::marker::Model;
+
+/// The functions of a program, which contracts see as its script.
+#[derive(Drop)]
+pub struct ScriptFunctions<'a> {
+    program: &'a Program,
+}
+
+impl<'a> Model for ScriptFunctions<'a> {
+    ghost use Rattle.std.specs.Coded.{codes};
+    ghost use Rattle.flume_types.specs.contracts.types.Ty as coded_types;
+    ghost use Rattle.flume_grammar.specs.contracts.tree.Body as coded_bodies;
+    ghost use Rattle.script_check.specs.contracts.made.Made as coded_made;
+    ghost use Rattle.script_check.specs.contracts.made.Output as coded_outputs;
+    ghost use Rattle.script_check.specs.Script.{Script};
+
+    ghost Value = { Script };
+
+    ghost coded = { Prim.hlevel (
+      codes,
+      coded_types.the_row.coded,
+      coded_bodies.the_row.coded,
+      coded_made.the_row.coded,
+      coded_outputs.the_row.coded,
+    ) };
+
+    ghost view = { λ functions. functions.program.now.script };
+}
+
+impl<'a> ScriptFunctions<'a> {
+    /// The functions of a program.
+    pub fn new(program: &'a Program) -> ScriptFunctions<'a>
+        ensures { result ≡ program.now.script }
+    {
+        ScriptFunctions { program }
+    }
+}
+
+impl<'a> Functions for ScriptFunctions<'a> {
+    ghost use Rattle.std.specs.Prelude.{[]};
+    ghost use Rattle.build_law.specs.Signatures.{signatures_of};
+    ghost use Rattle.build_law.specs.Worlds.{world_of};
+    ghost use Rattle.task_safety.specs.Taking.{Takes};
+
+    ghost called = { λ script. (world_of script []).called };
+
+    ghost can_call = { λ script. Takes (signatures_of script) };
+
+    fn call(&self, alloc: Global, number: u32, element: &Value) -> Result<Vec<Items>, CallFault> {
+        let number = number as usize;
+        if number < self.program.function_count() {
+            call_function(alloc, &self.program.function(number).fun, element)
+        } else {
+            Ok(Vec::new(alloc))
+        }
+    }
+}
+
+/// What a call of a function gives to each of its outputs, in order, or its trap.
+fn call_function(alloc: Global, fun: &Fun, element: &Value) -> Result<Vec<Items>, CallFault>
+    requires { Accepts fun.now element.now }
+    ensures emissions { IfOk result (λ lists.
+        means fun.now.outputs fun.now.body element.now ≡ Gives lists.items) }
+    ensures trap { IfErr result (IsFault (means fun.now.outputs fun.now.body element.now)) }
+{
+    let (first, others) = call(alloc, fun, element)?.into_parts();
+    Ok(in_order(first, others)?)
+}
+
+/// The first list before the others.
+fn in_order(first: Items, mut others: Vec<Items>) -> Result<Vec<Items>, AllocError>
+    ensures { IfOk result (λ lists. lists.items ≡ first ∷ others.items) }
+{
+    others.insert(0, first)?;
+    Ok(others)
+}

@@ -1,0 +1,16 @@
+ghost use Rattle.std.specs.Prelude.{List};
+ghost use Rattle.flume_value.specs.declared.value.Value.{Value};
+ghost use Rattle.exec_graph.specs.Typing.{IsWorldTyped};
+ghost use Rattle.script_check.specs.Script.{Script};
+ghost use Rattle.script_laws.specs.WellFormed.{IsWellFormed};
+ghost use Rattle.direct_meaning.specs.Inputs.{AreInputs};
+ghost use Rattle.build_law.specs.Signatures.{signatures_of};
+ghost use Rattle.build_law.specs.Worlds.{world_of};
+
+/// The world of a well-formed script, over rows of its needed inputs, is typed by the script's
+/// signatures.
+pub fn world_law()
+    ensures { (script : Script) (inputs : List (List Value)) →
+        IsWellFormed script → AreInputs script inputs →
+        IsWorldTyped (signatures_of script) (world_of script inputs) }
+{}

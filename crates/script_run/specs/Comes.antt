@@ -1,0 +1,9 @@
+-- What is made of a script's collections.
+use Rattle.std.specs.Prelude.{◌≡◌, ℕ, List, Option, IsSomeAnd}
+use Rattle.direct_meaning.specs.Direct.{made_at}
+use Rattle.flume_collection.specs.Collection.{Collection}
+use Rattle.flume_value.specs.declared.value.Value.{Value}
+
+-- the members are those of the collection of a number
+abbrev pub AreMembers : List (Option Collection) → ℕ → List Value → Type 0
+AreMembers made number members = IsSomeAnd (made_at made number) (λ c. members ≡ c.bag)

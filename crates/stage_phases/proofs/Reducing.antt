@@ -1,0 +1,218 @@
+-- The tasks of a reduce phase as a crew runs them.
+use Rattle.std.proofs.Common.{◌≡◌, ℕ, true, false, ◌<◌, ◌≤◌, ◌*◌, ◌/◌, ◌%◌, ◌^◌, List, [], ◌∷◌, length, Option, Some, Result, Ok, Err, refl, sym, ap, ◌∙◌, subst, arith, slice_get, mod-lt, zero-mul}
+use Rattle.std.specs.List.{AllByRecursion as Each, list_any}
+use Rattle.std.specs.Option.{IsSomeAnd, option_map_or}
+use Rattle.std.proofs.Math.Nat.{div-lt_iff_lt-mul, le-mul_of_pos_right}
+use Rattle.std.proofs.lemmas.Option.{slice_get_within}
+use Rattle.flume_value.specs.declared.value.Value.{Value}
+use Rattle.flume_collection.specs.declared.trap.Trap.{Trap}
+use Rattle.bag_groups.specs.Groups.{grouped}
+use Rattle.combine_table.specs.declared.comb.Comb.{Comb}
+use Rattle.outside.specs.declared.host.Phase.TheVariants.{Reduce}
+use Rattle.crew.specs.Drills.{Settings}
+use Rattle.shuffle_parts.specs.declared.out.MapOut.{MapOut}
+use Rattle.phase_outs.proofs.Placing.{some_at}
+use Rattle.exec_graph.specs.World.{World}
+use Rattle.exec_plan.specs.declared.plan.Grouping.{Grouping}
+use Rattle.exec_plan.specs.declared.plan.Mscr.{Mscr as Channels}
+use Rattle.exec_plan.specs.declared.plan.OutChannel.{OutChannel}
+use Rattle.exec_plan.specs.declared.plan.OutChannel.TheVariants.{Group, Pass}
+use Rattle.task_lists.specs.Outs.{AreMapOuts, IsCalm, IsFirstTrap}
+use Rattle.task_lists.specs.Tasks.{Lists, Split, Task, groupings, no_task, places, reduce_count, reduce_task, reduce_task_at}
+use Rattle.forest_steps.specs.Safety.{SafeOf}
+use Rattle.run_settings.specs.Settings.{RunSettings}
+use Rattle.reduce_part.specs.declared.out.ReduceOut.{ReduceOut}
+use Rattle.reduce_part.specs.Reducing.{AreGroupsFirst, CanReduce, IsGathered, IsReducingValue, IsReduceValue, Reducing, group_count, group_task, reducing_count, reducing_places}
+use Rattle.map_shard.specs.Tables.{split}
+use Rattle.plan_phases.specs.Phases.{reduce_phase_of, reduce_phases, tasks_below}
+use Rattle.stage_phases.specs.Outs.{AreReduceOuts, IsOutOf}
+use Rattle.stage_phases.specs.inner.Channels.{is_group}
+use Rattle.stage_phases.specs.inner.Tasks.{AreValues, IsPhaseOf}
+use Rattle.stage_phases.proofs.Fitting.{IsOutSomewhere, few_tasks}
+use Rattle.stage_phases.proofs.Gathering.{gathered_at, pairs_at, task_is}
+use Rattle.stage_phases.proofs.Numbers.{at_below, length_below}
+
+-- not more channels group than there are
+pub few_groupings : (channels : List OutChannel) → length (groupings channels) ≤ length channels
+few_groupings [] = omega arith
+few_groupings (Group g ∷ cs) = let rest = few_groupings cs in omega arith
+few_groupings (Pass k n ∷ cs) = let rest = few_groupings cs in omega arith
+
+-- whether a channel groups says whether there is a reduce phase
+pub no_groupings : (channels : List OutChannel) → list_any is_group channels ≡ false
+    → groupings channels ≡ []
+no_groupings [] e = refl
+no_groupings (Group g ∷ cs) e = cc e
+no_groupings (Pass k n ∷ cs) e = no_groupings cs e
+
+pub some_groupings : (channels : List OutChannel) → list_any is_group channels ≡ true
+    → 0 < length (groupings channels)
+some_groupings [] e = cc e
+some_groupings (Group g ∷ cs) e = omega arith
+some_groupings (Pass k n ∷ cs) e = some_groupings cs e
+
+pub one_phase : (w : World) (k : ℕ) (n : Split) (t : Lists) (s : Channels) (gs : List Grouping)
+    → 0 < length gs → reduce_phases w k n t s gs ≡ reduce_phase_of w k n t s ∷ []
+one_phase w k n t s [] h = absurd (omega arith)
+one_phase w k n t s (g ∷ gs) h = refl
+
+pub no_outs : (w : World) (n : Split) (t : Lists) (s : Channels) (outs : List ReduceOut)
+    → groupings s.outputs ≡ [] → outs ≡ [] → AreReduceOuts w n t s outs
+no_outs w n t s outs none e =
+    let count : reduce_count n s ≡ 0 = ap (λ (gs : List Grouping). length gs * n.partitions) none
+    ∙ zero-mul n.partitions in record {
+      count = ap length e ∙ sym count;
+      each = λ k below. absurd (omega arith);
+    }
+
+abbrev pub reducing_of : {F : Type 0} → F → Channels → List MapOut → RunSettings → Reducing F
+reducing_of functions stage outs settings = record {
+  functions = functions;
+  stage = stage;
+  outs = outs;
+  partitions = settings.partitions;
+}
+
+-- a phase has some tasks, and not too many for a crew
+pub count_within : {F : Type 0} (r made : Reducing F) → made ≡ r → 0 < r.partitions
+    → r.partitions ≤ 64 → 0 < length (groupings r.stage.outputs)
+    → length r.stage.outputs ≤ 2 ^ 17
+    → (0 < reducing_count made) × (reducing_count made ≤ 2 ^ 23)
+count_within r made is some few groups channels =
+    let count = length (groupings r.stage.outputs) in
+    let less = few_groupings r.stage.outputs in
+    let most = few_tasks count r.partitions (omega arith) few in
+    let least = le-mul_of_pos_right count some in
+    rw is (omega arith, omega arith)
+
+module _ {F : Type 0} (r : Reducing F) (w : World) (shards : ℕ) (t : Lists)
+    (first : AreGroupsFirst r.stage.outputs) (some : 0 < shards)
+    (some_partitions : 0 < r.partitions)
+    (made : AreMapOuts w (split shards r.partitions) t r.stage r.outs) where
+  abbrev n : Split
+  n = split shards r.partitions
+
+  -- the pairs of a partition
+  abbrev pairs_of_part : ℕ → Grouping → ℕ → List Value
+  pairs_of_part i g p = pairs_at w n t r.stage r.outs i some made g p
+
+  gathered_of : (i : ℕ) (g : Grouping) (p : ℕ) → p < r.partitions
+      → slice_get r.stage.outputs i ≡ Some (Group g)
+      → IsGathered g.lifted r.outs i p (pairs_of_part i g p)
+  gathered_of i g p within place =
+      gathered_at w n t r.stage r.outs i some made g p within place
+
+  same_task : (i : ℕ) (g : Grouping) (p : ℕ)
+      → group_task g (pairs_of_part i g p) ≡ reduce_task w n t r.stage.inputs g p
+  same_task i g p = task_is w n t r.stage r.outs i some made g p
+
+  -- ---- the tasks can be made
+
+  module _ (takes : ℕ → Value → Type 0) (called : World)
+      (out_ok : (i : ℕ) (c : OutChannel) → slice_get r.stage.outputs i ≡ Some c
+      → IsOutSomewhere r.stage.inputs c)
+      (safe : (i p : ℕ) (g : Grouping) → slice_get r.stage.outputs i ≡ Some (Group g)
+      → Each (SafeOf called takes g.does) (reduce_task w n t r.stage.inputs g p).elements) where
+    pub can_reduce : length r.stage.outputs ≤ 2 ^ 17 → r.partitions ≤ 64
+        → CanReduce called takes r
+    can_reduce few small = record {
+      partitions = some_partitions;
+      few =
+          let channels = few_groupings r.stage.outputs in
+          let most = few_tasks (length (groupings r.stage.outputs)) r.partitions (omega arith)
+          small in omega arith;
+      first = first;
+      ready = λ i p g at below.
+          let place = first i g at in
+          let ok = (out_ok i (Group g) place).ok in record {
+            numbered = ok.steps;
+            lift = ok.lift;
+            pairs = pairs_of_part i g p;
+            gathered = gathered_of i g p below place;
+            safe = subst (λ (x : Task). Each (SafeOf called takes g.does) x.elements)
+                (sym (same_task i g p)) (safe i p g place);
+          };
+    }
+
+  -- ---- what they give
+
+  abbrev task_of : ℕ → Task
+  task_of k = reduce_task_at w n t r.stage k
+
+  -- a task is of a grouping channel and of a partition
+  record HasPlace (k : ℕ) : Type 0 where
+    pub channel : Grouping
+    pub at : slice_get (groupings r.stage.outputs) (k / r.partitions) ≡ Some channel
+    pub place : slice_get r.stage.outputs (k / r.partitions) ≡ Some (Group channel)
+    pub within : k % r.partitions < r.partitions
+    pub is : task_of k ≡ reduce_task w n t r.stage.inputs channel (k % r.partitions)
+
+  place_of : (k : ℕ) → k < reducing_count r → HasPlace k
+  place_of k below =
+      let within = (div-lt_iff_lt-mul some_partitions).1 below in
+      let here = some_at (groupings r.stage.outputs) (k / r.partitions) within in
+      let task : Option Grouping → Task = λ o. option_map_or
+      (λ g. reduce_task w n t r.stage.inputs g (k % r.partitions)) o no_task in
+      record {
+        channel = here.0;
+        at = here.1;
+        place = first (k / r.partitions) here.0 here.1;
+        within = mod-lt k some_partitions;
+        is = ap task here.1;
+      }
+
+  value_of : (k : ℕ) (out : Result ReduceOut Trap) → k < reducing_count r
+      → IsReducingValue w.called r k out → IsReduceValue w (task_of k) out
+  value_of k out below is =
+      let h = place_of k below in
+      let i = k / r.partitions in
+      let p = k % r.partitions in
+      subst (λ x. IsReduceValue w x out) (same_task i h.channel p ∙ sym h.is)
+      (is h.channel h.at w (pairs_of_part i h.channel p) refl
+      (gathered_of i h.channel p h.within h.place))
+
+  -- a task of the phase, by its place among them
+  below_count : (k : ℕ) (task : Task)
+      → slice_get (tasks_below task_of (reducing_count r)) k ≡ Some task → k < reducing_count r
+  below_count k task at =
+      subst (λ m. k < m) (length_below task_of (reducing_count r))
+      (slice_get_within (tasks_below task_of (reducing_count r)) k task at)
+
+  pub is_reduce_phase : (k : ℕ) (s : Settings) → s.stage ≡ k → s.phase ≡ Reduce
+      → ((lifted : Option Comb) (i p : ℕ) (pairs : List Value)
+      → IsGathered lifted r.outs i p pairs
+      → group_count lifted r.outs i p ≡ length (grouped pairs))
+      → IsPhaseOf w (reduce_phase_of w k n t r.stage) s (reducing_count r)
+      (IsReducingValue w.called r) (reducing_places r)
+  is_reduce_phase k s stage phase counted = record {
+    named = (sym stage, sym phase);
+    count = length_below task_of (reducing_count r);
+    calm = λ j task out at is.
+        subst (IsCalm w) (at_below task_of (reducing_count r) j task at)
+        (value_of j (Ok out) (below_count j task at) is).calm;
+    trapped = λ j task trap at is.
+        subst (λ x. IsFirstTrap w x trap) (at_below task_of (reducing_count r) j task at)
+        (value_of j (Err trap) (below_count j task at) is);
+    asks = λ j task at.
+        let h = place_of j (below_count j task at) in
+        let i = j / r.partitions in
+        let p = j % r.partitions in
+        let asked : Option Grouping → ℕ =
+        λ o. option_map_or (λ g. group_count g.lifted r.outs i p) o 0 in
+        ap asked h.at
+        ∙ counted h.channel.lifted i p (pairs_of_part i h.channel p)
+        (gathered_of i h.channel p h.within h.place)
+        ∙ ap places
+        (same_task i h.channel p ∙ sym h.is ∙ at_below task_of (reducing_count r) j task at);
+  }
+
+  pub are_reduce_outs : (outs : List ReduceOut)
+      → AreValues (reducing_count r) (IsReducingValue w.called r) outs
+      → AreReduceOuts w n t r.stage outs
+  are_reduce_outs outs h = record {
+    count = h.count;
+    each = λ k below.
+        let here = some_at outs k (subst (λ m. k < m) (sym h.count) below) in
+        subst (λ o. IsSomeAnd o (IsOutOf w (task_of k))) (sym here.1)
+        (value_of k (Ok here.0) below (h.values k here.0 here.1));
+  }

@@ -1,0 +1,14 @@
+use Rattle.std.proofs.Common.{◌∙◌}
+use Rattle.stage_phases.specs.inner.Tasks.{fault_at}
+use Rattle.stage_phases.proofs.Telling.{has_run, has_stopped}
+use Rattle.stage_phases.proofs.outs.outs_of.Goals as goal
+
+pub returns-in_ok-tell-in-Ok-clause-ran : goal.returns-in_ok-tell-in-Ok-clause-ran
+returns-in_ok-tell-in-Ok-clause-ran g c w ph p =
+    has_run w ph _ _ _ _ _ _ p _ _ c.in-Ok.made c.in-Ok.ensures.made c.in_ok-tell-in-Ok.ensures
+
+pub returns-in-Err-clause-stopped : goal.returns-in-Err-clause-stopped
+returns-in-Err-clause-stopped g c w ph p =
+    let is = c.fault_at.ensures
+    ∙ (λ i. fault_at (c.stage.ensures i) (c.phase.ensures i) c.in-Err.stop) in
+    rw is (has_stopped w ph _ _ _ _ _ _ p c.in-Err.stop c.in-Err.ensures.stop)

@@ -1,0 +1,25 @@
+use Rattle.std.proofs.Common.{sym, subst}
+use Rattle.map_shard.specs.Tables.{split, table}
+use Rattle.task_lists.specs.Outs.{AreMapOuts}
+use Rattle.stage_phases.specs.Stages.{run_world}
+use Rattle.stage_phases.proofs.Reducing.{count_within}
+use Rattle.stage_phases.proofs.reduce.reduce_tasks.Goals as goal
+
+pub new-requires : goal.new-requires
+new-requires g c =
+    let inputs = c.args.inputs.now in
+    let within = c.partitions.ensures.within in
+    let h = c.requires.ready in
+    let w = run_world (g.F.Functions.called inputs.functions.now) inputs.sources.now in
+    let made = subst (λ p. AreMapOuts w (split inputs.settings.now.shards p)
+    (table inputs.sources.now h.results) c.args.stage.now c.args.maps.now)
+    (sym c.partitions.ensures.value) h.made in
+    c.reduce_law.ensures inputs.sources.now h.results c.args.stage.now c.args.maps.now
+    c.args._number inputs.settings.now.shards c.partitions.result h.cut.0 within.0 within.1 h.ready
+    made
+
+pub returns-clause-count : goal.returns-clause-count
+returns-clause-count g c =
+    let within = c.partitions.ensures.within in
+    count_within _ _ c.new.ensures within.0 within.1 c.requires.some
+    c.requires.ready.ready.ok.few_outputs

@@ -1,0 +1,34 @@
+// What a run reads.
+ghost use Rattle.std.specs.Prelude.{◌≡◌, ◌<◌, ◌≤◌};
+
+use crew::PhaseSettings;
+use flume_value::Items;
+use forest_steps::Functions;
+use outside::Phase;
+use run_settings::Settings;
+
+/// What all phases of a run read.
+#[derive(Drop)]
+pub struct Inputs<'a, F: Functions> {
+    /// The functions of the script.
+    pub functions: &'a F,
+    /// The rows of each source.
+    pub sources: &'a [Items],
+    /// Into how much a stage is cut, and how often a task is tried.
+    pub settings: &'a Settings,
+}
+
+impl<'a, F: Functions> Inputs<'a, F> {
+    /// How a phase of stage `stage` is run.
+    pub(crate) fn phase(&self, stage: u32, phase: Phase) -> PhaseSettings<'a>
+        ensures settings { result ≡ record {
+          stage = stage;
+          phase = phase;
+          tries = self.now.settings.now.tries;
+          drill = self.now.settings.now.drill;
+        } }
+        ensures tries { (0 < result.tries) × (result.tries ≤ 8) }
+    {
+        PhaseSettings::new(stage, phase, self.settings.tries(), self.settings.drill())
+    }
+}

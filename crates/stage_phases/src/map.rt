@@ -1,0 +1,100 @@
+// The map phase of a stage.
+ghost use Rattle.std.specs.Prelude.{◌≡◌, ◌<◌, ◌≤◌, ◌^◌, ◌∷◌, [], length, map, IfOk, IfErr, OnOk};
+ghost use Rattle.std.specs.List.{AllZip};
+ghost use Rattle.crew.specs.Hosts.{account, Grew};
+ghost use Rattle.exec_plan.specs.declared.plan.Stage.TheVariants as stages;
+ghost use Rattle.task_lists.specs.Outs.{AreMapOuts};
+ghost use Rattle.map_shard.specs.Tables.{split, table};
+ghost use Rattle.map_shard.specs.Work.{work_count};
+ghost use Rattle.plan_phases.specs.Phases.{map_phase_of};
+ghost use Rattle.plan_phases.specs.Told.{HaveRun, IsStopped};
+ghost use Rattle.stage_phases.specs.Stages.{CanRunStage, run_world};
+
+use crate::inputs::Inputs;
+use crate::outs::outs_of;
+use crate::ready::map_law;
+use exec_plan::Mscr;
+use flume_value::{Items, Pile};
+use forest_steps::Functions;
+use map_shard::MapTasks;
+use outside::{Host, Phase};
+use plan_phases::{PhaseWinners, RunFault};
+use shuffle_parts::MapOut;
+use std::alloc::Global;
+use std::thread::Threads;
+
+/// The outs of the map tasks of stage `number`, over the results of earlier stages. It tells the
+/// winners behind those of earlier phases.
+pub fn map_outs<R: Threads + Sync, F: Functions + Sync, H: Host + Send>(
+    rt: &R,
+    alloc: Global,
+    inputs: &Inputs<'_, F>,
+    results: &[Pile<Items>],
+    stage: &Mscr,
+    number: u32,
+    hosts: &mut [H],
+    winners: &mut Vec<PhaseWinners>,
+) -> Result<Vec<MapOut>, RunFault>
+    requires hosts { (0 < length hosts.old) × (length hosts.old ≤ 16) }
+    requires ready { CanRunStage
+        (run_world (F.called inputs.now.functions.now) inputs.now.sources.now)
+        (F.can_call inputs.now.functions.now) number (table inputs.now.sources.now results.now)
+        (stages.Mscr stage.now) }
+    ensures grew { AllZip Grew
+        (map (account H.notes H.losses) hosts.old) (map (account H.notes H.losses) hosts.new) }
+    ensures outs { IfOk result (λ outs. AreMapOuts
+        (run_world (F.called inputs.now.functions.now) inputs.now.sources.now)
+        (split inputs.now.settings.now.shards inputs.now.settings.now.partitions)
+        (table inputs.now.sources.now results.now) stage.now outs.items) }
+    ensures ran { OnOk result (HaveRun
+        inputs.now.settings.now.tries inputs.now.settings.now.drill
+        (run_world (F.called inputs.now.functions.now) inputs.now.sources.now)
+        (map_phase_of number
+        (split inputs.now.settings.now.shards inputs.now.settings.now.partitions)
+        (table inputs.now.sources.now results.now) stage.now ∷ [])
+        (map (account H.notes H.losses) hosts.old) (map (account H.notes H.losses) hosts.new)
+        winners.old.items winners.new.items) }
+    ensures stopped { IfErr result (IsStopped
+        inputs.now.settings.now.tries inputs.now.settings.now.drill
+        (run_world (F.called inputs.now.functions.now) inputs.now.sources.now)
+        (map_phase_of number
+        (split inputs.now.settings.now.shards inputs.now.settings.now.partitions)
+        (table inputs.now.sources.now results.now) stage.now ∷ [])
+        (map (account H.notes H.losses) hosts.old) (map (account H.notes H.losses) hosts.new)) }
+{
+    let tasks = map_tasks(inputs, results, stage, number);
+    let phase = inputs.phase(number, Phase::Map);
+    outs_of(rt, alloc, &tasks, hosts, &phase, winners)
+}
+
+// The map tasks of the stage, which are not too many for a crew.
+fn map_tasks<'a, F: Functions>(
+    inputs: &Inputs<'a, F>,
+    results: &'a [Pile<Items>],
+    stage: &'a Mscr,
+    _number: u32,
+) -> MapTasks<'a, F>
+    requires ready { CanRunStage
+        (run_world (F.called inputs.now.functions.now) inputs.now.sources.now)
+        (F.can_call inputs.now.functions.now) _number (table inputs.now.sources.now results.now)
+        (stages.Mscr stage.now) }
+    ensures tasks { result ≡ record {
+      functions = inputs.now.functions.now;
+      sources = inputs.now.sources.now;
+      results = results.now;
+      stage = stage.now;
+      shards = inputs.now.settings.now.shards;
+      partitions = inputs.now.settings.now.partitions;
+    } }
+    ensures count { (0 < work_count result) × (work_count result ≤ 2 ^ 23) }
+{
+    map_law(inputs.functions);
+    MapTasks::new(
+        inputs.functions,
+        inputs.sources,
+        results,
+        stage,
+        inputs.settings.shards(),
+        inputs.settings.partitions(),
+    )
+}

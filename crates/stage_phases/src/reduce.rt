@@ -1,0 +1,120 @@
+// The reduce phase of a stage.
+ghost use Rattle.std.specs.Prelude.{◌≡◌, ◌<◌, ◌≤◌, ◌^◌, ◌∷◌, [], length, map, IfOk, IfErr, OnOk};
+ghost use Rattle.std.specs.List.{AllZip, list_any};
+ghost use Rattle.crew.specs.Hosts.{account, Grew};
+ghost use Rattle.exec_plan.specs.declared.plan.Stage.TheVariants as stages;
+ghost use Rattle.task_lists.specs.Outs.{AreMapOuts};
+ghost use Rattle.task_lists.specs.Tasks.{Lists, groupings};
+ghost use Rattle.map_shard.specs.Tables.{split};
+ghost use Rattle.plan_phases.specs.Phases.{reduce_phases};
+ghost use Rattle.plan_phases.specs.Told.{HaveRun, IsStopped};
+ghost use Rattle.reduce_part.specs.Reducing.{reducing_count};
+ghost use Rattle.stage_phases.specs.Outs.{AreReduceOuts};
+ghost use Rattle.stage_phases.specs.Stages.{CanReduceStage, run_world};
+ghost use Rattle.stage_phases.specs.inner.Channels.{is_group};
+
+use crate::inputs::Inputs;
+use crate::outs::outs_of;
+use crate::ready::reduce_law;
+use exec_plan::{Mscr, OutChannel};
+use forest_steps::Functions;
+use outside::{Host, Phase};
+use plan_phases::{PhaseWinners, RunFault};
+use reduce_part::{ReduceOut, ReduceTasks, reducing_law};
+use shuffle_parts::MapOut;
+use std::alloc::Global;
+use std::thread::Threads;
+
+/// The outs of the reduce tasks of stage `number`, over the outs of its map tasks: none where it
+/// has no grouping channel. It tells the winners behind those of earlier phases.
+pub fn reduce_outs<R: Threads + Sync, F: Functions + Sync, H: Host + Send>(
+    rt: &R,
+    alloc: Global,
+    inputs: &Inputs<'_, F>,
+    stage: &Mscr,
+    number: u32,
+    maps: &[MapOut],
+    hosts: &mut [H],
+    winners: &mut Vec<PhaseWinners>,
+) -> Result<Vec<ReduceOut>, RunFault>
+    requires hosts { (0 < length hosts.old) × (length hosts.old ≤ 16) }
+    requires ready { CanReduceStage (F.called inputs.now.functions.now)
+        (F.can_call inputs.now.functions.now) inputs.now.sources.now
+        (split inputs.now.settings.now.shards inputs.now.settings.now.partitions) number stage.now
+        maps.now }
+    ensures grew { AllZip Grew
+        (map (account H.notes H.losses) hosts.old) (map (account H.notes H.losses) hosts.new) }
+    ensures outs { (t : Lists) → AreMapOuts
+        (run_world (F.called inputs.now.functions.now) inputs.now.sources.now)
+        (split inputs.now.settings.now.shards inputs.now.settings.now.partitions) t stage.now
+        maps.now →
+        IfOk result (λ outs. AreReduceOuts
+        (run_world (F.called inputs.now.functions.now) inputs.now.sources.now)
+        (split inputs.now.settings.now.shards inputs.now.settings.now.partitions) t stage.now
+        outs.items) }
+    ensures ran { (t : Lists) → AreMapOuts
+        (run_world (F.called inputs.now.functions.now) inputs.now.sources.now)
+        (split inputs.now.settings.now.shards inputs.now.settings.now.partitions) t stage.now
+        maps.now →
+        OnOk result (HaveRun inputs.now.settings.now.tries inputs.now.settings.now.drill
+        (run_world (F.called inputs.now.functions.now) inputs.now.sources.now)
+        (reduce_phases (run_world (F.called inputs.now.functions.now) inputs.now.sources.now)
+        number (split inputs.now.settings.now.shards inputs.now.settings.now.partitions) t
+        stage.now (groupings stage.now.outputs))
+        (map (account H.notes H.losses) hosts.old) (map (account H.notes H.losses) hosts.new)
+        winners.old.items winners.new.items) }
+    ensures stopped { (t : Lists) → AreMapOuts
+        (run_world (F.called inputs.now.functions.now) inputs.now.sources.now)
+        (split inputs.now.settings.now.shards inputs.now.settings.now.partitions) t stage.now
+        maps.now →
+        IfErr result (IsStopped inputs.now.settings.now.tries inputs.now.settings.now.drill
+        (run_world (F.called inputs.now.functions.now) inputs.now.sources.now)
+        (reduce_phases (run_world (F.called inputs.now.functions.now) inputs.now.sources.now)
+        number (split inputs.now.settings.now.shards inputs.now.settings.now.partitions) t
+        stage.now (groupings stage.now.outputs))
+        (map (account H.notes H.losses) hosts.old) (map (account H.notes H.losses) hosts.new)) }
+{
+    reducing_law();
+    if !has_groupings(stage) {
+        return Ok(Vec::new(alloc));
+    }
+    let tasks = reduce_tasks(inputs, stage, number, maps);
+    let phase = inputs.phase(number, Phase::Reduce);
+    outs_of(rt, alloc, &tasks, hosts, &phase, winners)
+}
+
+fn has_groupings(stage: &Mscr) -> bool
+    ensures { result ≡ list_any is_group stage.now.outputs }
+{
+    stage.outputs.as_slice().iter().any(is_group)
+}
+
+fn is_group(channel: &OutChannel) -> bool
+    ensures { result ≡ is_group channel.now }
+{
+    matches!(channel, OutChannel::Group(_))
+}
+
+// The reduce tasks of the stage, which are not too many for a crew.
+fn reduce_tasks<'a, F: Functions>(
+    inputs: &Inputs<'a, F>,
+    stage: &'a Mscr,
+    _number: u32,
+    maps: &'a [MapOut],
+) -> ReduceTasks<'a, F>
+    requires some { 0 < length (groupings stage.now.outputs) }
+    requires ready { CanReduceStage (F.called inputs.now.functions.now)
+        (F.can_call inputs.now.functions.now) inputs.now.sources.now
+        (split inputs.now.settings.now.shards inputs.now.settings.now.partitions) _number stage.now
+        maps.now }
+    ensures tasks { result ≡ record {
+      functions = inputs.now.functions.now;
+      stage = stage.now;
+      outs = maps.now;
+      partitions = inputs.now.settings.now.partitions;
+    } }
+    ensures count { (0 < reducing_count result) × (reducing_count result ≤ 2 ^ 23) }
+{
+    reduce_law(inputs.functions);
+    ReduceTasks::new(inputs.functions, stage, maps, inputs.settings.partitions())
+}
