@@ -17,7 +17,8 @@ use Rattle.run_settings.specs.Settings.{RunSettings}
 use Rattle.run_texts.specs.Texts.{NamedOutput, size_lines}
 use Rattle.script_check.specs.Script.{Script}
 use Rattle.script_plans.specs.Plans.{IsScriptPlan}
-use Rattle.script_run.specs.Runs.{AreMembers, IsFirstOf, IsRan}
+use Rattle.script_run.specs.Comes.{AreMembers}
+use Rattle.script_run.specs.Runs.{IsFirstOf, IsRan}
 use Rattle.script_run.specs.declared.run.Ran.{Ran}
 use Rattle.run_course.specs.Answers.{MayTell, name_at}
 use Rattle.run_course.specs.Asked.{AllHaveRows}
