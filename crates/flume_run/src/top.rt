@@ -1,6 +1,8 @@
 // The top call.
-ghost use Rattle.std.specs.Prelude.{◌≡◌, length, map, string_bytes};
+ghost use Rattle.std.specs.Prelude.{◌≡◌, drop, length, map, string_bytes};
+ghost use Rattle.crew.specs.Hosts.{account};
 ghost use Rattle.outside.specs.Seen.{seen, seen_shelf};
+ghost use Rattle.run_course.specs.Lent.{lent_to};
 ghost use Rattle.run_course.specs.Promises.{Promises};
 ghost use Rattle.run_course.specs.World.{world};
 
@@ -14,18 +16,24 @@ use std::thread::Threads;
 ///
 /// The words are the program's name, a command, which is `check`, `plan`, `direct` or `run`, and
 /// the name of a script. The script is loaded from the source, parsed and checked. `check` then
-/// says `ok`, and `plan` shows the execution graph. For `direct` and `run` each input that the
-/// script needs is loaded and decoded, in order of the script, and the script's direct meaning is
-/// worked out. Only then the output files are written to the shelf, in order of the output
-/// statements, and then the text of the screen: for `run` the execution graph and the plan, and for
-/// both the size of each needed collection, and `done`. Where a call of a function traps, the least
-/// of the traps is the answer; else the first refusal met is, and the screen gets its line. Every
-/// growth comes before the shelf's first `begin`.
+/// says `ok`, and `plan` shows the execution graph and the plan. For `direct` and `run` each input
+/// that the script needs is loaded and decoded, in order of the script. `direct` works out the
+/// script's direct meaning; `run` has the tasks of the plan made by workers, each on a host that it
+/// is lent, the first hosts, in a thread of its own. An attempt of a task whose host is down, or that
+/// the drill names, is lost, and the task is tried again, as often as `--tries` says.
+///
+/// Only then the output files are written to the shelf, in order of the output statements, and then
+/// the text of the screen: for `run` the execution graph and the plan, and for both the size of each
+/// needed collection, and `done`. Whatever the schedule of the workers and whichever attempts were
+/// lost, the files of `run` are those of `direct`. Where a call of a function traps, the answer is
+/// the least of the traps for `direct`, and for `run` the first of the tasks; else the first refusal
+/// met is, or the task that was given up, and the screen gets its line. Every growth comes before
+/// the shelf's first `begin`.
 ///
 /// What is promised of each answer is a field of `Promises` (specs/Promises.antt of run_course).
-/// No host is called and no thread is started yet.
-pub fn flume<X: Threads + Sync, R: Source, H: Host, K: Shelf, P: Screen>(
-    _rt: &X,
+/// Hosts that are not lent are as they were.
+pub fn flume<X: Threads + Sync, R: Source, H: Host + Send, K: Shelf, P: Screen>(
+    rt: &X,
     alloc: Global,
     words: &[String],
     source: &mut R,
@@ -36,12 +44,14 @@ pub fn flume<X: Threads + Sync, R: Source, H: Host, K: Shelf, P: Screen>(
     requires { length hosts.old ≡ 16 }
     ensures promises { Promises (map string_bytes words.now)
         (world (seen R.files R.faults source.old)
-        (seen_shelf K.files K.begun K.left K.faults shelf.old) (seen P.text P.faults screen.old))
+        (seen_shelf K.files K.begun K.left K.faults shelf.old) (seen P.text P.faults screen.old)
+        (map (account H.notes H.losses) hosts.old))
         (world (seen R.files R.faults source.new)
-        (seen_shelf K.files K.begun K.left K.faults shelf.new) (seen P.text P.faults screen.new))
+        (seen_shelf K.files K.begun K.left K.faults shelf.new) (seen P.text P.faults screen.new)
+        (map (account H.notes H.losses) hosts.new))
         result }
-    ensures hosts { hosts.new ≡ hosts.old }
+    ensures hosts { drop (lent_to (map string_bytes words.now)) hosts.new
+        ≡ drop (lent_to (map string_bytes words.now)) hosts.old }
 {
-    let _ = hosts;
-    run(alloc, words, source, shelf, screen)
+    run(rt, alloc, words, source, hosts, shelf, screen)
 }

@@ -1,7 +1,9 @@
 // One call of `flume` on the script `s` over the forms in memory, and all that it leaves.
+ghost use Rattle.std.specs.Prelude.{◌≡◌, length};
+
 use flume_run::flume;
 use flume_value::{Pile, Str};
-use outside::{CalmHost, File, MemScreen, MemShelf, MemSource};
+use outside::{CalmHost, Fail as FailAt, File, Host, MemScreen, MemShelf, MemSource};
 use std::alloc::{AllocError, Global};
 use std::process::Abort;
 use std::test::Fail;
@@ -10,11 +12,11 @@ use std::thread::Threads;
 /// A name, and the bytes of the file of that name.
 pub type Named<'a> = (&'a str, &'a [u8]);
 
-/// A command, its script and the inputs, and what is left: the exit status, all files and the
-/// screen's text.
+/// The words behind the program's name, the script `s` and the inputs, and what is left: the exit
+/// status, all files and the screen's text.
 #[derive(Clone, Copy)]
 pub struct Row<'a> {
-    pub command: &'a str,
+    pub words: &'a [&'a str],
     pub script: &'a [u8],
     pub inputs: &'a [Named<'a>],
     pub code: u8,
@@ -24,17 +26,30 @@ pub struct Row<'a> {
 
 /// Makes the call of a row, and compares what it leaves.
 pub fn check_row<X: Threads + Sync + Abort>(rt: &X, alloc: Global, row: Row) -> Result<(), Fail> {
-    let mut source = MemSource::new(files(alloc, row.script, row.inputs)?, Pile::new(alloc))?;
+    let mut hosts = [CalmHost; 16];
+    check_row_on(rt, alloc, row, Pile::new(alloc), &mut hosts)
+}
+
+/// The same on these hosts, where these calls of the source fail.
+pub fn check_row_on<X: Threads + Sync + Abort, H: Host + Send>(
+    rt: &X,
+    alloc: Global,
+    row: Row,
+    fails: Pile<FailAt>,
+    hosts: &mut [H],
+) -> Result<(), Fail>
+    requires { length hosts.old ≡ 16 }
+{
+    let mut source = MemSource::new(files(alloc, row.script, row.inputs)?, fails)?;
     let mut shelf = MemShelf::new(alloc, Pile::new(alloc), Pile::new(alloc), 4, 10_000)?;
     let mut screen = MemScreen::new(alloc, Pile::new(alloc), 10_000)?;
-    let mut hosts = [CalmHost; 16];
-    let words = words(alloc, row.command)?;
+    let words = words(alloc, row.words)?;
     let status = flume(
         rt,
         alloc,
         &words,
         &mut source,
-        &mut hosts,
+        hosts,
         &mut shelf,
         &mut screen,
     );
@@ -47,9 +62,10 @@ pub fn check_row<X: Threads + Sync + Abort>(rt: &X, alloc: Global, row: Row) -> 
     Ok(())
 }
 
-fn words(alloc: Global, command: &str) -> Result<Vec<String>, AllocError> {
+fn words(alloc: Global, behind: &[&str]) -> Result<Vec<String>, AllocError> {
     let mut all = Vec::new(alloc);
-    for word in ["flume", command, "s"] {
+    all.push(String::from_str(alloc, "flume")?)?;
+    for word in behind {
         all.push(String::from_str(alloc, word)?)?;
     }
     Ok(all)

@@ -66,7 +66,7 @@ fn files_and_sizes(rt: HostRuntime) -> Result<(), Fail> {
     let alloc = rt.alloc();
     let table = [
         Row {
-            command: "direct",
+            words: &["direct", "s"],
             script: WORDS,
             inputs: &[("in.csv", b"line\na b a\n")],
             code: 0,
@@ -74,7 +74,7 @@ fn files_and_sizes(rt: HostRuntime) -> Result<(), Fail> {
             screen: b"size lines 1\nsize ws 3\nsize c 2\ndone\n",
         },
         Row {
-            command: "direct",
+            words: &["direct", "s"],
             script: WORDS,
             inputs: &[("in.csv", b"line\n")],
             code: 0,
@@ -83,7 +83,7 @@ fn files_and_sizes(rt: HostRuntime) -> Result<(), Fail> {
         },
         // the input that is not needed is never read
         Row {
-            command: "direct",
+            words: &["direct", "s"],
             script: ONE_NEEDED,
             inputs: &[("in.csv", b"k,v\n12,1\n"), ("b.csv", b"k,v\n12x,1\n")],
             code: 0,
@@ -91,7 +91,7 @@ fn files_and_sizes(rt: HostRuntime) -> Result<(), Fail> {
             screen: b"size a 1\nsize p 1\nsize g 1\nsize s 1\ndone\n",
         },
         Row {
-            command: "direct",
+            words: &["direct", "s"],
             script: NOTHING,
             inputs: &[("in.csv", b"x\n1\n")],
             code: 0,
@@ -127,7 +127,7 @@ fn traps_and_refusals(rt: HostRuntime) -> Result<(), Fail> {
     ];
     for (script, input, code, screen) in table {
         let row = Row {
-            command: "direct",
+            words: &["direct", "s"],
             script,
             inputs: &[("in.csv", input)],
             code,

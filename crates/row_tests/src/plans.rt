@@ -153,7 +153,7 @@ fn graphs_and_plans(rt: HostRuntime) -> Result<(), Fail> {
     ];
     for (script, screen) in table {
         let row = Row {
-            command: "plan",
+            words: &["plan", "s"],
             script,
             inputs: &[],
             code: 0,

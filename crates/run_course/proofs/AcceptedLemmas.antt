@@ -1,5 +1,5 @@
 -- Bytes are accepted as one script or refused for one reason, and not both.
-use Rattle.std.proofs.Common.{◌≡◌, ℕ, Bool, true, false, inl, inr, Ok, Err, List, sym, ap, ◌∙◌, subst}
+use Rattle.std.proofs.Common.{◌≡◌, ℕ, inl, inr, Ok, Err, List, sym, ap, ◌∙◌}
 use Rattle.flume_grammar.proofs.Answered.{one_ast, one_refusal, not_both as parse_not_both}
 use Rattle.flume_grammar.specs.declared.fault.ScriptFault.TheVariants as fault
 use Rattle.flume_grammar.specs.declared.fault.ScriptKind.{ScriptKind}

@@ -1,5 +1,5 @@
 -- A refusal comes wherever its cause stands, where files are told.
-use Rattle.std.proofs.Common.{◌≡◌, ℕ, inl, inr, List, [], Option, sym, ◌∙◌, refl}
+use Rattle.std.proofs.Common.{ℕ, inl, inr, List, [], sym, ◌∙◌, refl}
 use Rattle.std.specs.Prelude.{IsSome}
 use Rattle.command_words.specs.declared.words.Command.{Command}
 use Rattle.command_words.specs.declared.words.Command.TheVariants.{Check, Plan, Direct, Run}

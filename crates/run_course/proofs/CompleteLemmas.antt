@@ -1,12 +1,12 @@
 -- A call that has all that it needs comes to its end.
-use Rattle.std.proofs.Common.{◌≡◌, ℕ, inr, inl, List, [], ◌∷◌, sym, ◌∙◌, subst, refl, arith}
+use Rattle.std.proofs.Common.{◌≡◌, ℕ, inr, inl, List, [], ◌∷◌, sym, subst, refl, arith}
 use Rattle.std.specs.Prelude.{IsSome}
 use Rattle.std.specs.List.{Contains}
 use Rattle.command_words.specs.declared.words.Command.{Command}
 use Rattle.command_words.specs.declared.words.Command.TheVariants.{Check, Plan, Direct, Run}
 use Rattle.crew.specs.Hosts.{Account}
 use Rattle.direct_meaning.specs.Direct.{traps_of}
-use Rattle.direct_meaning.specs.Inputs.{Wanted, inputs_of}
+use Rattle.direct_meaning.specs.Inputs.{inputs_of}
 use Rattle.flume_collection.specs.declared.trap.Trap.{Trap as TrapOf}
 use Rattle.flume_value.specs.declared.fault.Kind.{Kind}
 use Rattle.flume_value.specs.declared.value.Value.{Value}
@@ -15,8 +15,6 @@ use Rattle.outside.specs.Saves.{FailsAt}
 use Rattle.outside.specs.Seen.{SeenShelf}
 use Rattle.outside.specs.declared.file.File.{File as NamedBytes}
 use Rattle.outside.specs.declared.host.Phase.{Phase}
-use Rattle.plan_phases.specs.Told.{CanFinishAll}
-use Rattle.run_settings.specs.Settings.{RunSettings}
 use Rattle.run_texts.specs.declared.status.Place.TheVariants.{File, Screen}
 use Rattle.run_texts.specs.declared.status.Status.{Status}
 use Rattle.run_texts.specs.declared.status.Status.TheVariants.{Done, GaveUp, Usage, ScriptRefused, InputRefused, Trap, ReadFault, WriteFault, WantOfMemory, TooLong, NoFile}
@@ -44,12 +42,11 @@ through_end : (words : Words) (told : Told) (c d : Command) (p q : Script)
     (table : Table) → IsSome told → Reads words told c p → Reads words told d q
     → AllHaveRows told (inputs_of p) rows → IsThrough told q front files text others table
     → EndsAs Direct p rows Done
-through_end words told c d p q rows others front text files table tells reads read inputs through =
-    (
-      table,
-      same_meaning words told c d p q rows others table tells reads read inputs through.meant,
-      done_end (traps_of table) through.through,
-    )
+through_end words told c d p q rows others front text files table tells reads read inputs through = (
+  table,
+  same_meaning words told c d p q rows others table tells reads read inputs through.meant,
+  done_end (traps_of table) through.through,
+)
 
 done_as : (words : Words) (before after : World) (c d : Command) (p q : Script)
     (rows : List (List Value)) (files : List NamedBytes) (text : List ℕ)

@@ -1,5 +1,5 @@
 -- Where hosts can finish each task of each phase, none is given up.
-use Rattle.std.proofs.Common.{◌≡◌, ℕ, ◌+◌, ◌-◌, ◌≤◌, inl, inr, List, [], ◌∷◌, ◌++◌, sym, subst, arith}
+use Rattle.std.proofs.Common.{ℕ, ◌+◌, ◌-◌, ◌≤◌, inl, inr, List, [], ◌∷◌, ◌++◌, sym, subst, arith}
 use Rattle.std.specs.List.{AllByRecursion}
 use Rattle.outside.specs.declared.host.Phase.{Phase}
 use Rattle.crew.specs.declared.drill.Entry.{Entry}

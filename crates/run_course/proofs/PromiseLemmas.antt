@@ -1,5 +1,5 @@
 -- What a call promises, from what its answer says.
-use Rattle.std.proofs.Common.{◌≡◌, List, subst}
+use Rattle.std.proofs.Common.{◌≡◌, subst}
 use Rattle.run_texts.specs.declared.status.Place.TheVariants.{File, Screen}
 use Rattle.run_texts.specs.declared.status.Status.{Status}
 use Rattle.run_texts.specs.declared.status.Status.TheVariants.{Done, GaveUp, Usage, ScriptRefused, InputRefused, Trap, ReadFault, WriteFault, TooLong, NoFile}

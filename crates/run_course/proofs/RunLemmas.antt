@@ -1,9 +1,8 @@
 -- What the run of a script's plan comes to.
-use Rattle.std.proofs.Common.{◌≡◌, ℕ, suc, zero, ◌+◌, ◌<◌, inl, inr, List, [], ◌∷◌, ◌++◌, drop, length, take, Some, None, map, slice_get, ap, sym, ◌∙◌, refl, subst, arith, append_assoc, append-nil, ◌≤◌}
+use Rattle.std.proofs.Common.{◌≡◌, ℕ, suc, zero, ◌+◌, ◌<◌, List, [], ◌∷◌, ◌++◌, drop, length, Some, None, slice_get, ap, sym, ◌∙◌, refl, subst, arith, append_assoc, append-nil, ◌≤◌}
 use Rattle.std.specs.Prelude.{codes, IfOk, IsSomeAnd, Option, Result, Ok, Err}
 use Rattle.std.specs.List.{AllZip}
 use Rattle.std.proofs.lemmas.List.{drop_all}
-use Rattle.std.specs.Option.{option_map}
 use Rattle.command_words.specs.declared.words.Command.TheVariants.{Run}
 use Rattle.command_words.specs.declared.words.PlanForm.TheVariants.{Text}
 use Rattle.crew.specs.Hosts.{Account}
@@ -18,7 +17,8 @@ use Rattle.run_settings.specs.Settings.{RunSettings}
 use Rattle.run_texts.specs.Texts.{NamedOutput, size_lines}
 use Rattle.script_check.specs.Script.{Script}
 use Rattle.script_plans.specs.Plans.{IsScriptPlan}
-use Rattle.script_run.specs.Runs.{AreMembers, IsFirstOf, IsRan}
+use Rattle.script_run.specs.Comes.{AreMembers}
+use Rattle.script_run.specs.Runs.{IsFirstOf, IsRan}
 use Rattle.script_run.specs.declared.run.Ran.{Ran}
 use Rattle.run_course.specs.Answers.{MayTell, name_at}
 use Rattle.run_course.specs.Asked.{AllHaveRows}

@@ -18,11 +18,11 @@ use crate::stop::Stop;
 use exec_plan::Plan;
 use flume_value::{Items, Pile};
 use outside::{Host, Output};
+use plan_phases::RunFault;
 use run_settings::Settings;
 use run_texts::Status;
 use script_check::Program;
 use script_run::{Ran, run_script};
-use stage_exec::RunFault;
 use std::alloc::{AllocError, Global};
 use std::thread::Threads;
 

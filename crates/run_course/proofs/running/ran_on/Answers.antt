@@ -8,7 +8,7 @@ pub returns-clause-grew : goal.returns-clause-grew
 returns-clause-grew g c =
     let f : g.row.H.Denot → Account = account g.H.Host.notes g.H.Host.losses in
     let cut = c.split_at_mut-lent in
-    let first = c.run_script.new._hosts in
+    let first = c.run_script.new.hosts in
     rw (
       cut.ensures.value,
       map-append f cut.result.0.now cut.result.1.now,

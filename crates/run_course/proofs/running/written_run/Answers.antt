@@ -2,9 +2,9 @@ use Rattle.std.proofs.Common.{List, map, subst}
 use Rattle.crew.specs.Hosts.{Account, account}
 use Rattle.outside.specs.Saves.{output_file}
 use Rattle.script_run.specs.Runs.{IsRunFault}
-use Rattle.stage_exec.specs.declared.fault.RunFault.{RunFault}
+use Rattle.plan_phases.specs.declared.fault.RunFault.{RunFault}
 use Rattle.run_course.specs.Lent.{lent}
-use Rattle.run_course.proofs.RunLemmas.{as_many, given, trap_stops, within}
+use Rattle.run_course.proofs.RunLemmas.{as_many, given, within}
 use Rattle.run_course.proofs.running.written_run.Goals as goal
 
 pub write_out-requires-clause-count : goal.write_out-requires-clause-count
