@@ -1,4 +1,4 @@
-ghost use Rattle.std.specs.Prelude.{◌≡◌, IfErr, IfOk, length, map};
+ghost use Rattle.std.specs.Prelude.{◌≡◌, ◌≤◌, IfErr, IfOk, length, map};
 ghost use Rattle.std.specs.List.{AllZip};
 ghost use Rattle.build_law.specs.Limits.{HasFirstOutputs, HasShortFlattens};
 ghost use Rattle.crew.specs.Hosts.{account, Grew};
@@ -7,6 +7,9 @@ ghost use Rattle.flume_value.specs.Bag.{bag_of};
 ghost use Rattle.script_laws.specs.WellFormed.{IsWellFormed};
 ghost use Rattle.script_run.specs.Runs.{IsPlanOf, IsRan, IsRunFault};
 
+use crate::laws::plan_law;
+use build_law::means_law;
+use direct_meaning::meaning_law;
 use exec_plan::Plan;
 use flume_value::{Items, Pile, Str, sorted};
 use outside::Host;
@@ -14,7 +17,7 @@ use plan_phases::{PhaseWinners, RunFault};
 use run_settings::Settings;
 use run_sizes::needed_sizes;
 use script_check::Program;
-use script_functions::ScriptFunctions;
+use script_functions::{ScriptFunctions, world_law};
 use stage_exec::execute;
 use std::alloc::{AllocError, Global};
 use std::thread::Threads;
@@ -54,16 +57,29 @@ pub fn run_script<X: Threads + Sync, H: Host + Send>(
     ensures fault { IfErr result (IsRunFault settings.now program.now.script inputs plan.now
         (map (account H.notes H.losses) hosts.old) (map (account H.notes H.losses) hosts.new)) }
 {
+    plan_law();
+    meaning_law();
+    means_law();
+    world_law();
+    workers_law(settings);
     let functions = ScriptFunctions::new(program);
-    let origins = program.node_count() as u32;
+    let nodes = program.node_count();
     let rows = inputs.as_slice();
-    let done = execute(rt, alloc, &functions, plan, rows, origins, hosts, settings)?;
-    let sizes = needed_sizes(alloc, program, rows, done.sizes.as_slice())?;
+    let done = execute(rt, alloc, &functions, plan, rows, nodes, hosts, settings)?;
+    let sizes = needed_sizes(alloc, program, rows, done.counts.as_slice())?;
     Ok(Ran {
-        outputs: all_sorted(alloc, done.outputs)?,
+        outputs: all_sorted(alloc, done.outputs.into_vec())?,
         sizes,
-        winners: done.winners,
+        winners: done.winners.into_vec(),
     })
+}
+
+// A run has some workers, and not too many.
+fn workers_law(settings: &Settings)
+    ensures some { 1 ≤ settings.now.workers }
+    ensures most { settings.now.workers ≤ 16 }
+{
+    settings.workers();
 }
 
 /// Each list sorted.

@@ -44,7 +44,7 @@ begins w takes p ok run = record {
 
 -- ---- the end
 
-zeros_many : (n : ℕ) → length (zeros n) ≡ n
+pub zeros_many : (n : ℕ) → length (zeros n) ≡ n
 zeros_many zero = refl
 zeros_many (suc n) = ap suc (zeros_many n)
 

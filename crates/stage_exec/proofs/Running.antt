@@ -13,7 +13,7 @@ use Rattle.exec_plan.specs.declared.plan.Stage.{Stage}
 use Rattle.map_shard.specs.Tables.{table}
 use Rattle.plan_phases.proofs.Joining.{none_run, run_then, stopped_before, stopped_behind}
 use Rattle.plan_phases.proofs.Lasting.{all_grew_on}
-use Rattle.plan_phases.specs.Phases.{PhaseTasks, stage_phases}
+use Rattle.plan_phases.specs.Phases.{stage_phases}
 use Rattle.plan_phases.specs.Told.{HaveRun, IsStopped}
 use Rattle.plan_phases.specs.declared.fault.RunFault.{RunFault}
 use Rattle.plan_phases.specs.declared.winners.PhaseWinners.{PhaseWinners}

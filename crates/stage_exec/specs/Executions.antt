@@ -32,14 +32,15 @@ abbrev pub split_of : RunSettings → Split
 split_of s = record { shards = s.shards; partitions = s.partitions }
 
 -- Nothing in the plan's meaning traps. The lists of outputs have the bags of what the plan writes
--- out, and the counts are the sizes of the first so many script nodes. Of each phase of the plan there
--- are winners: an attempt of each task, not in the drill, all of whose places some host has let
--- through since.
+-- out, and the counts are the sizes of the first so many script nodes. Of each phase of the plan
+-- there are winners: an attempt of each task, not in the drill, all of whose places some host has
+-- let through since.
 pub record IsExecuted (s : RunSettings) (w : World) (p : Plan) (nodes : ℕ)
     (olds news : List Account) (it : Executed) : Type 0 where
   pub calm : plan_traps w p ≡ []
   pub outputs :
       map bag_of it.outputs ≡ map (λ c. (plan_collection w p c).bag) p.outputs
+  pub count : length it.counts ≡ nodes
   pub counts : (i : ℕ) → i < nodes →
       slice_get it.counts i ≡ Some (kept_count (length (emitted_by w p i)))
   pub ran : AllZip (AreWinners s.tries s.drill olds news) (phases w (split_of s) p)

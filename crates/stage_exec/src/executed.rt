@@ -7,8 +7,8 @@ use plan_phases::PhaseWinners;
 pub struct Executed {
     /// The elements of each output of the plan, in order.
     pub outputs: Pile<Items>,
-    /// How many members the bag of each script node has, by the number of the node; a count stops at
-    /// its last value.
+    /// How many members the bag of each script node has, by the number of the node; a count stops
+    /// at its last value.
     pub counts: Pile<u64>,
     /// Which attempts have won the tasks, phase after phase.
     pub winners: Pile<PhaseWinners>,

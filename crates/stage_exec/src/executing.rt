@@ -4,7 +4,9 @@ ghost use Rattle.crew.specs.Hosts.{account, Grew};
 ghost use Rattle.exec_plan.specs.Wellformed.{IsPlanOk};
 ghost use Rattle.forest_steps.specs.Fresh.{zeros};
 ghost use Rattle.map_shard.specs.Tables.{table};
-ghost use Rattle.stage_exec.specs.Executions.{IsExecuted, IsRunFault, IsTypedRun};
+ghost use Rattle.plan_phases.specs.Phases.{phases};
+ghost use Rattle.plan_phases.specs.Told.{CanFinishAll, IsNotGivenUp};
+ghost use Rattle.stage_exec.specs.Executions.{IsExecuted, IsRunFault, IsTypedRun, split_of};
 ghost use Rattle.stage_phases.specs.Stages.{run_world};
 
 use crate::executed::Executed;
@@ -50,6 +52,12 @@ pub fn execute<R: Threads + Sync, F: Functions + Sync, H: Host + Send>(
     ensures fault { IfErr result (IsRunFault settings.now
         (run_world (F.called functions.now) sources.now) plan.now
         (map (account H.notes H.losses) hosts.old) (map (account H.notes H.losses) hosts.new)) }
+    // No task is given up, where each has a try that is neither in the drill nor accounted for by
+    // the losses of the hosts.
+    ensures complete { CanFinishAll settings.now.tries settings.now.drill
+        (phases (run_world (F.called functions.now) sources.now) (split_of settings.now) plan.now)
+        (map (account H.notes H.losses) hosts.old) (map (account H.notes H.losses) hosts.new)
+        → IfErr result IsNotGivenUp }
 {
     cut_law(settings);
     tasks_law();

@@ -1,11 +1,13 @@
-//! The execution of a plan by workers on hosts.
+//! The executor of plans: stage after stage, each phase by a crew on the hosts that are lent.
 //!
-//! `execute` runs the stages of a plan in order, each over the lists that the stages before it have
-//! left. A stage's map tasks are run by a crew, and then its reduce tasks; a Flatten stage has no
-//! tasks. What comes of it is what the plan means (`IsExecuted`, specs/Executions.antt): the bags of
-//! its outputs and the sizes of script nodes, and for each task an attempt that has won it. Or the
-//! run stops (`IsRunFault`): at the first trap of the plan's tasks, or at a task of which no attempt
-//! has won. `IsTypedRun` says when a plan can be executed.
+//! `execute` runs the stages of a plan in order. Of a stage it runs the map tasks, and where the
+//! stage groups then the reduce tasks; what they give makes the results, which later stages read.
+//! A Flatten stage has no tasks. In the end it gives the outputs of the plan, how many members the
+//! bag of each script node has, and which attempt has won each task (`Executed`); or the first
+//! trap, or the task that was given up (`RunFault`).
+//!
+//! Whatever the hosts do, and whoever wins, what is answered is the plan's meaning (`IsExecuted`,
+//! `IsRunFault`: specs/Executions.antt).
 #![tactic(auto)]
 
 mod executed;

@@ -1,11 +1,14 @@
 use Rattle.std.proofs.Common.{◌∙◌, ◌++◌, ap, length, map, sym}
 use Rattle.std.proofs.lemmas.Result.{err_from_is_err_and}
 use Rattle.crew.proofs.Accounts.{all_grew_not}
+use Rattle.crew.specs.Hosts.{account}
 use Rattle.flume_value.specs.Bag.{bag_of}
 use Rattle.map_shard.specs.Tables.{table}
 use Rattle.stage_phases.specs.Stages.{run_world}
-use Rattle.stage_exec.proofs.Ending.{bags_are, begins, counts_are, faulted, given_back}
+use Rattle.stage_exec.proofs.Ending.{bags_are, begins, counts_are, faulted, given_back, zeros_many}
 use Rattle.stage_exec.specs.Executions.{split_of}
+use Rattle.plan_phases.specs.Phases.{phases}
+use Rattle.stage_exec.proofs.Finishing.{finishes}
 use Rattle.stage_exec.proofs.executing.execute.Goals as goal
 
 pub returns-in_err-sizes-clause-grew : goal.returns-in_err-sizes-clause-grew
@@ -33,6 +36,20 @@ returns-in_err-results-clause-fault g c =
     (λ trap is. c.tasks_law.ensures.trapped w (split_of s) p trap cut.0 cut.1 c.requires.plan is)
     (rw (← c.as_slice-stages.ensures) c.in_err-results.ensures.stopped))
 
+pub returns-in_err-results-clause-complete : goal.returns-in_err-results-clause-complete
+returns-in_err-results-clause-complete g c can =
+    let s = c.args.settings.now in
+    let w = run_world (g.F.Functions.called c.args.functions.now) c.args.sources.now in
+    let e =
+    err_from_is_err_and c.from_residual-in_err-results.result
+    c.from_residual-in_err-results.ensures.1 in
+    rw (e.1, e.2)
+    (finishes s.tries s.drill w (phases w (split_of s) c.args.plan.now)
+    (map (account g.H.Host.notes g.H.Host.losses) c.args.hosts.now)
+    (map (account g.H.Host.notes g.H.Host.losses) c.run_stages.new.hosts)
+    c.in_err-results.field-0.0 can
+    (rw (← c.as_slice-stages.ensures) c.in_err-results.ensures.stopped))
+
 pub returns-clause-done : goal.returns-clause-done
 returns-clause-done g c =
     let s = c.args.settings.now in
@@ -40,21 +57,29 @@ returns-clause-done g c =
     let p = c.args.plan.now in
     let cut = c.cut_law.ensures in
     let ran = rw c.as_slice-stages.ensures at c.in_ok-results.ensures.ran in
-    let sizes = rw c.as_slice-stages.ensures at c.in_ok-results.ensures.sizes in
     let lists = rw c.as_slice-stages.ensures at c.in_ok-results.ensures.lists in
     let none = c.phases_law.ensures.calm w (split_of s) p cut.0 cut.1 ran.calm in
+    let lent = ap length c.as_mut_slice-counted.ensures.value in
+    let grown = rw c.as_slice-stages.ensures at c.in_ok-results.ensures.sizes in
+    let sizes = rw (c.as_mut_slice-counted.ensures.value, c.in_ok-sizes.ensures) at grown in
+    let counts =
+    c.from_vec.ensures
+    ∙ given_back c.in_ok-sizes.sizes.len c.run_stages.new.sizes c.in_ok-sizes.sizes.items
+    (grown.count ∙ lent) (sym c.as_mut_slice-counted.ensures.len ∙ lent) in
     let told =
-    c.from_vec-2.ensures ∙ (ran.told ∙ ap (λ before. before ++ ran.winners) c.new-winners.ensures.items) in
+    c.from_vec-2.ensures
+    ∙ (ran.told ∙ ap (λ before. before ++ ran.winners) c.new-winners.ensures.items) in
     record {
       calm = (c.tasks_law.ensures.through w (split_of s) p cut.0 cut.1 c.requires.plan).0 none;
       outputs =
-          ap (map bag_of) (rw (c.deref.ensures.value, c.as_slice.ensures) at c.in_ok-outputs.ensures)
+          ap (map bag_of)
+          (rw (c.deref.ensures.value, c.as_slice.ensures) at c.in_ok-outputs.ensures)
           ∙ bags_are s w p (table c.args.sources.now c.in_ok-results.results.items) lists
           (c.tasks_law.ensures.lists w (split_of s) p cut.0 cut.1 none) p.outputs;
+      count = ap length counts ∙ (sizes.count ∙ zeros_many c.args.nodes);
       counts =
-          rw (c.from_vec.ensures ∙ given_back c.in_ok-sizes.sizes.len c.run_stages.new.sizes c.in_ok-sizes.sizes.items (sizes.count ∙ ap length c.as_mut_slice-counted.ensures.value) (sym c.as_mut_slice-counted.ensures.len ∙ ap length c.as_mut_slice-counted.ensures.value))
-          (counts_are s w p c.args.nodes c.run_stages.new.sizes
-          (rw (c.as_mut_slice-counted.ensures.value, c.in_ok-sizes.ensures) at sizes)
+          rw counts
+          (counts_are s w p c.args.nodes c.run_stages.new.sizes sizes
           (c.tasks_law.ensures.sizes w (split_of s) p cut.0 cut.1 c.requires.plan none));
       ran = rw told ran.won;
     }

@@ -1,6 +1,5 @@
-use Rattle.std.proofs.Common.{◌∷◌, [], map, sym}
+use Rattle.std.proofs.Common.{◌∷◌, []}
 use Rattle.std.proofs.lemmas.Result.{err_from_is_err_and}
-use Rattle.crew.specs.Hosts.{account}
 use Rattle.map_shard.specs.Tables.{split, table}
 use Rattle.plan_phases.specs.Phases.{map_phase_of, reduce_phases}
 use Rattle.plan_phases.proofs.Joining.{run_then, stopped_before, stopped_behind}

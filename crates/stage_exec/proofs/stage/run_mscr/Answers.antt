@@ -7,7 +7,9 @@ returns-in-Ok-clause-lists g c =
     let inputs = c.args.inputs.now in
     let w = run_world (g.F.Functions.called inputs.functions.now) inputs.sources.now in
     let t = table inputs.sources.now c.args.results.now in
-    let lists = rw (c.shards-shards.ensures.value, c.partitions-partitions.ensures.value) at c.in-Ok.ensures.lists in
+    let lists =
+    rw (c.shards-shards.ensures.value, c.partitions-partitions.ensures.value)
+    at c.in-Ok.ensures.lists in
     lists w t c.in_ok-outs.ensures.maps c.in_ok-outs.ensures.reduces
 
 pub returns-in-Ok-clause-grown : goal.returns-in-Ok-clause-grown
@@ -15,5 +17,7 @@ returns-in-Ok-clause-grown g c =
     let inputs = c.args.inputs.now in
     let w = run_world (g.F.Functions.called inputs.functions.now) inputs.sources.now in
     let t = table inputs.sources.now c.args.results.now in
-    let grown = rw (c.shards-shards.ensures.value, c.partitions-partitions.ensures.value) at c.in-Ok.ensures.grown in
+    let grown =
+    rw (c.shards-shards.ensures.value, c.partitions-partitions.ensures.value)
+    at c.in-Ok.ensures.grown in
     grown w t c.in_ok-outs.ensures.maps c.in_ok-outs.ensures.reduces

@@ -1,11 +1,8 @@
-use Rattle.std.proofs.Common.{◌≡◌, ◌∙◌, ap, arith, length, map, subst, sym}
+use Rattle.std.proofs.Common.{arith, map}
 use Rattle.std.proofs.lemmas.Result.{err_from_is_err_and}
-use Rattle.crew.proofs.Accounts.{all_grew_not}
 use Rattle.crew.specs.Hosts.{account}
-use Rattle.map_shard.specs.Tables.{table}
 use Rattle.plan_phases.proofs.Lasting.{all_grew_on}
-use Rattle.stage_phases.specs.Stages.{run_world}
-use Rattle.stage_exec.proofs.Running.{along_more, along_none, end_lists, end_run, end_sizes, run_stops, stage_ready}
+use Rattle.stage_exec.proofs.Running.{along_more, along_none, end_lists, run_stops, stage_ready}
 use Rattle.stage_exec.proofs.stages.run_stages.Goals as goal
 
 pub loop-k-init : goal.loop-k-init

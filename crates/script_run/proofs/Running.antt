@@ -1,0 +1,82 @@
+-- What a plan's execution comes to, in the world of the script.
+use Rattle.std.proofs.Common.{◌≡◌, ℕ, zero, suc, ◌<◌, List, [], ◌∷◌, Option, Some, length, map, slice_get, slice_index_or, refl, sym, subst}
+use Rattle.std.specs.List.{Contains}
+use Rattle.build_law.specs.Signatures.{signatures_of}
+use Rattle.build_law.specs.Worlds.{world_of}
+use Rattle.crew.specs.Hosts.{Account}
+use Rattle.direct_meaning.specs.Direct.{meaning, traps_of}
+use Rattle.exec_graph.specs.Typing.{IsWorldTyped}
+use Rattle.exec_graph.specs.World.{World}
+use Rattle.exec_plan.specs.Meaning.{plan_traps}
+use Rattle.exec_plan.specs.Typing.{IsPlanTyped}
+use Rattle.exec_plan.specs.declared.plan.Plan.{Plan}
+use Rattle.flume_collection.specs.Calls.{or_none}
+use Rattle.flume_collection.specs.Collection.{Collection}
+use Rattle.flume_collection.specs.declared.trap.Trap.{Trap}
+use Rattle.flume_value.specs.declared.value.Value.{Value}
+use Rattle.plan_phases.specs.declared.fault.RunFault.{RunFault}
+use Rattle.plan_phases.specs.declared.fault.RunFault.TheVariants as fault
+use Rattle.run_settings.specs.Settings.{RunSettings}
+use Rattle.script_check.specs.Script.{Script}
+use Rattle.stage_exec.specs.Executions.{IsExecuted, IsTypedRun, IsRunFault as IsExecutionFault}
+use Rattle.stage_exec.specs.declared.executed.Executed.{Executed}
+use Rattle.stage_phases.specs.Stages.{run_world}
+use Rattle.task_safety.specs.Taking.{Takes}
+use Rattle.script_run.specs.Runs.{IsRunFault}
+
+rows_same : (inputs : List (List Value)) (r : ℕ)
+    → or_none (slice_get inputs r) ≡ slice_index_or inputs r []
+rows_same [] r = refl
+rows_same (rows ∷ inputs) zero = refl
+rows_same (rows ∷ inputs) (suc r) = rows_same inputs r
+
+module _ (script : Script) (inputs : List (List Value)) where
+  -- the world of a run
+  abbrev pub World_ : World
+  World_ = run_world (world_of script []).called inputs
+
+  same_world : World_ ≡ world_of script inputs
+  same_world i = record {
+    rows = λ r. rows_same inputs r i;
+    called = (world_of script []).called;
+  }
+
+  pub typed_run : (plan : Plan) → IsWorldTyped (signatures_of script) (world_of script inputs)
+      → IsPlanTyped (signatures_of script) plan
+      → IsTypedRun World_ (Takes (signatures_of script)) plan
+  typed_run plan world typed = record {
+    signatures = signatures_of script;
+    world = subst (IsWorldTyped (signatures_of script)) (sym same_world) world;
+    calls = λ f x takes. takes;
+    plan = typed;
+  }
+
+  module _ (s : RunSettings) (plan : Plan) (olds news : List Account) where
+    pub executed : (nodes : ℕ) (it : Executed)
+        → IsExecuted s World_ plan nodes olds news it
+        → IsExecuted s (world_of script inputs) plan nodes olds news it
+    executed nodes it h =
+        subst (λ w. IsExecuted s w plan nodes olds news it) same_world h
+
+    faulted_here : (made : List (Option Collection)) → meaning script inputs ≡ Some made
+        → ((trap : Trap) → Contains (plan_traps (world_of script inputs) plan) trap
+        → Contains (traps_of made) trap) → (e : RunFault)
+        → IsExecutionFault s (world_of script inputs) plan olds news e
+        → IsRunFault s script inputs plan olds news e
+    faulted_here made means among (fault.Trap trap) h = record {
+      made = made;
+      means = means;
+      among = among trap h.1;
+      first = h.0;
+    }
+    faulted_here made means among (fault.GaveUp stage phase task) h = h
+    faulted_here made means among fault.Memory h = tt
+
+    pub faulted : (made : List (Option Collection)) → meaning script inputs ≡ Some made
+        → ((trap : Trap) → Contains (plan_traps (world_of script inputs) plan) trap
+        → Contains (traps_of made) trap) → (e : RunFault)
+        → IsExecutionFault s World_ plan olds news e
+        → IsRunFault s script inputs plan olds news e
+    faulted made means among e h =
+        faulted_here made means among e
+        (subst (λ w. IsExecutionFault s w plan olds news e) same_world h)
