@@ -3,7 +3,7 @@ use Rattle.std.proofs.lemmas.Result.{IfOk-weaker}
 use Rattle.crew.proofs.Accounts.{all_grew_not}
 use Rattle.map_shard.specs.Tables.{split}
 use Rattle.plan_phases.proofs.Joining.{none_run}
-use Rattle.reduce_part.proofs.Crossing.{ReduceTasks-sync}
+use Rattle.reduce_part.proofs.CrossLemmas.{ReduceTasks-sync}
 use Rattle.stage_phases.specs.Stages.{run_world}
 use Rattle.stage_phases.proofs.Reducing.{are_reduce_outs, is_reduce_phase, no_groupings, no_outs, one_phase, reducing_of, some_groupings}
 use denote.Exit.{no}
