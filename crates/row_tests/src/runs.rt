@@ -67,12 +67,28 @@ fn any_settings(rt: HostRuntime) -> Result<(), Fail> {
     let alloc = rt.alloc();
     let table: [&[&str]; 7] = [
         &["run", "s"],
-        &["run", "--workers", "16", "--shards", "1", "--tries", "8", "s"],
+        &[
+            "run",
+            "--workers",
+            "16",
+            "--shards",
+            "1",
+            "--tries",
+            "8",
+            "s",
+        ],
         &["run", "s", "--shards", "3"],
         &["run", "s", "--shards", "64", "--partitions", "64"],
         &["run", "s", "--workers", "1", "--partitions", "1"],
         &["run", "s", "--tries", "2", "--fail", "1m0.1"],
-        &["run", "s", "--tries", "3", "--fail", "1m0.1,1m1.1,1r0.1,1r0.2"],
+        &[
+            "run",
+            "s",
+            "--tries",
+            "3",
+            "--fail",
+            "1m0.1,1m1.1,1r0.1,1r0.2",
+        ],
     ];
     for words in table {
         check_row(&rt, alloc, done(words))?;
@@ -155,5 +171,11 @@ fn loads_as_often_as_a_run_is_tried(rt: HostRuntime) -> Result<(), Fail> {
     fails.push(FailAt { begun: 0, call: 0 })?;
     fails.push(FailAt { begun: 1, call: 0 })?;
     let mut hosts = [CalmHost; 16];
-    check_row_on(&rt, alloc, done(&["run", "s", "--tries", "3"]), fails, &mut hosts)
+    check_row_on(
+        &rt,
+        alloc,
+        done(&["run", "s", "--tries", "3"]),
+        fails,
+        &mut hosts,
+    )
 }
