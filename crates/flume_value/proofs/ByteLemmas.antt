@@ -105,7 +105,8 @@ wide_bytes-alike m n rest more p q e =
     let both =
     split_alike (bytes_high_first 16 (of_z w128 m))
     (bytes_high_first 16 (of_z w128 n)) rest more refl e in
-    let same = bytes_alike 16 (of_z w128 m) (of_z w128 n) (below_128 m p) (below_128 n q) both.0 in (
+    let same = bytes_alike 16 (of_z w128 m) (of_z w128 n) (below_128 m p) (below_128 n q)
+    both.0 in (
       sym (to_z-of_z w128 m (signed_128 m p)) ∙ ap (to_z w128) same
           ∙ to_z-of_z w128 n (signed_128 n q),
       both.1,

@@ -39,7 +39,8 @@ at_seam : {A : Type 0} (xs : List A) (x : A) (ys : List A)
 at_seam [] x ys = refl
 at_seam (z ∷ xs) x ys = at_seam xs x ys
 
-pub some_at : {A : Type 0} (xs : List A) (k : ℕ) → k < length xs → (a : A) × (slice_get xs k ≡ Some a)
+pub some_at : {A : Type 0} (xs : List A) (k : ℕ) → k < length xs
+    → (a : A) × (slice_get xs k ≡ Some a)
 some_at [] k h = absurd (omega arith)
 some_at (x ∷ xs) zero h = (x, refl)
 some_at (x ∷ xs) (suc k) h = some_at xs k (omega arith)

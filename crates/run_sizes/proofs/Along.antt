@@ -128,7 +128,8 @@ module _ (script : Script) (rows : List (List Value)) (counts : List ℕ)
         ≡ size_of c =
         ap (λ n. sized_as rows counts n mk input (map sized table)) long
         ∙ one_size mk (length table) input left table c ahead here counted in
-        taken script rows counts entry nodes input (map sized table) (ap (is_needed script) long ∙ needed)
+        taken script rows counts entry nodes input (map sized table)
+        (ap (is_needed script) long ∙ needed)
         ∙ (ap (λ s. sizes_along script rows counts nodes (behind mk input)
         (map sized table ++ Some s ∷ [])) size
         ∙ (ap (sizes_along script rows counts nodes (behind mk input)) (with_one table (Some c))

@@ -36,8 +36,8 @@ returns-in-Err-Trap-clause-value g c =
     c.trapped.result (rw c.in-Err-Trap.trap-is at c.trapped.ensures)
     (trapped_course w c.args.sizes.now f xs start c.in-Err-Trap.trap
     (each_ends step xs c.loop-k.k c.index-elements-k.result
-    c.loop-k.outputs (run_each step xs start) (fault.Trap c.in-Err-Trap.trap) c.loop-k.invariant.goes
-    c.loop-k-test.true c.index-elements-k.is
+    c.loop-k.outputs (run_each step xs start) (fault.Trap c.in-Err-Trap.trap)
+    c.loop-k.invariant.goes c.loop-k-test.true c.index-elements-k.is
     (rw c.in-Err-Trap.field-0-is at c.in-Err-Trap.ensures)))
 
 pub returns-clause-value : goal.returns-clause-value

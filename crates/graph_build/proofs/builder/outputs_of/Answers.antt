@@ -7,7 +7,8 @@ use Rattle.graph_build.proofs.builder.outputs_of.Goals as goal
 pub loop-number-preserved : goal.loop-number-preserved
 loop-number-preserved c =
     let (entry, found, same) =
-    entry_of (slice_get c.args.program.now.script.outputs c.loop-number.number) _ c.output.ensures in
+    entry_of (slice_get c.args.program.now.script.outputs c.loop-number.number) _
+    c.output.ensures in
     mapped_next (λ output. place_in c.args.giving.now output.1.reads)
     c.args.program.now.script.outputs c.loop-number.places c.push.new.self c.loop-number.number
     entry found

@@ -50,7 +50,8 @@ returns-clause-bounds c = λ sources below.
     let blocked : HasSourcesBelow sources b.graph =
     subst (λ (g : Graph). HasSourcesBelow sources g) (sym c.in_ok-blocked.ensures.same) lifted in
     let small : d.graph.next < 2 ^ 32 =
-    subst (λ (n : ℕ). n < 2 ^ 32) c.next_number-next.ensures.same c.next_number-next.ensures.small in
+    subst (λ (n : ℕ). n < 2 ^ 32) c.next_number-next.ensures.same
+    c.next_number-next.ensures.small in
     subst (λ (x : Blocked). IsInBounds sources x.graph) (sym c.in_ok-fused.ensures.fused)
     (c.bounds_law.ensures sources b can blocked
     (subst (λ (x : Blocked). x.graph.next < 2 ^ 32) c.in_ok-fused.ensures.fused small))

@@ -9,7 +9,8 @@ load-attempt-requires c =
     let i = c.pass.invariant in
     let b = c.self.invariant in
     let of = ap (λ (p : Pass). p.board) c.pass.view_is ∙ (c.requires.board ∙ sym c.self.view_is) in
-    let small = subst (λ (x : Board). c.args.task < x.tasks) (sym c.self.view_is) c.requires.task in (
+    let small = subst (λ (x : Board). c.args.task < x.tasks) (sym c.self.view_is)
+    c.requires.task in (
       same_table _ _ _ _ of,
       omega arith,
       looks_as _ _ _ _ i.0 (same_size _ _ _ _ of) c.args.task small,
