@@ -25,7 +25,8 @@ use Rattle.flume_grammar.specs.Operators.{rank}
 use Rattle.flume_grammar.specs.inner.Expressions as e
 use Rattle.flume_grammar.specs.inner.Bodies as b
 use Rattle.flume_grammar.specs.inner.Bodies.{Block}
-use Rattle.flume_grammar.proofs.Sound.{gave, bound, kept_all}
+use Rattle.flume_grammar.proofs.Sound.{gave, bound}
+use Rattle.flume_grammar.proofs.SoundLoops.{kept_all}
 use Rattle.flume_grammar.specs.Limits.{Limits}
 use Rattle.flume_grammar.proofs.Fair.{IsFair}
 

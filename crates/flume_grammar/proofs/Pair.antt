@@ -8,7 +8,10 @@ use Rattle.flume_grammar.specs.declared.fault.ScriptKind.{ScriptKind}
 use Rattle.flume_grammar.specs.declared.fault.Stop.{Stop}
 use Rattle.flume_grammar.specs.declared.fault.Stop.TheVariants.{Fault, Memory}
 use Rattle.flume_grammar.specs.inner.Out.{Out, give, bind, at, passed, one, next, all_of}
-use Rattle.flume_grammar.proofs.Open.{Class, Sub, IsOpenAt, Gives, IsComplete, given, then_, wider, closer}
+use Rattle.flume_grammar.proofs.Open.{Class, Sub, IsOpenAt, Gives, IsComplete}
+use Rattle.flume_grammar.proofs.OpenSmallest.{given}
+use Rattle.flume_grammar.proofs.OpenThen.{then_}
+use Rattle.flume_grammar.proofs.OpenNarrow.{wider, closer}
 
 abbrev pub Kinds : Type 1
 Kinds = ScriptKind → Type 0

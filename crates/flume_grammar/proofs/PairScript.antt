@@ -1,15 +1,9 @@
--- Scripts within limits and within higher ones.
-use Rattle.std.proofs.Common.{◌≡◌, ℕ, zero, suc, ◌-◌, ◌≤◌, max, length, length-append, nat_le, is_some, List, [], ◌∷◌, ◌++◌, Bool, true, false, inl, inr, Option, Some, None, refl, sym, ap, ◌∙◌, subst, arith}
-use Rattle.std.proofs.lemmas.Bool.{le-leb}
+-- Operations, statements and scripts within limits and within higher ones.
+use Rattle.std.proofs.Common.{◌≡◌, ℕ, length, length-append, is_some, List, [], ◌∷◌, ◌++◌, false, Option, Some, None, refl, ap, arith}
 use Rattle.flume_tokens.specs.declared.token.Token.{Token}
-use Rattle.flume_tokens.specs.declared.token.TokenKind.TheVariants as kind
-use Rattle.flume_tokens.specs.declared.keyword.Keyword.{Keyword}
 use Rattle.flume_tokens.specs.declared.keyword.Keyword.TheVariants as keyword
 use Rattle.flume_tokens.specs.declared.sign.Sign.TheVariants as sign
-use Rattle.flume_grammar.specs.declared.fault.ScriptKind.TheVariants.{Syntax, TooDeep}
-use Rattle.flume_grammar.specs.declared.fault.Stop.TheVariants.{Fault}
-use Rattle.flume_grammar.specs.declared.start.BodyStart.{BodyStart}
-use Rattle.flume_grammar.specs.declared.start.BodyStart.TheVariants as begin
+use Rattle.flume_grammar.specs.declared.fault.ScriptKind.TheVariants.{Syntax}
 use Rattle.flume_grammar.specs.declared.start.OperationStart.{OperationStart}
 use Rattle.flume_grammar.specs.declared.start.OperationStart.TheVariants as starting
 use Rattle.flume_grammar.specs.declared.start.CombinerStart.{CombinerStart}
@@ -17,266 +11,27 @@ use Rattle.flume_grammar.specs.declared.start.CombinerStart.TheVariants as combi
 use Rattle.flume_grammar.specs.declared.start.StatementStart.{StatementStart}
 use Rattle.flume_grammar.specs.declared.start.StatementStart.TheVariants as stating
 use Rattle.flume_grammar.specs.declared.tree.Statement.{Statement}
-use Rattle.flume_grammar.specs.inner.Out.{Out, give, bind, one, next, all_of}
-use Rattle.flume_grammar.specs.inner.Reading.{keyword_at, number_at, name_at, is_at_keyword}
+use Rattle.flume_grammar.specs.inner.Out.{give, bind, one, all_of}
+use Rattle.flume_grammar.specs.inner.Reading.{number_at, name_at}
 use Rattle.flume_grammar.specs.inner.Types.{at_comma, whole_type}
-use Rattle.flume_grammar.specs.inner.Bodies as b
-use Rattle.flume_grammar.specs.inner.Bodies.{Block, value, block_layer, block_within, whole_block}
+use Rattle.flume_grammar.specs.inner.Bodies.{whole_block}
 use Rattle.flume_grammar.specs.inner.Statements as s
 use Rattle.flume_grammar.specs.Terminals.{key}
 use Rattle.flume_grammar.specs.Limits.{Limits}
 use Rattle.flume_grammar.proofs.Fair.{IsFair}
-use Rattle.flume_grammar.proofs.Sound.{one_token}
-use Rattle.flume_grammar.proofs.Open.{Class, Behind, any, free, within, IsOpen, IsOpenAt, IsComplete, given, single, unrolled}
-use Rattle.flume_grammar.proofs.OpenTypes.{owns_option, token, no_comma}
-use Rattle.flume_grammar.proofs.OpenExpr.{quiet}
-use Rattle.flume_grammar.proofs.OpenScript as o
-use Rattle.flume_grammar.proofs.OpenScript.{no_else, no_scale, opening, after_body, in_block, owns_body, body_room}
-use Rattle.flume_grammar.proofs.Depths.{each_after, each_give, block_depth}
-use Rattle.flume_grammar.proofs.Pair.{Kinds, Spared, Raise, RaiseAt, Plain, Limited, raise_token, raise_bind, raise_agree, raise_loop, IsPair, pair_given, pair_wider, pair_closer, pair_then}
-use Rattle.flume_grammar.proofs.PairTypes.{Grows, Growth, grows_least, grows_down, plain_ok, plain_fault, grows_test, plain_option, pair_token, pair_name, pair_number, pair_text, pair_sign, pair_keyword, pair_commas, test_raise, test_open, pair_whole}
-use Rattle.flume_grammar.proofs.PairExpr.{pair_expression}
-
--- what begins with a keyword, or is nothing
-module _ {A : Type 0} (K : Kinds) (k : Keyword) (f g : Unit {0} → List Token → Out A) (a : A) where
-  pub pair_optional : IsPair K any (o.other k f a) (λ ts. bind (one (keyword_at k) ts) f)
-      (λ ts. bind (one (keyword_at k) ts) g) → ((u : Unit {0}) → IsOpen (o.other k f a) (f u))
-      → ((u : Unit {0}) → IsOpen (o.other k f a) (g u))
-      → IsPair K (o.other k f a) (o.other k f a) (o.maybe k f a) (o.maybe k g a)
-  pair_optional h i j = record {
-    low_ = o.optional k f a h.low_ i;
-    high_ =
-        o.optional k g a h.high_ j;
-    raise = λ ts. by ts (is_at_keyword k (next ts)) refl;
-  }
-    where
-      by : (ts : List Token) (c : Bool) → is_at_keyword k (next ts) ≡ c
-          → RaiseAt K (o.maybe k f a) (o.maybe k g a) ts
-      by ts false q =
-          inl (
-            o.absent k f a ts q
-                ∙ sym (o.absent k g a ts q),
-            subst (Spared K) (sym (o.absent k f a ts q)) tt,
-          )
-      by ts true q =
-          raise_agree K (o.maybe k f a) (o.maybe k g a) (λ us. bind (one (keyword_at k) us) f)
-          (λ us. bind (one (keyword_at k) us) g) ts
-          (λ us e. ap (λ c. o.chosen k f a c us) (ap (is_at_keyword k) e ∙ q))
-          (λ us e. ap (λ c. o.chosen k g a c us) (ap (is_at_keyword k) e ∙ q)) (h.raise ts)
+use Rattle.flume_grammar.proofs.Open.{Behind, any, free, within, IsOpenAt}
+use Rattle.flume_grammar.proofs.OpenLoops.{unrolled}
+use Rattle.flume_grammar.proofs.OpenTokens.{owns_option, token, no_comma}
+use Rattle.flume_grammar.proofs.OpenScript as o_scripts
+use Rattle.flume_grammar.proofs.OpenBodies.{no_scale, opening}
+use Rattle.flume_grammar.proofs.Depths.{each_after, each_give}
+use Rattle.flume_grammar.proofs.Pair.{Kinds, Raise, Plain, raise_loop, IsPair, pair_given, pair_wider, pair_then}
+use Rattle.flume_grammar.proofs.PairTokens.{Growth, plain_ok, plain_fault, plain_option, pair_token, pair_name, pair_number, pair_text, pair_sign, pair_keyword, pair_commas}
+use Rattle.flume_grammar.proofs.PairTypes.{pair_whole}
+use Rattle.flume_grammar.proofs.PairBodies.{pair_optional, no_syntax, whole_given, r_whole}
 
 module _ (K : Kinds) (limits more : Limits) (fair : IsFair limits) (fair_more : IsFair more)
     (growth : Growth K limits more) where
-  no_syntax : K Syntax → ⊥
-  no_syntax = growth.syntax_
-
-  whole_given : {A : Type 0} (a : A) → IsPair K any any (give a) (give a)
-  whole_given a = pair_given K any any a (free any)
-
-  -- ---- bodies
-
-  module _ (n m : ℕ) (inner inner_more : List Token → Out Block) (g : Grows K TooDeep n m)
-      (h : 1 ≤ n → IsPair K opening any inner inner_more) (low : 1 ≤ n
-      → IsComplete opening any inner) (high : 1 ≤ m → IsComplete opening any inner_more) where
-    less_one : (j : ℕ) → suc j - 1 ≡ j
-    less_one j = omega arith
-
-    r_value : 1 ≤ n → IsPair K any quiet (b.value limits (suc n)) (b.value more (suc m))
-    r_value i =
-        pair_expression K limits more fair fair_more growth (suc n - 1) (suc m - 1)
-        (omega (arith, i))
-        (subst (λ z. Grows K TooDeep z (suc m - 1)) (sym (less_one n))
-        (subst (λ z. Grows K TooDeep n z) (sym (less_one m)) g)) 1
-
-    at_quiet : 1 ≤ n → IsPair K quiet any inner inner_more
-    at_quiet i = pair_wider K opening quiet any inner inner_more (within opening quiet (λ k x. x.0))
-        (h i)
-
-    anywhere : 1 ≤ n → IsPair K any any inner inner_more
-    anywhere i = pair_wider K opening any any inner inner_more (free opening) (h i)
-
-    r_otherwise : 1 ≤ n → IsPair K no_else no_else (b.otherwise inner) (b.otherwise inner_more)
-    r_otherwise i =
-        let x = pair_closer K any no_else any inner inner_more (free no_else) (anywhere i) in
-        pair_optional K keyword.Else (λ _ us. inner us) (λ _ us. inner_more us) ([], 0)
-        (pair_keyword K no_syntax any no_else keyword.Else (λ _ us. inner us)
-        (λ _ us. inner_more us) tt (λ _. x)) (λ _. x.low_.open_) (λ _. x.high_.open_)
-
-    r_let : 1 ≤ n → (line : ℕ)
-        → IsPair K any after_body (b.let_body limits (suc n) line) (b.let_body more (suc m) line)
-    r_let i line =
-        pair_name K no_syntax any after_body _ _ tt
-        (λ x. pair_sign K no_syntax any after_body sign.Assign _ _ tt
-        (λ _. pair_then K any quiet after_body (b.value limits (suc n)) (b.value more (suc m)) _
-        _ (r_value i) (λ e.
-        pair_given K quiet after_body _ (within after_body quiet (λ k j. j.0)))))
-
-    r_emit : 1 ≤ n → (line : ℕ)
-        → IsPair K any after_body (b.emit_body limits (suc n) line) (b.emit_body more (suc m) line)
-    r_emit i line = pair_then K any quiet after_body (b.value limits (suc n)) (b.value more (suc m))
-        _ _ (r_value i)
-        (λ e. pair_given K quiet after_body _ (within after_body quiet (λ k j. j.0)))
-
-    r_if : 1 ≤ n → (line : ℕ) → IsPair K any after_body (b.if_body limits (suc n) inner line)
-        (b.if_body more (suc m) inner_more line)
-    r_if i line =
-        pair_then K any quiet after_body (b.value limits (suc n)) (b.value more (suc m)) _ _
-        (r_value i) (λ e. pair_then K quiet any after_body inner inner_more _ _ (at_quiet i)
-        (λ x.
-        pair_wider K no_else any after_body _ _ (free no_else)
-        (pair_then K no_else no_else after_body (b.otherwise inner) (b.otherwise inner_more) _ _
-        (r_otherwise i) (λ y.
-        pair_given K no_else after_body _ (within after_body no_else (λ k j. j.1))))))
-
-    r_for : 1 ≤ n → (line : ℕ) → IsPair K any after_body (b.for_body limits (suc n) inner line)
-        (b.for_body more (suc m) inner_more line)
-    r_for i line =
-        pair_name K no_syntax any after_body _ _ tt
-        (λ x. pair_keyword K no_syntax any after_body keyword.In _ _ tt
-        (λ _. pair_then K any quiet after_body (b.value limits (suc n)) (b.value more (suc m)) _
-        _ (r_value i) (λ e.
-        pair_then K quiet any after_body inner inner_more _ _ (at_quiet i)
-        (λ y. pair_given K any after_body _ (free after_body)))))
-
-    r_side : (c : Class) → 1 ≤ n → (k : Keyword) → c (kind.Keyword k)
-        → IsPair K c any (b.side inner k) (b.side inner_more k)
-    r_side c i k q =
-        pair_keyword K no_syntax c any k _ _ q (λ _. pair_name K no_syntax any any _ _ tt
-        (λ x. pair_then K any any any inner inner_more _ _ (anywhere i) (λ y. whole_given _)))
-
-    r_case : 1 ≤ n → (line : ℕ) → IsPair K any after_body (b.case_body limits (suc n) inner line)
-        (b.case_body more (suc m) inner_more line)
-    r_case i line =
-        pair_then K any quiet after_body (b.value limits (suc n)) (b.value more (suc m)) _ _
-        (r_value i) (λ e.
-        pair_then K quiet any after_body (b.side inner keyword.Left)
-        (b.side inner_more keyword.Left) _ _ (r_side quiet i keyword.Left (λ own least. refl))
-        (λ l.
-        pair_then K any any after_body (b.side inner keyword.Right)
-        (b.side inner_more keyword.Right) _ _ (r_side any i keyword.Right tt)
-        (λ r. pair_given K any after_body _ (free after_body))))
-
-    r_after : 1 ≤ n → (x : BodyStart) (line : ℕ)
-        → IsPair K any after_body (b.after_start limits (suc n) inner x line)
-        (b.after_start more (suc m) inner_more x line)
-    r_after i begin.Let line = r_let i line
-    r_after i begin.Emit line = r_emit i line
-    r_after i begin.If line = r_if i line
-    r_after i begin.For line = r_for i line
-    r_after i begin.Case line = r_case i line
-
-    grown : Grows K TooDeep (suc n) (suc m)
-    grown = by g
-      where
-        by : Grows K TooDeep n m → Grows K TooDeep (suc n) (suc m)
-        by (inl i) = inl (ap suc i.0, i.1)
-        by (inr i) = let j = i.0 in inr (omega (arith, j), i.1)
-
-    start_limited : (t : Token) (x : Option BodyStart)
-        → Limited K t (b.started (suc n) t x) (b.started (suc m) t x)
-    start_limited t None = inl (refl, plain_fault K t Syntax no_syntax)
-    start_limited t (Some x) = grows_test K t (x, t.line) TooDeep (suc n) (suc m) grown (nat_le 2)
-        (λ j. le-leb 2 (suc m) (omega (arith, j)))
-
-    open_start : (j : ℕ) → IsOpen any (one (b.body_start j))
-    open_start j = single (b.body_start j) (λ t. owns_body j t (b.body_of t.kind))
-
-    r_body : Raise K (b.body limits (suc n) inner) (b.body more (suc m) inner_more)
-    r_body ts =
-        raise_bind K any after_body (one (b.body_start (suc n))) (one (b.body_start (suc m))) _ _ ts
-        (open_start (suc n) ts) (open_start (suc m) ts)
-        (raise_token K (b.body_start (suc n)) (b.body_start (suc m))
-        (λ t. start_limited t (b.body_of t.kind)) ts)
-        (λ x us e. let y = one_token (b.body_start (suc n)) ts x us e in
-        (r_after (let i = body_room (suc n) y.token (b.body_of y.token.kind) x y.gives in
-        omega (arith, i)) x.0 x.1).raise us)
-        (λ x e. (o.begun more fair_more m inner_more high x e).open_ [])
-
-    r_next : (x : Block)
-        → Raise K (b.next_body limits (suc n) inner x) (b.next_body more (suc m) inner_more x)
-    r_next x ts =
-        raise_bind K after_body after_body (b.body limits (suc n) inner)
-        (b.body more (suc m) inner_more) _ _ ts (o.o_body limits fair n inner low ts)
-        (o.o_body more fair_more m inner_more high ts) (r_body ts) (λ y us e. inl (refl, tt))
-        (λ y e. (given after_body after_body (x.0 ++ y.0 ∷ [], max x.1 y.1) (λ rs i. i)).open_ [])
-
-    ends : (y : Block) (ts : List Token) → Behind in_block ts → b.at_body y ts ≡ false
-    ends y [] i = refl
-    ends y (t ∷ ts) i = i.2
-
-    r_bodies : (x : Block)
-        → IsPair K in_block in_block (all_of b.at_body (b.next_body limits (suc n) inner) x)
-        (all_of b.at_body (b.next_body more (suc m) inner_more) x)
-    r_bodies x = record {
-      low_ = o.o_bodies limits fair n inner low x;
-      high_ = o.o_bodies more fair_more m inner_more high x;
-      raise = raise_loop K in_block after_body b.at_body (b.next_body limits (suc n) inner)
-          (b.next_body more (suc m) inner_more) (λ y. Unit {0}) (λ y ts us e. ap b.begins_body e)
-          (λ y ts z us i j e. o.t_next limits fair n inner low y z ts us e)
-          (λ y ts z us i e. tt) (λ y ts i j. o.o_next limits fair n inner low y ts)
-          (λ y ts i j. o.o_next more fair_more m inner_more high y ts) (λ y ts i j. r_next y ts)
-          (λ y ts i. unrolled in_block after_body b.at_body (b.next_body limits (suc n) inner)
-          (λ z. Unit {0}) (within in_block after_body (λ k j. (j.0, j.1))) ends
-          (λ z us vs e. ap b.begins_body e)
-          (λ z us w vs j k e. o.t_next limits fair n inner low z w us vs e)
-          (λ z us j k. o.o_next limits fair n inner low z us) (λ z us w vs j e. tt) y ts tt)
-          (λ y ts i. unrolled in_block after_body b.at_body (b.next_body more (suc m) inner_more)
-          (λ z. Unit {0}) (within in_block after_body (λ k j. (j.0, j.1))) ends
-          (λ z us vs e. ap b.begins_body e)
-          (λ z us w vs j k e. o.t_next more fair_more m inner_more high z w us vs e)
-          (λ z us j k. o.o_next more fair_more m inner_more high z us) (λ z us w vs j e. tt) y ts
-          tt)
-          (λ y z i e. (o.o_bodies more fair_more m inner_more high z).open_ []) x tt;
-    }
-
-    r_layer : IsPair K opening any (b.block_layer limits (suc n) inner)
-        (b.block_layer more (suc m) inner_more)
-    r_layer =
-        pair_sign K no_syntax opening any sign.OpenBrace _ _ (λ own least. refl, refl)
-        (λ _. pair_wider K in_block any any _ _ (free in_block)
-        (pair_then K in_block in_block any (all_of b.at_body (b.next_body limits (suc n) inner)
-        ([], 0)) (all_of b.at_body (b.next_body more (suc m) inner_more) ([], 0)) _ _
-        (r_bodies ([], 0)) (λ x.
-        pair_sign K no_syntax in_block any sign.CloseBrace _ _ (λ own least. refl, refl, refl)
-        (λ _. whole_given x))))
-
-  r_block : (n m : ℕ) → 1 ≤ n → Grows K TooDeep n m
-      → Raise K (block_within limits n) (block_within more m)
-  unfolding block_within
-  r_block zero m i g ts = absurd (omega (arith, i))
-  r_block (suc n) zero i g ts = absurd (let j = grows_least K TooDeep (suc n) zero g in
-      omega (arith, j))
-  r_block (suc n) (suc m) i g ts =
-      let d = grows_down K TooDeep n m g in
-      (r_layer n m (block_within limits n) (block_within more m) d
-      (λ j. record {
-        low_ = o.complete_block limits fair n j;
-        high_ =
-            o.complete_block more fair_more m (let k = grows_least K TooDeep n m d in
-            omega (arith, j, k));
-        raise = r_block n m j d;
-      })
-      (o.complete_block limits fair n) (o.complete_block more fair_more m)).raise ts
-
-  r_whole : IsPair K opening any (whole_block limits) (whole_block more)
-  r_whole =
-      let u = grows_least K TooDeep limits.depth more.depth growth.depth in
-      let x = o.complete_block limits fair limits.depth fair.depth in
-      let y = o.complete_block more fair_more more.depth fair_more.depth in
-      record {
-        low_ = o.complete_body limits fair;
-        high_ = o.complete_body more fair_more;
-        raise = λ ts. raise_bind K any any (block_within limits limits.depth)
-            (block_within more more.depth) _ _ ts (x.open_ ts) (y.open_ ts)
-            (r_block limits.depth more.depth fair.depth growth.depth ts)
-            (λ z us e. let d = block_depth limits fair limits.depth ts z us e in
-            test_raise K z.0 (Fault None TooDeep) (nat_le z.1 limits.depth)
-            (nat_le z.1 more.depth) us (le-leb z.1 limits.depth d)
-            (le-leb z.1 more.depth (omega (arith, d, u))))
-            (λ z e. let d = block_depth more fair_more more.depth e.source z e.left e.is in
-            test_open z.0 (Fault None TooDeep) (nat_le z.1 more.depth) []
-            (le-leb z.1 more.depth d));
-      }
-
   -- ---- operations
 
   none_comma : {A : Type 0} (a : A) → IsPair K any no_comma (give a) (give a)
@@ -286,32 +41,38 @@ module _ (K : Kinds) (limits more : Limits) (fair : IsFair limits) (fair_more : 
   comma_given a = pair_given K no_comma no_comma a (λ rs i. i)
 
   r_combiner : (k : CombinerStart) → IsPair K any any (s.after_combiner k) (s.after_combiner k)
-  r_combiner (combining.Whole c) = whole_given c
-  r_combiner combining.Top = pair_number K no_syntax any any _ _ tt (λ n. whole_given _)
+  r_combiner (combining.Whole c) = whole_given K limits more fair fair_more growth c
+  r_combiner combining.Top = pair_number K (no_syntax K limits more fair fair_more growth) any any _
+      _ tt (λ n. whole_given K limits more fair fair_more growth _)
 
   r_combine : IsPair K any no_comma s.combine s.combine
   r_combine =
-      pair_name K no_syntax any no_comma _ _ tt
-      (λ c. pair_keyword K no_syntax any no_comma keyword.By _ _ tt
+      pair_name K (no_syntax K limits more fair fair_more growth) any no_comma _ _ tt
+      (λ c. pair_keyword K (no_syntax K limits more fair fair_more growth) any no_comma keyword.By _
+      _ tt
       (λ _. pair_then K any any no_comma s.combiner_at s.combiner_at _ _
       (pair_then K any any any (one s.combiner_start) (one s.combiner_start) _ _
-      (pair_token K no_syntax any s.combiner_start
+      (pair_token K (no_syntax K limits more fair fair_more growth) any s.combiner_start
       (token any s.combiner_start (λ t. owns_option t (s.of_keyword s.keyword_combiner t.kind))
       (key keyword.Sum 1) _ refl tt)
-      (λ t. plain_option K no_syntax t (s.of_keyword s.keyword_combiner t.kind))) r_combiner)
+      (λ t. plain_option K (no_syntax K limits more fair fair_more growth) t
+      (s.of_keyword s.keyword_combiner t.kind))) r_combiner)
       (λ k. none_comma _)))
 
   r_flatten : IsPair K any no_comma (s.flatten limits) (s.flatten more)
   r_flatten =
-      pair_name K no_syntax any no_comma _ _ tt (λ x. pair_wider K no_comma any no_comma _ _
+      pair_name K (no_syntax K limits more fair fair_more growth) any no_comma _ _ tt
+      (λ x. pair_wider K no_comma any no_comma _ _
       (free no_comma)
       (pair_then K no_comma no_comma no_comma (all_of at_comma (s.next_input limits) (x ∷ []))
       (all_of at_comma (s.next_input more) (x ∷ [])) _ _
-      (pair_commas K no_syntax no_comma any (free no_comma) (λ k i. i)
+      (pair_commas K (no_syntax K limits more fair fair_more growth) no_comma any (free no_comma)
+      (λ k i. i)
       (λ (xs : List (List ℕ)). length xs) limits.inputs more.inputs growth.inputs
       (λ xs _ us. bind (one name_at us) (λ y vs. give (xs ++ y ∷ []) vs))
       (λ xs _ us. bind (one name_at us) (λ y vs. give (xs ++ y ∷ []) vs))
-      (λ xs _. pair_name K no_syntax any any _ _ tt (λ y. whole_given _))
+      (λ xs _. pair_name K (no_syntax K limits more fair fair_more growth) any any _ _ tt
+      (λ y. whole_given K limits more fair fair_more growth _))
       (λ xs _. each_after _ (one name_at) _
       (λ y. each_give _ _ (let i = length-append xs (y ∷ []) in omega (arith, i))))
       (x ∷ []) fair.inputs) (λ xs. comma_given _)))
@@ -319,38 +80,47 @@ module _ (K : Kinds) (limits more : Limits) (fair : IsFair limits) (fair_more : 
   r_begin : (x : OperationStart)
       → IsPair K any no_comma (s.after_begin limits x) (s.after_begin more x)
   r_begin starting.Do =
-      pair_name K no_syntax any no_comma _ _ tt (λ c. pair_name K no_syntax any no_comma _ _ tt
+      pair_name K (no_syntax K limits more fair fair_more growth) any no_comma _ _ tt
+      (λ c. pair_name K (no_syntax K limits more fair fair_more growth) any no_comma _ _ tt
       (λ f. none_comma _))
-  r_begin starting.Group = pair_name K no_syntax any no_comma _ _ tt (λ c. none_comma _)
+  r_begin starting.Group = pair_name K (no_syntax K limits more fair fair_more growth) any no_comma
+      _ _ tt (λ c. none_comma _)
   r_begin starting.Combine = r_combine
   r_begin starting.Flatten = r_flatten
-  r_begin starting.Count = pair_name K no_syntax any no_comma _ _ tt (λ c. none_comma _)
+  r_begin starting.Count = pair_name K (no_syntax K limits more fair fair_more growth) any no_comma
+      _ _ tt (λ c. none_comma _)
   r_begin starting.Join =
-      pair_name K no_syntax any no_comma _ _ tt
-      (λ x. pair_sign K no_syntax any no_comma sign.Comma _ _ tt
-      (λ _. pair_name K no_syntax any no_comma _ _ tt (λ y. none_comma _)))
+      pair_name K (no_syntax K limits more fair fair_more growth) any no_comma _ _ tt
+      (λ x. pair_sign K (no_syntax K limits more fair fair_more growth) any no_comma sign.Comma _ _
+      tt
+      (λ _. pair_name K (no_syntax K limits more fair fair_more growth) any no_comma _ _ tt
+      (λ y. none_comma _)))
   r_begin starting.Top =
-      pair_number K no_syntax any no_comma _ _ tt (λ n. pair_name K no_syntax any no_comma _ _ tt
+      pair_number K (no_syntax K limits more fair fair_more growth) any no_comma _ _ tt
+      (λ n. pair_name K (no_syntax K limits more fair fair_more growth) any no_comma _ _ tt
       (λ c. none_comma _))
 
   r_operation : IsPair K any no_comma (s.operation_at limits) (s.operation_at more)
   r_operation =
       pair_then K any any no_comma (one s.operation_start) (one s.operation_start) _ _
-      (pair_token K no_syntax any s.operation_start
+      (pair_token K (no_syntax K limits more fair fair_more growth) any s.operation_start
       (token any s.operation_start
       (λ t. owns_option t (s.of_keyword s.keyword_operation t.kind)) (key keyword.Group 1) _
-      refl tt) (λ t. plain_option K no_syntax t (s.of_keyword s.keyword_operation t.kind)))
+      refl tt) (λ t. plain_option K (no_syntax K limits more fair fair_more growth) t
+      (s.of_keyword s.keyword_operation t.kind)))
       r_begin
 
   -- ---- statements
 
   r_scale : IsPair K no_scale no_scale s.scale s.scale
   r_scale =
-      let x = pair_number K no_syntax any no_scale _ _ tt (λ n. pair_given K any no_scale (Some n)
+      let x = pair_number K (no_syntax K limits more fair fair_more growth) any no_scale _ _ tt
+      (λ n. pair_given K any no_scale (Some n)
       (free no_scale)) in
       pair_optional K keyword.Scale (λ _ us. bind (one number_at us) (λ n vs. give (Some n) vs))
       (λ _ us. bind (one number_at us) (λ n vs. give (Some n) vs)) None
-      (pair_keyword K no_syntax any no_scale keyword.Scale _ _ tt (λ _. x)) (λ _. x.low_.open_)
+      (pair_keyword K (no_syntax K limits more fair fair_more growth) any no_scale keyword.Scale _ _
+      tt (λ _. x)) (λ _. x.low_.open_)
       (λ _. x.high_.open_)
 
   w : IsPair K any any (whole_type limits) (whole_type more)
@@ -358,51 +128,60 @@ module _ (K : Kinds) (limits more : Limits) (fair : IsFair limits) (fair_more : 
 
   r_signature : IsPair K any any (s.signature limits) (s.signature more)
   r_signature =
-      pair_sign K no_syntax any any sign.Open _ _ tt (λ _. pair_name K no_syntax any any _ _ tt
-      (λ x. pair_sign K no_syntax any any sign.Colon _ _ tt
+      pair_sign K (no_syntax K limits more fair fair_more growth) any any sign.Open _ _ tt
+      (λ _. pair_name K (no_syntax K limits more fair fair_more growth) any any _ _ tt
+      (λ x. pair_sign K (no_syntax K limits more fair fair_more growth) any any sign.Colon _ _ tt
       (λ _. pair_then K any any any (whole_type limits) (whole_type more) _ _ w (λ a.
-      pair_sign K no_syntax any any sign.Close _ _ tt
-      (λ _. pair_sign K no_syntax any any sign.Arrow _ _ tt
+      pair_sign K (no_syntax K limits more fair fair_more growth) any any sign.Close _ _ tt
+      (λ _. pair_sign K (no_syntax K limits more fair fair_more growth) any any sign.Arrow _ _ tt
       (λ _. pair_then K any any any (whole_type limits) (whole_type more) _ _ w
-      (λ c. whole_given _)))))))
+      (λ c. whole_given K limits more fair fair_more growth _)))))))
 
   r_function : IsPair K any no_comma (s.function_form limits) (s.function_form more)
   r_function =
-      pair_name K no_syntax any no_comma _ _ tt
+      pair_name K (no_syntax K limits more fair fair_more growth) any no_comma _ _ tt
       (λ f. pair_then K any any no_comma (s.signature limits) (s.signature more) _ _ r_signature
       (λ g.
       pair_wider K no_scale any no_comma _ _ (free no_scale)
       (pair_then K no_scale no_scale no_comma s.scale s.scale _ _ r_scale (λ n.
       pair_then K no_scale any no_comma (whole_block limits) (whole_block more) _ _
       (pair_wider K opening no_scale any (whole_block limits) (whole_block more)
-      (within opening no_scale (λ k i. i.1)) r_whole) (λ x. none_comma _)))))
+      (within opening no_scale (λ k i. i.1)) (r_whole K limits more fair fair_more growth))
+      (λ x. none_comma _)))))
 
   r_form : (x : StatementStart) → IsPair K any no_comma (s.form_at limits x) (s.form_at more x)
   r_form stating.Type =
-      pair_name K no_syntax any no_comma _ _ tt
-      (λ x. pair_sign K no_syntax any no_comma sign.Assign _ _ tt
+      pair_name K (no_syntax K limits more fair fair_more growth) any no_comma _ _ tt
+      (λ x. pair_sign K (no_syntax K limits more fair fair_more growth) any no_comma sign.Assign _ _
+      tt
       (λ _. pair_then K any any no_comma (whole_type limits) (whole_type more) _ _ w
       (λ t. none_comma _)))
   r_form stating.Input =
-      pair_name K no_syntax any no_comma _ _ tt
-      (λ x. pair_sign K no_syntax any no_comma sign.Colon _ _ tt
+      pair_name K (no_syntax K limits more fair fair_more growth) any no_comma _ _ tt
+      (λ x. pair_sign K (no_syntax K limits more fair fair_more growth) any no_comma sign.Colon _ _
+      tt
       (λ _. pair_then K any any no_comma (whole_type limits) (whole_type more) _ _ w (λ t.
-      pair_keyword K no_syntax any no_comma keyword.From _ _ tt
-      (λ _. pair_text K no_syntax any no_comma _ _ tt (λ f. none_comma _)))))
+      pair_keyword K (no_syntax K limits more fair fair_more growth) any no_comma keyword.From _ _
+      tt
+      (λ _. pair_text K (no_syntax K limits more fair fair_more growth) any no_comma _ _ tt
+      (λ f. none_comma _)))))
   r_form stating.Function = r_function
   r_form stating.Let =
-      pair_name K no_syntax any no_comma _ _ tt
-      (λ x. pair_sign K no_syntax any no_comma sign.Assign _ _ tt
+      pair_name K (no_syntax K limits more fair fair_more growth) any no_comma _ _ tt
+      (λ x. pair_sign K (no_syntax K limits more fair fair_more growth) any no_comma sign.Assign _ _
+      tt
       (λ _. pair_then K any no_comma no_comma (s.operation_at limits) (s.operation_at more) _ _
       r_operation (λ y. comma_given _)))
   r_form stating.Output =
-      pair_name K no_syntax any no_comma _ _ tt
-      (λ x. pair_keyword K no_syntax any no_comma keyword.To _ _ tt
-      (λ _. pair_text K no_syntax any no_comma _ _ tt (λ f. none_comma _)))
+      pair_name K (no_syntax K limits more fair fair_more growth) any no_comma _ _ tt
+      (λ x. pair_keyword K (no_syntax K limits more fair fair_more growth) any no_comma keyword.To _
+      _ tt
+      (λ _. pair_text K (no_syntax K limits more fair fair_more growth) any no_comma _ _ tt
+      (λ f. none_comma _)))
 
   plain_statement : (t : Token) (x : Option StatementStart) → Plain K t (s.with_line t x)
   plain_statement t (Some x) = plain_ok K t (x, t.line)
-  plain_statement t None = plain_fault K t Syntax no_syntax
+  plain_statement t None = plain_fault K t Syntax (no_syntax K limits more fair fair_more growth)
 
   r_named : (x : StatementStart × ℕ)
       → IsPair {A = Statement} K any no_comma
@@ -414,9 +193,9 @@ module _ (K : Kinds) (limits more : Limits) (fair : IsFair limits) (fair_more : 
   r_statement : IsPair K any no_comma (s.statement_at limits) (s.statement_at more)
   r_statement =
       pair_then K any any no_comma (one s.statement_start) (one s.statement_start) _ _
-      (pair_token K no_syntax any s.statement_start
+      (pair_token K (no_syntax K limits more fair fair_more growth) any s.statement_start
       (token any s.statement_start
-      (λ t. o.owns_statement limits fair t (s.of_keyword s.keyword_statement t.kind))
+      (λ t. o_scripts.owns_statement limits fair t (s.of_keyword s.keyword_statement t.kind))
       (key keyword.Output 1) _ refl tt)
       (λ t. plain_statement t (s.of_keyword s.keyword_statement t.kind)))
       r_named
@@ -426,30 +205,36 @@ module _ (K : Kinds) (limits more : Limits) (fair : IsFair limits) (fair_more : 
   r_next_statement ss = pair_then K any no_comma no_comma (s.statement_at limits)
       (s.statement_at more) _ _ r_statement (λ x. comma_given _)
 
-  over : (ss : List Statement) (ts : List Token) → Behind (o.nothing limits fair) ts
+  over : (ss : List Statement) (ts : List Token) → Behind (o_scripts.nothing limits fair) ts
       → s.is_more ss ts ≡ false
   over ss [] i = refl
   over ss (t ∷ ts) i = absurd i
 
   pub raise_statements : Raise K (s.script_at limits) (s.script_at more)
   raise_statements =
-      raise_loop K (o.nothing limits fair) no_comma s.is_more (s.next_statement limits)
+      raise_loop K (o_scripts.nothing limits fair) no_comma s.is_more (s.next_statement limits)
       (s.next_statement more) (λ ss. Unit {0}) (λ ss ts us e. ap is_some e)
-      (λ ss ts rs us i j e. o.t_statement limits fair ss rs ts us e) (λ ss ts rs us i e. tt)
-      (λ ss ts i j. (o.o_next_statement limits fair ss).open_ ts)
-      (λ ss ts i j. (o.o_next_statement more fair_more ss).open_ ts)
+      (λ ss ts rs us i j e. o_scripts.t_statement limits fair ss rs ts us e) (λ ss ts rs us i e. tt)
+      (λ ss ts i j. (o_scripts.o_next_statement limits fair ss).open_ ts)
+      (λ ss ts i j. (o_scripts.o_next_statement more fair_more ss).open_ ts)
       (λ ss ts i j. (r_next_statement ss).raise ts)
-      (λ ss ts i. unrolled (o.nothing limits fair) no_comma s.is_more (s.next_statement limits)
-      (λ z. Unit {0}) (within (o.nothing limits fair) no_comma (λ k j. absurd j)) over
-      (λ z us vs e. ap is_some e) (λ z us rs vs j k e. o.t_statement limits fair z rs us vs e)
-      (λ z us j k. (o.o_next_statement limits fair z).open_ us) (λ z us rs vs j e. tt) ss ts tt)
-      (λ ss ts i. unrolled (o.nothing limits fair) no_comma s.is_more (s.next_statement more)
-      (λ z. Unit {0}) (within (o.nothing limits fair) no_comma (λ k j. absurd j)) over
+      (λ ss ts i. unrolled (o_scripts.nothing limits fair) no_comma s.is_more
+      (s.next_statement limits)
+      (λ z. Unit {0}) (within (o_scripts.nothing limits fair) no_comma (λ k j. absurd j)) over
+      (λ z us vs e. ap is_some e) (λ z us rs vs j k e. o_scripts.t_statement limits fair z rs us vs
+      e)
+      (λ z us j k. (o_scripts.o_next_statement limits fair z).open_ us) (λ z us rs vs j e. tt) ss ts
+      tt)
+      (λ ss ts i. unrolled (o_scripts.nothing limits fair) no_comma s.is_more
+      (s.next_statement more)
+      (λ z. Unit {0}) (within (o_scripts.nothing limits fair) no_comma (λ k j. absurd j)) over
       (λ z us vs e. ap is_some e)
-      (λ z us rs vs j k e. o.t_statement more fair_more z rs us vs e)
-      (λ z us j k. (o.o_next_statement more fair_more z).open_ us) (λ z us rs vs j e. tt) ss ts tt)
+      (λ z us rs vs j k e. o_scripts.t_statement more fair_more z rs us vs e)
+      (λ z us j k. (o_scripts.o_next_statement more fair_more z).open_ us) (λ z us rs vs j e. tt) ss
+      ts tt)
       (λ ss rs i e. after rs) [] tt
     where
       after : (rs : List Statement)
-          → IsOpenAt (o.nothing limits fair) (all_of s.is_more (s.next_statement more) rs) []
-      after rs = o.statements_end more fair_more rs
+          → IsOpenAt (o_scripts.nothing limits fair) (all_of s.is_more (s.next_statement more) rs)
+          []
+      after rs = o_scripts.statements_end more fair_more rs

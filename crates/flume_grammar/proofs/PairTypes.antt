@@ -1,238 +1,28 @@
--- Types within limits and within higher ones.
-use Rattle.std.proofs.Common.{◌≡◌, ℕ, zero, suc, ◌≤◌, ◌<◌, length, length-append, nat_lt, nat_le, List, [], ◌∷◌, Bool, true, false, ◌⊎◌, inl, inr, Option, Some, None, Result, Ok, Err, if◌then◌else◌, refl, sym, ap, ◌∙◌, subst, arith}
+-- Parsers of types within limits and within higher ones.
+use Rattle.std.proofs.Common.{◌≡◌, ℕ, zero, suc, ◌≤◌, length, nat_lt, nat_le, List, [], inl, None, Ok, Err, refl, arith}
 use Rattle.std.proofs.lemmas.Bool.{lt-ltb, le-leb}
 use Rattle.flume_tokens.specs.declared.token.Token.{Token}
 use Rattle.flume_tokens.specs.declared.token.TokenKind.{TokenKind}
 use Rattle.flume_tokens.specs.declared.token.TokenKind.TheVariants as kind
 use Rattle.flume_tokens.specs.declared.keyword.Keyword.{Keyword}
 use Rattle.flume_tokens.specs.declared.keyword.Keyword.TheVariants as keyword
-use Rattle.flume_tokens.specs.declared.sign.Sign.{Sign}
 use Rattle.flume_tokens.specs.declared.sign.Sign.TheVariants as sign
-use Rattle.flume_grammar.specs.declared.fault.ScriptKind.{ScriptKind}
-use Rattle.flume_grammar.specs.declared.fault.ScriptKind.TheVariants.{Syntax, TooDeep, TooMany}
-use Rattle.flume_grammar.specs.declared.fault.Stop.{Stop}
+use Rattle.flume_grammar.specs.declared.fault.ScriptKind.TheVariants.{Syntax, TooDeep}
 use Rattle.flume_grammar.specs.declared.fault.Stop.TheVariants.{Fault}
 use Rattle.flume_grammar.specs.declared.parts.Parts.{Parts}
 use Rattle.flume_grammar.specs.declared.start.TypeStart.{TypeStart}
 use Rattle.flume_grammar.specs.declared.start.TypeStart.TheVariants as start
-use Rattle.flume_grammar.specs.inner.Out.{Out, give, bind, at, one, all_of}
-use Rattle.flume_grammar.specs.inner.Reading.{is_sign, is_keyword, sign_at, keyword_at, name_of, name_at, word_at, number_of, number_at, text_of, text_at, comma_at, or_syntax, is_at_sign}
-use Rattle.flume_grammar.specs.Terminals.{word_of, text}
+use Rattle.flume_grammar.specs.inner.Out.{Out, at, one, all_of}
 use Rattle.flume_grammar.specs.Limits.{Limits}
 use Rattle.flume_grammar.proofs.Fair.{IsFair}
-use Rattle.flume_grammar.specs.Parts.{Tree, none, with_part}
+use Rattle.flume_grammar.specs.Parts.{Tree, none}
 use Rattle.flume_grammar.specs.inner.Types.{Inner, HasRoom, deep_start, keyword_type, kind_type, type_start, list_type, pair_type, field_type, next_field_type, at_comma, record_type, after_start, type_layer, type_within, whole_type}
-use Rattle.flume_grammar.proofs.Sound.{bound, comma_read}
-use Rattle.flume_grammar.proofs.Open.{Takes, Class, Behind, any, Sub, free, IsOpenAt, IsComplete, given, single, unrolled}
-use Rattle.flume_grammar.proofs.OpenTypes as o
-use Rattle.flume_grammar.proofs.OpenTypes.{a_name, a_number, token, takes_token, owns_option, owns_sign, owns_keyword, owns_comma, comma_then, commas, no_comma}
+use Rattle.flume_grammar.proofs.Open.{any, free, IsComplete}
+use Rattle.flume_grammar.proofs.OpenTypes as o_types
+use Rattle.flume_grammar.proofs.OpenTokens.{no_comma}
 use Rattle.flume_grammar.proofs.Depths.{Each, each_after, each_give, type_depth}
-use Rattle.flume_grammar.proofs.Pair.{Kinds, Raise, RaiseAt, Plain, Limited, raise_token, raise_bind, raise_loop, IsPair, pair_given, pair_wider, pair_then, pair_given_then}
-
--- a limit that is higher, where the kind is of these
-abbrev pub Grows : Kinds → ScriptKind → ℕ → ℕ → Type 0
-Grows K k n m = ((n ≡ m) × (K k → ⊥)) ⊎ ((n < m) × K k)
-
-pub record Growth (K : Kinds) (limits more : Limits) : Type 0 where
-  pub syntax_ : K Syntax → ⊥
-  pub depth : Grows K TooDeep limits.depth more.depth
-  pub fields : Grows K TooMany limits.fields more.fields
-  pub members : Grows K TooMany limits.members more.members
-  pub inputs : Grows K TooMany limits.inputs more.inputs
-
-pub grows_least : (K : Kinds) (k : ScriptKind) (n m : ℕ) → Grows K k n m → n ≤ m
-grows_least K k n m (inl i) = let e = i.0 in omega (arith, e)
-grows_least K k n m (inr i) = let e = i.0 in omega (arith, e)
-
-pub grows_down : (K : Kinds) (k : ScriptKind) (n m : ℕ) → Grows K k (suc n) (suc m) → Grows K k n m
-grows_down K k n m (inl i) = let e = i.0 in inl (omega (arith, e), i.1)
-grows_down K k n m (inr i) = let e = i.0 in inr (omega (arith, e), i.1)
-
-pub plain_ok : {A : Type 0} (K : Kinds) (t : Token) (a : A) → Plain {A = A} K t (Ok a)
-plain_ok K t a s e = cc
-
-pub plain_fault : {A : Type 0} (K : Kinds) (t : Token) (k : ScriptKind) → (K k → ⊥)
-    → Plain {A = A} K t (Err (at t k))
-plain_fault K t k n s e = (k, let w : at t k ≡ s = cc in sym w, n)
-
-pub plain_if : {A : Type 0} (K : Kinds) (t : Token) (b : Bool) (x y : Result A Stop) → Plain K t x
-    → Plain K t y → Plain K t (if b then x else y)
-plain_if K t true x y h l = h
-plain_if K t false x y h l = l
-
-abbrev taken : {A : Type 0} → Token → A → ScriptKind → Bool → Result A Stop
-taken t a k b = if b then Ok a else Err (at t k)
-
--- what is taken if a test of the limit holds
-pub grows_test : {A : Type 0} (K : Kinds) (t : Token) (a : A) (k : ScriptKind) (n m : ℕ)
-    → Grows K k n m → (f : ℕ → Bool) → (n < m → f m ≡ true)
-    → Limited K t (if f n then Ok a else Err (at t k)) (if f m then Ok a else Err (at t k))
-grows_test {A} K t a k n m g f up = by g
-  where
-    lower : (b : Bool) → f n ≡ b → n < m → K k → Limited K t (taken t a k (f n)) (taken t a k (f m))
-    lower true e i y =
-        inl (
-          ap (taken t a k) e
-              ∙ sym (ap (taken t a k) (up i)),
-          subst (Plain K t) (sym (ap (taken t a k) e))
-              (plain_ok K t a),
-        )
-    lower false e i y = inr (k, y, ap (taken t a k) e, (a, ap (taken t a k) (up i)))
-
-    by : Grows K k n m → Limited K t (taken t a k (f n)) (taken t a k (f m))
-    by (inl i) = subst (λ z. Limited K t (taken t a k (f n)) (taken t a k (f z))) i.0
-        (inl (refl, plain_if K t (f n) _ _ (plain_ok K t a) (plain_fault K t k i.1)))
-    by (inr i) = lower (f n) refl i.0 i.1
-
-abbrev comma_if : ℕ → ℕ → Token → Bool → Result (Unit {0}) Stop
-comma_if k n t b = if b then (if nat_lt k n then Ok tt else Err (at t TooMany)) else Err
-    (at t Syntax)
-
--- ---- one token
-
-module _ (K : Kinds) (no_syntax : K Syntax → ⊥) where
-  pub plain_option : {A : Type 0} (t : Token) (o : Option A) → Plain K t (or_syntax t o)
-  plain_option t (Some a) = plain_ok K t a
-  plain_option t None = plain_fault K t Syntax no_syntax
-
-  pub pair_token : {A : Type 0} (b : Class) (g : Token → Result A Stop) → IsComplete b any (one g)
-      → ((t : Token) → Plain K t (g t)) → IsPair K b any (one g) (one g)
-  pair_token b g x h =
-      record { low_ = x; high_ = x; raise = raise_token K g g (λ t. inl (refl, h t)) }
-
-  module _ {B : Type 0} (b c : Class) (f g : List ℕ → List Token → Out B) where
-    pub pair_name : b a_name.kind → ((x : List ℕ) → IsPair K any c (f x) (g x))
-        → IsPair K b c (λ ts. bind (one name_at ts) f) (λ ts. bind (one name_at ts) g)
-    pair_name i h = pair_then K b any c (one name_at) (one name_at) f g
-        (pair_token b name_at (token b name_at (λ t. owns_option t (name_of t.kind)) a_name _ refl
-        i) (λ t. plain_option t (name_of t.kind))) h
-
-    pub pair_word : b a_name.kind → ((x : List ℕ) → IsPair K any c (f x) (g x))
-        → IsPair K b c (λ ts. bind (one word_at ts) f) (λ ts. bind (one word_at ts) g)
-    pair_word i h = pair_then K b any c (one word_at) (one word_at) f g
-        (pair_token b word_at (token b word_at (λ t. owns_option t (word_of t.kind)) a_name _ refl
-        i) (λ t. plain_option t (word_of t.kind))) h
-
-    pub pair_number : b a_number.kind → ((x : List ℕ) → IsPair K any c (f x) (g x))
-        → IsPair K b c (λ ts. bind (one number_at ts) f) (λ ts. bind (one number_at ts) g)
-    pair_number i h = pair_then K b any c (one number_at) (one number_at) f g
-        (pair_token b number_at (token b number_at (λ t. owns_option t (number_of t.kind)) a_number
-        _ refl i) (λ t. plain_option t (number_of t.kind))) h
-
-    pub pair_text : b (kind.Text []) → ((x : List ℕ) → IsPair K any c (f x) (g x))
-        → IsPair K b c (λ ts. bind (one text_at ts) f) (λ ts. bind (one text_at ts) g)
-    pair_text i h = pair_then K b any c (one text_at) (one text_at) f g
-        (pair_token b text_at (token b text_at (λ t. owns_option t (text_of t.kind))
-        (text [] 1) _ refl i) (λ t. plain_option t (text_of t.kind))) h
-
-  module _ {B : Type 0} (b c : Class) where
-    pub pair_sign : (s : Sign) (f g : Unit {0} → List Token → Out B) → b (kind.Sign s)
-        → ((u : Unit {0}) → IsPair K any c (f u) (g u))
-        → IsPair K b c (λ ts. bind (one (sign_at s) ts) f) (λ ts. bind (one (sign_at s) ts) g)
-    pair_sign s f g i h = pair_then K b any c (one (sign_at s)) (one (sign_at s)) f g
-        (pair_token b (sign_at s) (o.a_sign b s i) (λ t. plain_if K t (is_sign s t.kind) _ _
-        (plain_ok K t tt) (plain_fault K t Syntax no_syntax))) h
-
-    pub pair_keyword : (k : Keyword) (f g : Unit {0} → List Token → Out B) → b (kind.Keyword k)
-        → ((u : Unit {0}) → IsPair K any c (f u) (g u))
-        → IsPair K b c (λ ts. bind (one (keyword_at k) ts) f) (λ ts. bind (one (keyword_at k) ts) g)
-    pair_keyword k f g i h = pair_then K b any c (one (keyword_at k)) (one (keyword_at k)) f g
-        (pair_token b (keyword_at k) (o.a_keyword b k i)
-        (λ t. plain_if K t (is_keyword k t.kind) _ _ (plain_ok K t tt)
-        (plain_fault K t Syntax no_syntax))) h
-
-  -- as long as a comma stands there and there may be more parts, one more
-  module _ {B : Type 0} (c d : Class) (sub : Sub c d) (other : (k : TokenKind) → c k
-      → is_sign sign.Comma k ≡ false) (size : B → ℕ) (n m : ℕ) (grows : Grows K TooMany n m)
-      (f g : B → Unit {0} → List Token → Out B)
-      (h : (b : B) (u : Unit {0}) → IsPair K any d (f b u) (g b u))
-      (steps : (b : B) (u : Unit {0}) → Each (λ x. size x ≡ suc (size b)) (f b u))
-    where
-      abbrev pub part : B → List Token → Out B
-      part b ts = bind (one (comma_at (size b) n) ts) (f b)
-
-      abbrev pub more_part : B → List Token → Out B
-      more_part b ts = bind (one (comma_at (size b) m) ts) (g b)
-
-      stopped : (x : B) (ts : List Token) → Behind c ts → at_comma x ts ≡ false
-      stopped x [] i = refl
-      stopped x (t ∷ ts) i = other t.kind i
-
-      takes_part : (b : B) → Takes (part b)
-      takes_part b = takes_token d (comma_at (size b) n) (f b) (λ u. (h b u).low_.open_)
-
-      takes_more : (b : B) → Takes (more_part b)
-      takes_more b = takes_token d (comma_at (size b) m) (g b) (λ u. (h b u).high_.open_)
-
-      open_part : (b : B) (ts : List Token) → IsOpenAt d (part b) ts
-      open_part b = comma_then d (size b) n (f b) (λ u. (h b u).low_)
-
-      open_more : (b : B) (ts : List Token) → IsOpenAt d (more_part b) ts
-      open_more b = comma_then d (size b) m (g b) (λ u. (h b u).high_)
-
-      limited : (k : ℕ) → k ≤ n → (t : Token) → Limited K t (comma_at k n t) (comma_at k m t)
-      limited k i t = by (is_sign sign.Comma t.kind)
-        where
-          by : (b : Bool) → Limited K t (comma_if k n t b) (comma_if k m t b)
-          by true =
-              grows_test K t tt TooMany n m grows (nat_lt k) (λ j. lt-ltb k m (omega (arith, i, j)))
-          by false = inl (refl, plain_fault K t Syntax no_syntax)
-
-      raise_part : (b : B) (ts : List Token) → size b ≤ n → RaiseAt K (part b) (more_part b) ts
-      raise_part b ts i =
-          raise_bind K any d (one (comma_at (size b) n)) (one (comma_at (size b) m)) (f b) (g b) ts
-          (single (comma_at (size b) n) (owns_comma (size b) n) ts)
-          (single (comma_at (size b) m) (owns_comma (size b) m) ts)
-          (raise_token K (comma_at (size b) n) (comma_at (size b) m) (limited (size b) i) ts)
-          (λ u us e. (h b u).raise us) (λ u e. (h b u).high_.open_ [])
-
-      keeps : (b : B) (ts : List Token) (x : B) (us : List Token) → size b ≤ n
-          → part b ts ≡ Ok (x, us) → size x ≤ n
-      keeps b ts x us i e =
-          let y = bound (one (comma_at (size b) n) ts) (f b) x us e in
-          let j = (comma_read (size b) n y.got ts y.rest y.part).fewer in
-          let k = steps b y.got y.rest x us y.after in
-          omega (arith, j, k)
-
-      pub pair_commas : (b : B) → size b ≤ n
-          → IsPair K c c (all_of at_comma part b) (all_of at_comma more_part b)
-      pair_commas b i = record {
-        low_ = commas c d part sub other takes_part open_part b;
-        high_ = commas c d more_part sub other takes_more open_more b;
-        raise = raise_loop K c d at_comma part more_part (λ x. size x ≤ n)
-            (λ x ts us e. ap (is_at_sign sign.Comma) e) (λ x ts y us j k e. takes_part x ts y us e)
-            keeps (λ x ts j k. open_part x ts) (λ x ts j k. open_more x ts)
-            (λ x ts j k. raise_part x ts j)
-            (λ x ts j. unrolled c d at_comma part (λ y. Unit {0}) sub stopped
-            (λ y us vs e. ap (is_at_sign sign.Comma) e)
-            (λ y us z vs k q e. takes_part y us z vs e) (λ y us k q. open_part y us)
-            (λ y us z vs k e. tt) x ts tt)
-            (λ x ts j. unrolled c d at_comma more_part (λ y. Unit {0}) sub stopped
-            (λ y us vs e. ap (is_at_sign sign.Comma) e)
-            (λ y us z vs k q e. takes_more y us z vs e) (λ y us k q. open_more y us)
-            (λ y us z vs k e. tt) x ts tt)
-            (λ x y j e. (commas c d more_part sub other takes_more open_more y).open_ []) b i;
-      }
-
--- ---- a test that holds
-
-pub test_raise : {A : Type 0} (K : Kinds) (a : A) (s : Stop) (b e : Bool) (ts : List Token)
-    → b ≡ true → e ≡ true
-    → RaiseAt K (λ us. if b then give a us else Err s) (λ us. if e then give a us else Err s) ts
-test_raise K a s true true ts i j = inl (refl, tt)
-test_raise K a s true false ts i j = cc
-test_raise K a s false e ts i j = cc
-
-pub test_open : {A : Type 0} (a : A) (s : Stop) (b : Bool) (ts : List Token) → b ≡ true
-    → IsOpenAt any (λ us. if b then give a us else Err s) ts
-test_open a s true ts i = (given any any a (free any)).open_ ts
-test_open a s false ts i = cc
-
--- ---- types
-
-pub part_added : {A : Type 0} (p : Parts A) (x : List ℕ) (a : A) (d : ℕ)
-    → length (with_part p x a d).names ≡ suc (length p.names)
-part_added p x a d = let i = length-append p.names (x ∷ []) in omega (arith, i)
+use Rattle.flume_grammar.proofs.Pair.{Kinds, Raise, Limited, raise_token, raise_bind, IsPair, pair_given, pair_wider, pair_then, pair_given_then}
+use Rattle.flume_grammar.proofs.PairTokens.{Grows, Growth, grows_least, grows_down, plain_ok, plain_fault, grows_test, pair_word, pair_sign, pair_commas, test_raise, test_open, part_added}
 
 module _ (K : Kinds) (limits more : Limits) (fair : IsFair limits) (fair_more : IsFair more)
     (growth : Growth K limits more) where
@@ -281,14 +71,14 @@ module _ (K : Kinds) (limits more : Limits) (fair : IsFair limits) (fair_more : 
     r_record : Pair (record_type limits inner) (record_type more inner_more)
     r_record =
         pair_given_then K any any any (field_type inner none) (field_type inner_more none) _ _
-        (r_field none) (λ p _. (o.c_fields_then limits fair inner h.low_ p))
-        (λ p _. (o.c_fields_then more fair_more inner_more h.high_ p))
+        (r_field none) (λ p _. (o_types.c_fields_then limits fair inner h.low_ p))
+        (λ p _. (o_types.c_fields_then more fair_more inner_more h.high_ p))
         (λ p g. (rest p (let i = s_field none g.source p g.left g.is in let j = fair.fields in
         omega (arith, i, j))).raise)
       where
         rest : (p : Parts Tree) → length p.names ≤ limits.fields
-            → Pair (o.fields_then limits fair inner h.low_ p)
-            (o.fields_then more fair_more inner_more h.high_ p)
+            → Pair (o_types.fields_then limits fair inner h.low_ p)
+            (o_types.fields_then more fair_more inner_more h.high_ p)
         rest p i =
             pair_wider K no_comma any any _ _ (free no_comma)
             (pair_then K no_comma no_comma any
@@ -344,15 +134,17 @@ module _ (K : Kinds) (limits more : Limits) (fair : IsFair limits) (fair_more : 
         pair_given_then K any any any (one (type_start n)) (one (type_start m))
         (after_start limits inner) (after_start more inner_more)
         (record {
-          low_ = o.begins_type limits fair n;
+          low_ = o_types.begins_type limits fair n;
           high_ =
-              o.begins_type more fair_more m;
+              o_types.begins_type more fair_more m;
           raise =
               raise_token K (type_start n) (type_start m) (λ t. kind_limited t.kind t);
         })
-        (λ s x. o.c_room limits fair n inner (λ j. (h j).low_) s (o.given_room limits fair n s x))
-        (λ s x. o.c_room more fair_more m inner_more y s (o.given_room more fair_more m s x))
-        (λ s x. by s (o.given_room limits fair n s x))
+        (λ s x. o_types.c_room limits fair n inner (λ j. (h j).low_) s (o_types.given_room limits
+        fair n s x))
+        (λ s x. o_types.c_room more fair_more m inner_more y s (o_types.given_room more fair_more m
+        s x))
+        (λ s x. by s (o_types.given_room limits fair n s x))
       where
         by : (s : TypeStart) → HasRoom s n
             → Raise K (after_start limits inner s) (after_start more inner_more s)
@@ -371,15 +163,15 @@ module _ (K : Kinds) (limits more : Limits) (fair : IsFair limits) (fair_more : 
   r_type (suc n) (suc m) i g =
       r_layer (suc n) (suc m) i g (type_within limits n) (type_within more m)
       (λ j. r_type n m (omega (arith, j)) (grows_down K TooDeep n m g))
-      (λ j. o.complete_type more fair_more m (omega (arith, j)))
+      (λ j. o_types.complete_type more fair_more m (omega (arith, j)))
 
   pub pair_whole : Pair (whole_type limits) (whole_type more)
   pair_whole =
       let t = r_type limits.depth more.depth fair.depth growth.depth in
       let l = grows_least K TooDeep limits.depth more.depth growth.depth in
       record {
-        low_ = o.complete_whole limits fair;
-        high_ = o.complete_whole more fair_more;
+        low_ = o_types.complete_whole limits fair;
+        high_ = o_types.complete_whole more fair_more;
         raise = λ ts. raise_bind K any any (type_within limits limits.depth)
             (type_within more more.depth) _ _ ts (t.low_.open_ ts) (t.high_.open_ ts) (t.raise ts)
             (λ x us e. let d = type_depth limits fair limits.depth ts x us e in

@@ -1,0 +1,86 @@
+-- A parser that is open before some tokens is so before fewer of them.
+use Rattle.std.proofs.Common.{ℕ, ◌<◌, length, List, ◌++◌, ◌⊎◌, inl, inr}
+use Rattle.flume_tokens.specs.declared.token.Token.{Token}
+use Rattle.flume_grammar.specs.declared.fault.ScriptKind.{ScriptKind}
+use Rattle.flume_grammar.specs.inner.Out.{Out}
+use Rattle.flume_grammar.proofs.Open.{Class, Sub, Ends, Stops, Suits, Reads, IsOpenAt, IsComplete}
+
+-- what may stand before it may be more
+pub wider : {A : Type 0} (b d c : Class) (p : List Token → Out A) → Sub b d → IsComplete b c p
+    → IsComplete d c p
+wider {A} b d c p s x = record {
+  open_ = x.open_;
+  starts = record {
+    others = x.starts.others;
+    got = x.starts.got;
+    always = x.starts.always;
+    leads =
+        λ rest i. s (x.starts.others ++ rest) (x.starts.leads rest i);
+  };
+  follows = λ ts a us e. by us ts (x.follows ts a us e);
+}
+  where
+    by : (us ts : List Token) → (length us < length ts) ⊎ Sub c b
+        → (length us < length ts) ⊎ Sub c d
+    by us ts (inl i) = inl i
+    by us ts (inr i) = inr (λ rs m. s rs (i rs m))
+
+-- less may stand behind
+pub narrower : {A : Type 0} (c d : Class) (p : List Token → Out A) (ts : List Token) → Sub c d
+    → IsOpenAt d p ts → IsOpenAt c p ts
+narrower {A} c d p ts s l = record {
+  stops = λ n k e. stops n k (l.stops n k e);
+  wants =
+      λ k e. let w = l.wants k e in
+      (ends ts w.0, w.1);
+  sober = l.sober;
+  reads = λ a us e. reads a us (l.reads a us e);
+}
+  where
+    ends : (k : List Token) → Ends d p k → Ends c p k
+    ends k (inl i) = inl i
+    ends k (inr m) =
+        inr (record { others = m.others; got = m.got; always = λ rest i. m.always rest (s rest i) })
+
+    stops : (n : ℕ) (k : ScriptKind) → Stops d p ts n k → Stops c p ts n k
+    stops n k x = record {
+      before = x.before;
+      here = x.here;
+      behind = x.behind;
+      split =
+          x.split;
+      line = x.line;
+      always = x.always;
+      ends = ends x.before x.ends;
+    }
+
+    suits : (us others : List Token) → Suits c us others → Suits d us others
+    suits us others (inl i) = inl i
+    suits us others (inr i) = inr (s others i)
+
+    reads : (a : A) (us : List Token) → Reads d p ts a us → Reads c p ts a us
+    reads a us x = record {
+      read = x.read;
+      split = x.split;
+      always =
+          λ others i. x.always others (suits us others i);
+    }
+
+pub closer : {A : Type 0} (b c d : Class) (p : List Token → Out A) → Sub c d → IsComplete b d p
+    → IsComplete b c p
+closer {A} b c d p s x = record {
+  open_ = λ ts. narrower c d p ts s (x.open_ ts);
+  starts = record {
+    others = x.starts.others;
+    got = x.starts.got;
+    always =
+        λ rest i. x.starts.always rest (s rest i);
+    leads = λ rest i. x.starts.leads rest (s rest i);
+  };
+  follows = λ ts a us e. by us ts (x.follows ts a us e);
+}
+  where
+    by : (us ts : List Token) → (length us < length ts) ⊎ Sub d b
+        → (length us < length ts) ⊎ Sub c b
+    by us ts (inl i) = inl i
+    by us ts (inr i) = inr (λ rs m. i rs (s rs m))

@@ -1,0 +1,82 @@
+-- An expression takes a token at least, and is one deep at least.
+use Rattle.std.proofs.Common.{ℕ, ◌≤◌, ◌<◌, length, List, arith}
+use Rattle.flume_tokens.specs.declared.token.Token.{Token}
+use Rattle.flume_grammar.specs.declared.parts.Parts.{Parts}
+use Rattle.flume_grammar.specs.declared.tree.Expr.{Expr}
+use Rattle.flume_grammar.specs.Grammar as g
+use Rattle.flume_grammar.specs.Grammar.{IsExpr, AreFields, AreMembers}
+use Rattle.flume_grammar.proofs.Complete.{shorter_type}
+use Rattle.flume_grammar.specs.Limits.{Limits}
+use Rattle.flume_grammar.proofs.Fair.{IsFair}
+
+module _ (limits : Limits) (fair : IsFair limits) where
+  -- ---- what is read takes a token, and is at least one deep
+
+  mutual
+    pub shorter : {r a : ℕ} {ts us : List Token} {e : Expr} → IsExpr limits r ts us e a
+        → length us < length ts
+    shorter (g.above x) = shorter x
+    shorter (g.binary k x y) = let h = shorter x in let i = shorter y in omega (arith, h, i)
+    shorter (g.not_ x) = let h = shorter x in omega (arith, h)
+    shorter (g.negate x) = let h = shorter x in omega (arith, h)
+    shorter (g.field x w) = let h = shorter x in omega (arith, h)
+    shorter (g.index x y) = let h = shorter x in let i = shorter y in omega (arith, h, i)
+    shorter g.num = omega arith
+    shorter g.textlit = omega arith
+    shorter g.true_ = omega arith
+    shorter g.false_ = omega arith
+    shorter g.variable = omega arith
+    shorter (g.paren x) = let h = shorter x in omega (arith, h)
+    shorter (g.literal f l) = let h = shorter_fields f in omega (arith, h)
+    shorter (g.members f l) = let h = shorter_members f in omega (arith, h)
+    shorter (g.empty w) = let h = (shorter_type limits fair) w.spelled in omega (arith, h)
+    shorter (g.sided k w x) = let h = (shorter_type limits fair) w.spelled in let i = shorter x in
+        omega (arith, h, i)
+    shorter (g.call k x) = let h = shorter x in omega (arith, h)
+    shorter (g.concat x y) = let h = shorter x in let i = shorter y in omega (arith, h, i)
+    shorter (g.pick x y z) = let h = shorter x in let i = shorter y in let j = shorter z in
+        omega (arith, h, i, j)
+
+    shorter_fields : {ts us : List Token} {p : Parts Expr} → AreFields limits ts us p
+        → length us < length ts
+    shorter_fields (g.first w x) = let h = shorter x in omega (arith, h)
+    shorter_fields (g.next f w x) = let h = shorter_fields f in let i = shorter x in
+        omega (arith, h, i)
+
+    shorter_members : {a : ℕ} {ts us : List Token} {es : List Expr} → AreMembers limits ts us es a
+        → length us < length ts
+    shorter_members (g.one x) = shorter x
+    shorter_members (g.more f x) = let h = shorter_members f in let i = shorter x in
+        omega (arith, h, i)
+
+  mutual
+    pub positive : {r a : ℕ} {ts us : List Token} {e : Expr} → IsExpr limits r ts us e a → 1 ≤ a
+    positive (g.above x) = positive x
+    positive (g.binary k x y) = omega arith
+    positive (g.not_ x) = omega arith
+    positive (g.negate x) = omega arith
+    positive (g.field x w) = omega arith
+    positive (g.index x y) = omega arith
+    positive g.num = omega arith
+    positive g.textlit = omega arith
+    positive g.true_ = omega arith
+    positive g.false_ = omega arith
+    positive g.variable = omega arith
+    positive (g.paren x) = positive x
+    positive (g.literal f l) = omega arith
+    positive (g.members f l) = omega arith
+    positive (g.empty w) = omega arith
+    positive (g.sided k w x) = omega arith
+    positive (g.call k x) = omega arith
+    positive (g.concat x y) = omega arith
+    positive (g.pick x y z) = omega arith
+
+    pub positive_fields : {ts us : List Token} {p : Parts Expr} → AreFields limits ts us p
+        → 1 ≤ p.depth
+    positive_fields (g.first w x) = let h = positive x in omega (arith, h)
+    positive_fields (g.next f w x) = let h = positive x in omega (arith, h)
+
+    pub positive_members : {a : ℕ} {ts us : List Token} {es : List Expr}
+        → AreMembers limits ts us es a → 1 ≤ a
+    positive_members (g.one x) = positive x
+    positive_members (g.more f x) = let h = positive x in omega (arith, h)

@@ -1,0 +1,228 @@
+-- Each form of a statement that is read is in the grammar.
+use Rattle.std.proofs.Common.{◌≡◌, ℕ, ◌≤◌, nat_le, List, ◌∷◌, Bool, true, false, Option, Some, None, Ok, Err, if◌then◌else◌, refl, ap, ◌∙◌, subst}
+use Rattle.std.proofs.lemmas.Bool.{leb-true}
+use Rattle.flume_tokens.specs.declared.token.Token.{Token}
+use Rattle.flume_tokens.specs.declared.keyword.Keyword.TheVariants as keyword
+use Rattle.flume_tokens.specs.declared.sign.Sign.TheVariants as sign
+use Rattle.flume_grammar.specs.declared.fault.ScriptKind.TheVariants.{TooDeep}
+use Rattle.flume_grammar.specs.declared.fault.Stop.TheVariants.{Fault}
+use Rattle.flume_grammar.specs.declared.tree.Body.{Body}
+use Rattle.flume_grammar.specs.declared.tree.Form.{Form}
+use Rattle.flume_grammar.specs.declared.tree.Form.TheVariants as form
+use Rattle.flume_grammar.specs.inner.Out.{give, bind, one, next}
+use Rattle.flume_grammar.specs.inner.Reading.{sign_at, keyword_at, name_at, number_at, text_at, is_at_keyword}
+use Rattle.flume_grammar.specs.Parts.{Tree}
+use Rattle.flume_grammar.specs.inner.Types.{whole_type}
+use Rattle.flume_grammar.specs.inner.Bodies.{Block, block_within, whole_block}
+use Rattle.flume_grammar.specs.inner.Statements as s
+use Rattle.flume_grammar.specs.Grammar as g
+use Rattle.flume_grammar.specs.Terminals.{key, mark, name, number, text}
+use Rattle.flume_grammar.specs.Grammar.{IsWholeType, IsBlock, IsScale, IsStatement}
+use Rattle.flume_grammar.proofs.Sound.{bound, gave}
+use Rattle.flume_grammar.proofs.SoundTokens.{marked, keyed, name_read, number_read, text_read}
+use Rattle.flume_grammar.proofs.SoundTypes.{sound_whole}
+use Rattle.flume_grammar.specs.Limits.{Limits}
+use Rattle.flume_grammar.proofs.Fair.{IsFair}
+use Rattle.flume_grammar.proofs.SoundBodies.{sound_block}
+use Rattle.flume_grammar.proofs.SoundOperations.{moved_by, s_operation}
+
+module _ (limits : Limits) (fair : IsFair limits) where
+  -- ---- statements
+
+  abbrev pub StatementOf : ℕ → List Token → List Token → Form → Type 0
+  StatementOf n ts us f = IsStatement limits ts us (record { line = n; form = f })
+
+  pub s_type : (n : ℕ) (ts : List Token) (x : Form) (us : List Token)
+      → s.type_form limits ts ≡ Ok (x, us) → StatementOf n (key keyword.Type n ∷ ts) us x
+  s_type n ts x us q =
+      let a = bound (one name_at ts) _ x us q in
+      let w = name_read a.got ts a.rest a.part in
+      let c = bound (one (sign_at sign.Assign) a.rest) _ x us a.after in
+      let m = marked sign.Assign c.got a.rest c.rest c.part in
+      let d = bound (whole_type limits c.rest) _ x us c.after in
+      let v = gave (form.Type a.got d.got) x d.rest us d.after in
+      moved_by limits fair (StatementOf n) (key keyword.Type n ∷ name a.got w.line ∷ mark
+      sign.Assign m.line ∷
+      c.rest) _ d.rest us (form.Type a.got d.got) x
+      (ap (λ z. key keyword.Type n ∷ z) (w.is ∙ ap (λ z. name a.got w.line ∷ z) m.is)) v.1 v.0
+      (g.type_ ((sound_whole limits fair) c.rest d.got d.rest d.part))
+
+  pub s_input_form : (n : ℕ) (ts : List Token) (x : Form) (us : List Token)
+      → s.input_form limits ts ≡ Ok (x, us) → StatementOf n (key keyword.Input n ∷ ts) us x
+  s_input_form n ts x us q =
+      let a = bound (one name_at ts) _ x us q in
+      let w = name_read a.got ts a.rest a.part in
+      let c = bound (one (sign_at sign.Colon) a.rest) _ x us a.after in
+      let m = marked sign.Colon c.got a.rest c.rest c.part in
+      let d = bound (whole_type limits c.rest) _ x us c.after in
+      let e = bound (one (keyword_at keyword.From) d.rest) _ x us d.after in
+      let i = keyed keyword.From e.got d.rest e.rest e.part in
+      let f = bound (one text_at e.rest) _ x us e.after in
+      let j = text_read f.got e.rest f.rest f.part in
+      let v = gave (form.Input a.got d.got f.got) x f.rest us f.after in
+      let y : (IsWholeType limits) c.rest (key keyword.From i.line ∷ text f.got j.line ∷ f.rest)
+      d.got = subst (λ z. (IsWholeType limits) c.rest z d.got) (i.is
+      ∙ ap (λ z. key keyword.From i.line ∷ z) j.is)
+      ((sound_whole limits fair) c.rest d.got d.rest d.part) in
+      moved_by limits fair (StatementOf n) (key keyword.Input n ∷ name a.got w.line ∷ mark
+      sign.Colon m.line ∷
+      c.rest) _ f.rest us (form.Input a.got d.got f.got) x
+      (ap (λ z. key keyword.Input n ∷ z) (w.is ∙ ap (λ z. name a.got w.line ∷ z) m.is)) v.1 v.0
+      (g.input y)
+
+  pub s_let_form : (n : ℕ) (ts : List Token) (x : Form) (us : List Token)
+      → s.let_form limits ts ≡ Ok (x, us) → StatementOf n (key keyword.Let n ∷ ts) us x
+  s_let_form n ts x us q =
+      let a = bound (one name_at ts) _ x us q in
+      let w = name_read a.got ts a.rest a.part in
+      let c = bound (one (sign_at sign.Assign) a.rest) _ x us a.after in
+      let m = marked sign.Assign c.got a.rest c.rest c.part in
+      let d = bound (s.operation_at limits c.rest) _ x us c.after in
+      let v = gave (form.Let a.got d.got) x d.rest us d.after in
+      moved_by limits fair (StatementOf n) (key keyword.Let n ∷ name a.got w.line ∷ mark sign.Assign
+      m.line ∷
+      c.rest) _ d.rest us (form.Let a.got d.got) x
+      (ap (λ z. key keyword.Let n ∷ z) (w.is ∙ ap (λ z. name a.got w.line ∷ z) m.is)) v.1 v.0
+      (g.let_ (s_operation limits fair c.rest d.got d.rest d.part))
+
+  pub s_output : (n : ℕ) (ts : List Token) (x : Form) (us : List Token) → s.output_form ts ≡ Ok
+      (x, us)
+      → StatementOf n (key keyword.Output n ∷ ts) us x
+  s_output n ts x us q =
+      let a = bound (one name_at ts) _ x us q in
+      let w = name_read a.got ts a.rest a.part in
+      let c = bound (one (keyword_at keyword.To) a.rest) _ x us a.after in
+      let m = keyed keyword.To c.got a.rest c.rest c.part in
+      let d = bound (one text_at c.rest) _ x us c.after in
+      let o = text_read d.got c.rest d.rest d.part in
+      let v = gave (form.Output a.got d.got) x d.rest us d.after in
+      moved_by limits fair (StatementOf n) (key keyword.Output n ∷ name a.got w.line ∷ key
+      keyword.To m.line ∷
+      text d.got o.line ∷ d.rest) _ d.rest us (form.Output a.got d.got) x
+      (ap (λ z. key keyword.Output n ∷ z) (w.is
+      ∙ ap (λ z. name a.got w.line ∷ z) (m.is ∙ ap (λ z. key keyword.To m.line ∷ z) o.is))) v.1
+      v.0 g.output
+
+  s_scale : (ts : List Token) (x : Option (List ℕ)) (us : List Token) → s.scale ts ≡ Ok (x, us)
+      → IsScale ts us x
+  s_scale ts x us q = by (is_at_keyword keyword.Scale (next ts)) q
+    where
+      by : (t : Bool)
+          → (if t then bind (one (keyword_at keyword.Scale) ts)
+          (λ _ vs. bind (one number_at vs) (λ n ws. give (Some n) ws)) else give None ts) ≡ Ok
+          (x, us) → IsScale ts us x
+      by true p =
+          let a = bound (one (keyword_at keyword.Scale) ts)
+          (λ _ vs. bind (one number_at vs) (λ n ws. give (Some n) ws)) x us p in
+          let m = keyed keyword.Scale a.got ts a.rest a.part in
+          let c = bound (one number_at a.rest) (λ n ws. give (Some n) ws) x us a.after in
+          let w = number_read c.got a.rest c.rest c.part in
+          let v = gave (Some c.got) x c.rest us c.after in
+          moved_by limits fair IsScale (key keyword.Scale m.line ∷ number c.got w.line ∷ c.rest) ts
+          c.rest us
+          (Some c.got) x (m.is ∙ ap (λ z. key keyword.Scale m.line ∷ z) w.is) v.1 v.0 g.present
+      by false p = let v = gave None x ts us p in
+          moved_by limits fair IsScale ts ts ts us None x refl v.1 v.0 g.absent
+
+  small_block : (t : Bool) (x : Block) (us : List Token) (y : List Body) (vs : List Token)
+      → (if t then give x.0 us else Err (Fault None TooDeep)) ≡ Ok (y, vs) → (t ≡ true) × (x.0 ≡ y)
+      × (us ≡ vs)
+  small_block true x us y vs q = let v = gave x.0 y us vs q in (refl, v.0, v.1)
+  small_block false x us y vs q = cc
+
+  record WholeBlock (ts us : List Token) (ss : List Body) : Type 0 where
+    depth : ℕ
+    spelled : (IsBlock limits) ts us ss depth
+    small : depth ≤ limits.depth
+
+  s_whole_block : (ts : List Token) (ss : List Body) (us : List Token)
+      → whole_block limits ts ≡ Ok (ss, us) → WholeBlock ts us ss
+  s_whole_block ts ss us q =
+      let a = bound (block_within limits limits.depth ts) _ ss us q in
+      let c = small_block (nat_le a.got.1 limits.depth) a.got a.rest ss us a.after in
+      record {
+        depth = a.got.1;
+        spelled = subst (λ z. (IsBlock limits) ts us z a.got.1) c.1
+            (subst (λ z. (IsBlock limits) ts z a.got.0 a.got.1) c.2
+            (sound_block limits fair limits.depth ts a.got a.rest a.part));
+        small =
+            leb-true a.got.1 limits.depth c.0;
+      }
+
+  record Signed (ts us : List Token) (x : List ℕ × Tree × Tree) : Type 0 where
+    k : ℕ
+    i : ℕ
+    j : ℕ
+    o : ℕ
+    p : ℕ
+    vs : List Token
+    ws : List Token
+    start : ts ≡ mark sign.Open k ∷ name x.0 i ∷ mark sign.Colon j ∷ vs
+    takes : (IsWholeType limits) vs (mark sign.Close o ∷ mark sign.Arrow p ∷ ws) x.1
+    gives : (IsWholeType limits) ws us x.2
+
+  s_signature : (ts : List Token) (x : List ℕ × Tree × Tree) (us : List Token)
+      → s.signature limits ts ≡ Ok (x, us) → Signed ts us x
+  s_signature ts x us q =
+      let a = bound (one (sign_at sign.Open) ts) _ x us q in
+      let k = marked sign.Open a.got ts a.rest a.part in
+      let c = bound (one name_at a.rest) _ x us a.after in
+      let i = name_read c.got a.rest c.rest c.part in
+      let d = bound (one (sign_at sign.Colon) c.rest) _ x us c.after in
+      let j = marked sign.Colon d.got c.rest d.rest d.part in
+      let e = bound (whole_type limits d.rest) _ x us d.after in
+      let f = bound (one (sign_at sign.Close) e.rest) _ x us e.after in
+      let o = marked sign.Close f.got e.rest f.rest f.part in
+      let l = bound (one (sign_at sign.Arrow) f.rest) _ x us f.after in
+      let p = marked sign.Arrow l.got f.rest l.rest l.part in
+      let m = bound (whole_type limits l.rest) _ x us l.after in
+      let v = gave (c.got, e.got, m.got) x m.rest us m.after in
+      record {
+        k = k.line;
+        i = i.line;
+        j = j.line;
+        o = o.line;
+        p = p.line;
+        vs = d.rest;
+        ws = l.rest;
+        start = k.is ∙ ap (λ z. mark sign.Open k.line ∷ z) (i.is
+            ∙ ap (λ z. name c.got i.line ∷ z) j.is)
+            ∙ ap (λ (z : List ℕ × Tree × Tree). mark sign.Open k.line ∷ name z.0 i.line ∷ mark
+            sign.Colon j.line ∷ d.rest) v.0;
+        takes =
+            subst (λ (z : List ℕ × Tree × Tree). (IsWholeType limits) d.rest
+            (mark sign.Close o.line ∷ mark sign.Arrow p.line ∷ l.rest) z.1) v.0
+            (subst (λ z. (IsWholeType limits) d.rest z e.got) (o.is
+            ∙ ap (λ z. mark sign.Close o.line ∷ z) p.is)
+            ((sound_whole limits fair) d.rest e.got e.rest e.part));
+        gives = subst (λ (z : List ℕ × Tree × Tree). (IsWholeType limits) l.rest us z.2) v.0
+            (subst (λ z. (IsWholeType limits) l.rest z m.got) v.1
+            ((sound_whole limits fair) l.rest m.got m.rest m.part));
+      }
+
+  pub s_function : (n : ℕ) (ts : List Token) (x : Form) (us : List Token)
+      → s.function_form limits ts ≡ Ok (x, us) → StatementOf n (key keyword.Fn n ∷ ts) us x
+  s_function n ts x us q =
+      let a = bound (one name_at ts) _ x us q in
+      let w = name_read a.got ts a.rest a.part in
+      let c = bound (s.signature limits a.rest) _ x us a.after in
+      let r = s_signature a.rest c.got c.rest c.part in
+      let d = bound (s.scale c.rest) _ x us c.after in
+      let e = bound (whole_block limits d.rest) _ x us d.after in
+      let k = s_whole_block d.rest e.got e.rest e.part in
+      let y = form.Function
+      (record {
+        name = a.got;
+        argument = c.got.0;
+        takes = c.got.1;
+        gives = c.got.2;
+        scale =
+            d.got;
+        body = e.got;
+      }) in
+      let v = gave y x e.rest us e.after in
+      moved_by limits fair (StatementOf n) (key keyword.Fn n ∷ name a.got w.line ∷ mark sign.Open
+      r.k ∷ name
+      c.got.0 r.i ∷ mark sign.Colon r.j ∷ r.vs) _ e.rest us y x
+      (ap (λ z. key keyword.Fn n ∷ z) (w.is ∙ ap (λ z. name a.got w.line ∷ z) r.start)) v.1 v.0
+      (g.fn_ r.takes r.gives (s_scale c.rest d.got d.rest d.part) k.spelled k.small)

@@ -1,0 +1,260 @@
+-- Combiners and operations that are read are in the grammar.
+use Rattle.std.proofs.Common.{◌≡◌, ℕ, ◌≤◌, length, length-append, List, [], ◌∷◌, ◌++◌, Option, Some, None, Ok, refl, sym, ap, ◌∙◌, subst, arith}
+use Rattle.flume_tokens.specs.declared.token.Token.{Token}
+use Rattle.flume_tokens.specs.declared.token.TokenKind.{TokenKind}
+use Rattle.flume_tokens.specs.declared.token.TokenKind.TheVariants as kind
+use Rattle.flume_tokens.specs.declared.keyword.Keyword.{Keyword}
+use Rattle.flume_tokens.specs.declared.keyword.Keyword.TheVariants as keyword
+use Rattle.flume_tokens.specs.declared.sign.Sign.TheVariants as sign
+use Rattle.flume_grammar.specs.declared.start.OperationStart.{OperationStart}
+use Rattle.flume_grammar.specs.declared.start.OperationStart.TheVariants as starts
+use Rattle.flume_grammar.specs.declared.start.CombinerStart.{CombinerStart}
+use Rattle.flume_grammar.specs.declared.start.CombinerStart.TheVariants as combining
+use Rattle.flume_grammar.specs.declared.tree.Combiner.{Combiner}
+use Rattle.flume_grammar.specs.declared.tree.Combiner.TheVariants as combiner
+use Rattle.flume_grammar.specs.declared.tree.Operation.{Operation}
+use Rattle.flume_grammar.specs.declared.tree.Operation.TheVariants as operation
+use Rattle.flume_grammar.specs.inner.Out.{one, all_of}
+use Rattle.flume_grammar.specs.inner.Reading.{sign_at, keyword_at, name_at, number_at, comma_at, or_syntax}
+use Rattle.flume_grammar.specs.inner.Types.{at_comma}
+use Rattle.flume_grammar.specs.inner.Statements as s
+use Rattle.flume_grammar.specs.Grammar as g
+use Rattle.flume_grammar.specs.Terminals.{key, mark, name, number}
+use Rattle.flume_grammar.specs.Grammar.{IsCombiner, AreNames, IsOperation}
+use Rattle.flume_grammar.proofs.Sound.{bound, gave, one_token}
+use Rattle.flume_grammar.proofs.SoundTokens.{marked, keyed, name_read, number_read, comma_read}
+use Rattle.flume_grammar.proofs.SoundLoops.{kept_all}
+use Rattle.flume_grammar.specs.Limits.{Limits}
+use Rattle.flume_grammar.proofs.Fair.{IsFair}
+
+module _ (limits : Limits) (fair : IsFair limits) where
+  -- ---- operations
+
+  pub of_key : {A : Type 0} (f : Keyword → Option A) (w : A → Keyword)
+      → ((k : Keyword) (z : A) → f k ≡ Some z → k ≡ w z) → (k : TokenKind) (z : A)
+      → s.of_keyword f k ≡ Some z → k ≡ kind.Keyword (w z)
+  of_key f w h (kind.Keyword k) z q = ap kind.Keyword (h k z q)
+  of_key f w h (kind.Sign k) z q = cc
+  of_key f w h (kind.Name k) z q = cc
+  of_key f w h (kind.Number k) z q = cc
+  of_key f w h (kind.Text k) z q = cc
+
+  some_of : {A : Type 0} (t : Token) (o : Option A) (a : A) → or_syntax t o ≡ Ok a → o ≡ Some a
+  some_of t (Some c) a q = let p : c ≡ a = cc in ap Some p
+  some_of t None a q = cc
+
+  -- the keyword that a start is
+  record Begins {A : Type 0} (w : A → Keyword) (z : A) (ts us : List Token) : Type 0 where
+    line : ℕ
+    is : ts ≡ key (w z) line ∷ us
+
+  begins : {A : Type 0} (f : Keyword → Option A) (w : A → Keyword)
+      → ((k : Keyword) (z : A) → f k ≡ Some z → k ≡ w z) → (z : A) (ts us : List Token)
+      → one (λ t. or_syntax t (s.of_keyword f t.kind)) ts ≡ Ok (z, us) → Begins w z ts us
+  begins f w h z ts us q =
+      let p = one_token (λ t. or_syntax t (s.of_keyword f t.kind)) ts z us q in
+      record {
+        line = p.token.line;
+        is = p.is
+            ∙ ap (λ k. record { kind = k; line = p.token.line } ∷ us)
+            (of_key f w h p.token.kind z (some_of p.token (s.of_keyword f p.token.kind) z p.gives));
+      }
+
+  abbrev combiner_key : CombinerStart → Keyword
+  combiner_key (combining.Whole combiner.Sum) = keyword.Sum
+  combiner_key (combining.Whole combiner.Count) = keyword.Count
+  combiner_key (combining.Whole combiner.Min) = keyword.Min
+  combiner_key (combining.Whole combiner.Max) = keyword.Max
+  combiner_key (combining.Whole combiner.All) = keyword.All
+  combiner_key (combining.Whole combiner.Any) = keyword.Any
+  combiner_key (combining.Whole (combiner.Top n)) = keyword.Top
+  combiner_key combining.Top = keyword.Top
+
+  is_combiner_key : (k : Keyword) (z : CombinerStart) → s.keyword_combiner k ≡ Some z
+      → k ≡ combiner_key z
+  is_combiner_key keyword.Sum z q = let e : combining.Whole combiner.Sum ≡ z = cc in
+      ap combiner_key e
+  is_combiner_key keyword.Count z q = let e : combining.Whole combiner.Count ≡ z = cc in
+      ap combiner_key e
+  is_combiner_key keyword.Min z q = let e : combining.Whole combiner.Min ≡ z = cc in
+      ap combiner_key e
+  is_combiner_key keyword.Max z q = let e : combining.Whole combiner.Max ≡ z = cc in
+      ap combiner_key e
+  is_combiner_key keyword.All z q = let e : combining.Whole combiner.All ≡ z = cc in
+      ap combiner_key e
+  is_combiner_key keyword.Any z q = let e : combining.Whole combiner.Any ≡ z = cc in
+      ap combiner_key e
+  is_combiner_key keyword.Top z q = let e : combining.Top ≡ z = cc in ap combiner_key e
+  is_combiner_key _ z q = cc
+
+  abbrev operation_key : OperationStart → Keyword
+  operation_key starts.Do = keyword.Do
+  operation_key starts.Group = keyword.Group
+  operation_key starts.Combine = keyword.Combine
+  operation_key starts.Flatten = keyword.Flatten
+  operation_key starts.Count = keyword.Count
+  operation_key starts.Join = keyword.Join
+  operation_key starts.Top = keyword.Top
+
+  is_operation_key : (k : Keyword) (z : OperationStart) → s.keyword_operation k ≡ Some z
+      → k ≡ operation_key z
+  is_operation_key keyword.Do z q = let e : starts.Do ≡ z = cc in ap operation_key e
+  is_operation_key keyword.Group z q = let e : starts.Group ≡ z = cc in ap operation_key e
+  is_operation_key keyword.Combine z q = let e : starts.Combine ≡ z = cc in ap operation_key e
+  is_operation_key keyword.Flatten z q = let e : starts.Flatten ≡ z = cc in ap operation_key e
+  is_operation_key keyword.Count z q = let e : starts.Count ≡ z = cc in ap operation_key e
+  is_operation_key keyword.Join z q = let e : starts.Join ≡ z = cc in ap operation_key e
+  is_operation_key keyword.Top z q = let e : starts.Top ≡ z = cc in ap operation_key e
+  is_operation_key _ z q = cc
+
+  pub moved_by : {A : Type 0} (R : List Token → List Token → A → Type 0)
+      (ts ts' us us' : List Token)
+      (x y : A) → ts' ≡ ts → us ≡ us' → x ≡ y → R ts us x → R ts' us' y
+  moved_by R ts ts' us us' x y a c d h =
+      subst (R ts' us') d (subst (λ z. R ts' z x) c (subst (λ z. R z us x) (sym a) h))
+
+  -- a combiner that is one keyword, as the first token told
+  s_whole : (k : Keyword) (n : ℕ) (c : Combiner) (ts us : List Token)
+      → s.keyword_combiner k ≡ Some (combining.Whole c) → ts ≡ key k n ∷ us → IsCombiner ts us c
+  s_whole keyword.Sum n c ts us q e = let w : combiner.Sum ≡ c = cc in
+      moved_by IsCombiner _ ts us us combiner.Sum c e refl w g.sum
+  s_whole keyword.Count n c ts us q e = let w : combiner.Count ≡ c = cc in
+      moved_by IsCombiner _ ts us us combiner.Count c e refl w g.count
+  s_whole keyword.Min n c ts us q e = let w : combiner.Min ≡ c = cc in
+      moved_by IsCombiner _ ts us us combiner.Min c e refl w g.min
+  s_whole keyword.Max n c ts us q e = let w : combiner.Max ≡ c = cc in
+      moved_by IsCombiner _ ts us us combiner.Max c e refl w g.max_
+  s_whole keyword.All n c ts us q e = let w : combiner.All ≡ c = cc in
+      moved_by IsCombiner _ ts us us combiner.All c e refl w g.all
+  s_whole keyword.Any n c ts us q e = let w : combiner.Any ≡ c = cc in
+      moved_by IsCombiner _ ts us us combiner.Any c e refl w g.any
+  s_whole _ n c ts us q e = cc
+
+  s_combiner : (ts : List Token) (x : Combiner) (us : List Token) → s.combiner_at ts ≡ Ok (x, us)
+      → IsCombiner ts us x
+  s_combiner ts x us q =
+      let a = bound (one s.combiner_start ts) _ x us q in
+      after a.got (one_token s.combiner_start ts a.got a.rest a.part).token.kind a.rest
+      (one_token s.combiner_start ts a.got a.rest a.part).token.line
+      (one_token s.combiner_start ts a.got a.rest a.part).is
+      (some_of (one_token s.combiner_start ts a.got a.rest a.part).token _ a.got
+      (one_token s.combiner_start ts a.got a.rest a.part).gives) a.after
+    where
+      after : (z : CombinerStart) (k : TokenKind) (vs : List Token) (n : ℕ)
+          → ts ≡ record { kind = k; line = n } ∷ vs → s.of_keyword s.keyword_combiner k ≡ Some z
+          → s.after_combiner z vs ≡ Ok (x, us) → IsCombiner ts us x
+      after (combining.Whole c) (kind.Keyword k) vs n e o p = let v = gave c x vs us p in
+          moved_by IsCombiner ts ts vs us c x refl v.1 v.0 (s_whole k n c ts vs o e)
+      after combining.Top k vs n e o p =
+          let d = bound (one number_at vs) _ x us p in
+          let w = number_read d.got vs d.rest d.part in
+          let v = gave (combiner.Top d.got) x d.rest us d.after in
+          moved_by IsCombiner (key keyword.Top n ∷ number d.got w.line ∷ d.rest) ts d.rest us
+          (combiner.Top d.got) x
+          (e ∙ ap (λ y. record { kind = y; line = n } ∷ vs)
+          (of_key s.keyword_combiner combiner_key is_combiner_key k combining.Top o)
+          ∙ ap (λ z. key keyword.Top n ∷ z) w.is) v.1 v.0 g.top
+      after (combining.Whole c) (kind.Sign k) vs n e o p = cc
+      after (combining.Whole c) (kind.Name k) vs n e o p = cc
+      after (combining.Whole c) (kind.Number k) vs n e o p = cc
+      after (combining.Whole c) (kind.Text k) vs n e o p = cc
+
+  abbrev NamesOf : List Token → List (List ℕ) → List Token → Type 0
+  NamesOf ts xs us = AreNames ts us xs × (length xs ≤ limits.inputs)
+
+  s_input : (ts : List Token) (xs : List (List ℕ)) (vs : List Token) (ys : List (List ℕ))
+      (us : List Token) → NamesOf ts xs vs → s.next_input limits xs vs ≡ Ok (ys, us)
+      → NamesOf ts ys us
+  s_input ts xs vs ys us (e, l) q =
+      let a = bound (one (comma_at (length xs) limits.inputs) vs) _ ys us q in
+      let m = comma_read (length xs) limits.inputs a.got vs a.rest a.part in
+      let c = bound (one name_at a.rest) _ ys us a.after in
+      let w = name_read c.got a.rest c.rest c.part in
+      let v = gave (xs ++ c.got ∷ []) ys c.rest us c.after in
+      let y : AreNames ts (mark sign.Comma m.line ∷ name c.got w.line ∷ c.rest) xs = subst
+      (λ z. AreNames ts z xs) (m.is ∙ ap (λ z. mark sign.Comma m.line ∷ z) w.is) e in
+      let n = length-append xs (c.got ∷ []) in
+      subst (λ z. NamesOf ts z us) v.0 (subst (NamesOf ts (xs ++ c.got ∷ [])) v.1
+      (g.more y, omega (arith, m.fewer, n)))
+
+  s_operation_after : (z : OperationStart) (n : ℕ) (ts : List Token) (x : Operation)
+      (us : List Token) → s.after_begin limits z ts ≡ Ok (x, us)
+      → IsOperation limits (key (operation_key z) n ∷ ts) us x
+  s_operation_after starts.Do n ts x us q =
+      let a = bound (one name_at ts) _ x us q in
+      let w = name_read a.got ts a.rest a.part in
+      let c = bound (one name_at a.rest) _ x us a.after in
+      let o = name_read c.got a.rest c.rest c.part in
+      let v = gave (operation.Do a.got c.got) x c.rest us c.after in
+      moved_by (IsOperation limits)
+      (key keyword.Do n ∷ name a.got w.line ∷ name c.got o.line ∷ c.rest) _ c.rest us
+      (operation.Do a.got c.got) x (ap (λ z. key keyword.Do n ∷ z) (w.is
+      ∙ ap (λ z. name a.got w.line ∷ z) o.is)) v.1 v.0 g.do_
+  s_operation_after starts.Group n ts x us q =
+      let a = bound (one name_at ts) _ x us q in
+      let w = name_read a.got ts a.rest a.part in
+      let v = gave (operation.Group a.got) x a.rest us a.after in
+      moved_by (IsOperation limits) (key keyword.Group n ∷ name a.got w.line ∷ a.rest) _ a.rest us
+      (operation.Group a.got) x (ap (λ z. key keyword.Group n ∷ z) w.is) v.1 v.0 g.group
+  s_operation_after starts.Combine n ts x us q =
+      let a = bound (one name_at ts) _ x us q in
+      let w = name_read a.got ts a.rest a.part in
+      let c = bound (one (keyword_at keyword.By) a.rest) _ x us a.after in
+      let m = keyed keyword.By c.got a.rest c.rest c.part in
+      let d = bound (s.combiner_at c.rest) _ x us c.after in
+      let v = gave (operation.Combine a.got d.got) x d.rest us d.after in
+      moved_by (IsOperation limits)
+      (key keyword.Combine n ∷ name a.got w.line ∷ key keyword.By m.line ∷ c.rest) _ d.rest us
+      (operation.Combine a.got d.got) x
+      (ap (λ z. key keyword.Combine n ∷ z) (w.is ∙ ap (λ z. name a.got w.line ∷ z) m.is)) v.1 v.0
+      (g.combine (s_combiner c.rest d.got d.rest d.part))
+  s_operation_after starts.Flatten n ts x us q =
+      let a = bound (one name_at ts) _ x us q in
+      let w = name_read a.got ts a.rest a.part in
+      let c = bound (all_of at_comma (s.next_input limits) (a.got ∷ []) a.rest) _ x us a.after in
+      let i : NamesOf ts (a.got ∷ []) a.rest = (
+        subst (λ z. AreNames z a.rest (a.got ∷ []))
+            (sym w.is) g.one,
+        fair.inputs,
+      ) in
+      let f = kept_all at_comma (s.next_input limits) (NamesOf ts)
+      (λ p vs r ws t k e. s_input ts p vs r ws k e) (a.got ∷ []) a.rest c.got c.rest i c.part in
+      let v = gave (operation.Flatten c.got) x c.rest us c.after in
+      moved_by (IsOperation limits) (key keyword.Flatten n ∷ ts) _ c.rest us
+      (operation.Flatten c.got) x refl v.1 v.0 (g.flatten f.0 f.1)
+  s_operation_after starts.Count n ts x us q =
+      let a = bound (one name_at ts) _ x us q in
+      let w = name_read a.got ts a.rest a.part in
+      let v = gave (operation.Count a.got) x a.rest us a.after in
+      moved_by (IsOperation limits) (key keyword.Count n ∷ name a.got w.line ∷ a.rest) _ a.rest us
+      (operation.Count a.got) x (ap (λ z. key keyword.Count n ∷ z) w.is) v.1 v.0 g.count
+  s_operation_after starts.Join n ts x us q =
+      let a = bound (one name_at ts) _ x us q in
+      let w = name_read a.got ts a.rest a.part in
+      let c = bound (one (sign_at sign.Comma) a.rest) _ x us a.after in
+      let m = marked sign.Comma c.got a.rest c.rest c.part in
+      let d = bound (one name_at c.rest) _ x us c.after in
+      let o = name_read d.got c.rest d.rest d.part in
+      let v = gave (operation.Join a.got d.got) x d.rest us d.after in
+      moved_by (IsOperation limits) (key keyword.Join n ∷ name a.got w.line ∷ mark sign.Comma m.line
+      ∷ name d.got o.line ∷ d.rest) _ d.rest us (operation.Join a.got d.got) x
+      (ap (λ z. key keyword.Join n ∷ z) (w.is
+      ∙ ap (λ z. name a.got w.line ∷ z) (m.is ∙ ap (λ z. mark sign.Comma m.line ∷ z) o.is))) v.1
+      v.0 g.join
+  s_operation_after starts.Top n ts x us q =
+      let a = bound (one number_at ts) _ x us q in
+      let w = number_read a.got ts a.rest a.part in
+      let c = bound (one name_at a.rest) _ x us a.after in
+      let o = name_read c.got a.rest c.rest c.part in
+      let v = gave (operation.Top a.got c.got) x c.rest us c.after in
+      moved_by (IsOperation limits) (key keyword.Top n ∷ number a.got w.line ∷ name c.got o.line ∷
+      c.rest) _ c.rest us (operation.Top a.got c.got) x (ap (λ z. key keyword.Top n ∷ z) (w.is
+      ∙ ap (λ z. number a.got w.line ∷ z) o.is)) v.1 v.0 g.top
+
+  pub s_operation : (ts : List Token) (x : Operation) (us : List Token)
+      → s.operation_at limits ts ≡ Ok (x, us) → IsOperation limits ts us x
+  s_operation ts x us q =
+      let a = bound (one s.operation_start ts) _ x us q in
+      let m = begins s.keyword_operation operation_key is_operation_key a.got ts a.rest a.part in
+      subst (λ z. (IsOperation limits) z us x) (sym m.is)
+      (s_operation_after a.got m.line a.rest x us a.after)

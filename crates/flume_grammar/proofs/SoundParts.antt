@@ -1,0 +1,229 @@
+-- Records, lists, calls and the like that are read are in the grammar.
+use Rattle.std.proofs.Common.{◌≡◌, ℕ, ◌+◌, ◌≤◌, max, length, length-append, List, [], ◌∷◌, ◌++◌, Some, Ok, refl, sym, ap, ◌∙◌, subst, arith, lit≤}
+use Rattle.flume_tokens.specs.declared.token.Token.{Token}
+use Rattle.flume_tokens.specs.declared.keyword.Keyword.{Keyword}
+use Rattle.flume_tokens.specs.declared.keyword.Keyword.TheVariants as keyword
+use Rattle.flume_tokens.specs.declared.sign.Sign.{Sign}
+use Rattle.flume_tokens.specs.declared.sign.Sign.TheVariants as sign
+use Rattle.flume_grammar.specs.declared.parts.Parts.{Parts}
+use Rattle.flume_grammar.specs.declared.parts.SoFar.{SoFar}
+use Rattle.flume_grammar.specs.declared.tree.Unary.{Unary}
+use Rattle.flume_grammar.specs.declared.tree.Side.{Side}
+use Rattle.flume_grammar.specs.declared.tree.Expr.{Expr}
+use Rattle.flume_grammar.specs.declared.tree.Expr.TheVariants as tree
+use Rattle.flume_grammar.specs.inner.Out.{one, all_of}
+use Rattle.flume_grammar.specs.inner.Reading.{sign_at, comma_at}
+use Rattle.flume_grammar.specs.Parts.{none, with_part}
+use Rattle.flume_grammar.specs.inner.Types.{at_comma, whole_type}
+use Rattle.flume_grammar.specs.inner.Expressions.{so_far, Inner, empty, field, next_field, record_, Members, next_member, list, argument, call, sided, concat, pick}
+use Rattle.flume_grammar.specs.Grammar as g
+use Rattle.flume_grammar.specs.Terminals.{key, mark}
+use Rattle.flume_grammar.specs.Grammar.{IsWholeType, IsExpr, AreFields, AreMembers, call_of, side_of}
+use Rattle.flume_grammar.proofs.Sound.{bound, gave}
+use Rattle.flume_grammar.proofs.SoundTokens.{marked, comma_read}
+use Rattle.flume_grammar.proofs.SoundLoops.{field_read, kept_all}
+use Rattle.flume_grammar.proofs.SoundTypes.{sound_whole}
+use Rattle.flume_grammar.specs.Limits.{Limits}
+use Rattle.flume_grammar.proofs.Fair.{IsFair}
+use Rattle.flume_grammar.proofs.SoundSuffixes.{SoundE, IsSoFar, moved, so_moved}
+
+module _ (limits : Limits) (fair : IsFair limits) where
+  module _ (limit : ℕ) (inner : Inner) (h : SoundE limits fair inner) where
+    -- one more field of a literal, and one more member of a list
+    abbrev FieldsOf : List Token → Parts Expr → List Token → Type 0
+    FieldsOf ts p us = AreFields limits ts us p × (length p.names ≤ limits.fields)
+
+    one_inner : (ts : List Token) (x : Expr × ℕ) (us : List Token) → inner 1 ts ≡ Ok (x, us)
+        → IsExpr limits 1 ts us x.0 x.1
+    one_inner ts x us q = h 1 ts x us (lit≤ tt) q
+
+    s_first : (ts : List Token) (p : Parts Expr) (us : List Token)
+        → field inner none ts ≡ Ok (p, us) → FieldsOf ts p us
+    s_first ts p us q =
+        let f = field_read (IsExpr limits 1) (inner 1) one_inner none ts p us q in
+        subst (λ z. FieldsOf ts z us) f.is
+        (subst (λ z. FieldsOf z (with_part none f.name_ f.part f.depth) us) (sym f.start)
+        (g.first f.is_word f.spelled, omega arith))
+
+    s_more : (ts : List Token) (p : Parts Expr) (vs : List Token) (q : Parts Expr) (us : List Token)
+        → FieldsOf ts p vs → next_field limits inner p vs ≡ Ok (q, us) → FieldsOf ts q us
+    s_more ts p vs q us (x, l) e =
+        let a = bound (one (comma_at (length p.names) limits.fields) vs) _ q us e in
+        let m = comma_read (length p.names) limits.fields a.got vs a.rest a.part in
+        let f = field_read (IsExpr limits 1) (inner 1) one_inner p a.rest q us a.after in
+        let y : (AreFields limits) ts
+        (mark sign.Comma m.line ∷ f.word ∷ mark sign.Colon f.line ∷ f.rest) p =
+        subst (λ z. (AreFields limits) ts z p) (m.is
+        ∙ ap (λ z. mark sign.Comma m.line ∷ z) f.start) x in
+        let n = length-append p.names (f.name_ ∷ []) in
+        subst (λ z. FieldsOf ts z us) f.is (g.next y f.is_word f.spelled, omega (arith, m.fewer, n))
+
+    pub s_record : (n : ℕ) (ts : List Token) (x : SoFar) (us : List Token)
+        → record_ limits inner ts ≡ Ok (x, us) → IsSoFar limits fair 8 (mark sign.OpenBrace n ∷ ts)
+        us x
+    s_record n ts x us q =
+        let a = bound (field inner none ts) _ x us q in
+        let b = bound (all_of at_comma (next_field limits inner) a.got a.rest) _ x us a.after in
+        let f = kept_all at_comma (next_field limits inner) (λ p vs. FieldsOf ts p vs)
+        (λ p vs r ws t k e. s_more ts p vs r ws k e) a.got a.rest b.got b.rest
+        (s_first ts a.got a.rest a.part) b.part in
+        let c = bound (one (sign_at sign.CloseBrace) b.rest) _ x us b.after in
+        let m = marked sign.CloseBrace c.got b.rest c.rest c.part in
+        let v = gave (so_far 8 (tree.Record b.got.names b.got.parts) (b.got.depth + 1)) x c.rest us
+        c.after in
+        let y : (AreFields limits) ts (mark sign.CloseBrace m.line ∷ c.rest) b.got = subst
+        (λ z. (AreFields limits) ts z b.got) m.is f.0 in
+        so_moved limits fair 8 _ _ c.rest us (so_far 8 (tree.Record b.got.names b.got.parts)
+        (b.got.depth + 1))
+        x refl v.1 v.0 (g.literal y f.1, lit≤ tt)
+
+    abbrev MembersOf : List Token → Members → List Token → Type 0
+    MembersOf ts m us = AreMembers limits ts us m.0 m.1 × (length m.0 ≤ limits.members)
+
+    s_member : (ts : List Token) (m : Members) (vs : List Token) (q : Members) (us : List Token)
+        → MembersOf ts m vs → next_member limits inner m vs ≡ Ok (q, us) → MembersOf ts q us
+    s_member ts m vs q us (x, l) e =
+        let a = bound (one (comma_at (length m.0) limits.members) vs) _ q us e in
+        let c = comma_read (length m.0) limits.members a.got vs a.rest a.part in
+        let b = bound (inner 1 a.rest) _ q us a.after in
+        let v = gave (m.0 ++ b.got.0 ∷ [], max m.1 b.got.1) q b.rest us b.after in
+        let y : (AreMembers limits) ts (mark sign.Comma c.line ∷ a.rest) m.0 m.1 = subst
+        (λ z. (AreMembers limits) ts z m.0 m.1) c.is x in
+        let n = length-append m.0 (b.got.0 ∷ []) in
+        let w : MembersOf ts (m.0 ++ b.got.0 ∷ [], max m.1 b.got.1) b.rest = (
+          g.more y
+              (one_inner a.rest b.got b.rest b.part),
+          omega (arith, c.fewer, n),
+        ) in
+        subst (λ z. MembersOf ts z us) v.0
+        (subst (λ z. MembersOf ts (m.0 ++ b.got.0 ∷ [], max m.1 b.got.1) z) v.1 w)
+
+    pub s_list : (n : ℕ) (ts : List Token) (x : SoFar) (us : List Token)
+        → list limits inner ts ≡ Ok (x, us) → IsSoFar limits fair 8 (mark sign.OpenBracket n ∷ ts)
+        us x
+    s_list n ts x us q =
+        let a = bound (inner 1 ts) _ x us q in
+        let b = bound (all_of at_comma (next_member limits inner) (a.got.0 ∷ [], a.got.1) a.rest)
+        _ x us a.after in
+        let s : MembersOf ts (a.got.0 ∷ [], a.got.1)
+        a.rest = (g.one (one_inner ts a.got a.rest a.part), fair.members) in
+        let f = kept_all at_comma (next_member limits inner) (λ p vs. MembersOf ts p vs)
+        (λ p vs r ws t k e. s_member ts p vs r ws k e) (a.got.0 ∷ [], a.got.1) a.rest b.got
+        b.rest s b.part in
+        let c = bound (one (sign_at sign.CloseBracket) b.rest) _ x us b.after in
+        let m = marked sign.CloseBracket c.got b.rest c.rest c.part in
+        let v = gave (so_far 8 (tree.List b.got.0) (b.got.1 + 1)) x c.rest us c.after in
+        let y : (AreMembers limits) ts (mark sign.CloseBracket m.line ∷ c.rest) b.got.0
+        b.got.1 = subst (λ z. (AreMembers limits) ts z b.got.0 b.got.1) m.is f.0 in
+        so_moved limits fair 8 _ _ c.rest us (so_far 8 (tree.List b.got.0) (b.got.1 + 1)) x refl v.1
+        v.0
+        (g.members y f.1, lit≤ tt)
+
+    record Argument (end : Sign) (ts us : List Token) (x : Expr × ℕ) : Type 0 where
+      line : ℕ
+      spelled : (IsExpr limits) 1 ts (mark end line ∷ us) x.0 x.1
+
+    s_argument : (end : Sign) (ts : List Token) (x : Expr × ℕ) (us : List Token)
+        → argument inner end ts ≡ Ok (x, us) → Argument end ts us x
+    s_argument end ts x us q =
+        let a = bound (inner 1 ts) _ x us q in
+        let b = bound (one (sign_at end) a.rest) _ x us a.after in
+        let m = marked end b.got a.rest b.rest b.part in
+        let v = gave a.got x b.rest us b.after in
+        record {
+          line = m.line;
+          spelled = moved limits fair ts ts a.rest (mark end m.line ∷ us) a.got x 1 refl
+              (m.is ∙ ap (λ z. mark end m.line ∷ z) v.1) v.0 (one_inner ts a.got a.rest a.part);
+        }
+
+    pub s_empty : (n : ℕ) (ts : List Token) (x : SoFar) (us : List Token)
+        → empty limits ts ≡ Ok (x, us) → IsSoFar limits fair 8 (key keyword.Empty n ∷ ts) us x
+    s_empty n ts x us q =
+        let a = bound (one (sign_at sign.Less) ts) _ x us q in
+        let m = marked sign.Less a.got ts a.rest a.part in
+        let b = bound (whole_type limits a.rest) _ x us a.after in
+        let c = bound (one (sign_at sign.Greater) b.rest) _ x us b.after in
+        let k = marked sign.Greater c.got b.rest c.rest c.part in
+        let v = gave (so_far 8 (tree.Empty b.got) 1) x c.rest us c.after in
+        let w : (IsWholeType limits) a.rest (mark sign.Greater k.line ∷ c.rest) b.got = subst
+        (λ z. (IsWholeType limits) a.rest z b.got) k.is
+        ((sound_whole limits fair) a.rest b.got b.rest b.part) in
+        so_moved limits fair 8 (key keyword.Empty n ∷ mark sign.Less m.line ∷ a.rest)
+        (key keyword.Empty n ∷ ts)
+        c.rest us (so_far 8 (tree.Empty b.got) 1) x (ap (λ z. key keyword.Empty n ∷ z) m.is) v.1
+        v.0 (g.empty w, lit≤ tt)
+
+    pub s_sided : (k : Keyword) (s : Side) (n : ℕ) (ts : List Token) (x : SoFar) (us : List Token)
+        → side_of k ≡ Some s → sided limits inner s ts ≡ Ok (x, us)
+        → IsSoFar limits fair 8 (key k n ∷ ts) us x
+    s_sided k s n ts x us e q =
+        let a = bound (one (sign_at sign.Less) ts) _ x us q in
+        let m = marked sign.Less a.got ts a.rest a.part in
+        let b = bound (whole_type limits a.rest) _ x us a.after in
+        let c = bound (one (sign_at sign.Greater) b.rest) _ x us b.after in
+        let i = marked sign.Greater c.got b.rest c.rest c.part in
+        let d = bound (one (sign_at sign.Open) c.rest) _ x us c.after in
+        let j = marked sign.Open d.got c.rest d.rest d.part in
+        let f = bound (argument inner sign.Close d.rest) _ x us d.after in
+        let o = s_argument sign.Close d.rest f.got f.rest f.part in
+        let v = gave (so_far 8 (tree.Side s b.got f.got.0) (f.got.1 + 1)) x f.rest us f.after in
+        let w : (IsWholeType limits) a.rest
+        (mark sign.Greater i.line ∷ mark sign.Open j.line ∷ d.rest) b.got =
+        subst (λ z. (IsWholeType limits) a.rest z b.got) (i.is
+        ∙ ap (λ z. mark sign.Greater i.line ∷ z) j.is)
+        ((sound_whole limits fair) a.rest b.got b.rest b.part) in
+        so_moved limits fair 8 (key k n ∷ mark sign.Less m.line ∷ a.rest) (key k n ∷ ts) f.rest us
+        (so_far 8 (tree.Side s b.got f.got.0) (f.got.1 + 1)) x (ap (λ z. key k n ∷ z) m.is) v.1
+        v.0 (g.sided e w o.spelled, lit≤ tt)
+
+    pub s_call : (k : Keyword) (u : Unary) (n : ℕ) (ts : List Token) (x : SoFar) (us : List Token)
+        → call_of k ≡ Some u → call inner u ts ≡ Ok (x, us) → IsSoFar limits fair 8 (key k n ∷ ts)
+        us x
+    s_call k u n ts x us e q =
+        let a = bound (one (sign_at sign.Open) ts) _ x us q in
+        let m = marked sign.Open a.got ts a.rest a.part in
+        let b = bound (argument inner sign.Close a.rest) _ x us a.after in
+        let o = s_argument sign.Close a.rest b.got b.rest b.part in
+        let v = gave (so_far 8 (tree.Unary u b.got.0) (b.got.1 + 1)) x b.rest us b.after in
+        so_moved limits fair 8 (key k n ∷ mark sign.Open m.line ∷ a.rest) (key k n ∷ ts) b.rest us
+        (so_far 8 (tree.Unary u b.got.0) (b.got.1 + 1)) x (ap (λ z. key k n ∷ z) m.is) v.1 v.0
+        (g.call e o.spelled, lit≤ tt)
+
+    pub s_concat : (n : ℕ) (ts : List Token) (x : SoFar) (us : List Token)
+        → concat inner ts ≡ Ok (x, us) → IsSoFar limits fair 8 (key keyword.Concat n ∷ ts) us x
+    s_concat n ts x us q =
+        let a = bound (one (sign_at sign.Open) ts) _ x us q in
+        let m = marked sign.Open a.got ts a.rest a.part in
+        let b = bound (argument inner sign.Comma a.rest) _ x us a.after in
+        let o = s_argument sign.Comma a.rest b.got b.rest b.part in
+        let c = bound (argument inner sign.Close b.rest) _ x us b.after in
+        let p = s_argument sign.Close b.rest c.got c.rest c.part in
+        let v = gave (so_far 8 (tree.Concat b.got.0 c.got.0) (max b.got.1 c.got.1 + 1)) x c.rest us
+        c.after in
+        so_moved limits fair 8 (key keyword.Concat n ∷ mark sign.Open m.line ∷ a.rest)
+        (key keyword.Concat n ∷ ts) c.rest us
+        (so_far 8 (tree.Concat b.got.0 c.got.0) (max b.got.1 c.got.1 + 1)) x
+        (ap (λ z. key keyword.Concat n ∷ z) m.is) v.1 v.0 (g.concat o.spelled p.spelled, lit≤ tt)
+
+    pub s_pick : (n : ℕ) (ts : List Token) (x : SoFar) (us : List Token) → pick inner ts ≡ Ok
+        (x, us)
+        → IsSoFar limits fair 8 (key keyword.Pick n ∷ ts) us x
+    s_pick n ts x us q =
+        let a = bound (one (sign_at sign.Open) ts) _ x us q in
+        let m = marked sign.Open a.got ts a.rest a.part in
+        let b = bound (argument inner sign.Comma a.rest) _ x us a.after in
+        let o = s_argument sign.Comma a.rest b.got b.rest b.part in
+        let c = bound (argument inner sign.Comma b.rest) _ x us b.after in
+        let p = s_argument sign.Comma b.rest c.got c.rest c.part in
+        let d = bound (argument inner sign.Close c.rest) _ x us c.after in
+        let r = s_argument sign.Close c.rest d.got d.rest d.part in
+        let y = so_far 8 (tree.Pick b.got.0 c.got.0 d.got.0)
+        (max (max b.got.1 c.got.1) d.got.1 + 1) in
+        let v = gave y x d.rest us d.after in
+        so_moved limits fair 8 (key keyword.Pick n ∷ mark sign.Open m.line ∷ a.rest)
+        (key keyword.Pick n ∷ ts)
+        d.rest us y x
+        (ap (λ z. key keyword.Pick n ∷ z) m.is) v.1 v.0 (
+          g.pick o.spelled p.spelled r.spelled,
+          lit≤ tt,
+        )

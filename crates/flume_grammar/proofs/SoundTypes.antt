@@ -1,0 +1,266 @@
+-- Types that are read are in the grammar.
+use Rattle.std.proofs.Common.{◌≡◌, ℕ, zero, suc, ◌+◌, ◌≤◌, max, length, length-append, nat_lt, nat_le, List, [], ◌∷◌, Bool, true, false, None, Result, Ok, Err, if◌then◌else◌, refl, sym, ap, ◌∙◌, subst, arith}
+use Rattle.std.proofs.lemmas.Bool.{leb-true}
+use Rattle.flume_tokens.specs.declared.token.Token.{Token}
+use Rattle.flume_tokens.specs.declared.token.TokenKind.{TokenKind}
+use Rattle.flume_tokens.specs.declared.token.TokenKind.TheVariants as kind
+use Rattle.flume_tokens.specs.declared.keyword.Keyword.{Keyword}
+use Rattle.flume_tokens.specs.declared.keyword.Keyword.TheVariants as keyword
+use Rattle.flume_tokens.specs.declared.sign.Sign.{Sign}
+use Rattle.flume_tokens.specs.declared.sign.Sign.TheVariants as sign
+use Rattle.flume_grammar.specs.declared.fault.Stop.{Stop}
+use Rattle.flume_grammar.specs.declared.fault.ScriptKind.TheVariants.{TooDeep}
+use Rattle.flume_grammar.specs.declared.fault.Stop.TheVariants.{Fault}
+use Rattle.flume_grammar.specs.declared.parts.Parts.{Parts}
+use Rattle.flume_grammar.specs.declared.start.TypeStart.{TypeStart}
+use Rattle.flume_grammar.specs.declared.start.TypeStart.TheVariants as type_start_
+use Rattle.flume_grammar.specs.declared.tree.Type.TheVariants as type_tree
+use Rattle.flume_grammar.specs.inner.Out.{give, at, one, all_of}
+use Rattle.flume_grammar.specs.inner.Reading.{sign_at, comma_at}
+use Rattle.flume_grammar.specs.Terminals.{key, mark, name}
+use Rattle.flume_grammar.specs.Parts.{Tree, none, with_part}
+use Rattle.flume_grammar.specs.inner.Types.{Inner, kind_type, keyword_type, deep_start, type_start, list_type, pair_type, field_type, next_field_type, at_comma, record_type, after_start, type_layer, type_within, whole_type}
+use Rattle.flume_grammar.specs.Grammar.{IsWholeType, IsType, int, bool, text_, named, list, either, table, record_, AreFieldTypes, first, next as next_type_}
+use Rattle.flume_grammar.specs.Limits.{Limits}
+use Rattle.flume_grammar.proofs.Fair.{IsFair}
+use Rattle.flume_grammar.proofs.Sound.{bound, gave, one_token}
+use Rattle.flume_grammar.proofs.SoundTokens.{marked, comma_read}
+use Rattle.flume_grammar.proofs.SoundLoops.{kept_all, field_read}
+
+-- ---- types
+
+module _ (limits : Limits) (fair : IsFair limits) where
+  abbrev pub Sound : Inner → Type 0
+  Sound p = (ts : List Token) (x : Tree × ℕ) (us : List Token) → p ts ≡ Ok (x, us)
+      → IsType limits ts us x.0 x.1
+
+  moved : (ts ts' us us' : List Token) (x y : Tree × ℕ) → ts' ≡ ts → us ≡ us' → x ≡ y
+      → IsType limits ts us x.0 x.1 → IsType limits ts' us' y.0 y.1
+  moved ts ts' us us' x y a b c h =
+      subst (λ z. (IsType limits) ts' us' z.0 z.1) c (subst (λ z. (IsType limits) ts' z x.0 x.1) b
+      (subst (λ z. (IsType limits) z us x.0 x.1) (sym a) h))
+
+  -- how a type began, with the tokens from there on
+  abbrev Started : TypeStart → List Token → List Token → Type 0
+  Started (type_start_.Leaf t) ts us = IsType limits ts us t 1
+  Started type_start_.List ts us = (n : ℕ) × (ts ≡ key keyword.List n ∷ us)
+  Started type_start_.Either ts us = (n : ℕ) × (ts ≡ key keyword.Either n ∷ us)
+  Started type_start_.Table ts us = (n : ℕ) × (ts ≡ key keyword.Table n ∷ us)
+  Started type_start_.Record ts us = (n : ℕ) × (ts ≡ mark sign.OpenBrace n ∷ us)
+
+  start_inj : (s r : TypeStart) (e : Stop) → (let x : Result TypeStart Stop = Ok s in x) ≡ Ok r
+      → s ≡ r
+  start_inj s r e q = cc
+
+  deep_inv : (limit : ℕ) (t : Token) (s r : TypeStart) → deep_start limit t s ≡ Ok r → s ≡ r
+  deep_inv limit t s r q = by (nat_lt 1 limit) q
+    where
+      by : (b : Bool) → (if b then Ok s else Err (at t TooDeep)) ≡ Ok r → s ≡ r
+      by true p = cc
+      by false p = cc
+
+  started_key : (limit n : ℕ) (k : Keyword) (s : TypeStart) (us : List Token)
+      → keyword_type k limit (key k n) ≡ Ok s → Started s (key k n ∷ us) us
+  started_key limit n keyword.Int s us q = let e : type_start_.Leaf type_tree.Int ≡ s = cc in
+      subst (λ z. Started z (key keyword.Int n ∷ us) us) e int
+  started_key limit n keyword.Bool s us q = let e : type_start_.Leaf type_tree.Bool ≡ s = cc in
+      subst (λ z. Started z (key keyword.Bool n ∷ us) us) e bool
+  started_key limit n keyword.Text s us q = let e : type_start_.Leaf type_tree.Text ≡ s = cc in
+      subst (λ z. Started z (key keyword.Text n ∷ us) us) e text_
+  started_key limit n keyword.List s us q = subst (λ z. Started z (key keyword.List n ∷ us) us)
+      (deep_inv limit (key keyword.List n) type_start_.List s q) (n, refl)
+  started_key limit n keyword.Either s us q = subst (λ z. Started z (key keyword.Either n ∷ us) us)
+      (deep_inv limit (key keyword.Either n) type_start_.Either s q) (n, refl)
+  started_key limit n keyword.Table s us q = subst (λ z. Started z (key keyword.Table n ∷ us) us)
+      (deep_inv limit (key keyword.Table n) type_start_.Table s q) (n, refl)
+  started_key limit n _ s us q = cc
+
+  started_sign : (limit n : ℕ) (k : Sign) (s : TypeStart) (us : List Token)
+      → kind_type (kind.Sign k) limit (mark k n) ≡ Ok s → Started s (mark k n ∷ us) us
+  started_sign limit n sign.OpenBrace s us q =
+      subst (λ z. Started z (mark sign.OpenBrace n ∷ us) us)
+      (deep_inv limit (mark sign.OpenBrace n) type_start_.Record s q) (n, refl)
+  started_sign limit n _ s us q = cc
+
+  started_kind : (limit n : ℕ) (k : TokenKind) (s : TypeStart) (us : List Token)
+      → kind_type k limit (record { kind = k; line = n }) ≡ Ok s
+      → Started s (record { kind = k; line = n } ∷ us) us
+  started_kind limit n (kind.Name x) s us q = let e : type_start_.Leaf (type_tree.Named x)
+      ≡ s = cc in subst (λ z. Started z (name x n ∷ us) us) e named
+  started_kind limit n (kind.Keyword k) s us q = started_key limit n k s us q
+  started_kind limit n (kind.Sign k) s us q = started_sign limit n k s us q
+  started_kind limit n (kind.Number x) s us q = cc
+  started_kind limit n (kind.Text x) s us q = cc
+
+  started : (limit : ℕ) (s : TypeStart) (ts us : List Token)
+      → one (type_start limit) ts ≡ Ok (s, us) → Started s ts us
+  started limit s ts us q =
+      let p = one_token (type_start limit) ts s us q in
+      subst (λ z. Started s z us) (sym p.is)
+      (started_kind limit p.token.line p.token.kind s us p.gives)
+
+  record Pair (ts us : List Token) (x : Tree × Tree × ℕ) : Type 0 where
+    m : ℕ
+    k : ℕ
+    o : ℕ
+    a : ℕ
+    b : ℕ
+    vs : List Token
+    ws : List Token
+    start : ts ≡ mark sign.Less m ∷ vs
+    left : (IsType limits) vs (mark sign.Comma k ∷ ws) x.0 a
+    right : (IsType limits) ws (mark sign.Greater o ∷ us) x.1 b
+    depth : max a b + 1 ≡ x.2
+
+  module _ (inner : Inner) (h : Sound inner) where
+    s_list : (n : ℕ) (ts : List Token) (x : Tree × ℕ) (us : List Token)
+        → list_type inner ts ≡ Ok (x, us) → IsType limits (key keyword.List n ∷ ts) us x.0 x.1
+    s_list n ts x us q =
+        let a = bound (one (sign_at sign.Less) ts) _ x us q in
+        let m = marked sign.Less a.got ts a.rest a.part in
+        let b = bound (inner a.rest) _ x us a.after in
+        let c = bound (one (sign_at sign.Greater) b.rest) _ x us b.after in
+        let k = marked sign.Greater c.got b.rest c.rest c.part in
+        let g = gave (type_tree.List b.got.0, b.got.1 + 1) x c.rest us c.after in
+        let y : (IsType limits) a.rest (mark sign.Greater k.line ∷ c.rest) b.got.0 b.got.1 = subst
+        (λ z. (IsType limits) a.rest z b.got.0 b.got.1) k.is (h a.rest b.got b.rest b.part) in
+        moved (key keyword.List n ∷ mark sign.Less m.line ∷ a.rest) (key keyword.List n ∷ ts) c.rest
+        us (type_tree.List b.got.0, b.got.1 + 1) x (ap (λ z. key keyword.List n ∷ z) m.is) g.1
+        g.0 (list y)
+
+    s_pair : (ts : List Token) (x : Tree × Tree × ℕ) (us : List Token)
+        → pair_type inner ts ≡ Ok (x, us) → Pair ts us x
+    s_pair ts x us q =
+        let a = bound (one (sign_at sign.Less) ts) _ x us q in
+        let m = marked sign.Less a.got ts a.rest a.part in
+        let b = bound (inner a.rest) _ x us a.after in
+        let c = bound (one (sign_at sign.Comma) b.rest) _ x us b.after in
+        let k = marked sign.Comma c.got b.rest c.rest c.part in
+        let d = bound (inner c.rest) _ x us c.after in
+        let e = bound (one (sign_at sign.Greater) d.rest) _ x us d.after in
+        let o = marked sign.Greater e.got d.rest e.rest e.part in
+        let g = gave (b.got.0, d.got.0, max b.got.1 d.got.1 + 1) x e.rest us e.after in
+        record {
+          m = m.line;
+          k = k.line;
+          o = o.line;
+          a = b.got.1;
+          b = d.got.1;
+          vs = a.rest;
+          ws = c.rest;
+          start = m.is;
+          left = subst (λ t. (IsType limits) a.rest (mark sign.Comma k.line ∷ c.rest) t b.got.1)
+              (ap (λ y. y.0) g.0) (subst (λ z. (IsType limits) a.rest z b.got.0 b.got.1) k.is
+              (h a.rest b.got b.rest b.part));
+          right = subst (λ t. (IsType limits) c.rest (mark sign.Greater o.line ∷ us) t d.got.1)
+              (ap (λ y. y.1) g.0)
+              (subst (λ z. (IsType limits) c.rest (mark sign.Greater o.line ∷ z) d.got.0 d.got.1)
+              g.1 (subst (λ z. (IsType limits) c.rest z d.got.0 d.got.1) o.is
+              (h c.rest d.got d.rest d.part)));
+          depth = ap (λ y. y.2) g.0;
+        }
+
+    -- the fields so far of a record that began with those tokens
+    abbrev SoFarOf : List Token → Parts Tree → List Token → Type 0
+    SoFarOf ts p us = AreFieldTypes limits ts us p × (length p.names ≤ limits.fields)
+
+    s_first : (ts : List Token) (p : Parts Tree) (us : List Token)
+        → field_type inner none ts ≡ Ok (p, us) → SoFarOf ts p us
+    s_first ts p us q =
+        let f = field_read (IsType limits) inner h none ts p us q in
+        subst (λ z. SoFarOf ts z us) f.is
+        (subst (λ z. SoFarOf z (with_part none f.name_ f.part f.depth) us) (sym f.start)
+        (first f.is_word f.spelled, omega arith))
+
+    s_next : (ts : List Token) (p : Parts Tree) (vs : List Token) (q : Parts Tree) (us : List Token)
+        → at_comma p vs ≡ true → SoFarOf ts p vs → next_field_type limits inner p vs ≡ Ok (q, us)
+        → SoFarOf ts q us
+    s_next ts p vs q us t (x, l) e =
+        let a = bound (one (comma_at (length p.names) limits.fields) vs) _ q us e in
+        let m = comma_read (length p.names) limits.fields a.got vs a.rest a.part in
+        let f = field_read (IsType limits) inner h p a.rest q us a.after in
+        let y : (AreFieldTypes limits) ts
+        (mark sign.Comma m.line ∷ f.word ∷ mark sign.Colon f.line ∷ f.rest) p =
+        subst (λ z. (AreFieldTypes limits) ts z p) (m.is
+        ∙ ap (λ z. mark sign.Comma m.line ∷ z) f.start) x in
+        let n = length-append p.names (f.name_ ∷ []) in
+        subst (λ z. SoFarOf ts z us) f.is (
+          next_type_ y f.is_word f.spelled,
+          omega (arith, m.fewer, n),
+        )
+
+    s_record : (n : ℕ) (ts : List Token) (x : Tree × ℕ) (us : List Token)
+        → record_type limits inner ts ≡ Ok (x, us)
+        → IsType limits (mark sign.OpenBrace n ∷ ts) us x.0 x.1
+    s_record n ts x us q =
+        let a = bound (field_type inner none ts) _ x us q in
+        let b = bound (all_of at_comma (next_field_type limits inner) a.got a.rest) _ x us
+        a.after in
+        let f = kept_all at_comma (next_field_type limits inner) (λ p vs. SoFarOf ts p vs)
+        (λ p vs r ws t k e. s_next ts p vs r ws t k e) a.got a.rest b.got b.rest
+        (s_first ts a.got a.rest a.part) b.part in
+        let c = bound (one (sign_at sign.CloseBrace) b.rest) _ x us b.after in
+        let m = marked sign.CloseBrace c.got b.rest c.rest c.part in
+        let g = gave (type_tree.Record b.got.names b.got.parts, b.got.depth + 1) x c.rest us
+        c.after in
+        let y : (AreFieldTypes limits) ts (mark sign.CloseBrace m.line ∷ c.rest) b.got = subst
+        (λ z. (AreFieldTypes limits) ts z b.got) m.is f.0 in
+        moved (mark sign.OpenBrace n ∷ ts) (mark sign.OpenBrace n ∷ ts) c.rest us
+        (type_tree.Record b.got.names b.got.parts, b.got.depth + 1) x refl g.1 g.0
+        (record_ y f.1)
+
+    s_after : (s : TypeStart) (ts vs : List Token) (x : Tree × ℕ) (us : List Token)
+        → Started s ts vs → after_start limits inner s vs ≡ Ok (x, us)
+        → IsType limits ts us x.0 x.1
+    s_after (type_start_.Leaf t) ts vs x us w q = let g = gave (t, 1) x vs us q in
+        moved ts ts vs us (t, 1) x refl g.1 g.0 w
+    s_after type_start_.List ts vs x us (n, e) q = subst (λ z. (IsType limits) z us x.0 x.1) (sym e)
+        (s_list n vs x us q)
+    s_after type_start_.Either ts vs x us (n, e) q =
+        let a = bound (pair_type inner vs) _ x us q in
+        let p = s_pair vs a.got a.rest a.part in
+        let g = gave (type_tree.Either a.got.0 a.got.1, a.got.2) x a.rest us a.after in
+        moved (key keyword.Either n ∷ mark sign.Less p.m ∷ p.vs) ts a.rest us
+        (type_tree.Either a.got.0 a.got.1, max p.a p.b + 1) x (e
+        ∙ ap (λ z. key keyword.Either n ∷ z) p.start) g.1
+        (ap (λ d. (type_tree.Either a.got.0 a.got.1, d)) p.depth ∙ g.0) (either p.left p.right)
+    s_after type_start_.Table ts vs x us (n, e) q =
+        let a = bound (pair_type inner vs) _ x us q in
+        let p = s_pair vs a.got a.rest a.part in
+        let g = gave (type_tree.Table a.got.0 a.got.1, a.got.2) x a.rest us a.after in
+        moved (key keyword.Table n ∷ mark sign.Less p.m ∷ p.vs) ts a.rest us
+        (type_tree.Table a.got.0 a.got.1, max p.a p.b + 1) x (e
+        ∙ ap (λ z. key keyword.Table n ∷ z) p.start) g.1
+        (ap (λ d. (type_tree.Table a.got.0 a.got.1, d)) p.depth ∙ g.0) (table p.left p.right)
+    s_after type_start_.Record ts vs x us (n, e) q =
+        subst (λ z. (IsType limits) z us x.0 x.1) (sym e) (s_record n vs x us q)
+
+    s_layer : (limit : ℕ) → Sound (type_layer limits limit inner)
+    s_layer limit ts x us q =
+        let a = bound (one (type_start limit) ts) _ x us q in
+        s_after a.got ts a.rest x us (started limit a.got ts a.rest a.part) a.after
+
+  pub sound_type : (n : ℕ) → Sound (type_within limits n)
+  unfolding type_within
+  sound_type zero ts x us q = cc
+  sound_type (suc n) ts x us q = s_layer (type_within limits n) (sound_type n) (suc n) ts x us q
+
+  small : (b : Bool) (x : Tree × ℕ) (us : List Token) (y : Tree) (vs : List Token)
+      → (if b then give x.0 us else Err (Fault None TooDeep)) ≡ Ok (y, vs) → (b ≡ true) × (x.0 ≡ y)
+      × (us ≡ vs)
+  small true x us y vs q = let g = gave x.0 y us vs q in (refl, g.0, g.1)
+  small false x us y vs q = cc
+
+  pub sound_whole : (ts : List Token) (t : Tree) (us : List Token)
+      → whole_type limits ts ≡ Ok (t, us) → IsWholeType limits ts us t
+  sound_whole ts t us q =
+      let a = bound (type_within limits limits.depth ts) _ t us q in
+      let b = small (nat_le a.got.1 limits.depth) a.got a.rest t us a.after in
+      record {
+        depth = a.got.1;
+        spelled = subst (λ z. (IsType limits) ts us z a.got.1) b.1
+            (subst (λ z. (IsType limits) ts z a.got.0 a.got.1) b.2
+            (sound_type limits.depth ts a.got a.rest a.part));
+        small =
+            leb-true a.got.1 limits.depth b.0;
+      }
