@@ -10,7 +10,7 @@ use Rattle.flume_grammar.specs.declared.fault.ScriptFault.{ScriptFault}
 use Rattle.flume_grammar.specs.declared.fault.ScriptFault.TheVariants.{Refused}
 use Rattle.flume_grammar.specs.declared.tree.Ast.{Ast}
 use Rattle.flume_grammar.specs.declared.tree.Statement.{Statement}
-use Rattle.flume_grammar.specs.Answer.{Accepts, Refuses, IsFaultOf, kind_of, token_fault}
+use Rattle.flume_grammar.specs.Answer.{Accepts, Refuses, IsFaultOf, kind_of}
 use Rattle.flume_grammar.specs.Fault.{IsWhole, IsFault}
 use Rattle.flume_grammar.specs.Grammar.{IsScript}
 use Rattle.flume_grammar.specs.Limits.{the_limits}

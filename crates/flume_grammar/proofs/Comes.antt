@@ -1,5 +1,5 @@
 -- An expression comes of an operand and of what goes on with it.
-use Rattle.std.proofs.Common.{◌≡◌, ℕ, zero, suc, ◌+◌, ◌≤◌, ◌<◌, length, nat_lt, is_some, List, ◌∷◌, Bool, true, false, not, ◌||◌, Some, None, Ok, Err, if◌then◌else◌, refl, ap, ◌∙◌, arith}
+use Rattle.std.proofs.Common.{◌≡◌, ℕ, zero, suc, ◌+◌, ◌≤◌, ◌<◌, length, nat_lt, is_some, List, ◌∷◌, Bool, true, false, not, ◌||◌, Some, None, Ok, Err, if◌then◌else◌, refl, ap, ◌∙◌, arith, lit≤}
 use Rattle.std.proofs.lemmas.Bool.{lt-ltb}
 use Rattle.flume_tokens.specs.declared.token.Token.{Token}
 use Rattle.flume_tokens.specs.declared.token.TokenKind.TheVariants as kind
@@ -18,7 +18,7 @@ use Rattle.flume_grammar.specs.declared.tree.Side.TheVariants as side
 use Rattle.flume_grammar.specs.declared.tree.Expr.{Expr}
 use Rattle.flume_grammar.specs.inner.Out.{Out, give, bind, at, one, passed, next, many, all_of}
 use Rattle.flume_grammar.specs.inner.Reading.{sign_at}
-use Rattle.flume_grammar.specs.inner.Expressions.{keyword_start, started, operand_start, fits, is_leaf, so_far, suffix_of, deep_at, extend, goes_on, next_suffix, with_suffix, extended, continued, argument, after_start, operand, expression_within}
+use Rattle.flume_grammar.specs.inner.Expressions.{keyword_start, started, operand_start, fits, is_leaf, so_far, suffix_of, deep_at, extend, goes_on, next_suffix, with_suffix, extended, continued, argument, after_start, bare, operand, expression_within}
 use Rattle.flume_grammar.specs.Terminals.{key, mark}
 use Rattle.flume_grammar.specs.Grammar.{call_of, side_of}
 use Rattle.flume_grammar.proofs.Sound.{bound}
@@ -196,3 +196,14 @@ module _ (limits : Limits) (fair : IsFair limits) where
       went (one (operand_start (suc m) least) (key k n ∷ ts)) _ s ts _
       (ap (λ o. passed (started (suc m) least (key k n) o) ts) e
       ∙ begins (suc m) least (key k n) s ts f h) q
+
+  -- an expression of one token
+  pub leaf : (m least : ℕ) (t : Token) (e : Expr) (ts : List Token)
+      → operand limits (suc m) (expression_within limits m) least (t ∷ ts)
+      ≡ bare limits (suc m) (expression_within limits m) least (t ∷ ts)
+      → operand_start (suc m) least t ≡ started (suc m) least t (Some (start.Leaf e))
+      → Comes m least (t ∷ ts) ts e 1 8
+  leaf m least t e ts b q = comes_at m least 8 1 8 (t ∷ ts) ts e (lit≤ tt) (lit≤ tt)
+      (b ∙ went (one (operand_start (suc m) least) (t ∷ ts)) _ (start.Leaf e) ts _
+      (ap (λ o. passed o ts) q
+      ∙ begins (suc m) least t (start.Leaf e) ts refl (or_true (nat_lt 1 (suc m)))) refl)

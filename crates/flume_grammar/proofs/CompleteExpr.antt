@@ -25,7 +25,7 @@ use Rattle.flume_grammar.specs.Limits.{Limits}
 use Rattle.flume_grammar.proofs.Fair.{IsFair}
 use Rattle.flume_grammar.proofs.Ranks.{OpFits, Fits, fits_up, rank_left, rank_high, under_not, stops, goes, no_post}
 use Rattle.flume_grammar.proofs.Sizes.{shorter, positive, positive_fields, positive_members}
-use Rattle.flume_grammar.proofs.Comes.{Comes, comes_at, comes_end, comes_on, or_true, begins, deep, raise, full, inside, arg, call_start, side_start, keyed_operand}
+use Rattle.flume_grammar.proofs.Comes.{Comes, comes_at, comes_end, comes_on, or_true, begins, deep, raise, full, inside, arg, call_start, side_start, keyed_operand, leaf}
 
 module _ (limits : Limits) (fair : IsFair limits) where
   mutual
@@ -101,37 +101,15 @@ module _ (limits : Limits) (fair : IsFair limits) where
         (went (expression_within limits m 1 us) _ (z, b) (mark sign.CloseBracket o ∷ vs) _ i refl)
         (omega (arith, s)) (lit≤ tt)
     complete_expr (g.num {digits} {n} {ts}) m least h l k f =
-        comes_at limits fair m least 8 1 8 (number digits n ∷ ts) ts (tree.Number digits) (lit≤ tt)
-        (lit≤ tt)
-        (went (one (operand_start (suc m) least) (number digits n ∷ ts)) _
-        (start.Leaf (tree.Number digits)) ts _
-        (begins limits fair (suc m) least (number digits n) (start.Leaf (tree.Number digits)) ts
-        refl
-        (or_true limits fair (nat_lt 1 (suc m)))) refl)
+        leaf limits fair m least (number digits n) (tree.Number digits) ts refl refl
     complete_expr (g.textlit {content} {n} {ts}) m least h l k f =
-        comes_at limits fair m least 8 1 8 (text content n ∷ ts) ts (tree.Text content) (lit≤ tt)
-        (lit≤ tt)
-        (went (one (operand_start (suc m) least) (text content n ∷ ts)) _
-        (start.Leaf (tree.Text content)) ts _
-        (begins limits fair (suc m) least (text content n) (start.Leaf (tree.Text content)) ts refl
-        (or_true limits fair (nat_lt 1 (suc m)))) refl)
+        leaf limits fair m least (text content n) (tree.Text content) ts refl refl
     complete_expr (g.true_ {n} {ts}) m least h l k f =
-        comes_at limits fair m least 8 1 8 (key keyword.True n ∷ ts) ts (tree.Bool true) (lit≤ tt)
-        (lit≤ tt)
-        (keyed_operand limits fair m least keyword.True n (start.Leaf (tree.Bool true)) ts ts _ refl
-        refl
-        (or_true limits fair (nat_lt 1 (suc m))) refl)
+        leaf limits fair m least (key keyword.True n) (tree.Bool true) ts refl refl
     complete_expr (g.false_ {n} {ts}) m least h l k f =
-        comes_at limits fair m least 8 1 8 (key keyword.False n ∷ ts) ts (tree.Bool false) (lit≤ tt)
-        (lit≤ tt)
-        (keyed_operand limits fair m least keyword.False n (start.Leaf (tree.Bool false)) ts ts _
-        refl refl
-        (or_true limits fair (nat_lt 1 (suc m))) refl)
+        leaf limits fair m least (key keyword.False n) (tree.Bool false) ts refl refl
     complete_expr (g.variable {x} {n} {ts}) m least h l k f =
-        comes_at limits fair m least 8 1 8 (name x n ∷ ts) ts (tree.Name x) (lit≤ tt) (lit≤ tt)
-        (went (one (operand_start (suc m) least) (name x n ∷ ts)) _ (start.Leaf (tree.Name x)) ts _
-        (begins limits fair (suc m) least (name x n) (start.Leaf (tree.Name x)) ts refl
-        (or_true limits fair (nat_lt 1 (suc m)))) refl)
+        leaf limits fair m least (name x n) (tree.Name x) ts refl refl
     complete_expr (g.paren {n} {m = o} {a} {ts} {us} {e} x) m least h l k f =
         let c = complete_expr x m 1 h (omega arith) (lit≤ tt) (tt, tt) in
         let (y, vs, p, q) = inside limits fair m ts (mark sign.Close o ∷ us) (e, a)

@@ -1,10 +1,8 @@
 -- The names of files in an accepted script are UTF-8, since its texts are.
-use Rattle.std.proofs.Common.{◌≡◌, ℕ, List, [], ◌∷◌, Ok, Option}
+use Rattle.std.proofs.Common.{ℕ, List, [], ◌∷◌, Option}
 use Rattle.std.specs.List.{All, AllByRecursion}
 use Rattle.std.proofs.lemmas.List.Elements.{All-nil, All-cons, All-append, recursion_from_All}
 use Rattle.flume_tokens.specs.declared.token.Token.{Token}
-use Rattle.flume_tokens.specs.declared.token.TokenList.{TokenList}
-use Rattle.flume_tokens.specs.Tokens.{tokens_of}
 use Rattle.flume_tokens.specs.Utf8.{IsUtf8Text}
 use Rattle.flume_tokens.proofs.Utf8Texts.{texts}
 use Rattle.flume_grammar.specs.declared.parts.Parts.{Parts}

@@ -30,6 +30,7 @@ pub mod PairExpr
 pub mod PairParts
 pub mod PairScript
 pub mod PairSuffixes
+pub mod PairThen
 pub mod PairTokens
 pub mod PairTypes
 pub mod Parsed

@@ -15,7 +15,7 @@ use Rattle.flume_grammar.specs.declared.fault.Stop.{Stop}
 use Rattle.flume_grammar.specs.inner.Out.{Out, bind, at, one, passed, all_of}
 use Rattle.flume_grammar.specs.inner.Reading.{is_sign, is_keyword, sign_at, keyword_at, name_of, name_at, word_at, number_of, number_at, text_of, text_at, comma_at, or_syntax, is_at_sign}
 use Rattle.flume_grammar.specs.Terminals.{word_of, key, mark, name, number, text}
-use Rattle.flume_grammar.specs.inner.Types.{keyword_type, at_comma}
+use Rattle.flume_grammar.specs.inner.Types.{at_comma}
 use Rattle.flume_grammar.proofs.Sound.{bound}
 use Rattle.flume_grammar.proofs.Open.{Takes, takes_one, Class, Behind, any, Sub, IsOpen, Gives, IsComplete, no_longer}
 use Rattle.flume_grammar.proofs.OpenSmallest.{Owns, single}

@@ -24,7 +24,8 @@ use Rattle.flume_grammar.proofs.Quiet.{quiet}
 use Rattle.flume_grammar.proofs.OpenBodies as o_bodies
 use Rattle.flume_grammar.proofs.OpenBodies.{no_else, opening, after_body, in_block, owns_body, body_room}
 use Rattle.flume_grammar.proofs.Depths.{block_depth}
-use Rattle.flume_grammar.proofs.Pair.{Kinds, Spared, Raise, RaiseAt, Limited, raise_token, raise_bind, raise_agree, raise_loop, IsPair, pair_given, pair_wider, pair_closer, pair_then}
+use Rattle.flume_grammar.proofs.Pair.{Kinds, Spared, Raise, RaiseAt, Limited, raise_token}
+use Rattle.flume_grammar.proofs.PairThen.{raise_bind, raise_agree, raise_loop, IsPair, pair_given, pair_wider, pair_closer, pair_then}
 use Rattle.flume_grammar.proofs.PairTokens.{Grows, Growth, grows_least, grows_down, plain_fault, grows_test, pair_name, pair_sign, pair_keyword, test_raise, test_open}
 use Rattle.flume_grammar.proofs.PairExpr.{pair_expression}
 

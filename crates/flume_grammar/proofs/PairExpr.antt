@@ -22,7 +22,8 @@ use Rattle.flume_grammar.proofs.OpenExpr as o_operands
 use Rattle.flume_grammar.proofs.OpenSuffixes as o_suffixes
 use Rattle.flume_grammar.proofs.Quiet.{quiet, owns_started, start_room}
 use Rattle.flume_grammar.proofs.Depths.{Each, Deep, d_operand, expression_depth}
-use Rattle.flume_grammar.proofs.Pair.{Kinds, Raise, RaiseAt, Limited, raise_token, raise_bind, raise_agree, IsPair}
+use Rattle.flume_grammar.proofs.Pair.{Kinds, Raise, RaiseAt, Limited, raise_token}
+use Rattle.flume_grammar.proofs.PairThen.{raise_bind, raise_agree, IsPair}
 use Rattle.flume_grammar.proofs.PairTokens.{Grows, Growth, grows_least, grows_down, plain_ok, plain_fault, grows_test, pair_sign}
 use Rattle.flume_grammar.proofs.PairParts.{no_syntax, Two, whole_given, r_record, r_list, r_call, r_sided, r_concat, r_pick, r_prefix, r_empty}
 use Rattle.flume_grammar.proofs.PairSuffixes.{up, r_continued}

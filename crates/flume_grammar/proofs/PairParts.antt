@@ -24,7 +24,8 @@ use Rattle.flume_grammar.proofs.OpenTokens.{owns_ok, a_name, token}
 use Rattle.flume_grammar.proofs.OpenParts as o_parts
 use Rattle.flume_grammar.proofs.Quiet.{quiet, ending, quieter}
 use Rattle.flume_grammar.proofs.Depths.{Each, each_after, each_give}
-use Rattle.flume_grammar.proofs.Pair.{Kinds, IsPair, pair_given, pair_wider, pair_then, pair_given_then}
+use Rattle.flume_grammar.proofs.Pair.{Kinds}
+use Rattle.flume_grammar.proofs.PairThen.{IsPair, pair_given, pair_wider, pair_then, pair_given_then}
 use Rattle.flume_grammar.proofs.PairTokens.{Growth, plain_ok, pair_token, pair_word, pair_sign, pair_commas, part_added}
 use Rattle.flume_grammar.proofs.PairTypes.{pair_whole}
 

@@ -25,7 +25,8 @@ use Rattle.flume_grammar.proofs.OpenTokens.{owns_option, token, no_comma}
 use Rattle.flume_grammar.proofs.OpenScript as o_scripts
 use Rattle.flume_grammar.proofs.OpenBodies.{no_scale, opening}
 use Rattle.flume_grammar.proofs.Depths.{each_after, each_give}
-use Rattle.flume_grammar.proofs.Pair.{Kinds, Raise, Plain, raise_loop, IsPair, pair_given, pair_wider, pair_then}
+use Rattle.flume_grammar.proofs.Pair.{Kinds, Raise, Plain}
+use Rattle.flume_grammar.proofs.PairThen.{raise_loop, IsPair, pair_given, pair_wider, pair_then}
 use Rattle.flume_grammar.proofs.PairTokens.{Growth, plain_ok, plain_fault, plain_option, pair_token, pair_name, pair_number, pair_text, pair_sign, pair_keyword, pair_commas}
 use Rattle.flume_grammar.proofs.PairTypes.{pair_whole}
 use Rattle.flume_grammar.proofs.PairBodies.{pair_optional, no_syntax, whole_given, r_whole}

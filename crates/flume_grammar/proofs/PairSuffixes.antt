@@ -15,7 +15,8 @@ use Rattle.flume_grammar.proofs.OpenParts as o_parts
 use Rattle.flume_grammar.proofs.OpenSuffixes as o_suffixes
 use Rattle.flume_grammar.proofs.Quiet.{quiet, quiet_given}
 use Rattle.flume_grammar.proofs.Depths.{Each, Deep, d_suffix}
-use Rattle.flume_grammar.proofs.Pair.{Kinds, Raise, RaiseAt, nothing_left, raise_token, raise_bind, raise_agree, raise_loop}
+use Rattle.flume_grammar.proofs.Pair.{Kinds, Raise, RaiseAt, nothing_left, raise_token}
+use Rattle.flume_grammar.proofs.PairThen.{raise_bind, raise_agree, raise_loop}
 use Rattle.flume_grammar.proofs.PairTokens.{Grows, Growth, grows_least, plain_fault}
 use Rattle.flume_grammar.proofs.PairParts.{Two, r_extended}
 

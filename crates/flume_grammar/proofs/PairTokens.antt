@@ -25,7 +25,8 @@ use Rattle.flume_grammar.proofs.OpenLoops.{unrolled}
 use Rattle.flume_grammar.proofs.OpenTokens as o_tokens
 use Rattle.flume_grammar.proofs.OpenTokens.{a_name, a_number, token, takes_token, owns_option, owns_comma, comma_then, commas}
 use Rattle.flume_grammar.proofs.Depths.{Each}
-use Rattle.flume_grammar.proofs.Pair.{Kinds, RaiseAt, Plain, Limited, raise_token, raise_bind, raise_loop, IsPair, pair_then}
+use Rattle.flume_grammar.proofs.Pair.{Kinds, RaiseAt, Plain, Limited, raise_token}
+use Rattle.flume_grammar.proofs.PairThen.{raise_bind, raise_loop, IsPair, pair_then}
 
 -- a limit that is higher, where the kind is of these
 abbrev pub Grows : Kinds → ScriptKind → ℕ → ℕ → Type 0

@@ -21,7 +21,8 @@ use Rattle.flume_grammar.proofs.Open.{any, free, IsComplete}
 use Rattle.flume_grammar.proofs.OpenTypes as o_types
 use Rattle.flume_grammar.proofs.OpenTokens.{no_comma}
 use Rattle.flume_grammar.proofs.Depths.{Each, each_after, each_give, type_depth}
-use Rattle.flume_grammar.proofs.Pair.{Kinds, Raise, Limited, raise_token, raise_bind, IsPair, pair_given, pair_wider, pair_then, pair_given_then}
+use Rattle.flume_grammar.proofs.Pair.{Kinds, Raise, Limited, raise_token}
+use Rattle.flume_grammar.proofs.PairThen.{raise_bind, IsPair, pair_given, pair_wider, pair_then, pair_given_then}
 use Rattle.flume_grammar.proofs.PairTokens.{Grows, Growth, grows_least, grows_down, plain_ok, plain_fault, grows_test, pair_word, pair_sign, pair_commas, test_raise, test_open, part_added}
 
 module _ (K : Kinds) (limits more : Limits) (fair : IsFair limits) (fair_more : IsFair more)

@@ -1,3 +1,4 @@
+-- What is answered is in the grammar, and what is in the grammar is answered.
 use Rattle.std.proofs.Common.{◌≡◌, ◌≢◌, ℕ, List, [], ◌∷◌, Result, Ok, Err, refl, sym, ap, ◌∙◌}
 use Rattle.std.specs.Prelude.{IfOk, IfErr}
 use Rattle.flume_tokens.specs.declared.fault.TokenFault.{TokenFault}
@@ -18,8 +19,6 @@ use Rattle.flume_grammar.proofs.SoundScript.{sound_script}
 use Rattle.flume_grammar.proofs.CompleteScript.{complete_script}
 use Rattle.flume_grammar.specs.Limits.{the_limits}
 use Rattle.flume_grammar.proofs.Fair.{fair}
-
--- What is answered is in the grammar, and what is in the grammar is answered.
 
 abbrev tree : Ast → Result Ast ScriptFault
 tree a = Ok a

@@ -14,7 +14,6 @@ use Rattle.flume_grammar.specs.declared.fault.Stop.{Stop}
 use Rattle.flume_grammar.specs.inner.Out.{one}
 use Rattle.flume_grammar.specs.inner.Reading.{is_sign, is_keyword, sign_at, keyword_at, name_of, name_at, word_at, number_of, number_at, text_of, text_at, comma_at, or_syntax}
 use Rattle.flume_grammar.specs.Terminals.{word_of, key, mark, name, number, text}
-use Rattle.flume_grammar.specs.inner.Types.{keyword_type}
 use Rattle.flume_grammar.proofs.Sound.{one_token}
 
 -- ---- the tokens by their kinds

@@ -1,5 +1,5 @@
 -- What the language limits.
-use Rattle.std.specs.Prelude.{ℕ, ◌+◌, ◌≤◌, ◌<◌}
+use Rattle.std.specs.Prelude.{ℕ, ◌+◌, ◌<◌}
 
 -- how deep a function's tree and a type as it is written may be, and how many fields of a record,
 -- members of a list literal and inputs of a flatten there may be

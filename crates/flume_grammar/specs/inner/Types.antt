@@ -1,5 +1,5 @@
 -- Types as they are written.
-use Rattle.std.specs.Prelude.{ℕ, ◌≤◌, zero, suc, ◌+◌, ◌-◌, max, length, nat_lt, nat_le, List, [], ◌∷◌, ◌++◌, Bool, None, if◌then◌else◌, Result, Ok, Err}
+use Rattle.std.specs.Prelude.{ℕ, ◌≤◌, zero, suc, ◌+◌, ◌-◌, max, length, nat_lt, nat_le, List, Bool, None, if◌then◌else◌, Result, Ok, Err}
 use Rattle.flume_tokens.specs.declared.keyword.Keyword.{Keyword}
 use Rattle.flume_tokens.specs.declared.keyword.Keyword.TheVariants as keyword
 use Rattle.flume_tokens.specs.declared.sign.Sign.TheVariants as sign

@@ -1,0 +1,228 @@
+-- One parser and then another, and loops of parts, within limits and higher ones.
+use Rattle.std.proofs.Common.{◌≡◌, ℕ, zero, suc, ◌≤◌, ◌<◌, length, List, [], ◌∷◌, ◌++◌, inl, inr, Bool, true, false, Some, None, Ok, Err, if◌then◌else◌, refl, sym, ap, ◌∙◌, subst, arith}
+use Rattle.std.proofs.lemmas.List.{append_assoc}
+use Rattle.flume_tokens.specs.declared.token.Token.{Token}
+use Rattle.flume_grammar.specs.declared.fault.Stop.{Stop}
+use Rattle.flume_grammar.specs.declared.fault.Stop.TheVariants.{Fault, Memory}
+use Rattle.flume_grammar.specs.inner.Out.{Out, give, bind, next, all_of}
+use Rattle.flume_grammar.proofs.Open.{Class, Sub, IsOpenAt, Gives, IsComplete}
+use Rattle.flume_grammar.proofs.OpenSmallest.{given}
+use Rattle.flume_grammar.proofs.OpenThen.{then_}
+use Rattle.flume_grammar.proofs.OpenNarrow.{wider, closer}
+use Rattle.flume_grammar.proofs.Pair.{Kinds, Spared, Swallows, RaiseAt, Raise, nothing_left, cancel}
+
+-- ---- one parser and then another
+
+module _ {A B : Type 0} (K : Kinds) (b c : Class) (p q : List Token → Out A) (f g : A → List Token
+    → Out B) where
+  abbrev low : List Token → Out B
+  low ts = bind (p ts) f
+
+  abbrev high : List Token → Out B
+  high ts = bind (q ts) g
+
+  onward : (r : List Token → Out A) (h : A → List Token → Out B) (read before others : List Token)
+      (a : A) (z : Out B) → r (read ++ (before ++ others)) ≡ Ok (a, before ++ others)
+      → h a (before ++ others) ≡ z
+      → bind (r (read ++ before ++ others)) h ≡ z
+  onward r h read before others a z e i = ap (λ v. bind (r v) h) (append_assoc read before others)
+      ∙ ap (λ o. bind o h) e ∙ i
+
+  pub raise_bind : (ts : List Token) → IsOpenAt b p ts → IsOpenAt b q ts → RaiseAt K p q ts
+      → ((a : A) (us : List Token) → p ts ≡ Ok (a, us) → RaiseAt K (f a) (g a) us)
+      → ((a : A) → Gives q a → IsOpenAt c (g a) [])
+      → RaiseAt K low high ts
+  raise_bind ts l m (inl i) r z = by (p ts) refl
+    where
+      by : (o : Out A) → p ts ≡ o → RaiseAt K low high ts
+      by (Err s) e =
+          let v : low ts ≡ Err s = ap (λ o. bind o f) e in
+          let w : high ts ≡ Err s = ap (λ o. bind o g) (sym i.0 ∙ e) in
+          inl (v ∙ sym w, subst (Spared K) (sym v) (keep s (subst (Spared K) e i.1)))
+        where
+          keep : (x : Stop) → Spared {A = A} K (Err x) → Spared {A = B} K (Err x)
+          keep (Fault (Some n) k) y = y
+          keep (Fault None k) y = tt
+          keep Memory y = tt
+      by (Ok y) e = on (r y.0 y.1 e)
+        where
+          v : low ts ≡ f y.0 y.1
+          v = ap (λ o. bind o f) e
+
+          here : (k vs us : List Token) (t : Token) → y.1 ≡ k ++ t ∷ vs
+              → next (k ++ t ∷ us) ≡ next y.1
+          here [] vs us t j = ap next (sym j)
+          here (d ∷ ks) vs us t j = ap next (sym j)
+
+          on : RaiseAt K (f y.0) (g y.0) y.1 → RaiseAt K low high ts
+          on (inl j) =
+              inl (v ∙ j.0 ∙ sym (ap (λ o. bind o g) (sym i.0 ∙ e)), subst (Spared K) (sym v) j.1)
+          on (inr x) =
+              let u = l.reads y.0 y.1 e in
+              let w = m.reads y.0 y.1 (sym i.0 ∙ e) in
+              let same = cancel w.read u.read y.1 (sym w.split ∙ u.split) in
+              inr (record {
+                before = u.read ++ x.before;
+                here = x.here;
+                behind = x.behind;
+                kind = x.kind;
+                split = u.split ∙ ap (λ k. u.read ++ k) x.split
+                    ∙ sym (append_assoc u.read x.before (x.here ∷ x.behind));
+                is = x.is;
+                always = λ others. onward p f u.read x.before (x.here ∷ others) y.0 _
+                    (u.always (x.before ++ x.here ∷ others)
+                    (inl (here x.before x.behind others x.here x.split))) (x.always others);
+                swallows = subst (λ k. Swallows (high (k ++ x.before ++ x.here ∷ []))) same
+                    (subst Swallows
+                    (sym (onward q g w.read x.before (x.here ∷ []) y.0 _
+                    (w.always (x.before ++ x.here ∷ [])
+                    (inl (here x.before x.behind [] x.here x.split))) refl)) x.swallows);
+              })
+  raise_bind ts l m (inr x) r z = inr (record {
+    before = x.before;
+    here = x.here;
+    behind = x.behind;
+    kind = x.kind;
+    split = x.split;
+    is = x.is;
+    always = λ others. ap (λ o. bind o f) (x.always others);
+    swallows = by (q (x.before ++ x.here ∷ [])) refl x.swallows;
+  })
+    where
+      by : (o : Out A) → q (x.before ++ x.here ∷ []) ≡ o → Swallows o → Swallows (bind o g)
+      by (Ok y) e i =
+          subst (λ k. Swallows (g y.0 k)) (sym i)
+          (nothing_left c (g y.0)
+          (z y.0 (record { source = x.before ++ x.here ∷ []; left = y.1; is = e })))
+      by (Err (Fault None k)) e i = tt
+      by (Err (Fault (Some n) k)) e i = absurd i
+      by (Err Memory) e i = absurd i
+
+-- the two as others, before the same next token
+pub raise_agree : {A : Type 0} (K : Kinds) (p q r s : List Token → Out A) (ts : List Token)
+    → ((us : List Token) → next us ≡ next ts → p us ≡ r us) → ((us : List Token) → next us ≡ next ts
+    → q us ≡ s us) → RaiseAt K r s ts → RaiseAt K p q ts
+raise_agree K p q r s ts h i (inl x) =
+    inl (h ts refl ∙ x.0 ∙ sym (i ts refl), subst (Spared K) (sym (h ts refl)) x.1)
+raise_agree K p q r s ts h i (inr x) = inr (record {
+  before = x.before;
+  here = x.here;
+  behind = x.behind;
+  kind = x.kind;
+  split = x.split;
+  is = x.is;
+  always = λ others. h (x.before ++ x.here ∷ others) (same x.before others x.split)
+      ∙ x.always others;
+  swallows = subst Swallows (sym (i (x.before ++ x.here ∷ []) (same x.before [] x.split)))
+      x.swallows;
+})
+  where
+    same : (k us : List Token) → ts ≡ k ++ x.here ∷ x.behind → next (k ++ x.here ∷ us) ≡ next ts
+    same [] us e = ap next (sym e)
+    same (t ∷ ks) us e = ap next (sym e)
+
+-- ---- two complete parsers
+
+pub record IsPair {A : Type 0} (K : Kinds) (b c : Class) (p q : List Token → Out A) : Type 0 where
+  pub low_ : IsComplete b c p
+  pub high_ : IsComplete b c q
+  pub raise : Raise K p q
+
+pub pair_given : {A : Type 0} (K : Kinds) (b c : Class) (a : A) → Sub c b
+    → IsPair K b c (give a) (give a)
+pair_given K b c a s = record {
+  low_ = given b c a s;
+  high_ = given b c a s;
+  raise =
+      λ ts. inl (refl, tt);
+}
+
+pub pair_wider : {A : Type 0} (K : Kinds) (b d c : Class) (p q : List Token → Out A) → Sub b d
+    → IsPair K b c p q → IsPair K d c p q
+pair_wider K b d c p q s x = record {
+  low_ = wider b d c p s x.low_;
+  high_ =
+      wider b d c q s x.high_;
+  raise = x.raise;
+}
+
+pub pair_closer : {A : Type 0} (K : Kinds) (b c d : Class) (p q : List Token → Out A) → Sub c d
+    → IsPair K b d p q → IsPair K b c p q
+pair_closer K b c d p q s x = record {
+  low_ = closer b c d p s x.low_;
+  high_ =
+      closer b c d q s x.high_;
+  raise = x.raise;
+}
+
+-- what follows counts only for what is given
+pub pair_given_then : {A B : Type 0} (K : Kinds) (a b c : Class) (p q : List Token → Out A) (f g : A
+    → List Token → Out B) → IsPair K a b p q → ((x : A) → Gives p x → IsComplete b c (f x))
+    → ((x : A) → Gives q x → IsComplete b c (g x))
+    → ((x : A) → Gives p x → Raise K (f x) (g x))
+    → IsPair K a c (λ ts. bind (p ts) f) (λ ts. bind (q ts) g)
+pair_given_then K a b c p q f g h i j k = record {
+  low_ = then_ a b c p f h.low_ i;
+  high_ = then_ a b c q g h.high_ j;
+  raise = λ ts. raise_bind K b c p q f g ts (h.low_.open_ ts) (h.high_.open_ ts) (h.raise ts)
+      (λ x us e. k x (record { source = ts; left = us; is = e }) us) (λ x y. (j x y).open_ []);
+}
+
+pub pair_then : {A B : Type 0} (K : Kinds) (a b c : Class) (p q : List Token → Out A) (f g : A
+    → List Token → Out B) → IsPair K a b p q → ((x : A) → IsPair K b c (f x) (g x))
+    → IsPair K a c (λ ts. bind (p ts) f) (λ ts. bind (q ts) g)
+pair_then K a b c p q f g h i = pair_given_then K a b c p q f g h (λ x _. (i x).low_)
+    (λ x _. (i x).high_) (λ x _. (i x).raise)
+
+-- ---- loops
+
+module _ {A : Type 0} (K : Kinds) (c d : Class) (more : A → List Token → Bool) (p q : A → List Token
+    → Out A) (P : A → Type 0)
+    (same : (a : A) (ts us : List Token) → next us ≡ next ts → more a us ≡ more a ts)
+    (takes : (a : A) (ts : List Token) (b : A) (us : List Token) → P a → more a ts ≡ true
+    → p a ts ≡ Ok (b, us) → length us < length ts)
+    (keeps : (a : A) (ts : List Token) (b : A) (us : List Token) → P a → p a ts ≡ Ok (b, us) → P b)
+    (open_p : (a : A) (ts : List Token) → P a → more a ts ≡ true → IsOpenAt d (p a) ts)
+    (open_q : (a : A) (ts : List Token) → P a → more a ts ≡ true → IsOpenAt d (q a) ts)
+    (raise_part : (a : A) (ts : List Token) → P a → more a ts ≡ true → RaiseAt K (p a) (q a) ts)
+    (turn_p : (a : A) (ts : List Token) → P a
+    → all_of more p a ts ≡ (if more a ts then bind (p a ts) (all_of more p) else Ok (a, ts)))
+    (turn_q : (a : A) (ts : List Token) → P a
+    → all_of more q a ts ≡ (if more a ts then bind (q a ts) (all_of more q) else Ok (a, ts)))
+    (ends : (a : A) (b : A) → P a → Gives (q a) b → IsOpenAt c (all_of more q b) [])
+  where
+    turned : (a : A) (ts : List Token) → P a → ((b : A) (us : List Token) → length us < length ts
+        → P b → RaiseAt K (all_of more p b) (all_of more q b) us)
+        → RaiseAt K (all_of more p a) (all_of more q a) ts
+    turned a ts h rest = by (more a ts) refl
+      where
+        by : (x : Bool) → more a ts ≡ x → RaiseAt K (all_of more p a) (all_of more q a) ts
+        by false e =
+            let v : all_of more p a ts ≡ Ok (a, ts) = turn_p a ts h
+            ∙ ap (λ x. if x then bind (p a ts) (all_of more p) else Ok (a, ts)) e in
+            inl (
+              v
+                  ∙ sym (turn_q a ts h
+                  ∙ ap (λ x. if x then bind (q a ts) (all_of more q) else Ok (a, ts)) e),
+              subst (Spared K) (sym v) tt,
+            )
+        by true e =
+            raise_agree K (all_of more p a) (all_of more q a) (λ us. bind (p a us) (all_of more p))
+            (λ us. bind (q a us) (all_of more q)) ts
+            (λ us i. turn_p a us h
+            ∙ ap (λ x. if x then bind (p a us) (all_of more p) else Ok (a, us)) (same a ts us i
+            ∙ e))
+            (λ us i. turn_q a us h
+            ∙ ap (λ x. if x then bind (q a us) (all_of more q) else Ok (a, us)) (same a ts us i
+            ∙ e))
+            (raise_bind K d c (p a) (q a) (all_of more p) (all_of more q) ts (open_p a ts h e)
+            (open_q a ts h e) (raise_part a ts h e) (λ b us r. rest b us (takes a ts b us h e r)
+            (keeps a ts b us h r)) (λ b r. ends a b h r))
+
+    loop_at : (k : ℕ) (a : A) (ts : List Token) → length ts ≤ k → P a
+        → RaiseAt K (all_of more p a) (all_of more q a) ts
+    loop_at zero a ts h i = turned a ts i (λ b us l. absurd (omega (arith, l, h)))
+    loop_at (suc k) a ts h i = turned a ts i (λ b us l. loop_at k b us (omega (arith, l, h)))
+
+    pub raise_loop : (a : A) → P a → Raise K (all_of more p a) (all_of more q a)
+    raise_loop a h ts = loop_at (length ts) a ts (omega arith) h
