@@ -25,6 +25,7 @@ use Rattle.task_lists.specs.Tasks.{Lists}
 use Rattle.stage_exec.proofs.Running.{all_dropped}
 use Rattle.stage_exec.specs.Executions.{IsRunFault, IsTypedRun, split_of}
 use Rattle.stage_exec.specs.inner.Along.{CanGoOn}
+use Rattle.stage_exec.specs.inner.Reads.{AgreeOn}
 
 -- ---- the beginning
 
@@ -86,13 +87,17 @@ module _ (s : RunSettings) (w : World) (p : Plan) where
   faulted olds news (fault.GaveUp stage phase task) first trapped stopped = stopped
   faulted olds news fault.Memory first trapped stopped = tt
 
-  pub bags_are : (t : Lists) → t ≡ lists w (split_of s) p
+  bags_same : ((c : PlanPlace) → bag_of (lists w (split_of s) p c) ≡ (plan_collection w p c).bag)
+      → (places : List PlanPlace) → map bag_of (map (lists w (split_of s) p) places)
+      ≡ map (λ c. (plan_collection w p c).bag) places
+  bags_same bags [] i = []
+  bags_same bags (c ∷ cs) i = bags c i ∷ bags_same bags cs i
+
+  pub bags_are : (t : Lists) (places : List PlanPlace)
+      → AgreeOn places t (lists w (split_of s) p)
       → ((c : PlanPlace) → bag_of (lists w (split_of s) p c) ≡ (plan_collection w p c).bag)
-      → (places : List PlanPlace)
       → map bag_of (map t places) ≡ map (λ c. (plan_collection w p c).bag) places
-  bags_are t same bags [] i = []
-  bags_are t same bags (c ∷ cs) i =
-      (ap (λ (all : Lists). bag_of (all c)) same ∙ bags c) i ∷ bags_are t same bags cs i
+  bags_are t places same bags = ap (map bag_of) same ∙ bags_same bags places
 
   pub counts_are : (nodes : ℕ) (sizes : List ℕ)
       → HaveGrown (size_of w (split_of s) p) (zeros nodes) sizes

@@ -2,7 +2,7 @@
 use Rattle.std.proofs.Common.{◌≡◌, ◌<◌, ◌≤◌, ◌+◌, ◌^◌, ℕ, zero, suc, List, [], ◌∷◌, ◌++◌, length, get_or, drop, slice_index, refl, sym, ap, ◌∙◌, subst, arith, add-one, length-append, append_assoc, append-nil}
 use Rattle.std.specs.List.{AllZip}
 use Rattle.std.proofs.lemmas.List.Sums.{sum_by-append}
-use Rattle.std.specs.Prelude.{sum}
+use Rattle.std.specs.Prelude.{map, sum}
 use Rattle.std.proofs.Math.Seq.{drop-cons}
 use Rattle.crew.proofs.Accounts.{gains_nothing}
 use Rattle.flume_value.specs.declared.value.Value.{Value}
@@ -27,7 +27,12 @@ use Rattle.task_lists.proofs.TypedResults.{table_typed}
 use Rattle.stage_phases.specs.Stages.{CanRunStage, run_world}
 use Rattle.stage_exec.specs.Executions.{split_of}
 use Rattle.stage_exec.specs.inner.Along.{Along, CanGoOn, counted_on, lists_after, phases_on}
+use Rattle.stage_exec.specs.inner.Reads.{AgreeOn, later_reads}
+use Rattle.stage_exec.proofs.Reading.{outputs_same, phases_from_same, tasks_from_same}
 use Rattle.stage_exec.proofs.Tables.{table_begins, table_grows}
+use Rattle.exec_plan.specs.declared.plan.PlanPlace.{PlanPlace}
+use Rattle.flume_types.specs.Typing.{AllHave}
+use Rattle.flume_types.specs.declared.types.Ty.{Ty}
 
 pub all_dropped : {X : Type 0} (xs : List X) (i : ℕ) → length xs ≤ i → drop i xs ≡ []
 all_dropped [] zero h = refl
@@ -43,14 +48,14 @@ sum_on : (xs ys : List ℕ) → sum (xs ++ ys) ≡ sum xs + sum ys
 sum_on xs ys = sum_by-append (λ n. n) xs ys
 
 module _ (s : RunSettings) (called : ℕ → Value → Called) (takes : ℕ → Value → Type 0)
-    (sources : List (List Value)) (stages : List Stage) where
+    (sources : List (List Value)) (stages : List Stage) (outputs : List PlanPlace) where
   abbrev World_ : World
   World_ = run_world called sources
 
   abbrev Stands : ℕ → List (List (List Value)) → List ℕ → List ℕ → List Account → List Account
       → List PhaseWinners → List PhaseWinners → Type 0
   Stands k results first sizes us vs before told =
-      Along s World_ takes stages sources k results first sizes us vs before told
+      Along s World_ takes stages outputs sources k results first sizes us vs before told
 
   pub along_none : (results : List (List (List Value))) (first : List ℕ) (us : List Account)
       (before : List PhaseWinners) → results ≡ [] → ((i : ℕ) → slice_index first i < 2 ^ 64)
@@ -62,7 +67,7 @@ module _ (s : RunSettings) (called : ℕ → Value → Called) (takes : ℕ → 
       record {
         count = ap length none;
         ready = subst (CanGoOn World_ takes 1 stages) (sym here) ready;
-        lists = ap (run_lists World_ (split_of s) 1 stages) here;
+        lists = ap (λ t. map (run_lists World_ (split_of s) 1 stages t) outputs) here;
         counted = λ i. 0;
         grown = grown_not first fits;
         counts = λ i.
@@ -172,9 +177,10 @@ module _ (s : RunSettings) (called : ℕ → Value → Called) (takes : ℕ → 
               (sym one)
               (subst (CanGoOn World_ takes (suc (suc k)) (drop (suc k) stages)) after ready_next);
           lists =
-              (λ j. run_lists World_ (split_of s) (suc (one j)) (drop (one j) stages)
-              (sym after j))
-              ∙ (ap (λ ss. run_lists World_ (split_of s) (suc k) ss Found) (sym left) ∙ a.lists);
+              (λ j. map (run_lists World_ (split_of s) (suc (one j)) (drop (one j) stages)
+              (sym after j)) outputs)
+              ∙ (ap (λ ss. map (run_lists World_ (split_of s) (suc k) ss Found) outputs)
+              (sym left) ∙ a.lists);
           counted = λ i. a.counted i
               + sum (stage_tasks (task_counts World_ i) World_ (split_of s) Found stage);
           grown = grown_then _ _ first sizes next a.grown grown;
@@ -214,6 +220,47 @@ module _ (s : RunSettings) (called : ℕ → Value → Called) (takes : ℕ → 
         (stopped_behind s.tries s.drill World_ a.ran here us vs ws e a.have_run.calm stopped
         a.grew grew))
 
+  -- what is read no more may be dropped
+  pub along_fewer : (k : ℕ) (results fewer : List (List (List Value))) (first sizes : List ℕ)
+      (us vs : List Account) (before told : List PhaseWinners) → length fewer ≡ length results
+      → AgreeOn (later_reads (drop k stages) outputs) (table sources fewer) (table sources results)
+      → ((type : Ty) (q : PlanPlace) → AllHave type (table sources results q)
+      → AllHave type (table sources fewer q))
+      → Stands k results first sizes us vs before told
+      → Stands k fewer first sizes us vs before told
+  along_fewer k results fewer first sizes us vs before told long agree typed a =
+      let r = a.ready in
+      let rest = drop k stages in
+      let t = table sources fewer in
+      let u = table sources results in
+      record {
+        count = long ∙ a.count;
+        ready = record {
+          signatures = r.signatures;
+          types = r.types;
+          sources = r.sources;
+          before = r.before;
+          world = r.world;
+          calls = r.calls;
+          lists = λ q. typed (r.types q) q (r.lists q);
+          typed = r.typed;
+          ok = r.ok;
+        };
+        lists = outputs_same World_ (split_of s) outputs (suc k) rest t u agree ∙ a.lists;
+        counted = a.counted;
+        grown = a.grown;
+        counts = λ i.
+            ap (λ l. a.counted i + sum l)
+            (tasks_from_same World_ (split_of s) outputs (task_counts World_ i) (suc k) rest t u
+            agree) ∙ a.counts i;
+        ran = a.ran;
+        have_run = a.have_run;
+        phases =
+            ap (λ l. a.ran ++ l)
+            (phases_from_same World_ (split_of s) outputs (suc k) rest t u agree) ∙ a.phases;
+        grew = a.grew;
+      }
+
   -- ---- the end
   module _ (k : ℕ) (results : List (List (List Value))) (first sizes : List ℕ)
       (us vs : List Account) (before told : List PhaseWinners)
@@ -221,9 +268,10 @@ module _ (s : RunSettings) (called : ℕ → Value → Called) (takes : ℕ → 
     none_left : drop k stages ≡ []
     none_left = all_dropped stages k end
 
-    pub end_lists : table sources results ≡ lists_after s World_ 1 stages (source_lists World_)
+    pub end_lists : AgreeOn outputs (table sources results)
+        (lists_after s World_ 1 stages (source_lists World_))
     end_lists =
-        ap (λ ss. run_lists World_ (split_of s) (suc k) ss (table sources results))
+        ap (λ ss. map (run_lists World_ (split_of s) (suc k) ss (table sources results)) outputs)
         (sym none_left)
         ∙ a.lists
 

@@ -10,7 +10,7 @@ ghost use Rattle.stage_exec.specs.Executions.{IsExecuted, IsRunFault, IsTypedRun
 ghost use Rattle.stage_phases.specs.Stages.{run_world};
 
 use crate::executed::Executed;
-use crate::flatten::lists_of;
+use crate::outputs::output_lists;
 use crate::stages::run_stages;
 use exec_plan::Plan;
 use flume_value::{Items, Pile};
@@ -71,8 +71,18 @@ pub fn execute<R: Threads + Sync, F: Functions + Sync, H: Host + Send>(
     let mut winners = Vec::new(alloc);
     let stages = plan.stages.as_slice();
     let counted = sizes.as_mut_slice();
-    let results = run_stages(rt, alloc, &inputs, stages, hosts, counted, &mut winners)?;
-    let outputs = lists_of(alloc, sources, &results, plan.outputs.as_slice())?;
+    let outputs = plan.outputs.as_slice();
+    let results = run_stages(
+        rt,
+        alloc,
+        &inputs,
+        stages,
+        outputs,
+        hosts,
+        counted,
+        &mut winners,
+    )?;
+    let outputs = output_lists(alloc, sources, results, outputs)?;
     Ok(Executed {
         outputs,
         counts: Pile::from_vec(sizes),

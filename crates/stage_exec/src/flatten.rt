@@ -1,10 +1,10 @@
-// The lists of collections, one after another or side by side.
-ghost use Rattle.std.specs.Prelude.{◌≡◌, ◌++◌, IfOk, OnOk, map};
+// The lists of collections, one after another.
+ghost use Rattle.std.specs.Prelude.{◌≡◌, ◌++◌, IfOk, OnOk};
 ghost use Rattle.std.specs.List.{flat_map};
 ghost use Rattle.map_shard.specs.Tables.{table};
 
 use exec_plan::PlanPlace;
-use flume_value::{Items, Pile, Value, copy_all};
+use flume_value::{Items, Pile, Value};
 use map_shard::list_of;
 use std::alloc::{AllocError, Global};
 
@@ -31,20 +31,4 @@ fn append_copies(alloc: Global, values: &[Value], all: &mut Vec<Value>) -> Resul
         all.push(value.copy(alloc)?)?;
     }
     Ok(())
-}
-
-/// The list of each of these collections.
-pub(crate) fn lists_of(
-    alloc: Global,
-    sources: &[Items],
-    results: &[Pile<Items>],
-    places: &[PlanPlace],
-) -> Result<Pile<Items>, AllocError>
-    ensures { IfOk result (λ lists. lists ≡ map (table sources.now results.now) places.now) }
-{
-    let mut lists = Vec::with_capacity(alloc, places.len())?;
-    for place in places {
-        lists.push(copy_all(alloc, list_of(sources, results, *place))?)?;
-    }
-    Ok(Pile::from_vec(lists))
 }

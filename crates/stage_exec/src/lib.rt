@@ -2,7 +2,8 @@
 //!
 //! `execute` runs the stages of a plan in order. Of a stage it runs the map tasks, and where the
 //! stage groups then the reduce tasks; what they give makes the results, which later stages read.
-//! A Flatten stage has no tasks. In the end it gives the outputs of the plan, how many members the
+//! A Flatten stage has no tasks. A result is dropped behind the last stage that reads it, unless it
+//! is an output. In the end it gives the outputs of the plan, how many members the
 //! bag of each script node has, and which attempt has won each task (`Executed`); or the first
 //! trap, or the task that was given up (`RunFault`).
 //!
@@ -10,12 +11,15 @@
 //! `IsRunFault`: specs/Executions.antt).
 #![tactic(auto)]
 
+mod dropping;
 mod executed;
 mod executing;
 mod flatten;
+mod outputs;
 mod phases;
 mod stage;
 mod stages;
+mod taking;
 
 pub use executed::Executed;
 pub use executing::execute;

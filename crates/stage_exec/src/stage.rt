@@ -174,6 +174,6 @@ fn mscr_lists(
 {
     let StageOuts { maps, reduces } = outs;
     add_map_counts(alloc, stage, shards, &maps, sizes)?;
-    let lists = stage_lists(alloc, stage, &maps, reduces, partitions, sizes)?;
+    let lists = stage_lists(alloc, stage, maps, reduces, partitions, sizes)?;
     Ok(Pile::from_vec(lists))
 }

@@ -5,12 +5,14 @@ ghost use Rattle.crew.specs.Hosts.{account, Grew};
 ghost use Rattle.map_shard.specs.Tables.{table};
 ghost use Rattle.plan_phases.specs.Told.{HaveRun, IsStopped};
 ghost use Rattle.stage_exec.specs.inner.Along.{CanGoOn, counted_on, lists_after, phases_on};
+ghost use Rattle.stage_exec.specs.inner.Reads.{AgreeOn};
 ghost use Rattle.stage_phases.specs.Stages.{run_world};
 ghost use Rattle.step_counts.specs.Sizes.{HaveGrown};
 ghost use Rattle.task_lists.specs.Lists.{source_lists};
 
+use crate::dropping::drop_read;
 use crate::stage::run_stage;
-use exec_plan::Stage;
+use exec_plan::{PlanPlace, Stage};
 use flume_value::{Items, Pile};
 use forest_steps::Functions;
 use outside::Host;
@@ -19,12 +21,13 @@ use stage_phases::Inputs;
 use std::alloc::{AllocError, Global};
 use std::thread::Threads;
 
-/// Runs stages in order, and gives the results of each.
+/// Runs stages in order, and gives the results of each that are read by outputs.
 pub(crate) fn run_stages<R: Threads + Sync, F: Functions + Sync, H: Host + Send>(
     rt: &R,
     alloc: Global,
     inputs: &Inputs<'_, F>,
     stages: &[Stage],
+    outputs: &[PlanPlace],
     hosts: &mut [H],
     sizes: &mut [u64],
     winners: &mut Vec<PhaseWinners>,
@@ -37,10 +40,11 @@ pub(crate) fn run_stages<R: Threads + Sync, F: Functions + Sync, H: Host + Send>
         (source_lists (run_world (F.called inputs.now.functions.now) inputs.now.sources.now)) }
     ensures grew { AllZip Grew
         (map (account H.notes H.losses) hosts.old) (map (account H.notes H.losses) hosts.new) }
-    ensures lists { IfOk result (λ results. table inputs.now.sources.now results.items
-        ≡ lists_after inputs.now.settings.now
+    ensures lists { IfOk result (λ results. AgreeOn outputs.now
+        (table inputs.now.sources.now results.items)
+        (lists_after inputs.now.settings.now
         (run_world (F.called inputs.now.functions.now) inputs.now.sources.now) 1 stages.now
-        (source_lists (run_world (F.called inputs.now.functions.now) inputs.now.sources.now))) }
+        (source_lists (run_world (F.called inputs.now.functions.now) inputs.now.sources.now)))) }
     ensures sizes { OnOk result (HaveGrown (counted_on inputs.now.settings.now
         (run_world (F.called inputs.now.functions.now) inputs.now.sources.now) 1 stages.now
         (source_lists (run_world (F.called inputs.now.functions.now) inputs.now.sources.now)))
@@ -76,6 +80,14 @@ pub(crate) fn run_stages<R: Threads + Sync, F: Functions + Sync, H: Host + Send>
             winners,
         )?;
         push_results(&mut results, lists)?;
+        drop_read(
+            alloc,
+            inputs.sources,
+            &mut results,
+            stage,
+            &stages[k + 1..],
+            outputs,
+        );
     }
     Ok(results)
 }

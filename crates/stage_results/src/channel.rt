@@ -1,7 +1,6 @@
 // The results of a grouping channel.
-ghost use Rattle.std.specs.Prelude.{◌≡◌, ◌<◌, ◌∷◌, ◌++◌, [], ◌+◌, ℕ, List, length, map, sum, IfOk, OnOk};
+ghost use Rattle.std.specs.Prelude.{◌≡◌, ◌<◌, ◌∷◌, ◌++◌, ◌+◌, ℕ, List, length, map, sum, IfOk, OnOk};
 ghost use Rattle.std.specs.Vec.Iter.{into_iter_items};
-ghost use Rattle.flume_value.specs.declared.value.Value.{Value as GhostValue};
 ghost use Rattle.shards.specs.Shards.{joined};
 ghost use Rattle.exec_graph.specs.World.{World};
 ghost use Rattle.exec_plan.specs.Channels.{numbers};
@@ -16,11 +15,11 @@ ghost use Rattle.task_lists.specs.Plans.{groups_count, steps_count, task_counts}
 ghost use Rattle.task_lists.specs.Tasks.{Lists, Task, reduce_task};
 ghost use Rattle.stage_results.specs.inner.Channels.{AreOutsOf, each_joined};
 
+use crate::joining::join_each;
 use exec_plan::Grouping;
-use flume_value::{Items, Pile};
+use flume_value::Items;
 use reduce_part::ReduceOut;
 use std::alloc::{AllocError, Global};
-use std::mem;
 use std::vec::IntoIter;
 use step_counts::{Owners, add_groups};
 
@@ -86,40 +85,4 @@ fn join_next(
             join_each(alloc, lists, out.outputs)
         }
     }
-}
-
-// Puts each list behind the one at its place.
-fn join_each(alloc: Global, lists: &mut Vec<Items>, more: Pile<Items>) -> Result<(), AllocError>
-    ensures { OnOk result (lists.new.items ≡ each_joined lists.old.items more) }
-{
-    let mut at = 0;
-    for list in more.into_vec() {
-        join_at(alloc, lists, at, list)?;
-        at += 1;
-    }
-    Ok(())
-}
-
-// Puts a list behind the one at this place, or behind all of them.
-fn join_at(alloc: Global, lists: &mut Vec<Items>, at: usize, list: Items) -> Result<(), AllocError>
-    ensures { (first next : List (List GhostValue)) → at ≡ length next →
-        lists.old.items ≡ each_joined first next →
-        OnOk result (lists.new.items ≡ each_joined first (next ++ list ∷ [])) }
-{
-    if at < lists.len() {
-        join(alloc, &mut lists[at], list)?;
-    } else {
-        lists.push(list)?;
-    }
-    Ok(())
-}
-
-// Moves the values of a list behind those of another.
-fn join(alloc: Global, list: &mut Items, more: Items) -> Result<(), AllocError>
-    ensures { OnOk result (list.new ≡ list.old ++ more) }
-{
-    let mut values = mem::replace(list, Pile::new(alloc)).into_vec();
-    values.append(&mut more.into_vec())?;
-    *list = Pile::from_vec(values);
-    Ok(())
 }

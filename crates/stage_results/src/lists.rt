@@ -1,12 +1,13 @@
 // The results of a stage.
-ghost use Rattle.std.specs.Prelude.{◌≡◌, ◌<◌, ◌∷◌, ◌++◌, [], ℕ, List, Some, slice_get, sum, IfOk, OnOk};
+ghost use Rattle.std.specs.Prelude.{◌≡◌, ◌<◌, ◌∷◌, ◌++◌, [], ℕ, List, Some, slice_get, drop, sum, IfOk, OnOk};
 ghost use Rattle.std.specs.Vec.Iter.{into_iter_items};
 ghost use Rattle.exec_graph.specs.World.{World};
 ghost use Rattle.exec_plan.specs.declared.plan.InChannel.{InChannel};
 ghost use Rattle.exec_plan.specs.declared.plan.Stage.TheVariants as stages;
 ghost use Rattle.map_shard.specs.Tables.{split};
 ghost use Rattle.reduce_part.specs.declared.out.ReduceOut.{ReduceOut as Out};
-ghost use Rattle.shuffle_parts.specs.Outs.{all_passed};
+ghost use Rattle.shuffle_parts.specs.declared.out.MapOut.{MapOut as GivenOut};
+ghost use Rattle.shuffle_parts.specs.Outs.{all_passed, or_none};
 ghost use Rattle.stage_phases.specs.Outs.{AreReduceOuts};
 ghost use Rattle.step_counts.specs.Sizes.{HaveGrown};
 ghost use Rattle.task_lists.specs.Lists.{given_lists, result_lists};
@@ -16,10 +17,11 @@ ghost use Rattle.task_lists.specs.Tasks.{Lists, reduce_phase};
 ghost use Rattle.stage_results.specs.inner.Channels.{AreOutsAt, channel_counts};
 
 use crate::channel::channel_lists;
+use crate::passed::passed_lists;
 use exec_plan::{Mscr, OutChannel};
 use flume_value::{Items, Pile};
 use reduce_part::ReduceOut;
-use shuffle_parts::{MapOut, gather_passed};
+use shuffle_parts::MapOut;
 use std::alloc::{AllocError, Global};
 use std::vec::IntoIter;
 use task_lists::outs_law;
@@ -29,39 +31,51 @@ use task_lists::outs_law;
 pub fn stage_lists(
     alloc: Global,
     stage: &Mscr,
-    maps: &[MapOut],
+    maps: Vec<MapOut>,
     reduces: Vec<ReduceOut>,
     partitions: u32,
     sizes: &mut [u64],
 ) -> Result<Vec<Items>, AllocError>
     requires some { 0 < partitions }
     ensures lists { (w : World) (shards : ℕ) (t : Lists) → 0 < shards →
-        AreMapOuts w (split shards partitions) t stage.now maps.now →
+        AreMapOuts w (split shards partitions) t stage.now maps.items →
         AreReduceOuts w (split shards partitions) t stage.now reduces.items →
         IfOk result (λ lists.
         lists.items ≡ result_lists w (split shards partitions) t (stages.Mscr stage.now)) }
     ensures grown { (w : World) (shards : ℕ) (t : Lists) → 0 < shards →
-        AreMapOuts w (split shards partitions) t stage.now maps.now →
+        AreMapOuts w (split shards partitions) t stage.now maps.items →
         AreReduceOuts w (split shards partitions) t stage.now reduces.items →
         OnOk result (HaveGrown (λ i.
         sum (reduce_phase (task_counts w i).reduces w (split shards partitions) t stage.now))
         sizes.old sizes.new) }
 {
+    let mut passed = passed_lists(alloc, maps)?.into_iter();
     let mut outs = reduces.into_iter();
     let mut lists = Vec::new(alloc);
-    for (r, channel) in stage.outputs.as_slice().iter().enumerate() {
-        let mut given = given_lists(alloc, channel, maps, r, partitions, &mut outs, sizes)?;
+    for channel in stage.outputs.as_slice() {
+        let here = next_list(alloc, &mut passed);
+        let mut given = given_lists(alloc, channel, here, partitions, &mut outs, sizes)?;
         lists.append(&mut given)?;
     }
     Ok(lists)
 }
 
-// The results of the output channel of that number, whose outs are the next.
+// The next list, where there is one.
+fn next_list(alloc: Global, lists: &mut IntoIter<Items>) -> Items
+    ensures next { result ≡ or_none (slice_get (into_iter_items lists.old) 0) }
+    ensures rest { into_iter_items lists.new ≡ drop 1 (into_iter_items lists.old) }
+{
+    match lists.next() {
+        Some(list) => list,
+        None => Pile::new(alloc),
+    }
+}
+
+// The results of an output channel, whose outs are the next, and through which these have passed.
 fn given_lists(
     alloc: Global,
     channel: &OutChannel,
-    maps: &[MapOut],
-    number: usize,
+    passed: Items,
     partitions: u32,
     outs: &mut IntoIter<ReduceOut>,
     sizes: &mut [u64],
@@ -71,11 +85,11 @@ fn given_lists(
         (here behind : List Out) → into_iter_items outs.old ≡ here ++ behind →
         AreOutsAt w (split shards partitions) t ins channel.now here →
         OnOk result (into_iter_items outs.new ≡ behind) }
-    ensures lists { (w : World) (shards : ℕ) (t : Lists) (s : Mscr) (here behind : List Out) →
-        into_iter_items outs.old ≡ here ++ behind →
+    ensures lists { (w : World) (shards : ℕ) (t : Lists) (s : Mscr) (maps : List GivenOut) (r : ℕ)
+        (here behind : List Out) → into_iter_items outs.old ≡ here ++ behind →
         AreOutsAt w (split shards partitions) t s.inputs channel.now here →
-        0 < shards → AreMapOuts w (split shards partitions) t s maps.now →
-        slice_get s.outputs number ≡ Some channel.now →
+        0 < shards → AreMapOuts w (split shards partitions) t s maps →
+        slice_get s.outputs r ≡ Some channel.now → passed ≡ all_passed maps r →
         IfOk result (λ lists.
         lists.items ≡ given_lists w (split shards partitions) t s.inputs channel.now) }
     ensures grown { (w : World) (shards : ℕ) (t : Lists) (ins : List InChannel)
@@ -87,16 +101,15 @@ fn given_lists(
 {
     outs_law();
     match channel {
-        OutChannel::Pass(_, _) => passed_lists(alloc, maps, number),
+        OutChannel::Pass(_, _) => one_list(alloc, passed),
         OutChannel::Group(grouping) => channel_lists(alloc, grouping, partitions, outs, sizes),
     }
 }
 
-// What passes through the channel of that number.
-fn passed_lists(alloc: Global, maps: &[MapOut], number: usize) -> Result<Vec<Items>, AllocError>
-    ensures { IfOk result (λ lists. lists.items ≡ all_passed maps.now number ∷ []) }
+fn one_list(alloc: Global, list: Items) -> Result<Vec<Items>, AllocError>
+    ensures { IfOk result (λ lists. lists.items ≡ list ∷ []) }
 {
     let mut lists = Vec::new(alloc);
-    lists.push(Pile::from_vec(gather_passed(alloc, maps, number)?))?;
+    lists.push(list)?;
     Ok(lists)
 }

@@ -23,6 +23,7 @@ use Rattle.task_lists.specs.Tasks.{Lists}
 use Rattle.task_lists.specs.Typing.{AreListsTyped}
 use Rattle.task_safety.specs.Taking.{Takes}
 use Rattle.stage_exec.specs.Executions.{split_of}
+use Rattle.stage_exec.specs.inner.Reads.{AgreeOn}
 
 -- the stages from number k on can be run, one after another, over the lists that they find
 pub record CanGoOn (w : World) (takes : ℕ → Value → Type 0) (k : ℕ) (stages : List Stage)
@@ -50,16 +51,17 @@ module _ (s : RunSettings) (w : World) where
   abbrev pub counted_on : ℕ → List Stage → Lists → ℕ → ℕ
   counted_on k stages t i = sum (tasks_from (task_counts w i) w (split_of s) k stages t)
 
-  -- Before the stages behind the first k: these results are there, the sizes and the winners of the
+  -- Before the stages behind the first k: results are there, of which those that were read for the
+  -- last time are dropped, the sizes and the winners of the
   -- stages before are told, and going on comes to what all stages come to.
   pub record Along (takes : ℕ → Value → Type 0) (stages : List Stage)
-      (sources : List (List Value)) (k : ℕ) (results : List (List (List Value)))
+      (outputs : List PlanPlace) (sources : List (List Value)) (k : ℕ) (results : List (List (List Value)))
       (first sizes : List ℕ) (olds news : List Account) (before told : List PhaseWinners)
       : Type 0 where
     pub count : length results ≡ k
     pub ready : CanGoOn w takes (suc k) (drop k stages) (table sources results)
-    pub lists : lists_after (suc k) (drop k stages) (table sources results)
-        ≡ lists_after 1 stages (source_lists w)
+    pub lists : AgreeOn outputs (lists_after (suc k) (drop k stages) (table sources results))
+        (lists_after 1 stages (source_lists w))
     pub counted : ℕ → ℕ
     pub grown : HaveGrown counted first sizes
     pub counts : (i : ℕ)

@@ -1,5 +1,5 @@
 -- The outs of reduce tasks, channel by channel.
-use Rattle.std.specs.Prelude.{◌≡◌, ℕ, ◌<◌, List, [], ◌∷◌, ◌++◌, length, slice_get}
+use Rattle.std.specs.Prelude.{◌≡◌, ℕ, ◌<◌, List, [], ◌∷◌, ◌++◌, length, map, Some, slice_get}
 use Rattle.std.specs.Option.{IsSomeAnd}
 use Rattle.flume_value.specs.declared.value.Value.{Value}
 use Rattle.shards.specs.Shards.{joined}
@@ -9,6 +9,8 @@ use Rattle.exec_plan.specs.declared.plan.InChannel.{InChannel}
 use Rattle.exec_plan.specs.declared.plan.OutChannel.{OutChannel}
 use Rattle.exec_plan.specs.declared.plan.OutChannel.TheVariants.{Group, Pass}
 use Rattle.reduce_part.specs.declared.out.ReduceOut.{ReduceOut}
+use Rattle.shuffle_parts.specs.Outs.{passed_in}
+use Rattle.shuffle_parts.specs.declared.out.Sent.{Sent}
 use Rattle.stage_phases.specs.Outs.{IsOutOf}
 use Rattle.task_lists.specs.Plans.{task_counts}
 use Rattle.task_lists.specs.Tasks.{Lists, Split, reduce_task}
@@ -18,6 +20,10 @@ abbrev pub each_joined : {A : Type 0} → List (List A) → List (List A) → Li
 each_joined [] ys = ys
 each_joined (x ∷ xs) [] = x ∷ xs
 each_joined (x ∷ xs) (y ∷ ys) = (x ++ y) ∷ each_joined xs ys
+
+-- what passes through each channel of what a map task gives them
+abbrev pub passed_by : List Sent → List (List Value)
+passed_by sent = map (λ s. passed_in (Some s)) sent
 
 -- the outs of the tasks of a grouping channel, in order of partitions
 pub record AreOutsOf (w : World) (n : Split) (t : Lists) (ins : List InChannel) (g : Grouping)

@@ -1,6 +1,6 @@
 use Rattle.std.proofs.Common.{◌≡◌, ◌++◌, length}
 use Rattle.stage_results.specs.inner.Channels.{each_joined}
-use Rattle.stage_results.proofs.channel.join_each.Given as goal
+use Rattle.stage_results.proofs.joining.join_each.Given as goal
 
 abbrev pub invariant-loop-list : goal.invariant-loop-list
 invariant-loop-list l = record {

@@ -1,6 +1,6 @@
 use Rattle.std.proofs.Common.{◌∙◌, refl, sym}
 use Rattle.stage_results.proofs.Joining.{none_joined}
-use Rattle.stage_results.proofs.channel.join_each.Goals as goal
+use Rattle.stage_results.proofs.joining.join_each.Goals as goal
 
 pub loop-list-init : goal.loop-list-init
 loop-list-init c = record {

@@ -1,0 +1,105 @@
+-- A result that is taken away leaves the others.
+use Rattle.std.proofs.Common.{◌≡◌, ◌<◌, ◌-◌, ◌==◌, ◌&&◌, ℕ, zero, suc, Bool, true, false, ◌||◌, cond, List, [], ◌∷◌, ◌++◌, map, length, Some, slice_get, ◌+◌, add-one, append_assoc, drop, get_or, take, refl, sym, ap, ◌∙◌, subst, arith}
+use Rattle.std.specs.Prelude.{slice_set}
+use Rattle.std.specs.List.{list_any}
+use Rattle.std.proofs.Math.Seq.{drop-cons}
+use Rattle.std.proofs.lemmas.List.{length-drop, take_all}
+use Rattle.flume_value.specs.declared.value.Value.{Value}
+use Rattle.flume_collection.specs.Calls.{or_none}
+use Rattle.exec_plan.specs.declared.plan.PlanPlace.{PlanPlace}
+use Rattle.exec_plan.specs.declared.plan.PlanPlace.TheVariants as at
+use Rattle.map_shard.specs.Tables.{results_or_none, table}
+use Rattle.stage_exec.specs.inner.Places.{is_same}
+
+-- ---- lists of others
+
+pub kept_lists : (f g : PlanPlace → List Value) (place : PlanPlace)
+    → ((q : PlanPlace) → is_same q place ≡ false → g q ≡ f q) → (qs : List PlanPlace)
+    → list_any (λ q. is_same q place) qs ≡ false → map g qs ≡ map f qs
+kept_lists f g place kept [] none = refl
+kept_lists f g place kept (q ∷ qs) none =
+    by (is_same q place) refl none (kept_lists f g place kept qs) where
+      by : (b : Bool) → is_same q place ≡ b → b || list_any (λ q. is_same q place) qs ≡ false
+          → (list_any (λ q. is_same q place) qs ≡ false → map g qs ≡ map f qs)
+          → map g (q ∷ qs) ≡ map f (q ∷ qs)
+      by true e none rest = absurd (cc)
+      by false e none rest = λ i. kept q e i ∷ rest none i
+
+-- what is behind a place is all that is left
+pub behind : {A : Type 0} (xs : List A) (n : ℕ) → take (length xs - n) (drop n xs) ≡ drop n xs
+behind xs n =
+    let long = length-drop n xs in take_all (length xs - n) (drop n xs) (omega (arith, long))
+
+-- the next output's list stands behind the others, and the lists of later outputs are as before
+pub outputs_more : (f g : PlanPlace → List Value) (outs : List PlanPlace) (k : ℕ)
+    (other : PlanPlace) (lists next whole : List (List Value)) (x : List Value)
+    → k < length outs → x ≡ f (get_or outs k other) → next ≡ lists ++ x ∷ []
+    → map g (take (length outs - (k + 1)) (drop (k + 1) outs))
+    ≡ map f (take (length outs - (k + 1)) (drop (k + 1) outs))
+    → lists ++ map f (drop k outs) ≡ whole → next ++ map g (drop (k + 1) outs) ≡ whole
+outputs_more f g outs k other lists next whole x below list push kept_there so_far =
+    let kept : map g (drop (k + 1) outs) ≡ map f (drop (k + 1) outs) =
+    subst (λ l. map g l ≡ map f l) (behind outs (k + 1)) kept_there in
+    let left : drop k outs ≡ get_or outs k other ∷ drop (k + 1) outs =
+    drop-cons outs k other below
+    ∙ ap (λ n. get_or outs k other ∷ drop n outs) (sym (add-one k)) in
+    (λ i. push i ++ kept i) ∙ append_assoc lists (x ∷ []) (map f (drop (k + 1) outs))
+    ∙ ap (λ v. lists ++ v ∷ map f (drop (k + 1) outs)) list
+    ∙ ap (λ l. lists ++ map f l) (sym left) ∙ so_far
+
+-- ---- a result that is taken away
+
+pub get_set_other : {A : Type 0} (xs : List A) (k n : ℕ) (x : A) → (n ≡ k → ⊥)
+    → slice_get (slice_set xs k x) n ≡ slice_get xs n
+get_set_other [] k n x h = refl
+get_set_other (y ∷ ys) zero zero x h = absurd (h refl)
+get_set_other (y ∷ ys) zero (suc n) x h = refl
+get_set_other (y ∷ ys) (suc k) zero x h = refl
+get_set_other (y ∷ ys) (suc k) (suc n) x h = get_set_other ys k n x (λ e. h (ap suc e))
+
+pub get_set_same : {A : Type 0} (xs : List A) (k : ℕ) (x : A) → k < length xs
+    → slice_get (slice_set xs k x) k ≡ Some x
+get_set_same [] k x h = absurd (omega arith)
+get_set_same (y ∷ ys) zero x h = refl
+get_set_same (y ∷ ys) (suc k) x h = get_set_same ys k x (omega arith)
+
+module _ (results : List (List (List Value))) (stage number : ℕ) (lists : List (List Value))
+    (some : 0 < stage) (below : stage - 1 < length results)
+    (kept : (n : ℕ) → (n ≡ number → ⊥) → or_none (slice_get lists n)
+    ≡ or_none (slice_get (results_or_none (slice_get results (stage - 1))) n)) where
+  abbrev member : List (List (List Value)) → ℕ → ℕ → List Value
+  member rs k n = or_none (slice_get (results_or_none (slice_get rs k)) n)
+
+  at_member : (k n : ℕ) → (k + 1 == stage) && (n == number) ≡ false
+      → member (slice_set results (stage - 1) lists) k n ≡ member results k n
+  at_member k n other =
+      elim (k + 1 == stage) as (λ b. (k + 1 == stage) ≡ b → b && (n == number) ≡ false
+      → member (slice_set results (stage - 1) lists) k n ≡ member results k n) [
+        | true ↦ λ e apart.
+            let same : k ≡ stage - 1 = grind (arith, e) in
+            let differ : n ≡ number → ⊥ = λ f. grind (arith, apart, f) in
+            ap (λ j. or_none (slice_get (results_or_none
+            (slice_get (slice_set results (stage - 1) lists) j)) n)) same
+            ∙ ap (λ o. or_none (slice_get (results_or_none o) n))
+            (get_set_same results (stage - 1) lists below)
+            ∙ kept n differ ∙ ap (λ j. member results j n) (sym same)
+        | false ↦ λ e apart.
+            let differ : k ≡ stage - 1 → ⊥ = λ f. grind (arith, e, f, some) in
+            ap (λ o. or_none (slice_get (results_or_none o) n))
+            (get_set_other results (stage - 1) k lists differ)
+      ] refl other
+
+  -- the lists once those of the stage are these, of which all but the one of that number are as
+  -- they were
+  pub others_kept : (sources : List (List Value)) (q : PlanPlace)
+      → is_same q (at.Result stage number) ≡ false
+      → table sources (slice_set results (stage - 1) lists) q ≡ table sources results q
+  others_kept sources (at.Source n) other = refl
+  others_kept sources (at.Result zero n) other = refl
+  others_kept sources (at.Result (suc k) n) other =
+      let one : suc k ≡ k + 1 = omega arith in
+      let less : suc k - 1 ≡ k = omega arith in
+      ap (cond (suc k == 0) [])
+      (ap (λ j. member (slice_set results (stage - 1) lists) j n) less
+      ∙ at_member k n (ap (λ j. (j == stage) && (n == number)) (sym one) ∙ other)
+      ∙ ap (λ j. member results j n) (sym less))

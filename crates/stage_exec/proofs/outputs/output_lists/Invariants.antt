@@ -1,0 +1,8 @@
+use Rattle.std.proofs.Common.{◌≡◌, ◌++◌, map, drop}
+use Rattle.map_shard.specs.Tables.{table}
+use Rattle.stage_exec.proofs.outputs.output_lists.Given as goal
+
+abbrev pub invariant-loop-k : goal.invariant-loop-k
+invariant-loop-k l =
+    l.lists.items ++ map (table l.sources l.results.items) (drop l.k l.outputs)
+    ≡ map (table l.sources l.fn.results.items) l.outputs

@@ -1,0 +1,122 @@
+// Results that are read no more are dropped.
+ghost use Rattle.std.specs.Prelude.{◌≡◌, length};
+ghost use Rattle.std.specs.List.{list_any};
+ghost use Rattle.flume_types.specs.Typing.{AllHave};
+ghost use Rattle.flume_types.specs.declared.types.Ty.{Ty as GhostTy};
+ghost use Rattle.exec_plan.specs.declared.plan.PlanPlace.{PlanPlace as GhostPlace};
+ghost use Rattle.map_shard.specs.Tables.{table};
+ghost use Rattle.stage_exec.specs.inner.Places as spec;
+ghost use Rattle.stage_exec.specs.inner.Reads.{AgreeOn, later_reads, reads_of};
+
+use crate::taking::{is_among, is_same, taken_result};
+use exec_plan::{InChannel, PlanPlace, Stage};
+use flume_value::{Items, Pile};
+use std::alloc::Global;
+
+/// Drops those results which a stage has read, and which no later stage and no output reads.
+pub(crate) fn drop_read(
+    alloc: Global,
+    sources: &[Items],
+    results: &mut Vec<Pile<Items>>,
+    stage: &Stage,
+    later: &[Stage],
+    outputs: &[PlanPlace],
+)
+    ensures others { AgreeOn (later_reads later.now outputs.now)
+        (table sources.now results.new.items) (table sources.now results.old.items) }
+    ensures typed { (type : GhostTy) (q : GhostPlace) →
+        AllHave type (table sources.now results.old.items q) →
+        AllHave type (table sources.now results.new.items q) }
+    ensures count { length results.new.items ≡ length results.old.items }
+{
+    match stage {
+        Stage::Mscr(stage) => {
+            drop_inputs(
+                alloc,
+                sources,
+                results,
+                stage.inputs.as_slice(),
+                later,
+                outputs,
+            );
+        }
+        Stage::Flatten(takes) => {
+            for place in takes.as_slice() {
+                drop_unread(alloc, sources, results, *place, later, outputs);
+            }
+        }
+    }
+}
+
+fn drop_inputs(
+    alloc: Global,
+    sources: &[Items],
+    results: &mut Vec<Pile<Items>>,
+    inputs: &[InChannel],
+    later: &[Stage],
+    outputs: &[PlanPlace],
+)
+    ensures others { AgreeOn (later_reads later.now outputs.now)
+        (table sources.now results.new.items) (table sources.now results.old.items) }
+    ensures typed { (type : GhostTy) (q : GhostPlace) →
+        AllHave type (table sources.now results.old.items q) →
+        AllHave type (table sources.now results.new.items q) }
+    ensures count { length results.new.items ≡ length results.old.items }
+{
+    for input in inputs {
+        drop_unread(alloc, sources, results, input.reads, later, outputs);
+    }
+}
+
+// Drops a result, where it is read no more.
+fn drop_unread(
+    alloc: Global,
+    sources: &[Items],
+    results: &mut Vec<Pile<Items>>,
+    place: PlanPlace,
+    later: &[Stage],
+    outputs: &[PlanPlace],
+)
+    ensures others { AgreeOn (later_reads later.now outputs.now)
+        (table sources.now results.new.items) (table sources.now results.old.items) }
+    ensures typed { (type : GhostTy) (q : GhostPlace) →
+        AllHave type (table sources.now results.old.items q) →
+        AllHave type (table sources.now results.new.items q) }
+    ensures count { length results.new.items ≡ length results.old.items }
+{
+    if is_read(later, outputs, place) {
+        return;
+    }
+    if let PlanPlace::Result { stage, number } = place {
+        taken_result(alloc, sources, results, stage, number);
+    }
+}
+
+// Whether one of these stages reads a collection, or it is an output.
+fn is_read(later: &[Stage], outputs: &[PlanPlace], place: PlanPlace) -> bool
+    ensures { result ≡ list_any (λ q. spec.is_same q place) (later_reads later.now outputs.now) }
+{
+    any_reads(later, place) || is_among(outputs, place)
+}
+
+fn any_reads(stages: &[Stage], place: PlanPlace) -> bool
+    ensures { result
+        ≡ list_any (λ s. list_any (λ q. spec.is_same q place) (reads_of s)) stages.now }
+{
+    stages.iter().any(|stage| reads(stage, place))
+}
+
+fn reads(stage: &Stage, place: PlanPlace) -> bool
+    ensures { result ≡ list_any (λ q. spec.is_same q place) (reads_of stage.now) }
+{
+    match stage {
+        Stage::Mscr(stage) => has_input(stage.inputs.as_slice(), place),
+        Stage::Flatten(takes) => is_among(takes.as_slice(), place),
+    }
+}
+
+fn has_input(inputs: &[InChannel], place: PlanPlace) -> bool
+    ensures { result ≡ list_any (λ c. spec.is_same c.reads place) inputs.now }
+{
+    inputs.iter().any(|input| is_same(input.reads, place))
+}

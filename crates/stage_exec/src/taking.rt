@@ -1,0 +1,78 @@
+// Results that are taken away. The others stay.
+ghost use Rattle.std.specs.Prelude.{◌≡◌, ℕ, [], false, length, slice_get};
+ghost use Rattle.std.specs.List.{list_any};
+ghost use Rattle.flume_collection.specs.Calls.{or_none};
+ghost use Rattle.flume_types.specs.Typing.{AllHave};
+ghost use Rattle.flume_types.specs.declared.types.Ty.{Ty as GhostTy};
+ghost use Rattle.exec_plan.specs.declared.plan.PlanPlace.{PlanPlace as GhostPlace};
+ghost use Rattle.exec_plan.specs.declared.plan.PlanPlace.TheVariants.{Result as AtResult};
+ghost use Rattle.map_shard.specs.Tables.{table};
+ghost use Rattle.stage_exec.specs.inner.Places as spec;
+
+use exec_plan::PlanPlace;
+use flume_value::{Items, Pile};
+use std::alloc::Global;
+use std::mem;
+
+/// Whether a collection is one of these.
+pub(crate) fn is_among(places: &[PlanPlace], place: PlanPlace) -> bool
+    ensures { result ≡ list_any (λ q. spec.is_same q place) places.now }
+{
+    places.iter().any(|other| is_same(*other, place))
+}
+
+/// Whether two collections are one.
+pub(crate) fn is_same(one: PlanPlace, other: PlanPlace) -> bool
+    ensures { result ≡ spec.is_same one other }
+{
+    match (one, other) {
+        (PlanPlace::Source(one), PlanPlace::Source(other)) => one == other,
+        (
+            PlanPlace::Result { stage, number },
+            PlanPlace::Result {
+                stage: other_stage,
+                number: other_number,
+            },
+        ) => stage == other_stage && number == other_number,
+        _ => false,
+    }
+}
+
+/// Takes a result of a stage away, and gives its list. What has a type keeps it.
+pub(crate) fn taken_result(
+    alloc: Global,
+    _sources: &[Items],
+    results: &mut Vec<Pile<Items>>,
+    stage: u32,
+    number: u32,
+) -> Items
+    ensures list { result ≡ table _sources.now results.old.items (AtResult stage number) }
+    ensures others { (q : GhostPlace) → spec.is_same q (AtResult stage number) ≡ false →
+        table _sources.now results.new.items q ≡ table _sources.now results.old.items q }
+    ensures typed { (type : GhostTy) (q : GhostPlace) →
+        AllHave type (table _sources.now results.old.items q) →
+        AllHave type (table _sources.now results.new.items q) }
+    ensures count { length results.new.items ≡ length results.old.items }
+{
+    let at = stage as usize;
+    if at == 0 || at > results.len() {
+        return Pile::new(alloc);
+    }
+    taken_member(alloc, &mut results[at - 1], number as usize)
+}
+
+fn taken_member(alloc: Global, lists: &mut Pile<Items>, number: usize) -> Items
+    ensures list { result ≡ or_none (slice_get lists.old number) }
+    ensures none { or_none (slice_get lists.new number) ≡ [] }
+    ensures others { (n : ℕ) → (n ≡ number → ⊥) →
+        or_none (slice_get lists.new n) ≡ or_none (slice_get lists.old n) }
+{
+    let mut members = mem::replace(lists, Pile::new(alloc)).into_vec();
+    let list = if number < members.len() {
+        mem::replace(&mut members[number], Pile::new(alloc))
+    } else {
+        Pile::new(alloc)
+    };
+    *lists = Pile::from_vec(members);
+    list
+}
