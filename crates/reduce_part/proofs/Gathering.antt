@@ -1,6 +1,6 @@
 -- What is gathered of a partition of a grouping channel.
 use Rattle.std.proofs.Common.{◌≡◌, ◌/◌, ◌%◌, ℕ, List, length, Option, Some, None, sym, ap, ◌∙◌, subst}
-use Rattle.std.specs.Prelude.{IfOk, Result, Ok, Err}
+use Rattle.std.specs.Prelude.{All, IfOk, Result, Ok, Err}
 use Rattle.std.specs.List.{AllByRecursion}
 use Rattle.std.specs.Option.{option_map_or}
 use Rattle.flume_value.specs.declared.value.Value.{Value}
@@ -10,7 +10,7 @@ use Rattle.bag_groups.specs.Groups.{grouped}
 use Rattle.bag_groups.specs.Pairs.{pairs_of}
 use Rattle.combine_table.specs.declared.comb.Comb.{Comb}
 use Rattle.partial_tables.specs.Merges.{StandFor, merged_by_key}
-use Rattle.partial_tables.specs.Tables.{Pairs}
+use Rattle.partial_tables.specs.Tables.{IsPartialOf, Pairs}
 use Rattle.shuffle_parts.specs.declared.out.MapOut.{MapOut}
 use Rattle.shuffle_parts.specs.Outs.{all_partials}
 use Rattle.crew.specs.declared.attempts.Attempt.{Attempt}
@@ -18,6 +18,7 @@ use Rattle.crew.specs.declared.attempts.Attempt.TheVariants.{Made, Down}
 use Rattle.crew.specs.Attempts.{IsMadeOf}
 use Rattle.exec_graph.specs.Calls.{called}
 use Rattle.exec_graph.specs.Forests.{Forest}
+use Rattle.exec_graph.specs.World.{World}
 use Rattle.exec_graph.specs.declared.step.Does.TheVariants as does
 use Rattle.exec_plan.specs.declared.plan.Grouping.{Grouping}
 use Rattle.forest_steps.specs.Functions.{world_of}
@@ -48,38 +49,49 @@ places_gathered r k g pairs at is =
     ∙ count_is g.lifted r.outs (k / r.partitions) (k % r.partitions) pairs is
 
 -- ---- of a lifted channel
+stand : (outs : List MapOut) (r p : ℕ) (g : Grouping) (c : Comb) → g.lifted ≡ Some c
+    → (pairs : List Value) → IsGathered g.lifted outs r p pairs
+    → StandFor c (all_partials outs r p) (pairs_of pairs)
+stand outs r p g c lifted pairs gathered =
+    subst (λ (l : Option Comb). IsGathered l outs r p pairs) lifted gathered
+
+pub shape_gathered : (w : World) (takes : ℕ → Value → Type 0) (outs : List MapOut) (r p : ℕ)
+    (g : Grouping) (c : Comb) → g.lifted ≡ Some c → IsReducible w takes outs r p g
+    → All (IsPartialOf c) (all_partials outs r p)
+shape_gathered w takes outs r p g c lifted ready =
+    (stand outs r p g c lifted ready.pairs ready.gathered).shape
+
 module _ (called : ℕ → Value → Called) (outs : List MapOut) (r p : ℕ) (g : Grouping) (c : Comb)
-    (f : Forest) (partials : Pairs) (lifted : g.lifted ≡ Some c) (does : g.does ≡ Some f)
-    (all : partials ≡ all_partials outs r p) where
-  stand : (pairs : List Value) → IsGathered g.lifted outs r p pairs
-      → StandFor c partials (pairs_of pairs)
-  stand pairs gathered =
-      subst (λ (ps : Pairs). StandFor c ps (pairs_of pairs)) (sym all)
-      (subst (λ (l : Option Comb). IsGathered l outs r p pairs) lifted gathered)
+    (f : Forest) (merged : Pairs) (lifted : g.lifted ≡ Some c) (does : g.does ≡ Some f)
+    (all : merged ≡ merged_by_key c (all_partials outs r p)) where
+  answers_for : (pairs : List Value) → IsGathered g.lifted outs r p pairs
+      → AnswerFor (world_of called) c merged (grouped pairs)
+  answers_for pairs gathered =
+      subst (λ (ps : Pairs). AnswerFor (world_of called) c ps (grouped pairs)) (sym all)
+      (merged_answers (world_of called) c (all_partials outs r p) pairs
+      (stand outs r p g c lifted pairs gathered))
 
   pub can_run : (takes : ℕ → Value → Type 0) → IsReducible (world_of called) takes outs r p g
-      → CanRun (world_of called) takes c f (merged_by_key c partials)
+      → CanRun (world_of called) takes c f merged
   can_run takes ready = record {
     groups = grouped ready.pairs;
-    answers = merged_answers (world_of called) c partials ready.pairs
-        (stand ready.pairs ready.gathered);
+    answers = answers_for ready.pairs ready.gathered;
     safe = subst (λ (d : Option Forest).
         AllByRecursion (SafeOf (world_of called) takes d) (grouped ready.pairs)) does ready.safe;
   }
 
   reduced_from : (out : Result ReduceOut Trap)
-      → ((groups : List Value) → AnswerFor (world_of called) c (merged_by_key c partials) groups
+      → ((groups : List Value) → AnswerFor (world_of called) c merged groups
       → IsValueOf called (Some f) groups out)
       → IsReducedFrom called outs r p g out
   reduced_from out is w pairs alike gathered =
       subst (λ (d : Option Forest).
       IsReduceValue w (record { elements = grouped pairs; does = d }) out) (sym does)
-      (is (grouped pairs)
-      (merged_answers (world_of called) c partials pairs (stand pairs gathered)) w alike)
+      (is (grouped pairs) (answers_for pairs gathered) w alike)
 
   pub all_reduced : {E : Type 0} (a : Result (Attempt (Result ReduceOut Trap)) E)
       → IfOk a (IsMadeOf (λ out. (groups : List Value)
-      → AnswerFor (world_of called) c (merged_by_key c partials) groups
+      → AnswerFor (world_of called) c merged groups
       → IsValueOf called (Some f) groups out))
       → IfOk a (IsMadeOf (IsReducedFrom called outs r p g))
   all_reduced (Ok (Made out)) is = reduced_from out is
