@@ -1,6 +1,7 @@
 -- What is gathered of a partition of a grouping channel.
-use Rattle.std.proofs.Common.{◌≡◌, ◌/◌, ◌%◌, ℕ, List, length, Option, Some, None, sym, ap, ◌∙◌, subst}
+use Rattle.std.proofs.Common.{◌≡◌, ◌/◌, ◌%◌, ℕ, List, length, map, Option, Some, None, sym, ap, ◌∙◌, subst}
 use Rattle.std.specs.Prelude.{All, IfOk, Result, Ok, Err}
+use Rattle.std.specs.Borrow.{Bor}
 use Rattle.std.specs.List.{AllByRecursion}
 use Rattle.std.specs.Option.{option_map_or}
 use Rattle.flume_value.specs.declared.value.Value.{Value}
@@ -12,6 +13,7 @@ use Rattle.combine_table.specs.declared.comb.Comb.{Comb}
 use Rattle.partial_tables.specs.Merges.{StandFor, merged_by_key}
 use Rattle.partial_tables.specs.Tables.{IsPartialOf, Pairs}
 use Rattle.shuffle_parts.specs.declared.out.MapOut.{MapOut}
+use Rattle.shuffle_parts.proofs.Borrowed.{all_back}
 use Rattle.shuffle_parts.specs.Outs.{all_partials}
 use Rattle.crew.specs.declared.attempts.Attempt.{Attempt}
 use Rattle.crew.specs.declared.attempts.Attempt.TheVariants.{Made, Down}
@@ -28,6 +30,7 @@ use Rattle.lifted_root.proofs.Groups.{any_world, merged_answers, same_length}
 use Rattle.reduce_part.specs.Reducing.{IsGathered, IsReducedFrom, IsReducible, IsReduceValue, Reducing, channel_at, group_count, reducing_places}
 use Rattle.reduce_part.specs.inner.Merged.{AnswerFor, CanRun, IsValueOf}
 use Rattle.reduce_part.specs.declared.out.ReduceOut.{ReduceOut}
+use Rattle.reduce_part.proofs.Merging.{merged_shape}
 
 -- as many groups are gathered as whichever pairs are gathered have
 pub count_is : (lifted : Option Comb) (outs : List MapOut) (r p : ℕ) (pairs : List Value)
@@ -60,6 +63,19 @@ pub shape_gathered : (w : World) (takes : ℕ → Value → Type 0) (outs : List
     → All (IsPartialOf c) (all_partials outs r p)
 shape_gathered w takes outs r p g c lifted ready =
     (stand outs r p g c lifted ready.pairs ready.gathered).shape
+
+-- what refers to accumulators of a shape
+pub referred_shape : (c : Comb) (refs : List (Bor (Value × Value))) (partials : Pairs)
+    → map (λ (p : Bor (Value × Value)). p.now) refs ≡ partials → All (IsPartialOf c) partials
+    → All (λ (p : Bor (Value × Value)). IsPartialOf c p.now) refs
+referred_shape c refs partials e all =
+    all_back (λ (p : Bor (Value × Value)). p.now) (IsPartialOf c) refs
+    (subst (All (IsPartialOf c)) (sym e) all)
+
+pub merged_has_shape : (c : Comb) (partials merged : Pairs) → merged ≡ merged_by_key c partials
+    → All (IsPartialOf c) merged
+merged_has_shape c partials merged e =
+    subst (All (IsPartialOf c)) (sym e) (merged_shape c partials)
 
 module _ (called : ℕ → Value → Called) (outs : List MapOut) (r p : ℕ) (g : Grouping) (c : Comb)
     (f : Forest) (merged : Pairs) (lifted : g.lifted ≡ Some c) (does : g.does ≡ Some f)

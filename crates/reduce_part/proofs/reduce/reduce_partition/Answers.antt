@@ -1,10 +1,6 @@
-use Rattle.std.proofs.Common.{sym, subst}
-use Rattle.std.specs.Prelude.{All}
-use Rattle.partial_tables.specs.Tables.{IsPartialOf}
 use Rattle.shuffle_parts.specs.Outs.{all_partials}
 use Rattle.forest_steps.specs.Functions.{world_of}
-use Rattle.reduce_part.proofs.Gathering.{all_reduced, can_run, shape_gathered}
-use Rattle.reduce_part.proofs.Merging.{merged_shape}
+use Rattle.reduce_part.proofs.Gathering.{all_reduced, can_run, merged_has_shape, shape_gathered}
 use Rattle.reduce_part.proofs.reduce.reduce_partition.Goals as goal
 
 pub merge_gathered-requires : goal.merge_gathered-requires
@@ -15,9 +11,9 @@ merge_gathered-requires g c =
 
 pub reduce_merged-requires-clause-shape : goal.reduce_merged-requires-clause-shape
 reduce_merged-requires-clause-shape g c =
-    let it = c.in-Some-Some in
-    subst (All (IsPartialOf it.comb)) (sym c.in_ok-merged-in-Some-Some.ensures)
-    (merged_shape it.comb (all_partials c.args.outs.now c.args.channel c.args.partition))
+    merged_has_shape c.in-Some-Some.comb
+    (all_partials c.args.outs.now c.args.channel c.args.partition)
+    c.in_ok-merged-in-Some-Some.merged.items c.in_ok-merged-in-Some-Some.ensures
 
 pub reduce_merged-requires-clause-ready : goal.reduce_merged-requires-clause-ready
 reduce_merged-requires-clause-ready g c =
