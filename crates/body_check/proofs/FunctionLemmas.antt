@@ -11,7 +11,7 @@ use Rattle.dofn_eval.specs.declared.stmt.Stmt.{Stmt}
 use Rattle.dofn_eval.specs.Run.{means as slots_mean}
 use Rattle.dofn_eval.specs.Typed.{BlockTyped}
 use Rattle.dofn_eval.specs.Answer.{HasAnswer}
-use Rattle.dofn_eval.proofs.Sound.{answered_call}
+use Rattle.dofn_eval.proofs.SoundCalls.{answered_call}
 use Rattle.type_table.specs.Table.{type_at}
 use Rattle.written_types.specs.Answer.{Checked, ◌>>=◌, Gives}
 use Rattle.written_types.specs.Named.{Named}

@@ -18,6 +18,7 @@ mod laws;
 mod lists;
 mod operand;
 mod parts;
+mod passing;
 mod scope;
 mod statements;
 mod stmt;

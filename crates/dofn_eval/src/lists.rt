@@ -1,13 +1,15 @@
-ghost use Rattle.std.specs.Prelude.{◌≡◌, ◌≤◌, [], ◌∷◌, length, slice_get, replicate, Some};
-ghost use Rattle.std.specs.Prelude.{IfOk};
+ghost use Rattle.std.specs.Prelude.{◌≡◌, ◌≤◌, [], ◌∷◌, ◌++◌, length, slice_get, replicate, Some};
+ghost use Rattle.std.specs.Prelude.{IfOk, IfErr};
 ghost use Rattle.std.specs.Option.{option_copied};
 ghost use Rattle.dofn_eval.specs.Outcome.{IsSafe};
 ghost use Rattle.dofn_eval.specs.Run.{emitted_to};
 ghost use Rattle.dofn_eval.specs.inner.Evaluates.{Evaluates};
+ghost use Rattle.dofn_eval.specs.inner.Passing.{all_emitted_to};
 
 use flume_value::{CallFault, Items, Pile, Value};
 use std::alloc::{AllocError, Global};
 use std::marker::Model;
+use std::mem::replace;
 
 /// What a call emits: a list for each output of the function, of which there is at least one.
 /// Contracts see it as these lists.
@@ -59,6 +61,23 @@ impl Lists {
         Ok(())
     }
 
+    /// Emits values to the output of this number, one behind the other.
+    pub(crate) fn emit_all(
+        &mut self,
+        alloc: Global,
+        output: usize,
+        values: Vec<Value>,
+    ) -> Result<(), CallFault>
+        requires { IsSafe (all_emitted_to output values.items self.old) }
+        ensures { Evaluates (λ _. self.new) result (all_emitted_to output values.items self.old) }
+    {
+        if output == 0 {
+            put_behind(alloc, &mut self.first, values)
+        } else {
+            put_behind(alloc, &mut self.others[output - 1], values)
+        }
+    }
+
     /// How many outputs there are.
     pub fn len(&self) -> usize
         ensures { result ≡ length self.now }
@@ -101,4 +120,20 @@ impl Lists {
         let Lists { first, others } = self;
         (first, others)
     }
+}
+
+// Puts values behind those of a list. One that is empty takes them over, with no memory more.
+fn put_behind(alloc: Global, list: &mut Items, values: Vec<Value>) -> Result<(), CallFault>
+    ensures ok { IfOk result (λ _. list.new ≡ list.old ++ values.items) }
+    ensures err { IfErr result (λ fault. fault ≡ CallFault.Memory) }
+{
+    if list.is_empty() {
+        *list = Pile::from_vec(values);
+        return Ok(());
+    }
+    let mut all = replace(list, Pile::new(alloc)).into_vec();
+    let mut more = values;
+    all.append(&mut more)?;
+    *list = Pile::from_vec(all);
+    Ok(())
 }

@@ -1,5 +1,6 @@
 // Scripts that are checked: no input is read, and no file is written.
-use crate::commands::{Left, check_command};
+use crate::commands::check_command;
+use crate::worlds::Left;
 use std::test::Fail;
 
 #[test]

@@ -1,5 +1,6 @@
 // Scripts of the whole language, by their direct meaning. Expected files were written by hand.
-use crate::commands::{Left, Named, check_command};
+use crate::commands::check_command;
+use crate::worlds::{Left, Named};
 use std::test::Fail;
 
 const FLATTEN: &[u8] = b"type r = {n: int}\n\

@@ -1,7 +1,10 @@
 // Each call of the outside fails in turn: a run is tried again, or answers for the file or the
 // screen.
-use crate::calls::{CALM, Failing, Given, Left, RUN, check, text_of};
+use crate::calls::{Given, Left, RUN, check, text_of};
+use crate::hosts::CALM_HOST;
+use crate::scripts::TWO_READERS;
 use crate::words::{SCRIPT, SHOWN};
+use crate::worlds::{self, CALM, Failing, Named, check_on};
 use outside::Fail;
 use std::alloc::Global;
 use std::process::Abort;
@@ -69,6 +72,38 @@ fn source_fails_twice(rt: HostRuntime) -> Result<(), TestFail> {
             };
             fails(&rt, alloc, both, 6, None, line)?;
         }
+    }
+    Ok(())
+}
+
+// Two files: the first is whole where the second fails, and neither is begun before both are known.
+#[test]
+fn second_file_fails(rt: HostRuntime) -> Result<(), TestFail> {
+    let alloc = rt.alloc();
+    let given = worlds::Given {
+        script: Some(TWO_READERS.script),
+        inputs: &[("in.csv", b"k,v\n1,5\n1,6\n2,7\n")],
+    };
+    let one: Named = ("s.csv", b"key,value\n1,11\n2,7\n");
+    let two: Named = ("m.csv", b"key,value\n1,2\n2,1\n");
+    let table: [((u32, u32), &[Named], &[u8]); 5] = [
+        ((0, 0), &[], b"write fault: \"s.csv\"\n"),
+        ((0, 1), &[("s.csv", b"")], b"write fault: \"s.csv\"\n"),
+        ((1, 0), &[one], b"write fault: \"m.csv\"\n"),
+        ((1, 1), &[one, ("m.csv", b"")], b"write fault: \"m.csv\"\n"),
+        ((1, 2), &[one, two], b"write fault: \"m.csv\"\n"),
+    ];
+    for ((begun, call), files, screen) in table {
+        let failing = Failing {
+            shelf: Some(Fail { begun, call }),
+            ..CALM
+        };
+        let left = worlds::Left {
+            code: 7,
+            files,
+            screen,
+        };
+        check_on(&rt, alloc, &RUN, given, failing, &mut [CALM_HOST; 16], left)?;
     }
     Ok(())
 }

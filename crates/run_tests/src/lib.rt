@@ -1,4 +1,7 @@
-//! Worked calls of `flume` over the forms in memory, as tables.
+//! Worked calls of `flume` over the forms in memory, as tables: all files, the screen and the exit
+//! status that a call leaves. `worlds` makes the call, on the hosts of `hosts`; `calls` and
+//! `commands` are its shorter forms. All tests have one type of host, since the whole program is
+//! made once for each.
 #![tactic(auto)]
 
 #[cfg(test)]
@@ -12,7 +15,13 @@ mod commands;
 #[cfg(test)]
 mod direct;
 #[cfg(test)]
+mod doublings;
+#[cfg(test)]
 mod faults;
+#[cfg(test)]
+mod hosts;
+#[cfg(test)]
+mod plan_rows;
 #[cfg(test)]
 mod plans;
 #[cfg(test)]
@@ -20,6 +29,16 @@ mod refusals;
 #[cfg(test)]
 mod rows;
 #[cfg(test)]
+mod scripts;
+#[cfg(test)]
+mod settings;
+#[cfg(test)]
+mod stops;
+#[cfg(test)]
 mod sums;
 #[cfg(test)]
 mod words;
+#[cfg(test)]
+mod worked;
+#[cfg(test)]
+mod worlds;

@@ -1,5 +1,6 @@
 // The execution graphs and plans of scripts: no input is read, and no file is written.
-use crate::commands::{Left, check_command, check_words};
+use crate::commands::{check_command, check_words};
+use crate::worlds::Left;
 use std::test::Fail;
 
 #[test]

@@ -1,6 +1,7 @@
 // Words, scripts and inputs that are refused, each with its exit status and its line.
-use crate::calls::{CALM, Given, Left, RUN, check, check_refused, check_run, text_of};
+use crate::calls::{Given, Left, RUN, check, check_refused, check_run, text_of};
 use crate::words::{SCRIPT, SHOWN};
+use crate::worlds::CALM;
 use std::test::Fail;
 
 const USAGE: &[u8] =

@@ -1,5 +1,6 @@
 // Runs with groups and their sums, and the traps of sums. Expected files were written by hand.
-use crate::calls::{CALM, Failing, Given, Left, RUN, check, check_refused, check_run, text_of};
+use crate::calls::{Given, Left, RUN, check, check_refused, check_run, text_of};
+use crate::worlds::{CALM, Failing};
 use std::test::Fail;
 
 const SUMS: &[u8] = b"type r = {k: int, v: int}\n\

@@ -1,7 +1,7 @@
 use Rattle.std.proofs.Common.{[], ◌∷◌, replicate, sym, ap, ◌∙◌, subst}
 use Rattle.dofn_eval.specs.Outcome.{IsSafe}
 use Rattle.dofn_eval.specs.Run.{run}
-use Rattle.dofn_eval.proofs.Sound.{safe_call, typed_call}
+use Rattle.dofn_eval.proofs.SoundCalls.{safe_call, typed_call}
 use Rattle.dofn_eval.proofs.calls.call.Goals as goal
 
 pub run_block-requires : goal.run_block-requires

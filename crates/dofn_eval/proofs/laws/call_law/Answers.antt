@@ -1,4 +1,4 @@
-use Rattle.dofn_eval.proofs.Sound.{answered_call}
+use Rattle.dofn_eval.proofs.SoundCalls.{answered_call}
 use Rattle.dofn_eval.proofs.laws.call_law.Goals as goal
 
 pub returns : goal.returns

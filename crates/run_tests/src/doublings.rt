@@ -1,0 +1,105 @@
+// Thirteen doublings: each flattens a collection with itself, and passes it through a function.
+use crate::calls::text_of;
+use crate::hosts::CALM_HOST;
+use crate::worlds::{CALM, Given, Left, called, check_on};
+use std::alloc::{AllocError, Global};
+use std::test::Fail;
+
+const HEAD: &[u8] = b"type r = {x: int}
+input a: r from \"in.csv\"
+fn same(y: r) -> r { emit y }
+";
+
+const NAMES: [&[u8]; 14] = [
+    b"a", b"b", b"c", b"d", b"e", b"f", b"g", b"h", b"i", b"j", b"k", b"l", b"m", b"n",
+];
+
+const SIZES: [&[u8]; 13] = [
+    b"2", b"4", b"8", b"16", b"32", b"64", b"128", b"256", b"512", b"1024", b"2048", b"4096",
+    b"8192",
+];
+
+fn script(alloc: Global) -> Result<Vec<u8>, AllocError> {
+    let mut text = Vec::from_slice(alloc, HEAD)?;
+    for k in 0..13 {
+        for part in [
+            b"let two",
+            NAMES[k + 1],
+            b" = flatten ",
+            NAMES[k],
+            b", ",
+            NAMES[k],
+            b"\nlet ",
+            NAMES[k + 1],
+            b" = do two",
+            NAMES[k + 1],
+            b" same\n",
+        ] {
+            text.extend_from_slice(part)?;
+        }
+    }
+    text.extend_from_slice(b"output n to \"out.csv\"\n")?;
+    Ok(text)
+}
+
+// The lines of sizes: one for the input, and two for each doubling.
+fn sizes(alloc: Global) -> Result<Vec<u8>, AllocError> {
+    let mut text = Vec::from_slice(alloc, b"size a 1\n")?;
+    for k in 0..13 {
+        for part in [
+            b"size two",
+            NAMES[k + 1],
+            b" ",
+            SIZES[k],
+            b"\nsize ",
+            NAMES[k + 1],
+            b" ",
+            SIZES[k],
+            b"\n",
+        ] {
+            text.extend_from_slice(part)?;
+        }
+    }
+    Ok(text)
+}
+
+fn rows(alloc: Global) -> Result<Vec<u8>, AllocError> {
+    let mut file = Vec::from_slice(alloc, b"x\n")?;
+    for _ in 0..8192 {
+        file.extend_from_slice(b"7\n")?;
+    }
+    Ok(file)
+}
+
+// How many stages the text of a plan tells.
+fn stage_count(text: &[u8]) -> usize {
+    text.split(|b| *b == b'\n')
+        .filter(|line| line.starts_with(b"stage "))
+        .count()
+}
+
+// Sinking the flattens would make too many nodes of the last three, so these are stages. What is
+// run is what was planned.
+#[test]
+fn seven_stages(rt: HostRuntime) -> Result<(), Fail> {
+    let alloc = rt.alloc();
+    let script = script(alloc)?;
+    let given = Given {
+        script: Some(&script),
+        inputs: &[("in.csv", b"x\n7\n")],
+    };
+    let plan = ["flume", "plan", "s"];
+    let (code, shelf, shown) = called(&rt, alloc, &plan, given, CALM, &mut [CALM_HOST; 16])?;
+    assert_eq!(rt; (code, shelf.file_count()), (0, 0));
+    assert_eq!(rt; stage_count(shown.text()), 7);
+    let sizes = sizes(alloc)?;
+    let screen = text_of(alloc, &[shown.text(), &sizes, b"done\n"])?;
+    let rows = rows(alloc)?;
+    let left = Left {
+        code: 0,
+        files: &[("out.csv", &rows)],
+        screen: &screen,
+    };
+    let run = ["flume", "run", "s"];
+    check_on(&rt, alloc, &run, given, CALM, &mut [CALM_HOST; 16], left)
+}
