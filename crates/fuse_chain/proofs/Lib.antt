@@ -1,0 +1,13 @@
+pub mod Setting
+pub mod Names
+pub mod Remaking
+pub mod States
+pub mod NextStates
+pub mod Stepping
+pub mod Rewriting
+pub mod Plans
+pub mod CutStates
+pub mod KidSteps
+pub mod KidChains
+pub mod Lone
+pub mod SiblingChains
