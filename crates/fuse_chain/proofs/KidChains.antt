@@ -1,6 +1,8 @@
 -- The kids lead from the siblings to the fused graph.
-use Rattle.std.proofs.Common.{◌≡◌, ℕ, ◌<◌, Bool, true, false, cond, eqb, ◌||◌, ◌&&◌, List, [], ◌∷◌, ◌++◌, Option, Some, None, refl, sym, ap, ◌∙◌, subst}
-use Rattle.std.proofs.lemmas.Bool.{eqb-true, eq-eqb, false≢true}
+use Rattle.std.proofs.Common.{◌≡◌, ℕ, ◌<◌, Bool, true, false, cond, ◌||◌, ◌&&◌, List, [], ◌∷◌, ◌++◌, Some, refl, sym, ap, ◌∙◌, subst}
+use Rattle.std.proofs.lemmas.Bool.{eq-eqb, false≢true}
+use Rattle.std.proofs.Math.Bool.{and-false}
+use Rattle.std.proofs.lemmas.List.{append-nil}
 use Rattle.std.proofs.Math.Path.{fun_ext}
 use Rattle.std.specs.List.{AllByRecursion as Each}
 use Rattle.exec_graph.specs.Forests.{Forest}
@@ -10,11 +12,10 @@ use Rattle.exec_graph.specs.declared.graph.Node.TheVariants.{Source, Flatten, Pd
 use Rattle.exec_graph.specs.declared.graph.Entry.{Entry}
 use Rattle.exec_graph.specs.declared.graph.Graph.{Graph}
 use Rattle.exec_graph.specs.declared.graph.Blocked.{Blocked}
-use Rattle.exec_graph.specs.Meaning.{place, node_at, reads, AllDiffer, IsThere}
+use Rattle.exec_graph.specs.Meaning.{place, node_at, reads, IsThere}
 use Rattle.exec_graph.specs.Readers.{among, any_node, calls_on, readers, same_place, those}
 use Rattle.exec_graph.specs.Wellformed.{Ascends}
 use Rattle.exec_graph.proofs.Entries.{all_found}
-use Rattle.exec_graph.proofs.Solving.{each_found}
 use Rattle.pardo_fuse.specs.Readers.{CanFuse, Cut, cut_of, is_pdo, is_unmarked}
 use Rattle.pardo_fuse.specs.Fusing.{fused, fused_by, is_first, joined_nodes}
 use Rattle.pardo_fuse.specs.Wellformed.{IsFusible}
@@ -23,10 +24,11 @@ use Rattle.pardo_fuse.proofs.Fusible.{can_fuse}
 use Rattle.pardo_fuse.proofs.Once.{there_zero}
 use Rattle.pardo_fuse.proofs.Places.{and_left, pdo_is, place_is, same_is, same_self}
 use Rattle.pardo_fuse.proofs.Seeing.{any_at}
-use Rattle.fuse_chain.specs.Cuts.{siblings_of}
+use Rattle.fuse_chain.specs.Cuts.{IsNextKid, siblings_of}
 use Rattle.fuse_chain.specs.Rewrites.{ByKids, InOrder, IsKid, Kid, Leads, Rewrite, is_sibling, other_of}
-use Rattle.fuse_chain.proofs.CutStates.{IsFirstOf, any_two}
-use Rattle.fuse_chain.proofs.KidSteps.{IsMore, kid_of_cut}
+use Rattle.fuse_chain.proofs.CutStates.{any_two}
+use Rattle.fuse_chain.proofs.KidSteps.{kid_of_cut}
+use Rattle.fuse_chain.proofs.Splits.{append_end, ascends_last, end, found_of, those_none, those_two}
 use Rattle.fuse_chain.proofs.States.{graph_of}
 
 -- the outputs of which some of these Pdos, or none at all, are readers
@@ -63,9 +65,6 @@ same_cut g marks i j h = ap (λ (k : Place → Bool). let x : Cut = record {
 } in x) (fun_ext h)
 
 -- ---- one node more
-abbrev pub end : List Entry → Entry → List Entry
-end done e = done ++ (e ∷ [])
-
 -- the node makes no output more inner
 pub stays : (b : Blocked) (done : List Entry) (e : Entry)
     → ((c : Place) → calls_on c e.node ≡ true → is_unmarked b c ≡ true
@@ -117,56 +116,12 @@ pub record KidsFrom (b : Blocked) (done rest : List Entry) : Type 0 where
   pub above : (low : ℕ) → Each (λ d. low < d.number) rest
       → Each (λ r. low < other_of r) rewrites
 
-pub append_end : (xs : List Entry) (y : Entry) (ys : List Entry)
-    → xs ++ (y ∷ ys) ≡ end xs y ++ ys
-append_end [] y ys = refl
-append_end (x ∷ xs) y ys = ap (λ l. x ∷ l) (append_end xs y ys)
-
-pub append_none : (l : List Entry) → l ++ [] ≡ l
-append_none [] = refl
-append_none (x ∷ xs) = ap (λ k. x ∷ k) (append_none xs)
-
-pub those_none : (t : Node → Bool) (es : List Entry) → any_node t es ≡ false → those t es ≡ []
-those_none t [] h = refl
-those_none t (e ∷ es) h = by (t e.node) h (those_none t es)
-  where
-    by : (r : Bool) → (r || any_node t es) ≡ false → (any_node t es ≡ false → those t es ≡ [])
-        → cond r (e.number ∷ those t es) (those t es) ≡ []
-    by true i f = absurd (false≢true (sym i))
-    by false i f = f i
-
-pub those_two : (t : Node → Bool) (xs ys : List Entry)
-    → those t (xs ++ ys) ≡ those t xs ++ those t ys
-those_two t [] ys = refl
-those_two t (x ∷ xs) ys = by (t x.node) (those_two t xs ys)
-  where
-    by : (r : Bool) → those t (xs ++ ys) ≡ those t xs ++ those t ys
-        → cond r (x.number ∷ those t (xs ++ ys)) (those t (xs ++ ys))
-        ≡ cond r (x.number ∷ those t xs) (those t xs) ++ those t ys
-    by true i = ap (λ l. x.number ∷ l) i
-    by false i = i
-
-pub last_part : (P : Entry → Type 0) (xs ys : List Entry) → Each P (xs ++ ys) → Each P ys
-last_part P [] ys a = a
-last_part P (x ∷ xs) ys a = last_part P xs ys a.1
-
-pub ascends_last : (xs ys : List Entry) → Ascends (xs ++ ys) → Ascends ys
-ascends_last [] ys a = a
-ascends_last (x ∷ xs) ys a = ascends_last xs ys a.1
-
 module _ (b : Blocked) (fu : IsFusible b) where
   can : CanFuse (cut_of b)
   can = can_fuse b fu
 
   abbrev es : List Entry
   es = b.graph.nodes
-
-  found_of : (done rest : List Entry) (e : Entry) → es ≡ done ++ (e ∷ rest)
-      → node_at es e.number ≡ Some e.node
-  found_of done rest e split =
-      (last_part (λ (x : Entry). node_at es x.number ≡ Some x.node) done (e ∷ rest)
-      (subst (Each (λ (x : Entry). node_at es x.number ≡ Some x.node)) split
-      (each_found es can.ok.differ))).0
 
   first_of : (done rest : List Entry) (e : Entry) (d : Place) (f : Forest)
       → es ≡ done ++ (e ∷ rest) → e.node ≡ Pdo d f
@@ -187,11 +142,7 @@ module _ (b : Blocked) (fu : IsFusible b) where
   outer_more done d none read =
       ap (λ r. is_unmarked b d && (r || cond (any_node (calls_on d) es) false true)) none
       ∙ ap (λ r. is_unmarked b d && cond r false true) read
-      ∙ no_and (is_unmarked b d)
-    where
-      no_and : (r : Bool) → (r && false) ≡ false
-      no_and true = refl
-      no_and false = refl
+      ∙ and-false (is_unmarked b d)
 
   -- an unmarked output that is read
   pdo_of : (d : Place) → is_unmarked b d ≡ true → is_pdo (node_at es d.node) ≡ true
@@ -207,9 +158,9 @@ module _ (b : Blocked) (fu : IsFusible b) where
 
   more_of : (done rest : List Entry) (e : Entry) (d : Place) (f : Forest)
       → es ≡ done ++ (e ∷ rest) → e.node ≡ Pdo d f → is_unmarked b d ≡ true
-      → any_node (calls_on d) done ≡ false → IsMore (later b done) d.node e.number
+      → any_node (calls_on d) done ≡ false → IsNextKid (later b done) d.node e.number
   more_of done rest e d f split is u none =
-      let at : node_at es e.number ≡ Some (Pdo d f) = found_of done rest e split
+      let at : node_at es e.number ≡ Some (Pdo d f) = found_of es done rest e can.ok.differ split
       ∙ ap (λ (x : Node). Some x) is in
       let zero : place d.node 0 ≡ d = zero_of e.number d f at u in
       let read : any_node (calls_on d) es ≡ true = any_at (calls_on d) es e.number (Pdo d f) at
@@ -218,9 +169,8 @@ module _ (b : Blocked) (fu : IsFusible b) where
         pdo = pdo_of d u;
         outer = subst (λ (y : Place). (later b done).inner y ≡ false) (sym zero)
             (outer_more done d none read);
-        read = subst (λ (y : Place). any_node (calls_on y) es ≡ true) (sym zero) read;
-        reader = subst (λ (y : Place). IsFirstOf (later b done) y e.number) (sym zero)
-            (record { old = f; at = at; first = first_of done rest e d f split is none });
+        first = subst (λ (y : Place). is_first e.number (readers es y) ≡ true) (sym zero)
+            (first_of done rest e d f split is none);
       }
 
   kids_skip : (done rest : List Entry) (e : Entry) → ((c : Place) → calls_on c e.node ≡ true
@@ -242,7 +192,7 @@ module _ (b : Blocked) (fu : IsFusible b) where
   kids_more done rest e d f split is u none i =
       let step = kid_of_cut (later b done) d.node e.number (can_later b done can)
       (more_of done rest e d f split is u none) in
-      let zero : place d.node 0 ≡ d = zero_of e.number d f (found_of done rest e split
+      let zero : place d.node 0 ≡ d = zero_of e.number d f (found_of es done rest e can.ok.differ split
       ∙ ap (λ (x : Node). Some x) is) u in
       let order : Ascends (e ∷ rest) = ascends_last done (e ∷ rest)
       (subst Ascends split fu.ok.ok.founded.ascends) in
@@ -270,6 +220,7 @@ module _ (b : Blocked) (fu : IsFusible b) where
     where
       same : (c : Place) → calls_on c e.node ≡ true → c ≡ d
       same c h = same_is c d (sym (ap (calls_on c) is) ∙ h)
+
       by : (u a : Bool) → is_unmarked b d ≡ u → any_node (calls_on d) done ≡ a
           → KidsFrom b done (e ∷ rest)
       by false a j k = kids_skip done rest e (λ c h v. absurd (false≢true (sym j
@@ -285,7 +236,7 @@ module _ (b : Blocked) (fu : IsFusible b) where
     rewrites = [];
     all = tt;
     order = tt;
-    leads = ap (λ (l : List Entry). cut_graph (later b l)) (sym (split ∙ append_none done));
+    leads = ap (λ (l : List Entry). cut_graph (later b l)) (sym (split ∙ append-nil done));
     above = λ low a. tt;
   }
   kids_from done (e ∷ rest) split = kids_node done rest e split e.node refl

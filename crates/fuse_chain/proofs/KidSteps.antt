@@ -1,6 +1,6 @@
 -- One collection more whose readers are fused: a kid.
-use Rattle.std.proofs.Common.{◌≡◌, ℕ, ◌<◌, ◌≤◌, Bool, true, false, cond, eqb, ◌||◌, ◌&&◌, List, [], ◌∷◌, Option, Some, None, refl, sym, ap, ◌∙◌, subst, arith, zero, suc}
-use Rattle.std.proofs.lemmas.Bool.{eqb-true, eq-eqb, false≢true}
+use Rattle.std.proofs.Common.{◌≡◌, ℕ, ◌≤◌, Bool, true, false, cond, eqb, ◌||◌, ◌&&◌, List, [], ◌∷◌, Option, Some, None, refl, sym, ap, ◌∙◌, subst, arith, zero, suc}
+use Rattle.std.proofs.lemmas.Bool.{eqb-true, eq-eqb, false≢true, ne_eqb}
 use Rattle.std.specs.List.{AllByRecursion as Each}
 use Rattle.exec_graph.specs.Forests.{Label, Forest, Bare, Grow, numbered, with_out}
 use Rattle.exec_graph.specs.declared.graph.Place.{Place}
@@ -14,8 +14,8 @@ use Rattle.exec_graph.proofs.Solving.{each_found}
 use Rattle.graph_laws.specs.Joining.{beside, grafted}
 use Rattle.graph_laws.specs.Kids.{kept_by, number_in, out_kept}
 use Rattle.graph_laws.proofs.Joining.{lacks_grafted}
-use Rattle.pardo_fuse.specs.Readers.{CanFuse, Cut, is_inner, is_kept, is_outer, is_pdo}
-use Rattle.pardo_fuse.specs.Fusing.{forest_of, holds_out, is_first, joined_nodes, keeps_output, leads}
+use Rattle.pardo_fuse.specs.Readers.{CanFuse, Cut, is_outer, is_pdo}
+use Rattle.pardo_fuse.specs.Fusing.{forest_of, fused_by, holds_out, is_first, joined_nodes, keeps_output, leads}
 use Rattle.pardo_fuse.proofs.Chaining.{more_inner, next_trees}
 use Rattle.pardo_fuse.proofs.Counting.{times}
 use Rattle.pardo_fuse.proofs.Finding.{IsNew, any_joined, search_place}
@@ -24,15 +24,16 @@ use Rattle.pardo_fuse.proofs.Naming.{differ_joined, has_times, times_has}
 use Rattle.pardo_fuse.proofs.Once.{AllGrown, all_of}
 use Rattle.pardo_fuse.proofs.Partition.{numbers}
 use Rattle.pardo_fuse.proofs.Places.{same_is, same_self}
-use Rattle.pardo_fuse.proofs.Seeing.{head_few}
+use Rattle.pardo_fuse.proofs.Seeing.{any_at, head_few}
 use Rattle.pardo_fuse.proofs.Settling.{led, now}
 use Rattle.pardo_fuse.proofs.Wellness.{at_finished, done_node}
-use Rattle.fuse_chain.specs.Rewrites.{IsKid}
-use Rattle.fuse_chain.proofs.CutStates.{IsFirstOf, cut_sound, cut_state, joined_drawn, leader_found, leads_if, owner_in, owner_led, plan_of, read_kept}
+use Rattle.pardo_fuse.proofs.Reading.{IsReader, all_readers}
+use Rattle.fuse_chain.specs.Cuts.{IsNextKid, with_inner}
+use Rattle.fuse_chain.specs.Rewrites.{BecomesKid, IsKid}
+use Rattle.fuse_chain.proofs.CutStates.{cut_sound, cut_state, joined_drawn, leader_found, leads_if, owner_in, owner_led, plan_of, read_kept}
 use Rattle.fuse_chain.proofs.Names.{EachOut, grow_alike, of_kids, of_label, of_rest}
-use Rattle.fuse_chain.proofs.Plans.{IsNext, drawn, drawn_next}
+use Rattle.fuse_chain.proofs.Plans.{IsNext, drawn_next}
 use Rattle.fuse_chain.proofs.Rewriting.{kid_differ, kid_step}
-use Rattle.fuse_chain.proofs.Setting.{not_eqb}
 use Rattle.fuse_chain.proofs.States.{IsState, fused_in, graph_of, named_graph}
 
 -- ---- what is kept of a forest
@@ -99,6 +100,7 @@ grafted_kept keep n g (Grow l kids rest) k =
   where
     m : Label
     m = with_out (out_kept keep l.out) l
+
     by : (a b : Bool) → b ≡ a
         → grafted n (kept_by keep g) (kept_by keep kids) ≡ kept_by keep (grafted n g kids)
         → grafted n (kept_by keep g) (kept_by keep rest) ≡ kept_by keep (grafted n g rest)
@@ -166,12 +168,15 @@ leads_first b n c h = by (b.inner c) h
     by true i = absurd (false≢true i)
     by false i = i
 
--- one collection more
-pub record IsMore (b : Cut) (n q : ℕ) : Type 0 where
-  pub pdo : is_pdo (node_at b.graph.nodes n) ≡ true
-  pub outer : b.inner (place n 0) ≡ false
-  pub read : any_node (calls_on (place n 0)) b.graph.nodes ≡ true
-  pub reader : IsFirstOf b (place n 0) q
+-- the first Pdo of those that read a collection reads it
+first_reads : (b : Cut) (c : Place) (q : ℕ) → CanFuse b
+    → is_first q (readers b.graph.nodes c) ≡ true → IsReader b c q
+first_reads b c q can h = by (readers b.graph.nodes c) h (all_readers b c b.graph.nodes
+    (each_found b.graph.nodes can.ok.differ))
+  where
+    by : (ns : List ℕ) → is_first q ns ≡ true → Each (IsReader b c) ns → IsReader b c q
+    by [] i a = absurd (false≢true i)
+    by (n ∷ ns) i a = subst (IsReader b c) (sym (eqb-true q n i)) a.0
 
 pub can_more : (b : Cut) (n : ℕ) → CanFuse b → is_pdo (node_at b.graph.nodes n) ≡ true
     → CanFuse (more_inner b n)
@@ -186,7 +191,7 @@ can_more b n can h = record {
       (λ j. can.pdos c j);
 }
 
-module _ (b : Cut) (n q : ℕ) (can : CanFuse b) (more : IsMore b n q) where
+module _ (b : Cut) (n q : ℕ) (can : CanFuse b) (more : IsNextKid b n q) where
   abbrev d : Place
   d = place n 0
 
@@ -208,15 +213,19 @@ module _ (b : Cut) (n q : ℕ) (can : CanFuse b) (more : IsMore b n q) where
   can_next : CanFuse next
   can_next = can_more b n can more.pdo
 
+  reader : IsReader b d q
+  reader = first_reads b d q can more.first
+
   lead_q : leads b q d ≡ true
-  lead_q = leads_if b q d more.outer more.reader.first
+  lead_q = leads_if b q d more.outer more.first
 
   kept_n : keep n ≡ true
   kept_n =
       or_right (any_node (collects d) es) (among d b.graph.outputs || (is_outer b d &&
       any_node (calls_on d) es))
       (or_right (among d b.graph.outputs) (is_outer b d && any_node (calls_on d) es)
-      (ap (λ r. cond r false true && any_node (calls_on d) es) more.outer ∙ more.read))
+      (ap (λ r. cond r false true && any_node (calls_on d) es) more.outer
+      ∙ any_at (calls_on d) es q (Pdo d reader.0) reader.1 (same_self d)))
 
   hold : IsHolder b n
   hold = holder b n can (any_joined b n can g more.pdo kept_n)
@@ -234,7 +243,7 @@ module _ (b : Cut) (n q : ℕ) (can : CanFuse b) (more : IsMore b n q) where
   at_p = leader_found b p c hold.old hold.at hold.leads
 
   at_q : node_at (joined_nodes b) q ≡ Some (Pdo d (forest_of b d))
-  at_q = leader_found b q d more.reader.old more.reader.at lead_q
+  at_q = leader_found b q d reader.0 reader.1 lead_q
 
   differ : p ≡ q → ⊥
   differ = kid_differ (joined_nodes b) b.graph.outputs b.graph.next p q n c (forest_of b c)
@@ -257,7 +266,7 @@ module _ (b : Cut) (n q : ℕ) (can : CanFuse b) (more : IsMore b n q) where
   held_other : (i : ℕ) → (i ≡ n → ⊥) → held i ≡ keep i
   held_other i none = ap (λ r. any_node (collects (place i 0)) es ||
       (among (place i 0) b.graph.outputs || (cond ((r && true) || b.inner (place i 0)) false true
-      && any_node (calls_on (place i 0)) es))) (not_eqb i n none)
+      && any_node (calls_on (place i 0)) es))) (ne_eqb i n none)
 
   held_keeps : (i : ℕ) → held i ≡ true → keep i ≡ true
   held_keeps i h = by (eqb i n) refl
@@ -270,7 +279,7 @@ module _ (b : Cut) (n q : ℕ) (can : CanFuse b) (more : IsMore b n q) where
   trees_next : (e : Place) → times n (numbers (all_of b e)) ≤ 1
       → all_of next e ≡ grafted n (all_of b d) (all_of b e)
   trees_next e few = next_trees b n e g (all_grown next can_next) more.outer
-      (none_of q d more.reader.old more.reader.at lead_q (λ i. differ (sym i))) few
+      (none_of q d reader.0 reader.1 lead_q (λ i. differ (sym i))) few
 
   forest_other : (m : ℕ) (e : Place) (f : Forest) → node_at es m ≡ Some (Pdo e f)
       → leads b m e ≡ true → (m ≡ p → ⊥) → forest_of next e ≡ forest_of b e
@@ -311,7 +320,7 @@ module _ (b : Cut) (n q : ℕ) (can : CanFuse b) (more : IsMore b n q) where
           ≡ cond l (Some (forest_of b e)) None
       by true true i j = absurd (no_q (first_only m q (readers es d)
           (ap (λ (y : Place). is_first m (readers es y)) (sym (same_is e d i))
-          ∙ leads_first b m e j) more.reader.first))
+          ∙ leads_first b m e j) more.first))
       by true false i j = refl
       by false true i j = ap (λ (t : Forest). Some t) (forest_other m e f at j no_p)
       by false false i j = refl
@@ -319,7 +328,7 @@ module _ (b : Cut) (n q : ℕ) (can : CanFuse b) (more : IsMore b n q) where
   apart_p : same_place c d ≡ false
   apart_p = not_true (same_place c d) (λ s. differ (first_only p q (readers es d)
       (ap (λ (y : Place). is_first p (readers es y)) (sym (same_is c d s))
-      ∙ leads_first b p c hold.leads) more.reader.first))
+      ∙ leads_first b p c hold.leads) more.first))
 
   new : Forest
   new = kept_by held (grafted n (forest_of b d) (forest_of b c))
@@ -328,9 +337,9 @@ module _ (b : Cut) (n q : ℕ) (can : CanFuse b) (more : IsMore b n q) where
       (kept_by held (grafted n (forest_of b d) (forest_of b c)))
   is_next = record {
     near = hold.old;
-    far = more.reader.old;
+    far = reader.0;
     keeper = hold.at;
-    other = more.reader.at;
+    other = reader.1;
     differ = differ;
     was = (
       forest_of b c,
@@ -365,3 +374,8 @@ module _ (b : Cut) (n q : ℕ) (can : CanFuse b) (more : IsMore b n q) where
         (λ i x. sym (ap (λ l. is_read (named_graph l b.graph.outputs) (place i 0)) next_nodes
         ∙ read_kept next (place i 0) can_next))),
   )
+
+pub kid_lead : (b : Cut) (n q : ℕ) → CanFuse b → IsNextKid b n q
+    → BecomesKid q (fused_by b).graph (fused_by (with_inner b n)).graph
+unfolding fused_by
+kid_lead b n q can more = kid_of_cut b n q can more

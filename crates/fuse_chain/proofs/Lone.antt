@@ -1,28 +1,27 @@
 -- Before any two Pdos are one, the state of the nodes is the graph itself.
 use Rattle.std.proofs.Common.{◌≡◌, ℕ, Bool, true, false, cond, eqb, ◌||◌, ◌&&◌, List, [], ◌∷◌, ◌++◌, map, Option, Some, None, refl, sym, ap, ◌∙◌, subst}
 use Rattle.std.proofs.lemmas.Bool.{eqb-true, eq-eqb, false≢true}
+use Rattle.std.proofs.Math.Bool.{or-false}
 use Rattle.std.specs.List.{AllByRecursion as Each}
-use Rattle.exec_graph.specs.Forests.{Label, Forest, Bare, Grow, numbered, new_out, with_out}
+use Rattle.exec_graph.specs.Forests.{Forest, Bare, Grow, numbered, new_out, with_out}
 use Rattle.exec_graph.specs.declared.graph.Place.{Place}
 use Rattle.exec_graph.specs.declared.graph.Node.{Node}
 use Rattle.exec_graph.specs.declared.graph.Node.TheVariants.{Source, Flatten, Pdo, Gbk}
 use Rattle.exec_graph.specs.declared.graph.Entry.{Entry}
-use Rattle.exec_graph.specs.declared.graph.Graph.{Graph}
 use Rattle.exec_graph.specs.declared.graph.Blocked.{Blocked}
-use Rattle.exec_graph.specs.Meaning.{place, gives_at, is_out, node_at, reads, has_out, HasOuts, IsThere, OutsDiffer}
-use Rattle.exec_graph.specs.Readers.{among, any_node, calls_on, collects, is_read, readers, same_place, uses}
+use Rattle.exec_graph.specs.Meaning.{place, gives_at, is_out, node_at, reads, has_out, HasOuts, IsThere}
+use Rattle.exec_graph.specs.Readers.{among, any_node, calls_on, collects, is_read, uses}
 use Rattle.exec_graph.specs.Wellformed.{IsForestOk, IsNodeOk}
 use Rattle.exec_graph.proofs.Entries.{all_found, entry}
 use Rattle.exec_graph.proofs.Solving.{each_found}
 use Rattle.flume_value.proofs.EachLemmas.{Each-append, Each-both}
-use Rattle.graph_laws.specs.Joining.{reread, reread_entry}
-use Rattle.graph_laws.specs.Kids.{kept_by, number_in, out_kept}
+use Rattle.graph_laws.specs.Kids.{kept_by, number_in}
 use Rattle.graph_laws.specs.Single.{HasSteps, IsOneOutput}
 use Rattle.graph_laws.proofs.ReadPlaces.{nodes_read, outputs_read}
-use Rattle.pardo_fuse.specs.Readers.{CanFuse, Cut, cut_of, is_kept, is_outer, is_pdo, is_unmarked}
-use Rattle.pardo_fuse.specs.Fusing.{finished, first_label, holds_out, new_place, planted, step_at, step_of, with_numbers}
+use Rattle.pardo_fuse.specs.Readers.{CanFuse, cut_of, is_kept, is_pdo, is_unmarked}
+use Rattle.pardo_fuse.specs.Fusing.{finished, first_label, holds_out, new_place, planted, step_at, step_of}
 use Rattle.pardo_fuse.specs.Wellformed.{IsFusible}
-use Rattle.pardo_fuse.proofs.Finding.{any_none, not_new}
+use Rattle.pardo_fuse.proofs.Finding.{not_new}
 use Rattle.pardo_fuse.proofs.Fusible.{can_fuse}
 use Rattle.pardo_fuse.proofs.Once.{there_zero}
 use Rattle.pardo_fuse.proofs.Places.{pdo_is, place_is}
@@ -83,6 +82,7 @@ has_lone b n i h = by (reads_output b n) h
     alone : (r : Bool) → (r || (false || false)) ≡ true → r ≡ true
     alone true x = refl
     alone false x = x
+
     by : (r : Bool) → (is_out (cond r (Some n) None) i || (false || false)) ≡ true → n ≡ i
     by true x = eqb-true n i (alone (eqb n i) x)
     by false x = absurd (false≢true x)
@@ -132,6 +132,7 @@ module _ (b : Blocked) (fu : IsFusible b) where
           ≡ is_pdo (cond r (Some y) (node_at ds n))
       same true x y h i = h
       same false x y h i = i
+
       by : (x : Node) → is_pdo (node_at (drawn (lone b) ds) n) ≡ is_pdo (node_at ds n)
           → is_pdo (node_at (drawn_node (lone b) e.number x ++ drawn (lone b) ds) n)
           ≡ is_pdo (cond (eqb e.number n) (Some x) (node_at ds n))
@@ -155,6 +156,7 @@ module _ (b : Blocked) (fu : IsFusible b) where
               ∙ ap (λ (k : ℕ). is_pdo (node_at es k)) (sym (has_lone b n i h)) ∙ ap is_pdo at))
           by false h = refl
       here n (Gbk c o l k) at = refl
+
       all : (ds : List Entry) → Each (λ e. node_at es e.number ≡ Some e.node) ds
           → any_node (holds_out i) (drawn (lone b) ds) ≡ false
       all [] a = refl
@@ -283,8 +285,10 @@ module _ (b : Blocked) (fu : IsFusible b) where
     where
       order : new_out 0 one.label.out ≡ one.label.out
       order = ap root_out (subst (λ (t : Forest). numbered 0 t ≡ t) one.alone ok.order)
+
       has_if : has_out 0 f ≡ (is_out one.label.out 0 || (false || false))
       has_if = ap (has_out 0) one.alone
+
       by : (r : Bool) (o : Option ℕ) → reads_output b n ≡ r → one.label.out ≡ o
           → new_out 0 (cond (reads_output b n) (Some n) None) ≡ one.label.out
       by true (Some j) k e = ap (λ s. new_out 0 (cond s (Some n) None)) k
@@ -361,17 +365,13 @@ module _ (b : Blocked) (fu : IsFusible b) where
   uses_lone v n (Pdo c f) = refl
   uses_lone v n (Gbk c o l k) = refl
 
-  or_none : (r : Bool) → (r || false) ≡ r
-  or_none true = refl
-  or_none false = refl
-
   any_lone : (v : Place) (ds : List Entry)
       → any_node (uses v) (drawn (lone b) ds) ≡ any_node (uses v) ds
   any_lone v [] = refl
   any_lone v (e ∷ ds) =
       any_two (uses v) (drawn_node (lone b) e.number e.node) (drawn (lone b) ds)
       ∙ ap (λ r. r || any_node (uses v) (drawn (lone b) ds))
-      (uses_lone v e.number e.node ∙ or_none (uses v e.node))
+      (uses_lone v e.number e.node ∙ or-false (uses v e.node))
       ∙ ap (λ r. uses v e.node || r) (any_lone v ds)
 
   pub lone_reads : (v : Place)

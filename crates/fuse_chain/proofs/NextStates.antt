@@ -1,17 +1,17 @@
 -- Where two Pdos become one, the nodes stay a state.
-use Rattle.std.proofs.Common.{◌≡◌, ℕ, Bool, true, false, cond, eqb, ◌||◌, List, [], ◌∷◌, Option, Some, None, inl, inr, refl, sym, ap, ◌∙◌, subst}
-use Rattle.std.proofs.lemmas.Bool.{eqb-true, eq-eqb, false≢true}
+use Rattle.std.proofs.Common.{◌≡◌, ℕ, Bool, true, false, cond, eqb, ◌||◌, List, [], ◌∷◌, Some, inl, inr, refl, sym, ap, ◌∙◌}
+use Rattle.std.proofs.lemmas.Bool.{eqb-true, eq-eqb, false≢true, ne_eqb}
 use Rattle.std.specs.List.{AllByRecursion as Each}
 use Rattle.exec_graph.specs.Forests.{Forest}
 use Rattle.exec_graph.specs.declared.graph.Place.{Place}
 use Rattle.exec_graph.specs.declared.graph.Node.{Node}
-use Rattle.exec_graph.specs.declared.graph.Node.TheVariants.{Source, Flatten, Pdo, Gbk}
+use Rattle.exec_graph.specs.declared.graph.Node.TheVariants.{Pdo}
 use Rattle.exec_graph.specs.declared.graph.Entry.{Entry}
-use Rattle.exec_graph.specs.Meaning.{place, node_at, reads, has_out, AllDiffer, HasOuts, OutsDiffer}
+use Rattle.exec_graph.specs.Meaning.{place, node_at, reads, has_out, HasOuts, OutsDiffer}
 use Rattle.exec_graph.specs.Readers.{any_node, is_read}
-use Rattle.exec_graph.proofs.Bools.{or_left, or_right, or_cases, or_false, not_true, no_or}
+use Rattle.exec_graph.proofs.Bools.{or_left, or_right, or_cases, not_true}
 use Rattle.exec_graph.proofs.Entries.{entry, all_found}
-use Rattle.flume_value.proofs.EachLemmas.{Each-both, Each-weaker}
+use Rattle.flume_value.proofs.EachLemmas.{Each-both}
 use Rattle.graph_laws.specs.Joining.{set_node, without}
 use Rattle.graph_laws.specs.Kids.{kept_by}
 use Rattle.graph_laws.proofs.Changes.{all_set, all_without, differ_without, node_at-without_other}
@@ -23,7 +23,7 @@ use Rattle.pardo_fuse.specs.Readers.{is_pdo}
 use Rattle.pardo_fuse.specs.Fusing.{holds_out}
 use Rattle.pardo_fuse.proofs.Naming.{has_pruned}
 use Rattle.pardo_fuse.proofs.Places.{place_is}
-use Rattle.fuse_chain.proofs.Setting.{not_eqb, without_set}
+use Rattle.fuse_chain.proofs.Setting.{without_set}
 use Rattle.fuse_chain.proofs.States.{IsFine, IsState, fused_in, named_graph}
 
 -- the Pdos p of c with f and q of d with h become one with a new forest
@@ -44,6 +44,7 @@ any_split t (e ∷ es) n x h = by (eqb e.number n) h (λ i. any_split t es n x i
     turned true true c = refl
     turned true false c = refl
     turned false b c = refl
+
     by : (b : Bool) → cond b (Some e.node) (node_at es n) ≡ Some x
         → (node_at es n ≡ Some x → any_node t es ≡ (t x || any_node t (without es n)))
         → (t e.node || any_node t es) ≡ (t x || any_node t (cond b es (e ∷ without es n)))
@@ -60,7 +61,7 @@ without_other (e ∷ es) q n h = by (eqb e.number q) refl (without_other es q n 
     by : (b : Bool) → eqb e.number q ≡ b → node_at (without es q) n ≡ node_at es n
         → node_at (cond b es (e ∷ without es q)) n
         ≡ cond (eqb e.number n) (Some e.node) (node_at es n)
-    by true i f = let no_here : eqb e.number n ≡ false = not_eqb e.number n
+    by true i f = let no_here : eqb e.number n ≡ false = ne_eqb e.number n
         (λ j. h (sym j ∙ eqb-true e.number q i)) in rw no_here refl
     by false i f = ap (λ o. cond (eqb e.number n) (Some e.node) o) f
 
@@ -73,9 +74,9 @@ set_other (e ∷ es) p n x h = by (eqb e.number p) refl (set_other es p n x h)
         → node_at (cond b (entry p x ∷ es) (e ∷ set_node es p x)) n
         ≡ cond (eqb e.number n) (Some e.node) (node_at es n)
     by true i f =
-        let here : eqb e.number n ≡ false = not_eqb e.number n
+        let here : eqb e.number n ≡ false = ne_eqb e.number n
         (λ j. h (sym j ∙ eqb-true e.number p i)) in
-        let there : eqb p n ≡ false = not_eqb p n (λ j. h (sym j)) in
+        let there : eqb p n ≡ false = ne_eqb p n (λ j. h (sym j)) in
         rw (here, there) refl
     by false i f = ap (λ o. cond (eqb e.number n) (Some e.node) o) f
 
@@ -170,7 +171,7 @@ module _ (hs : List Entry) (outs : List Place) (p q : ℕ) (c d : Place) (f h ne
   next_owner i = cond (eqb (st.owner i) q) p (st.owner i)
 
   owner_less : (n i : ℕ) → (n ≡ q → ⊥) → st.owner i ≡ n → next_owner i ≡ n
-  owner_less n i x e = ap (λ b. cond b p (st.owner i)) (not_eqb (st.owner i) q (λ z. x (sym e ∙ z))) ∙ e
+  owner_less n i x e = ap (λ b. cond b p (st.owner i)) (ne_eqb (st.owner i) q (λ z. x (sym e ∙ z))) ∙ e
 
   pub owner_keeper : (i : ℕ) → has_out i f ≡ true → st.owner i ≡ p
   owner_keeper i x = all_found (λ e. (i : ℕ) → holds_out i e.node ≡ true → st.owner i ≡ e.number)

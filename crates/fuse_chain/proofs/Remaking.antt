@@ -1,18 +1,18 @@
 -- Two Pdos that become one, in one step: the one is set anew, the other left out, and all that is
 -- read is found where it is then.
-use Rattle.std.proofs.Common.{◌≡◌, ℕ, Bool, true, false, cond, eqb, List, [], ◌∷◌, map, refl, sym, ap, ◌∙◌, subst}
-use Rattle.std.proofs.lemmas.Bool.{eqb-true, eq-eqb, false≢true}
+use Rattle.std.proofs.Common.{◌≡◌, ℕ, Bool, true, false, cond, eqb, List, map, refl, ap, ◌∙◌}
+use Rattle.std.proofs.lemmas.Bool.{eqb-true, eq-eqb}
 use Rattle.exec_graph.specs.Forests.{Forest, numbered}
 use Rattle.exec_graph.specs.declared.graph.Place.{Place}
 use Rattle.exec_graph.specs.declared.graph.Node.{Node}
-use Rattle.exec_graph.specs.declared.graph.Node.TheVariants.{Source, Flatten, Pdo, Gbk}
+use Rattle.exec_graph.specs.declared.graph.Node.TheVariants.{Pdo}
 use Rattle.exec_graph.specs.declared.graph.Entry.{Entry}
 use Rattle.exec_graph.specs.declared.graph.Graph.{Graph}
 use Rattle.exec_graph.specs.Meaning.{place}
 use Rattle.exec_graph.specs.Readers.{is_read}
 use Rattle.graph_laws.specs.Joining.{set_node, without, reread, moved, joined}
 use Rattle.graph_laws.specs.Kids.{number_in, moved_out, named_by, kept_by, even, odd, same_number, renewed, apart}
-use Rattle.fuse_chain.proofs.Setting.{on, on_on, set_again, set_on, without_on, without_set, without_set_other}
+use Rattle.fuse_chain.proofs.Setting.{on, on_on, set_again, without_on, without_set, without_set_other}
 
 -- what both rewrites do, by the forest that they make
 abbrev pub remade : Graph → ℕ → ℕ → Place → Place → Forest → Forest → Forest → Graph

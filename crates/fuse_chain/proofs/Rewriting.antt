@@ -1,17 +1,15 @@
 -- A kid and a sibling, each as one step of a state.
-use Rattle.std.proofs.Common.{◌≡◌, ℕ, ◌<◌, Bool, true, false, cond, eqb, ◌||◌, List, [], ◌∷◌, Option, Some, None, refl, sym, ap, ◌∙◌, subst, arith}
-use Rattle.std.proofs.lemmas.Bool.{eqb-true, eq-eqb, false≢true}
+use Rattle.std.proofs.Common.{◌≡◌, ℕ, ◌<◌, Bool, true, List, Some, sym, ap, ◌∙◌, arith}
 use Rattle.exec_graph.specs.Forests.{Forest, numbered}
 use Rattle.exec_graph.specs.declared.graph.Place.{Place}
-use Rattle.exec_graph.specs.declared.graph.Node.{Node}
-use Rattle.exec_graph.specs.declared.graph.Node.TheVariants.{Source, Flatten, Pdo, Gbk}
+use Rattle.exec_graph.specs.declared.graph.Node.TheVariants.{Pdo}
 use Rattle.exec_graph.specs.declared.graph.Entry.{Entry}
 use Rattle.exec_graph.specs.declared.graph.Graph.{Graph}
 use Rattle.exec_graph.specs.Meaning.{place, node_at, has_out, HasOuts, IsSound, OutsDiffer}
-use Rattle.exec_graph.proofs.Bools.{or_left, or_right}
+use Rattle.exec_graph.proofs.Bools.{or_left}
 use Rattle.exec_graph.proofs.Entries.{all_found}
 use Rattle.graph_laws.specs.Joining.{HasOne, beside, grafted}
-use Rattle.graph_laws.specs.Kids.{CanKid, CanPair, even, kept_by, named_by, number_in, odd, with_kid, with_sibling}
+use Rattle.graph_laws.specs.Kids.{even, kept_by, named_by, number_in, odd}
 use Rattle.graph_laws.proofs.Disjoint.{Apart, differ_beside, differ_grafted, has_out-beside, has_out-grafted}
 use Rattle.graph_laws.proofs.Renaming.{has_one}
 use Rattle.graph_laws.proofs.Wellness.{reads_lower}
@@ -22,8 +20,8 @@ use Rattle.fuse_chain.specs.Rewrites.{IsKid, IsSibling}
 use Rattle.fuse_chain.proofs.Names.{IsBack, beside_named, grafted_named}
 use Rattle.fuse_chain.proofs.Remaking.{IsAway, remade}
 use Rattle.fuse_chain.proofs.States.{IsState, back, found, fused_in, graph_of, named_graph, new_at}
-use Rattle.fuse_chain.proofs.NextStates.{IsJoin, owner_keeper, owner_other}
-use Rattle.fuse_chain.proofs.Stepping.{IsMade, Keeps, far_is, found_f, near_is, remade_is, sigma_back}
+use Rattle.fuse_chain.proofs.NextStates.{IsJoin}
+use Rattle.fuse_chain.proofs.Stepping.{far_is, found_f, near_is, remade_is, sigma_back}
 
 at_graph : (hs : List Entry) (outs : List Place) (next n : ℕ) (c : Place) (f : Forest)
     → node_at hs n ≡ Some (Pdo c f)

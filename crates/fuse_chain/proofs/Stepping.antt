@@ -1,6 +1,6 @@
 -- A rewrite is one step of a state: what it makes of the graph is the graph of the next state.
-use Rattle.std.proofs.Common.{◌≡◌, ℕ, Bool, true, false, cond, eqb, ◌||◌, List, [], ◌∷◌, map, Option, Some, None, inl, inr, refl, sym, ap, ◌∙◌, subst}
-use Rattle.std.proofs.lemmas.Bool.{eqb-true, eq-eqb, false≢true}
+use Rattle.std.proofs.Common.{◌≡◌, ℕ, Bool, true, false, cond, eqb, List, [], ◌∷◌, map, Some, inl, inr, refl, sym, ap, ◌∙◌}
+use Rattle.std.proofs.lemmas.Bool.{eq-eqb, false≢true, ne_eqb}
 use Rattle.std.specs.List.{AllByRecursion as Each}
 use Rattle.exec_graph.specs.Forests.{Forest, numbered}
 use Rattle.exec_graph.specs.declared.graph.Place.{Place}
@@ -8,9 +8,9 @@ use Rattle.exec_graph.specs.declared.graph.Node.{Node}
 use Rattle.exec_graph.specs.declared.graph.Node.TheVariants.{Source, Flatten, Pdo, Gbk}
 use Rattle.exec_graph.specs.declared.graph.Entry.{Entry}
 use Rattle.exec_graph.specs.declared.graph.Graph.{Graph}
-use Rattle.exec_graph.specs.Meaning.{place, node_at, reads, has_out, HasOuts, OutsDiffer}
+use Rattle.exec_graph.specs.Meaning.{place, node_at, reads, has_out, HasOuts}
 use Rattle.exec_graph.specs.Readers.{any_node, is_read}
-use Rattle.exec_graph.proofs.Bools.{or_cases, or_false, or_left, or_right}
+use Rattle.exec_graph.proofs.Bools.{or_cases, or_false}
 use Rattle.exec_graph.proofs.Entries.{entry, all_found}
 use Rattle.exec_graph.proofs.Solving.{each_found}
 use Rattle.flume_value.proofs.EachLemmas.{Each-both, Each-weaker}
@@ -19,13 +19,13 @@ use Rattle.graph_laws.specs.Kids.{number_in, moved_out, named_by, kept_by, even,
 use Rattle.graph_laws.proofs.ReadPlaces.{nodes_read, outputs_read}
 use Rattle.graph_laws.proofs.Renaming.{has_stays}
 use Rattle.graph_laws.proofs.Wellness.{node_at-set_same}
-use Rattle.pardo_fuse.specs.Fusing.{holds_out, out_number, new_place, with_numbers, finished}
+use Rattle.pardo_fuse.specs.Fusing.{holds_out, out_number, new_place, with_numbers}
 use Rattle.pardo_fuse.proofs.Finding.{not_new, search_place, IsNew}
 use Rattle.pardo_fuse.proofs.Naming.{has_pruned}
 use Rattle.pardo_fuse.proofs.Places.{place_is}
 use Rattle.pardo_fuse.proofs.Seeing.{any_at}
-use Rattle.fuse_chain.proofs.Names.{IsBack, EachOut, kept_named, named_again, named_alike, number_named, numbered_is_named, numbered_named}
-use Rattle.fuse_chain.proofs.Setting.{not_eqb, on, on_alike, on_on}
+use Rattle.fuse_chain.proofs.Names.{IsBack, kept_named, named_again, named_alike, number_named, numbered_is_named, numbered_named}
+use Rattle.fuse_chain.proofs.Setting.{on, on_alike, on_on}
 use Rattle.fuse_chain.proofs.Remaking.{IsAway, left_forest, mixed, mixed_by, mixed_graph, mixed_node, remade, remade_nodes, settled, settled_node, stays_mixed, stays_out}
 use Rattle.fuse_chain.proofs.States.{IsFine, IsState, IsTold, back, found, found_back, fused_in, graph_of, less_set, named_graph, new_at, read_mixed}
 use Rattle.fuse_chain.proofs.NextStates.{IsJoin, KeepsRead, at_less, is_pdo_not, next_owned, next_owner, owner_keeper, owner_new, owner_other, reads_after}
@@ -38,6 +38,7 @@ place_without (e ∷ es) q x y h n = by (eqb e.number q) h (λ i. place_without 
   where
     there : Place
     there = place e.number (out_number y.node e.node)
+
     by : (b : Bool) → cond b (Some e.node) (node_at es q) ≡ Some x
         → (node_at es q ≡ Some x → new_place (without es q) y ≡ new_place es y)
         → new_place (cond b es (e ∷ without es q)) y
@@ -54,6 +55,7 @@ place_set (e ∷ es) p x z y h n m = by (eqb e.number p) h (λ i. place_set es p
   where
     there : Place
     there = place e.number (out_number y.node e.node)
+
     by : (b : Bool) → cond b (Some e.node) (node_at es p) ≡ Some x
         → (node_at es p ≡ Some x → new_place (set_node es p z) y ≡ new_place es y)
         → new_place (cond b (entry p z ∷ es) (e ∷ set_node es p z)) y
@@ -98,7 +100,7 @@ module _ (hs : List Entry) (outs : List Place) (next : ℕ) (p q : ℕ) (c d : P
   was = new_place hs
 
   n_eqb : eqb p q ≡ false
-  n_eqb = not_eqb p q join.differ
+  n_eqb = ne_eqb p q join.differ
 
   -- ---- the names that outputs have for a while
   abbrev pub sigma : ℕ → ℕ
@@ -120,7 +122,7 @@ module _ (hs : List Entry) (outs : List Place) (next : ℕ) (p q : ℕ) (c d : P
       ap (mixed p q) (new_at hs st.owner q (Pdo d h) (place i 0) st.owned join.other
       (owner_other hs outs p q c d f h new keep st join i x) x)
       ∙ mixed_by p q (place q (number_in 0 h i)) n_eqb false true
-      (not_eqb q p (λ e. join.differ (sym e))) (eq-eqb q q refl)
+      (ne_eqb q p (λ e. join.differ (sym e))) (eq-eqb q q refl)
 
   found_new : (i : ℕ) → has_out i new ≡ true → found hs p q (place i 0) ≡ place p (sigma i)
   found_new i x = elim (or_cases (has_out i f) (has_out i h) (sym (join.has i) ∙ x)) [
@@ -221,6 +223,7 @@ module _ (hs : List Entry) (outs : List Place) (next : ℕ) (p q : ℕ) (c d : P
           ∙ ap (node_at hs) (ap (λ (z : Place). z.node) (sym i.is) ∙ e) ∙ at in
           let node : i.here.node ≡ Pdo t w = cc in
           false≢true (sym none ∙ ap (holds_out y.node) (sym node) ∙ i.keeps)
+
       by : (b : Bool) → any_node (holds_out y.node) hs ≡ b → IsAway p q (was y)
       by true is = record {
         keeper = not_held p c f join.keeper x is;
