@@ -192,7 +192,8 @@ module _ (b : Blocked) (fu : IsFusible b) where
   kids_more done rest e d f split is u none i =
       let step = kid_of_cut (later b done) d.node e.number (can_later b done can)
       (more_of done rest e d f split is u none) in
-      let zero : place d.node 0 ≡ d = zero_of e.number d f (found_of es done rest e can.ok.differ split
+      let zero : place d.node 0 ≡ d = zero_of e.number d f
+      (found_of es done rest e can.ok.differ split
       ∙ ap (λ (x : Node). Some x) is) u in
       let order : Ascends (e ∷ rest) = ascends_last done (e ∷ rest)
       (subst Ascends split fu.ok.ok.founded.ascends) in
