@@ -55,22 +55,36 @@ module _ (known : Named Ty) (argument : List ℕ) (takes : Ty) (gives : List Ty)
   no_function f e =
       ap (λ o. o >>= λ end. Ok tt) (subst IsWhole e (right_block known gives body start refl))
 
-  pub keeps_rules : (r : Result (List Stmt) ScriptFault) → Gives (λ k. k) r slots
+  keeps_rules : (r : Result (List Stmt) ScriptFault) → Gives (λ k. k) r slots
       → Gives (λ k. tt) r (body_of known argument takes gives body)
   keeps_rules (Ok ks) h = (function_is ks h).rules
   keeps_rules (Err Memory) h = tt
   keeps_rules (Err (Refused line kind)) h = no_function (Refused line kind) h
 
-  pub is_typed : (r : Result (List Stmt) ScriptFault) → Gives (λ k. k) r slots
+  is_typed : (r : Result (List Stmt) ScriptFault) → Gives (λ k. k) r slots
       → IfOk r (λ ks. BlockTyped (takes ∷ []) ks gives)
   is_typed (Ok ks) h = (function_is ks h).typed
   is_typed (Err e) h = tt
 
-  pub means_same : (r : Result (List Stmt) ScriptFault) → Gives (λ k. k) r slots
+  means_same : (r : Result (List Stmt) ScriptFault) → Gives (λ k. k) r slots
       → IfOk r (λ ks. (outputs : ℕ) (x : Value)
       → means known outputs argument takes body x ≡ slots_mean outputs ks x)
   means_same (Ok ks) h = (function_is ks h).same
   means_same (Err e) h = tt
+
+  -- what is known of what was answered, slots or a fault
+  pub record IsAnswer (r : Result (List Stmt) ScriptFault) : Type 0 where
+    pub rules : Gives (λ k. tt) r (body_of known argument takes gives body)
+    pub typed : IfOk r (λ ks. BlockTyped (takes ∷ []) ks gives)
+    pub same : IfOk r (λ ks. (outputs : ℕ) (x : Value)
+        → means known outputs argument takes body x ≡ slots_mean outputs ks x)
+
+  pub is_answer : (r : Result (List Stmt) ScriptFault) → Gives (λ k. k) r slots → IsAnswer r
+  is_answer r h = record {
+    rules = keeps_rules r h;
+    typed = is_typed r h;
+    same = means_same r h;
+  }
 
   answered_by : (x : Value) (o : Checked (List Stmt)) → slots ≡ o
       → body_of known argument takes gives body ≡ Ok tt → Has takes x

@@ -55,6 +55,103 @@ fn ints_are_computed(rt: HostRuntime) -> Result<(), Fail> {
 }
 
 #[test]
+fn arithmetic_has_its_edges(rt: HostRuntime) -> Result<(), Fail> {
+    let alloc = rt.alloc();
+    let least = i64::MIN;
+    let table: [(&[u8], i64, Wanted); 8] = [
+        (b"emit 7 / -2 emit -7 / -2", 0, Wanted::Emits(&[-3, 3])),
+        (b"emit 7 % -2 emit -7 % -2", 0, Wanted::Emits(&[1, -1])),
+        (b"emit x / 1", least, Wanted::Emits(&[i64::MIN])),
+        (b"emit x / 0", least, Wanted::Traps(Kind::DivideByZero)),
+        (b"emit x + -1", least, Wanted::Traps(Kind::Overflow)),
+        (b"emit x - -1", i64::MAX, Wanted::Traps(Kind::Overflow)),
+        (b"emit x * -1", least, Wanted::Traps(Kind::Overflow)),
+        (b"emit -x - 1", i64::MAX, Wanted::Emits(&[i64::MIN])),
+    ];
+    for (body, x, it) in table {
+        let wanted = answer_wanted(alloc, it)?;
+        assert_eq!(rt; answer_of(alloc, body, x, b"int")?, wanted);
+    }
+    Ok(())
+}
+
+#[test]
+fn members_and_lengths_have_their_edges(rt: HostRuntime) -> Result<(), Fail> {
+    let alloc = rt.alloc();
+    let table: [(&[u8], i64, Wanted); 6] = [
+        (b"emit [4, 5, 6][x]", 3, Wanted::Traps(Kind::BadIndex)),
+        (b"let l = [4, 5] emit l[x]", 1, Wanted::Emits(&[5])),
+        (b"let l = [4] emit l[x]", 1, Wanted::Traps(Kind::BadIndex)),
+        (b"emit empty<int>[x]", 0, Wanted::Traps(Kind::BadIndex)),
+        (
+            b"emit len(\"\") emit len(\"a b\")",
+            0,
+            Wanted::Emits(&[0, 3]),
+        ),
+        (
+            b"emit len(empty<int>) emit len([x, x])",
+            0,
+            Wanted::Emits(&[0, 2]),
+        ),
+    ];
+    for (body, x, it) in table {
+        let wanted = answer_wanted(alloc, it)?;
+        assert_eq!(rt; answer_of(alloc, body, x, b"int")?, wanted);
+    }
+    Ok(())
+}
+
+#[test]
+fn numbers_are_read(rt: HostRuntime) -> Result<(), Fail> {
+    let alloc = rt.alloc();
+    let table: [(&[u8], Option<i64>); 9] = [
+        (b"emit number(\"9223372036854775807\")", Some(i64::MAX)),
+        (b"emit number(\"-9223372036854775808\")", Some(i64::MIN)),
+        (b"emit number(\"-012\")", Some(-12)),
+        (b"emit number(\"9223372036854775808\")", None),
+        (b"emit number(\"-9223372036854775809\")", None),
+        (b"emit number(\"\")", None),
+        (b"emit number(\"-\")", None),
+        (b"emit number(\" 1\")", None),
+        (b"emit number(\"1a\")", None),
+    ];
+    for (body, read) in table {
+        let wanted = match read {
+            Some(n) => Answer::Emits(ints(alloc, &[n])?),
+            None => Answer::Trap(Kind::BadNumber),
+        };
+        assert_eq!(rt; answer_of(alloc, body, 0, b"int")?, wanted);
+    }
+    Ok(())
+}
+
+#[test]
+fn the_first_trap_ends_a_call(rt: HostRuntime) -> Result<(), Fail> {
+    let alloc = rt.alloc();
+    let table: [(&[u8], Kind); 9] = [
+        (b"emit 1 / x + [1][5]", Kind::DivideByZero),
+        (b"emit [1][5] + 1 / x", Kind::BadIndex),
+        (b"emit [1 / x][5]", Kind::DivideByZero),
+        (b"emit {p: number(\"a\"), q: 1 / x}.q", Kind::BadNumber),
+        (b"emit 1 for y in [1, x] { emit 1 / y }", Kind::DivideByZero),
+        (
+            b"for y in [1, number(\"a\")] { emit 1 / x }",
+            Kind::BadNumber,
+        ),
+        (b"let y = 1 / x emit 1", Kind::DivideByZero),
+        (b"if [true][1] { emit 1 / x }", Kind::BadIndex),
+        (
+            b"case left<int>([1][9]) left n { } right m { emit 1 / x }",
+            Kind::BadIndex,
+        ),
+    ];
+    for (body, kind) in table {
+        assert_eq!(rt; answer_of(alloc, body, 0, b"int")?, Answer::Trap(kind));
+    }
+    Ok(())
+}
+
+#[test]
 fn what_is_not_needed_does_not_trap(rt: HostRuntime) -> Result<(), Fail> {
     let alloc = rt.alloc();
     let table: [(&[u8], Wanted); 8] = [

@@ -35,6 +35,44 @@ fn fields_and_members_are_emitted(rt: HostRuntime) -> Result<(), Fail> {
 }
 
 #[test]
+fn a_for_emits_its_members(rt: HostRuntime) -> Result<(), Fail> {
+    let alloc = rt.alloc();
+    let table: [(&[u8], &'static [&'static [u8]]); 8] = [
+        (
+            b"emit x.b for w in words(x.a) { emit w } emit x.b",
+            &[b"three", b"one", b"two", b"three"],
+        ),
+        (
+            b"for v in x.all { for w in words(x.a) { emit w } }",
+            &[b"one", b"two", b"one", b"two"],
+        ),
+        (
+            b"emit x.b for v in x.all { emit v } emit x.all[0]",
+            &[b"three", b"x", b"y", b"x"],
+        ),
+        (
+            b"let y = \"q\" for w in words(x.a) { emit y }",
+            &[b"q", b"q"],
+        ),
+        (
+            b"for w in words(x.a) { emit w emit w }",
+            &[b"one", b"one", b"two", b"two"],
+        ),
+        (
+            b"for w in words(\"a\\tb  c \") { emit w }",
+            &[b"a\tb", b"c"],
+        ),
+        (b"for w in words(\"  \") { emit w }", &[]),
+        (b"for w in empty<text> { emit w }", &[]),
+    ];
+    for (body, all) in table {
+        let wanted = Answer::Emits(texts(alloc, all)?);
+        assert_eq!(rt; answer_on_row(alloc, body, 1, b"text")?, wanted);
+    }
+    Ok(())
+}
+
+#[test]
 fn records_are_emitted(rt: HostRuntime) -> Result<(), Fail> {
     let alloc = rt.alloc();
     let table: [(&[u8], bool); 6] = [

@@ -1,6 +1,6 @@
 //! The reducer of a lifted channel, key by key.
 //!
-//! What was gathered of a partition of a lifted channel are accumulators, which `merge_by_key`
+//! What was gathered of a partition of a lifted channel are accumulators, which `merge_borrowed`
 //! makes one a key, keys ascending. The root of the channel's reducer combines: what it answers of
 //! a key's group is what the key's accumulator finishes as. So the groups themselves are never
 //! made: `run_root` finishes an accumulator and runs the steps on the root's outputs on what comes

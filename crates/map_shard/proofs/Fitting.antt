@@ -1,19 +1,14 @@
--- The pairs of each partition are fit for a combiner where all pairs are.
-use Rattle.std.proofs.Common.{◌≡◌, ℕ, List, get_or, sym, subst}
+-- What refers to pairs that are fit for a combiner.
+use Rattle.std.proofs.Common.{◌≡◌, List, map, sym, subst}
 use Rattle.std.specs.Prelude.{All}
-use Rattle.std.specs.List.{range_with_len}
-use Rattle.std.proofs.lemmas.List.Elements.{All-filter, All-map}
+use Rattle.std.specs.Borrow.{Bor}
 use Rattle.flume_value.specs.declared.value.Value.{Value}
 use Rattle.combine_table.specs.declared.comb.Comb.{Comb}
 use Rattle.partial_tables.specs.Merges.{IsCombinable}
-use Rattle.shuffle_parts.specs.Partitions.{falls_in, part_of, parted}
+use Rattle.shuffle_parts.proofs.Borrowed.{all_back}
 
-pub parts_fit : (c : Comb) (n : ℕ) (pairs : List Value) (parts : List (List Value))
-    → parts ≡ parted n pairs → All (IsCombinable c) pairs
-    → All (λ (part : List Value). All (IsCombinable c) part) parts
-parts_fit c n pairs parts e all =
-    subst (All (λ (part : List Value). All (IsCombinable c) part)) (sym e)
-    (All-map (λ (part : List Value). All (IsCombinable c) part) (λ p. part_of n p pairs)
-    (range_with_len 0 n)
-    (λ k d h. All-filter (falls_in n (get_or (range_with_len 0 n) k d)) (IsCombinable c) pairs
-    all))
+pub referred_fit : (c : Comb) (refs : List (Bor Value)) (pairs : List Value)
+    → map (λ (p : Bor Value). p.now) refs ≡ pairs → All (IsCombinable c) pairs
+    → All (λ (p : Bor Value). IsCombinable c p.now) refs
+referred_fit c refs pairs e all =
+    all_back (λ (p : Bor Value). p.now) (IsCombinable c) refs (subst (All (IsCombinable c)) (sym e) all)

@@ -1,11 +1,10 @@
 -- The accumulators of the keys' values finish as the groups combine.
 use Rattle.std.proofs.Common.{◌≡◌, Option, Some, List, [], ◌∷◌, map, refl, sym, ap, ◌∙◌}
-use Rattle.std.specs.Prelude.{Result, option_map, filter_map}
+use Rattle.std.specs.Prelude.{option_map}
 use Rattle.std.specs.List.{cons_option}
 use Rattle.std.specs.Option.{option_and_then}
 use Rattle.flume_value.specs.declared.value.Value.{Value}
 use Rattle.flume_value.specs.declared.value.Value.TheVariants as value
-use Rattle.flume_value.specs.declared.fault.Kind.{Kind}
 use Rattle.flume_value.specs.Bag.{bag_of}
 use Rattle.flume_value.specs.Parts.{members_of, list_layer}
 use Rattle.flume_value.proofs.BagLemmas.{bag_of-twice}

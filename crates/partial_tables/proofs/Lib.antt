@@ -1,4 +1,5 @@
 pub mod Adding
+pub mod Borrowed
 pub mod Equals
 pub mod Finishing
 pub mod Keys

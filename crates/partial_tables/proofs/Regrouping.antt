@@ -1,7 +1,9 @@
 -- Accumulators that are merged in a table stand for what they stood for one by one.
-use Rattle.std.proofs.Common.{◌≡◌, true, false, cond, Bool, ◌||◌, List, [], ◌∷◌, ◌++◌, refl, sym, ap, ◌∙◌, subst, append_assoc, append-nil}
+use Rattle.std.proofs.Common.{◌≡◌, true, false, cond, Bool, ◌||◌, List, [], ◌∷◌, ◌++◌, refl, sym, ap, ◌∙◌, subst, append_assoc, append-nil, map}
 use Rattle.std.specs.Prelude.{Option, Some, None, option_map, unwrap_or}
+use Rattle.std.specs.Borrow.{Bor}
 use Rattle.std.specs.List.{cons_option}
+use Rattle.std.proofs.lemmas.List.{map-append}
 use Rattle.std.proofs.lemmas.List.Elements.{All-from_recursion, filter_map-append, recursion_from_All}
 use Rattle.flume_value.specs.declared.value.Value.{Value}
 use Rattle.flume_value.specs.Equality.{value_eq}
@@ -172,6 +174,20 @@ lifted_more c d old now xs pair k a is s lift put =
     (parts_more c old now (pairs_of xs) k a (parts_of pair) s lift
     (subst (λ e. HaveShape e old → Regrouped e (old ++ (k, a) ∷ []) now) is put
     (recursion_from_All (IsPartialOf c) old s.shape)))
+
+-- the same, of pairs and of accumulators that are referred to
+pub borrowed_more : (c d : Comb) (old now : Pairs) (xs : List (Bor Value)) (pair : Bor Value)
+    (k v a : Value) → d ≡ c → StandFor c old (pairs_of (map (λ (x : Bor Value). x.now) xs))
+    → parts_of pair.now ≡ Some (k, v) → a ≡ accumulator c (v ∷ [])
+    → (HaveShape d old → Regrouped d (old ++ (k, a) ∷ []) now)
+    → StandFor c now (pairs_of (map (λ (x : Bor Value). x.now) (xs ++ pair ∷ [])))
+borrowed_more c d old now xs pair k v a is s parts made put =
+    subst (λ l. StandFor c now (pairs_of l))
+    (sym (map-append (λ (x : Bor Value). x.now) xs (pair ∷ [])))
+    (lifted_more c d old now (map (λ (x : Bor Value). x.now) xs) pair.now k a is s
+    (ap (option_map (λ ps. (ps.0, accumulator c (ps.1 ∷ [])))) parts
+    ∙ ap (λ b. Some (k, b)) (sym made))
+    put)
 
 -- an accumulator more
 pub merged_more : (c : Comb) (old now ps : Pairs) (k a : Value) → Regrouped c ps old

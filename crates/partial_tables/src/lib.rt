@@ -15,6 +15,6 @@ mod merge;
 mod table;
 
 pub use laws::partials_law;
-pub use lift::lift_pairs;
-pub use merge::merge_by_key;
+pub use lift::{lift_borrowed, lift_pairs};
+pub use merge::{merge_borrowed, merge_by_key};
 pub use table::{AddFault, Partial, Partials};

@@ -1,4 +1,4 @@
-ghost use Rattle.std.specs.Prelude.{◌≡◌, ◌<◌, All, IfOk, OnOk, length};
+ghost use Rattle.std.specs.Prelude.{◌≡◌, ◌<◌, All, IfOk, OnOk, length, map};
 ghost use Rattle.partial_tables.specs.Tables.{IsPartialOf, added, holding};
 ghost use Rattle.partial_tables.specs.Merges.{merged_by_key};
 
@@ -21,6 +21,46 @@ pub fn merge_by_key(
         merge_in(alloc, comb, &mut table, partial)?;
     }
     table.into_ascending(alloc)
+}
+
+/// One accumulator for each key of those that are referred to, as `merge_by_key` makes them. A key
+/// is copied where it is new in the table.
+pub fn merge_borrowed(
+    alloc: Global,
+    comb: Comb,
+    partials: Vec<&Partial>,
+) -> Result<Vec<Partial>, AllocError>
+    requires { All (λ partial. IsPartialOf comb partial.now) partials.items }
+    ensures { IfOk result (λ merged. merged.items
+        ≡ merged_by_key comb (map (λ partial. partial.now) partials.entry.items)) }
+{
+    let mut table = Partials::new(alloc, comb, partials.len() as u64);
+    for partial in partials {
+        merge_in_copy(alloc, comb, &mut table, partial)?;
+    }
+    table.into_ascending(alloc)
+}
+
+// Adds a copy of an accumulator to a table that has room for one more.
+fn merge_in_copy(
+    alloc: Global,
+    _comb: Comb,
+    table: &mut Partials,
+    partial: &Partial,
+) -> Result<(), AllocError>
+    requires comb { table.old.comb ≡ _comb }
+    requires partial { IsPartialOf _comb partial.now }
+    requires room { length table.old.partials < table.old.room }
+    ensures added { OnOk result (table.new
+        ≡ holding table.old (added _comb table.old.partials partial.now.0 partial.now.1)) }
+    ensures partial { IsPartialOf _comb partial.now }
+{
+    let (key, acc) = partial;
+    match table.add_copy(alloc, key, acc.copy(alloc)?) {
+        Ok(()) => Ok(()),
+        Err(AddFault::Memory) => Err(AllocError),
+        Err(AddFault::Full { .. }) => unreachable!(),
+    }
 }
 
 // Adds an accumulator to a table that has room for one more.

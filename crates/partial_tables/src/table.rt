@@ -95,6 +95,33 @@ impl Partials {
         }
     }
 
+    /// Adds an accumulator as `add` does, and copies the key where it is new alone.
+    pub fn add_copy(&mut self, alloc: Global, key: &Value, acc: Value) -> Result<(), AddFault>
+        requires shape { HasShape self.old.comb acc }
+        ensures added { OnOk result
+            (self.new ≡ holding self.old (added self.old.comb self.old.partials key.now acc)) }
+        ensures room { OnOk result (IsFalse (has_key key.now self.old.partials) →
+            length self.old.partials < self.old.room) }
+        ensures refused { IfErr result (IsRefused self.old key.now acc self.new) }
+    {
+        match self.table.get_index_of(key) {
+            Some(at) => match merge_into(alloc, self.comb, &mut self.table[at], acc) {
+                Ok(()) => Ok(()),
+                Err(AllocError) => {
+                    clear(alloc, &mut self.table);
+                    Err(AddFault::Memory)
+                }
+            },
+            None => match key.copy(alloc) {
+                Ok(key) => self.add(alloc, key, acc),
+                Err(AllocError) => {
+                    clear(alloc, &mut self.table);
+                    Err(AddFault::Memory)
+                }
+            },
+        }
+    }
+
     /// Takes all that the table has, in order. The table is empty afterwards, also where memory is
     /// wanting.
     pub fn take(&mut self, alloc: Global) -> Result<Vec<Partial>, AllocError>

@@ -4,6 +4,7 @@ ghost use Rattle.std.specs.List.{AllByRecursion};
 ghost use Rattle.flume_value.specs.declared.value.Value.{Value as GhostValue};
 ghost use Rattle.partial_tables.specs.Merges.{merged_by_key};
 ghost use Rattle.partial_tables.specs.Tables.{IsPartialOf};
+ghost use Rattle.shuffle_parts.specs.Outs.{all_partials};
 ghost use Rattle.crew.specs.Hosts.{account};
 ghost use Rattle.crew.specs.Drills.{attempt_at};
 ghost use Rattle.crew.specs.Attempts.{IsMadeOf, MatchAttempt, Ran, StoppedDown, StoppedEarly};
@@ -24,38 +25,55 @@ use forest_run::{Course, ask_all, trapped};
 use forest_steps::{Functions, Outputs, StepFault, sizes_of};
 use lifted_root::run_root;
 use outside::{Down, Host};
-use partial_tables::{Partial, merge_by_key};
+use partial_tables::{Partial, merge_borrowed};
+use shuffle_parts::{MapOut, gather_partials};
 use std::alloc::{AllocError, Global};
 
-/// The steps on the groups for which the accumulators stand, merged by key.
-pub(crate) fn reduce_partials<F: Functions, H: Host>(
+/// The accumulators of a partition of a lifted channel, merged by key where they stand.
+pub(crate) fn merge_gathered(
+    alloc: Global,
+    comb: Comb,
+    outs: &[MapOut],
+    channel: usize,
+    partition: usize,
+) -> Result<Vec<Partial>, AllocError>
+    requires { All (IsPartialOf comb) (all_partials outs.now channel partition) }
+    ensures { IfOk result (λ merged.
+        merged.items ≡ merged_by_key comb (all_partials outs.now channel partition)) }
+{
+    let partials = gather_partials(alloc, outs, channel, partition)?;
+    let merged = merge_borrowed(alloc, comb, partials)?;
+    Ok(merged)
+}
+
+/// The steps on the groups for which the accumulators answer, one a key.
+pub(crate) fn reduce_merged<F: Functions, H: Host>(
     alloc: Global,
     functions: &F,
     roots: &Roots,
     comb: Comb,
-    partials: Vec<Partial>,
+    merged: Vec<Partial>,
     host: &mut H,
     spot: &Spot,
     task: u32,
 ) -> Result<Attempt<Reduced>, AllocError>
     requires root { root_comb roots.now ≡ Some comb }
     requires numbered { numbered 0 roots.now ≡ roots.now }
-    requires shape { All (IsPartialOf comb) partials.items }
+    requires shape { All (IsPartialOf comb) merged.items }
     requires ready { CanRun (world_of (F.called functions.now)) (F.can_call functions.now) comb
-        roots.now (merged_by_key comb partials.items) }
+        roots.now merged.items }
     ensures value { IfOk result (IsMadeOf (λ out. (groups : List GhostValue) →
-        AnswerFor (world_of (F.called functions.now)) comb (merged_by_key comb partials.items)
+        AnswerFor (world_of (F.called functions.now)) comb merged.items
         groups → IsValueOf (F.called functions.now) (Some roots.now) groups out)) }
     ensures ran { IfOk result (λ r. MatchAttempt r
-        (Ran (attempt_at spot.now task) (length (merged_by_key comb partials.items))
+        (Ran (attempt_at spot.now task) (length merged.items)
         (account H.notes H.losses host.old) (account H.notes H.losses host.new))
-        (StoppedDown (attempt_at spot.now task) (length (merged_by_key comb partials.items))
+        (StoppedDown (attempt_at spot.now task) (length merged.items)
         (account H.notes H.losses host.old) (account H.notes H.losses host.new))) }
     ensures early { OnErr result
-        (StoppedEarly (attempt_at spot.now task) (length (merged_by_key comb partials.items))
+        (StoppedEarly (attempt_at spot.now task) (length merged.items)
         (account H.notes H.losses host.old) (account H.notes H.losses host.new)) }
 {
-    let merged = merge_by_key(alloc, comb, partials)?;
     let groups = merged.len();
     match run_merged(alloc, functions, roots, comb, merged, host, spot, task)? {
         Attempt::Made(course) => Ok(Attempt::Made(reduced(course, groups))),
@@ -63,7 +81,7 @@ pub(crate) fn reduce_partials<F: Functions, H: Host>(
     }
 }
 
-// The steps on the groups for which the accumulators answer, one a key.
+// What the steps come to on the groups for which the accumulators answer, one a key.
 fn run_merged<F: Functions, H: Host>(
     alloc: Global,
     functions: &F,

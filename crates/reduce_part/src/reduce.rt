@@ -16,7 +16,7 @@ ghost use Rattle.forest_steps.specs.Safety.{SafeOf};
 ghost use Rattle.reduce_part.specs.Reducing.{IsReducedFrom, IsReduceValue, IsReducible, group_count};
 ghost use Rattle.reduce_part.specs.inner.Merged.{IsValueOf};
 
-use crate::lifted::reduce_partials;
+use crate::lifted::{merge_gathered, reduce_merged};
 use crate::out::{ReduceOut, Reduced};
 use bag_groups::group;
 use crew::{Attempt, Spot};
@@ -26,7 +26,7 @@ use flume_value::{Pile, Value};
 use forest_run::{Course, run_task};
 use forest_steps::Functions;
 use outside::Host;
-use shuffle_parts::{MapOut, gather_pairs, gather_partials};
+use shuffle_parts::{MapOut, gather_pairs};
 use std::alloc::{AllocError, Global};
 
 /// The reducer on the groups of a partition of a grouping channel, which is the output channel of
@@ -64,8 +64,8 @@ pub(crate) fn reduce_partition<F: Functions, H: Host>(
             reduce_pairs(alloc, functions, does, pairs, host, spot, task)
         }
         (Some(comb), Some(roots)) => {
-            let partials = gather_partials(alloc, outs, channel, partition)?;
-            reduce_partials(alloc, functions, roots, comb, partials, host, spot, task)
+            let merged = merge_gathered(alloc, comb, outs, channel, partition)?;
+            reduce_merged(alloc, functions, roots, comb, merged, host, spot, task)
         }
         (Some(_), None) => unreachable!(),
     }

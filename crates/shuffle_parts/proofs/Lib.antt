@@ -1,3 +1,4 @@
+pub mod Borrowed
 pub mod Gathered
 pub mod Parting
 pub mod Passing

@@ -1,4 +1,4 @@
-ghost use Rattle.std.specs.Prelude.{◌≡◌, ◌++◌, IfOk, OnOk, slice_get};
+ghost use Rattle.std.specs.Prelude.{◌≡◌, ◌++◌, IfOk, OnOk, map, slice_get};
 ghost use Rattle.std.specs.Option.{option_copied};
 ghost use Rattle.partial_tables.specs.Tables.{Pairs};
 ghost use Rattle.shuffle_parts.specs.Outs.{or_none, sent_at, passed_in, pairs_in, partials_in, all_passed, all_pairs, all_partials};
@@ -39,18 +39,20 @@ pub fn gather_pairs(
     Ok(all)
 }
 
-/// The accumulators of a partition of a channel that combines, of all outs in order of tasks.
-pub fn gather_partials(
+/// The accumulators of a partition of a channel that combines, of all outs in order of tasks. They
+/// stay where they are.
+pub fn gather_partials<'a>(
     alloc: Global,
-    outs: &[MapOut],
+    outs: &'a [MapOut],
     channel: usize,
     partition: usize,
-) -> Result<Vec<Partial>, AllocError>
-    ensures { IfOk result (λ all. all.items ≡ all_partials outs.now channel partition) }
+) -> Result<Vec<&'a Partial>, AllocError>
+    ensures { IfOk result (λ all.
+        map (λ partial. partial.now) all.items ≡ all_partials outs.now channel partition) }
 {
     let mut all = Vec::new(alloc);
     for out in outs {
-        append_partials(alloc, partials_of(out, channel, partition), &mut all)?;
+        append_partials(partials_of(out, channel, partition), &mut all)?;
     }
     Ok(all)
 }
@@ -102,17 +104,16 @@ fn append_values(alloc: Global, values: &[Value], all: &mut Vec<Value>) -> Resul
     Ok(())
 }
 
-// Puts copies of the accumulators, with their keys, behind the others.
-fn append_partials(
-    alloc: Global,
-    partials: &[Partial],
-    all: &mut Vec<Partial>,
+// Puts references to the accumulators behind the others.
+fn append_partials<'a>(
+    partials: &'a [Partial],
+    all: &mut Vec<&'a Partial>,
 ) -> Result<(), AllocError>
-    ensures { OnOk result (all.new.items ≡ all.old.items ++ partials.now) }
+    ensures { OnOk result (map (λ partial. partial.now) all.new.items
+        ≡ map (λ partial. partial.now) all.old.items ++ partials.now) }
 {
-    for (key, acc) in partials {
-        let key = key.copy(alloc)?;
-        all.push((key, acc.copy(alloc)?))?;
+    for partial in partials {
+        all.push(partial)?;
     }
     Ok(())
 }

@@ -3,7 +3,7 @@
 //! A map task gives each output channel a list of values, or lists of pairs parted by the
 //! partition of their keys, or for each partition accumulators that stand for its pairs
 //! (`Sent`). `part` parts pairs by their keys alone, so that all pairs of a key are in one
-//! partition (`parts_law`), and `combine_parts` makes accumulators of each part.
+//! partition (`parts_law`), and `combine_pairs` makes accumulators of each part.
 //!
 //! A reduce task gathers its partition of all tasks, in order of tasks. Where each task gave what
 //! was right, that is all pairs of the partition, or accumulators that stand for them
@@ -16,7 +16,7 @@ mod laws;
 mod out;
 mod parts;
 
-pub use combine::combine_parts;
+pub use combine::combine_pairs;
 pub use gather::{gather_pairs, gather_partials, gather_passed};
 pub use laws::{gathered_law, parts_law};
 pub use out::{MapOut, Sent};

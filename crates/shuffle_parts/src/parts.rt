@@ -1,4 +1,4 @@
-ghost use Rattle.std.specs.Prelude.{◌≡◌, ◌<◌, [], All, IfOk};
+ghost use Rattle.std.specs.Prelude.{◌≡◌, ◌<◌, [], All, IfOk, map};
 ghost use Rattle.bag_groups.specs.Pairs.{IsPair};
 ghost use Rattle.shuffle_parts.specs.Partitions.{parted};
 
@@ -27,6 +27,37 @@ fn no_pairs(alloc: Global, partitions: u32) -> Result<Vec<Items>, AllocError>
     let mut parts = Vec::new(alloc);
     for _i in 0..partitions {
         parts.push(Pile::new(alloc))?;
+    }
+    Ok(parts)
+}
+
+/// The pairs that are referred to by the partition of their keys, as `part` parts them.
+pub(crate) fn part_borrowed<'a>(
+    alloc: Global,
+    pairs: Vec<&'a Value>,
+    partitions: u32,
+) -> Result<Vec<Vec<&'a Value>>, AllocError>
+    requires some { 0 < partitions }
+    requires pairs { All (λ pair. IsPair pair.now) pairs.items }
+    ensures { IfOk result (λ parts. map (λ part. map (λ pair. pair.now) part.items) parts.items
+        ≡ parted partitions (map (λ pair. pair.now) pairs.entry.items)) }
+{
+    let mut parts = none_borrowed(alloc, partitions)?;
+    for pair in pairs {
+        let at = partition(key(pair), partitions);
+        parts[at as usize].push(pair)?;
+    }
+    Ok(parts)
+}
+
+// So many empty lists of references.
+fn none_borrowed<'a>(alloc: Global, partitions: u32) -> Result<Vec<Vec<&'a Value>>, AllocError>
+    ensures { IfOk result (λ parts. map (λ part. map (λ pair. pair.now) part.items) parts.items
+        ≡ parted partitions []) }
+{
+    let mut parts = Vec::new(alloc);
+    for _i in 0..partitions {
+        parts.push(Vec::new(alloc))?;
     }
     Ok(parts)
 }

@@ -5,10 +5,10 @@ ghost use Rattle.partial_tables.specs.Merges.{IsCombinable};
 
 use bag_groups::pair;
 use combine_table::Comb;
-use flume_value::{Items, Pile, Value, partition};
+use flume_value::{Pile, Value, partition};
 use partial_tables::lift_pairs;
 use shuffle_parts::{
-    MapOut, Sent, combine_parts, gather_pairs, gather_partials, gather_passed, part,
+    MapOut, Sent, combine_pairs, gather_pairs, gather_partials, gather_passed, part,
 };
 use std::alloc::{AllocError, Global};
 use std::test::Fail;
@@ -93,9 +93,10 @@ fn accumulators_are_gathered_in_order_of_tasks(rt: HostRuntime) -> Result<(), Fa
 }
 
 #[test]
-fn no_parts_combine_to_none(rt: HostRuntime) -> Result<(), Fail> {
+fn no_pairs_combine_to_empty_parts(rt: HostRuntime) -> Result<(), Fail> {
     let alloc = rt.alloc();
-    let none: Pile<Items> = Pile::new(alloc);
-    assert!(rt; combine_parts(alloc, Comb::Sum, none)?.is_empty());
+    let none: Vec<&Value> = Vec::new(alloc);
+    let parts = combine_pairs(alloc, Comb::Sum, none, 2)?.into_vec();
+    assert!(rt; parts.len() == 2 && parts[0].is_empty() && parts[1].is_empty());
     Ok(())
 }

@@ -1,7 +1,7 @@
-use Rattle.map_shard.proofs.Fitting.{parts_fit}
+use Rattle.map_shard.proofs.Fitting.{referred_fit}
 use Rattle.map_shard.proofs.send.send_pairs.Goals as goal
 
-pub combine_parts-requires : goal.combine_parts-requires
-combine_parts-requires c =
-    parts_fit c.in-Some.comb c.args.partitions c.args.pairs.items c.in_ok-parts-in-Some.parts
-    c.in_ok-parts-in-Some.ensures (rw c.in-Some.is at c.requires.pairs)
+pub combine_pairs-requires-clause-pairs : goal.combine_pairs-requires-clause-pairs
+combine_pairs-requires-clause-pairs c =
+    referred_fit c.in-Some.comb c.in_ok-pairs-in-Some.pairs.items _
+    c.in_ok-pairs-in-Some.ensures (rw c.in-Some.is at c.requires.pairs)

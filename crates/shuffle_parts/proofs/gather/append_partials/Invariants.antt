@@ -1,5 +1,7 @@
-use Rattle.std.proofs.Common.{◌≡◌, ◌++◌, take}
+use Rattle.std.proofs.Common.{◌≡◌, ◌++◌, take, map}
 use Rattle.shuffle_parts.proofs.gather.append_partials.Given as goal
 
-abbrev pub invariant-loop-key : goal.invariant-loop-key
-invariant-loop-key l = l.all.items ≡ l.fn.all.items ++ take l.key-index l.partials
+abbrev pub invariant-loop-partial : goal.invariant-loop-partial
+invariant-loop-partial l =
+    map (λ p. p.now) l.all.items
+    ≡ map (λ p. p.now) l.fn.all.items ++ take l.partial-index l.partials

@@ -1,0 +1,113 @@
+-- Bodies, operations, statements and scripts stay so with other contents.
+use Rattle.std.proofs.Common.{ℕ, ◌≤◌, List, [], ◌∷◌, ◌++◌, Option, refl, sym, subst}
+use Rattle.flume_tokens.specs.declared.token.Token.{Token}
+use Rattle.flume_grammar.specs.declared.tree.Body.{Body}
+use Rattle.flume_grammar.specs.declared.tree.Combiner.{Combiner}
+use Rattle.flume_grammar.specs.declared.tree.Operation.{Operation}
+use Rattle.flume_grammar.specs.declared.tree.Statement.{Statement}
+use Rattle.flume_grammar.specs.Limits.{Limits}
+use Rattle.flume_grammar.specs.Grammar as g
+use Rattle.beginning_spelling.proofs.Fillings.{Plan, on, Filled, FilledList, one_more}
+use Rattle.beginning_spelling.proofs.FilledTypes.{whole_type_filled}
+use Rattle.beginning_spelling.proofs.FilledExpressions.{expression_filled}
+
+combiner_filled : {ts us : List Token} {c : Combiner} → g.IsCombiner ts us c → (p : Plan)
+    → Filled (λ xs ys x. g.IsCombiner xs ys x) p ts us
+combiner_filled g.sum p = (on p, _, g.sum)
+combiner_filled g.count p = (on p, _, g.count)
+combiner_filled g.min p = (on p, _, g.min)
+combiner_filled g.max_ p = (on p, _, g.max_)
+combiner_filled g.all p = (on p, _, g.all)
+combiner_filled g.any p = (on p, _, g.any)
+combiner_filled g.top p = (on (on p), _, g.top)
+
+names_filled : {ts us : List Token} {ns : List (List ℕ)} → g.AreNames ts us ns → (p : Plan)
+    → FilledList (λ xs ys ms. g.AreNames xs ys ms) p ts us ns
+names_filled g.one p = (on p, (p 0).word ∷ [], refl, g.one)
+names_filled (g.more {x} {xs} h) p = let (q, ms, n, j) = names_filled h p in
+    (on (on q), ms ++ (q 1).word ∷ [], one_more xs ms x ((q 1).word) n, g.more j)
+
+scale_filled : {ts us : List Token} {o : Option (List ℕ)} → g.IsScale ts us o → (p : Plan)
+    → Filled (λ xs ys x. g.IsScale xs ys x) p ts us
+scale_filled g.absent p = (p, _, g.absent)
+scale_filled g.present p = (on (on p), _, g.present)
+
+module _ (limits : Limits) where
+  mutual
+    body_filled : {ts us : List Token} {s : Body} {a : ℕ} → g.IsBody limits ts us s a
+        → (p : Plan) → Filled (λ xs ys x. g.IsBody limits xs ys x a) p ts us
+    body_filled (g.let_ x) p =
+        let (q, e, y) = expression_filled limits x (on (on (on p))) in (q, _, g.let_ y)
+    body_filled (g.emit x) p =
+        let (q, e, y) = expression_filled limits x (on p) in (q, _, g.emit y)
+    body_filled (g.if_ x b) p =
+        let (q, e, y) = expression_filled limits x (on p) in
+        let (r, ss, c) = block_filled b q in
+        (r, _, g.if_ y c)
+    body_filled (g.if_else x b c) p =
+        let (q, e, y) = expression_filled limits x (on p) in
+        let (r, ss, v) = block_filled b q in
+        let (s, rs, w) = block_filled c (on r) in
+        (s, _, g.if_else y v w)
+    body_filled (g.for_ x b) p =
+        let (q, e, y) = expression_filled limits x (on (on (on p))) in
+        let (r, ss, c) = block_filled b q in
+        (r, _, g.for_ y c)
+    body_filled (g.case_ x b c) p =
+        let (q, e, y) = expression_filled limits x (on p) in
+        let (r, ss, v) = block_filled b (on (on q)) in
+        let (s, rs, w) = block_filled c (on (on r)) in
+        (s, _, g.case_ y v w)
+
+    block_filled : {ts us : List Token} {ss : List Body} {a : ℕ} → g.IsBlock limits ts us ss a
+        → (p : Plan) → Filled (λ xs ys x. g.IsBlock limits xs ys x a) p ts us
+    block_filled (g.braces b) p =
+        let (q, ss, c) = bodies_filled b (on p) in (on q, _, g.braces c)
+
+    bodies_filled : {ts us : List Token} {ss : List Body} {a : ℕ}
+        → g.AreBodies limits ts us ss a → (p : Plan)
+        → Filled (λ xs ys x. g.AreBodies limits xs ys x a) p ts us
+    bodies_filled g.none_ p = (p, _, g.none_)
+    bodies_filled (g.some b s) p =
+        let (q, ss, c) = bodies_filled b p in
+        let (r, t, d) = body_filled s q in
+        (r, _, g.some c d)
+
+  operation_filled : {ts us : List Token} {o : Operation} → g.IsOperation limits ts us o
+      → (p : Plan) → Filled (λ xs ys x. g.IsOperation limits xs ys x) p ts us
+  operation_filled g.do_ p = (on (on (on p)), _, g.do_)
+  operation_filled g.group p = (on (on p), _, g.group)
+  operation_filled (g.combine c) p =
+      let (q, d, y) = combiner_filled c (on (on (on p))) in (q, _, g.combine y)
+  operation_filled (g.flatten h l) p =
+      let (q, ms, n, y) = names_filled h (on p) in
+      (q, _, g.flatten y (subst (λ k. k ≤ limits.inputs) (sym n) l))
+  operation_filled g.count p = (on (on p), _, g.count)
+  operation_filled g.join p = (on (on (on (on p))), _, g.join)
+  operation_filled g.top p = (on (on (on p)), _, g.top)
+
+  statement_filled : {ts us : List Token} {s : Statement} → g.IsStatement limits ts us s
+      → (p : Plan) → Filled (λ xs ys x. g.IsStatement limits xs ys x) p ts us
+  statement_filled (g.type_ w) p =
+      let (q, t, y) = whole_type_filled limits w (on (on (on p))) in (q, _, g.type_ y)
+  statement_filled (g.input w) p =
+      let (q, t, y) = whole_type_filled limits w (on (on (on p))) in (on (on q), _, g.input y)
+  statement_filled (g.fn_ v w c b l) p =
+      let (q, s, x) = whole_type_filled limits v (on (on (on (on (on p))))) in
+      let (r, t, y) = whole_type_filled limits w (on (on q)) in
+      let (o, n, z) = scale_filled c r in
+      let (m, ss, d) = block_filled b o in
+      (m, _, g.fn_ x y z d l)
+  statement_filled (g.let_ h) p =
+      let (q, o, y) = operation_filled h (on (on (on p))) in (q, _, g.let_ y)
+  statement_filled g.output p = (on (on (on (on p))), _, g.output)
+
+  -- a script stays one
+  pub script_filled : {ts us : List Token} {ss : List Statement}
+      → g.AreStatements limits ts us ss → (p : Plan)
+      → Filled (λ xs ys x. g.AreStatements limits xs ys x) p ts us
+  script_filled g.none_ p = (p, _, g.none_)
+  script_filled (g.some h s) p =
+      let (q, ss, y) = script_filled h p in
+      let (r, t, z) = statement_filled s q in
+      (r, _, g.some y z)

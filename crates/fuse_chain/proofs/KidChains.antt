@@ -1,0 +1,268 @@
+-- The kids lead from the siblings to the fused graph.
+use Rattle.std.proofs.Common.{◌≡◌, ℕ, ◌<◌, Bool, true, false, cond, ◌||◌, ◌&&◌, List, [], ◌∷◌, ◌++◌, Some, refl, sym, ap, ◌∙◌, subst}
+use Rattle.std.proofs.lemmas.Bool.{eq-eqb, false≢true}
+use Rattle.std.proofs.Math.Bool.{and-false}
+use Rattle.std.proofs.lemmas.List.{append-nil}
+use Rattle.std.proofs.Math.Path.{fun_ext}
+use Rattle.std.specs.List.{AllByRecursion as Each}
+use Rattle.exec_graph.specs.Forests.{Forest}
+use Rattle.exec_graph.specs.declared.graph.Place.{Place}
+use Rattle.exec_graph.specs.declared.graph.Node.{Node}
+use Rattle.exec_graph.specs.declared.graph.Node.TheVariants.{Source, Flatten, Pdo, Gbk}
+use Rattle.exec_graph.specs.declared.graph.Entry.{Entry}
+use Rattle.exec_graph.specs.declared.graph.Graph.{Graph}
+use Rattle.exec_graph.specs.declared.graph.Blocked.{Blocked}
+use Rattle.exec_graph.specs.Meaning.{place, node_at, reads, IsThere}
+use Rattle.exec_graph.specs.Readers.{among, any_node, calls_on, readers, same_place, those}
+use Rattle.exec_graph.specs.Wellformed.{Ascends}
+use Rattle.exec_graph.proofs.Entries.{all_found}
+use Rattle.pardo_fuse.specs.Readers.{CanFuse, Cut, cut_of, is_pdo, is_unmarked}
+use Rattle.pardo_fuse.specs.Fusing.{fused, fused_by, is_first, joined_nodes}
+use Rattle.pardo_fuse.specs.Wellformed.{IsFusible}
+use Rattle.pardo_fuse.proofs.Chaining.{more_inner}
+use Rattle.pardo_fuse.proofs.Fusible.{can_fuse}
+use Rattle.pardo_fuse.proofs.Once.{there_zero}
+use Rattle.pardo_fuse.proofs.Places.{and_left, pdo_is, place_is, same_is, same_self}
+use Rattle.pardo_fuse.proofs.Seeing.{any_at}
+use Rattle.fuse_chain.specs.Cuts.{IsNextKid, siblings_of}
+use Rattle.fuse_chain.specs.Rewrites.{ByKids, InOrder, IsKid, Kid, Leads, Rewrite, is_sibling, other_of}
+use Rattle.fuse_chain.proofs.CutStates.{any_two}
+use Rattle.fuse_chain.proofs.KidSteps.{kid_of_cut}
+use Rattle.fuse_chain.proofs.Splits.{append_end, ascends_last, end, found_of, those_none, those_two}
+use Rattle.fuse_chain.proofs.States.{graph_of}
+
+-- the outputs of which some of these Pdos, or none at all, are readers
+abbrev pub later : Blocked → List Entry → Cut
+later b done = record {
+  graph = b.graph;
+  marks = b.marks;
+  inner = λ c. is_unmarked b c
+      && (any_node (calls_on c) done || cond (any_node (calls_on c) b.graph.nodes) false true);
+}
+
+abbrev pub cut_graph : Cut → Graph
+cut_graph b = graph_of (joined_nodes b) b.graph.outputs b.graph.next
+
+pub can_later : (b : Blocked) (done : List Entry) → CanFuse (cut_of b) → CanFuse (later b done)
+can_later b done can = record {
+  ok = can.ok;
+  single = can.single;
+  marked = can.marked;
+  few = can.few;
+  pdos = λ c h. and_left (is_pdo (node_at b.graph.nodes c.node))
+      (cond (among c b.marks) false true)
+      (and_left (is_unmarked b c) (any_node (calls_on c) done
+      || cond (any_node (calls_on c) b.graph.nodes) false true) h);
+}
+
+same_cut : (g : Graph) (marks : List Place) (i j : Place → Bool) → ((c : Place) → i c ≡ j c)
+    → (let x : Cut = record { graph = g; marks = marks; inner = i } in x)
+    ≡ (let x : Cut = record { graph = g; marks = marks; inner = j } in x)
+same_cut g marks i j h = ap (λ (k : Place → Bool). let x : Cut = record {
+  graph = g;
+  marks = marks;
+  inner = k;
+} in x) (fun_ext h)
+
+-- ---- one node more
+-- the node makes no output more inner
+pub stays : (b : Blocked) (done : List Entry) (e : Entry)
+    → ((c : Place) → calls_on c e.node ≡ true → is_unmarked b c ≡ true
+    → any_node (calls_on c) done ≡ true) → later b (end done e) ≡ later b done
+stays b done e h = same_cut b.graph b.marks (later b (end done e)).inner (later b done).inner
+    (λ c. ap (λ r. is_unmarked b c && (r || cond (any_node (calls_on c) b.graph.nodes) false true))
+    (any_two (calls_on c) done (e ∷ []))
+    ∙ by c (is_unmarked b c) (any_node (calls_on c) done) (calls_on c e.node)
+    (cond (any_node (calls_on c) b.graph.nodes) false true) refl refl refl)
+  where
+    by : (c : Place) (u a t n : Bool) → is_unmarked b c ≡ u → any_node (calls_on c) done ≡ a
+        → calls_on c e.node ≡ t → (u && ((a || (t || false)) || n)) ≡ (u && (a || n))
+    by c false a t n i j k = refl
+    by c true true t n i j k = refl
+    by c true false true n i j k = absurd (false≢true (sym j ∙ h c k i))
+    by c true false false n i j k = refl
+
+-- the node is the first reader of an unmarked output
+pub grows : (b : Blocked) (done : List Entry) (e : Entry) (d : Place) (f : Forest)
+    → e.node ≡ Pdo d f → place d.node 0 ≡ d → is_unmarked b d ≡ true
+    → later b (end done e) ≡ more_inner (later b done) d.node
+grows b done e d f is z u =
+    same_cut b.graph b.marks (later b (end done e)).inner
+    (more_inner (later b done) d.node).inner
+    (λ c. ap (λ r. is_unmarked b c && (r || cond (any_node (calls_on c) b.graph.nodes) false true))
+    (any_two (calls_on c) done (e ∷ []))
+    ∙ ap (λ (x : Node). is_unmarked b c && ((any_node (calls_on c) done || (calls_on c x || false))
+    || cond (any_node (calls_on c) b.graph.nodes) false true)) is
+    ∙ by c (is_unmarked b c) (any_node (calls_on c) done) (same_place c d)
+    (cond (any_node (calls_on c) b.graph.nodes) false true) refl refl
+    ∙ ap (λ (y : Place). same_place c y || (later b done).inner c) (sym z))
+  where
+    by : (c : Place) (v a t n : Bool) → is_unmarked b c ≡ v → same_place c d ≡ t
+        → (v && ((a || (t || false)) || n)) ≡ (t || (v && (a || n)))
+    by c true true true n i k = refl
+    by c true false true n i k = refl
+    by c false a true n i k = absurd (false≢true (sym i
+        ∙ ap (is_unmarked b) (same_is c d k) ∙ u))
+    by c true true false n i k = refl
+    by c true false false n i k = refl
+    by c false a false n i k = refl
+
+-- ---- the chain
+pub record KidsFrom (b : Blocked) (done rest : List Entry) : Type 0 where
+  pub rewrites : List Rewrite
+  pub all : Each (λ r. is_sibling r ≡ false) rewrites
+  pub order : InOrder rewrites
+  pub leads : Leads rewrites (cut_graph (later b done)) (cut_graph (later b b.graph.nodes))
+  pub above : (low : ℕ) → Each (λ d. low < d.number) rest
+      → Each (λ r. low < other_of r) rewrites
+
+module _ (b : Blocked) (fu : IsFusible b) where
+  can : CanFuse (cut_of b)
+  can = can_fuse b fu
+
+  abbrev es : List Entry
+  es = b.graph.nodes
+
+  first_of : (done rest : List Entry) (e : Entry) (d : Place) (f : Forest)
+      → es ≡ done ++ (e ∷ rest) → e.node ≡ Pdo d f
+      → any_node (calls_on d) done ≡ false → is_first e.number (readers es d) ≡ true
+  first_of done rest e d f split is none =
+      ap (λ l. is_first e.number (readers l d)) split
+      ∙ ap (is_first e.number) (those_two (calls_on d) done (e ∷ rest))
+      ∙ ap (λ l. is_first e.number (l ++ those (calls_on d) (e ∷ rest)))
+      (those_none (calls_on d) done none)
+      ∙ ap (λ (x : Node). is_first e.number (cond (calls_on d x) (e.number ∷ readers rest d)
+      (readers rest d))) is
+      ∙ ap (λ r. is_first e.number (cond r (e.number ∷ readers rest d) (readers rest d)))
+      (same_self d)
+      ∙ eq-eqb e.number e.number refl
+
+  outer_more : (done : List Entry) (d : Place) → any_node (calls_on d) done ≡ false
+      → any_node (calls_on d) es ≡ true → (later b done).inner d ≡ false
+  outer_more done d none read =
+      ap (λ r. is_unmarked b d && (r || cond (any_node (calls_on d) es) false true)) none
+      ∙ ap (λ r. is_unmarked b d && cond r false true) read
+      ∙ and-false (is_unmarked b d)
+
+  -- an unmarked output that is read
+  pdo_of : (d : Place) → is_unmarked b d ≡ true → is_pdo (node_at es d.node) ≡ true
+  pdo_of d u = and_left (is_pdo (node_at es d.node)) (cond (among d b.marks) false true) u
+
+  zero_of : (n : ℕ) (d : Place) (f : Forest) → node_at es n ≡ Some (Pdo d f)
+      → is_unmarked b d ≡ true → place d.node 0 ≡ d
+  zero_of n d f at u =
+      let there : IsThere es d = (all_found (λ e. Each (IsThere es) (reads e.node)) es n (Pdo d f)
+      at can.ok.there).0 in
+      let q = pdo_is (node_at es d.node) (pdo_of d u) in
+      place_is d d.node 0 refl (sym (there_zero (cut_of b) d q.0 q.1 can there q.2))
+
+  more_of : (done rest : List Entry) (e : Entry) (d : Place) (f : Forest)
+      → es ≡ done ++ (e ∷ rest) → e.node ≡ Pdo d f → is_unmarked b d ≡ true
+      → any_node (calls_on d) done ≡ false → IsNextKid (later b done) d.node e.number
+  more_of done rest e d f split is u none =
+      let at : node_at es e.number ≡ Some (Pdo d f) = found_of es done rest e can.ok.differ split
+      ∙ ap (λ (x : Node). Some x) is in
+      let zero : place d.node 0 ≡ d = zero_of e.number d f at u in
+      let read : any_node (calls_on d) es ≡ true = any_at (calls_on d) es e.number (Pdo d f) at
+      (same_self d) in
+      record {
+        pdo = pdo_of d u;
+        outer = subst (λ (y : Place). (later b done).inner y ≡ false) (sym zero)
+            (outer_more done d none read);
+        first = subst (λ (y : Place). is_first e.number (readers es y) ≡ true) (sym zero)
+            (first_of done rest e d f split is none);
+      }
+
+  kids_skip : (done rest : List Entry) (e : Entry) → ((c : Place) → calls_on c e.node ≡ true
+      → is_unmarked b c ≡ true → any_node (calls_on c) done ≡ true)
+      → KidsFrom b (end done e) rest → KidsFrom b done (e ∷ rest)
+  kids_skip done rest e h i = record {
+    rewrites = i.rewrites;
+    all = i.all;
+    order = i.order;
+    leads = subst (λ (k : Cut). Leads i.rewrites (cut_graph k) (cut_graph (later b es)))
+        (stays b done e h) i.leads;
+    above = λ low a. i.above low a.1;
+  }
+
+  kids_more : (done rest : List Entry) (e : Entry) (d : Place) (f : Forest)
+      → es ≡ done ++ (e ∷ rest) → e.node ≡ Pdo d f → is_unmarked b d ≡ true
+      → any_node (calls_on d) done ≡ false
+      → KidsFrom b (end done e) rest → KidsFrom b done (e ∷ rest)
+  kids_more done rest e d f split is u none i =
+      let step = kid_of_cut (later b done) d.node e.number (can_later b done can)
+      (more_of done rest e d f split is u none) in
+      let zero : place d.node 0 ≡ d = zero_of e.number d f
+      (found_of es done rest e can.ok.differ split
+      ∙ ap (λ (x : Node). Some x) is) u in
+      let order : Ascends (e ∷ rest) = ascends_last done (e ∷ rest)
+      (subst Ascends split fu.ok.ok.founded.ascends) in
+      record {
+        rewrites = Kid step.0 step.1 e.number ∷ i.rewrites;
+        all = (refl, i.all);
+        order = (i.above e.number order.0, i.order);
+        leads = (
+          cut_graph (later b (end done e)),
+          subst (λ (k : Cut). IsKid (cut_graph (later b done)) step.0 step.1 e.number
+              (cut_graph k)) (sym (grows b done e d f is zero u)) step.2,
+          i.leads,
+        );
+        above = λ low a. (a.0, i.above low a.1);
+      }
+
+  kids_node : (done rest : List Entry) (e : Entry) → es ≡ done ++ (e ∷ rest)
+      → (x : Node) → e.node ≡ x → KidsFrom b (end done e) rest → KidsFrom b done (e ∷ rest)
+  kids_node done rest e split (Source r) is i = kids_skip done rest e (λ c h. absurd (false≢true
+      (sym (ap (calls_on c) is) ∙ h))) i
+  kids_node done rest e split (Flatten ins) is i = kids_skip done rest e (λ c h. absurd
+      (false≢true (sym (ap (calls_on c) is) ∙ h))) i
+  kids_node done rest e split (Pdo d f) is i =
+      by (is_unmarked b d) (any_node (calls_on d) done) refl refl
+    where
+      same : (c : Place) → calls_on c e.node ≡ true → c ≡ d
+      same c h = same_is c d (sym (ap (calls_on c) is) ∙ h)
+
+      by : (u a : Bool) → is_unmarked b d ≡ u → any_node (calls_on d) done ≡ a
+          → KidsFrom b done (e ∷ rest)
+      by false a j k = kids_skip done rest e (λ c h v. absurd (false≢true (sym j
+          ∙ ap (is_unmarked b) (sym (same c h)) ∙ v))) i
+      by true true j k = kids_skip done rest e (λ c h v. ap (λ (y : Place). any_node (calls_on y)
+          done) (same c h) ∙ k) i
+      by true false j k = kids_more done rest e d f split is j k i
+  kids_node done rest e split (Gbk c o l k) is i = kids_skip done rest e (λ c h. absurd
+      (false≢true (sym (ap (calls_on c) is) ∙ h))) i
+
+  kids_from : (done rest : List Entry) → es ≡ done ++ rest → KidsFrom b done rest
+  kids_from done [] split = record {
+    rewrites = [];
+    all = tt;
+    order = tt;
+    leads = ap (λ (l : List Entry). cut_graph (later b l)) (sym (split ∙ append-nil done));
+    above = λ low a. tt;
+  }
+  kids_from done (e ∷ rest) split = kids_node done rest e split e.node refl
+      (kids_from (end done e) rest (split ∙ append_end done e rest))
+
+  last_cut : later b es ≡ cut_of b
+  last_cut = same_cut b.graph b.marks (later b es).inner (cut_of b).inner
+      (λ c. by (is_unmarked b c) (any_node (calls_on c) es))
+    where
+      by : (u a : Bool) → (u && (a || cond a false true)) ≡ u
+      by true true = refl
+      by true false = refl
+      by false a = refl
+
+  kids_last : ByKids (cut_graph (siblings_of b)) (cut_graph (cut_of b))
+  kids_last =
+      let i : KidsFrom b [] es = kids_from [] es refl in
+      record {
+        rewrites = i.rewrites;
+        all = i.all;
+        order = i.order;
+        leads = subst (λ (k : Cut). Leads i.rewrites (cut_graph (siblings_of b)) (cut_graph k))
+            last_cut i.leads;
+      }
+
+  pub kids_lead : ByKids (fused_by (siblings_of b)).graph (fused b).graph
+  unfolding fused_by
+  kids_lead = kids_last

@@ -1,8 +1,0 @@
-use Rattle.std.specs.List.{AllZip}
-use Rattle.bag_groups.specs.Pairs.{pairs_of}
-use Rattle.partial_tables.specs.Merges.{StandFor}
-use Rattle.shuffle_parts.proofs.combine.combine_parts.Given as goal
-
-abbrev pub invariant-loop-part : goal.invariant-loop-part
-invariant-loop-part l =
-    AllZip (λ partials part. StandFor l.comb partials (pairs_of part)) l.combined.items l.yielded
