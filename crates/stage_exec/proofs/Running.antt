@@ -1,5 +1,5 @@
 -- The stages so far, and those that are left.
-use Rattle.std.proofs.Common.{◌≡◌, ◌<◌, ◌≤◌, ◌+◌, ◌^◌, ℕ, zero, suc, List, [], ◌∷◌, ◌++◌, length, get_or, drop, slice_index, refl, sym, ap, ◌∙◌, subst, arith, add-one, length-append, append_assoc, append-nil}
+use Rattle.std.proofs.Common.{◌≡◌, ◌<◌, ◌≤◌, ◌+◌, ◌^◌, ℕ, zero, suc, List, [], ◌∷◌, ◌++◌, length, get_or, ◌-◌, drop, take, slice_index, refl, sym, ap, ◌∙◌, subst, arith, add-one, length-append, append_assoc, append-nil}
 use Rattle.std.specs.List.{AllZip}
 use Rattle.std.proofs.lemmas.List.Sums.{sum_by-append}
 use Rattle.std.specs.Prelude.{map, sum}
@@ -28,6 +28,7 @@ use Rattle.stage_phases.specs.Stages.{CanRunStage, run_world}
 use Rattle.stage_exec.specs.Executions.{split_of}
 use Rattle.stage_exec.specs.inner.Along.{Along, CanGoOn, counted_on, lists_after, phases_on}
 use Rattle.stage_exec.specs.inner.Reads.{AgreeOn, later_reads}
+use Rattle.stage_exec.proofs.Others.{behind}
 use Rattle.stage_exec.proofs.Reading.{outputs_same, phases_from_same, tasks_from_same}
 use Rattle.stage_exec.proofs.Tables.{table_begins, table_grows}
 use Rattle.exec_plan.specs.declared.plan.PlanPlace.{PlanPlace}
@@ -223,13 +224,18 @@ module _ (s : RunSettings) (called : ℕ → Value → Called) (takes : ℕ → 
   -- what is read no more may be dropped
   pub along_fewer : (k : ℕ) (results fewer : List (List (List Value))) (first sizes : List ℕ)
       (us vs : List Account) (before told : List PhaseWinners) → length fewer ≡ length results
-      → AgreeOn (later_reads (drop k stages) outputs) (table sources fewer) (table sources results)
+      → AgreeOn (later_reads (take (length stages - k) (drop k stages)) outputs)
+      (table sources fewer) (table sources results)
       → ((type : Ty) (q : PlanPlace) → AllHave type (table sources results q)
       → AllHave type (table sources fewer q))
       → Stands k results first sizes us vs before told
       → Stands k fewer first sizes us vs before told
-  along_fewer k results fewer first sizes us vs before told long agree typed a =
+  along_fewer k results fewer first sizes us vs before told long apart typed a =
       let r = a.ready in
+      let agree : AgreeOn (later_reads (drop k stages) outputs) (table sources fewer)
+      (table sources results) =
+      subst (λ l. AgreeOn (later_reads l outputs) (table sources fewer) (table sources results))
+      (behind stages k) apart in
       let rest = drop k stages in
       let t = table sources fewer in
       let u = table sources results in

@@ -1,4 +1,4 @@
 pub mod MapCounting
-pub mod Joining
+pub mod SideBySide
 pub mod Channeling
 pub mod Staging

@@ -57,7 +57,8 @@ returns-clause-done g c =
     let p = c.args.plan.now in
     let cut = c.cut_law.ensures in
     let ran = rw c.as_slice-stages.ensures at c.in_ok-results.ensures.ran in
-    let lists = rw c.as_slice-stages.ensures at c.in_ok-results.ensures.lists in
+    let lists =
+    rw (c.as_slice-stages.ensures, c.as_slice-outputs.ensures) at c.in_ok-results.ensures.lists in
     let none = c.phases_law.ensures.calm w (split_of s) p cut.0 cut.1 ran.calm in
     let lent = ap length c.as_mut_slice-counted.ensures.value in
     let grown = rw c.as_slice-stages.ensures at c.in_ok-results.ensures.sizes in
@@ -73,9 +74,9 @@ returns-clause-done g c =
       calm = (c.tasks_law.ensures.through w (split_of s) p cut.0 cut.1 c.requires.plan).0 none;
       outputs =
           ap (map bag_of)
-          (rw (c.deref.ensures.value, c.as_slice.ensures) at c.in_ok-outputs.ensures)
-          ∙ bags_are s w p (table c.args.sources.now c.in_ok-results.results.items) lists
-          (c.tasks_law.ensures.lists w (split_of s) p cut.0 cut.1 none) p.outputs;
+          (rw c.as_slice-outputs.ensures at c.in_ok-outputs.ensures)
+          ∙ bags_are s w p (table c.args.sources.now c.in_ok-results.results.items) p.outputs
+          lists (c.tasks_law.ensures.lists w (split_of s) p cut.0 cut.1 none);
       count = ap length counts ∙ (sizes.count ∙ zeros_many c.args.nodes);
       counts =
           rw counts

@@ -1,15 +1,15 @@
-use Rattle.std.proofs.Common.{arith, map}
+use Rattle.std.proofs.Common.{◌+◌, arith, map}
 use Rattle.std.proofs.lemmas.Result.{err_from_is_err_and}
 use Rattle.crew.specs.Hosts.{account}
 use Rattle.plan_phases.proofs.Lasting.{all_grew_on}
-use Rattle.stage_exec.proofs.Running.{along_more, along_none, end_lists, run_stops, stage_ready}
+use Rattle.stage_exec.proofs.Running.{along_fewer, along_more, along_none, end_lists, run_stops, stage_ready}
 use Rattle.stage_exec.proofs.stages.run_stages.Goals as goal
 
 pub loop-k-init : goal.loop-k-init
 loop-k-init g c =
     let inputs = c.args.inputs.now in
     along_none inputs.settings.now (g.F.Functions.called inputs.functions.now)
-    (g.F.Functions.can_call inputs.functions.now) inputs.sources.now c.args.stages.now
+    (g.F.Functions.can_call inputs.functions.now) inputs.sources.now c.args.stages.now c.args.outputs.now
     c.new-results.result.items c.args.sizes.now
     (map (account g.H.Host.notes g.H.Host.losses) c.args.hosts.now) c.args.winners.now.items
     c.new-results.ensures.items (λ i. let fit = c.type_inv.sizes i in omega (arith, fit))
@@ -20,7 +20,7 @@ run_stage-requires-clause-ready g c κs within =
     let inputs = c.args.inputs.now in
     rw c.as_slice.ensures.value
     (stage_ready inputs.settings.now (g.F.Functions.called inputs.functions.now)
-    (g.F.Functions.can_call inputs.functions.now) inputs.sources.now c.args.stages.now c.loop-k.k
+    (g.F.Functions.can_call inputs.functions.now) inputs.sources.now c.args.stages.now c.args.outputs.now c.loop-k.k
     c.loop-k.results.items c.args.sizes.now c.loop-k.sizes _ _ c.args.winners.now.items
     c.loop-k.winners.items c.loop-k.invariant c.index-stages-k.result c.loop-k-test.true
     c.index-stages-k.is)
@@ -35,7 +35,7 @@ returns-in_err-lists-clause-stopped g c =
     let p = err_from_is_err_and c.from_residual.result c.from_residual.ensures.1 in
     rw (p.1, p.2)
     (run_stops inputs.settings.now (g.F.Functions.called inputs.functions.now)
-    (g.F.Functions.can_call inputs.functions.now) inputs.sources.now c.args.stages.now c.loop-k.k
+    (g.F.Functions.can_call inputs.functions.now) inputs.sources.now c.args.stages.now c.args.outputs.now c.loop-k.k
     c.loop-k.results.items c.args.sizes.now c.loop-k.sizes _ _ c.args.winners.now.items
     c.loop-k.winners.items c.loop-k.invariant c.index-stages-k.result c.loop-k-test.true
     c.index-stages-k.is _ c.in_err-lists.field-0.0
@@ -48,20 +48,27 @@ returns-in_err-push_results-clause-grew g c =
 pub loop-k-preserved : goal.loop-k-preserved
 loop-k-preserved g c =
     let inputs = c.args.inputs.now in
+    let more =
     along_more inputs.settings.now (g.F.Functions.called inputs.functions.now)
-    (g.F.Functions.can_call inputs.functions.now) inputs.sources.now c.args.stages.now c.loop-k.k
-    c.loop-k.results.items c.args.sizes.now c.loop-k.sizes _ _ c.args.winners.now.items
-    c.loop-k.winners.items c.loop-k.invariant c.index-stages-k.result c.loop-k-test.true
-    c.index-stages-k.is c.in_ok-lists.lists c.push_results.new.results.items
+    (g.F.Functions.can_call inputs.functions.now) inputs.sources.now c.args.stages.now
+    c.args.outputs.now c.loop-k.k c.loop-k.results.items c.args.sizes.now c.loop-k.sizes _ _
+    c.args.winners.now.items c.loop-k.winners.items c.loop-k.invariant c.index-stages-k.result
+    c.loop-k-test.true c.index-stages-k.is c.in_ok-lists.lists c.push_results.new.results.items
     c.run_stage.new.sizes _ c.run_stage.new.winners.items
     (rw (← c.as_slice.ensures.value) c.in_ok-lists.ensures.lists) c.in_ok-push_results.ensures
     (rw (← c.as_slice.ensures.value) c.in_ok-lists.ensures.grown)
-    (rw (← c.as_slice.ensures.value) c.in_ok-lists.ensures.ran) c.in_ok-lists.ensures.grew
+    (rw (← c.as_slice.ensures.value) c.in_ok-lists.ensures.ran) c.in_ok-lists.ensures.grew in
+    along_fewer inputs.settings.now (g.F.Functions.called inputs.functions.now)
+    (g.F.Functions.can_call inputs.functions.now) inputs.sources.now c.args.stages.now
+    c.args.outputs.now (c.loop-k.k + 1) c.push_results.new.results.items
+    c.drop_read.new.results.items c.args.sizes.now c.run_stage.new.sizes _ _
+    c.args.winners.now.items c.run_stage.new.winners.items c.drop_read.ensures.count
+    c.drop_read.ensures.others c.drop_read.ensures.typed more
 
 pub returns-clause-lists : goal.returns-clause-lists
 returns-clause-lists g c =
     let inputs = c.args.inputs.now in
     end_lists inputs.settings.now (g.F.Functions.called inputs.functions.now)
-    (g.F.Functions.can_call inputs.functions.now) inputs.sources.now c.args.stages.now c.loop-k.k
+    (g.F.Functions.can_call inputs.functions.now) inputs.sources.now c.args.stages.now c.args.outputs.now c.loop-k.k
     c.loop-k.results.items c.args.sizes.now c.loop-k.sizes _ _ c.args.winners.now.items
     c.loop-k.winners.items c.loop-k.invariant c.loop-k-test.false

@@ -1,5 +1,5 @@
 use Rattle.std.proofs.Common.{arith}
-use Rattle.stage_results.proofs.Joining.{joined_inside, joined_past}
+use Rattle.stage_results.proofs.SideBySide.{joined_inside, joined_past}
 use Rattle.stage_results.proofs.joining.join_at.Goals as goal
 
 pub returns-in_ok-join : goal.returns-in_ok-join

@@ -1,5 +1,5 @@
 use Rattle.std.proofs.Common.{◌∙◌, refl, sym}
-use Rattle.stage_results.proofs.Joining.{none_joined}
+use Rattle.stage_results.proofs.SideBySide.{none_joined}
 use Rattle.stage_results.proofs.joining.join_each.Goals as goal
 
 pub loop-list-init : goal.loop-list-init

@@ -1,46 +1,64 @@
-use Rattle.std.proofs.Common.{◌≤◌, ◌∙◌, ap, arith, length, refl, slice_get, sym}
+use Rattle.std.proofs.Common.{◌≤◌, ◌∙◌, ap, arith, length, refl, slice_get, suc, sym}
 use Rattle.std.proofs.lemmas.Option.{slice_get_read}
+use Rattle.std.specs.Vec.Iter.{into_iter_items}
 use Rattle.map_shard.specs.Tables.{split}
+use Rattle.shuffle_parts.specs.Outs.{all_passed, or_none}
+use Rattle.stage_results.proofs.SideBySide.{behind_first}
 use Rattle.stage_results.proofs.Staging.{along_more, along_none, channel_outs, end_grown, end_lists, stage_outs}
 use Rattle.stage_results.proofs.lists.stage_lists.Goals as goal
 
-pub loop-r-init : goal.loop-r-init
-loop-r-init c w shards t some maps reduces =
-    let n = split shards c.args.partitions in
-    let s = c.args.stage.now in
-    let outs = stage_outs w n t s.inputs c.requires.some s c.args.reduces.items refl reduces in
-    along_none w n t s _ _ _ (rw c.into_iter-outs.ensures.rest outs) c.new-lists.ensures.items
-    (λ i. let fit = c.type_inv.sizes i in omega (arith, fit))
+pub loop-channel-init : goal.loop-channel-init
+loop-channel-init c = record {
+  passed = λ r.
+      ap (λ l. or_none (slice_get l r)) c.into_iter-passed.ensures.rest
+      ∙ c.in_ok-passed_lists.ensures r ∙ ap (all_passed c.args.maps.items) (omega arith);
+  along = λ w shards t some maps reduces.
+      let n = split shards c.args.partitions in
+      let s = c.args.stage.now in
+      let outs = stage_outs w n t s.inputs c.requires.some s c.args.reduces.items refl reduces in
+      along_none w n t s _ _ _ (rw c.into_iter-outs.ensures.rest outs) c.new-lists.ensures.items
+      (λ i. let fit = c.type_inv.sizes i in omega (arith, fit));
+}
 
-pub loop-r-preserved : goal.loop-r-preserved
-loop-r-preserved c w shards t some maps reduces =
-    let n = split shards c.args.partitions in
-    let s = c.args.stage.now in
-    let r = c.loop-r.r in
-    let x = c.channel-item.result in
-    let items = c.as_slice-channel-items.ensures in
-    let at = ap (λ l. slice_get l r) (sym items)
-    ∙ slice_get_read _ _ r x refl c.loop-r-test.true c.channel-item.is in
-    let a = c.loop-r.invariant w shards t some maps reduces in
-    let next = channel_outs w n t s r _ _ _ _ x a at in
-    let given = c.in_ok-given.ensures in
-    along_more w n t s r _ _ _ _ x a at _ c.in_ok-given.given.items _ _
-    (rw (given.next w shards t s.inputs next.0 next.1 next.2 next.3) next.4)
-    (given.lists w shards t s next.0 next.1 next.2 next.3 some maps at) c.in_ok-append.ensures.items
-    (given.grown w shards t s.inputs next.0 next.1 next.2 next.3)
+pub loop-channel-preserved : goal.loop-channel-preserved
+loop-channel-preserved c = record {
+  passed = λ r.
+      ap (λ l. or_none (slice_get l r)) c.next_list-here.ensures.rest
+      ∙ behind_first (into_iter_items c.loop-channel.passed) r
+      ∙ c.loop-channel.invariant.passed (suc r)
+      ∙ ap (all_passed c.args.maps.items) (omega arith);
+  along = λ w shards t some maps reduces.
+      let n = split shards c.args.partitions in
+      let s = c.args.stage.now in
+      let r = c.loop-channel.channel-index in
+      let x = c.channel-item.result in
+      let items = c.as_slice-channel-items.ensures in
+      let at = ap (λ l. slice_get l r) (sym items)
+      ∙ slice_get_read _ _ r x refl c.loop-channel-test.true c.channel-item.is in
+      let a = c.loop-channel.invariant.along w shards t some maps reduces in
+      let next = channel_outs w n t s r _ _ _ _ x a at in
+      let given = c.in_ok-given.ensures in
+      let passed = c.next_list-here.ensures.next ∙ c.loop-channel.invariant.passed 0
+      ∙ ap (all_passed c.args.maps.items) (omega arith) in
+      along_more w n t s r _ _ _ _ x a at _ c.in_ok-given.given.items _ _
+      (rw (given.next w shards t s.inputs next.0 next.1 next.2 next.3) next.4)
+      (given.lists w shards t s c.args.maps.items r next.0 next.1 next.2 next.3 some maps at passed)
+      c.in_ok-append.ensures.items
+      (given.grown w shards t s.inputs next.0 next.1 next.2 next.3);
+}
 
 pub returns-clause-lists : goal.returns-clause-lists
 returns-clause-lists c w shards t some maps reduces =
     let n = split shards c.args.partitions in
     let s = c.args.stage.now in
     let items = c.as_slice-channel-items.ensures in
-    let end : length s.outputs ≤ c.loop-r.r = omega (arith, ap length items, c.loop-r-test.false) in
-    end_lists w n t s c.loop-r.r _ _ _ _ (c.loop-r.invariant w shards t some maps reduces) end
+    let end : length s.outputs ≤ c.loop-channel.channel-index = omega (arith, ap length items, c.loop-channel-test.false) in
+    end_lists w n t s c.loop-channel.channel-index _ _ _ _ (c.loop-channel.invariant.along w shards t some maps reduces) end
 
 pub returns-clause-grown : goal.returns-clause-grown
 returns-clause-grown c w shards t some maps reduces =
     let n = split shards c.args.partitions in
     let s = c.args.stage.now in
     let items = c.as_slice-channel-items.ensures in
-    let end : length s.outputs ≤ c.loop-r.r = omega (arith, ap length items, c.loop-r-test.false) in
-    end_grown w n t s c.loop-r.r _ _ _ _ (c.loop-r.invariant w shards t some maps reduces) end
+    let end : length s.outputs ≤ c.loop-channel.channel-index = omega (arith, ap length items, c.loop-channel-test.false) in
+    end_grown w n t s c.loop-channel.channel-index _ _ _ _ (c.loop-channel.invariant.along w shards t some maps reduces) end

@@ -12,10 +12,10 @@ use Rattle.stage_results.proofs.lists.stage_lists.Given as goal
 abbrev pub invariant-loop-channel : goal.invariant-loop-channel
 invariant-loop-channel l = record {
   passed : (r : ℕ) → or_none (slice_get (into_iter_items l.passed) r)
-      ≡ all_passed l.fn.maps.items (l.k + r);
+      ≡ all_passed l.fn.maps.items (l.channel-index + r);
   along : (w : World) (shards : ℕ) (t : Lists) → 0 < shards
       → AreMapOuts w (split shards l.partitions) t l.stage l.fn.maps.items
       → AreReduceOuts w (split shards l.partitions) t l.stage l.fn.reduces.items
-      → AreAlong w (split shards l.partitions) t l.stage l.k (into_iter_items l.outs)
+      → AreAlong w (split shards l.partitions) t l.stage l.channel-index (into_iter_items l.outs)
       l.lists.items l.fn.sizes l.sizes;
 }

@@ -1,5 +1,5 @@
 -- Lists side by side, each behind the one at its place.
-use Rattle.std.proofs.Common.{◌≡◌, ℕ, zero, suc, ◌<◌, ◌≤◌, List, [], ◌∷◌, ◌++◌, length, get_or, refl, sym, ap, ◌∙◌, subst, arith, slice_get, append-nil, append_assoc}
+use Rattle.std.proofs.Common.{◌≡◌, ℕ, zero, suc, ◌<◌, ◌≤◌, List, [], ◌∷◌, ◌++◌, length, get_or, refl, sym, ap, ◌∙◌, subst, arith, slice_get, drop, append-nil, append_assoc}
 use Rattle.std.specs.Prelude.{slice_set}
 use Rattle.shuffle_parts.specs.Outs.{all_passed, or_none, passed_in}
 use Rattle.shuffle_parts.specs.declared.out.MapOut.{MapOut}
@@ -74,3 +74,9 @@ passed_more lists next out outs r e =
     ∙ ap (λ l. or_none (slice_get lists r) ++ l) (passed_at out.sent r))
     ∙ append_assoc (or_none (slice_get lists r)) (passed_in (slice_get out.sent r))
     (all_passed outs r)
+
+-- behind the first list, places are one less
+pub behind_first : {A : Type 0} (xs : List (List A)) (r : ℕ)
+    → or_none (slice_get (drop 1 xs) r) ≡ or_none (slice_get xs (suc r))
+behind_first [] r = refl
+behind_first (x ∷ xs) r = refl
