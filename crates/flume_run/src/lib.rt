@@ -2,9 +2,9 @@
 //!
 //! The course of a call is that of run_course: the words are read, the script is loaded, parsed and
 //! checked, and `check` is done. For `direct` and `run` each input that the script needs is loaded
-//! and decoded; `direct` then works out the script's direct meaning, node by node, and `run` has the
-//! tasks of the script's plan made by workers on hosts. Only then the output files are written, and
-//! the screen's text. Each command takes every accepted script.
+//! and decoded; `direct` then works out the script's direct meaning, node by node, and `run` has
+//! the tasks of the script's plan made by workers on hosts. Only then the output files are written,
+//! and the screen's text. Each command takes every accepted script.
 //!
 //! The contract of `flume` is `Promises` of run_course, with a field for each answer. `done` is the
 //! headline: each output file holds the sorted text of the script's direct meaning, and the screen

@@ -19,16 +19,16 @@ use std::thread::Threads;
 /// says `ok`, and `plan` shows the execution graph and the plan. For `direct` and `run` each input
 /// that the script needs is loaded and decoded, in order of the script. `direct` works out the
 /// script's direct meaning; `run` has the tasks of the plan made by workers, each on a host that it
-/// is lent, the first hosts, in a thread of its own. An attempt of a task whose host is down, or that
-/// the drill names, is lost, and the task is tried again, as often as `--tries` says.
+/// is lent, the first hosts, in a thread of its own. An attempt of a task whose host is down, or
+/// that the drill names, is lost, and the task is tried again, as often as `--tries` says.
 ///
 /// Only then the output files are written to the shelf, in order of the output statements, and then
-/// the text of the screen: for `run` the execution graph and the plan, and for both the size of each
-/// needed collection, and `done`. Whatever the schedule of the workers and whichever attempts were
-/// lost, the files of `run` are those of `direct`. Where a call of a function traps, the answer is
-/// the least of the traps for `direct`, and for `run` the first of the tasks; else the first refusal
-/// met is, or the task that was given up, and the screen gets its line. Every growth comes before
-/// the shelf's first `begin`.
+/// the text of the screen: for `run` the execution graph and the plan, and for both the size of
+/// each needed collection, and `done`. Whatever the schedule of the workers and whichever attempts
+/// were lost, the files of `run` are those of `direct`. Where a call of a function traps, the
+/// answer is the least of the traps for `direct`, and for `run` the first of the tasks; else the
+/// first refusal met is, or the task that was given up, and the screen gets its line. Every growth
+/// comes before the shelf's first `begin`.
 ///
 /// What is promised of each answer is a field of `Promises` (specs/Promises.antt of run_course).
 /// Hosts that are not lent are as they were.

@@ -42,10 +42,10 @@ through_end : (words : Words) (told : Told) (c d : Command) (p q : Script)
     (table : Table) → IsSome told → Reads words told c p → Reads words told d q
     → AllHaveRows told (inputs_of p) rows → IsThrough told q front files text others table
     → EndsAs Direct p rows Done
-through_end words told c d p q rows others front text files table tells reads read inputs through = (
+through_end words told c d p q rows others front text files table tells reads read inputs t = (
   table,
-  same_meaning words told c d p q rows others table tells reads read inputs through.meant,
-  done_end (traps_of table) through.through,
+  same_meaning words told c d p q rows others table tells reads read inputs t.meant,
+  done_end (traps_of table) t.through,
 )
 
 done_as : (words : Words) (before after : World) (c d : Command) (p q : Script)
@@ -202,8 +202,8 @@ same_writes words told olds news c d p q files text reads read writes =
     subst (λ (e : Command). Writes e told olds news q files text)
     (same_command words told d c q p read reads) writes
 
-pub complete : (words : Words) (before after : World) (status : Status) (c : Command) (script : Script)
-    (rows : List (List Value))
+pub complete : (words : Words) (before after : World) (status : Status) (c : Command)
+    (script : Script) (rows : List (List Value))
     → Answers words before after status → CanRun words before after c script rows
     → IsEnd c script rows status
 complete words before after Done c script rows answers can =

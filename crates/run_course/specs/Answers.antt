@@ -167,8 +167,8 @@ IsInputRefused name row column kind words source =
     × (rows_of bytes wanted.type ≡ Some (Err (Bad row column kind)))
 
 -- All inputs of the script have rows, and of this task of a phase of its plan over them no attempt
--- has won: the drill and the losses of the lent hosts account for each of its tries. No phase before
--- it traps, and no smaller task of it
+-- has won: the drill and the losses of the lent hosts account for each of its tries. No phase
+-- before it traps, and no smaller task of it
 abbrev pub GivesUp : RunSettings → Option (List NamedBytes) → List Account → List Account → Script
     → ℕ → Phase → ℕ → Type 0
 GivesUp s told olds news script stage phase task =

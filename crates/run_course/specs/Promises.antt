@@ -110,8 +110,8 @@ IsEnd command script rows status = (status ≡ WantOfMemory) ⊎ EndsAs command 
 pub record Promises (words : List (List ℕ)) (before after : World) (status : Status) : Type 0 where
   -- the headline: every output file is whole, ended and right, and so is the screen's text
   pub done : status ≡ Done → IsDone words before after
-  -- one of the script's traps is named, for `direct` the least and for `run` the first of its tasks,
-  -- and nothing is written
+  -- one of the script's traps is named, for `direct` the least and for `run` the first of its
+  -- tasks, and nothing is written
   pub trap : (origin : ℕ) (kind : Kind) (element : Value) → status ≡ Trap origin kind element →
       IsTrap origin kind element words before after
   -- the cause of each refusal that comes before anything is written, want of memory aside

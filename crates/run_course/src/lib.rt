@@ -1,10 +1,10 @@
 //! The course of a call, and what each of its answers says (specs/Answers.antt).
 //!
 //! The words are read (crate command_words), the script and its inputs are loaded and decoded
-//! (`loading`), and each command does its part (`commands`): a plan is shown (`showing`), a script is
-//! evaluated (`evaluation`), or its plan is run on hosts (`running`). Only then its files are
-//! written, and the text of the screen (`course`). A call that traps, the task that a run gave up or
-//! the first refusal met is the answer, and leaves its line.
+//! (`loading`), and each command does its part (`commands`): a plan is shown (`showing`), a script
+//! is evaluated (`evaluation`), or its plan is run on hosts (`running`). Only then its files are
+//! written, and the text of the screen (`course`). A call that traps, the task that a run gave up
+//! or the first refusal met is the answer, and leaves its line.
 #![tactic(auto)]
 
 mod commands;

@@ -1,5 +1,5 @@
-// Scripts whose calls trap, and inputs that are refused: by `direct` and by `run` alike, and no file
-// is begun. Expected lines were written by hand.
+// Scripts whose calls trap, and inputs that are refused: by `direct` and by `run` alike, and no
+// file is begun. Expected lines were written by hand.
 use crate::commands::check_command;
 use crate::scripts::SUMS;
 use crate::worlds::Left;

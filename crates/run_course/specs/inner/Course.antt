@@ -201,8 +201,8 @@ IsGivingUp s script rows plan olds news status =
     × IsGivenUp s.tries s.drill (world_of script rows) (phases_of s script rows plan) olds news
     stage phase task
 
--- why the run of this plan over these rows writes nothing: no memory was found, a task was given up,
--- or a call traps
+-- why the run of this plan over these rows writes nothing: no memory was found, a task was given
+-- up, or a call traps
 abbrev pub IsRunStop : RunSettings → Script → List (List Value) → Plan → List Account
     → List Account → Stop → Type 0
 IsRunStop s script rows plan olds news (stop.Refused status) =

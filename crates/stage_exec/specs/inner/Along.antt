@@ -55,7 +55,8 @@ module _ (s : RunSettings) (w : World) where
   -- last time are dropped, the sizes and the winners of the
   -- stages before are told, and going on comes to what all stages come to.
   pub record Along (takes : ℕ → Value → Type 0) (stages : List Stage)
-      (outputs : List PlanPlace) (sources : List (List Value)) (k : ℕ) (results : List (List (List Value)))
+      (outputs : List PlanPlace) (sources : List (List Value)) (k : ℕ)
+      (results : List (List (List Value)))
       (first sizes : List ℕ) (olds news : List Account) (before told : List PhaseWinners)
       : Type 0 where
     pub count : length results ≡ k

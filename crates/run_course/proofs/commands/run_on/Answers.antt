@@ -11,10 +11,12 @@ use Rattle.run_course.proofs.RunLemmas.{both_ok, writes_run}
 use Rattle.run_course.proofs.commands.run_on.Goals as goal
 
 pub returns-in_err-shown-clause-grew : goal.returns-in_err-shown-clause-grew
-returns-in_err-shown-clause-grew g c = all_grew_not (map (account g.H.Host.notes g.H.Host.losses) c.args.hosts.now)
+returns-in_err-shown-clause-grew g c =
+    all_grew_not (map (account g.H.Host.notes g.H.Host.losses) c.args.hosts.now)
 
 pub returns-in_err-inputs-clause-grew : goal.returns-in_err-inputs-clause-grew
-returns-in_err-inputs-clause-grew g c = all_grew_not (map (account g.H.Host.notes g.H.Host.losses) c.args.hosts.now)
+returns-in_err-inputs-clause-grew g c =
+    all_grew_not (map (account g.H.Host.notes g.H.Host.losses) c.args.hosts.now)
 
 pub returns-in_err-inputs-clause-stop : goal.returns-in_err-inputs-clause-stop
 returns-in_err-inputs-clause-stop g c =
@@ -41,7 +43,8 @@ pub returns-clause-written : goal.returns-clause-written
 returns-clause-written g c =
     both_ok c.written_run.result _ _ _ c.written_run.ensures.written c.written_run.ensures.ran
     (λ it gives ran.
-    writes_run c.args.settings.now (g.R.Source.files c.args.source.now) (map (account g.H.Host.notes g.H.Host.losses) c.args.hosts.now)
+    writes_run c.args.settings.now (g.R.Source.files c.args.source.now)
+    (map (account g.H.Host.notes g.H.Host.losses) c.args.hosts.now)
     (map (account g.H.Host.notes g.H.Host.losses) c.written_run.new.hosts)
     c.args.program.now.script c.in_ok-inputs.inputs c.in_ok-shown.shown.plan
     c.in_ok-shown.shown.text.items it.screen.items (map output_file it.outputs.items)

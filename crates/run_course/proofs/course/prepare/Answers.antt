@@ -15,7 +15,8 @@ use Rattle.run_course.proofs.course.prepare.Goals as goal
 
 pub returns-in_err-program-clause-err : goal.returns-in_err-program-clause-err
 returns-in_err-program-clause-err g c =
-    let p = err_from_is_err_and c.from_residual-in_err-program.result c.from_residual-in_err-program.ensures.1 in
+    let p = err_from_is_err_and c.from_residual-in_err-program.result
+    c.from_residual-in_err-program.ensures.1 in
     rw (p.1, p.2)
     (script_cause (map string_bytes c.args.words.now)
     (seen g.R.Source.files g.R.Source.faults c.args.source.now)
@@ -58,8 +59,9 @@ returns-clause-err g c =
     (map (account g.H.Host.notes g.H.Host.losses) c.carried_out.new.hosts)
     c.in-Some.asked.command
     c.in-Some.asked.script.now c.in_ok-program.program.script
-    (sym c.in_ok-asked.ensures ∙ ap (option_map asked_in) c.in-Some.is, c.in_ok-program.ensures.ok) c.in_ok-program.ensures.files
-    c.in_ok-program.ensures.later why stops) c.carried_out.ensures.stop
+    (sym c.in_ok-asked.ensures ∙ ap (option_map asked_in) c.in-Some.is, c.in_ok-program.ensures.ok)
+    c.in_ok-program.ensures.files c.in_ok-program.ensures.later why stops)
+    c.carried_out.ensures.stop
 
 pub carried_out-requires-clause-graph : goal.carried_out-requires-clause-graph
 carried_out-requires-clause-graph g c = λ κs within.

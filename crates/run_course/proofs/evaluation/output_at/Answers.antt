@@ -19,5 +19,6 @@ returns c =
     IfOk-weaker c.file_of.result _ _ (λ file is.
     file_of_bag c.args.bags.now outputs c.args.number c.output.result.now bag (output_file file)
     c.output.ensures held
-    (subst (λ (l : List Value). (output : NamedOutput) → slice_get outputs c.args.number ≡ Some output
-    → output_file file ≡ file_with output l) c.as_slice.ensures is)) c.file_of.ensures
+    (subst (λ (l : List Value). (output : NamedOutput)
+    → slice_get outputs c.args.number ≡ Some output → output_file file ≡ file_with output l)
+    c.as_slice.ensures is)) c.file_of.ensures

@@ -9,7 +9,8 @@ pub loop-k-init : goal.loop-k-init
 loop-k-init g c =
     let inputs = c.args.inputs.now in
     along_none inputs.settings.now (g.F.Functions.called inputs.functions.now)
-    (g.F.Functions.can_call inputs.functions.now) inputs.sources.now c.args.stages.now c.args.outputs.now
+    (g.F.Functions.can_call inputs.functions.now) inputs.sources.now c.args.stages.now
+    c.args.outputs.now
     c.new-results.result.items c.args.sizes.now
     (map (account g.H.Host.notes g.H.Host.losses) c.args.hosts.now) c.args.winners.now.items
     c.new-results.ensures.items (λ i. let fit = c.type_inv.sizes i in omega (arith, fit))
@@ -20,7 +21,8 @@ run_stage-requires-clause-ready g c κs within =
     let inputs = c.args.inputs.now in
     rw c.as_slice.ensures.value
     (stage_ready inputs.settings.now (g.F.Functions.called inputs.functions.now)
-    (g.F.Functions.can_call inputs.functions.now) inputs.sources.now c.args.stages.now c.args.outputs.now c.loop-k.k
+    (g.F.Functions.can_call inputs.functions.now) inputs.sources.now c.args.stages.now
+    c.args.outputs.now c.loop-k.k
     c.loop-k.results.items c.args.sizes.now c.loop-k.sizes _ _ c.args.winners.now.items
     c.loop-k.winners.items c.loop-k.invariant c.index-stages-k.result c.loop-k-test.true
     c.index-stages-k.is)
@@ -35,7 +37,8 @@ returns-in_err-lists-clause-stopped g c =
     let p = err_from_is_err_and c.from_residual.result c.from_residual.ensures.1 in
     rw (p.1, p.2)
     (run_stops inputs.settings.now (g.F.Functions.called inputs.functions.now)
-    (g.F.Functions.can_call inputs.functions.now) inputs.sources.now c.args.stages.now c.args.outputs.now c.loop-k.k
+    (g.F.Functions.can_call inputs.functions.now) inputs.sources.now c.args.stages.now
+    c.args.outputs.now c.loop-k.k
     c.loop-k.results.items c.args.sizes.now c.loop-k.sizes _ _ c.args.winners.now.items
     c.loop-k.winners.items c.loop-k.invariant c.index-stages-k.result c.loop-k-test.true
     c.index-stages-k.is _ c.in_err-lists.field-0.0
@@ -69,6 +72,7 @@ pub returns-clause-lists : goal.returns-clause-lists
 returns-clause-lists g c =
     let inputs = c.args.inputs.now in
     end_lists inputs.settings.now (g.F.Functions.called inputs.functions.now)
-    (g.F.Functions.can_call inputs.functions.now) inputs.sources.now c.args.stages.now c.args.outputs.now c.loop-k.k
+    (g.F.Functions.can_call inputs.functions.now) inputs.sources.now c.args.stages.now
+    c.args.outputs.now c.loop-k.k
     c.loop-k.results.items c.args.sizes.now c.loop-k.sizes _ _ c.args.winners.now.items
     c.loop-k.winners.items c.loop-k.invariant c.loop-k-test.false

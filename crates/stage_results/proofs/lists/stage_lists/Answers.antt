@@ -52,13 +52,15 @@ returns-clause-lists c w shards t some maps reduces =
     let n = split shards c.args.partitions in
     let s = c.args.stage.now in
     let items = c.as_slice-channel-items.ensures in
-    let end : length s.outputs ≤ c.loop-channel.channel-index = omega (arith, ap length items, c.loop-channel-test.false) in
-    end_lists w n t s c.loop-channel.channel-index _ _ _ _ (c.loop-channel.invariant.along w shards t some maps reduces) end
+    let r = c.loop-channel.channel-index in
+    let end : length s.outputs ≤ r = omega (arith, ap length items, c.loop-channel-test.false) in
+    end_lists w n t s r _ _ _ _ (c.loop-channel.invariant.along w shards t some maps reduces) end
 
 pub returns-clause-grown : goal.returns-clause-grown
 returns-clause-grown c w shards t some maps reduces =
     let n = split shards c.args.partitions in
     let s = c.args.stage.now in
     let items = c.as_slice-channel-items.ensures in
-    let end : length s.outputs ≤ c.loop-channel.channel-index = omega (arith, ap length items, c.loop-channel-test.false) in
-    end_grown w n t s c.loop-channel.channel-index _ _ _ _ (c.loop-channel.invariant.along w shards t some maps reduces) end
+    let r = c.loop-channel.channel-index in
+    let end : length s.outputs ≤ r = omega (arith, ap length items, c.loop-channel-test.false) in
+    end_grown w n t s r _ _ _ _ (c.loop-channel.invariant.along w shards t some maps reduces) end
