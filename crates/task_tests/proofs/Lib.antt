@@ -1,0 +1,3 @@
+pub mod Reducing
+pub mod HandMade
+pub mod Working

@@ -1,0 +1,15 @@
+//! Tests of the tasks of a stage and of what is shuffled between them, by their public calls alone.
+#![tactic(auto)]
+
+#[cfg(test)]
+mod called;
+#[cfg(test)]
+mod maps;
+#[cfg(test)]
+mod outs;
+#[cfg(test)]
+mod parts;
+#[cfg(test)]
+mod reduces;
+#[cfg(test)]
+mod stages;
