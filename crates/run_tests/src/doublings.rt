@@ -1,5 +1,4 @@
 // Thirteen doublings: each flattens a collection with itself, and passes it through a function.
-use crate::calls::text_of;
 use crate::hosts::CALM_HOST;
 use crate::worlds::{CALM, Given, Left, called, check_on};
 use std::alloc::{AllocError, Global};
@@ -92,8 +91,9 @@ fn seven_stages(rt: HostRuntime) -> Result<(), Fail> {
     let (code, shelf, shown) = called(&rt, alloc, &plan, given, CALM, &mut [CALM_HOST; 16])?;
     assert_eq!(rt; (code, shelf.file_count()), (0, 0));
     assert_eq!(rt; stage_count(shown.text()), 7);
-    let sizes = sizes(alloc)?;
-    let screen = text_of(alloc, &[shown.text(), &sizes, b"done\n"])?;
+    let mut screen = Vec::from_slice(alloc, shown.text())?;
+    screen.append(&mut sizes(alloc)?)?;
+    screen.extend_from_slice(b"done\n")?;
     let rows = rows(alloc)?;
     let left = Left {
         code: 0,

@@ -16,11 +16,19 @@ pub enum Side {
     Second,
 }
 
-/// The flags of a phase: 1 once the host of that side is at work in it.
+/// What a host of a meeting tells in a phase: 1 once it is at work, and once it has seen the other
+/// at work.
+#[derive(Drop)]
+pub struct Signs {
+    at_work: AtomicU64,
+    has_met: AtomicU64,
+}
+
+/// The signs of both hosts in a phase.
 #[derive(Drop)]
 pub struct Flags {
-    first: AtomicU64,
-    second: AtomicU64,
+    first: Signs,
+    second: Signs,
 }
 
 /// The flags of both phases.
@@ -30,13 +38,11 @@ pub struct Meeting {
     reduce: Flags,
 }
 
-/// A host's part in a meeting, and in which phases it has seen the other at work.
+/// A host's part in a meeting.
 #[derive(Clone, Copy)]
 pub struct Seat<'a> {
     meeting: &'a Meeting,
     side: Side,
-    met_in_map: bool,
-    met_in_reduce: bool,
 }
 
 /// A host that is down at two places at most, and may have a seat in a meeting.
@@ -54,12 +60,25 @@ pub const CALM_HOST: TestHost<'static> = TestHost {
     losses: 0,
 };
 
+impl Signs {
+    fn new() -> Signs {
+        Signs {
+            at_work: AtomicU64::new(0),
+            has_met: AtomicU64::new(0),
+        }
+    }
+}
+
 impl Flags {
     fn new() -> Flags {
         Flags {
-            first: AtomicU64::new(0),
-            second: AtomicU64::new(0),
+            first: Signs::new(),
+            second: Signs::new(),
         }
+    }
+
+    fn all_met(&self) -> bool {
+        self.first.has_met.load(SeqCst) == 1 && self.second.has_met.load(SeqCst) == 1
     }
 }
 
@@ -71,22 +90,17 @@ impl Meeting {
             reduce: Flags::new(),
         }
     }
+
+    /// Whether each host saw the other at work, in both phases.
+    pub fn all_met(&self) -> bool {
+        self.map.all_met() && self.reduce.all_met()
+    }
 }
 
 impl<'a> Seat<'a> {
-    /// The seat of that side.
-    pub fn new(meeting: &'a Meeting, side: Side) -> Seat<'a> {
-        Seat {
-            meeting,
-            side,
-            met_in_map: false,
-            met_in_reduce: false,
-        }
-    }
-
-    // At the first pass of a phase: sets its own flag, looks for the other's, and notes whether it
-    // saw it.
-    fn arrive(&mut self, phase: Phase) {
+    // At the first pass of a phase: tells that it is at work, looks for the other, and tells whether
+    // it saw it.
+    fn arrive(&self, phase: Phase) {
         let flags = match phase {
             Phase::Map => &self.meeting.map,
             Phase::Reduce => &self.meeting.reduce,
@@ -95,16 +109,23 @@ impl<'a> Seat<'a> {
             Side::First => (&flags.first, &flags.second),
             Side::Second => (&flags.second, &flags.first),
         };
-        if mine.load(SeqCst) == 1 {
+        if mine.at_work.load(SeqCst) == 1 {
             return;
         }
-        mine.store(1, SeqCst);
-        let met = is_set_soon(other);
-        match phase {
-            Phase::Map => self.met_in_map = met,
-            Phase::Reduce => self.met_in_reduce = met,
+        mine.at_work.store(1, SeqCst);
+        if is_set_soon(&other.at_work) {
+            mine.has_met.store(1, SeqCst);
         }
     }
+}
+
+/// Hosts of which the first two have the seats of a meeting. A run of two workers uses no others.
+pub fn meeting_hosts<'a>(meeting: &'a Meeting) -> [TestHost<'a>; 16] {
+    let one = TestHost::seated(meeting, Side::First);
+    let two = TestHost::seated(meeting, Side::Second);
+    [
+        one, two, two, two, two, two, two, two, two, two, two, two, two, two, two, two,
+    ]
 }
 
 fn is_set_soon(flag: &AtomicU64) -> bool {
@@ -118,11 +139,12 @@ fn is_set_soon(flag: &AtomicU64) -> bool {
 }
 
 impl<'a> TestHost<'a> {
-    /// Whether it saw the other host of its meeting at work in both phases.
-    pub fn has_met(&self) -> bool {
-        match self.seat {
-            Some(seat) => seat.met_in_map && seat.met_in_reduce,
-            None => false,
+    /// A host that is never down, with that seat.
+    pub fn seated(meeting: &'a Meeting, side: Side) -> TestHost<'a> {
+        TestHost {
+            down_at: [None, None],
+            seat: Some(Seat { meeting, side }),
+            losses: 0,
         }
     }
 }
@@ -135,7 +157,7 @@ impl<'a> Host for TestHost<'a> {
     ghost losses = { λ h. h.losses };
 
     fn pass(&mut self, at: At) -> Result<(), Down> {
-        if let Some(seat) = &mut self.seat {
+        if let Some(seat) = self.seat {
             seat.arrive(at.phase);
         }
         if self.down_at.contains(&Some(at)) {

@@ -1,7 +1,7 @@
 // The word count by `run`, with any settings: one result, also where attempts are lost. Expected
 // files and texts were written by hand.
 use crate::calls::text_of;
-use crate::hosts::{CALM_HOST, Meeting, Seat, Side, TestHost};
+use crate::hosts::{CALM_HOST, Meeting, TestHost, meeting_hosts};
 use crate::scripts::WORD_COUNT;
 use crate::worlds::{CALM, Failing, Given, Left, check_on};
 use outside::{At, Fail, Phase};
@@ -189,10 +189,8 @@ fn loads_as_often_as_a_run_is_tried(rt: HostRuntime) -> Result<(), TestFail> {
 fn two_hosts_meet(rt: HostRuntime) -> Result<(), TestFail> {
     let alloc = rt.alloc();
     let meeting = Meeting::new();
-    let mut hosts = [CALM_HOST; 16];
-    hosts[0].seat = Some(Seat::new(&meeting, Side::First));
-    hosts[1].seat = Some(Seat::new(&meeting, Side::Second));
+    let mut hosts = meeting_hosts(&meeting);
     is_done(&rt, alloc, &["flume", "run", "s"], CALM, &mut hosts)?;
-    assert!(rt; hosts[0].has_met() && hosts[1].has_met());
+    assert!(rt; meeting.all_met());
     Ok(())
 }
