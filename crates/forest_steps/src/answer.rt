@@ -36,6 +36,26 @@ pub(crate) fn answer<F: Functions>(
     match does {
         Does::Call(number) => call_function(alloc, functions, origin, number, x),
         Does::Combine(comb) => combine(alloc, origin, comb, x),
+        _ => Ok(derive(alloc, does, x.copy(alloc)?)?),
+    }
+}
+
+/// What a step answers of an element that no other step reads: a derived function takes it apart.
+pub(crate) fn answer_moved<F: Functions>(
+    alloc: Global,
+    functions: &F,
+    origin: u32,
+    does: Does,
+    x: Value,
+) -> Result<Vec<Items>, StepFault>
+    requires { CanCall (F.can_call functions.now) does x }
+    ensures given { IfOk result (λ lists.
+        called (world_of (F.called functions.now)) does x ≡ Ok lists.items) }
+    ensures trap { IfErr result
+        (IsTrapOf origin (called (world_of (F.called functions.now)) does x)) }
+{
+    match does {
+        Does::Call(_) | Does::Combine(_) => answer(alloc, functions, origin, does, &x),
         _ => Ok(derive(alloc, does, x)?),
     }
 }
@@ -83,9 +103,9 @@ fn combine(alloc: Global, origin: u32, comb: Comb, x: &Value) -> Result<Vec<Item
 }
 
 /// What a derived function answers.
-fn derive(alloc: Global, does: Does, x: &Value) -> Result<Vec<Items>, AllocError>
+fn derive(alloc: Global, does: Does, x: Value) -> Result<Vec<Items>, AllocError>
     requires { IsDerived does }
-    ensures { (w : World) → IfOk result (λ lists. called w does x.now ≡ Ok lists.items) }
+    ensures { (w : World) → IfOk result (λ lists. called w does x ≡ Ok lists.items) }
 {
     match does {
         Does::Pair => with_one(alloc, x),

@@ -1,115 +1,119 @@
 // What the derived functions give of an element, to their one output.
-ghost use Rattle.std.specs.Prelude.{◌≡◌, ◌∷◌, ◌++◌, [], ◌↔◌, IsTrue, IsSome, Some, IfOk, OnOk};
+ghost use Rattle.std.specs.Prelude.{◌≡◌, ◌∷◌, ◌++◌, [], IfOk, OnOk};
 ghost use Rattle.std.specs.Option.{option_to_list};
 ghost use Rattle.flume_value.specs.Parts.{left_of, right_of};
-ghost use Rattle.bag_groups.specs.Pairs.{IsPair};
+ghost use Rattle.bag_groups.specs.Pairs.{parts_of};
 ghost use Rattle.bag_groups.specs.Combining.{group_of};
 ghost use Rattle.exec_graph.specs.Derived.{with_one, under_zero, left_tagged, right_tagged, sides_of, split, spread};
 
-use bag_groups::{key, pair, value};
-use flume_value::{Held, Items, Pile, Value, copy_all};
+use bag_groups::pair;
+use flume_value::{Held, Items, Pile, Value};
 use std::alloc::{AllocError, Global};
 
 /// The element with the number 1.
-pub(crate) fn with_one(alloc: Global, x: &Value) -> Result<Vec<Items>, AllocError>
-    ensures { IfOk result (λ lists. lists.items ≡ with_one x.now ∷ []) }
+pub(crate) fn with_one(alloc: Global, x: Value) -> Result<Vec<Items>, AllocError>
+    ensures { IfOk result (λ lists. lists.items ≡ with_one x ∷ []) }
 {
-    let element = x.copy(alloc)?;
-    one(alloc, pair(alloc, element, Value::Int(1))?)
+    one(alloc, pair(alloc, x, Value::Int(1))?)
 }
 
 /// The number 0 with the element.
-pub(crate) fn under_zero(alloc: Global, x: &Value) -> Result<Vec<Items>, AllocError>
-    ensures { IfOk result (λ lists. lists.items ≡ under_zero x.now ∷ []) }
+pub(crate) fn under_zero(alloc: Global, x: Value) -> Result<Vec<Items>, AllocError>
+    ensures { IfOk result (λ lists. lists.items ≡ under_zero x ∷ []) }
 {
-    let element = x.copy(alloc)?;
-    one(alloc, pair(alloc, Value::Int(0), element)?)
+    one(alloc, pair(alloc, Value::Int(0), x)?)
 }
 
 /// A pair with its value made a left side.
-#[tactic(auto, using(crate::proofs::Deriving::of_parts, crate::proofs::Deriving::of_no_parts))]
-pub(crate) fn left_tagged(alloc: Global, x: &Value) -> Result<Vec<Items>, AllocError>
-    ensures { IfOk result (λ lists. lists.items ≡ left_tagged x.now ∷ []) }
+pub(crate) fn left_tagged(alloc: Global, x: Value) -> Result<Vec<Items>, AllocError>
+    ensures { IfOk result (λ lists. lists.items ≡ left_tagged x ∷ []) }
 {
-    if !is_pair(x) {
-        return only(alloc, Pile::new(alloc));
+    match into_parts(x) {
+        Some((key, value)) => {
+            let side = Value::Left(Held::new(alloc, value)?);
+            one(alloc, pair(alloc, key, side)?)
+        }
+        None => only(alloc, Pile::new(alloc)),
     }
-    let side = Value::Left(Held::new(alloc, value(x).copy(alloc)?)?);
-    one(alloc, pair(alloc, key(x).copy(alloc)?, side)?)
 }
 
 /// A pair with its value made a right side.
-#[tactic(auto, using(crate::proofs::Deriving::of_parts, crate::proofs::Deriving::of_no_parts))]
-pub(crate) fn right_tagged(alloc: Global, x: &Value) -> Result<Vec<Items>, AllocError>
-    ensures { IfOk result (λ lists. lists.items ≡ right_tagged x.now ∷ []) }
+pub(crate) fn right_tagged(alloc: Global, x: Value) -> Result<Vec<Items>, AllocError>
+    ensures { IfOk result (λ lists. lists.items ≡ right_tagged x ∷ []) }
 {
-    if !is_pair(x) {
-        return only(alloc, Pile::new(alloc));
+    match into_parts(x) {
+        Some((key, value)) => {
+            let side = Value::Right(Held::new(alloc, value)?);
+            one(alloc, pair(alloc, key, side)?)
+        }
+        None => only(alloc, Pile::new(alloc)),
     }
-    let side = Value::Right(Held::new(alloc, value(x).copy(alloc)?)?);
-    one(alloc, pair(alloc, key(x).copy(alloc)?, side)?)
 }
 
 /// A key and a list of eithers with the sides of the list apart.
-pub(crate) fn split(alloc: Global, x: &Value) -> Result<Vec<Items>, AllocError>
-    ensures { IfOk result (λ lists. lists.items ≡ split x.now ∷ []) }
+pub(crate) fn split(alloc: Global, x: Value) -> Result<Vec<Items>, AllocError>
+    ensures { IfOk result (λ lists. lists.items ≡ split x ∷ []) }
 {
-    if !is_group(x) {
-        return only(alloc, Pile::new(alloc));
+    match into_group(x) {
+        Some((key, eithers)) => {
+            let sides = sides_of(alloc, eithers)?;
+            one(alloc, pair(alloc, key, sides)?)
+        }
+        None => only(alloc, Pile::new(alloc)),
     }
-    let (key, eithers) = parts(x);
-    let sides = sides_of(alloc, eithers.as_slice())?;
-    one(alloc, pair(alloc, key.copy(alloc)?, sides)?)
 }
 
 /// The members of the list of a key.
-pub(crate) fn spread(alloc: Global, x: &Value) -> Result<Vec<Items>, AllocError>
-    ensures { IfOk result (λ lists. lists.items ≡ spread x.now ∷ []) }
+pub(crate) fn spread(alloc: Global, x: Value) -> Result<Vec<Items>, AllocError>
+    ensures { IfOk result (λ lists. lists.items ≡ spread x ∷ []) }
 {
-    if !is_group(x) {
-        return only(alloc, Pile::new(alloc));
+    match into_group(x) {
+        Some((_key, members)) => only(alloc, members),
+        None => only(alloc, Pile::new(alloc)),
     }
-    only(alloc, copy_all(alloc, parts(x).1.as_slice())?)
+}
+
+/// The lefts of eithers and their rights, each in order.
+#[derive(Drop)]
+struct Sides {
+    lefts: Vec<Value>,
+    rights: Vec<Value>,
 }
 
 /// The record of the lefts of eithers and of their rights.
-fn sides_of(alloc: Global, eithers: &[Value]) -> Result<Value, AllocError>
-    ensures { IfOk result (λ sides. sides ≡ sides_of eithers.now) }
+fn sides_of(alloc: Global, eithers: Items) -> Result<Value, AllocError>
+    ensures { IfOk result (λ sides. sides ≡ sides_of eithers) }
 {
-    let mut lefts = Vec::new(alloc);
-    let mut rights = Vec::new(alloc);
-    for either in eithers {
-        push_left(alloc, either, &mut lefts)?;
-        push_right(alloc, either, &mut rights)?;
+    let mut sides = Sides {
+        lefts: Vec::new(alloc),
+        rights: Vec::new(alloc),
+    };
+    for either in eithers.into_vec() {
+        push_side(either, &mut sides)?;
     }
+    let Sides { lefts, rights } = sides;
     let lefts = Value::List(Pile::from_vec(lefts));
     pair(alloc, lefts, Value::List(Pile::from_vec(rights)))
 }
 
-fn push_left(alloc: Global, either: &Value, lefts: &mut Vec<Value>) -> Result<(), AllocError>
-    ensures { OnOk result (lefts.new.items
-        ≡ lefts.old.items ++ option_to_list (left_of either.now)) }
+fn push_side(either: Value, sides: &mut Sides) -> Result<(), AllocError>
+    ensures left { OnOk result (sides.new.lefts.items
+        ≡ sides.old.lefts.items ++ option_to_list (left_of either)) }
+    ensures right { OnOk result (sides.new.rights.items
+        ≡ sides.old.rights.items ++ option_to_list (right_of either)) }
 {
     match either {
-        Value::Left(side) => {
-            lefts.push(side.get().copy(alloc)?)?;
-            Ok(())
-        }
-        _ => Ok(()),
+        Value::Left(side) => push(side.into_inner(), &mut sides.lefts),
+        Value::Right(side) => push(side.into_inner(), &mut sides.rights),
+        _other => Ok(()),
     }
 }
 
-fn push_right(alloc: Global, either: &Value, rights: &mut Vec<Value>) -> Result<(), AllocError>
-    ensures { OnOk result (rights.new.items
-        ≡ rights.old.items ++ option_to_list (right_of either.now)) }
+fn push(value: Value, values: &mut Vec<Value>) -> Result<(), AllocError>
+    ensures { OnOk result (values.new.items ≡ values.old.items ++ value ∷ []) }
 {
-    match either {
-        Value::Right(side) => {
-            rights.push(side.get().copy(alloc)?)?;
-            Ok(())
-        }
-        _ => Ok(()),
-    }
+    values.push(value)?;
+    Ok(())
 }
 
 /// One emission to the one output.
@@ -130,28 +134,28 @@ fn only(alloc: Global, values: Items) -> Result<Vec<Items>, AllocError>
     Ok(lists)
 }
 
-fn is_pair(x: &Value) -> bool
-    ensures { IsTrue result ↔ IsPair x.now }
+/// The key and the value of a pair.
+fn into_parts(x: Value) -> Option<(Value, Value)>
+    ensures { result ≡ parts_of x }
 {
-    match x {
-        Value::Rec(fields) => fields.len() == 2,
-        _ => false,
+    let Value::Rec(fields) = x else {
+        return None;
+    };
+    if fields.len() != 2 {
+        return None;
     }
-}
-
-fn is_group(x: &Value) -> bool
-    ensures { IsTrue result ↔ IsSome (group_of x.now) }
-{
-    is_pair(x) && matches!(value(x), Value::List(_))
+    let mut fields = fields.into_vec();
+    let value = fields.pop()?;
+    let key = fields.pop()?;
+    Some((key, value))
 }
 
 /// The key and the list of a group.
-fn parts(group: &Value) -> (&Value, &Items)
-    requires { IsSome (group_of group.now) }
-    ensures { group_of group.now ≡ Some (result.0.now, result.1.now) }
+fn into_group(x: Value) -> Option<(Value, Items)>
+    ensures { result ≡ group_of x }
 {
-    match value(group) {
-        Value::List(list) => (key(group), list),
-        _ => unreachable!(),
+    match into_parts(x)? {
+        (key, Value::List(members)) => Some((key, members)),
+        _ => None,
     }
 }

@@ -1,13 +1,13 @@
 // The steps of a forest on one element.
-ghost use Rattle.std.specs.Prelude.{◌≡◌, ◌∷◌, IfOk, slice_get, drop};
+ghost use Rattle.std.specs.Prelude.{◌≡◌, ◌∷◌, IfOk, length, slice_get, drop};
 ghost use Rattle.std.specs.List.{AllByRecursion};
 ghost use Rattle.flume_collection.specs.Calls.{or_none};
 ghost use Rattle.exec_graph.specs.Forests.{Bare, grown, limb};
 ghost use Rattle.forest_steps.specs.Functions.{world_of};
 ghost use Rattle.forest_steps.specs.Safety.{Safe};
-ghost use Rattle.forest_steps.specs.Running.{run, run_out, run_twigs, below, behind, behind_all, IsRun, SafeTwigs};
+ghost use Rattle.forest_steps.specs.Running.{run, run_each, run_out, run_twigs, below, behind, behind_all, IsRun, SafeTwigs};
 
-use crate::answer::answer;
+use crate::answer::{answer, answer_moved};
 use crate::fault::StepFault;
 use crate::functions::Functions;
 use crate::outputs::Outputs;
@@ -109,11 +109,58 @@ fn visit_output<F: Functions>(
 {
     outputs.count(at, emitted.len());
     let first = below(at);
+    if output.number.is_none() && output.kids.len() == 1 {
+        return move_to_kid(alloc, functions, sizes, output, first, emitted, outputs);
+    }
     for y in emitted.as_slice() {
         visit_kids(alloc, functions, sizes, output, first, y, outputs)?;
     }
     outputs.keep(output.number, emitted)?;
     Ok(())
+}
+
+/// The one step on an output that is not kept, on each emission to it, in order.
+#[cycle(visit)]
+fn move_to_kid<F: Functions>(
+    alloc: Global,
+    functions: &F,
+    sizes: &[usize],
+    output: &Output,
+    at: usize,
+    emitted: Items,
+    outputs: &mut Outputs,
+) -> Result<(), StepFault>
+    requires one { length output.now.kids.items ≡ 1 }
+    requires safe { AllByRecursion (Safe (world_of (F.called functions.now))
+        (F.can_call functions.now) (grown output.now.kids.items)) emitted }
+    ensures { IsRun (run_each (run (world_of (F.called functions.now)) sizes.now at
+        (grown output.now.kids.items)) emitted outputs.old) outputs.new result }
+{
+    let kid = &output.kids[0];
+    for y in emitted.into_vec() {
+        visit_moved(alloc, functions, sizes, kid, at, y, outputs)?;
+    }
+    Ok(())
+}
+
+/// A step on an element that no other step reads.
+#[cycle(visit)]
+fn visit_moved<F: Functions>(
+    alloc: Global,
+    functions: &F,
+    sizes: &[usize],
+    step: &Step,
+    at: usize,
+    x: Value,
+    outputs: &mut Outputs,
+) -> Result<usize, StepFault>
+    requires { Safe (world_of (F.called functions.now)) (F.can_call functions.now)
+        (limb step.now Bare) x }
+    ensures { IsRun (run (world_of (F.called functions.now)) sizes.now at (limb step.now Bare)
+        x outputs.old) outputs.new result }
+{
+    let answers = answer_moved(alloc, functions, step.origin, step.does, x)?;
+    visit_outputs(alloc, functions, sizes, step, at, answers, outputs)
 }
 
 /// The steps on an output, on one emission to it.

@@ -21,6 +21,8 @@ mod faults;
 #[cfg(test)]
 mod hosts;
 #[cfg(test)]
+mod level_scripts;
+#[cfg(test)]
 mod plan_rows;
 #[cfg(test)]
 mod plans;
@@ -33,9 +35,15 @@ mod scripts;
 #[cfg(test)]
 mod settings;
 #[cfg(test)]
+mod side_scripts;
+#[cfg(test)]
 mod stops;
 #[cfg(test)]
+mod sum_scripts;
+#[cfg(test)]
 mod sums;
+#[cfg(test)]
+mod word_scripts;
 #[cfg(test)]
 mod words;
 #[cfg(test)]

@@ -6,29 +6,29 @@ use Rattle.forest_steps.proofs.answer.derive.Goals as goal
 pub returns-in-Pair : goal.returns-in-Pair
 returns-in-Pair c w =
     rw c.in-Pair.is (IfOk-weaker c.with_one.result _ _
-    (λ lists e. pair_answers w c.args.x.now ∙ ap Ok (sym e)) c.with_one.ensures)
+    (λ lists e. pair_answers w c.args.x ∙ ap Ok (sym e)) c.with_one.ensures)
 
 pub returns-in-TagLeft : goal.returns-in-TagLeft
 returns-in-TagLeft c w =
     rw c.in-TagLeft.is (IfOk-weaker c.left_tagged.result _ _
-    (λ lists e. left_answers w c.args.x.now ∙ ap Ok (sym e)) c.left_tagged.ensures)
+    (λ lists e. left_answers w c.args.x ∙ ap Ok (sym e)) c.left_tagged.ensures)
 
 pub returns-in-TagRight : goal.returns-in-TagRight
 returns-in-TagRight c w =
     rw c.in-TagRight.is (IfOk-weaker c.right_tagged.result _ _
-    (λ lists e. right_answers w c.args.x.now ∙ ap Ok (sym e)) c.right_tagged.ensures)
+    (λ lists e. right_answers w c.args.x ∙ ap Ok (sym e)) c.right_tagged.ensures)
 
 pub returns-in-Split : goal.returns-in-Split
 returns-in-Split c w =
     rw c.in-Split.is (IfOk-weaker c.split.result _ _
-    (λ lists e. split_answers w c.args.x.now ∙ ap Ok (sym e)) c.split.ensures)
+    (λ lists e. split_answers w c.args.x ∙ ap Ok (sym e)) c.split.ensures)
 
 pub returns-in-Solo : goal.returns-in-Solo
 returns-in-Solo c w =
     rw c.in-Solo.is (IfOk-weaker c.under_zero.result _ _
-    (λ lists e. solo_answers w c.args.x.now ∙ ap Ok (sym e)) c.under_zero.ensures)
+    (λ lists e. solo_answers w c.args.x ∙ ap Ok (sym e)) c.under_zero.ensures)
 
 pub returns-in-Spread : goal.returns-in-Spread
 returns-in-Spread c w =
     rw c.in-Spread.is (IfOk-weaker c.spread.result _ _
-    (λ lists e. spread_answers w c.args.x.now ∙ ap Ok (sym e)) c.spread.ensures)
+    (λ lists e. spread_answers w c.args.x ∙ ap Ok (sym e)) c.spread.ensures)

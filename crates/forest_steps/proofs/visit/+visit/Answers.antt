@@ -210,3 +210,27 @@ visit_kids-loop-kid-preserved g t c =
     c.in_ok-next.next c.args.y.now c.loop-kid.outputs c.visit_step.new.outputs whole
     c.loop-kid-test.true c.kid-item.is c.in_ok-next.ensures.place c.loop-kid.invariant
     c.in_ok-next.ensures.ran
+
+pub visit_moved-visit_outputs-requires : goal.visit_moved-visit_outputs-requires
+visit_moved-visit_outputs-requires g t c κs within =
+    let w = world_of (g.F.Functions.called c.args.functions.now) in
+    let takes = g.F.Functions.can_call c.args.functions.now in
+    let answers = c.in_ok-answers.answers.items in
+    let given = sym (ap (λ (d : Branch). called w d.does c.args.x) c.step.view_is)
+    ∙ c.in_ok-answers.ensures.given in (
+      search rules,
+      (
+        search (rules, lives, within) depth 24 fits 20000,
+        limb_safe w takes c.args.step.now c.args.x answers given c.requires,
+      ),
+    )
+
+pub visit_moved-returns : goal.visit_moved-returns
+visit_moved-returns g t c =
+    let w = world_of (g.F.Functions.called c.args.functions.now) in
+    let given = sym (ap (λ (d : Branch). called w d.does c.args.x) c.step.view_is)
+    ∙ c.in_ok-answers.ensures.given in
+    subst (λ (r : Run). IsRun r c.visit_outputs.new.outputs c.visit_outputs.result)
+    (sym (limb_run w c.args.sizes.now c.args.at c.args.step.now c.args.x
+    c.in_ok-answers.answers.items c.args.outputs.now given))
+    c.visit_outputs.ensures.ran

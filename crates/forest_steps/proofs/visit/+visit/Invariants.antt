@@ -1,7 +1,9 @@
 use Rattle.std.proofs.Common.{◌≡◌, ◌∷◌, drop, map}
 use Rattle.exec_graph.specs.Forests.{grown}
 use Rattle.exec_graph.specs.Twigs.{twig}
+use Rattle.std.specs.List.{AllByRecursion}
 use Rattle.forest_steps.specs.Functions.{world_of}
+use Rattle.forest_steps.specs.Safety.{Safe}
 use Rattle.forest_steps.specs.Running.{below, behind_all, run, run_each, run_twigs, SafeTwigs}
 use Rattle.forest_steps.proofs.visit.+visit.Given as goal
 
@@ -31,3 +33,13 @@ invariant-visit_kids-loop-kid g l =
     (grown (drop l.kid-index l.kid-items)) l.y l.outputs
     ≡ run (world_of (g.F.Functions.called l.functions)) l.sizes l.at (grown l.kid-items) l.y
     l.fn.outputs
+
+abbrev pub invariant-move_to_kid-loop-y : goal.invariant-move_to_kid-loop-y
+invariant-move_to_kid-loop-y g l = record {
+  ran : run_each (run (world_of (g.F.Functions.called l.functions)) l.sizes l.at
+      (grown l.output.kids.items)) l.y-iterator.rest.items l.outputs
+      ≡ run_each (run (world_of (g.F.Functions.called l.functions)) l.sizes l.at
+      (grown l.output.kids.items)) l.fn.emitted l.fn.outputs;
+  safe : AllByRecursion (Safe (world_of (g.F.Functions.called l.functions))
+      (g.F.Functions.can_call l.functions) (grown l.output.kids.items)) l.y-iterator.rest.items;
+}
