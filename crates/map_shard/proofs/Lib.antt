@@ -1,5 +1,7 @@
 pub mod Taking
 pub mod Fitting
+pub mod Later
+pub mod Handing
 pub mod Sending
 pub mod Working
 pub mod CrossLemmas

@@ -1,168 +1,122 @@
 // What a map task gives the output channels of its stage.
-ghost use Rattle.std.specs.Prelude.{◌≡◌, ◌<◌, IfOk, OnOk, ◌++◌, map};
+ghost use Rattle.std.specs.Prelude.{◌≡◌, ◌<◌, IfOk, OnOk, ◌++◌, drop, slice_get};
 ghost use Rattle.std.specs.List.{AllByRecursion, AllZip};
+ghost use Rattle.flume_collection.specs.Calls.{or_none};
 ghost use Rattle.task_lists.specs.Outs.{AreSentPairs, IsSent};
 ghost use Rattle.task_lists.specs.Typing.{AreGroupable};
-ghost use Rattle.map_shard.specs.inner.Sending.{CanSend, taken, taken_by};
+ghost use Rattle.map_shard.specs.inner.Sending.{CanSend, IsSendable, joined, left, taken, takes_of};
 
-use crate::lists::list_at;
+use crate::moving::{all_takes, taken_lists};
 use combine_table::Comb;
 use exec_plan::{OutChannel, Take};
 use flume_value::{Items, Pile, Value};
 use shuffle_parts::{Sent, combine_pairs, part};
 use std::alloc::{AllocError, Global};
+use std::vec::IntoIter;
 
 /// What each output channel gets of input channel m, whose outputs were given these lists.
 pub(crate) fn send_all(
     alloc: Global,
     channels: &[OutChannel],
     m: u32,
-    lists: &[Items],
+    lists: Pile<Items>,
     partitions: u32,
 ) -> Result<Pile<Sent>, AllocError>
     requires some { 0 < partitions }
-    requires fit { AllByRecursion (CanSend m lists.now) channels.now }
-    ensures { IfOk result (AllZip (IsSent partitions (taken m lists.now)) channels.now) }
+    requires fit { AllByRecursion (CanSend m lists) channels.now }
+    ensures { IfOk result (AllZip (IsSent partitions (taken m lists)) channels.now) }
 {
+    let takes = all_takes(alloc, channels)?;
+    let mut given = taken_lists(alloc, takes.as_slice(), m, lists)?.into_iter();
     let mut sent = Vec::with_capacity(alloc, channels.len())?;
     for channel in channels {
-        sent.push(send(alloc, channel, m, lists, partitions)?)?;
+        sent.push(send(alloc, channel, &mut given, partitions)?)?;
     }
     Ok(Pile::from_vec(sent))
 }
 
+// What a channel gets, for whose takes the next of these lists are.
 fn send(
     alloc: Global,
     channel: &OutChannel,
-    m: u32,
-    lists: &[Items],
+    given: &mut IntoIter<Items>,
     partitions: u32,
 ) -> Result<Sent, AllocError>
     requires some { 0 < partitions }
-    requires fit { CanSend m lists.now channel.now }
-    ensures { IfOk result (IsSent partitions (taken m lists.now) channel.now) }
+    requires fit { IsSendable channel.now (joined (takes_of channel.now) given.old.rest.items) }
+    ensures sent { IfOk result (IsSent partitions
+        (λ takes. joined takes given.old.rest.items) channel.now) }
+    ensures left { OnOk result
+        (given.new.rest.items ≡ left (takes_of channel.now) given.old.rest.items) }
 {
     match channel {
         OutChannel::Pass(take, _) => {
-            let mut values = Vec::new(alloc);
-            append_taken(alloc, *take, m, lists, &mut values)?;
+            let values = joined(alloc, &[*take], given)?;
             Ok(Sent::Passed(Pile::from_vec(values)))
         }
         OutChannel::Group(group) => {
-            send_pairs(
-                alloc,
-                group.lifted,
-                group.takes.as_slice(),
-                m,
-                lists,
-                partitions,
-            )
+            let pairs = joined(alloc, group.takes.as_slice(), given)?;
+            send_pairs(alloc, group.lifted, pairs, partitions)
         }
     }
 }
 
-// Copies of all that is taken.
-fn taken(alloc: Global, takes: &[Take], m: u32, lists: &[Items]) -> Result<Vec<Value>, AllocError>
-    ensures { IfOk result (λ values. values.items ≡ taken m lists.now takes.now) }
-{
-    let mut values = Vec::new(alloc);
-    for take in takes {
-        append_taken(alloc, *take, m, lists, &mut values)?;
-    }
-    Ok(values)
-}
-
-// References to all that is taken.
-fn referred<'a>(
+// The lists of these takes, which are next, one after another.
+fn joined(
     alloc: Global,
     takes: &[Take],
-    m: u32,
-    lists: &'a [Items],
-) -> Result<Vec<&'a Value>, AllocError>
-    ensures { IfOk result (λ values.
-        map (λ value. value.now) values.items ≡ taken m lists.now takes.now) }
+    given: &mut IntoIter<Items>,
+) -> Result<Vec<Value>, AllocError>
+    ensures all { IfOk result (λ values. values.items ≡ joined takes.now given.old.rest.items) }
+    ensures left { OnOk result (given.new.rest.items ≡ left takes.now given.old.rest.items) }
 {
     let mut values = Vec::new(alloc);
-    for take in takes {
-        append_referred(*take, m, lists, &mut values)?;
+    for _take in takes {
+        values = with_more(values, next_list(alloc, given))?;
     }
     Ok(values)
 }
 
-// Puts references to what is taken behind the others.
-fn append_referred<'a>(
-    take: Take,
-    m: u32,
-    lists: &'a [Items],
-    values: &mut Vec<&'a Value>,
-) -> Result<(), AllocError>
-    ensures { OnOk result (map (λ value. value.now) values.new.items
-        ≡ map (λ value. value.now) values.old.items ++ taken_by m lists.now take) }
+// The next list, or an empty one.
+fn next_list(alloc: Global, given: &mut IntoIter<Items>) -> Items
+    ensures next { result ≡ or_none (slice_get given.old.rest.items 0) }
+    ensures rest { given.new.rest.items ≡ drop 1 given.old.rest.items }
 {
-    if take.channel == m {
-        append_each(list_at(lists, take.out), values)?;
+    match given.next() {
+        Some(list) => list,
+        None => Pile::new(alloc),
     }
-    Ok(())
 }
 
-fn append_each<'a>(more: &'a [Value], values: &mut Vec<&'a Value>) -> Result<(), AllocError>
-    ensures { OnOk result (map (λ value. value.now) values.new.items
-        ≡ map (λ value. value.now) values.old.items ++ more.now) }
+fn with_more(values: Vec<Value>, more: Items) -> Result<Vec<Value>, AllocError>
+    ensures { IfOk result (λ all. all.items ≡ values.items ++ more) }
 {
-    for value in more {
-        values.push(value)?;
+    if values.is_empty() {
+        return Ok(more.into_vec());
     }
-    Ok(())
+    let mut all = values;
+    for value in more.into_vec() {
+        all.push(value)?;
+    }
+    Ok(all)
 }
 
-// Puts copies of what is taken behind the values.
-fn append_taken(
-    alloc: Global,
-    take: Take,
-    m: u32,
-    lists: &[Items],
-    values: &mut Vec<Value>,
-) -> Result<(), AllocError>
-    ensures { OnOk result (values.new.items ≡ values.old.items ++ taken_by m lists.now take) }
-{
-    if take.channel == m {
-        append_copies(alloc, list_at(lists, take.out), values)?;
-    }
-    Ok(())
-}
-
-fn append_copies(alloc: Global, more: &[Value], values: &mut Vec<Value>) -> Result<(), AllocError>
-    ensures { OnOk result (values.new.items ≡ values.old.items ++ more.now) }
-{
-    for value in more {
-        values.push(value.copy(alloc)?)?;
-    }
-    Ok(())
-}
-
-// The pairs that are taken, by partition; of a lifted channel accumulators that stand for them,
-// for which no pair is copied.
+// The pairs by partition; of a lifted channel accumulators that stand for them.
 fn send_pairs(
     alloc: Global,
     lifted: Option<Comb>,
-    takes: &[Take],
-    m: u32,
-    lists: &[Items],
+    pairs: Vec<Value>,
     partitions: u32,
 ) -> Result<Sent, AllocError>
     requires some { 0 < partitions }
-    requires pairs { AreGroupable lifted (taken m lists.now takes.now) }
-    ensures { IfOk result (λ sent.
-        AreSentPairs lifted partitions sent (taken m lists.now takes.now)) }
+    requires pairs { AreGroupable lifted pairs.items }
+    ensures { IfOk result (λ sent. AreSentPairs lifted partitions sent pairs.items) }
 {
     match lifted {
-        None => {
-            let pairs = taken(alloc, takes, m, lists)?;
-            Ok(Sent::Grouped(part(alloc, pairs, partitions)?))
-        }
+        None => Ok(Sent::Grouped(part(alloc, pairs, partitions)?)),
         Some(comb) => {
-            let pairs = referred(alloc, takes, m, lists)?;
-            Ok(Sent::Combined(combine_pairs(alloc, comb, pairs, partitions)?))
+            let referred: Vec<&Value> = pairs.as_slice().iter().collect(alloc)?;
+            Ok(Sent::Combined(combine_pairs(alloc, comb, referred, partitions)?))
         }
     }
 }

@@ -144,7 +144,8 @@ impl<'a, F: Functions> MapTasks<'a, F> {
     {
         let (lists, counts) = given.into_parts();
         let channels = self.stage.outputs.as_slice();
-        let sent = send_all(alloc, channels, task / self.shards, &lists, self.partitions)?;
+        let lists = Pile::from_vec(lists);
+        let sent = send_all(alloc, channels, task / self.shards, lists, self.partitions)?;
         let counts = Pile::from_vec(counts);
         Ok(MapOut { sent, counts })
     }

@@ -1,5 +1,5 @@
 -- What a channel takes of an input channel whose outputs were given these lists.
-use Rattle.std.specs.Prelude.{ℕ, ◌==◌, cond, List, [], slice_get}
+use Rattle.std.specs.Prelude.{ℕ, ◌==◌, ◌&&◌, ◌++◌, ◌∷◌, Bool, cond, drop, List, [], slice_get}
 use Rattle.std.specs.List.{flat_map}
 use Rattle.flume_value.specs.declared.value.Value.{Value}
 use Rattle.flume_collection.specs.Calls.{or_none}
@@ -14,7 +14,27 @@ taken_by m lists k = cond (k.channel == m) (or_none (slice_get lists k.out)) []
 abbrev pub taken : ℕ → List (List Value) → List Take → List Value
 taken m lists takes = flat_map (taken_by m lists) takes
 
--- it is fit for the channel
+-- values that are fit for the channel
+abbrev pub IsSendable : OutChannel → List Value → Type 0
+IsSendable (Pass k number) values = Unit {0}
+IsSendable (Group g) values = AreGroupable g.lifted values
+
+abbrev pub takes_of : OutChannel → List Take
+takes_of (Pass k number) = k ∷ []
+takes_of (Group g) = g.takes
+
 abbrev pub CanSend : ℕ → List (List Value) → OutChannel → Type 0
-CanSend m lists (Pass k number) = Unit {0}
-CanSend m lists (Group g) = AreGroupable g.lifted (taken m lists g.takes)
+CanSend m lists channel = IsSendable channel (taken m lists (takes_of channel))
+
+-- whether two takes are of one list
+abbrev pub is_same : Take → Take → Bool
+is_same k l = (k.channel == l.channel) && (k.out == l.out)
+
+-- of lists, one for each take: those of the first takes together, and those that are left
+abbrev pub joined : List Take → List (List Value) → List Value
+joined [] lists = []
+joined (k ∷ ks) lists = or_none (slice_get lists 0) ++ joined ks (drop 1 lists)
+
+abbrev pub left : List Take → List (List Value) → List (List Value)
+left [] lists = lists
+left (k ∷ ks) lists = left ks (drop 1 lists)
