@@ -1,5 +1,4 @@
 pub mod Taking
-pub mod Fitting
 pub mod Later
 pub mod Handing
 pub mod Sending
