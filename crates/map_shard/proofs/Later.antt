@@ -13,7 +13,7 @@ pub drop_at : {A : Type 0} (xs : List A) (i : ℕ) (x : A) → i < length xs
 drop_at xs i x h = drop-cons xs i x h ∙ ap (λ n. get_or xs i x ∷ drop n xs) (sym (add-one i))
 
 -- what is behind a place is all that is left
-behind : {A : Type 0} (xs : List A) (n : ℕ) → take (length xs - n) (drop n xs) ≡ drop n xs
+pub behind : {A : Type 0} (xs : List A) (n : ℕ) → take (length xs - n) (drop n xs) ≡ drop n xs
 behind xs n =
     let long = length-drop n xs in take_all (length xs - n) (drop n xs) (omega (arith, long))
 

@@ -1,51 +1,12 @@
 -- A result that is taken away leaves the others.
-use Rattle.std.proofs.Common.{◌≡◌, ◌<◌, ◌-◌, ◌==◌, ◌&&◌, ℕ, zero, suc, Bool, true, false, ◌||◌, cond, List, [], ◌∷◌, ◌++◌, map, length, Some, slice_get, ◌+◌, add-one, append_assoc, drop, get_or, take, refl, sym, ap, ◌∙◌, subst, arith}
+use Rattle.std.proofs.Common.{◌≡◌, ◌<◌, ◌-◌, ◌==◌, ◌&&◌, ℕ, zero, suc, true, false, cond, List, [], ◌∷◌, length, Some, slice_get, ◌+◌, refl, sym, ap, ◌∙◌, arith}
 use Rattle.std.specs.Prelude.{slice_set}
-use Rattle.std.specs.List.{list_any}
-use Rattle.std.proofs.Math.Seq.{drop-cons}
-use Rattle.std.proofs.lemmas.List.{length-drop, take_all}
 use Rattle.flume_value.specs.declared.value.Value.{Value}
 use Rattle.flume_collection.specs.Calls.{or_none}
 use Rattle.exec_plan.specs.declared.plan.PlanPlace.{PlanPlace}
 use Rattle.exec_plan.specs.declared.plan.PlanPlace.TheVariants as at
 use Rattle.map_shard.specs.Tables.{results_or_none, table}
 use Rattle.stage_exec.specs.inner.Places.{is_same}
-
--- ---- lists of others
-
-pub kept_lists : (f g : PlanPlace → List Value) (place : PlanPlace)
-    → ((q : PlanPlace) → is_same q place ≡ false → g q ≡ f q) → (qs : List PlanPlace)
-    → list_any (λ q. is_same q place) qs ≡ false → map g qs ≡ map f qs
-kept_lists f g place kept [] none = refl
-kept_lists f g place kept (q ∷ qs) none =
-    by (is_same q place) refl none (kept_lists f g place kept qs) where
-      by : (b : Bool) → is_same q place ≡ b → b || list_any (λ q. is_same q place) qs ≡ false
-          → (list_any (λ q. is_same q place) qs ≡ false → map g qs ≡ map f qs)
-          → map g (q ∷ qs) ≡ map f (q ∷ qs)
-      by true e none rest = absurd (cc)
-      by false e none rest = λ i. kept q e i ∷ rest none i
-
--- what is behind a place is all that is left
-pub behind : {A : Type 0} (xs : List A) (n : ℕ) → take (length xs - n) (drop n xs) ≡ drop n xs
-behind xs n =
-    let long = length-drop n xs in take_all (length xs - n) (drop n xs) (omega (arith, long))
-
--- the next output's list stands behind the others, and the lists of later outputs are as before
-pub outputs_more : (f g : PlanPlace → List Value) (outs : List PlanPlace) (k : ℕ)
-    (other : PlanPlace) (lists next whole : List (List Value)) (x : List Value)
-    → k < length outs → x ≡ f (get_or outs k other) → next ≡ lists ++ x ∷ []
-    → map g (take (length outs - (k + 1)) (drop (k + 1) outs))
-    ≡ map f (take (length outs - (k + 1)) (drop (k + 1) outs))
-    → lists ++ map f (drop k outs) ≡ whole → next ++ map g (drop (k + 1) outs) ≡ whole
-outputs_more f g outs k other lists next whole x below list push kept_there so_far =
-    let kept : map g (drop (k + 1) outs) ≡ map f (drop (k + 1) outs) =
-    subst (λ l. map g l ≡ map f l) (behind outs (k + 1)) kept_there in
-    let left : drop k outs ≡ get_or outs k other ∷ drop (k + 1) outs =
-    drop-cons outs k other below
-    ∙ ap (λ n. get_or outs k other ∷ drop n outs) (sym (add-one k)) in
-    (λ i. push i ++ kept i) ∙ append_assoc lists (x ∷ []) (map f (drop (k + 1) outs))
-    ∙ ap (λ v. lists ++ v ∷ map f (drop (k + 1) outs)) list
-    ∙ ap (λ l. lists ++ map f l) (sym left) ∙ so_far
 
 -- ---- a result that is taken away
 

@@ -28,7 +28,7 @@ use Rattle.stage_phases.specs.Stages.{CanRunStage, run_world}
 use Rattle.stage_exec.specs.Executions.{split_of}
 use Rattle.stage_exec.specs.inner.Along.{Along, CanGoOn, counted_on, lists_after, phases_on}
 use Rattle.stage_exec.specs.inner.Reads.{AgreeOn, later_reads}
-use Rattle.stage_exec.proofs.Others.{behind}
+use Rattle.map_shard.proofs.Later.{behind}
 use Rattle.stage_exec.proofs.Reading.{outputs_same, phases_from_same, tasks_from_same}
 use Rattle.stage_exec.proofs.Tables.{table_begins, table_grows}
 use Rattle.exec_plan.specs.declared.plan.PlanPlace.{PlanPlace}

@@ -11,8 +11,8 @@ ghost use Rattle.stage_exec.specs.inner.Places as spec;
 
 use exec_plan::PlanPlace;
 use flume_value::{Items, Pile};
+use map_shard::take_list;
 use std::alloc::Global;
-use std::mem;
 
 /// Whether a collection is one of these.
 pub(crate) fn is_among(places: &[PlanPlace], place: PlanPlace) -> bool
@@ -58,21 +58,5 @@ pub(crate) fn taken_result(
     if at == 0 || at > results.len() {
         return Pile::new(alloc);
     }
-    taken_member(alloc, &mut results[at - 1], number as usize)
-}
-
-fn taken_member(alloc: Global, lists: &mut Pile<Items>, number: usize) -> Items
-    ensures list { result ≡ or_none (slice_get lists.old number) }
-    ensures none { or_none (slice_get lists.new number) ≡ [] }
-    ensures others { (n : ℕ) → (n ≡ number → ⊥) →
-        or_none (slice_get lists.new n) ≡ or_none (slice_get lists.old n) }
-{
-    let mut members = mem::replace(lists, Pile::new(alloc)).into_vec();
-    let list = if number < members.len() {
-        mem::replace(&mut members[number], Pile::new(alloc))
-    } else {
-        Pile::new(alloc)
-    };
-    *lists = Pile::from_vec(members);
-    list
+    take_list(alloc, &mut results[at - 1], number as usize)
 }

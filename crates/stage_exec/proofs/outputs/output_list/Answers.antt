@@ -1,10 +1,11 @@
 use Rattle.std.proofs.Common.{◌∙◌, sym}
 use Rattle.map_shard.specs.Tables.{table}
-use Rattle.stage_exec.proofs.Others.{kept_lists}
+use Rattle.map_shard.proofs.Later.{kept_lists}
+use Rattle.stage_exec.specs.inner.Places.{is_same}
 use Rattle.stage_exec.proofs.outputs.output_list.Goals as goal
 
 pub returns-clause-others : goal.returns-clause-others
 returns-clause-others c =
     kept_lists (table c.args.sources.now c.args.results.now.items)
-    (table c.args.sources.now c.taken.new.results.items) c.args.place.now c.taken.ensures.others
+    (table c.args.sources.now c.taken.new.results.items) (λ q. is_same q c.args.place.now) c.taken.ensures.others
     c.args.later.now (sym c.is_among.ensures ∙ c.if-is_among.false)

@@ -1,11 +1,11 @@
 use Rattle.exec_plan.specs.declared.plan.PlanPlace.TheVariants.{Source}
 use Rattle.map_shard.specs.Tables.{table}
-use Rattle.stage_exec.proofs.Others.{outputs_more}
+use Rattle.map_shard.proofs.Later.{lists_more}
 use Rattle.stage_exec.proofs.outputs.output_lists.Goals as goal
 
 pub loop-k-preserved : goal.loop-k-preserved
 loop-k-preserved c =
-    outputs_more (table c.args.sources.now c.loop-k.results.items)
+    lists_more (table c.args.sources.now c.loop-k.results.items)
     (table c.args.sources.now c.output_list.new.results.items) c.args.outputs.now c.loop-k.k
     (Source 0) c.loop-k.lists.items c.push.new.self.items _ c.in_ok-list.list c.loop-k-test.true
     c.in_ok-list.ensures.list c.in_ok-push.ensures.items c.in_ok-list.ensures.others
