@@ -1,6 +1,7 @@
 pub mod BagParts
 pub mod CombiningLemmas
 pub mod Grouping
+pub mod LastRuns
 pub mod MemberLemmas
 pub mod PairLemmas
 pub mod PairOrder

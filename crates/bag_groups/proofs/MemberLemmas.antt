@@ -1,12 +1,12 @@
--- What holds of each of a list's distinct members, of its last and of its first.
-use Rattle.std.proofs.Common.{◌≡◌, ℕ, Some, take, length, subst, Bool, true, false, cond, List, [], ◌∷◌, ◌++◌, map, refl, sym, ap, ◌∙◌}
-use Rattle.std.specs.Prelude.{filter, not, All, slice_get}
+-- What holds of each of a list's distinct members, and of what refers to its members.
+use Rattle.std.proofs.Common.{◌≡◌, subst, Bool, true, false, cond, List, [], ◌∷◌, map, refl, sym, ap, ◌∙◌}
+use Rattle.std.specs.Borrow.{Bor}
+use Rattle.std.specs.Prelude.{filter, not, All}
 use Rattle.std.specs.List.{AllByRecursion as Each}
-use Rattle.std.proofs.lemmas.List.Elements.{All-same, All-take}
-use Rattle.std.proofs.Math.Seq.{take-append_seam}
+use Rattle.std.proofs.lemmas.List.Elements.{All-from_recursion, recursion_from_All}
 use Rattle.flume_value.specs.declared.value.Value.{Value}
 use Rattle.flume_value.specs.Equality.{value_eq}
-use Rattle.flume_value.proofs.EachLemmas.{each_from, Each-at, Each-filter}
+use Rattle.flume_value.proofs.EachLemmas.{Each-filter}
 use Rattle.bag_groups.specs.Groups.{distinct}
 
 pub Each-distinct : (P : Value → Type 0) (xs : List Value) → Each P xs → Each P (distinct xs)
@@ -31,13 +31,20 @@ pub map_same : (f g : Value → Value) (xs : List Value) → Each (λ x. f x ≡
 map_same f g [] e = refl
 map_same f g (x ∷ xs) e = λ i. e.0 i ∷ map_same f g xs e.1 i
 
-pub last_has : (P : Value → Type 0) (d xs : List Value) (k : ℕ) (x : Value) → d ≡ xs
-    → Some x ≡ slice_get d k → All P xs → P x
-last_has P d xs k x same at all =
-    Each-at P xs k x (each_from P xs all) (subst (λ l. Some x ≡ slice_get l k) same at)
+-- ---- what all that is told has, all that refers to it has
 
-pub All-left : (P : Value → Type 0) (whole left rest : List Value) → whole ≡ left ++ rest
-    → All P whole → All P left
-All-left P whole left rest e all =
-    All-same P left (take (length left) whole) (sym (ap (take (length left)) e
-    ∙ take-append_seam left rest)) (All-take P (length left) whole all)
+each_back : {A B : Type 0} (f : A → B) (P : B → Type 0) (xs : List A) → Each P (map f xs)
+    → Each (λ x. P (f x)) xs
+each_back f P [] e = tt
+each_back f P (x ∷ xs) e = (e.0, each_back f P xs e.1)
+
+pub all_back : {A B : Type 0} (f : A → B) (P : B → Type 0) (xs : List A) → All P (map f xs)
+    → All (λ x. P (f x)) xs
+all_back f P xs all =
+    All-from_recursion (λ x. P (f x)) xs
+    (each_back f P xs (recursion_from_All P (map f xs) all))
+
+pub referred_all : {A : Type 0} (P : A → Type 0) (refs : List (Bor A)) (xs : List A)
+    → map (λ (r : Bor A). r.now) refs ≡ xs → All P xs → All (λ (r : Bor A). P r.now) refs
+referred_all {A} P refs xs e all =
+    all_back (λ (r : Bor A). r.now) P refs (subst (All P) (sym e) all)

@@ -1,3 +1,4 @@
 pub mod Combining
 pub mod Groups
 pub mod Pairs
+pub mod inner

@@ -1,67 +1,78 @@
-ghost use Rattle.std.specs.Prelude.{◌≡◌, ◌≢◌, ◌++◌, ◌∷◌, [], ◌-◌, All, IfOk, OnOk, IfSome, IfNone, Some, length, take, slice_get, vec_len};
-ghost use Rattle.std.specs.Option.{option_to_list};
+ghost use Rattle.std.specs.Prelude.{◌≡◌, All, IfOk, Some, map};
 ghost use Rattle.std.specs.List.Sorted.{IsSorted};
-ghost use Rattle.flume_value.specs.declared.value.Value.{Value as GhostValue};
 ghost use Rattle.flume_value.specs.Order.{value_cmp};
-ghost use Rattle.bag_groups.specs.Pairs.{IsPair, key_of};
+ghost use Rattle.bag_groups.specs.Pairs.{IsPair, key_of, pair as pair_of};
 ghost use Rattle.bag_groups.specs.Groups.{grouped};
+ghost use Rattle.bag_groups.specs.inner.Runs.{IsLastRun, held_by};
 
-use crate::pairs::{key, split};
-use flume_value::{Pile, Value, equals, sorted};
+use crate::pairs::{key, pair, value};
+use flume_value::{Items, Pile, Value, equals};
 use std::alloc::{AllocError, Global};
 
 /// One pair for each key of the pairs, keys ascending: the key and the list of its values,
-/// ascending. It sorts once and then moves each value into its list.
+/// ascending.
 pub fn group(alloc: Global, pairs: Vec<Value>) -> Result<Vec<Value>, AllocError>
     requires { All IsPair pairs.items }
     ensures groups { IfOk result (λ groups. groups.items ≡ grouped pairs.items) }
     ensures ascending { IfOk result (λ groups. IsSorted value_cmp groups.items) }
 {
-    let mut ascending = sorted(pairs)?;
+    let referred: Vec<&Value> = pairs.iter().collect(alloc)?;
+    let groups = group_borrowed(alloc, referred)?;
+    Ok(groups)
+}
+
+/// One pair for each key of the pairs that are referred to, keys ascending: the key and the list
+/// of its values, ascending. It sorts the references, and copies each value once and one key of
+/// each run.
+pub fn group_borrowed(alloc: Global, pairs: Vec<&Value>) -> Result<Vec<Value>, AllocError>
+    requires { All (λ pair. IsPair pair.now) pairs.items }
+    ensures groups { IfOk result (λ groups.
+        groups.items ≡ grouped (map (λ pair. pair.now) pairs.entry.items)) }
+    ensures ascending { IfOk result (λ groups. IsSorted value_cmp groups.items) }
+{
+    let mut left = pairs;
+    left.sort_unstable();
     let mut groups = Vec::new(alloc);
-    while let Some(last) = ascending.pop() {
-        groups.push(last_group(alloc, last, &mut ascending)?)?;
+    'runs: while !left.is_empty() {
+        let last = key(left[left.len() - 1]);
+        let start = run_start(last, &left);
+        groups.push(group_of_run(alloc, last, &left[start..])?)?;
+        left.truncate(start);
     }
     groups.reverse();
     Ok(groups)
 }
 
-/// The group of the last pair, whose other pairs it takes from the end of those before.
-fn last_group(alloc: Global, last: Value, before: &mut Vec<Value>) -> Result<Value, AllocError>
-    requires pairs { All IsPair (before.old.items ++ last ∷ []) }
-    requires ascending { IsSorted value_cmp (before.old.items ++ last ∷ []) }
-    ensures group { IfOk result (λ group.
-        grouped (before.old.items ++ last ∷ []) ≡ grouped before.new.items ++ group ∷ []) }
-    ensures rest { OnOk result (before.new.items ≡ take (vec_len before.new) before.old.items) }
+/// Where the pairs of this key begin, which stand at the end.
+fn run_start(wanted: &Value, pairs: &[&Value]) -> usize
+    requires { All (λ pair. IsPair pair.now) pairs.now }
+    ensures { IsLastRun (Some wanted.now) (map (λ pair. pair.now) pairs.now) result }
 {
-    let (mut group, value) = split(last);
-    let mut values = Vec::new(alloc);
-    values.push(value)?;
-    while let Some(pair) = pop_of_key(&group[0], before) {
-        values.push(split(pair).1)?;
+    let mut start = pairs.len();
+    while start > 0 && equals(key(pairs[start - 1]), wanted) {
+        start -= 1;
     }
-    values.reverse();
-    group.push(Value::List(Pile::from_vec(values)))?;
-    Ok(Value::Rec(Pile::from_vec(group)))
+    start
 }
 
-/// The last pair, if it has this key.
-fn pop_of_key(wanted: &Value, pairs: &mut Vec<Value>) -> Option<Value>
-    requires { All IsPair pairs.old.items }
-    ensures popped { pairs.old.items ≡ pairs.new.items ++ option_to_list result }
-    ensures key { IfSome result (λ pair. key_of pair ≡ Some wanted.now) }
-    ensures none { IfNone result ((pair : GhostValue) →
-        slice_get pairs.new.items (length pairs.new.items - 1) ≡ Some pair →
-        key_of pair ≢ Some wanted.now) }
+/// The pair of a key and the list of the values of its pairs.
+fn group_of_run(alloc: Global, key: &Value, run: &[&Value]) -> Result<Value, AllocError>
+    requires { All (λ pair. IsPair pair.now) run.now }
+    ensures { IfOk result (λ group. group
+        ≡ pair_of key.now (Value.List (held_by (map (λ pair. pair.now) run.now)))) }
 {
-    match pairs.last() {
-        None => None,
-        Some(last) => {
-            if equals(key(last), wanted) {
-                pairs.pop()
-            } else {
-                None
-            }
-        }
+    let values = Value::List(values_of(alloc, run)?);
+    pair(alloc, key.copy(alloc)?, values)
+}
+
+/// Copies of the values of these pairs.
+fn values_of(alloc: Global, pairs: &[&Value]) -> Result<Items, AllocError>
+    requires { All (λ pair. IsPair pair.now) pairs.now }
+    ensures { IfOk result (λ values. values ≡ held_by (map (λ pair. pair.now) pairs.now)) }
+{
+    let mut values = Vec::with_capacity(alloc, pairs.len())?;
+    for pair in pairs {
+        values.push(value(pair).copy(alloc)?)?;
     }
+    Ok(Pile::from_vec(values))
 }

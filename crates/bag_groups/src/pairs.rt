@@ -1,5 +1,4 @@
 ghost use Rattle.std.specs.Prelude.{◌≡◌, Some, IfOk};
-ghost use Rattle.std.specs.Option.{option_to_list};
 ghost use Rattle.bag_groups.specs.Pairs.{IsPair, key_of, value_of, pair as pair_of};
 
 use flume_value::{Pile, Value};
@@ -35,19 +34,4 @@ pub fn value(pair: &Value) -> &Value
         Value::Rec(fields) => &fields.as_slice()[1],
         _ => unreachable!(),
     }
-}
-
-/// The fields of a pair: its key alone, and beside them its value.
-pub(crate) fn split(pair: Value) -> (Vec<Value>, Value)
-    requires { IsPair pair }
-    ensures key { result.0.items ≡ option_to_list (key_of pair) }
-    ensures value { value_of pair ≡ Some result.1 }
-{
-    if let Value::Rec(fields) = pair {
-        let mut fields = fields.into_vec();
-        if let Some(value) = fields.pop() {
-            return (fields, value);
-        }
-    }
-    unreachable!()
 }
