@@ -247,7 +247,8 @@ pub grouped-last : (xs : List Value) (k : Value) (n : ℕ) → Each IsPair xs �
 grouped-last xs k n pairs up some r =
     let ls = pairs_of (take n xs) in
     let run = pairs_of (drop n xs) in
-    let left : map packed ls ≡ take n xs = packed-pairs_of (take n xs) (Each-take IsPair n xs pairs) in
+    let left : map packed ls ≡ take n xs
+    = packed-pairs_of (take n xs) (Each-take IsPair n xs pairs) in
     let rest : map packed run ≡ drop n xs
     = packed-pairs_of (drop n xs) (Each-drop IsPair n xs pairs) in
     let joined : xs ≡ map packed (ls ++ run)
