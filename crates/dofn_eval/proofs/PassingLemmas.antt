@@ -1,13 +1,35 @@
 -- A `for` whose block emits its member, and does no more, emits the members all together.
-use Rattle.std.proofs.Common.{◌≡◌, ℕ, zero, suc, Option, Some, None, List, [], ◌∷◌, ◌++◌, refl, ap, ◌∙◌, append_assoc}
+use Rattle.std.proofs.Common.{◌≡◌, ℕ, zero, suc, ◌<◌, ◌≤◌, Option, Some, None, List, [], ◌∷◌, ◌++◌, length, get_or, arith, refl, sym, ap, ◌∙◌, append_assoc}
 use Rattle.std.specs.Prelude.{slice_get, slice_set}
 use Rattle.flume_value.specs.declared.value.Value.{Value}
 use Rattle.flume_value.specs.Parts.{members_of}
 use Rattle.dofn_eval.specs.declared.expr.Expr.TheVariants as expr
+use Rattle.dofn_eval.specs.declared.stmt.Stmt.{Stmt}
 use Rattle.dofn_eval.specs.Outcome.{Outcome, Gives, Traps, Stuck, then, with_part}
 use Rattle.dofn_eval.specs.Run.{Emissions, emitted_to, each, for_each, run}
-use Rattle.dofn_eval.specs.inner.Passing.{passes, passed, passed_of}
+use Rattle.dofn_eval.specs.inner.Passing.{passes, passed_by, passed_to, passed, passed_of}
 use Rattle.dofn_eval.proofs.MeaningLemmas.{value_of-Variable, run-Emit}
+
+-- ---- the output of a block, by how many statements it has
+
+pub passed_to-none : (ss : List Stmt) → length ss < 1 → passed_to ss ≡ None
+passed_to-none [] few = refl
+passed_to-none (s ∷ ss) few = absurd (omega (arith, few))
+
+pub passed_to-one : (ss : List Stmt) (s : Stmt) → 1 ≤ length ss → length ss < 2 → s ≡ get_or ss 0 s
+    → passed_to ss ≡ passed_by s
+passed_to-one [] s some few is = absurd (omega (arith, some))
+passed_to-one (t ∷ []) s some few is = ap passed_by (sym is)
+passed_to-one (t ∷ u ∷ ss) s some few is = absurd (omega (arith, few))
+
+pub passed_to-more : (ss : List Stmt) → 2 ≤ length ss → passed_to ss ≡ None
+passed_to-more [] many = refl
+passed_to-more (s ∷ []) many = absurd (omega (arith, many))
+passed_to-more (s ∷ t ∷ ss) many = refl
+
+pub ruleset passing_rules = (passed_to-none, passed_to-one, passed_to-more)
+
+-- ---- a block that passes on
 
 nothing_more : {A : Type 0} (o : Outcome A) → then o Gives ≡ o
 nothing_more (Gives a) = refl

@@ -1,9 +1,11 @@
-ghost use Rattle.std.specs.Prelude.{◌≡◌, Some, IfSome};
+ghost use Rattle.std.specs.Prelude.{◌≡◌, [], ◌∷◌, Some, IfSome, IsTrue};
 ghost use Rattle.flume_value.specs.Parts.{members_of};
+ghost use Rattle.dofn_eval.specs.declared.expr.Expr.TheVariants as expr;
 ghost use Rattle.dofn_eval.specs.Outcome.{Gives, IsSafe, with_part};
 ghost use Rattle.dofn_eval.specs.inner.Evaluates.{Evaluates};
 ghost use Rattle.dofn_eval.specs.inner.Operands.{content};
-ghost use Rattle.dofn_eval.specs.inner.Passing.{passes, passed_of};
+ghost use Rattle.dofn_eval.specs.inner.Passing as spec;
+ghost use Rattle.dofn_eval.specs.inner.Passing.{passes, passed_by, passed_to, passed_of};
 
 use crate::expr::Expr;
 use crate::lists::Lists;
@@ -13,12 +15,35 @@ use flume_value::{CallFault, Value};
 use std::alloc::Global;
 
 /// The output to which a block emits its newest value as it is, where it does no more.
+#[tactic(auto, using(crate::proofs::PassingLemmas::passing_rules))]
 pub fn passes_to(block: &Block) -> Option<usize>
-    ensures { IfSome result (λ output. block.now ≡ passes output) }
+    ensures found { result ≡ passed_to block.now }
+    ensures passes { IfSome result (λ output. block.now ≡ passes output) }
 {
     match block.as_slice() {
-        [Stmt::Emit(output, Expr::Variable(0))] => Some(*output),
+        [stmt] => passes_by(stmt),
         _ => None,
+    }
+}
+
+// The output to which a statement emits the newest value.
+fn passes_by(stmt: &Stmt) -> Option<usize>
+    ensures found { result ≡ passed_by stmt.now }
+    ensures passes { IfSome result (λ output. stmt.now ∷ [] ≡ passes output) }
+{
+    match stmt {
+        Stmt::Emit(output, e) => { if is_newest(e) { Some(*output) } else { None } }
+        _ => None,
+    }
+}
+
+fn is_newest(e: &Expr) -> bool
+    ensures newest { result ≡ spec.is_newest e.now }
+    ensures variable { IsTrue result → e.now ≡ expr.Variable 0 }
+{
+    match e {
+        Expr::Variable(slot) => *slot == 0,
+        _ => false,
     }
 }
 

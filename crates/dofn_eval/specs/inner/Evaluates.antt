@@ -3,6 +3,7 @@ use Rattle.std.specs.Prelude.{◌≡◌, ℕ, true, false, Result, Ok, Err, List
 use Rattle.flume_value.specs.declared.value.Value.{Value}
 use Rattle.flume_value.specs.declared.value.Value.TheVariants as variant
 use Rattle.flume_value.specs.declared.fault.CallFault.{CallFault}
+use Rattle.flume_value.specs.Parts.{left_of, right_of}
 use Rattle.dofn_eval.specs.Outcome.{Outcome, Gives, IsFault, then, then_both}
 use Rattle.dofn_eval.specs.Operations.{of_two, member_in, chosen}
 use Rattle.dofn_eval.specs.declared.expr.Binary.{Binary}
@@ -11,7 +12,7 @@ use Rattle.dofn_eval.specs.declared.stmt.Stmt.{Stmt}
 use Rattle.dofn_eval.specs.declared.scope.Scope.{Scope}
 use Rattle.dofn_eval.specs.Meaning.{value_of}
 use Rattle.dofn_eval.specs.Run.{Emissions, State, state, emitted_to, run, run_one as one_run}
-use Rattle.dofn_eval.specs.Run.{for_each, by_side}
+use Rattle.dofn_eval.specs.Run.{for_each, side_of, by_side}
 use Rattle.dofn_eval.specs.inner.Operands.{values, named}
 
 -- what was returned, as the view sees it, is what the outcome gives; or it is the outcome's trap,
@@ -74,3 +75,7 @@ run_for scope e body out = for_each (run body) (value_in scope e) (values scope)
 
 abbrev pub run_case : Scope → Expr → List Stmt → List Stmt → Emissions → Outcome Emissions
 run_case scope e a b out = by_side (run a) (run b) (value_in scope e) (values scope) out
+
+-- the same for an either that is there
+abbrev pub run_side : Scope → Value → List Stmt → List Stmt → Emissions → Outcome Emissions
+run_side scope x a b out = side_of (run a) (run b) (left_of x) (right_of x) (values scope) out
