@@ -1,5 +1,5 @@
 -- One accumulator a key, keys ascending.
-use Rattle.std.proofs.Common.{◌≡◌, ◌≤◌, ◌+◌, true, false, cond, List, [], ◌∷◌, ◌++◌, map, length, refl, sym, ap, ◌∙◌, arith, length-append, append-nil}
+use Rattle.std.proofs.Common.{◌≡◌, ◌≤◌, ◌+◌, true, false, cond, List, [], ◌∷◌, ◌++◌, map, length, refl, sym, ap, ◌∙◌, arith, length-append}
 use Rattle.std.specs.Prelude.{filter, not, Result, Ok, Err, IfOk}
 use Rattle.std.specs.List.{AllByRecursion as Each, IsDistinct, flat_map}
 use Rattle.std.specs.List.Sorted.{IsPermutation, IsSorted}
@@ -157,10 +157,6 @@ pub length-more : (c : Comb) (ps now : Pairs) (done : Pairs) (p : Value × Value
     → length now ≤ length (done ++ p ∷ [])
 length-more c ps now done p e h =
     omega (arith, ap length e, length-added c ps p.0 p.1, length-append done (p ∷ []), h)
-
-pub all_done : (done rest whole : Pairs) → done ++ rest ≡ whole → length rest ≡ 0 → done ≡ whole
-all_done done [] whole e h = sym (append-nil done) ∙ e
-all_done done (p ∷ rest) whole e h = absurd (omega arith)
 
 pub IfOk-four : {X E : Type 0} (A B C D P : X → Type 0)
     → ((x : X) → A x → B x → C x → D x → P x) → (r : Result X E)

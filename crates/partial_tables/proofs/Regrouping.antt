@@ -15,7 +15,6 @@ use Rattle.combine_table.specs.Accumulators.{accumulator, HasShape, merged}
 use Rattle.combine_table.proofs.Merging.{merged-HasShape, merged-comm, merged-assoc, merged-unit_right}
 use Rattle.partial_tables.specs.Tables.{Pairs, has_key, added, IsPartialOf, HaveShape}
 use Rattle.partial_tables.specs.Merges.{values_at, merged_all, StandFor}
-use Rattle.partial_tables.specs.inner.Lifted.{lifted}
 use Rattle.partial_tables.specs.inner.Regrouped.{Regrouped}
 use Rattle.partial_tables.proofs.Standing.{merged_all-HasShape, merged_all-append, values_at-cons, values_at-append, has_key-append, stands_more}
 
@@ -165,29 +164,22 @@ parts_more c old now ps k a (Some parts) s is r =
     (subst (λ (p : Value × Value). Regrouped c (old ++ p ∷ []) now) (λ i. (sym key i, sym acc i)) r)
     (stands_more c old ps parts.0 parts.1 s)
 
-pub lifted_more : (c d : Comb) (old now : Pairs) (xs : List Value) (pair k a : Value) → d ≡ c
-    → StandFor c old (pairs_of xs) → lifted c pair ≡ Some (k, a)
-    → (HaveShape d old → Regrouped d (old ++ (k, a) ∷ []) now)
-    → StandFor c now (pairs_of (xs ++ pair ∷ []))
-lifted_more c d old now xs pair k a is s lift put =
-    subst (StandFor c now) (sym (filter_map-append parts_of xs (pair ∷ [])))
-    (parts_more c old now (pairs_of xs) k a (parts_of pair) s lift
-    (subst (λ e. HaveShape e old → Regrouped e (old ++ (k, a) ∷ []) now) is put
-    (recursion_from_All (IsPartialOf c) old s.shape)))
-
--- the same, of pairs and of accumulators that are referred to
+-- the same, of pairs that are referred to
 pub borrowed_more : (c d : Comb) (old now : Pairs) (xs : List (Bor Value)) (pair : Bor Value)
     (k v a : Value) → d ≡ c → StandFor c old (pairs_of (map (λ (x : Bor Value). x.now) xs))
     → parts_of pair.now ≡ Some (k, v) → a ≡ accumulator c (v ∷ [])
     → (HaveShape d old → Regrouped d (old ++ (k, a) ∷ []) now)
     → StandFor c now (pairs_of (map (λ (x : Bor Value). x.now) (xs ++ pair ∷ [])))
 borrowed_more c d old now xs pair k v a is s parts made put =
-    subst (λ l. StandFor c now (pairs_of l))
-    (sym (map-append (λ (x : Bor Value). x.now) xs (pair ∷ [])))
-    (lifted_more c d old now (map (λ (x : Bor Value). x.now) xs) pair.now k a is s
+    let told = map (λ (x : Bor Value). x.now) xs in
+    subst (StandFor c now)
+    (sym (ap pairs_of (map-append (λ (x : Bor Value). x.now) xs (pair ∷ []))
+    ∙ filter_map-append parts_of told (pair.now ∷ [])))
+    (parts_more c old now (pairs_of told) k a (parts_of pair.now) s
     (ap (option_map (λ ps. (ps.0, accumulator c (ps.1 ∷ [])))) parts
     ∙ ap (λ b. Some (k, b)) (sym made))
-    put)
+    (subst (λ e. HaveShape e old → Regrouped e (old ++ (k, a) ∷ []) now) is put
+    (recursion_from_All (IsPartialOf c) old s.shape)))
 
 -- an accumulator more
 pub merged_more : (c : Comb) (old now ps : Pairs) (k a : Value) → Regrouped c ps old

@@ -1,2 +1,1 @@
-pub mod Lifted
 pub mod Regrouped

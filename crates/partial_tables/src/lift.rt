@@ -3,7 +3,6 @@ ghost use Rattle.bag_groups.specs.Pairs.{IsPair, pairs_of, parts_of};
 ghost use Rattle.combine_table.specs.Accumulators.{HasShape};
 ghost use Rattle.partial_tables.specs.Tables.{HaveShape};
 ghost use Rattle.partial_tables.specs.Merges.{StandFor, IsCombinable};
-ghost use Rattle.partial_tables.specs.inner.Lifted.{lifted as lifted_of};
 ghost use Rattle.partial_tables.specs.inner.Regrouped.{Regrouped};
 
 use crate::table::{AddFault, Partial, Partials};
@@ -14,25 +13,9 @@ use std::alloc::{AllocError, Global};
 /// How many keys the table has room for.
 const ROOM: u64 = 1024;
 
-/// Accumulators that stand for the pairs. They are merged in a table of bounded room, which is
-/// emptied whenever it is full, so a key may have several.
-pub fn lift_pairs(alloc: Global, comb: Comb, pairs: Vec<Value>) -> Result<Vec<Partial>, AllocError>
-    requires { All (IsCombinable comb) pairs.items }
-    ensures { IfOk result (λ partials. StandFor comb partials.items (pairs_of pairs.items)) }
-{
-    let mut table = Partials::new(alloc, comb, ROOM);
-    let mut partials = Vec::new(alloc);
-    for pair in pairs {
-        let (key, acc) = lifted(alloc, comb, pair)?;
-        put(alloc, &mut table, &mut partials, key, acc)?;
-    }
-    let mut rest = table.take(alloc)?;
-    partials.append(&mut rest)?;
-    Ok(partials)
-}
-
-/// Accumulators that stand for the pairs that are referred to, as `lift_pairs` makes them. A key is
-/// copied where it is new in the table.
+/// Accumulators that stand for the pairs that are referred to. They are merged in a table of
+/// bounded room, which is emptied whenever it is full, so a key may have several. A key is copied
+/// where it is new in the table.
 pub fn lift_borrowed(
     alloc: Global,
     comb: Comb,
@@ -63,21 +46,6 @@ fn parts(pair: &Value) -> (&Value, &Value)
         Value::Rec(fields) => (&fields.as_slice()[0], &fields.as_slice()[1]),
         _ => unreachable!(),
     }
-}
-
-// The key of a pair, and the accumulator of its value.
-fn lifted(alloc: Global, comb: Comb, pair: Value) -> Result<Partial, AllocError>
-    requires { IsCombinable comb pair }
-    ensures lifted { IfOk result (λ partial. lifted_of comb pair ≡ Some partial) }
-    ensures shape { IfOk result (λ partial. HasShape comb partial.1) }
-{
-    if let Value::Rec(fields) = pair {
-        let mut fields = fields.into_vec();
-        if let (Some(value), Some(key)) = (fields.pop(), fields.pop()) {
-            return Ok((key, lift(alloc, comb, &value)?));
-        }
-    }
-    unreachable!()
 }
 
 // Adds an accumulator as `put` does, and copies the key where it is new.

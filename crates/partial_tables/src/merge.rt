@@ -6,25 +6,9 @@ use crate::table::{AddFault, Partial, Partials};
 use combine_table::Comb;
 use std::alloc::{AllocError, Global};
 
-/// One accumulator for each key, keys ascending: all of the key's merged. It merges in a table
-/// with room for all, and then sorts one accumulator a key.
-pub fn merge_by_key(
-    alloc: Global,
-    comb: Comb,
-    partials: Vec<Partial>,
-) -> Result<Vec<Partial>, AllocError>
-    requires { All (IsPartialOf comb) partials.items }
-    ensures { IfOk result (λ merged. merged.items ≡ merged_by_key comb partials.items) }
-{
-    let mut table = Partials::new(alloc, comb, partials.len() as u64);
-    for partial in partials {
-        merge_in(alloc, comb, &mut table, partial)?;
-    }
-    table.into_ascending(alloc)
-}
-
-/// One accumulator for each key of those that are referred to, as `merge_by_key` makes them. A key
-/// is copied where it is new in the table.
+/// One accumulator for each key of those that are referred to, keys ascending: all of the key's
+/// merged. It merges in a table with room for all, and then sorts one accumulator a key. A key is
+/// copied where it is new in the table.
 pub fn merge_borrowed(
     alloc: Global,
     comb: Comb,
@@ -57,28 +41,6 @@ fn merge_in_copy(
 {
     let (key, acc) = partial;
     match table.add_copy(alloc, key, acc.copy(alloc)?) {
-        Ok(()) => Ok(()),
-        Err(AddFault::Memory) => Err(AllocError),
-        Err(AddFault::Full { .. }) => unreachable!(),
-    }
-}
-
-// Adds an accumulator to a table that has room for one more.
-fn merge_in(
-    alloc: Global,
-    _comb: Comb,
-    table: &mut Partials,
-    partial: Partial,
-) -> Result<(), AllocError>
-    requires comb { table.old.comb ≡ _comb }
-    requires partial { IsPartialOf _comb partial }
-    requires room { length table.old.partials < table.old.room }
-    ensures added { OnOk result (table.new
-        ≡ holding table.old (added _comb table.old.partials partial.0 partial.1)) }
-    ensures partial { IsPartialOf _comb partial }
-{
-    let (key, acc) = partial;
-    match table.add(alloc, key, acc) {
         Ok(()) => Ok(()),
         Err(AddFault::Memory) => Err(AllocError),
         Err(AddFault::Full { .. }) => unreachable!(),

@@ -1,7 +1,6 @@
 -- What is gathered of a partition of a grouping channel.
-use Rattle.std.proofs.Common.{◌≡◌, ◌/◌, ◌%◌, ℕ, List, length, map, Option, Some, None, sym, ap, ◌∙◌, subst}
+use Rattle.std.proofs.Common.{◌≡◌, ◌/◌, ◌%◌, ℕ, List, length, Option, Some, None, sym, ap, ◌∙◌, subst}
 use Rattle.std.specs.Prelude.{All, IfOk, Result, Ok, Err}
-use Rattle.std.specs.Borrow.{Bor}
 use Rattle.std.specs.List.{AllByRecursion}
 use Rattle.std.specs.Option.{option_map_or}
 use Rattle.flume_value.specs.declared.value.Value.{Value}
@@ -13,7 +12,6 @@ use Rattle.combine_table.specs.declared.comb.Comb.{Comb}
 use Rattle.partial_tables.specs.Merges.{StandFor, merged_by_key}
 use Rattle.partial_tables.specs.Tables.{IsPartialOf, Pairs}
 use Rattle.shuffle_parts.specs.declared.out.MapOut.{MapOut}
-use Rattle.shuffle_parts.proofs.Borrowed.{all_back}
 use Rattle.shuffle_parts.specs.Outs.{all_partials}
 use Rattle.crew.specs.declared.attempts.Attempt.{Attempt}
 use Rattle.crew.specs.declared.attempts.Attempt.TheVariants.{Made, Down}
@@ -63,14 +61,6 @@ pub shape_gathered : (w : World) (takes : ℕ → Value → Type 0) (outs : List
     → All (IsPartialOf c) (all_partials outs r p)
 shape_gathered w takes outs r p g c lifted ready =
     (stand outs r p g c lifted ready.pairs ready.gathered).shape
-
--- what refers to accumulators of a shape
-pub referred_shape : (c : Comb) (refs : List (Bor (Value × Value))) (partials : Pairs)
-    → map (λ (p : Bor (Value × Value)). p.now) refs ≡ partials → All (IsPartialOf c) partials
-    → All (λ (p : Bor (Value × Value)). IsPartialOf c p.now) refs
-referred_shape c refs partials e all =
-    all_back (λ (p : Bor (Value × Value)). p.now) (IsPartialOf c) refs
-    (subst (All (IsPartialOf c)) (sym e) all)
 
 pub merged_has_shape : (c : Comb) (partials merged : Pairs) → merged ≡ merged_by_key c partials
     → All (IsPartialOf c) merged

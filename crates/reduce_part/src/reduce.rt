@@ -4,6 +4,7 @@ ghost use Rattle.std.specs.List.{AllByRecursion};
 ghost use Rattle.flume_value.specs.declared.value.Value.{Value as GhostValue};
 ghost use Rattle.bag_groups.specs.Groups.{grouped};
 ghost use Rattle.bag_groups.specs.Pairs.{IsPair};
+ghost use Rattle.shuffle_parts.specs.Outs.{all_pairs};
 ghost use Rattle.crew.specs.Hosts.{account};
 ghost use Rattle.crew.specs.Drills.{attempt_at};
 ghost use Rattle.crew.specs.Attempts.{IsMadeOf, MatchAttempt, Ran, StoppedDown, StoppedEarly};
@@ -18,7 +19,7 @@ ghost use Rattle.reduce_part.specs.inner.Merged.{IsValueOf};
 
 use crate::lifted::{merge_gathered, reduce_merged};
 use crate::out::{ReduceOut, Reduced};
-use bag_groups::group;
+use bag_groups::group_borrowed;
 use crew::{Attempt, Spot};
 use exec_graph::Roots;
 use exec_plan::Grouping;
@@ -60,8 +61,8 @@ pub(crate) fn reduce_partition<F: Functions, H: Host>(
 {
     match (grouping.lifted, &grouping.does) {
         (None, does) => {
-            let pairs = gather_pairs(alloc, outs, channel, partition)?;
-            reduce_pairs(alloc, functions, does, pairs, host, spot, task)
+            let groups = group_gathered(alloc, outs, channel, partition)?;
+            reduce_groups(alloc, functions, does, groups, host, spot, task)
         }
         (Some(comb), Some(roots)) => {
             let merged = merge_gathered(alloc, comb, outs, channel, partition)?;
@@ -71,32 +72,46 @@ pub(crate) fn reduce_partition<F: Functions, H: Host>(
     }
 }
 
-// The steps on the groups of the pairs.
-fn reduce_pairs<F: Functions, H: Host>(
+// The groups of the pairs of a partition, which stay where they are.
+fn group_gathered(
+    alloc: Global,
+    outs: &[MapOut],
+    channel: usize,
+    partition: usize,
+) -> Result<Vec<Value>, AllocError>
+    requires { All IsPair (all_pairs outs.now channel partition) }
+    ensures { IfOk result (λ groups.
+        groups.items ≡ grouped (all_pairs outs.now channel partition)) }
+{
+    let pairs = gather_pairs(alloc, outs, channel, partition)?;
+    let groups = group_borrowed(alloc, pairs)?;
+    Ok(groups)
+}
+
+// The steps on the groups.
+fn reduce_groups<F: Functions, H: Host>(
     alloc: Global,
     functions: &F,
     does: &Option<Roots>,
-    pairs: Vec<Value>,
+    groups: Vec<Value>,
     host: &mut H,
     spot: &Spot,
     task: u32,
 ) -> Result<Attempt<Reduced>, AllocError>
-    requires pairs { All IsPair pairs.items }
     requires numbered { IsNumbered does.now }
     requires safe { AllByRecursion (SafeOf (world_of (F.called functions.now))
-        (F.can_call functions.now) does.now) (grouped pairs.items) }
+        (F.can_call functions.now) does.now) groups.items }
     ensures value { IfOk result (IsMadeOf (IsValueOf (F.called functions.now) does.now
-        (grouped pairs.items))) }
+        groups.items)) }
     ensures ran { IfOk result (λ r. MatchAttempt r
-        (Ran (attempt_at spot.now task) (length (grouped pairs.items))
+        (Ran (attempt_at spot.now task) (length groups.items)
         (account H.notes H.losses host.old) (account H.notes H.losses host.new))
-        (StoppedDown (attempt_at spot.now task) (length (grouped pairs.items))
+        (StoppedDown (attempt_at spot.now task) (length groups.items)
         (account H.notes H.losses host.old) (account H.notes H.losses host.new))) }
     ensures early { OnErr result
-        (StoppedEarly (attempt_at spot.now task) (length (grouped pairs.items))
+        (StoppedEarly (attempt_at spot.now task) (length groups.items)
         (account H.notes H.losses host.old) (account H.notes H.losses host.new)) }
 {
-    let groups = group(alloc, pairs)?;
     match run_task(alloc, functions, does, &groups, host, spot, task)? {
         Attempt::Made(course) => Ok(Attempt::Made(reduced(course, groups.len()))),
         Attempt::Down => Ok(Attempt::Down),

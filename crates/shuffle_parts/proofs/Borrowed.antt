@@ -2,13 +2,14 @@
 use Rattle.std.proofs.Common.{◌≡◌, ◌<◌, ◌+◌, ℕ, List, [], ◌∷◌, ◌++◌, map, length, get_or, Some, Vec, Global, refl, sym, ap, ◌∙◌, subst, arith}
 use Rattle.std.specs.Prelude.{All, slice_set}
 use Rattle.std.specs.Borrow.{Bor}
-use Rattle.std.specs.List.{AllByRecursion as Each, AllZip, range_with_len}
+use Rattle.std.specs.List.{AllZip, range_with_len}
 use Rattle.std.proofs.Math.ListN.{length-set}
 use Rattle.std.proofs.lemmas.List.{get_or-map, length-map, map-append, map-set}
-use Rattle.std.proofs.lemmas.List.Elements.{All-filter, All-from_recursion, All-map, recursion_from_All}
+use Rattle.std.proofs.lemmas.List.Elements.{All-filter, All-map}
 use Rattle.flume_value.specs.declared.value.Value.{Value}
 use Rattle.flume_value.specs.Partitions.{partition_of}
 use Rattle.bag_groups.specs.Pairs.{key_of, pairs_of}
+use Rattle.bag_groups.proofs.MemberLemmas.{all_back}
 use Rattle.combine_table.specs.declared.comb.Comb.{Comb}
 use Rattle.partial_tables.specs.Tables.{Pairs}
 use Rattle.partial_tables.specs.Merges.{StandFor, IsCombinable}
@@ -70,17 +71,6 @@ combined_told c done parts grown partials given part z g same s =
     (told part.items) z g same refl s)
 
 -- ---- what all that is told has, all that refers to it has
-
-each_back : {A B : Type 0} (f : A → B) (P : B → Type 0) (xs : List A) → Each P (map f xs)
-    → Each (λ x. P (f x)) xs
-each_back f P [] e = tt
-each_back f P (x ∷ xs) e = (e.0, each_back f P xs e.1)
-
-pub all_back : {A B : Type 0} (f : A → B) (P : B → Type 0) (xs : List A) → All P (map f xs)
-    → All (λ x. P (f x)) xs
-all_back f P xs all =
-    All-from_recursion (λ x. P (f x)) xs
-    (each_back f P xs (recursion_from_All P (map f xs) all))
 
 parted_fit : (c : Comb) (n : ℕ) (pairs : List Value) → All (IsCombinable c) pairs
     → All (λ (part : List Value). All (IsCombinable c) part) (parted n pairs)

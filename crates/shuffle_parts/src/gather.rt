@@ -1,40 +1,27 @@
 ghost use Rattle.std.specs.Prelude.{◌≡◌, ◌++◌, IfOk, OnOk, map, slice_get};
 ghost use Rattle.std.specs.Option.{option_copied};
 ghost use Rattle.partial_tables.specs.Tables.{Pairs};
-ghost use Rattle.shuffle_parts.specs.Outs.{or_none, sent_at, passed_in, pairs_in, partials_in, all_passed, all_pairs, all_partials};
+ghost use Rattle.shuffle_parts.specs.Outs.{or_none, sent_at, pairs_in, partials_in, all_pairs, all_partials};
 
 use crate::out::{MapOut, Sent};
 use flume_value::{Items, Pile, Value};
 use partial_tables::Partial;
 use std::alloc::{AllocError, Global};
 
-/// What passes through a channel, of all outs in order of tasks.
-pub fn gather_passed(
+/// The pairs of a partition of a channel that groups, of all outs in order of tasks. They stay
+/// where they are.
+pub fn gather_pairs<'a>(
     alloc: Global,
-    outs: &[MapOut],
-    channel: usize,
-) -> Result<Vec<Value>, AllocError>
-    ensures { IfOk result (λ all. all.items ≡ all_passed outs.now channel) }
-{
-    let mut all = Vec::new(alloc);
-    for out in outs {
-        append_values(alloc, passed_of(out, channel), &mut all)?;
-    }
-    Ok(all)
-}
-
-/// The pairs of a partition of a channel that groups, of all outs in order of tasks.
-pub fn gather_pairs(
-    alloc: Global,
-    outs: &[MapOut],
+    outs: &'a [MapOut],
     channel: usize,
     partition: usize,
-) -> Result<Vec<Value>, AllocError>
-    ensures { IfOk result (λ all. all.items ≡ all_pairs outs.now channel partition) }
+) -> Result<Vec<&'a Value>, AllocError>
+    ensures { IfOk result (λ all.
+        map (λ pair. pair.now) all.items ≡ all_pairs outs.now channel partition) }
 {
     let mut all = Vec::new(alloc);
     for out in outs {
-        append_values(alloc, pairs_of(out, channel, partition), &mut all)?;
+        append_all(pairs_of(out, channel, partition), &mut all)?;
     }
     Ok(all)
 }
@@ -52,18 +39,9 @@ pub fn gather_partials<'a>(
 {
     let mut all = Vec::new(alloc);
     for out in outs {
-        append_partials(partials_of(out, channel, partition), &mut all)?;
+        append_all(partials_of(out, channel, partition), &mut all)?;
     }
     Ok(all)
-}
-
-fn passed_of(out: &MapOut, channel: usize) -> &[Value]
-    ensures { result.now ≡ passed_in (sent_at channel out.now) }
-{
-    match out.sent.get(channel) {
-        Some(Sent::Passed(values)) => values.as_slice(),
-        _ => &[],
-    }
 }
 
 fn pairs_of(out: &MapOut, channel: usize, partition: usize) -> &[Value]
@@ -94,26 +72,13 @@ fn member<T>(lists: &[Pile<T>], at: usize) -> &[T]
     }
 }
 
-// Puts copies of the values behind the others.
-fn append_values(alloc: Global, values: &[Value], all: &mut Vec<Value>) -> Result<(), AllocError>
-    ensures { OnOk result (all.new.items ≡ all.old.items ++ values.now) }
+// Puts references to the items behind the others.
+fn append_all<'a, T>(items: &'a [T], all: &mut Vec<&'a T>) -> Result<(), AllocError>
+    ensures { OnOk result (map (λ item. item.now) all.new.items
+        ≡ map (λ item. item.now) all.old.items ++ items.now) }
 {
-    for value in values {
-        all.push(value.copy(alloc)?)?;
-    }
-    Ok(())
-}
-
-// Puts references to the accumulators behind the others.
-fn append_partials<'a>(
-    partials: &'a [Partial],
-    all: &mut Vec<&'a Partial>,
-) -> Result<(), AllocError>
-    ensures { OnOk result (map (λ partial. partial.now) all.new.items
-        ≡ map (λ partial. partial.now) all.old.items ++ partials.now) }
-{
-    for partial in partials {
-        all.push(partial)?;
+    for item in items {
+        all.push(item)?;
     }
     Ok(())
 }

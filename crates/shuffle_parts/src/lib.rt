@@ -17,7 +17,7 @@ mod out;
 mod parts;
 
 pub use combine::combine_pairs;
-pub use gather::{gather_pairs, gather_partials, gather_passed};
+pub use gather::{gather_pairs, gather_partials};
 pub use laws::{gathered_law, parts_law};
 pub use out::{MapOut, Sent};
 pub use parts::part;
