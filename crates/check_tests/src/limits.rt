@@ -1,6 +1,6 @@
 //! The limits of a script: one more is refused, on line 2.
 
-use crate::outcome::{Outcome, told_times};
+use crate::outcome::{Faulty, Outcome, first_other, told_of};
 use flume_syntax::ScriptKind;
 use std::alloc::{AllocError, Global};
 use std::test::Fail;
@@ -23,98 +23,112 @@ fn named_apart(
     Ok(script)
 }
 
+const INPUT: &[u8] = b"input a: {n: int} from \"i\" ";
+
+const WRITTEN: &[u8] = b"input a: {n: int} from \"i\" output a to \"o\" ";
+
+const COUNTED: &[u8] = b"input a: {n: int} from \"i\" output a to \"o\" let o = count a ";
+
+static ONE_FUNCTION: [Faulty<'static>; 1] = [(
+    b"\nfn xaa(x: int) -> int { }",
+    2,
+    ScriptKind::TooMany,
+)];
+
 #[test]
 fn one_more_function(rt: HostRuntime) -> Result<(), Fail> {
     let alloc = rt.alloc();
-    let head = b"input a: {n: int} from \"i\" output a to \"o\" ";
-    let most = named_apart(alloc, head, b"fn x", 128, b"(x: int) -> int { } ")?;
-    assert_eq!(rt; told_times(alloc, &most, b"", 0, b""), Outcome::Accepted);
-    let more = b"\nfn xaa(x: int) -> int { }";
-    let refused = Outcome::Refused(2, ScriptKind::TooMany);
-    assert_eq!(rt; told_times(alloc, &most, b"", 0, more), refused);
+    let most = named_apart(alloc, WRITTEN, b"fn x", 128, b"(x: int) -> int { } ")?;
+    assert_eq!(rt; told_of(alloc, &most, b""), Outcome::Accepted);
+    assert_eq!(rt; first_other(alloc, &most, &ONE_FUNCTION), None);
     Ok(())
 }
+
+static ONE_OUTPUT: [Faulty<'static>; 1] = [(b"\noutput nope to \"aa\"", 2, ScriptKind::TooMany)];
 
 #[test]
 fn one_more_output(rt: HostRuntime) -> Result<(), Fail> {
     let alloc = rt.alloc();
-    let head = b"input a: {n: int} from \"i\" ";
-    let most = named_apart(alloc, head, b"output a to \"", 64, b"\" ")?;
-    assert_eq!(rt; told_times(alloc, &most, b"", 0, b""), Outcome::Accepted);
-    let refused = Outcome::Refused(2, ScriptKind::TooMany);
-    assert_eq!(rt;
-        told_times(alloc, &most, b"\noutput nope to \"aa\"", 1, b""),
-        refused
-    );
+    let most = named_apart(alloc, INPUT, b"output a to \"", 64, b"\" ")?;
+    assert_eq!(rt; told_of(alloc, &most, b""), Outcome::Accepted);
+    assert_eq!(rt; first_other(alloc, &most, &ONE_OUTPUT), None);
     Ok(())
 }
+
+static ONE_COLLECTION: [Faulty<'static>; 2] = [
+    (b"\nlet xaa = group nope", 2, ScriptKind::TooMany),
+    (b"\ninput xaa: nope from \"x\"", 2, ScriptKind::TooMany),
+];
 
 #[test]
 fn one_more_collection(rt: HostRuntime) -> Result<(), Fail> {
     let alloc = rt.alloc();
-    let head = b"input a: {n: int} from \"i\" output a to \"o\" let o = count a ";
-    let lets = named_apart(alloc, head, b"let x", 254, b" = top 1 a ")?;
-    assert_eq!(rt; told_times(alloc, &lets, b"", 0, b""), Outcome::Accepted);
-    let refused = Outcome::Refused(2, ScriptKind::TooMany);
-    assert_eq!(rt;
-        told_times(alloc, &lets, b"\nlet xaa = group nope", 1, b""),
-        refused
-    );
-    assert_eq!(rt;
-        told_times(alloc, &lets, b"\ninput xaa: nope from \"x\"", 1, b""),
-        refused
-    );
+    let most = named_apart(alloc, COUNTED, b"let x", 254, b" = top 1 a ")?;
+    assert_eq!(rt; told_of(alloc, &most, b""), Outcome::Accepted);
+    assert_eq!(rt; first_other(alloc, &most, &ONE_COLLECTION), None);
     Ok(())
 }
+
+static ONE_LEVEL: [Faulty<'static>; 1] = [(b"\ntype x = list<h>", 2, ScriptKind::TooDeep)];
 
 /// Seven records of 16 fields, each of the one before: written out they have 16 to the power of 7
 /// parts.
 #[test]
 fn large_types_are_checked_fast(rt: HostRuntime) -> Result<(), Fail> {
     let alloc = rt.alloc();
-    let mut script = Vec::from_slice(alloc, b"input a: {n: int} from \"i\" output a to \"o\" ")?;
-    script.extend_from_slice(b"type a = int ")?;
-    for i in 0..7u8 {
-        script.extend_from_slice(b"type ")?;
-        script.push(b'b' + i)?;
-        script.extend_from_slice(b" = {")?;
-        for field in 0..16u8 {
-            if 0 < field {
-                script.extend_from_slice(b", ")?;
-            }
-            script.push(b'a' + field)?;
-            script.extend_from_slice(b": ")?;
-            script.push(b'a' + i)?;
-        }
-        script.extend_from_slice(b"} ")?;
-    }
-    assert_eq!(rt; told_times(alloc, &script, b"", 0, b""), Outcome::Accepted);
-    let deep = b"\ntype x = list<h>";
-    let refused = Outcome::Refused(2, ScriptKind::TooDeep);
-    assert_eq!(rt; told_times(alloc, &script, deep, 1, b""), refused);
+    let large = large_types(alloc)?;
+    assert_eq!(rt; told_of(alloc, &large, b""), Outcome::Accepted);
+    assert_eq!(rt; first_other(alloc, &large, &ONE_LEVEL), None);
     Ok(())
 }
+
+/// The types `a` to `h`: an int, and seven records.
+fn large_types(alloc: Global) -> Result<Vec<u8>, AllocError> {
+    let mut script = Vec::from_slice(alloc, WRITTEN)?;
+    script.extend_from_slice(b"type a = int ")?;
+    for i in 0..7u8 {
+        push_record(b'b' + i, b'a' + i, &mut script)?;
+    }
+    Ok(script)
+}
+
+/// The type `name` of a record whose 16 fields have the type `part`.
+fn push_record(name: u8, part: u8, script: &mut Vec<u8>) -> Result<(), AllocError> {
+    script.extend_from_slice(b"type ")?;
+    script.push(name)?;
+    script.extend_from_slice(b" = {a: ")?;
+    script.push(part)?;
+    for field in 1..16u8 {
+        push_field(b'a' + field, part, script)?;
+    }
+    script.extend_from_slice(b"} ")?;
+    Ok(())
+}
+
+fn push_field(name: u8, part: u8, script: &mut Vec<u8>) -> Result<(), AllocError> {
+    script.extend_from_slice(b", ")?;
+    script.push(name)?;
+    script.extend_from_slice(b": ")?;
+    script.push(part)?;
+    Ok(())
+}
+
+const DEEP: &[u8] = b"type d = list<list<list<list<list<int>>>>> input a: {n: int} from \"i\" \
+    fn f(x: {n: int}) -> table<int, d> { } let t = do a f output a to \"o\" let g = group t ";
+
+const COMBINED: &[u8] = b"let c = combine g by top 2";
+
+static TOO_DEEP: [Faulty<'static>; 3] = [
+    (b"\nlet h = group g", 2, ScriptKind::TooDeep),
+    (b"\nlet j = join t, t", 2, ScriptKind::TooDeep),
+    (b"\nlet c = count g", 2, ScriptKind::TooDeep),
+];
 
 /// A result that is deeper than a value may be: groups and joins of tables that are 7 and 8 deep.
 #[test]
 fn results_too_deep(rt: HostRuntime) -> Result<(), Fail> {
     let alloc = rt.alloc();
-    let head = b"type d = list<list<list<list<list<int>>>>> input a: {n: int} from \"i\" \
-        fn f(x: {n: int}) -> table<int, d> { } let t = do a f output a to \"o\" let g = group t ";
-    let accepted = told_times(alloc, head, b"", 0, b"let c = combine g by top 2");
-    assert_eq!(rt; accepted, Outcome::Accepted);
-    let refused = Outcome::Refused(2, ScriptKind::TooDeep);
-    assert_eq!(rt;
-        told_times(alloc, head, b"\nlet h = group g", 1, b""),
-        refused
-    );
-    assert_eq!(rt;
-        told_times(alloc, head, b"\nlet j = join t, t", 1, b""),
-        refused
-    );
-    assert_eq!(rt;
-        told_times(alloc, head, b"\nlet c = count g", 1, b""),
-        refused
-    );
+    assert_eq!(rt; told_of(alloc, DEEP, COMBINED), Outcome::Accepted);
+    assert_eq!(rt; first_other(alloc, DEEP, &TOO_DEEP), None);
     Ok(())
 }

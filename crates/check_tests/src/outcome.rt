@@ -10,6 +10,9 @@ pub enum Outcome {
     WantOfMemory,
 }
 
+/// A script, or what follows its head, and its first fault: the line and the kind.
+pub type Faulty<'a> = (&'a [u8], u32, ScriptKind);
+
 /// The program of a script, or its first fault.
 pub fn checked(alloc: Global, script: &[u8]) -> Result<Program, ScriptFault> {
     let ast = parse(alloc, script)?;
@@ -17,7 +20,7 @@ pub fn checked(alloc: Global, script: &[u8]) -> Result<Program, ScriptFault> {
 }
 
 /// What comes of the script.
-pub fn told(alloc: Global, script: &[u8]) -> Outcome {
+fn told(alloc: Global, script: &[u8]) -> Outcome {
     match checked(alloc, script) {
         Ok(_) => Outcome::Accepted,
         Err(ScriptFault::Refused { line, kind }) => Outcome::Refused(line, kind),
@@ -34,19 +37,25 @@ pub fn told_of(alloc: Global, head: &[u8], rest: &[u8]) -> Outcome {
     told(alloc, &script)
 }
 
-/// What comes of the script of `head`, so many times `piece`, and `rest`.
-pub fn told_times(alloc: Global, head: &[u8], piece: &[u8], times: usize, rest: &[u8]) -> Outcome {
-    let mut script = Vec::new(alloc);
-    if script.extend_from_slice(head).is_err() {
-        return Outcome::WantOfMemory;
-    }
-    for _ in 0..times {
-        if script.extend_from_slice(piece).is_err() {
-            return Outcome::WantOfMemory;
+/// The first of these that comes out otherwise behind the head: its place, and what comes of it.
+pub fn first_other(alloc: Global, head: &[u8], table: &[Faulty<'_>]) -> Option<(usize, Outcome)> {
+    for place in 0..table.len() {
+        let (rest, line, kind) = table[place];
+        let outcome = told_of(alloc, head, rest);
+        if outcome != Outcome::Refused(line, kind) {
+            return Some((place, outcome));
         }
     }
-    if script.extend_from_slice(rest).is_err() {
-        return Outcome::WantOfMemory;
+    None
+}
+
+/// The first of these that is refused behind the head: its place, and what comes of it.
+pub fn first_refused(alloc: Global, head: &[u8], table: &[&[u8]]) -> Option<(usize, Outcome)> {
+    for place in 0..table.len() {
+        let outcome = told_of(alloc, head, table[place]);
+        if outcome != Outcome::Accepted {
+            return Some((place, outcome));
+        }
     }
-    told(alloc, &script)
+    None
 }

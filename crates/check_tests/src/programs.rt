@@ -2,8 +2,9 @@
 
 use crate::outcome::checked;
 use combine_table::Comb;
-use flume_types::ColumnKind;
+use flume_types::{ColumnKind, Columns};
 use script_check::{Function, Made, Program, Signature};
+use std::alloc::Global;
 use std::test::Fail;
 use type_table::{Shape, TypeId};
 
@@ -21,58 +22,118 @@ let t = top 7 c
 output t to \"out.csv\"
 output a to \"copy.csv\"";
 
-#[test]
-fn collections(rt: HostRuntime) -> Result<(), Fail> {
-    let alloc = rt.alloc();
-    let program = checked(alloc, SCRIPT)?;
-    let names: [&[u8]; 8] = [b"a", b"p", b"g", b"s", b"f", b"c", b"j", b"t"];
-    assert_eq!(rt; program.node_count(), names.len());
-    for (number, name) in names.iter().enumerate() {
-        if number < program.node_count() {
-            assert_eq!(rt; program.node_name(number).as_bytes(), *name);
-            assert!(rt; is_made(&program, number), "{number}");
-        }
-    }
-    Ok(())
+/// A part of a program, as its readers tell it.
+#[derive(Clone, Copy)]
+enum Part {
+    Collections,
+    Functions,
+    Types,
+    Outputs,
 }
 
-/// Whether the collection of this number is made as the script says.
-fn is_made(program: &Program, number: usize) -> bool {
-    if program.node_count() <= number {
-        return false;
-    }
-    match (number, &program.node(number).made) {
-        (0, Made::Input { file, columns }) => file.is(b"in.csv") && columns.len() == 2,
-        (
-            1,
-            Made::Do {
-                source,
-                function,
-                output,
-            },
-        ) => *source == 0 && *function == 0 && *output == 0,
-        (2, Made::Group { source }) => *source == 1,
-        (3, Made::Combine { source, by }) => *source == 2 && *by == Comb::Top(3),
-        (4, Made::Flatten { sources }) => sources.as_slice() == [1, 1].as_slice(),
-        (5, Made::Count { source }) => *source == 4,
-        (6, Made::Join { left, right }) => *left == 1 && *right == 4,
-        (7, Made::Top { number, source }) => *number == 7 && *source == 5,
-        _ => false,
-    }
+#[test]
+fn collections(rt: HostRuntime) -> Result<(), Fail> {
+    assert!(rt; is_told(rt.alloc(), Part::Collections));
+    Ok(())
 }
 
 #[test]
 fn functions(rt: HostRuntime) -> Result<(), Fail> {
-    let alloc = rt.alloc();
-    let program = checked(alloc, SCRIPT)?;
-    assert_eq!(rt; program.function_count(), 2);
-    if program.function_count() == 2 {
-        assert_eq!(rt; program.function_name(0).as_bytes(), b"pair".as_slice());
-        assert_eq!(rt; program.function_name(1).as_bytes(), b"same".as_slice());
-        assert!(rt; is_function(program.function(0), 300));
-        assert!(rt; is_function(program.function(1), 100));
-    }
+    assert!(rt; is_told(rt.alloc(), Part::Functions));
     Ok(())
+}
+
+#[test]
+fn types_of_functions(rt: HostRuntime) -> Result<(), Fail> {
+    assert!(rt; is_told(rt.alloc(), Part::Types));
+    Ok(())
+}
+
+#[test]
+fn outputs(rt: HostRuntime) -> Result<(), Fail> {
+    assert!(rt; is_told(rt.alloc(), Part::Outputs));
+    Ok(())
+}
+
+/// Whether this part of the program is as the script says.
+fn is_told(alloc: Global, part: Part) -> bool {
+    match checked(alloc, SCRIPT) {
+        Ok(program) => is_part(&program, part),
+        Err(_) => false,
+    }
+}
+
+fn is_part(program: &Program, part: Part) -> bool {
+    match part {
+        Part::Collections => are_collections(program, &NAMES),
+        Part::Functions => are_functions(program),
+        Part::Types => are_rows_and_pairs(program),
+        Part::Outputs => are_outputs(program),
+    }
+}
+
+/// The names of the collections.
+static NAMES: [&[u8]; 8] = [b"a", b"p", b"g", b"s", b"f", b"c", b"j", b"t"];
+
+/// Whether the collections have these names, and each is made as the script says.
+fn are_collections(program: &Program, names: &[&[u8]]) -> bool {
+    if program.node_count() != names.len() {
+        return false;
+    }
+    for number in 0..names.len() {
+        if !is_named(program, number, names[number]) || !is_node(program, number) {
+            return false;
+        }
+    }
+    true
+}
+
+/// Whether the collection of this number has this name.
+fn is_named(program: &Program, number: usize, name: &[u8]) -> bool {
+    number < program.node_count() && program.node_name(number).is(name)
+}
+
+/// Whether the collection of this number is made as the script says.
+fn is_node(program: &Program, number: usize) -> bool {
+    number < program.node_count() && is_made(number, &program.node(number).made)
+}
+
+fn is_made(number: usize, made: &Made) -> bool {
+    match made {
+        Made::Input { file, columns } => number == 0 && file.is(b"in.csv") && columns.len() == 2,
+        Made::Do {
+            source,
+            function,
+            output,
+        } => number == 1 && *source == 0 && *function == 0 && *output == 0,
+        Made::Group { source } => number == 2 && *source == 1,
+        Made::Combine { source, by } => number == 3 && *source == 2 && *by == Comb::Top(3),
+        Made::Flatten { sources } => number == 4 && are_both(sources.as_slice(), 1),
+        Made::Count { source } => number == 5 && *source == 4,
+        Made::Join { left, right } => number == 6 && *left == 1 && *right == 4,
+        Made::Top { number: of, source } => number == 7 && *of == 7 && *source == 5,
+    }
+}
+
+/// Whether there are two sources, and both are of this number.
+fn are_both(sources: &[usize], number: usize) -> bool {
+    match sources {
+        [first, second] => *first == number && *second == number,
+        _ => false,
+    }
+}
+
+fn are_functions(program: &Program) -> bool {
+    program.function_count() == 2
+        && is_called(program, 0, b"pair", 300)
+        && is_called(program, 1, b"same", 100)
+}
+
+/// Whether the function of this number has this name and this scale.
+fn is_called(program: &Program, number: usize, name: &[u8], scale: u32) -> bool {
+    number < program.function_count()
+        && program.function_name(number).is(name)
+        && is_function(program.function(number), scale)
 }
 
 /// Whether the function has one statement, one output, and this scale.
@@ -85,19 +146,16 @@ fn is_function(function: &Function, scale: u32) -> bool {
         && function.signature.scale == scale
 }
 
-#[test]
-fn types_of_functions(rt: HostRuntime) -> Result<(), Fail> {
-    let alloc = rt.alloc();
-    let program = checked(alloc, SCRIPT)?;
-    assert_eq!(rt; program.function_count(), 2);
-    if program.function_count() == 2 && 1 < program.node_count() {
-        let rows = program.function(0).signature.takes;
-        let pairs = program.node(1).ty;
-        assert!(rt; is_sole(&program.function(0).signature, pairs));
-        assert!(rt; is_sole(&program.function(1).signature, rows));
-        assert!(rt; matches!(program.types().shape(pairs), Shape::Rec(_)));
+/// Whether the first function gives pairs of the rows that it takes, and the second the rows.
+fn are_rows_and_pairs(program: &Program) -> bool {
+    if program.function_count() != 2 || program.node_count() <= 1 {
+        return false;
     }
-    Ok(())
+    let pairs = program.node(1).ty;
+    let rows = program.function(0).signature.takes;
+    is_sole(&program.function(0).signature, pairs)
+        && is_sole(&program.function(1).signature, rows)
+        && is_record(program.types().shape(pairs))
 }
 
 /// Whether this is the type of the only output.
@@ -108,23 +166,40 @@ fn is_sole(signature: &Signature, id: TypeId) -> bool {
     }
 }
 
-#[test]
-fn outputs(rt: HostRuntime) -> Result<(), Fail> {
-    let alloc = rt.alloc();
-    let program = checked(alloc, SCRIPT)?;
-    assert_eq!(rt; program.output_count(), 2);
-    if program.output_count() == 2 {
-        assert_eq!(rt; program.output_file(0).as_bytes(), b"out.csv".as_slice());
-        assert_eq!(rt; program.output_file(1).as_bytes(), b"copy.csv".as_slice());
-        assert_eq!(rt; (program.output(0).reads, program.output(1).reads), (7, 0));
-        // the distinct pairs, with how often each occurs
-        let columns = &program.output(0).columns;
-        let names: [&[u8]; 3] = [b"key.key", b"key.value", b"value"];
-        assert_eq!(rt; columns.len(), names.len());
-        for (column, name) in columns.as_slice().iter().zip(names.iter()) {
-            assert_eq!(rt; column.name.as_bytes(), *name);
-            assert!(rt; column.kind == ColumnKind::Int);
+fn is_record(shape: &Shape) -> bool {
+    matches!(shape, Shape::Rec(_))
+}
+
+/// The columns of the distinct pairs, with how often each occurs.
+static COLUMNS: [&[u8]; 3] = [b"key.key", b"key.value", b"value"];
+
+fn are_outputs(program: &Program) -> bool {
+    program.output_count() == 2
+        && is_output(program, 0, b"out.csv", 7)
+        && is_output(program, 1, b"copy.csv", 0)
+        && has_columns(program, &COLUMNS)
+}
+
+/// Whether the output of this number is this file, and reads this collection.
+fn is_output(program: &Program, number: usize, file: &[u8], reads: usize) -> bool {
+    number < program.output_count()
+        && program.output_file(number).is(file)
+        && program.output(number).reads == reads
+}
+
+/// Whether the first output has int columns of these names.
+fn has_columns(program: &Program, names: &[&[u8]]) -> bool {
+    0 < program.output_count() && are_ints(&program.output(0).columns, names)
+}
+
+fn are_ints(columns: &Columns, names: &[&[u8]]) -> bool {
+    if columns.len() != names.len() {
+        return false;
+    }
+    for (column, name) in columns.as_slice().iter().zip(names.iter()) {
+        if !column.name.is(*name) || column.kind != ColumnKind::Int {
+            return false;
         }
     }
-    Ok(())
+    true
 }
