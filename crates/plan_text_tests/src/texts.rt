@@ -6,7 +6,8 @@ use combine_table::Comb;
 use exec_graph::{Does, Output, Roots, Step};
 use exec_plan::{InChannel, Mscr, OutChannel, Plan, PlanPlace, Stage};
 use flume_value::Pile;
-use plan_writing::{plan_json, plan_text};
+use plan_json::plan_json;
+use plan_writing::plan_text;
 use std::alloc::{AllocError, Global};
 use std::test::Fail;
 

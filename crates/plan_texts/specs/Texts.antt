@@ -8,7 +8,7 @@ use Rattle.plan_print.specs.Names.{name_at}
 use Rattle.plan_print.specs.Steps.{combiner_text, step_text}
 use Rattle.plan_writing.specs.Naming.{Naming, Written}
 use Rattle.plan_writing.specs.PlanText as text
-use Rattle.plan_writing.specs.PlanJson as json
+use Rattle.plan_json.specs.PlanJson as json
 
 -- an output by its file: the collection that it writes, by its name
 abbrev pub written_of : Script → List ℕ × Output → Written

@@ -2,7 +2,7 @@
 //!
 //! `plan_text` and `plan_json` write a plan as lines and as JSON, under the names that a program
 //! has for inputs, functions and collections (specs/Texts.antt). How they are laid out is said in
-//! plan_writing, and how a step is named in plan_print.
+//! plan_writing and plan_json, and how a step is named in plan_print.
 #![tactic(auto)]
 
 mod names;

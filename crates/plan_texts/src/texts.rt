@@ -20,5 +20,5 @@ pub fn plan_json(alloc: Global, program: &Program, plan: &Plan) -> Result<Vec<u8
     ensures { IfOk result (λ text.
         text.items ≡ compact_text (spec.plan_json_of program.now.script plan.now)) }
 {
-    plan_writing::plan_json(alloc, &ProgramNames { program }, plan)
+    plan_json::plan_json(alloc, &ProgramNames { program }, plan)
 }

@@ -1,4 +1,3 @@
 pub mod Branching
 pub mod Listing
 pub mod Keeping
-pub mod Floats

@@ -1,7 +1,7 @@
 -- Lists side by side, from a place on.
-use Rattle.std.proofs.Common.{◌≡◌, ℕ, suc, ◌+◌, ◌≤◌, List, [], ◌∷◌, ◌++◌, length, drop, map, refl, sym, ap, ◌∙◌, arith, add-one, append_assoc, drop-cons, min, inl, inr}
+use Rattle.std.proofs.Common.{◌≡◌, ℕ, suc, ◌+◌, ◌≤◌, List, [], ◌∷◌, ◌++◌, length, drop, refl, sym, ap, ◌∙◌, arith, add-one, append_assoc, drop-cons, min, inl, inr}
 use Rattle.std.specs.Prelude.{Some, slice_get, ◌⊎◌}
-use Rattle.std.proofs.lemmas.List.{drop_all, map-append}
+use Rattle.std.proofs.lemmas.List.{drop_all}
 use Rattle.std.proofs.lemmas.Option.{get_or_from_slice_get, slice_get_within}
 use Rattle.std.proofs.lemmas.Bool.{cases_lt}
 use Rattle.plan_writing.specs.Lists.{joined, paired}
@@ -13,7 +13,8 @@ head_of xs i x found =
     drop-cons xs i x (slice_get_within xs i x found)
     ∙ ap (λ (y : _). y ∷ drop (suc i) xs) (get_or_from_slice_get xs i x x found)
 
-cut : {X Y Z : Type 0} (make : X → Y → Z) (xs : List X) (ys : List Y) (i : ℕ) (x : X) (y : Y)
+-- the members of a place, in front of those behind them
+pub cut : {X Y Z : Type 0} (make : X → Y → Z) (xs : List X) (ys : List Y) (i : ℕ) (x : X) (y : Y)
     → slice_get xs i ≡ Some x → slice_get ys i ≡ Some y
     → paired make (drop i xs) (drop i ys)
     ≡ make x y ∷ paired make (drop (suc i) xs) (drop (suc i) ys)
@@ -29,19 +30,6 @@ texts_next make text more all xs ys i x y here there pushed so_far =
     rw (pushed, add-one)
     (append_assoc text (make x y) (joined (paired make (drop (suc i) xs) (drop (suc i) ys)))
     ∙ ap (λ texts. text ++ joined texts) (sym (cut make xs ys i x y here there)) ∙ so_far)
-
--- a value more
-pub values_next : {X Y Z V : Type 0} (make : X → Y → Z) (view : V → Z) (values more : List V)
-    (all : List Z) (xs : List X) (ys : List Y) (i : ℕ) (x : X) (y : Y) (value : V)
-    → slice_get xs i ≡ Some x → slice_get ys i ≡ Some y → view value ≡ make x y
-    → more ≡ values ++ value ∷ []
-    → map view values ++ paired make (drop i xs) (drop i ys) ≡ all
-    → map view more ++ paired make (drop (i + 1) xs) (drop (i + 1) ys) ≡ all
-values_next make view values more all xs ys i x y value here there made pushed so_far =
-    rw (pushed, map-append view values (value ∷ []), made, add-one)
-    (append_assoc (map view values) (make x y ∷ [])
-    (paired make (drop (suc i) xs) (drop (suc i) ys))
-    ∙ ap (λ rest. map view values ++ rest) (sym (cut make xs ys i x y here there)) ∙ so_far)
 
 none_beside : {X Y Z : Type 0} (make : X → Y → Z) (xs : List X) → paired make xs [] ≡ []
 none_beside make [] = refl

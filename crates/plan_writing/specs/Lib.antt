@@ -3,5 +3,4 @@ pub mod Naming
 pub mod Places
 pub mod Forests
 pub mod PlanText
-pub mod PlanJson
 pub mod inner

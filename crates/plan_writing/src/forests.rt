@@ -119,7 +119,7 @@ fn push_steps<N: Names>(text: &mut Vec<u8>, names: &N, roots: &Roots) -> Result<
 }
 
 /// Adds the steps of a channel.
-pub(crate) fn push_forest<N: Names>(
+pub fn push_forest<N: Names>(
     text: &mut Vec<u8>,
     names: &N,
     does: &Option<Roots>,

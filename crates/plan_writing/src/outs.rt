@@ -49,7 +49,7 @@ fn push_roots_outs(outs: &mut Vec<u32>, roots: &Roots) -> Result<(), AllocError>
 }
 
 /// The outputs that the steps of a channel keep, in preorder. Those of the identity are 0 alone.
-pub(crate) fn outs_of(alloc: Global, does: &Option<Roots>) -> Result<Vec<u32>, AllocError>
+pub fn outs_of(alloc: Global, does: &Option<Roots>) -> Result<Vec<u32>, AllocError>
     ensures { IfOk result (λ outs. outs.items ≡ numbers does.now) }
 {
     let mut outs = Vec::new(alloc);

@@ -14,7 +14,7 @@ pub(crate) fn push_number(text: &mut Vec<u8>, number: u64) -> Result<(), AllocEr
 }
 
 /// Adds two numbers with a dot between them.
-pub(crate) fn push_dotted(text: &mut Vec<u8>, a: u64, b: u64) -> Result<(), AllocError>
+pub fn push_dotted(text: &mut Vec<u8>, a: u64, b: u64) -> Result<(), AllocError>
     ensures { OnOk result (text.new.items ≡ text.old.items ++ spec.dotted a b) }
 {
     push_number(text, a)?;
@@ -36,7 +36,7 @@ pub(crate) fn push_result(
 }
 
 /// Adds a collection.
-pub(crate) fn push_place(text: &mut Vec<u8>, place: PlanPlace) -> Result<(), AllocError>
+pub fn push_place(text: &mut Vec<u8>, place: PlanPlace) -> Result<(), AllocError>
     ensures { OnOk result (text.new.items ≡ text.old.items ++ spec.place_text place) }
 {
     match place {
@@ -51,7 +51,7 @@ pub(crate) fn push_place(text: &mut Vec<u8>, place: PlanPlace) -> Result<(), All
 }
 
 /// Adds an output of an input channel.
-pub(crate) fn push_take(text: &mut Vec<u8>, take: Take) -> Result<(), AllocError>
+pub fn push_take(text: &mut Vec<u8>, take: Take) -> Result<(), AllocError>
     ensures { OnOk result (text.new.items ≡ text.old.items ++ spec.take_text take) }
 {
     push_dotted(text, u64::from(take.channel), u64::from(take.out))

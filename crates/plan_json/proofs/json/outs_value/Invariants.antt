@@ -1,7 +1,7 @@
 use Rattle.std.proofs.Common.{◌≡◌, map, take}
 use Rattle.serde_json.specs.View.{view}
-use Rattle.plan_writing.specs.PlanJson.{out_json}
-use Rattle.plan_writing.proofs.json.outs_value.Given as goal
+use Rattle.plan_json.specs.PlanJson.{out_json}
+use Rattle.plan_json.proofs.json.outs_value.Given as goal
 
 abbrev pub invariant-loop-channel : goal.invariant-loop-channel
 invariant-loop-channel g l =

@@ -4,9 +4,10 @@ use Rattle.serde_json.specs.Data.{Data, array}
 use Rattle.serde_json.specs.View.{items_of, view}
 use Rattle.serde_json.proofs.Views.{view-Array}
 use Rattle.plan_writing.specs.Naming.{Written}
-use Rattle.plan_writing.specs.PlanJson.{output_json}
-use Rattle.plan_writing.proofs.Listing.{paired_end, values_next}
-use Rattle.plan_writing.proofs.json.outputs_value.Goals as goal
+use Rattle.plan_json.specs.PlanJson.{output_json}
+use Rattle.plan_writing.proofs.Listing.{paired_end}
+use Rattle.plan_json.proofs.Listing.{values_next}
+use Rattle.plan_json.proofs.json.outputs_value.Goals as goal
 
 pub loop-number-preserved : goal.loop-number-preserved
 loop-number-preserved g c =

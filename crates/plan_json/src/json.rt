@@ -4,15 +4,14 @@ ghost use Rattle.serde_json.specs.View.{view, items_of};
 ghost use Rattle.serde_json.specs.Written.{compact_text};
 ghost use Rattle.plan_writing.specs.Lists.{numbered, paired};
 ghost use Rattle.plan_writing.specs.Naming.{Written};
-ghost use Rattle.plan_writing.specs.PlanJson as spec;
+ghost use Rattle.plan_json.specs.PlanJson as spec;
 
-use crate::names::Names;
-use crate::outs::outs_of;
 use crate::values::{
     forest_value, given_value, lift_value, node_value, place_value, places_value, result_value,
     take_value, takes_value, text_value,
 };
 use exec_plan::{Grouping, InChannel, Mscr, OutChannel, Plan, PlanPlace, Stage, Take};
+use plan_writing::Names;
 use serde_json::{Value, json};
 use std::alloc::{AllocError, Global};
 
@@ -28,9 +27,10 @@ fn plan_value<N: Names>(alloc: Global, names: &N, plan: &Plan) -> Result<Value, 
     ensures { IfOk result (λ value.
         view value ≡ spec.plan_json_of (N.naming names.now) plan.now) }
 {
-    let outputs = outputs_value(alloc, names, plan.outputs.as_slice())?;
-    let stages = stages_value(alloc, names, plan.stages.as_slice())?;
-    json!(in alloc; {"outputs": outputs, "stages": stages})
+    json!(in alloc; {
+        "outputs": outputs_value(alloc, names, plan.outputs.as_slice())?,
+        "stages": stages_value(alloc, names, plan.stages.as_slice())?
+    })
 }
 
 fn outputs_value<N: Names>(
@@ -60,10 +60,11 @@ fn output_value<N: Names>(
         slice_get (N.naming names.now).outputs number ≡ Some output →
         IfOk result (λ value. view value ≡ spec.output_json output place) }
 {
-    let file = text_value(alloc, names.output_file(number))?;
-    let name = text_value(alloc, names.output_name(number))?;
-    let reads = place_value(alloc, place)?;
-    json!(in alloc; {"file": file, "name": name, "reads": reads})
+    json!(in alloc; {
+        "file": text_value(alloc, names.output_file(number))?,
+        "name": text_value(alloc, names.output_name(number))?,
+        "reads": place_value(alloc, place)?
+    })
 }
 
 fn stages_value<N: Names>(alloc: Global, names: &N, stages: &[Stage]) -> Result<Value, AllocError>
@@ -102,9 +103,11 @@ fn mscr_value<N: Names>(
     ensures { IfOk result (λ value. view value
         ≡ spec.mscr_json (N.naming names.now) number mscr.now.inputs mscr.now.outputs) }
 {
-    let inputs = ins_value(alloc, names, mscr.inputs.as_slice())?;
-    let outputs = outs_value(alloc, names, number, mscr.outputs.as_slice())?;
-    json!(in alloc; {"in": inputs, "kind": "mscr", "out": outputs})
+    json!(in alloc; {
+        "in": ins_value(alloc, names, mscr.inputs.as_slice())?,
+        "kind": "mscr",
+        "out": outs_value(alloc, names, number, mscr.outputs.as_slice())?
+    })
 }
 
 fn flatten_value(alloc: Global, number: u64, takes: &[PlanPlace]) -> Result<Value, AllocError>
@@ -176,18 +179,13 @@ fn group_value<N: Names>(
     ensures { IfOk result (λ value.
         view value ≡ spec.group_json (N.naming names.now) stage group.now) }
 {
-    let does = forest_value(alloc, names, &group.does)?;
-    let gives = given_value(alloc, stage, group, outs_of(alloc, &group.does)?.as_slice())?;
-    let lift = lift_value(alloc, names, group.lifted)?;
-    let name = node_value(alloc, names, group.origin)?;
-    let takes = takes_value(alloc, group.takes.as_slice())?;
     json!(in alloc; {
-        "does": does,
-        "gives": gives,
+        "does": forest_value(alloc, names, &group.does)?,
+        "gives": given_value(alloc, stage, group)?,
         "kind": "group",
-        "lift": lift,
-        "name": name,
-        "takes": takes
+        "lift": lift_value(alloc, names, group.lifted)?,
+        "name": node_value(alloc, names, group.origin)?,
+        "takes": takes_value(alloc, group.takes.as_slice())?
     })
 }
 

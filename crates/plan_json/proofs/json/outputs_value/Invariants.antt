@@ -1,8 +1,8 @@
 use Rattle.std.proofs.Common.{◌≡◌, ◌++◌, drop, map}
 use Rattle.serde_json.specs.View.{view}
 use Rattle.plan_writing.specs.Lists.{paired}
-use Rattle.plan_writing.specs.PlanJson.{output_json}
-use Rattle.plan_writing.proofs.json.outputs_value.Given as goal
+use Rattle.plan_json.specs.PlanJson.{output_json}
+use Rattle.plan_json.proofs.json.outputs_value.Given as goal
 
 abbrev pub invariant-loop-number : goal.invariant-loop-number
 invariant-loop-number g l =

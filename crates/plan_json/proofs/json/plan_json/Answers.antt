@@ -2,8 +2,8 @@ use Rattle.std.proofs.Common.{◌≡◌, ℕ, List, false, Result, Ok, Err, ap, 
 use Rattle.std.specs.Prelude.{IfOk}
 use Rattle.serde_json.specs.Data.{Data}
 use Rattle.serde_json.specs.Written.{compact_text, has_float}
-use Rattle.plan_writing.proofs.Floats.{plan_whole}
-use Rattle.plan_writing.proofs.json.plan_json.Goals as goal
+use Rattle.plan_json.proofs.Floats.{plan_whole}
+use Rattle.plan_json.proofs.json.plan_json.Goals as goal
 
 -- the text of a value without floats, under another name of the value
 written : {V E : Type 0} (items : V → List ℕ) (r : Result V E) (d e : Data) → d ≡ e

@@ -1,8 +1,8 @@
 use Rattle.std.proofs.Common.{◌≡◌, map, take}
 use Rattle.serde_json.specs.View.{view}
 use Rattle.plan_writing.specs.Places.{place_text}
-use Rattle.plan_writing.specs.PlanJson.{text_json}
-use Rattle.plan_writing.proofs.values.places_value.Given as goal
+use Rattle.plan_json.specs.PlanJson.{text_json}
+use Rattle.plan_json.proofs.values.places_value.Given as goal
 
 abbrev pub invariant-loop-place : goal.invariant-loop-place
 invariant-loop-place l =

@@ -1,8 +1,8 @@
 use Rattle.std.proofs.Common.{◌≡◌, ◌+◌, ◌++◌, drop, map}
 use Rattle.serde_json.specs.View.{view}
 use Rattle.plan_writing.specs.Lists.{numbered}
-use Rattle.plan_writing.specs.PlanJson.{stage_json}
-use Rattle.plan_writing.proofs.json.stages_value.Given as goal
+use Rattle.plan_json.specs.PlanJson.{stage_json}
+use Rattle.plan_json.proofs.json.stages_value.Given as goal
 
 abbrev pub invariant-loop-i : goal.invariant-loop-i
 invariant-loop-i g l =

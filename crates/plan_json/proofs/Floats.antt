@@ -14,7 +14,7 @@ use Rattle.exec_plan.specs.declared.plan.Plan.{Plan}
 use Rattle.plan_writing.specs.Lists.{numbered, paired}
 use Rattle.plan_writing.specs.Places.{given_text, take_text}
 use Rattle.plan_writing.specs.Naming.{Naming}
-use Rattle.plan_writing.specs.PlanJson.{in_json, lift_json, out_json, output_json, plan_json_of, stage_json, text_json}
+use Rattle.plan_json.specs.PlanJson.{in_json, lift_json, out_json, output_json, plan_json_of, stage_json, text_json}
 
 neither : (a b : Bool) → a ≡ false → b ≡ false → (a || b) ≡ false
 neither a b p q = rw (p, q) refl

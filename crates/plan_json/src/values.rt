@@ -1,16 +1,15 @@
 // JSON values of texts.
 ghost use Rattle.std.specs.Prelude.{◌≡◌, IfOk};
 ghost use Rattle.serde_json.specs.View.{view};
+ghost use Rattle.exec_plan.specs.Channels.{numbers};
 ghost use Rattle.plan_writing.specs.Forests.{forest_text};
 ghost use Rattle.plan_writing.specs.Places.{dotted, given_text, place_text, take_text};
-ghost use Rattle.plan_writing.specs.PlanJson as spec;
+ghost use Rattle.plan_json.specs.PlanJson as spec;
 
-use crate::forests::push_forest;
-use crate::names::Names;
-use crate::places::{push_dotted, push_place, push_take};
 use combine_table::Comb;
 use exec_graph::Roots;
 use exec_plan::{Grouping, PlanPlace, Take};
+use plan_writing::{Names, outs_of, push_dotted, push_forest, push_place, push_take};
 use serde_json::Value;
 use std::alloc::{AllocError, Global};
 
@@ -104,8 +103,17 @@ pub(crate) fn takes_value(alloc: Global, takes: &[Take]) -> Result<Value, AllocE
     Ok(Value::Array(values))
 }
 
-/// The results that a grouping channel of a stage gives for these outputs of its reducer.
-pub(crate) fn given_value(
+/// The results that a grouping channel of a stage gives.
+pub(crate) fn given_value(alloc: Global, stage: u64, group: &Grouping) -> Result<Value, AllocError>
+    ensures { IfOk result (λ value.
+        view value ≡ spec.texts_json (given_text stage group.now) (numbers group.now.does)) }
+{
+    let outs = outs_of(alloc, &group.does)?;
+    results_value(alloc, stage, group, outs.as_slice())
+}
+
+/// The results that it gives for these outputs of its reducer.
+fn results_value(
     alloc: Global,
     stage: u64,
     group: &Grouping,
