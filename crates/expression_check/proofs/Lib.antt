@@ -4,8 +4,5 @@ pub mod NameLemmas
 pub mod OperationLemmas
 pub mod OutcomeLemmas
 pub mod PartsLemmas
-pub mod PlaceLemmas
 pub mod RightLemmas
-pub mod ScopeLemmas
 pub mod SlotLemmas
-pub mod TypeLemmas

@@ -1,9 +1,4 @@
-pub mod Sight
-pub mod Operators
-pub mod Fields
 pub mod Types
 pub mod Given
-pub mod Held
-pub mod Places
 pub mod Slots
 pub mod Right

@@ -1,18 +1,17 @@
 ghost use Rattle.std.specs.Prelude.{◌≡◌, ◌<◌, [], length, IfOk};
 ghost use Rattle.type_table.specs.Table.{Extends};
 ghost use Rattle.written_types.specs.Answer.{Gives};
-ghost use Rattle.expression_check.specs.Held.{AreTypes};
+ghost use Rattle.operation_types.specs.Held.{AreTypes};
 ghost use Rattle.expression_check.specs.Slots as spec;
 
 use crate::forms::{
     binary, empty, field, index, list, number, pick, record, sided, text, truth, unary, variable,
 };
-use crate::operator::{Operator, operator_of};
-use crate::scope::Scope;
 use crate::typed::{AllTyped, Pair, Typed};
 use dofn_eval::Binary;
 use flume_grammar::{Expr, ScriptFault, Side, Type, Unary};
 use flume_value::{Pile, Str};
+use operation_types::{Operator, Scope, operator_of};
 use std::alloc::Global;
 
 /// The expression with slots in place of names, and its type; or its first fault, on this line.

@@ -6,19 +6,18 @@ ghost use Rattle.int_text.specs.Ints.{int_of_text as int_in};
 ghost use Rattle.dofn_eval.specs.declared.expr.Expr.TheVariants as slots;
 ghost use Rattle.type_table.specs.Table.{type_at, Extends};
 ghost use Rattle.written_types.specs.Answer.{Gives};
-ghost use Rattle.expression_check.specs.Held.{AreTypes};
+ghost use Rattle.operation_types.specs.Held.{AreTypes};
 ghost use Rattle.expression_check.specs.Slots as spec;
 
-use crate::operator::{Operator, one, side_of};
-use crate::parts::place_under;
-use crate::record::{list_type, record_type};
-use crate::scope::Scope;
 use crate::typed::{AllTyped, Typed};
-use crate::types::{binary_type, index_type, list_of, pick_type, side_type, unary_type};
 use dofn_eval::Expr as Slots;
 use flume_grammar::{ScriptFault, ScriptKind, Side, Type, Unary};
 use flume_value::{Held, Pile, Str, Value};
 use int_text::int_of_text;
+use operation_types::{
+    Operator, Scope, binary_type, index_type, list_of, list_type, one, pick_type, place_under,
+    record_type, side_of, side_type, unary_type,
+};
 use std::alloc::{AllocError, Global};
 use type_table::{Shape, TypeId, Types};
 use written_types::refused;
@@ -30,13 +29,14 @@ pub fn number(line: u32, digits: &Str, scope: &mut Scope) -> Result<Typed, Scrip
     ensures extends { Extends scope.old.types scope.new.types }
     ensures sight { scope.new.sight ≡ scope.old.sight }
 {
-    match int_of_text(digits.as_bytes()) {
-        Some(n) => Ok(Typed {
-            expr: Slots::Literal(Value::Int(n)),
-            ty: scope.intern(Shape::Int)?,
-        }),
-        None => Err(refused(line, ScriptKind::BadNumber)),
-    }
+    let Some(n) = int_of_text(digits.as_bytes()) else {
+        return Err(refused(line, ScriptKind::BadNumber));
+    };
+    let ty = scope.intern(Shape::Int)?;
+    Ok(Typed {
+        expr: Slots::Literal(Value::Int(n)),
+        ty,
+    })
 }
 
 pub fn text(alloc: Global, text: &Str, scope: &mut Scope) -> Result<Typed, ScriptFault>
@@ -46,8 +46,8 @@ pub fn text(alloc: Global, text: &Str, scope: &mut Scope) -> Result<Typed, Scrip
     ensures extends { Extends scope.old.types scope.new.types }
     ensures sight { scope.new.sight ≡ scope.old.sight }
 {
-    let text = text.copy(alloc)?;
     let ty = scope.intern(Shape::Text)?;
+    let text = text.copy(alloc)?;
     Ok(Typed {
         expr: Slots::Literal(Value::Text(text)),
         ty,

@@ -3,21 +3,21 @@ use flume_value::Pile;
 use type_table::TypeId;
 
 /// An expression's slots, and its type.
-#[derive(Debug, Drop)]
+#[derive(Drop)]
 pub struct Typed {
     pub expr: Slots,
     pub ty: TypeId,
 }
 
 /// The slots and the types of two parts.
-#[derive(Debug, Drop)]
+#[derive(Drop)]
 pub struct Pair {
     pub first: Typed,
     pub second: Typed,
 }
 
 /// The slots and the types of parts, in order.
-#[derive(Debug, Drop)]
+#[derive(Drop)]
 pub struct AllTyped {
     pub exprs: Pile<Slots>,
     pub types: Pile<TypeId>,
