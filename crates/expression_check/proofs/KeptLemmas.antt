@@ -8,14 +8,14 @@ use Rattle.dofn_eval.specs.declared.expr.Expr.{Expr as Slots}
 use Rattle.type_table.specs.Table.{type_at, Extends}
 use Rattle.written_types.specs.Answer.{◌>>=◌}
 use Rattle.written_types.proofs.NamedLemmas.{same-map}
-use Rattle.expression_check.specs.declared.typed.Typed.{Typed as Made}
+use Rattle.expression_check.specs.declared.typed.Operand.{Operand}
 use Rattle.operation_types.specs.Held.{AreTypes}
 use Rattle.operation_types.specs.Sight.{Sight}
-use Rattle.expression_check.specs.Slots.{Typed, typed, pair_slots, all_slots, pick, pick_slots, slots_of}
+use Rattle.expression_check.specs.Slots.{Typed, operand, pair_slots, all_slots, pick, pick_slots, slots_of}
 
-pub typed-kept : (old new : List Ty) → Extends old new → (made : Made) → made.ty < length old
-    → typed new made ≡ typed old made
-typed-kept old new more made in_ = λ i. (made.expr, more.same made.ty in_ i)
+pub operand-kept : (old new : List Ty) → Extends old new → (made : Operand)
+    → made.ty < length old → operand new made ≡ operand old made
+operand-kept old new more made in_ = λ i. (made.expr, more.same made.ty in_ i)
 
 pub types-kept : (old new : List Ty) → Extends old new → (ids : List ℕ)
     → AreTypes (length old) ids → map (type_at new) ids ≡ map (type_at old) ids

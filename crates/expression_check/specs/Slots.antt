@@ -15,6 +15,7 @@ use Rattle.type_table.specs.Table.{type_at}
 use Rattle.written_types.specs.Answer.{Checked, ◌>>=◌, or_fault}
 use Rattle.written_types.specs.Written.{shallow, whole_type}
 use Rattle.expression_check.specs.declared.typed.Typed.{Typed as Made}
+use Rattle.expression_check.specs.declared.typed.Operand.{Operand}
 use Rattle.expression_check.specs.declared.typed.Pair.{Pair}
 use Rattle.expression_check.specs.declared.typed.AllTyped.{AllTyped}
 use Rattle.operation_types.specs.declared.operator.Operator.{Operator}
@@ -32,8 +33,11 @@ Typed = Slots × Ty
 abbrev pub typed : List Ty → Made → Typed
 typed types made = (made.expr, type_at types made.ty)
 
+abbrev pub operand : List Ty → Operand → Typed
+operand types made = (made.expr, type_at types made.ty)
+
 abbrev pub both_typed : List Ty → Pair → Typed × Typed
-both_typed types pair = (typed types pair.first, typed types pair.second)
+both_typed types pair = (operand types pair.first, operand types pair.second)
 
 abbrev pub all_typed : List Ty → AllTyped → List Slots × List Ty
 all_typed types all = (all.exprs, map (type_at types) all.types)

@@ -7,7 +7,7 @@ ghost use Rattle.expression_check.specs.Slots as spec;
 use crate::forms::{
     binary, empty, field, index, list, number, pick, record, sided, text, truth, unary, variable,
 };
-use crate::typed::{AllTyped, Pair, Typed};
+use crate::typed::{AllTyped, Operand, Pair, Typed};
 use dofn_eval::Binary;
 use flume_grammar::{Expr, ScriptFault, Side, Type, Unary};
 use flume_value::{Pile, Str};
@@ -60,8 +60,8 @@ fn operated(
     ensures extends { Extends scope.old.types scope.new.types }
     ensures sight { scope.new.sight ≡ scope.old.sight }
 {
-    let x = resolve(alloc, line, part, scope)?;
-    unary(alloc, line, op, x, scope)
+    let x = operand_of(alloc, line, part, scope)?;
+    unary(line, op, x, scope)
 }
 
 #[cycle(resolve)]
@@ -78,8 +78,8 @@ fn dotted(
     ensures extends { Extends scope.old.types scope.new.types }
     ensures sight { scope.new.sight ≡ scope.old.sight }
 {
-    let x = resolve(alloc, line, part, scope)?;
-    field(alloc, line, x, name, scope.types())
+    let x = operand_of(alloc, line, part, scope)?;
+    field(line, x, name, scope.types())
 }
 
 #[cycle(resolve)]
@@ -133,7 +133,7 @@ fn two(
     ensures sight { scope.new.sight ≡ scope.old.sight }
 {
     let both = pair(alloc, line, a, b, scope)?;
-    binary(alloc, line, op, both.first, both.second, scope)
+    binary(line, op, both.first, both.second, scope)
 }
 
 #[cycle(resolve)]
@@ -151,7 +151,7 @@ fn indexed(
     ensures sight { scope.new.sight ≡ scope.old.sight }
 {
     let both = pair(alloc, line, a, b, scope)?;
-    index(alloc, line, both.first, both.second, scope.types())
+    index(line, both.first, both.second, scope.types())
 }
 
 #[cycle(resolve)]
@@ -170,8 +170,8 @@ fn one_side(
     ensures sight { scope.new.sight ≡ scope.old.sight }
 {
     let other = scope.written(alloc, line, written)?;
-    let x = resolve(alloc, line, part, scope)?;
-    sided(alloc, line, s, other, x, scope)
+    let x = operand_of(alloc, line, part, scope)?;
+    sided(line, s, other, x, scope)
 }
 
 #[cycle(resolve)]
@@ -189,9 +189,22 @@ fn picked(
     ensures extends { Extends scope.old.types scope.new.types }
     ensures sight { scope.new.sight ≡ scope.old.sight }
 {
-    let test = resolve(alloc, line, c, scope)?;
+    let test = operand_of(alloc, line, c, scope)?;
     let both = pair(alloc, line, a, b, scope)?;
-    pick(alloc, line, test, both.first, both.second, scope.types())
+    pick(line, test, both.first, both.second, scope.types())
+}
+
+// A part as an operand.
+#[cycle(resolve)]
+fn operand_of(alloc: Global, line: u32, e: &Expr, scope: &mut Scope) -> Result<Operand, ScriptFault>
+    ensures gives { Gives (spec.operand scope.new.types) result
+        (spec.slots_of line e.now scope.old.sight) }
+    ensures within { IfOk result (λ made. made.ty < length scope.new.types) }
+    ensures extends { Extends scope.old.types scope.new.types }
+    ensures sight { scope.new.sight ≡ scope.old.sight }
+{
+    let x = resolve(alloc, line, e, scope)?;
+    Ok(Operand::new(alloc, x)?)
 }
 
 // Two parts, from the left.
@@ -210,8 +223,8 @@ fn pair(
     ensures extends { Extends scope.old.types scope.new.types }
     ensures sight { scope.new.sight ≡ scope.old.sight }
 {
-    let first = resolve(alloc, line, a, scope)?;
-    let second = resolve(alloc, line, b, scope)?;
+    let first = operand_of(alloc, line, a, scope)?;
+    let second = operand_of(alloc, line, b, scope)?;
     Ok(Pair { first, second })
 }
 

@@ -9,7 +9,7 @@ ghost use Rattle.written_types.specs.Answer.{Gives};
 ghost use Rattle.operation_types.specs.Held.{AreTypes};
 ghost use Rattle.expression_check.specs.Slots as spec;
 
-use crate::typed::{AllTyped, Typed};
+use crate::typed::{AllTyped, Operand, Typed};
 use dofn_eval::Expr as Slots;
 use flume_grammar::{ScriptFault, ScriptKind, Side, Type, Unary};
 use flume_value::{Held, Pile, Str, Value};
@@ -18,7 +18,7 @@ use operation_types::{
     Operator, Scope, binary_type, index_type, list_of, list_type, one, pick_type, place_under,
     record_type, side_of, side_type, unary_type,
 };
-use std::alloc::{AllocError, Global};
+use std::alloc::Global;
 use type_table::{Shape, TypeId, Types};
 use written_types::refused;
 
@@ -102,47 +102,38 @@ pub fn empty(
     })
 }
 
-pub fn unary(
-    alloc: Global,
-    line: u32,
-    op: Unary,
-    x: Typed,
-    scope: &mut Scope,
-) -> Result<Typed, ScriptFault>
+pub fn unary(line: u32, op: Unary, x: Operand, scope: &mut Scope) -> Result<Typed, ScriptFault>
     requires { x.ty < length scope.old.types }
     ensures gives { Gives (spec.typed scope.new.types) result
-        (spec.unary line op (spec.typed scope.old.types x)) }
+        (spec.unary line op (spec.operand scope.old.types x)) }
     ensures within { IfOk result (λ made. made.ty < length scope.new.types) }
     ensures extends { Extends scope.old.types scope.new.types }
     ensures sight { scope.new.sight ≡ scope.old.sight }
 {
     let ty = unary_type(line, op, x.ty, scope)?;
     Ok(Typed {
-        expr: Slots::Unary(one(op), Held::new(alloc, x.expr)?),
+        expr: Slots::Unary(one(op), x.expr),
         ty,
     })
 }
 
 pub fn binary(
-    alloc: Global,
     line: u32,
     op: Operator,
-    x: Typed,
-    y: Typed,
+    x: Operand,
+    y: Operand,
     scope: &mut Scope,
 ) -> Result<Typed, ScriptFault>
     requires first { x.ty < length scope.old.types }
     requires second { y.ty < length scope.old.types }
-    ensures gives { Gives (spec.typed scope.new.types) result
-        (spec.binary line op (spec.typed scope.old.types x) (spec.typed scope.old.types y)) }
+    ensures gives { Gives (spec.typed scope.new.types) result (spec.binary line op
+        (spec.operand scope.old.types x) (spec.operand scope.old.types y)) }
     ensures within { IfOk result (λ made. made.ty < length scope.new.types) }
     ensures extends { Extends scope.old.types scope.new.types }
     ensures sight { scope.new.sight ≡ scope.old.sight }
 {
     let ty = binary_type(line, op, x.ty, y.ty, scope)?;
-    let a = Held::new(alloc, x.expr)?;
-    let b = Held::new(alloc, y.expr)?;
-    let expr = operation(op, a, b);
+    let expr = operation(op, x.expr, y.expr);
     Ok(Typed { expr, ty })
 }
 
@@ -156,43 +147,29 @@ fn operation(op: Operator, a: Held<Slots>, b: Held<Slots>) -> Slots
     }
 }
 
-pub fn field(
-    alloc: Global,
-    line: u32,
-    x: Typed,
-    name: &Str,
-    types: &Types,
-) -> Result<Typed, ScriptFault>
+pub fn field(line: u32, x: Operand, name: &Str, types: &Types) -> Result<Typed, ScriptFault>
     requires { x.ty < length types.now }
     ensures gives { Gives (spec.typed types.now) result
-        (spec.field line name.now (spec.typed types.now x)) }
+        (spec.field line name.now (spec.operand types.now x)) }
     ensures within { IfOk result (λ made. made.ty < length types.now) }
 {
     let at = place_under(line, name, x.ty, types)?;
     Ok(Typed {
-        expr: Slots::Field(Held::new(alloc, x.expr)?, at.place),
+        expr: Slots::Field(x.expr, at.place),
         ty: at.ty,
     })
 }
 
-pub fn index(
-    alloc: Global,
-    line: u32,
-    x: Typed,
-    y: Typed,
-    types: &Types,
-) -> Result<Typed, ScriptFault>
+pub fn index(line: u32, x: Operand, y: Operand, types: &Types) -> Result<Typed, ScriptFault>
     requires first { x.ty < length types.now }
     requires second { y.ty < length types.now }
-    ensures gives { Gives (spec.typed types.now) result
-        (spec.index line (spec.typed types.now x) (spec.typed types.now y)) }
+    ensures gives { Gives (spec.typed types.now) result (spec.index line
+        (spec.operand types.now x) (spec.operand types.now y)) }
     ensures within { IfOk result (λ made. made.ty < length types.now) }
 {
     let ty = index_type(line, x.ty, y.ty, types)?;
-    let a = Held::new(alloc, x.expr)?;
-    let b = Held::new(alloc, y.expr)?;
     Ok(Typed {
-        expr: Slots::Index(a, b),
+        expr: Slots::Index(x.expr, y.expr),
         ty,
     })
 }
@@ -234,54 +211,45 @@ pub fn list(line: u32, all: AllTyped, scope: &mut Scope) -> Result<Typed, Script
 }
 
 pub fn sided(
-    alloc: Global,
     line: u32,
     side: Side,
     other: TypeId,
-    x: Typed,
+    x: Operand,
     scope: &mut Scope,
 ) -> Result<Typed, ScriptFault>
     requires other_in { other < length scope.old.types }
     requires x_in { x.ty < length scope.old.types }
     ensures gives { Gives (spec.typed scope.new.types) result
-        (spec.sided line side (type_at scope.old.types other) (spec.typed scope.old.types x)) }
+        (spec.sided line side (type_at scope.old.types other) (spec.operand scope.old.types x)) }
     ensures within { IfOk result (λ made. made.ty < length scope.new.types) }
     ensures extends { Extends scope.old.types scope.new.types }
     ensures sight { scope.new.sight ≡ scope.old.sight }
 {
     let ty = side_type(line, side, other, x.ty, scope)?;
     Ok(Typed {
-        expr: Slots::Unary(side_of(side), Held::new(alloc, x.expr)?),
+        expr: Slots::Unary(side_of(side), x.expr),
         ty,
     })
 }
 
 pub fn pick(
-    alloc: Global,
     line: u32,
-    test: Typed,
-    x: Typed,
-    y: Typed,
+    test: Operand,
+    x: Operand,
+    y: Operand,
     types: &Types,
 ) -> Result<Typed, ScriptFault>
     requires test_in { test.ty < length types.now }
     requires first { x.ty < length types.now }
     requires second { y.ty < length types.now }
-    ensures gives { Gives (spec.typed types.now) result (spec.pick line
-        (spec.typed types.now test) (spec.typed types.now x) (spec.typed types.now y)) }
+    ensures gives { Gives (spec.typed types.now) result
+        (spec.pick line (spec.operand types.now test) (spec.operand types.now x)
+        (spec.operand types.now y)) }
     ensures within { IfOk result (λ made. made.ty < length types.now) }
 {
     let ty = pick_type(line, test.ty, x.ty, y.ty, types)?;
-    let expr = picked(alloc, test.expr, x.expr, y.expr)?;
-    Ok(Typed { expr, ty })
-}
-
-fn picked(alloc: Global, c: Slots, a: Slots, b: Slots) -> Result<Slots, AllocError>
-    ensures { IfOk result (λ k. k ≡ slots.Pick c a b) }
-{
-    Ok(Slots::Pick(
-        Held::new(alloc, c)?,
-        Held::new(alloc, a)?,
-        Held::new(alloc, b)?,
-    ))
+    Ok(Typed {
+        expr: Slots::Pick(test.expr, x.expr, y.expr),
+        ty,
+    })
 }

@@ -2,8 +2,8 @@ use Rattle.std.proofs.Common.{◌≡◌, ◌+◌, Ok, map, drop, sym, ap, ◌∙
 use Rattle.type_table.specs.Table.{type_at}
 use Rattle.type_table.proofs.TableLemmas.{Extends-twice}
 use Rattle.written_types.specs.Answer.{Gives}
-use Rattle.expression_check.specs.Slots.{typed, both_typed, all_slots, pick, slots_of}
-use Rattle.expression_check.proofs.KeptLemmas.{typed-kept, types-push, within-push, next-part, picked-is}
+use Rattle.expression_check.specs.Slots.{typed, operand, both_typed, all_slots, pick, slots_of}
+use Rattle.expression_check.proofs.KeptLemmas.{operand-kept, types-push, within-push, next-part, picked-is}
 use Rattle.expression_check.proofs.SlotLemmas.{slots-Record, slots-List}
 use Rattle.expression_check.proofs.expression.+resolve.Goals as goal
 
@@ -40,17 +40,17 @@ all_parts-loop-part-preserved t c =
 pub picked-returns-clause-gives : goal.picked-returns-clause-gives
 picked-returns-clause-gives t c =
     let line = c.args.line in
-    let mid = c.resolve.new.scope.types in
+    let mid = c.operand_of.new.scope.types in
     let new = c.pair.new.scope.types in
     let test = c.in_ok-test.test in
     let both = both_typed new c.in_ok-both.both in
     subst (Gives (typed new) c.pick.result)
     (sym (picked-is line c.args.c.now c.args.a.now c.args.b.now c.args.scope.now.sight
-    c.resolve.new.scope.sight (typed mid test) (typed new test) both c.in_ok-test.ensures.gives
-    c.resolve.ensures.sight c.in_ok-both.ensures.gives
-    (typed-kept mid new c.pair.ensures.extends test c.in_ok-test.ensures.within)))
-    (subst (λ ts. Gives (typed ts) c.pick.result (pick line (typed ts test)
-    (typed ts c.in_ok-both.both.first) (typed ts c.in_ok-both.both.second)))
+    c.operand_of.new.scope.sight (operand mid test) (operand new test) both
+    c.in_ok-test.ensures.gives c.operand_of.ensures.sight c.in_ok-both.ensures.gives
+    (operand-kept mid new c.pair.ensures.extends test c.in_ok-test.ensures.within)))
+    (subst (λ ts. Gives (typed ts) c.pick.result (pick line (operand ts test)
+    (operand ts c.in_ok-both.both.first) (operand ts c.in_ok-both.both.second)))
     c.types.ensures c.pick.ensures.gives)
 
 pub resolve-returns-in-Record-clause-gives : goal.resolve-returns-in-Record-clause-gives
