@@ -4,7 +4,7 @@ use Rattle.flume_value.specs.declared.value.Value.{Value}
 use Rattle.flume_collection.specs.Collection.{Collection}
 use Rattle.exec_graph.specs.Meaning.{Meets, nothing, or_nothing}
 use Rattle.exec_graph.specs.declared.graph.Place.{Place}
-use Rattle.script_check.specs.Script.{Script}
+use Rattle.script_program.specs.Script.{Script}
 use Rattle.direct_meaning.specs.Direct.{made_at, meaning}
 use Rattle.graph_build.specs.Graphs.{giving, nodes_of, place_in}
 use Rattle.graph_build.specs.Wanted.{wanted}

@@ -16,8 +16,8 @@ use Rattle.graph_build.specs.Nodes.{before_last, entry, first_of, groups, last_s
 use Rattle.combine_table.specs.declared.comb.Comb.TheVariants as by
 use Rattle.exec_graph.specs.declared.graph.Node.TheVariants.{Flatten}
 use Rattle.exec_graph.specs.declared.step.Does.TheVariants as does
-use Rattle.script_check.specs.declared.made.Made.{Made}
-use Rattle.script_check.specs.declared.made.Made.TheVariants as made
+use Rattle.script_program.specs.declared.made.Made.{Made}
+use Rattle.script_program.specs.declared.made.Made.TheVariants as made
 use Rattle.flume_value.proofs.EachLemmas.{Each-append}
 use Rattle.build_law.proofs.Lowering.{at_seam}
 use Rattle.build_law.proofs.Reading.{any_behind, any_front, any_uses, or_left, or_right, same_self}

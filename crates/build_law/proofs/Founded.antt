@@ -7,7 +7,7 @@ use Rattle.exec_graph.specs.declared.graph.Entry.{Entry}
 use Rattle.exec_graph.specs.declared.graph.Place.{Place}
 use Rattle.graph_build.specs.Graphs.{giving, nodes_of, place_in}
 use Rattle.graph_build.specs.Wanted.{wanted}
-use Rattle.script_check.specs.Script.{Script}
+use Rattle.script_program.specs.Script.{Script}
 use Rattle.script_laws.specs.WellFormed.{IsWellFormed}
 use Rattle.build_law.proofs.Lowering.{operands_low}
 use Rattle.build_law.proofs.Numbered.{Counts, IsLow, all_counts, all_low, below_counts, there_counts}

@@ -6,9 +6,9 @@ use Rattle.std.specs.List.{AllByRecursion, Contains}
 use Rattle.std.proofs.Math.Seq.{get_or-append_seam}
 use Rattle.flume_collection.proofs.Members.{at_head, at_tail}
 use Rattle.written_types.specs.Named.{Named}
-use Rattle.script_check.specs.Needed.{is_needed, made_of, operands}
-use Rattle.script_check.specs.declared.made.Made.{Made}
-use Rattle.script_check.specs.Script.{Node, Script}
+use Rattle.script_program.specs.Needed.{is_needed, made_of, operands}
+use Rattle.script_program.specs.declared.made.Made.{Made}
+use Rattle.script_program.specs.Script.{Node, Script}
 use Rattle.script_laws.specs.WellFormed.{AllFit, IsWellFormed}
 use Rattle.script_laws.proofs.NeededLemmas.{needed_law, operand_before}
 use Rattle.graph_build.specs.Graphs.{behind, giving, giving_from, last_node}

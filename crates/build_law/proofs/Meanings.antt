@@ -9,10 +9,10 @@ use Rattle.exec_graph.specs.Meaning.{Agrees, IsSound, collection, or_nothing, ow
 use Rattle.exec_graph.specs.declared.graph.Place.{Place}
 use Rattle.exec_graph.proofs.Solving.{Agrees-self, collection_meets}
 use Rattle.exec_graph.proofs.Soundness.{IsSound-ok}
-use Rattle.script_check.specs.Needed.{made_of, outputs_read}
-use Rattle.script_check.specs.declared.made.Made.{Made}
-use Rattle.script_check.specs.declared.made.Output.{Output}
-use Rattle.script_check.specs.Script.{Script}
+use Rattle.script_program.specs.Needed.{made_of, outputs_read}
+use Rattle.script_program.specs.declared.made.Made.{Made}
+use Rattle.script_program.specs.declared.made.Output.{Output}
+use Rattle.script_program.specs.Script.{Script}
 use Rattle.script_laws.specs.WellFormed.{HasColumns, IsWellFormed}
 use Rattle.script_laws.proofs.NeededLemmas.{needed_law, read_at}
 use Rattle.direct_meaning.specs.Direct.{made_at, meaning}

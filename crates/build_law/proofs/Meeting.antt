@@ -13,9 +13,9 @@ use Rattle.exec_graph.specs.declared.graph.Place.{Place}
 use Rattle.exec_graph.specs.declared.step.Does.TheVariants as does
 use Rattle.graph_build.specs.Graphs.{behind, next_source, nodes_at, nodes_from}
 use Rattle.graph_build.specs.Nodes.{first_of, made_nodes}
-use Rattle.script_check.specs.Needed.{operands}
-use Rattle.script_check.specs.declared.made.Made.{Made}
-use Rattle.script_check.specs.declared.made.Made.TheVariants as made
+use Rattle.script_program.specs.Needed.{operands}
+use Rattle.script_program.specs.declared.made.Made.{Made}
+use Rattle.script_program.specs.declared.made.Made.TheVariants as made
 use Rattle.direct_meaning.specs.Direct.{combined_by, counted_by, joined_by, top_by}
 use Rattle.build_law.proofs.Passing.{only_label, through_combined}
 use Rattle.build_law.proofs.Counting.{count_is}

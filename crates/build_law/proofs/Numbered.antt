@@ -10,9 +10,9 @@ use Rattle.exec_graph.specs.declared.graph.Entry.{Entry}
 use Rattle.exec_graph.specs.declared.graph.Place.{Place}
 use Rattle.graph_build.specs.Graphs.{behind, giving_from, last_node, next_source, nodes_at, nodes_from, place_in}
 use Rattle.graph_build.specs.Nodes.{before_last, first_of, made_nodes}
-use Rattle.script_check.specs.Needed.{operands}
-use Rattle.script_check.specs.declared.made.Made.{Made}
-use Rattle.script_check.specs.declared.made.Made.TheVariants as made
+use Rattle.script_program.specs.Needed.{operands}
+use Rattle.script_program.specs.declared.made.Made.{Made}
+use Rattle.script_program.specs.declared.made.Made.TheVariants as made
 
 -- numbers one after another
 abbrev pub Counts : ℕ → List Entry → Type 0

@@ -11,9 +11,9 @@ use Rattle.graph_laws.specs.Single.{AllSteps, HasSingleOutputs, HasSteps, IsOneO
 use Rattle.graph_build.specs.Graphs.{behind, giving, graph_of, next_source, nodes_at, nodes_from, place_in}
 use Rattle.graph_build.specs.Nodes.{made_nodes, one_step}
 use Rattle.graph_build.specs.Wanted.{wanted}
-use Rattle.script_check.specs.declared.made.Made.{Made}
-use Rattle.script_check.specs.declared.made.Made.TheVariants as made
-use Rattle.script_check.specs.Script.{Script}
+use Rattle.script_program.specs.declared.made.Made.{Made}
+use Rattle.script_program.specs.declared.made.Made.TheVariants as made
+use Rattle.script_program.specs.Script.{Script}
 
 -- what holds of each step of its own, with one output
 abbrev OfOne : (Forest → Type 0) → Type 0

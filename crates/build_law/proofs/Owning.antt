@@ -18,8 +18,8 @@ use Rattle.exec_graph.specs.declared.step.Does.{Does}
 use Rattle.exec_graph.specs.declared.step.Does.TheVariants as does
 use Rattle.graph_build.specs.Graphs.{behind, next_source, nodes_at, nodes_from}
 use Rattle.graph_build.specs.Nodes.{before_last, first_of, made_nodes}
-use Rattle.script_check.specs.declared.made.Made.{Made}
-use Rattle.script_check.specs.declared.made.Made.TheVariants as made
+use Rattle.script_program.specs.declared.made.Made.{Made}
+use Rattle.script_program.specs.declared.made.Made.TheVariants as made
 use Rattle.build_law.specs.Means.{HasOwn}
 use Rattle.build_law.proofs.Meeting.{IsSettled}
 use Rattle.build_law.proofs.Passing.{only_label}

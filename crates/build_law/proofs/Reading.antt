@@ -11,9 +11,9 @@ use Rattle.exec_graph.specs.declared.graph.Place.{Place}
 use Rattle.graph_build.specs.Graphs.{behind, next_source, nodes_at, nodes_from}
 use Rattle.graph_build.specs.Nodes.{made_nodes, step}
 use Rattle.exec_graph.specs.declared.step.Does.TheVariants as does
-use Rattle.script_check.specs.Needed.{operands}
-use Rattle.script_check.specs.declared.made.Made.{Made}
-use Rattle.script_check.specs.declared.made.Made.TheVariants as made
+use Rattle.script_program.specs.Needed.{operands}
+use Rattle.script_program.specs.declared.made.Made.{Made}
+use Rattle.script_program.specs.declared.made.Made.TheVariants as made
 
 -- ---- tests of lists
 

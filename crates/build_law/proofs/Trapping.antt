@@ -18,8 +18,8 @@ use Rattle.exec_graph.specs.declared.graph.Place.{Place}
 use Rattle.exec_graph.specs.declared.step.Does.TheVariants as does
 use Rattle.graph_build.specs.Graphs.{nodes_from}
 use Rattle.graph_build.specs.Nodes.{before_last, first_of, inputs_of, made_nodes}
-use Rattle.script_check.specs.declared.made.Made.{Made}
-use Rattle.script_check.specs.declared.made.Made.TheVariants as made
+use Rattle.script_program.specs.declared.made.Made.{Made}
+use Rattle.script_program.specs.declared.made.Made.TheVariants as made
 use Rattle.direct_meaning.specs.Direct.{made_at, traps_behind}
 use Rattle.build_law.proofs.Assigning.{at_of}
 use Rattle.build_law.proofs.Passing.{only_label}

@@ -10,11 +10,11 @@ use Rattle.flume_value.proofs.EachLemmas.{each_from}
 use Rattle.exec_graph.specs.Typing.{NodeTyped, Signatures}
 use Rattle.exec_graph.specs.declared.graph.Place.{Place}
 use Rattle.graph_build.specs.Nodes.{before_last, first_of, made_nodes}
-use Rattle.script_check.specs.Needed.{operands}
+use Rattle.script_program.specs.Needed.{operands}
 use Rattle.direct_meaning.proofs.TypeLemmas.{taken}
-use Rattle.script_check.specs.declared.made.Made.{Made}
-use Rattle.script_check.specs.declared.made.Made.TheVariants as made
-use Rattle.script_check.specs.Script.{Function, Node}
+use Rattle.script_program.specs.declared.made.Made.{Made}
+use Rattle.script_program.specs.declared.made.Made.TheVariants as made
+use Rattle.script_program.specs.Script.{Function, Node}
 use Rattle.written_types.specs.Named.{Named}
 use Rattle.script_laws.specs.WellFormed.{Fits, IsCombined, IsCounted, IsDone, IsGrouped, IsJoined, IsTop, function_at, members_at}
 use Rattle.build_law.specs.Limits.{IsFirstOutput}

@@ -11,10 +11,10 @@ use Rattle.exec_graph.specs.declared.graph.Place.{Place}
 use Rattle.graph_build.specs.Graphs.{behind, giving, giving_from, graph_of, last_node, next_source, nodes_at, nodes_from, place_in}
 use Rattle.graph_build.specs.Nodes.{before_last, inputs_of as sources_of}
 use Rattle.graph_build.specs.Wanted.{wanted_from}
-use Rattle.script_check.specs.Needed.{is_needed, numbered, operands}
-use Rattle.script_check.specs.declared.made.Made.{Made}
-use Rattle.script_check.specs.declared.made.Made.TheVariants as made
-use Rattle.script_check.specs.Script.{Function, Node, Script}
+use Rattle.script_program.specs.Needed.{is_needed, numbered, operands}
+use Rattle.script_program.specs.declared.made.Made.{Made}
+use Rattle.script_program.specs.declared.made.Made.TheVariants as made
+use Rattle.script_program.specs.Script.{Function, Node, Script}
 use Rattle.written_types.specs.Named.{Named}
 use Rattle.script_laws.specs.WellFormed.{AllFit, Fits, IsWellFormed, function_at, members_at}
 use Rattle.direct_meaning.specs.Inputs.{Wanted, inputs_of, wanted_by}

@@ -13,11 +13,11 @@ use Rattle.exec_graph.specs.Wellformed.{IsFounded, IsGraphOk, IsNodeOk, total_si
 use Rattle.exec_graph.specs.declared.graph.Entry.{Entry}
 use Rattle.exec_graph.specs.declared.graph.Place.{Place}
 use Rattle.written_types.specs.Named.{Named}
-use Rattle.script_check.specs.Needed.{LeadsToOutput, is_needed, made_of, operands, outputs_read}
-use Rattle.script_check.specs.declared.made.Made.{Made}
-use Rattle.script_check.specs.declared.made.Made.TheVariants as made
-use Rattle.script_check.specs.declared.made.Output.{Output}
-use Rattle.script_check.specs.Script.{Node, Script}
+use Rattle.script_program.specs.Needed.{LeadsToOutput, is_needed, made_of, operands, outputs_read}
+use Rattle.script_program.specs.declared.made.Made.{Made}
+use Rattle.script_program.specs.declared.made.Made.TheVariants as made
+use Rattle.script_program.specs.declared.made.Output.{Output}
+use Rattle.script_program.specs.Script.{Node, Script}
 use Rattle.script_laws.specs.WellFormed.{AllFit, Fits, HasColumns, IsWellFormed}
 use Rattle.script_laws.proofs.NeededLemmas.{needed_law, read_at}
 use Rattle.graph_build.specs.Graphs.{giving, graph_of, nodes_of, place_in}

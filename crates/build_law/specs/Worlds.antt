@@ -4,7 +4,7 @@ use Rattle.flume_value.specs.declared.value.Value.{Value}
 use Rattle.flume_collection.specs.Calls.{Called}
 use Rattle.direct_meaning.specs.Calls.{answer_of}
 use Rattle.exec_graph.specs.World.{World}
-use Rattle.script_check.specs.Script.{Function, Script}
+use Rattle.script_program.specs.Script.{Function, Script}
 use Rattle.script_laws.specs.WellFormed.{function_at}
 
 -- an answer; a call that has none gives nothing

@@ -7,7 +7,7 @@ ghost use Rattle.flume_grammar.specs.declared.tree.Statement.{Statement};
 ghost use Rattle.exec_graph.specs.Typing.{IsTyped};
 ghost use Rattle.exec_graph.specs.Wellformed.{IsGraphOk};
 ghost use Rattle.script_check.specs.Rules.{script_of};
-ghost use Rattle.script_check.specs.Script.{Script};
+ghost use Rattle.script_program.specs.Script.{Script};
 ghost use Rattle.script_laws.specs.WellFormed.{IsWellFormed};
 ghost use Rattle.direct_meaning.specs.Direct.{meaning};
 ghost use Rattle.graph_build.specs.Graphs.{graph_of};

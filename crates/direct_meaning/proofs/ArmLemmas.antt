@@ -17,8 +17,8 @@ use Rattle.combine_table.specs.declared.comb.Comb.{Comb}
 use Rattle.flume_collection.proofs.Members.{at_head, at_tail}
 use Rattle.flume_collection.specs.Collection.{by_key, together}
 use Rattle.flume_collection.specs.declared.trap.Trap.{Trap}
-use Rattle.script_check.specs.declared.made.Made.TheVariants as made
-use Rattle.script_check.specs.Script.{Function, Script}
+use Rattle.script_program.specs.declared.made.Made.TheVariants as made
+use Rattle.script_program.specs.Script.{Function, Script}
 use Rattle.script_laws.specs.WellFormed.{members_at}
 use Rattle.direct_meaning.proofs.CallLemmas.{calls_answered}
 use Rattle.direct_meaning.proofs.MakeLemmas.{well_typed}

@@ -18,8 +18,8 @@ use Rattle.body_check.proofs.FunctionLemmas.{answered as has_answer}
 use Rattle.body_check.specs.Call.{means}
 use Rattle.flume_collection.specs.Calls.{Called, emissions, or_none, trap_of}
 use Rattle.flume_collection.specs.declared.trap.Trap.{Trap}
-use Rattle.script_check.specs.Program.{Does}
-use Rattle.script_check.specs.Script.{Function}
+use Rattle.script_program.specs.Program.{Does}
+use Rattle.script_program.specs.Script.{Function}
 use Rattle.script_laws.specs.WellFormed.{IsWellTyped}
 use Rattle.direct_meaning.proofs.PlaceLemmas.{zip_at}
 use Rattle.direct_meaning.proofs.TypeLemmas.{set_again}

@@ -8,8 +8,8 @@ use Rattle.flume_collection.specs.Collection.{Collection}
 use Rattle.flume_collection.specs.Traps.{trap_set}
 use Rattle.flume_collection.specs.declared.trap.Trap.{Trap}
 use Rattle.written_types.specs.Named.{Named}
-use Rattle.script_check.specs.declared.made.Output.{Output}
-use Rattle.script_check.specs.Script.{Node, Script}
+use Rattle.script_program.specs.declared.made.Output.{Output}
+use Rattle.script_program.specs.Script.{Node, Script}
 use Rattle.script_laws.specs.WellFormed.{HasColumns, IsWellFormed}
 use Rattle.direct_meaning.proofs.MeaningLemmas.{outputs_needed}
 use Rattle.direct_meaning.proofs.PlaceLemmas.{mapped, within, zip_length}
@@ -20,7 +20,7 @@ use Rattle.direct_meaning.specs.Direct.{collections, meaning, traps_of}
 use Rattle.direct_meaning.specs.Evaluated.{IsDirect, IsWritten, bag_at, bag_made}
 use Rattle.direct_meaning.specs.Inputs.{HaveRows}
 use Rattle.direct_meaning.specs.Made.{AreMade}
-use Rattle.script_check.specs.Needed.{is_needed}
+use Rattle.script_program.specs.Needed.{is_needed}
 use Rattle.direct_meaning.specs.declared.kept.Kept.{Kept}
 use Rattle.direct_meaning.specs.declared.told.Direct.{Direct}
 use Rattle.direct_meaning.specs.inner.Kept.{KeepsAny, bag_kept, sizes_kept}

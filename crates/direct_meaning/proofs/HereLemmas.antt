@@ -6,15 +6,15 @@ use Rattle.flume_value.specs.declared.value.Value.{Value}
 use Rattle.flume_types.specs.declared.types.Ty.{Ty}
 use Rattle.flume_collection.specs.Collection.{Collection}
 use Rattle.flume_collection.specs.declared.trap.Trap.{Trap}
-use Rattle.script_check.specs.declared.made.Made.{Made}
-use Rattle.script_check.specs.Program.{node_in}
-use Rattle.script_check.specs.Script.{Node, Script}
-use Rattle.script_check.specs.declared.made.Node.{Node as HeldNode}
+use Rattle.script_program.specs.declared.made.Made.{Made}
+use Rattle.script_program.specs.Program.{node_in}
+use Rattle.script_program.specs.Script.{Node, Script}
+use Rattle.script_program.specs.declared.made.Node.{Node as HeldNode}
 use Rattle.script_laws.specs.WellFormed.{Fits, IsWellFormed, members_at}
 use Rattle.direct_meaning.proofs.StandLemmas.{HasOwn, IsNodeAt, Source, at_node, fits, goes, behind, keeps, own_rows, source_of}
 use Rattle.direct_meaning.specs.Direct.{inputs_behind, made_as}
 use Rattle.direct_meaning.specs.Inputs.{HaveRows, Wanted, wanted_by}
-use Rattle.script_check.specs.Needed.{is_needed, operands}
+use Rattle.script_program.specs.Needed.{is_needed, operands}
 use Rattle.direct_meaning.specs.declared.kept.Kept.{Kept}
 use Rattle.direct_meaning.specs.inner.Kept.{Keeps}
 use Rattle.direct_meaning.specs.inner.Stands.{Stands, wanted_from}

@@ -19,7 +19,7 @@ use Rattle.flume_collection.specs.Calls.{Called, trap_named, trap_of}
 use Rattle.flume_collection.specs.Collection.{Collection, by_key, together, unless_trapped}
 use Rattle.flume_collection.specs.Traps.{trap_set}
 use Rattle.flume_collection.specs.declared.trap.Trap.{Trap}
-use Rattle.script_check.specs.Script.{Function}
+use Rattle.script_program.specs.Script.{Function}
 use Rattle.direct_meaning.proofs.CallLemmas.{emitted_all, trapped_all}
 use Rattle.direct_meaning.proofs.StandLemmas.{HasOwn, Source, all_traps, some_made}
 use Rattle.direct_meaning.proofs.TrapLemmas.{AreAmong, absorbed, among-append, known_all, traps-append, traps-set, unless-same}

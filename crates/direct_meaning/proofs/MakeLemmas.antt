@@ -10,10 +10,10 @@ use Rattle.flume_types.specs.declared.types.Ty.{Ty}
 use Rattle.flume_types.specs.declared.types.Ty.TheVariants as ty
 use Rattle.flume_value.specs.declared.value.Value.{Value}
 use Rattle.written_types.specs.Named.{Named}
-use Rattle.script_check.specs.declared.made.Made.{Made}
-use Rattle.script_check.specs.declared.made.Made.TheVariants as made
+use Rattle.script_program.specs.declared.made.Made.{Made}
+use Rattle.script_program.specs.declared.made.Made.TheVariants as made
 use Rattle.script_check.specs.Operations.{sides_of}
-use Rattle.script_check.specs.Script.{Function, Node, Script}
+use Rattle.script_program.specs.Script.{Function, Node, Script}
 use Rattle.script_laws.specs.WellFormed.{Fits, IsWellTyped, function_at, members_at}
 use Rattle.flume_value.proofs.EachLemmas.{Each-at, each_from}
 use Rattle.direct_meaning.proofs.CallLemmas.{called_is, calls_answered}
@@ -23,7 +23,7 @@ use Rattle.direct_meaning.proofs.TypeLemmas.{combined_is, counted_is, grouped_is
 use Rattle.direct_meaning.specs.Direct.{called_by, combined_by, counted_by, done_at, done_by, inputs_behind, joined_by, made_as, rows_as, top_by}
 use Rattle.direct_meaning.specs.Inputs.{HaveRows, Wanted, wanted_by}
 use Rattle.direct_meaning.specs.Made.{AreMade, IsCollectionOf}
-use Rattle.script_check.specs.Needed.{is_needed, operands}
+use Rattle.script_program.specs.Needed.{is_needed, operands}
 
 -- a node makes a collection of its type
 pub record Makes (script : Script) (number : ℕ) (m : Made) (inputs : List (List Value))

@@ -7,9 +7,9 @@ use Rattle.flume_collection.proofs.Members.{at_head, at_tail}
 use Rattle.flume_collection.specs.Collection.{Collection}
 use Rattle.flume_value.specs.declared.value.Value.{Value}
 use Rattle.written_types.specs.Named.{Named}
-use Rattle.script_check.specs.declared.made.Made.{Made}
-use Rattle.script_check.specs.declared.made.Output.{Output}
-use Rattle.script_check.specs.Script.{Node, Script}
+use Rattle.script_program.specs.declared.made.Made.{Made}
+use Rattle.script_program.specs.declared.made.Output.{Output}
+use Rattle.script_program.specs.Script.{Node, Script}
 use Rattle.script_laws.proofs.NeededLemmas.{needed_law}
 use Rattle.script_laws.specs.WellFormed.{AllFit, IsWellFormed}
 use Rattle.direct_meaning.proofs.MakeLemmas.{makes, rows_behind}
@@ -18,7 +18,7 @@ use Rattle.direct_meaning.proofs.TableLemmas.{as_many, more_made}
 use Rattle.direct_meaning.specs.Direct.{collections, inputs_behind, made_as}
 use Rattle.direct_meaning.specs.Inputs.{AreInputs, HaveRows, Wanted, wanted_by}
 use Rattle.direct_meaning.specs.Made.{AreMade}
-use Rattle.script_check.specs.Needed.{is_needed, numbered, operands, outputs_read}
+use Rattle.script_program.specs.Needed.{is_needed, numbered, operands, outputs_read}
 use Rattle.direct_meaning.specs.inner.Stands.{wanted_from}
 
 -- what the nodes from a number on want, where the first is needed or not

@@ -3,7 +3,7 @@ use Rattle.std.proofs.Common.{◌≡◌, ℕ, zero, suc, ◌+◌, ◌-◌, ◌^�
 use Rattle.std.specs.List.{AllZip}
 use Rattle.std.specs.Option.{option_map}
 use Rattle.written_types.specs.Named.{Named}
-use Rattle.script_check.specs.Script.{Node}
+use Rattle.script_program.specs.Script.{Node}
 use Rattle.flume_collection.specs.Collection.{Collection}
 use Rattle.direct_meaning.specs.Direct.{sizes_from}
 use Rattle.direct_meaning.specs.declared.kept.Kept.{Kept}

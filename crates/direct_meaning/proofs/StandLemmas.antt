@@ -12,10 +12,10 @@ use Rattle.flume_collection.specs.Collection.{Collection}
 use Rattle.flume_collection.specs.Traps.{trap_set}
 use Rattle.flume_collection.specs.declared.trap.Trap.{Trap}
 use Rattle.written_types.specs.Named.{Named}
-use Rattle.script_check.specs.declared.made.Made.{Made}
-use Rattle.script_check.specs.Program.{node_in}
-use Rattle.script_check.specs.Script.{Node, Script}
-use Rattle.script_check.specs.declared.made.Node.{Node as HeldNode}
+use Rattle.script_program.specs.declared.made.Made.{Made}
+use Rattle.script_program.specs.Program.{node_in}
+use Rattle.script_program.specs.Script.{Node, Script}
+use Rattle.script_program.specs.declared.made.Node.{Node as HeldNode}
 use Rattle.script_laws.specs.WellFormed.{AllFit, Fits, IsWellFormed, members_at}
 use Rattle.direct_meaning.proofs.MakeLemmas.{Makes, makes, read, rows_behind}
 use Rattle.direct_meaning.proofs.MeaningLemmas.{next_needed, next_unneeded, reads_needed, wanted_needed, wanted_unneeded}
@@ -25,7 +25,7 @@ use Rattle.direct_meaning.proofs.TrapLemmas.{same_front}
 use Rattle.direct_meaning.specs.Direct.{collections, inputs_behind, made_as, meaning, traps_behind, traps_of}
 use Rattle.direct_meaning.specs.Inputs.{HaveRows, wanted_by}
 use Rattle.direct_meaning.specs.Made.{IsCollectionOf}
-use Rattle.script_check.specs.Needed.{is_needed, operands}
+use Rattle.script_program.specs.Needed.{is_needed, operands}
 use Rattle.direct_meaning.specs.declared.kept.Kept.{Kept}
 use Rattle.direct_meaning.specs.inner.Kept.{Keeps, KeepsAny}
 use Rattle.direct_meaning.specs.inner.Stands.{Stands, wanted_from}

@@ -7,12 +7,12 @@ use Rattle.flume_collection.proofs.Members.{at_head, at_tail}
 use Rattle.flume_collection.specs.Collection.{Collection}
 use Rattle.flume_types.specs.declared.types.Ty.{Ty}
 use Rattle.written_types.specs.Named.{Named}
-use Rattle.script_check.specs.Script.{Node, Script}
+use Rattle.script_program.specs.Script.{Node, Script}
 use Rattle.script_laws.specs.WellFormed.{members_at}
 use Rattle.direct_meaning.proofs.PlaceLemmas.{at_end, at_front, mapped, zip_at, zip_length, zip_more}
 use Rattle.direct_meaning.specs.Direct.{all_made, made_at}
 use Rattle.direct_meaning.specs.Made.{AreMade, IsCollectionOf, IsMadeFor}
-use Rattle.script_check.specs.Needed.{is_needed}
+use Rattle.script_program.specs.Needed.{is_needed}
 
 -- a collection is made under that number, of members of that type
 pub record IsMadeAt (table : List (Option Collection)) (number : ℕ) (type : Ty) : Type 0 where

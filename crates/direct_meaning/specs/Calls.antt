@@ -3,7 +3,7 @@ use Rattle.std.specs.Prelude.{List, [], ◌∷◌, Option, Some, None, Ok, Err, 
 use Rattle.flume_value.specs.declared.value.Value.{Value}
 use Rattle.dofn_eval.specs.Outcome.{Outcome, Gives, Traps, Stuck}
 use Rattle.body_check.specs.Call.{means}
-use Rattle.script_check.specs.Script.{Function}
+use Rattle.script_program.specs.Script.{Function}
 use Rattle.flume_collection.specs.Calls.{Called}
 
 -- what a call that comes to this answers: a trap names the call's element; what is stuck answers

@@ -6,8 +6,8 @@ use Rattle.flume_value.specs.declared.value.Value.{Value}
 use Rattle.flume_types.specs.Typing.{AllHave}
 use Rattle.flume_types.specs.declared.types.Ty.{Ty}
 use Rattle.flume_collection.specs.Collection.{Collection}
-use Rattle.script_check.specs.declared.made.Output.{Output}
-use Rattle.script_check.specs.Script.{Script}
+use Rattle.script_program.specs.declared.made.Output.{Output}
+use Rattle.script_program.specs.Script.{Script}
 use Rattle.script_laws.specs.WellFormed.{members_at}
 use Rattle.direct_meaning.specs.Direct.{made_at, meaning, sizes_of, traps_of}
 use Rattle.direct_meaning.specs.declared.told.Direct.{Direct}

@@ -4,10 +4,10 @@ use Rattle.std.specs.List.{flat_map}
 use Rattle.flume_value.specs.declared.value.Value.{Value}
 use Rattle.flume_types.specs.declared.types.Ty.{Ty}
 use Rattle.flume_types.specs.Typing.{AllHave}
-use Rattle.script_check.specs.declared.made.Made.{Made}
-use Rattle.script_check.specs.declared.made.Made.TheVariants as made
-use Rattle.script_check.specs.Script.{Script}
-use Rattle.script_check.specs.Needed.{needed_nodes}
+use Rattle.script_program.specs.declared.made.Made.{Made}
+use Rattle.script_program.specs.declared.made.Made.TheVariants as made
+use Rattle.script_program.specs.Script.{Script}
+use Rattle.script_program.specs.Needed.{needed_nodes}
 
 -- an input that a run reads: its file, and the type of its rows
 pub record Wanted : Type 0 where

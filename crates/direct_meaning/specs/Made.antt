@@ -9,9 +9,9 @@ use Rattle.flume_types.specs.declared.types.Ty.{Ty}
 use Rattle.flume_collection.specs.Collection.{Collection}
 use Rattle.flume_collection.specs.Traps.{trap_set}
 use Rattle.written_types.specs.Named.{Named}
-use Rattle.script_check.specs.Script.{Node, Script}
+use Rattle.script_program.specs.Script.{Node, Script}
 use Rattle.direct_meaning.specs.Direct.{made_at}
-use Rattle.script_check.specs.Needed.{is_needed}
+use Rattle.script_program.specs.Needed.{is_needed}
 
 -- The members have the type and stand in ascending order, and the traps are a set of traps.
 pub record IsCollectionOf (type : Ty) (c : Collection) : Type 0 where

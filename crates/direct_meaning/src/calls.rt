@@ -4,7 +4,7 @@ ghost use Rattle.std.specs.List.{flat_map};
 ghost use Rattle.flume_value.specs.Bag.{bag_of};
 ghost use Rattle.dofn_eval.specs.Function.{Accepts};
 ghost use Rattle.flume_types.specs.Typing.{AllHave};
-ghost use Rattle.script_check.specs.Script.{Function as Function_};
+ghost use Rattle.script_program.specs.Script.{Function as Function_};
 ghost use Rattle.script_laws.specs.WellFormed.{function_at};
 ghost use Rattle.flume_collection.specs.Calls.{or_none};
 ghost use Rattle.direct_meaning.specs.inner.Kept.{has_traps};

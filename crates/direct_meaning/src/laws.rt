@@ -3,7 +3,7 @@ ghost use Rattle.flume_value.specs.declared.value.Value.{Value};
 ghost use Rattle.flume_grammar.specs.declared.tree.Statement.{Statement};
 ghost use Rattle.flume_collection.specs.Collection.{Collection};
 ghost use Rattle.script_check.specs.Rules.{script_of};
-ghost use Rattle.script_check.specs.Script.{Script};
+ghost use Rattle.script_program.specs.Script.{Script};
 ghost use Rattle.script_laws.specs.WellFormed.{IsWellFormed};
 ghost use Rattle.direct_meaning.specs.Direct.{meaning};
 ghost use Rattle.direct_meaning.specs.Inputs.{AreInputs};

@@ -4,7 +4,7 @@ ghost use Rattle.std.specs.Vec.Iter.{into_iter_items};
 ghost use Rattle.flume_value.specs.Bag.{bag_of};
 ghost use Rattle.flume_value.specs.declared.value.Value.{Value as Value_};
 ghost use Rattle.script_laws.specs.WellFormed.{IsWellFormed};
-ghost use Rattle.script_check.specs.Needed.{is_needed};
+ghost use Rattle.script_program.specs.Needed.{is_needed};
 ghost use Rattle.direct_meaning.specs.inner.Stands.{Stands};
 
 use crate::calls::done;

@@ -1,8 +1,8 @@
 -- One collection more: of the collections that nodes are built for.
 use Rattle.std.proofs.Common.{◌≡◌, ℕ, ◌+◌, ◌<◌, List, ◌++◌, length, get_or, drop, ap, ◌∙◌, sym, append_assoc, append-nil, add-one, drop-cons}
 use Rattle.std.specs.Prelude.{Option, None}
-use Rattle.script_check.specs.declared.made.Made.{Made}
-use Rattle.script_check.specs.Script.{Script}
+use Rattle.script_program.specs.declared.made.Made.{Made}
+use Rattle.script_program.specs.Script.{Script}
 use Rattle.graph_build.specs.Origins.{origins_at, origins_from}
 use Rattle.graph_build.specs.Wanted.{wanted, wanted_at}
 use Rattle.graph_build.proofs.StepLemmas.{all_dropped}

@@ -6,8 +6,8 @@ use Rattle.std.specs.Prelude.{map, slice_get}
 use Rattle.std.specs.Option.{option_map}
 use Rattle.exec_graph.specs.declared.graph.Entry.{Entry}
 use Rattle.exec_graph.specs.declared.graph.Place.{Place}
-use Rattle.script_check.specs.declared.made.Made.{Made}
-use Rattle.script_check.specs.Script.{Script}
+use Rattle.script_program.specs.declared.made.Made.{Made}
+use Rattle.script_program.specs.Script.{Script}
 use Rattle.graph_build.specs.Graphs.{last_node, behind, giving_from, next_source, nodes_at, nodes_from}
 use Rattle.graph_build.specs.Wanted.{wanted, wanted_at}
 use Rattle.graph_build.proofs.WantedLemmas.{wanted_length}

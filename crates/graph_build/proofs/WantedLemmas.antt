@@ -3,9 +3,9 @@ use Rattle.std.proofs.Common.{◌≡◌, ℕ, suc, zero, ◌+◌, true, false, [
 use Rattle.std.specs.Prelude.{Option, Some, None, if◌then◌else◌, slice_get}
 use Rattle.std.specs.Option.{option_map}
 use Rattle.written_types.specs.Named.{Named}
-use Rattle.script_check.specs.declared.made.Made.{Made}
-use Rattle.script_check.specs.Script.{Node, Script}
-use Rattle.script_check.specs.Needed.{is_needed}
+use Rattle.script_program.specs.declared.made.Made.{Made}
+use Rattle.script_program.specs.Script.{Node, Script}
+use Rattle.script_program.specs.Needed.{is_needed}
 use Rattle.graph_build.specs.Wanted.{wanted, wanted_from, wanted_at}
 
 -- how a node is made, where it is needed

@@ -4,8 +4,8 @@ use Rattle.std.proofs.Common.{suc}
 use Rattle.exec_graph.specs.declared.graph.Entry.{Entry}
 use Rattle.exec_graph.specs.declared.graph.Graph.{Graph}
 use Rattle.exec_graph.specs.declared.graph.Place.{Place}
-use Rattle.script_check.specs.declared.made.Made.{Made}
-use Rattle.script_check.specs.Script.{Script}
+use Rattle.script_program.specs.declared.made.Made.{Made}
+use Rattle.script_program.specs.Script.{Script}
 use Rattle.graph_build.specs.Nodes.{before_last, first_of, inputs_of, made_nodes}
 use Rattle.graph_build.specs.Wanted.{wanted}
 

@@ -10,8 +10,8 @@ use Rattle.exec_graph.specs.declared.step.Does.{Does}
 use Rattle.exec_graph.specs.declared.step.Does.TheVariants as does
 use Rattle.exec_graph.specs.Forests.{Forest, Bare, Grow}
 use Rattle.exec_graph.specs.Meaning.{place}
-use Rattle.script_check.specs.declared.made.Made.{Made}
-use Rattle.script_check.specs.declared.made.Made.TheVariants as made
+use Rattle.script_program.specs.declared.made.Made.{Made}
+use Rattle.script_program.specs.declared.made.Made.TheVariants as made
 
 -- ---- one node
 

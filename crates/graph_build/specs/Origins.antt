@@ -1,8 +1,8 @@
 -- The collection of the script that each graph node is built for.
 use Rattle.std.specs.Prelude.{ℕ, ◌+◌, List, [], ◌∷◌, ◌++◌, Option, Some, None, replicate}
 use Rattle.std.proofs.Common.{suc}
-use Rattle.script_check.specs.declared.made.Made.{Made}
-use Rattle.script_check.specs.Script.{Script}
+use Rattle.script_program.specs.declared.made.Made.{Made}
+use Rattle.script_program.specs.Script.{Script}
 use Rattle.graph_build.specs.Nodes.{before_last}
 use Rattle.graph_build.specs.Wanted.{wanted}
 

@@ -2,9 +2,9 @@
 use Rattle.std.specs.Prelude.{ℕ, List, [], ◌∷◌, Option, Some, None, if◌then◌else◌, slice_index_or}
 use Rattle.std.proofs.Common.{suc}
 use Rattle.written_types.specs.Named.{Named}
-use Rattle.script_check.specs.declared.made.Made.{Made}
-use Rattle.script_check.specs.Needed.{is_needed}
-use Rattle.script_check.specs.Script.{Node, Script}
+use Rattle.script_program.specs.declared.made.Made.{Made}
+use Rattle.script_program.specs.Needed.{is_needed}
+use Rattle.script_program.specs.Script.{Node, Script}
 
 -- how each collection is made, from that number on, where it is needed
 abbrev pub wanted_from : Script → ℕ → Named Node → List (Option Made)

@@ -10,7 +10,7 @@ use crate::operations::{push_count, push_join, push_top};
 use crate::wanted::wanted_at;
 use exec_graph::{Does, Entry, Graph, Node, Place};
 use flume_value::Pile;
-use script_check::{Made, Program};
+use script_program::{Made, Program};
 use std::alloc::{AllocError, Global};
 
 /// Where the nodes of a collection begin: its number, that of the next input, and that of the next

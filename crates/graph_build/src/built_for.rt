@@ -4,7 +4,7 @@ ghost use Rattle.graph_build.specs.Wanted.{wanted_at as wanted_in};
 
 use crate::numbers::{before_last, number_of};
 use crate::wanted::wanted_at;
-use script_check::Program;
+use script_program::Program;
 use std::alloc::{AllocError, Global};
 
 /// By the number of each node of the program's graph, the number of the collection that the node is

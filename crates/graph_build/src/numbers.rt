@@ -5,7 +5,7 @@ ghost use Rattle.graph_build.specs.Wanted.{wanted_at as wanted_in};
 
 use crate::wanted::wanted_at;
 use exec_graph::Place;
-use script_check::{Made, Program};
+use script_program::{Made, Program};
 use std::alloc::{AllocError, Global};
 
 /// The number in 32 bits: as many nodes as those can't count are more than memory holds.

@@ -2,7 +2,7 @@ ghost use Rattle.std.specs.Prelude.{◌≡◌, ◌<◌, length};
 ghost use Rattle.std.specs.Option.{option_copied};
 ghost use Rattle.graph_build.specs.Wanted as spec;
 
-use script_check::{Made, Program};
+use script_program::{Made, Program};
 
 /// How the collection of a number is made, where it is needed.
 pub(crate) fn wanted_at(program: &Program, number: u32) -> Option<&Made>

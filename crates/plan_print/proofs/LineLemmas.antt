@@ -5,8 +5,8 @@ use Rattle.std.proofs.lemmas.List.{drop_all}
 use Rattle.std.proofs.lemmas.Bool.{cases_lt}
 use Rattle.exec_graph.specs.declared.graph.Place.{Place}
 use Rattle.graph_build.proofs.StepLemmas.{head_of}
-use Rattle.script_check.specs.declared.made.Output.{Output}
-use Rattle.script_check.specs.Script.{Script}
+use Rattle.script_program.specs.declared.made.Output.{Output}
+use Rattle.script_program.specs.Script.{Script}
 use Rattle.plan_print.specs.GraphText.{output_line, output_lines}
 
 pub lines_next : (script : Script) (text more all : List ℕ) (outputs : List (List ℕ × Output))

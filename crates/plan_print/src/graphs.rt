@@ -1,5 +1,5 @@
 ghost use Rattle.std.specs.Prelude.{◌≡◌, ◌<◌, ◌++◌, codes, length, slice_get, slice_index, ℕ, List, Some, IfOk, OnOk};
-ghost use Rattle.script_check.specs.declared.made.Output.{Output};
+ghost use Rattle.script_program.specs.declared.made.Output.{Output};
 ghost use Rattle.std.specs.List.{flat_map};
 ghost use Rattle.plan_print.specs.GraphText as spec;
 ghost use Rattle.plan_print.specs.Names.{name_at};
@@ -9,7 +9,7 @@ use crate::steps::push_step;
 use exec_graph::{Entry, Graph, Node, Place, Roots};
 use graph_build::origins;
 use printing::push_quoted;
-use script_check::Program;
+use script_program::Program;
 use std::alloc::{AllocError, Global};
 
 /// The text of the graph that is built of the program.

@@ -2,7 +2,7 @@ ghost use Rattle.std.specs.Prelude.{◌≡◌, ◌++◌, OnOk, decimal};
 ghost use Rattle.plan_print.specs.Names.{name_at};
 
 use itoa::Buffer;
-use script_check::Program;
+use script_program::Program;
 use std::alloc::AllocError;
 
 /// The name of the collection of a number, or no byte where it has none.

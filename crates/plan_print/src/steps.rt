@@ -4,7 +4,7 @@ ghost use Rattle.plan_print.specs.Steps as spec;
 use crate::names::{function_name, node_name, push_number};
 use combine_table::Comb;
 use exec_graph::Does;
-use script_check::Program;
+use script_program::Program;
 use std::alloc::AllocError;
 
 /// Adds the name of a combiner.

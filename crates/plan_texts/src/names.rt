@@ -4,7 +4,7 @@ use combine_table::Comb;
 use exec_graph::Does;
 use plan_print::{node_name, push_combiner, push_step};
 use plan_writing::Names;
-use script_check::Program;
+use script_program::Program;
 use std::alloc::AllocError;
 
 /// What a program calls the numbers of its plans.

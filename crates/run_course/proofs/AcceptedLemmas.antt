@@ -5,7 +5,7 @@ use Rattle.flume_grammar.specs.declared.fault.ScriptFault.TheVariants as fault
 use Rattle.flume_grammar.specs.declared.fault.ScriptKind.{ScriptKind}
 use Rattle.flume_grammar.specs.declared.tree.Ast.{Ast}
 use Rattle.script_check.specs.Rules.{script_of}
-use Rattle.script_check.specs.Script.{Script}
+use Rattle.script_program.specs.Script.{Script}
 use Rattle.written_types.specs.Answer.{Checked}
 use Rattle.run_course.specs.Accepted.{Accepted, Refused}
 

@@ -13,7 +13,7 @@ use Rattle.outside.specs.declared.host.Phase.{Phase}
 use Rattle.run_texts.specs.declared.status.Place.TheVariants.{File, Screen}
 use Rattle.run_texts.specs.declared.status.Status.{Status}
 use Rattle.run_texts.specs.declared.status.Status.TheVariants.{Done, GaveUp, Usage, ScriptRefused, InputRefused, Trap, ReadFault, WriteFault, WantOfMemory, TooLong, NoFile}
-use Rattle.script_check.specs.Script.{Script}
+use Rattle.script_program.specs.Script.{Script}
 use Rattle.run_course.specs.Answers.{Answers, IsGaveUp, IsTrap, IsUsage, MayTell}
 use Rattle.run_course.specs.Asked.{AllHaveRows, AskFor, IsAskedFor, Reads, inputs_read}
 use Rattle.run_course.specs.Promises.{IsUnlessFailed}

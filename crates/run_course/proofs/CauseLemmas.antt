@@ -15,7 +15,7 @@ use Rattle.run_texts.specs.Lines.{trap_line}
 use Rattle.run_texts.specs.declared.status.Place.TheVariants.{File, Screen}
 use Rattle.run_texts.specs.declared.status.Status.{Status}
 use Rattle.run_texts.specs.declared.status.Status.TheVariants.{Done, GaveUp, Usage, ScriptRefused, InputRefused, Trap, ReadFault, WriteFault, WantOfMemory, TooLong, NoFile}
-use Rattle.script_check.specs.Script.{Script}
+use Rattle.script_program.specs.Script.{Script}
 use Rattle.script_plans.specs.Plans.{IsScriptPlan}
 use Rattle.run_course.specs.Answers.{Answers, IsCause, IsRefused}
 use Rattle.run_course.specs.Asked.{AllHaveRows, AskFor, IsAbove, IsAskedFor, IsMissing, IsTurnOf, Loads, Reads, inputs_read, tries_of}

@@ -18,7 +18,7 @@ use Rattle.outside.specs.declared.host.Phase.{Phase}
 use Rattle.run_texts.specs.declared.status.Place.TheVariants.{File, Screen}
 use Rattle.run_texts.specs.declared.status.Status.{Status}
 use Rattle.run_texts.specs.declared.status.Status.TheVariants.{Done, GaveUp, Usage, ScriptRefused, InputRefused, Trap, ReadFault, WriteFault, WantOfMemory, TooLong, NoFile}
-use Rattle.script_check.specs.Script.{Script}
+use Rattle.script_program.specs.Script.{Script}
 use Rattle.script_run.specs.Runs.{phases_of}
 use Rattle.run_course.specs.Answers.{Answers, IsGaveUp, IsReadFault, IsTrap, MayTell}
 use Rattle.run_course.specs.Asked.{AllHaveRows, IsAskedFor, Reads, inputs_read, tries_of}

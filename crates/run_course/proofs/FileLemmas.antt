@@ -14,8 +14,8 @@ use Rattle.outside.specs.Saves.{FailsAt}
 use Rattle.outside.specs.Seen.{SeenShelf}
 use Rattle.outside.specs.declared.file.File.{File as NamedBytes}
 use Rattle.run_texts.specs.Texts.{NamedOutput}
-use Rattle.script_check.specs.declared.made.Output.{Output}
-use Rattle.script_check.specs.Script.{Script}
+use Rattle.script_program.specs.declared.made.Output.{Output}
+use Rattle.script_program.specs.Script.{Script}
 use Rattle.run_course.specs.Answers.{FailsAtFile}
 use Rattle.run_course.specs.Written.{Table, file_of, files_of}
 use Rattle.run_course.specs.inner.Course.{AreFiles, HaveMembers, IsFileOf, IsReady, file_with}

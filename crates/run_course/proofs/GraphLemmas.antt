@@ -5,7 +5,7 @@ use Rattle.build_law.proofs.Short.{accepted_short}
 use Rattle.build_law.proofs.WellFormed.{is_graph_ok}
 use Rattle.exec_graph.specs.Wellformed.{IsGraphOk}
 use Rattle.graph_build.specs.Graphs.{graph_of}
-use Rattle.script_check.specs.Script.{Script}
+use Rattle.script_program.specs.Script.{Script}
 use Rattle.script_laws.proofs.RuleLemmas.{well-formed}
 use Rattle.run_course.specs.Accepted.{Accepted}
 

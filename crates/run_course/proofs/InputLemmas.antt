@@ -6,7 +6,7 @@ use Rattle.std.proofs.lemmas.List.{drop_all}
 use Rattle.std.proofs.lemmas.Option.{get_or_from_slice_get, slice_get_within}
 use Rattle.flume_types.specs.declared.types.Ty.{Ty}
 use Rattle.direct_meaning.specs.Inputs.{AreInputs, HaveRows, Wanted, inputs_of, wanted_by}
-use Rattle.script_check.specs.Needed.{is_needed}
+use Rattle.script_program.specs.Needed.{is_needed}
 use Rattle.flume_types.specs.Columns.{input_columns_of}
 use Rattle.flume_types.specs.Typing.{AllHave}
 use Rattle.flume_types.specs.declared.column.Column.{Column}
@@ -14,9 +14,9 @@ use Rattle.flume_value.specs.declared.value.Value.{Value}
 use Rattle.outside.specs.Seen.{Seen}
 use Rattle.outside.specs.declared.file.File.{File as NamedBytes}
 use Rattle.run_texts.specs.declared.status.Status.{Status}
-use Rattle.script_check.specs.declared.made.Made.{Made}
-use Rattle.script_check.specs.declared.made.Made.TheVariants as made
-use Rattle.script_check.specs.Script.{Function, Node, Script}
+use Rattle.script_program.specs.declared.made.Made.{Made}
+use Rattle.script_program.specs.declared.made.Made.TheVariants as made
+use Rattle.script_program.specs.Script.{Function, Node, Script}
 use Rattle.script_laws.specs.WellFormed.{AllFit, Fits, IsWellFormed}
 use Rattle.written_types.specs.Named.{Named}
 use Rattle.run_course.specs.Asked.{AllHaveRows, HasRows}

@@ -11,7 +11,7 @@ use Rattle.direct_meaning.specs.Evaluated.{IsDirect}
 use Rattle.direct_meaning.specs.declared.told.Direct.{Direct}
 use Rattle.outside.specs.declared.file.File.{File as NamedBytes}
 use Rattle.run_texts.specs.Texts.{size_lines}
-use Rattle.script_check.specs.Script.{Script}
+use Rattle.script_program.specs.Script.{Script}
 use Rattle.run_course.specs.Answers.{name_at}
 use Rattle.run_course.specs.declared.stop.Stop.{Stop}
 use Rattle.run_course.specs.declared.stop.Stop.TheVariants as stop

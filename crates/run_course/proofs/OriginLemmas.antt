@@ -17,11 +17,11 @@ use Rattle.flume_value.specs.declared.fault.Kind.{Kind}
 use Rattle.flume_value.specs.declared.value.Value.{Value}
 use Rattle.direct_meaning.specs.Calls.{answer_of, calls_on}
 use Rattle.direct_meaning.specs.Direct as spec
-use Rattle.script_check.specs.declared.made.Made.{Made}
-use Rattle.script_check.specs.declared.made.Made.TheVariants as made
-use Rattle.script_check.specs.Script.{Function, Node, Script}
+use Rattle.script_program.specs.declared.made.Made.{Made}
+use Rattle.script_program.specs.declared.made.Made.TheVariants as made
+use Rattle.script_program.specs.Script.{Function, Node, Script}
 use Rattle.script_laws.specs.WellFormed.{function_at}
-use Rattle.script_check.specs.Needed.{is_needed}
+use Rattle.script_program.specs.Needed.{is_needed}
 use Rattle.written_types.specs.Named.{Named}
 use Rattle.run_course.specs.Written.{Table}
 

@@ -9,7 +9,7 @@ use Rattle.flume_grammar.specs.declared.fault.ScriptFault.{ScriptFault}
 use Rattle.flume_grammar.specs.declared.fault.ScriptFault.TheVariants as script_fault
 use Rattle.flume_grammar.specs.declared.tree.Ast.{Ast}
 use Rattle.script_check.specs.Rules.{script_of}
-use Rattle.script_check.specs.Script.{Script}
+use Rattle.script_program.specs.Script.{Script}
 use Rattle.script_laws.proofs.RuleLemmas.{well-formed}
 use Rattle.script_laws.specs.WellFormed.{IsWellFormed}
 use Rattle.written_types.specs.Answer.{Gives as Checks}

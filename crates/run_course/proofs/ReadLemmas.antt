@@ -7,7 +7,7 @@ use Rattle.direct_meaning.specs.Direct.{meaning}
 use Rattle.direct_meaning.specs.Inputs.{Wanted, inputs_of}
 use Rattle.flume_value.specs.declared.value.Value.{Value}
 use Rattle.outside.specs.declared.file.File.{File as NamedBytes}
-use Rattle.script_check.specs.Script.{Script}
+use Rattle.script_program.specs.Script.{Script}
 use Rattle.run_course.specs.Accepted.{Accepted}
 use Rattle.run_course.specs.Asked.{AllHaveRows, AskFor, HasRows, IsAbove, IsMissing, Loads, Reads}
 use Rattle.command_words.specs.Words.{Asked, asked_for}

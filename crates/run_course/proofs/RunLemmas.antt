@@ -15,7 +15,7 @@ use Rattle.flume_value.specs.declared.value.Value.{Value}
 use Rattle.outside.specs.declared.file.File.{File as NamedBytes}
 use Rattle.run_settings.specs.Settings.{RunSettings}
 use Rattle.run_texts.specs.Texts.{NamedOutput, size_lines}
-use Rattle.script_check.specs.Script.{Script}
+use Rattle.script_program.specs.Script.{Script}
 use Rattle.script_plans.specs.Plans.{IsScriptPlan}
 use Rattle.script_run.specs.Comes.{AreMembers}
 use Rattle.script_run.specs.Runs.{IsFirstOf, IsRan}

@@ -13,7 +13,7 @@ use Rattle.outside.specs.Seen.{Seen}
 use Rattle.outside.specs.declared.file.File.{File as NamedBytes}
 use Rattle.run_texts.specs.declared.status.Status.{Status}
 use Rattle.run_texts.specs.declared.status.Status.TheVariants.{ScriptRefused, InputRefused, TooLong, NoFile}
-use Rattle.script_check.specs.Script.{Script}
+use Rattle.script_program.specs.Script.{Script}
 use Rattle.run_course.specs.Accepted.{Accepted, Refused}
 use Rattle.run_course.specs.Answers.{IsInputRefused, IsNoFile, IsScriptRefused, IsTooLong}
 use Rattle.run_course.specs.Asked.{AllHaveRows, AskFor, HasRows, IsAbove, IsAskedFor, IsMissing, IsTurnOf, Loads, Reads, inputs_read}

@@ -29,7 +29,7 @@ use Rattle.run_texts.specs.declared.status.Place.TheVariants.{File, Screen}
 use Rattle.flume_grammar.specs.declared.fault.ScriptKind.{ScriptKind}
 use Rattle.run_texts.specs.declared.status.Status.{Status}
 use Rattle.run_texts.specs.declared.status.Status.TheVariants.{Done, GaveUp, Usage, ScriptRefused, InputRefused, Trap, ReadFault, WriteFault, WantOfMemory, TooLong, NoFile}
-use Rattle.script_check.specs.Script.{Script}
+use Rattle.script_program.specs.Script.{Script}
 use Rattle.script_plans.specs.Plans.{IsScriptPlan}
 use Rattle.script_run.specs.Runs.{phases_of, split_of}
 use Rattle.task_lists.specs.Plans.{first_trap}

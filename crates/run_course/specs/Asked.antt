@@ -5,7 +5,7 @@ use Rattle.direct_meaning.specs.Inputs.{Wanted, inputs_of}
 use Rattle.flume_value.specs.declared.value.Value.{Value}
 use Rattle.outside.specs.Files.{bytes_of}
 use Rattle.outside.specs.declared.file.File.{File}
-use Rattle.script_check.specs.Script.{Script}
+use Rattle.script_program.specs.Script.{Script}
 use Rattle.run_course.specs.Accepted.{Accepted}
 use Rattle.command_words.specs.Words.{asked_for}
 use Rattle.run_course.specs.declared.limits.TheConstants.{SCRIPT_LIMIT, INPUT_LIMIT, TRIES}

@@ -18,7 +18,7 @@ use Rattle.run_course.specs.World.{Keeps, World}
 use Rattle.run_course.specs.Written.{Table}
 use Rattle.command_words.specs.declared.words.Command.{Command}
 use Rattle.command_words.specs.declared.words.Command.TheVariants.{Check, Plan as Show, Direct, Run}
-use Rattle.script_check.specs.Script.{Script}
+use Rattle.script_program.specs.Script.{Script}
 use Rattle.script_plans.specs.Plans.{IsScriptPlan}
 use Rattle.script_run.specs.Runs.{phases_of}
 use Rattle.run_texts.specs.declared.status.Place.TheVariants.{File, Screen}

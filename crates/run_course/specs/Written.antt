@@ -18,8 +18,8 @@ use Rattle.run_texts.specs.Texts.{size_lines}
 use Rattle.script_plans.specs.Plans.{IsScriptPlan}
 use Rattle.script_run.specs.Runs.{WereRun, phases_of}
 use Rattle.serde_json.specs.Written.{compact_text}
-use Rattle.script_check.specs.declared.made.Output.{Output}
-use Rattle.script_check.specs.Script.{Script}
+use Rattle.script_program.specs.declared.made.Output.{Output}
+use Rattle.script_program.specs.Script.{Script}
 use Rattle.run_course.specs.Asked.{AllHaveRows, Reads}
 use Rattle.run_course.specs.Lent.{lent}
 use Rattle.command_words.specs.declared.words.Command.{Command}

@@ -9,10 +9,10 @@ use Rattle.flume_value.specs.declared.value.Value.{Value}
 use Rattle.flume_collection.specs.Calls.{or_none}
 use Rattle.flume_collection.specs.Collection.{Collection, together as union}
 use Rattle.written_types.specs.Named.{Named}
-use Rattle.script_check.specs.Needed.{is_needed, made_of}
-use Rattle.script_check.specs.Script.{Node, Script}
-use Rattle.script_check.specs.declared.made.Made.{Made}
-use Rattle.script_check.specs.declared.made.Made.TheVariants as made
+use Rattle.script_program.specs.Needed.{is_needed, made_of}
+use Rattle.script_program.specs.Script.{Node, Script}
+use Rattle.script_program.specs.declared.made.Made.{Made}
+use Rattle.script_program.specs.declared.made.Made.TheVariants as made
 use Rattle.direct_meaning.specs.Direct.{all_made, collections, inputs_behind, made_as, made_at, meaning, rows_as, size_of, sizes_of}
 use Rattle.direct_meaning.proofs.PlaceLemmas.{at_end}
 use Rattle.build_law.specs.Means.{HasOwn}

@@ -3,10 +3,10 @@ use Rattle.std.proofs.Common.{◌≡◌, ℕ, zero, suc, ◌+◌, ◌<◌, ◌�
 use Rattle.std.specs.Prelude.{if◌then◌else◌, option_map}
 use Rattle.flume_value.specs.declared.value.Value.{Value}
 use Rattle.written_types.specs.Named.{Named}
-use Rattle.script_check.specs.Needed.{is_needed}
-use Rattle.script_check.specs.Script.{Node, Script}
-use Rattle.script_check.specs.declared.made.Made.{Made}
-use Rattle.script_check.specs.declared.made.Made.TheVariants as made
+use Rattle.script_program.specs.Needed.{is_needed}
+use Rattle.script_program.specs.Script.{Node, Script}
+use Rattle.script_program.specs.declared.made.Made.{Made}
+use Rattle.script_program.specs.declared.made.Made.TheVariants as made
 use Rattle.run_sizes.specs.inner.Along.{behind, sized_as, sizes_along}
 
 abbrev pub MadeOf : List ℕ × Node → Made

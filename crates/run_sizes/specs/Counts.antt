@@ -1,9 +1,9 @@
 -- What a run has counted for the collections of a script.
 use Rattle.std.specs.Prelude.{◌≡◌, ℕ, List, Option, Some, slice_get}
 use Rattle.flume_collection.specs.Collection.{Collection}
-use Rattle.script_check.specs.Needed.{made_of}
-use Rattle.script_check.specs.Script.{Script}
-use Rattle.script_check.specs.declared.made.Made.{Made}
+use Rattle.script_program.specs.Needed.{made_of}
+use Rattle.script_program.specs.Script.{Script}
+use Rattle.script_program.specs.declared.made.Made.{Made}
 use Rattle.build_law.specs.Means.{HasOwn}
 use Rattle.direct_meaning.specs.Direct.{made_at, size_of}
 

@@ -5,7 +5,7 @@ ghost use Rattle.run_sizes.specs.Counts.{AreOwnCounts};
 ghost use Rattle.run_sizes.specs.inner.Along.{behind as behind_is, count_at as count_is, kept, named_sizes, row_count as rows_are, size_at as size_is, size_line, sized_as, sizes_along, together as together_is};
 
 use flume_value::{Items, Str};
-use script_check::{Made, Program};
+use script_program::{Made, Program};
 use std::alloc::{AllocError, Global};
 
 /// The name of each needed collection in order, and how many members it has, over these rows of

@@ -1,7 +1,7 @@
 -- The sizes of a script's collections, as the screen gets them.
 use Rattle.std.specs.Prelude.{ℕ, List, ◌++◌, codes, decimal}
 use Rattle.std.specs.List.{flat_map}
-use Rattle.script_check.specs.declared.made.Output.{Output}
+use Rattle.script_program.specs.declared.made.Output.{Output}
 
 -- an output, under the name of its file
 abbrev pub NamedOutput : Type 0

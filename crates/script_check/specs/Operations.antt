@@ -19,9 +19,9 @@ pub use Rattle.bag_steps.specs.Sides.{sides_of}
 use Rattle.combine_table.specs.declared.comb.Comb.{Comb}
 use Rattle.combine_table.specs.declared.comb.Comb.TheVariants as comb
 use Rattle.written_types.specs.Answer.{Checked, ◌>>=◌, unless, or_fault}
-use Rattle.script_check.specs.declared.made.Made.TheVariants as made
+use Rattle.script_program.specs.declared.made.Made.TheVariants as made
 use Rattle.script_check.specs.Numbers.{number_within}
-use Rattle.script_check.specs.Script.{Node, State, Operand, find_node, Callee, find_function}
+use Rattle.script_program.specs.Script.{Node, State, Operand, find_node, Callee, find_function}
 
 -- ---- parts of types
 

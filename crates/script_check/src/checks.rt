@@ -1,11 +1,10 @@
 ghost use Rattle.written_types.specs.Answer.{Gives};
 ghost use Rattle.script_check.specs.Rules as spec;
 
-use crate::program::Program;
 use crate::rules::rule;
-use crate::state::State;
 use flume_grammar::{Ast, ScriptFault, ScriptKind, Statement};
 use flume_value::Pile;
+use script_program::{Program, State};
 use std::alloc::Global;
 use written_types::refused;
 

@@ -4,9 +4,9 @@ ghost use Rattle.written_types.specs.Answer.{Gives, or_fault};
 ghost use Rattle.script_check.specs.Operations as spec;
 
 use crate::numbers::top_number;
-use crate::state::State;
 use combine_table::Comb;
 use flume_grammar::{Combiner, ScriptFault, ScriptKind};
+use script_program::State;
 use type_table::{Shape, TypeId};
 use written_types::refused;
 

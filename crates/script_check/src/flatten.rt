@@ -4,15 +4,13 @@ ghost use Rattle.flume_types.specs.declared.types.Ty.{Ty};
 ghost use Rattle.type_table.specs.Table.{type_at};
 ghost use Rattle.written_types.specs.Answer.{Gives};
 ghost use Rattle.script_check.specs.Operations as spec;
-ghost use Rattle.script_check.specs.Program.{node_in};
-ghost use Rattle.script_check.specs.inner.Held.{operand_in};
+ghost use Rattle.script_program.specs.Program.{node_in};
+ghost use Rattle.script_program.specs.Held.{operand_in};
 
-use crate::made::{Made, Node};
-use crate::operand::Operand;
 use crate::operation::collection;
-use crate::state::State;
 use flume_grammar::{ScriptFault, ScriptKind};
 use flume_value::{Pile, Str};
+use script_program::{Made, Node, Operand, State};
 use std::alloc::{AllocError, Global};
 use type_table::{TypeId, Types};
 use written_types::refused;
@@ -29,8 +27,23 @@ pub fn flatten(
     ensures within { IfOk result (λ node. node.ty < length state.now.types) }
 {
     let sources = collections(alloc, line, sources, state)?;
-    let ty = one_type(line, sources.as_slice(), state.types())?;
-    let sources = numbers(alloc, sources.as_slice())?;
+    flatten_of(alloc, line, sources.as_slice(), state.types())
+}
+
+/// The members of these collections, of one type.
+fn flatten_of(
+    alloc: Global,
+    line: u32,
+    sources: &[Operand],
+    types: &Types,
+) -> Result<Node, ScriptFault>
+    requires { All (λ source. source.ty < length types.now) sources.now }
+    ensures gives { Gives (node_in types.now) result
+        (spec.flatten_of line (map (operand_in types.now) sources.now)) }
+    ensures within { IfOk result (λ node. node.ty < length types.now) }
+{
+    let ty = one_type(line, sources, types)?;
+    let sources = numbers(alloc, sources)?;
     Ok(Node {
         made: Made::Flatten { sources },
         ty,

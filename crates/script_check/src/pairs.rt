@@ -3,7 +3,7 @@ ghost use Rattle.flume_types.specs.declared.types.Ty.{Ty, out-Ty};
 ghost use Rattle.type_table.specs.Table.{type_at, field_at, AreWithin};
 ghost use Rattle.written_types.specs.Answer.{Gives, or_fault};
 ghost use Rattle.script_check.specs.Operations as spec;
-ghost use Rattle.script_check.specs.inner.Held.{pair_at};
+ghost use Rattle.script_check.specs.inner.Pairs.{pair_at};
 
 use flume_grammar::{ScriptFault, ScriptKind};
 use type_table::{Part, Shape, TypeId, Types};

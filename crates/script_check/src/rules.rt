@@ -1,24 +1,22 @@
-ghost use Rattle.std.specs.Prelude.{◌≡◌, ◌<◌, [], ◌∷◌, false, is_some, length, IfOk, OnOk};
-ghost use Rattle.flume_types.specs.Columns.{columns_of, input_columns_of};
+ghost use Rattle.std.specs.Prelude.{◌≡◌, ◌<◌, false, is_some, length, IfOk, OnOk};
 ghost use Rattle.type_table.specs.Table.{type_at};
-ghost use Rattle.written_types.specs.Answer.{Gives, or_fault};
+ghost use Rattle.written_types.specs.Answer.{Gives};
 ghost use Rattle.written_types.specs.Named.{find};
-ghost use Rattle.script_check.specs.Program.{signature_in, HasTypes};
+ghost use Rattle.script_program.specs.Program.{node_in};
+ghost use Rattle.script_program.specs.Script.{with_type, with_node};
 ghost use Rattle.script_check.specs.Rules as spec;
 
 use crate::fresh::{fresh, room};
-use crate::made::{Made, Node, Output, Signature};
-use crate::numbers::scale;
-use crate::operation::{collection, made_by};
-use crate::state::State;
-use flume_grammar::{
-    Form, Function as Written, Operation, ScriptFault, ScriptKind, Statement, Type,
-};
-use flume_types::{ColumnFault, Columns};
-use flume_value::{Pile, Str};
-use std::alloc::{AllocError, Global};
-use type_table::{TypeId, columns, input_columns};
-use written_types::{refused, shallow};
+use crate::inputs::{rows_for, rows_of};
+use crate::operation::made_by;
+use crate::outputs::output_for;
+use crate::signatures::checked;
+use flume_grammar::{Form, Function as Written, Operation, ScriptFault, Statement, Type};
+use flume_value::Str;
+use script_program::{Node, State};
+use std::alloc::Global;
+use type_table::TypeId;
+use written_types::shallow;
 
 /// A statement's rules, in order.
 pub fn rule(alloc: Global, statement: Statement, state: &mut State) -> Result<(), ScriptFault>
@@ -45,10 +43,28 @@ fn rule_type(
     ensures { Gives (λ _. state.new.state) result
         (spec.rule_type line name ty.now state.old.state) }
 {
-    fresh(line, state.has_type(&name))?;
-    let id = state.whole_type(alloc, line, ty)?;
+    let id = type_for(alloc, line, &name, ty, state)?;
     state.add_type(name, id)?;
     Ok(())
+}
+
+/// The type that a name may stand for.
+fn type_for(
+    alloc: Global,
+    line: u32,
+    name: &Str,
+    ty: &Type,
+    state: &mut State,
+) -> Result<TypeId, ScriptFault>
+    ensures gives { Gives
+        (λ id. with_type name.now (type_at state.new.types id) state.old.state) result
+        (spec.rule_type line name.now ty.now state.old.state) }
+    ensures new { OnOk result (is_some (find name.now state.old.state.types) ≡ false) }
+    ensures within { IfOk result (λ id. id < length state.new.types) }
+    ensures state { state.new.state ≡ state.old.state }
+{
+    fresh(line, state.has_type(name))?;
+    state.whole_type(alloc, line, ty)
 }
 
 fn rule_input(
@@ -62,12 +78,8 @@ fn rule_input(
     ensures { Gives (λ _. state.new.state) result
         (spec.rule_input line name ty.now file state.old.state) }
 {
-    room(line, state.node_count(), 256)?;
-    fresh(line, state.has_node(&name))?;
-    let ty = state.whole_type(alloc, line, ty)?;
-    let columns = row_columns(alloc, line, ty, state)?;
-    let made = Made::Input { file, columns };
-    state.add_node(name, Node { made, ty })?;
+    let rows = rows_for(alloc, line, &name, ty, state)?;
+    state.add_node(name, rows_of(file, rows))?;
     Ok(())
 }
 
@@ -80,47 +92,9 @@ fn rule_function(
     ensures { Gives (λ _. state.new.state) result
         (spec.rule_function line function state.old.state) }
 {
-    let signature = signature_of(alloc, line, &function, state)?;
-    let fun = state.fun_of(alloc, &function, &signature)?;
+    let (signature, fun) = checked(alloc, line, &function, state)?;
     state.add_function(function, signature, fun)?;
     Ok(())
-}
-
-/// What a function that may be defined here takes and gives.
-fn signature_of(
-    alloc: Global,
-    line: u32,
-    function: &Written,
-    state: &mut State,
-) -> Result<Signature, ScriptFault>
-    ensures gives { Gives (signature_in state.new.types) result
-        (spec.signature_of line function.now state.old.state) }
-    ensures new { OnOk result
-        (is_some (find function.now.name state.old.state.functions) ≡ false) }
-    ensures within { IfOk result (λ signature. HasTypes state.new.types signature) }
-    ensures one { IfOk result (λ signature. length signature.gives ≡ 1) }
-    ensures state { state.new.state ≡ state.old.state }
-{
-    room(line, state.function_count(), 128)?;
-    fresh(line, state.has_function(&function.name))?;
-    let takes = state.whole_type(alloc, line, &function.takes)?;
-    let gives = state.whole_type(alloc, line, &function.gives)?;
-    let gives = one(alloc, gives)?;
-    let scale = scale(line, &function.scale)?;
-    Ok(Signature {
-        takes,
-        gives,
-        scale,
-    })
-}
-
-/// The types of one output.
-fn one(alloc: Global, id: TypeId) -> Result<Pile<TypeId>, AllocError>
-    ensures { IfOk result (λ ids. ids ≡ id ∷ []) }
-{
-    let mut ids = Pile::new(alloc);
-    ids.push(id)?;
-    Ok(ids)
 }
 
 fn rule_let(
@@ -133,12 +107,31 @@ fn rule_let(
     ensures { Gives (λ _. state.new.state) result
         (spec.rule_let line name by.now state.old.state) }
 {
-    room(line, state.node_count(), 256)?;
-    fresh(line, state.has_node(&name))?;
-    let node = made_by(alloc, line, by, state)?;
-    shallow(line, node.ty, state.types())?;
+    let node = node_for(alloc, line, &name, by, state)?;
     state.add_node(name, node)?;
     Ok(())
+}
+
+/// The collection that a name may stand for.
+fn node_for(
+    alloc: Global,
+    line: u32,
+    name: &Str,
+    by: &Operation,
+    state: &mut State,
+) -> Result<Node, ScriptFault>
+    ensures gives { Gives
+        (λ node. with_node name.now (node_in state.new.types node) state.old.state) result
+        (spec.rule_let line name.now by.now state.old.state) }
+    ensures new { OnOk result (is_some (find name.now state.old.state.nodes) ≡ false) }
+    ensures within { IfOk result (λ node. node.ty < length state.new.types) }
+    ensures state { state.new.state ≡ state.old.state }
+{
+    room(line, state.node_count(), 256)?;
+    fresh(line, state.has_node(name))?;
+    let node = made_by(alloc, line, by, state)?;
+    shallow(line, node.ty, state.types())?;
+    Ok(node)
 }
 
 fn rule_output(
@@ -151,40 +144,7 @@ fn rule_output(
     ensures { Gives (λ _. state.new.state) result
         (spec.rule_output line name.now file state.old.state) }
 {
-    room(line, state.output_count(), 64)?;
-    let source = collection(line, name, state)?;
-    let columns = flat_columns(alloc, line, source.ty, state)?;
-    fresh(line, state.has_output(&file))?;
-    let output = Output {
-        reads: source.number,
-        columns,
-    };
+    let output = output_for(alloc, line, name, &file, state)?;
     state.add_output(file, output)?;
     Ok(())
-}
-
-/// The columns of a record of int, bool and text.
-fn row_columns(alloc: Global, line: u32, id: TypeId, state: &State) -> Result<Columns, ScriptFault>
-    requires { id < length state.now.types }
-    ensures { Gives (λ columns. columns) result
-        (or_fault line ScriptKind.NotFlat (input_columns_of (type_at state.now.types id))) }
-{
-    match input_columns(alloc, state.types(), id) {
-        Ok(columns) => Ok(columns),
-        Err(ColumnFault::NotFlat) => Err(refused(line, ScriptKind::NotFlat)),
-        Err(ColumnFault::Memory) => Err(ScriptFault::Memory),
-    }
-}
-
-/// The columns of a flat type.
-fn flat_columns(alloc: Global, line: u32, id: TypeId, state: &State) -> Result<Columns, ScriptFault>
-    requires { id < length state.now.types }
-    ensures { Gives (λ columns. columns) result
-        (or_fault line ScriptKind.NotFlat (columns_of (type_at state.now.types id))) }
-{
-    match columns(alloc, state.types(), id) {
-        Ok(columns) => Ok(columns),
-        Err(ColumnFault::NotFlat) => Err(refused(line, ScriptKind::NotFlat)),
-        Err(ColumnFault::Memory) => Err(ScriptFault::Memory),
-    }
 }

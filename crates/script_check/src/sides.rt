@@ -1,9 +1,9 @@
-ghost use Rattle.std.specs.Prelude.{◌≡◌, ◌<◌, [], ◌∷◌, length, IfOk, codes};
+ghost use Rattle.std.specs.Prelude.{◌≡◌, ◌<◌, [], ◌∷◌, ◌++◌, length, IfOk, OnOk, codes};
 ghost use Rattle.type_table.specs.Table.{type_at, Extends};
 ghost use Rattle.script_check.specs.Operations.{sides_of};
 
-use crate::state::State;
 use flume_value::{Pile, Str};
+use script_program::State;
 use std::alloc::{AllocError, Global};
 use type_table::{Part, Parts, Shape, TypeId};
 
@@ -33,13 +33,16 @@ fn side_fields(alloc: Global, left: TypeId, right: TypeId) -> Result<Parts, Allo
         ∷ record { name = codes "right"; ty = right } ∷ []) }
 {
     let mut fields = Pile::new(alloc);
-    fields.push(Part {
-        name: Str::from_slice(alloc, b"left")?,
-        ty: left,
-    })?;
-    fields.push(Part {
-        name: Str::from_slice(alloc, b"right")?,
-        ty: right,
-    })?;
+    push_field(alloc, b"left", left, &mut fields)?;
+    push_field(alloc, b"right", right, &mut fields)?;
     Ok(fields)
+}
+
+/// A field more.
+fn push_field(alloc: Global, name: &[u8], ty: TypeId, fields: &mut Parts) -> Result<(), AllocError>
+    ensures { OnOk result (fields.new ≡ fields.old ++ record { name = name.now; ty = ty } ∷ []) }
+{
+    let name = Str::from_slice(alloc, name)?;
+    fields.push(Part { name, ty })?;
+    Ok(())
 }

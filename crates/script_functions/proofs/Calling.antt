@@ -13,8 +13,8 @@ use Rattle.dofn_eval.specs.Function.{Function as Fun}
 use Rattle.dofn_eval.specs.Outcome.{Gives, IsFault}
 use Rattle.dofn_eval.specs.Run.{means}
 use Rattle.forest_steps.specs.Functions.{IsCallFault}
-use Rattle.script_check.specs.Program.{Does}
-use Rattle.script_check.specs.Script.{Function}
+use Rattle.script_program.specs.Program.{Does}
+use Rattle.script_program.specs.Script.{Function}
 use Rattle.script_laws.specs.WellFormed.{function_at}
 use Rattle.direct_meaning.proofs.CallLemmas.{gives_answer, same_answer, traps_answer}
 use Rattle.build_law.specs.Worlds.{answered_by, or_silent}

@@ -7,7 +7,7 @@ use Rattle.flume_types.specs.declared.types.Ty.{Ty}
 use Rattle.flume_types.specs.Typing.{AllHave, Has}
 use Rattle.flume_collection.specs.Calls.{Called}
 use Rattle.exec_graph.specs.Typing.{IsWorldTyped, Answers}
-use Rattle.script_check.specs.Script.{Function, Script}
+use Rattle.script_program.specs.Script.{Function, Script}
 use Rattle.script_laws.specs.WellFormed.{IsWellFormed, IsWellTyped, function_at}
 use Rattle.direct_meaning.specs.Calls.{answer_of}
 use Rattle.direct_meaning.specs.Inputs.{AreInputs, HaveRows, Wanted, inputs_of}

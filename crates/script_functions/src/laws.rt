@@ -1,7 +1,7 @@
 ghost use Rattle.std.specs.Prelude.{List};
 ghost use Rattle.flume_value.specs.declared.value.Value.{Value};
 ghost use Rattle.exec_graph.specs.Typing.{IsWorldTyped};
-ghost use Rattle.script_check.specs.Script.{Script};
+ghost use Rattle.script_program.specs.Script.{Script};
 ghost use Rattle.script_laws.specs.WellFormed.{IsWellFormed};
 ghost use Rattle.direct_meaning.specs.Inputs.{AreInputs};
 ghost use Rattle.build_law.specs.Signatures.{signatures_of};

@@ -21,7 +21,7 @@ use Rattle.int_text.specs.Ints.{int_of_text}
 use Rattle.written_types.specs.Answer.{unless, or_fault}
 use Rattle.written_types.specs.Named.{Named, find}
 use Rattle.script_check.specs.Numbers.{within}
-use Rattle.script_check.specs.Script.{Function, Node, State, Operand, Callee, place}
+use Rattle.script_program.specs.Script.{Function, Node, State, Operand, Callee, place}
 use Rattle.script_check.specs.Operations as spec
 use Rattle.script_check.specs.Operations.{Pair, pair_in, member_in, combined_type, numbers}
 use Rattle.script_check.specs.Operations.{all_same}

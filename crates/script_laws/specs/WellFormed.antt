@@ -12,10 +12,10 @@ use Rattle.flume_types.specs.Tables.{table_of}
 use Rattle.combine_table.specs.declared.comb.Comb.{Comb}
 use Rattle.written_types.specs.Named.{Named}
 use Rattle.body_check.specs.Bodies.{body_of}
-use Rattle.script_check.specs.declared.made.Made.{Made}
-use Rattle.script_check.specs.declared.made.Made.TheVariants as made
-use Rattle.script_check.specs.declared.made.Output.{Output}
-use Rattle.script_check.specs.Script.{Function, Node, Script}
+use Rattle.script_program.specs.declared.made.Made.{Made}
+use Rattle.script_program.specs.declared.made.Made.TheVariants as made
+use Rattle.script_program.specs.declared.made.Output.{Output}
+use Rattle.script_program.specs.Script.{Function, Node, Script}
 use Rattle.script_check.specs.Operations.{sides_of, combined_type}
 
 -- ---- what numbers stand for

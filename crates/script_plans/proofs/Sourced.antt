@@ -11,9 +11,9 @@ use Rattle.graph_build.specs.Nodes.{made_nodes}
 use Rattle.graph_build.specs.Wanted.{wanted}
 use Rattle.optimise.specs.Optimised.{source_count, source_count_at}
 use Rattle.plan_rules.specs.Fitting.{HasSourcesBelow, IsSourceBelow}
-use Rattle.script_check.specs.declared.made.Made.{Made}
-use Rattle.script_check.specs.declared.made.Made.TheVariants as made
-use Rattle.script_check.specs.Script.{Script}
+use Rattle.script_program.specs.declared.made.Made.{Made}
+use Rattle.script_program.specs.declared.made.Made.TheVariants as made
+use Rattle.script_program.specs.Script.{Script}
 
 abbrev Below : ℕ → List Entry → Type 0
 Below m es = AllByRecursion (λ e. IsSourceBelow m e.node) es

@@ -13,7 +13,7 @@ use build_law::one_step_law;
 use exec_graph::Graph;
 use exec_plan::Plan;
 use optimise::optimise;
-use script_check::Program;
+use script_program::Program;
 use std::alloc::{AllocError, Global};
 
 /// The plan of a program, whose execution graph this is.

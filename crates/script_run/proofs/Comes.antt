@@ -17,9 +17,9 @@ use Rattle.flume_value.specs.declared.value.Value.{Value}
 use Rattle.graph_build.specs.Graphs.{graph_of}
 use Rattle.plan_laws.specs.Operations.{SamePlan}
 use Rattle.run_sizes.specs.Counts.{AreOwnCounts}
-use Rattle.script_check.specs.Needed.{made_of}
-use Rattle.script_check.specs.Script.{Script}
-use Rattle.script_check.specs.declared.made.Made.{Made}
+use Rattle.script_program.specs.Needed.{made_of}
+use Rattle.script_program.specs.Script.{Script}
+use Rattle.script_program.specs.declared.made.Made.{Made}
 use Rattle.task_lists.specs.Runs.{kept_count}
 use Rattle.script_run.specs.Comes.{AreMembers}
 

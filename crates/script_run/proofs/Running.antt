@@ -17,7 +17,7 @@ use Rattle.flume_value.specs.declared.value.Value.{Value}
 use Rattle.plan_phases.specs.declared.fault.RunFault.{RunFault}
 use Rattle.plan_phases.specs.declared.fault.RunFault.TheVariants as fault
 use Rattle.run_settings.specs.Settings.{RunSettings}
-use Rattle.script_check.specs.Script.{Script}
+use Rattle.script_program.specs.Script.{Script}
 use Rattle.stage_exec.specs.Executions.{IsExecuted, IsTypedRun, IsRunFault as IsExecutionFault}
 use Rattle.stage_exec.specs.declared.executed.Executed.{Executed}
 use Rattle.stage_phases.specs.Stages.{run_world}

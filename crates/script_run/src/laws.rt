@@ -11,7 +11,7 @@ ghost use Rattle.flume_value.specs.declared.value.Value.{Value};
 ghost use Rattle.graph_build.specs.Graphs.{graph_of};
 ghost use Rattle.plan_laws.specs.Operations.{SamePlan};
 ghost use Rattle.run_sizes.specs.Counts.{AreOwnCounts};
-ghost use Rattle.script_check.specs.Script.{Script};
+ghost use Rattle.script_program.specs.Script.{Script};
 ghost use Rattle.task_lists.specs.Runs.{kept_count};
 ghost use Rattle.script_run.specs.Comes.{AreMembers};
 

@@ -5,7 +5,7 @@ use Rattle.flume_value.specs.declared.value.Value.{Value}
 use Rattle.flume_collection.specs.Collection.{Collection}
 use Rattle.flume_collection.specs.declared.trap.Trap.{Trap}
 use Rattle.written_types.specs.Named.{Named}
-use Rattle.script_check.specs.Script.{Node}
+use Rattle.script_program.specs.Script.{Node}
 use Rattle.direct_meaning.specs.declared.kept.Kept.{Kept}
 
 abbrev pub has_traps : List Trap → Bool

@@ -7,7 +7,7 @@ use Rattle.dofn_eval.specs.Function.{Function as Fun}
 use Rattle.dofn_eval.specs.Run.{means}
 use Rattle.flume_collection.specs.Calls.{Called, emissions, trap_of}
 use Rattle.flume_collection.specs.declared.trap.Trap.{Trap}
-use Rattle.script_check.specs.Script.{Function}
+use Rattle.script_program.specs.Script.{Function}
 use Rattle.direct_meaning.specs.Calls.{answer_of, answered}
 use Rattle.direct_meaning.specs.declared.kept.Kept.{Kept}
 use Rattle.direct_meaning.specs.inner.Kept.{has_traps}

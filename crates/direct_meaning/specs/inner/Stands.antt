@@ -6,12 +6,12 @@ use Rattle.flume_collection.specs.Collection.{Collection}
 use Rattle.flume_collection.specs.Traps.{trap_set}
 use Rattle.flume_collection.specs.declared.trap.Trap.{Trap}
 use Rattle.written_types.specs.Named.{Named}
-use Rattle.script_check.specs.Script.{Node, Script}
+use Rattle.script_program.specs.Script.{Node, Script}
 use Rattle.script_laws.specs.WellFormed.{AllFit}
 use Rattle.direct_meaning.specs.Direct.{collections, meaning, traps_of}
 use Rattle.direct_meaning.specs.Inputs.{HaveRows, Wanted, wanted_by}
 use Rattle.direct_meaning.specs.Made.{AreMade}
-use Rattle.script_check.specs.Needed.{is_needed, numbered}
+use Rattle.script_program.specs.Needed.{is_needed, numbered}
 use Rattle.direct_meaning.specs.declared.kept.Kept.{Kept}
 use Rattle.direct_meaning.specs.inner.Kept.{KeepsAny}
 

@@ -34,11 +34,11 @@ use Rattle.run_texts.specs.Texts.{size_lines}
 use Rattle.run_texts.specs.declared.status.Place.TheVariants.{File, Screen}
 use Rattle.run_texts.specs.declared.status.Status.{Status}
 use Rattle.run_texts.specs.declared.status.Status.TheVariants.{Done, GaveUp, WriteFault, ScriptRefused, InputRefused, ReadFault, WantOfMemory, TooLong, NoFile}
-use Rattle.script_check.specs.declared.made.Made.{Made}
-use Rattle.script_check.specs.declared.made.Made.TheVariants as made
-use Rattle.script_check.specs.declared.made.Output.{Output}
-use Rattle.script_check.specs.Needed.{is_needed, numbered}
-use Rattle.script_check.specs.Script.{Node, Script}
+use Rattle.script_program.specs.declared.made.Made.{Made}
+use Rattle.script_program.specs.declared.made.Made.TheVariants as made
+use Rattle.script_program.specs.declared.made.Output.{Output}
+use Rattle.script_program.specs.Needed.{is_needed, numbered}
+use Rattle.script_program.specs.Script.{Node, Script}
 use Rattle.script_run.specs.Runs.{phases_of}
 use Rattle.written_types.specs.Named.{Named}
 use Rattle.run_course.specs.Accepted.{Accepted, Refused}

@@ -1,6 +1,6 @@
 use Rattle.std.proofs.Common.{◌≡◌, ◌-◌, ◌∙◌, ℕ, Some, subst, sym}
-use Rattle.script_check.specs.Program.{function_in}
-use Rattle.script_check.specs.Script.{Function}
+use Rattle.script_program.specs.Program.{function_in}
+use Rattle.script_program.specs.Script.{Function}
 use Rattle.direct_meaning.proofs.CallLemmas.{done_by_slots}
 use Rattle.direct_meaning.proofs.ResultLemmas.{if_all}
 use Rattle.direct_meaning.specs.inner.Slots.{IsDone}

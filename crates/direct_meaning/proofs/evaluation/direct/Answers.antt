@@ -2,7 +2,7 @@ use Rattle.std.proofs.Common.{◌≡◌, ◌+◌, ◌++◌, ◌∷◌, ◌∙◌
 use Rattle.std.specs.Vec.Iter.{into_iter_items}
 use Rattle.direct_meaning.proofs.EndLemmas.{as_many_kept, ends, is_direct, same_stands, unneeded_passes}
 use Rattle.direct_meaning.proofs.ResultLemmas.{if_all}
-use Rattle.script_check.specs.Needed.{is_needed}
+use Rattle.script_program.specs.Needed.{is_needed}
 use Rattle.direct_meaning.specs.inner.Stands.{Stands}
 use Rattle.direct_meaning.specs.declared.kept.Kept.{Kept}
 use Rattle.direct_meaning.proofs.evaluation.direct.Goals as goal

@@ -4,7 +4,7 @@ use Rattle.std.specs.Vec.Iter.{into_iter_items}
 use Rattle.std.proofs.lemmas.Result.{IfOk-weaker}
 use Rattle.flume_value.specs.Bag.{bag_of}
 use Rattle.flume_collection.specs.declared.trap.Trap.{Trap}
-use Rattle.script_check.specs.declared.made.Made.TheVariants as made
+use Rattle.script_program.specs.declared.made.Made.TheVariants as made
 use Rattle.direct_meaning.proofs.ArmLemmas.{combine_goes, combine_read, count_goes, count_read, do_goes, do_read, flatten_goes, group_goes, group_read, input_goes, input_left, join_goes, left_read, right_read, top_goes, top_read}
 use Rattle.direct_meaning.proofs.HereLemmas.{here_at}
 use Rattle.direct_meaning.proofs.ReadLemmas.{any_ascending, called_read, function_within, groups_read, pairs_read, table_ascending}

@@ -1,6 +1,6 @@
 use Rattle.std.proofs.Common.{◌≡◌, true, false, Some, ap, sym, ◌∙◌, refl, rules, arith}
 use Rattle.std.proofs.lemmas.Result.{err_from_is_err_and}
-use Rattle.script_check.specs.Needed.{is_needed}
+use Rattle.script_program.specs.Needed.{is_needed}
 use Rattle.outside.specs.Seen.{seen}
 use Rattle.run_texts.specs.declared.status.Status.TheVariants.{WantOfMemory}
 use Rattle.run_course.proofs.InputLemmas.{at_place, behind_input, behind_other, behind_unneeded, input_at, its_columns, its_file, its_wanted, other_wants, stops_at, there, wants}

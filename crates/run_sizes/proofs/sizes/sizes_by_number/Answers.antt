@@ -1,6 +1,6 @@
 use Rattle.std.proofs.Common.{◌≡◌, ◌∙◌, ◌+◌, ◌<◌, ◌≤◌, ◌++◌, ◌∷◌, [], ℕ, List, Option, length, slice_get, ap, arith, drop, subst, sym}
 use Rattle.std.proofs.Common.{length-append}
-use Rattle.script_check.specs.Script.{Node}
+use Rattle.script_program.specs.Script.{Node}
 use Rattle.written_types.specs.Named.{Named}
 use Rattle.run_sizes.specs.inner.Along.{sized_as, sizes_along}
 use Rattle.run_sizes.proofs.Stepping.{few_behind, made_there, none_left, on_passed, on_taken}

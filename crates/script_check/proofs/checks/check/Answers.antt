@@ -2,7 +2,7 @@ use Rattle.std.proofs.Common.{◌<◌, nat_lt, length, Ok, sym, ap, ◌∙◌, a
 use Rattle.std.proofs.lemmas.Bool.{lt-ltb}
 use Rattle.flume_grammar.specs.declared.fault.ScriptKind.TheVariants.{NoOutput}
 use Rattle.written_types.specs.Answer.{◌>>=◌, unless}
-use Rattle.script_check.specs.Script.{script_from}
+use Rattle.script_program.specs.Script.{script_from}
 use Rattle.script_check.specs.Rules.{defined}
 use Rattle.script_check.proofs.checks.check.Goals as goal
 

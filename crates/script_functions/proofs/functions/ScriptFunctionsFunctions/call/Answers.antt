@@ -1,6 +1,6 @@
 use Rattle.std.proofs.Common.{◌≡◌, ◌≤◌, ◌∙◌, ℕ, Ok, Some, length, sym, ap, subst}
-use Rattle.script_check.specs.Program.{function_in}
-use Rattle.script_check.specs.Script.{Script}
+use Rattle.script_program.specs.Program.{function_in}
+use Rattle.script_program.specs.Script.{Script}
 use Rattle.script_laws.specs.WellFormed.{function_at}
 use Rattle.script_functions.proofs.Calling.{emits, silent, traps}
 use Rattle.script_functions.proofs.functions.ScriptFunctionsFunctions.call.Goals as goal

@@ -1,0 +1,165 @@
+-- What is in memory, as contracts see it: look-ups, one more, and what stays as types are added.
+use Rattle.std.proofs.Common.{◌≡◌, ℕ, ◌≤◌, false, List, ◌∷◌, [], ◌++◌, length, map, take, get_or}
+use Rattle.std.proofs.Common.{Option, Some, None, is_some, refl, sym, ap, ◌∙◌, subst, arith}
+use Rattle.std.specs.List.{position, position_or_len}
+use Rattle.std.specs.Option.{option_map}
+use Rattle.std.specs.Str.{bytes_eq}
+use Rattle.std.specs.Map.{keys_of}
+use Rattle.std.proofs.lemmas.List.{length_push, take-append-le}
+use Rattle.std.proofs.lemmas.Option.{cond_some}
+use Rattle.flume_types.specs.declared.types.Ty.{Ty}
+use Rattle.type_table.specs.Table.{type_at, Extends}
+use Rattle.written_types.specs.Named.{Named, find}
+use Rattle.written_types.specs.Known.{Known}
+use Rattle.written_types.proofs.NamedLemmas.{mapped, find-mapped, keys-mapped, same-map}
+use Rattle.script_program.specs.declared.made.Function.{Function as HeldFunction}
+use Rattle.script_program.specs.declared.made.Signature.{Signature as HeldSignature}
+use Rattle.script_program.specs.declared.made.Node.{Node as HeldNode}
+use Rattle.script_program.specs.declared.made.Output.{Output}
+use Rattle.script_program.specs.Script.{place}
+use Rattle.script_program.specs.inner.Tables.{function_of, node_of, FunctionIn, NodeIn, AreHeld}
+use Rattle.script_program.specs.inner.Tables.{checking_of}
+use Rattle.script_program.specs.Program.{signature_in, HasTypes, function_in, Does}
+use Rattle.expression_check.proofs.KeptLemmas.{types-kept}
+use Rattle.body_check.proofs.FrameLemmas.{more-types}
+
+-- ---- look-ups
+
+some-mapped : {A B : Type 0} (f : A → B) (o : Option A) → is_some (option_map f o) ≡ is_some o
+some-mapped f None = refl
+some-mapped f (Some x) = refl
+
+pub none-is : {A : Type 0} (o : Option A) → is_some o ≡ false → o ≡ None
+none-is None e = refl
+none-is (Some x) e = cc
+
+-- a name stands for what it stands for in memory
+pub has-mapped : {A B : Type 0} (f : A → B) (name : List ℕ) (names : Named A)
+    → is_some (find name (map (mapped f) names)) ≡ is_some (find name names)
+has-mapped f name names =
+    ap is_some (find-mapped f name names) ∙ some-mapped f (find name names)
+
+module _ {A B C : Type 0} (f : A → B) (g : ℕ → B → C) (name : List ℕ) (names : Named A) where
+  placed-mapped :
+      option_map (g (place name (map (mapped f) names))) (find name (map (mapped f) names))
+      ≡ option_map (λ x. g (place name names) (f x)) (find name names)
+  placed-mapped =
+      ap (option_map (g (place name (map (mapped f) names)))) (find-mapped f name names)
+      ∙ ap
+      (λ keys. option_map (g (position_or_len (bytes_eq name) keys))
+      (option_map f (find name names)))
+      (keys-mapped f names)
+      ∙ twice (find name names)
+    where
+      twice : (o : Option A)
+          → option_map (g (place name names)) (option_map f o)
+          ≡ option_map (λ x. g (place name names) (f x)) o
+      twice None = refl
+      twice (Some x) = refl
+
+  pub placed-found : (number : ℕ) (x : A) → Some number ≡ position (bytes_eq name) (keys_of names)
+      → Some x ≡ find name names
+      → Some (g number (f x))
+      ≡ option_map (g (place name (map (mapped f) names))) (find name (map (mapped f) names))
+  placed-found number x at is =
+      let here : place name names ≡ number = (cond_some _ _ _ (sym at)).1 in
+      sym
+      (placed-mapped
+      ∙ ap (option_map (λ x. g (place name names) (f x))) (sym is)
+      ∙ ap (λ n. Some (g n (f x))) here)
+
+  pub placed-none : None ≡ find name names
+      → None
+      ≡ option_map (g (place name (map (mapped f) names))) (find name (map (mapped f) names))
+  placed-none is =
+      sym (placed-mapped ∙ ap (option_map (λ x. g (place name names) (f x))) (sym is))
+
+-- ---- more types, and more names for types
+
+-- each number keeps its type, and the first names stand for what they stood for
+pub record Grows (old new : Known) : Type 0 where
+  pub types : Extends old.types new.types
+  pub longer : length old.names ≤ length new.names
+  pub names : (n : ℕ) → n ≤ length old.names → take n new.names ≡ take n old.names
+
+pub grows-types : (old new : Known) → Extends old.types new.types → new.names ≡ old.names
+    → Grows old new
+grows-types old new more names = record {
+  types = more;
+  longer = omega (arith, ap length names);
+  names = λ n le. ap (take n) names;
+}
+
+pub grows-name : (old new : Known) (entry : List ℕ × Ty) → new.types ≡ old.types
+    → new.names ≡ old.names ++ entry ∷ [] → Grows old new
+grows-name old new entry types names = record {
+  types = record {
+    longer = omega (arith, ap length types);
+    same = λ id in_. ap (λ types. type_at types id) types;
+  };
+  longer = omega (arith, ap length names, length_push old.names entry);
+  names = λ n le. ap (take n) names ∙ take-append-le n old.names (entry ∷ []) le;
+}
+
+pub signature-kept : (old new : List Ty) → Extends old new → (signature : HeldSignature)
+    → HasTypes old signature → signature_in new signature ≡ signature_in old signature
+signature-kept old new more signature within = λ i. record {
+  takes = more.same signature.takes within.0 i;
+  gives = types-kept old new more signature.gives within.1 i;
+  scale = signature.scale;
+}
+
+signature-more : (old new : List Ty) → Extends old new → (signature : HeldSignature)
+    → HasTypes old signature → HasTypes new signature
+signature-more old new more signature within = (
+  omega (arith, within.0, more.longer),
+  more-types old new more signature.gives within.1,
+)
+
+module _ (old new : Known) (more : Grows old new) (functions : Named HeldFunction)
+    (nodes : Named HeldNode) (held : AreHeld old functions nodes) where
+  function-kept : (function : HeldFunction) → FunctionIn old function
+      → function_in new function ≡ function_in old function
+  function-kept function in_ = λ i. record {
+    types = more.names function.type_names in_.named i;
+    argument = function.argument;
+    signature = signature-kept old.types new.types more.types function.signature in_.within i;
+    body = function.body;
+  }
+
+  pub functions-kept : map (function_of new) functions ≡ map (function_of old) functions
+  functions-kept =
+      same-map (function_of new) (function_of old)
+      (λ (entry : List ℕ × HeldFunction). FunctionIn old entry.1)
+      (λ entry in_ i. (entry.0, function-kept entry.1 in_ i)) functions held.0
+
+  pub nodes-kept : map (node_of new.types) nodes ≡ map (node_of old.types) nodes
+  nodes-kept =
+      same-map (node_of new.types) (node_of old.types)
+      (λ (entry : List ℕ × HeldNode). NodeIn old entry.1)
+      (λ e in_ i. (e.0, record { made = e.1.made; type = more.types.same e.1.ty in_ i })) nodes
+      held.1
+
+  function-more : (function : HeldFunction) → FunctionIn old function → FunctionIn new function
+  function-more function in_ = record {
+    within = signature-more old.types new.types more.types function.signature in_.within;
+    named = omega (arith, in_.named, more.longer);
+    does = subst (Does function.fun) (sym (function-kept function in_)) in_.does;
+  }
+
+  pub held-more : AreHeld new functions nodes
+  held-more = (
+    λ k entry in_. function-more (get_or functions k entry).1 (held.0 k entry in_),
+    λ k entry in_. omega (arith, held.1 k entry in_, more.types.longer),
+  )
+
+pub state-kept : (old new : Known) → Extends old.types new.types → new.names ≡ old.names
+    → (functions : Named HeldFunction) (nodes : Named HeldNode) (outputs : Named Output)
+    → AreHeld old functions nodes
+    → (checking_of new functions nodes outputs).state
+    ≡ (checking_of old functions nodes outputs).state
+state-kept old new more names functions nodes outputs held =
+    let grows = grows-types old new more names in
+    let a = functions-kept old new grows functions nodes held in
+    let b = nodes-kept old new grows functions nodes held in
+    λ i. record { types = names i; functions = a i; nodes = b i; outputs = outputs }

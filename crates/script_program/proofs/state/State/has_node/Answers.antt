@@ -1,0 +1,15 @@
+use Rattle.std.proofs.Common.{◌≡◌, is_some, sym, ◌∙◌, subst}
+use Rattle.written_types.specs.Named.{find}
+use Rattle.script_program.specs.Program.{node_in}
+use Rattle.script_program.proofs.StateLemmas.{has-mapped}
+use Rattle.script_program.proofs.state.State.has_node.Goals as goal
+
+pub returns : goal.returns
+returns c =
+    let own = c.self.inside in
+    subst
+    (λ checking. c.contains_key.result
+    ≡ is_some (find c.args.name.now checking.state.nodes))
+    c.self.view_is
+    (c.contains_key.ensures
+    ∙ sym (has-mapped (node_in own.known.types) c.args.name.now own.nodes.entries))

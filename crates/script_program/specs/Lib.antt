@@ -1,0 +1,5 @@
+pub mod Script
+pub mod Program
+pub mod Needed
+pub mod Held
+pub mod inner

@@ -1,0 +1,22 @@
+//! What a script defines: functions, collections and outputs under their names.
+//!
+//! `State` holds what the statements so far define, and takes one more definition at a time, under
+//! a name that is free. `Program` is the whole, behind the last statement: it also keeps which
+//! collections are needed, as `specs/Needed.antt` defines. Which definitions a script may make is
+//! for script_check.
+//!
+//! Both hold types under numbers. Contracts see them over types as trees, in the order of the
+//! definitions, as `specs/Script.antt` defines; `specs/Program.antt` and `specs/Held.antt` say
+//! what a function, a collection or an operand in memory is of these.
+#![tactic(auto)]
+
+mod made;
+mod needed;
+mod operand;
+mod program;
+mod state;
+
+pub use made::{Function, Made, Node, Output, Signature};
+pub use operand::{Callee, Operand};
+pub use program::Program;
+pub use state::State;

@@ -1,0 +1,93 @@
+use combine_table::Comb;
+use dofn_eval::Fun;
+use flume_grammar::Body;
+use flume_types::Columns;
+use flume_value::{Pile, Str};
+use type_table::TypeId;
+
+/// How a collection is made. Collections and functions are numbered from 0, each in order of their
+/// definitions.
+#[derive(Drop)]
+pub enum Made {
+    /// From the rows of a file, which have these columns.
+    Input {
+        file: Str,
+        columns: Columns,
+    },
+    /// By a function from each member of a collection, as what it emits to the output of this
+    /// number, from 0.
+    Do {
+        source: usize,
+        function: usize,
+        output: usize,
+    },
+    /// As the groups of a table, by key.
+    Group {
+        source: usize,
+    },
+    /// By combining the list of each group.
+    Combine {
+        source: usize,
+        by: Comb,
+    },
+    /// From the members of all of these collections.
+    Flatten {
+        sources: Pile<usize>,
+    },
+    /// As the distinct members with how often each occurs.
+    Count {
+        source: usize,
+    },
+    /// From two tables, by key.
+    Join {
+        left: usize,
+        right: usize,
+    },
+    /// From so many of the greatest members.
+    Top {
+        number: u32,
+        source: usize,
+    },
+}
+
+/// A collection: how it is made, and the type of its members.
+#[derive(Drop)]
+pub struct Node {
+    pub made: Made,
+    pub ty: TypeId,
+}
+
+/// What a function takes and gives.
+#[derive(Drop)]
+pub struct Signature {
+    /// The type of its argument.
+    pub takes: TypeId,
+    /// The types of what it emits, one for each output.
+    pub gives: Pile<TypeId>,
+    /// How many emissions are expected of a hundred calls.
+    pub scale: u32,
+}
+
+/// A function: as it is written, with its types, and with slots in place of the names of its body.
+#[derive(Drop)]
+pub struct Function {
+    /// How many names stand for types in its body: the first so many of the script.
+    pub type_names: usize,
+    /// The name of its argument.
+    pub argument: Str,
+    /// What it takes and gives.
+    pub signature: Signature,
+    /// The statements of its body.
+    pub body: Pile<Body>,
+    /// The same with slots in place of names, as a call runs it.
+    pub fun: Fun,
+}
+
+/// An output.
+#[derive(Drop)]
+pub struct Output {
+    /// The number of the collection that is written.
+    pub reads: usize,
+    /// The columns in which its members are written.
+    pub columns: Columns,
+}
