@@ -5,7 +5,8 @@ ghost use Rattle.flume_grammar.specs.Limits.{the_limits};
 ghost use Rattle.flume_grammar.specs.inner.Reads.{ReadsSuch, FitsSoFar};
 ghost use Rattle.flume_grammar.specs.inner.Expressions as spec;
 
-use crate::expression::{expression, whole};
+use crate::ends::ended;
+use crate::expression::{part, whole};
 use crate::operator::ANY;
 use flume_grammar::parts::SoFar;
 use flume_grammar::{Expr, Side, Stop, Unary};
@@ -21,13 +22,13 @@ pub fn empty(alloc: Global, tokens: &mut Cursor) -> Result<SoFar, Stop>
 {
     sign(tokens, Sign::Less)?;
     let member = whole_type(alloc, tokens)?;
-    sign(tokens, Sign::Greater)?;
+    let member = ended(tokens, Sign::Greater, member)?;
     Ok(whole(Expr::Empty(member), 1))
 }
 
 /// An argument, and what ends it.
 #[cycle(expressions)]
-fn argument(
+pub fn argument(
     alloc: Global,
     tokens: &mut Cursor,
     limit: u32,
@@ -38,9 +39,8 @@ fn argument(
         (spec.argument (spec.expression_below limit) end)
         tokens.old tokens.new result }
 {
-    let (expr, depth) = expression(alloc, tokens, limit - 1, ANY)?;
-    sign(tokens, end)?;
-    Ok((Held::new(alloc, expr)?, depth))
+    let (expr, depth) = part(alloc, tokens, limit, ANY)?;
+    Ok((ended(tokens, end, expr)?, depth))
 }
 
 #[cycle(expressions)]
@@ -62,8 +62,8 @@ pub fn sided(alloc: Global, tokens: &mut Cursor, limit: u32, side: Side) -> Resu
 {
     sign(tokens, Sign::Less)?;
     let other = whole_type(alloc, tokens)?;
-    sign(tokens, Sign::Greater)?;
-    sign(tokens, Sign::Open)?;
+    let other = ended(tokens, Sign::Greater, other)?;
+    let other = ended(tokens, Sign::Open, other)?;
     let (expr, depth) = argument(alloc, tokens, limit, Sign::Close)?;
     Ok(whole(Expr::Side(side, other, expr), depth + 1))
 }

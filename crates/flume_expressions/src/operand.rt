@@ -6,7 +6,8 @@ ghost use Rattle.flume_grammar.specs.inner.Types.{at_comma};
 ghost use Rattle.flume_grammar.specs.inner.Expressions as spec;
 
 use crate::calls::{call, concat, empty, pick, sided};
-use crate::expression::{continued, expression, whole};
+use crate::ends::{ended, field_name};
+use crate::expression::{continued, expression, part, whole};
 use crate::operator::{ANY, NEGATION, NOT};
 use crate::start::operand_start;
 use flume_grammar::limits::{MAX_FIELDS, MAX_MEMBERS};
@@ -14,9 +15,9 @@ use flume_grammar::parts::{Parts, SoFar};
 use flume_grammar::start::Start;
 use flume_grammar::{Expr, Stop, Unary};
 use flume_reading::Cursor;
-use flume_reading::reading::{comma, sign, word};
+use flume_reading::reading::{comma, sign};
 use flume_tokens::Sign;
-use flume_value::{Held, Pile};
+use flume_value::Pile;
 use std::alloc::{AllocError, Global};
 
 /// The parentheses that open here are passed, and counted.
@@ -41,7 +42,7 @@ fn enclosed(alloc: Global, tokens: &mut Cursor, limit: u32, first: SoFar) -> Res
         tokens.old tokens.new result }
 {
     let (expr, depth) = continued(alloc, tokens, limit, ANY, first)?;
-    sign(tokens, Sign::Close)?;
+    let expr = ended(tokens, Sign::Close, expr)?;
     Ok(whole(expr, depth))
 }
 
@@ -118,8 +119,7 @@ fn field(
     ensures { ReadsSuch (Below limit) (spec.field (spec.expression_below limit) fields)
         tokens.old tokens.new result }
 {
-    let name = word(alloc, tokens)?;
-    sign(tokens, Sign::Colon)?;
+    let name = field_name(alloc, tokens)?;
     let (value, depth) = expression(alloc, tokens, limit - 1, ANY)?;
     let mut fields = fields;
     fields.put(name, value, depth)?;
@@ -173,7 +173,7 @@ fn record(alloc: Global, tokens: &mut Cursor, limit: u32) -> Result<SoFar, Stop>
 {
     let first = field(alloc, tokens, limit, Parts::new(alloc))?;
     let fields = more_fields(alloc, tokens, limit, first)?;
-    sign(tokens, Sign::CloseBrace)?;
+    let fields = ended(tokens, Sign::CloseBrace, fields)?;
     let (names, values, depth) = fields.into_parts();
     Ok(whole(Expr::Record(names, values), depth + 1))
 }
@@ -238,7 +238,7 @@ fn list(alloc: Global, tokens: &mut Cursor, limit: u32) -> Result<SoFar, Stop>
     let (first, depth) = expression(alloc, tokens, limit - 1, ANY)?;
     let first = alone(alloc, first)?;
     let (members, depth) = more_members(alloc, tokens, limit, (first, depth))?;
-    sign(tokens, Sign::CloseBracket)?;
+    let members = ended(tokens, Sign::CloseBracket, members)?;
     Ok(whole(Expr::List(members), depth + 1))
 }
 
@@ -259,10 +259,10 @@ fn prefix(alloc: Global, tokens: &mut Cursor, limit: u32, unary: Unary) -> Resul
         tokens.old tokens.new result }
 {
     let rank = prefix_rank(unary);
-    let (expr, depth) = expression(alloc, tokens, limit - 1, rank)?;
+    let (expr, depth) = part(alloc, tokens, limit, rank)?;
     Ok(SoFar {
         rank,
-        expr: Expr::Unary(unary, Held::new(alloc, expr)?),
+        expr: Expr::Unary(unary, expr),
         depth: depth + 1,
     })
 }
