@@ -6,6 +6,8 @@ use Rattle.flume_grammar.specs.inner.Types.{at_comma}
 use Rattle.flume_grammar.specs.inner.Expressions.{suffix_of, goes_on, next_suffix, next_field, next_member, with_suffix, expression_below}
 use Rattle.flume_grammar.proofs.Loops.{lost, reaches_start, reaches_fault}
 use Rattle.flume_grammar.proofs.Operands.{opens_fault, close_next, close_fault}
+use Rattle.flume_grammar.specs.inner.Reads.{FitsSoFar}
+use Rattle.flume_expressions.proofs.Sides.{after_side}
 use Rattle.flume_expressions.proofs.+expressions.Goals as goal
 
 pub expression::continued-more-init : goal.expression::continued-more-init
@@ -97,3 +99,8 @@ operand::operand-close-preserved t c = record {
   depth = c.in_ok-inner-2.ensures.fits;
   shorter = omega (arith, c.close.invariant.shorter, c.in_ok-inner-2.ensures.shorter);
 }
+
+pub operand::after_start-returns-in-Side : goal.operand::after_start-returns-in-Side
+operand::after_start-returns-in-Side t c =
+    after_side (FitsSoFar c.args.limit) (expression_below c.args.limit) c.args.start c.in-Side.side
+    _ _ _ c.in-Side.is c.sided.ensures
