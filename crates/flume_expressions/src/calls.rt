@@ -2,13 +2,15 @@
 
 ghost use Rattle.std.specs.Prelude.{◌≡◌, ◌<◌, ◌≤◌};
 ghost use Rattle.flume_grammar.specs.Limits.{the_limits};
-ghost use Rattle.flume_grammar.specs.inner.Reads.{ReadsSuch, FitsSoFar};
+ghost use Rattle.flume_grammar.specs.inner.Reads.{Reads, ReadsSuch, FitsSoFar};
 ghost use Rattle.flume_grammar.specs.inner.Expressions as spec;
+ghost use Rattle.flume_expressions.specs.Pieces as pieces;
 
-use crate::expression::{expression, whole};
+use crate::ends::ended;
+use crate::expression::{part, whole};
 use crate::operator::ANY;
 use flume_grammar::parts::SoFar;
-use flume_grammar::{Expr, Side, Stop, Unary};
+use flume_grammar::{Expr, Side, Stop, Type, Unary};
 use flume_reading::reading::sign;
 use flume_reading::{Cursor, whole_type};
 use flume_tokens::Sign;
@@ -21,13 +23,23 @@ pub fn empty(alloc: Global, tokens: &mut Cursor) -> Result<SoFar, Stop>
 {
     sign(tokens, Sign::Less)?;
     let member = whole_type(alloc, tokens)?;
-    sign(tokens, Sign::Greater)?;
+    let member = ended(tokens, Sign::Greater, member)?;
     Ok(whole(Expr::Empty(member), 1))
+}
+
+/// The type of the other side, and what opens the parentheses after it.
+fn other_side(alloc: Global, tokens: &mut Cursor) -> Result<Type, Stop>
+    ensures { Reads pieces.other_side tokens.old tokens.new result }
+{
+    sign(tokens, Sign::Less)?;
+    let other = whole_type(alloc, tokens)?;
+    let other = ended(tokens, Sign::Greater, other)?;
+    ended(tokens, Sign::Open, other)
 }
 
 /// An argument, and what ends it.
 #[cycle(expressions)]
-fn argument(
+pub fn argument(
     alloc: Global,
     tokens: &mut Cursor,
     limit: u32,
@@ -38,9 +50,8 @@ fn argument(
         (spec.argument (spec.expression_below limit) end)
         tokens.old tokens.new result }
 {
-    let (expr, depth) = expression(alloc, tokens, limit - 1, ANY)?;
-    sign(tokens, end)?;
-    Ok((Held::new(alloc, expr)?, depth))
+    let (expr, depth) = part(alloc, tokens, limit, ANY)?;
+    Ok((ended(tokens, end, expr)?, depth))
 }
 
 #[cycle(expressions)]
@@ -57,13 +68,10 @@ pub fn call(alloc: Global, tokens: &mut Cursor, limit: u32, unary: Unary) -> Res
 #[cycle(expressions)]
 pub fn sided(alloc: Global, tokens: &mut Cursor, limit: u32, side: Side) -> Result<SoFar, Stop>
     requires { 2 ≤ limit }
-    ensures { ReadsSuch (FitsSoFar limit) (spec.sided the_limits (spec.expression_below limit) side)
+    ensures { ReadsSuch (FitsSoFar limit) (pieces.sided (spec.expression_below limit) side)
         tokens.old tokens.new result }
 {
-    sign(tokens, Sign::Less)?;
-    let other = whole_type(alloc, tokens)?;
-    sign(tokens, Sign::Greater)?;
-    sign(tokens, Sign::Open)?;
+    let other = other_side(alloc, tokens)?;
     let (expr, depth) = argument(alloc, tokens, limit, Sign::Close)?;
     Ok(whole(Expr::Side(side, other, expr), depth + 1))
 }

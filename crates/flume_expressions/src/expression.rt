@@ -1,19 +1,20 @@
-ghost use Rattle.std.specs.Prelude.{◌≡◌, ◌<◌, ◌≤◌, ◌+◌, ◌^◌, max, option_copied, IfOk};
+ghost use Rattle.std.specs.Prelude.{◌≡◌, ◌<◌, ◌≤◌, ◌+◌, ◌^◌, option_copied};
 ghost use Rattle.flume_grammar.specs.Limits.{the_limits};
 ghost use Rattle.flume_grammar.specs.inner.Out.{one};
 ghost use Rattle.flume_grammar.specs.inner.Reads.{Reads, ReadsSuch, PassesSuch, Fits, Grows};
-ghost use Rattle.flume_grammar.specs.Operators as operators;
 ghost use Rattle.flume_grammar.specs.inner.Expressions as spec;
+ghost use Rattle.flume_expressions.specs.Pieces as pieces;
 
+use crate::calls::argument;
 use crate::operand::operand;
 use crate::operator::{ANY, OPERAND, left_rank, operator_of, rank};
 use flume_grammar::parts::{SoFar, Suffix};
 use flume_grammar::{Binary, Expr, ScriptKind, Stop};
 use flume_reading::Cursor;
-use flume_reading::reading::{at, sign, word};
+use flume_reading::reading::{at, word};
 use flume_tokens::{Sign, TokenKind};
 use flume_value::Held;
-use std::alloc::{AllocError, Global};
+use std::alloc::Global;
 
 /// An operand, of the greatest rank.
 pub fn whole(expr: Expr, depth: u32) -> SoFar
@@ -58,7 +59,7 @@ fn pass(tokens: &mut Cursor) -> Result<(), Stop>
     Ok(())
 }
 
-/// The expression with a field, an index or an operator after it, whose first token is passed.
+/// The expression with what goes on with it: a field, an index, or an operator and its operand.
 #[cycle(expressions)]
 fn extended(
     alloc: Global,
@@ -67,54 +68,57 @@ fn extended(
     left: SoFar,
     suffix: Suffix,
 ) -> Result<SoFar, Stop>
-    requires limit { 2 ≤ limit }
-    requires room { left.depth < limit }
-    ensures { ReadsSuch (Grows left limit) (spec.extended (spec.expression_below limit) left suffix)
+    requires limit { 1 ≤ limit }
+    requires room { (1 ≤ left.depth) × (left.depth ≤ limit) }
+    ensures { ReadsSuch (Grows left limit)
+        (spec.with_suffix limit (spec.expression_below limit) left (Some suffix))
         tokens.old tokens.new result }
 {
+    let SoFar { expr, depth, .. } = left;
+    let left = Held::new(alloc, expr)?;
+    if depth >= limit {
+        return Err(too_deep(tokens));
+    }
     pass(tokens)?;
     match suffix {
-        Suffix::Field => with_field(alloc, tokens, limit, left),
-        Suffix::Index => with_index(alloc, tokens, limit, left),
-        Suffix::Operator(o) => with_operator(alloc, tokens, limit, left, o),
+        Suffix::Field => with_field(alloc, tokens, left, depth),
+        Suffix::Index => with_index(alloc, tokens, limit, left, depth),
+        Suffix::Operator(o) => with_operator(alloc, tokens, limit, left, depth, o),
     }
 }
 
 /// A field of the expression.
-fn with_field(alloc: Global, tokens: &mut Cursor, limit: u32, left: SoFar) -> Result<SoFar, Stop>
-    requires limit { 2 ≤ limit }
-    requires room { left.depth < limit }
-    ensures { ReadsSuch (Grows left limit)
-        (spec.extend (spec.expression_below limit) left Suffix.Field)
+fn with_field(
+    alloc: Global,
+    tokens: &mut Cursor,
+    left: Held<Expr>,
+    depth: u32,
+) -> Result<SoFar, Stop>
+    requires { depth + 1 < 2 ^ 32 }
+    ensures { ReadsSuch (λ x. x.depth ≡ depth + 1) (pieces.with_field left depth)
         tokens.old tokens.new result }
 {
     let name = word(alloc, tokens)?;
-    let SoFar { expr, depth, .. } = left;
-    Ok(whole(Expr::Field(Held::new(alloc, expr)?, name), depth + 1))
+    Ok(whole(Expr::Field(left, name), depth + 1))
 }
 
 /// A member of the expression.
 #[cycle(expressions)]
-fn with_index(alloc: Global, tokens: &mut Cursor, limit: u32, left: SoFar) -> Result<SoFar, Stop>
+fn with_index(
+    alloc: Global,
+    tokens: &mut Cursor,
+    limit: u32,
+    left: Held<Expr>,
+    depth: u32,
+) -> Result<SoFar, Stop>
     requires limit { 2 ≤ limit }
-    requires room { left.depth < limit }
-    ensures { ReadsSuch (Grows left limit)
-        (spec.extend (spec.expression_below limit) left Suffix.Index)
+    requires room { depth < limit }
+    ensures { ReadsSuch (λ x. (depth < x.depth) × (x.depth ≤ limit))
+        (spec.extend (spec.expression_below limit) (spec.so_far 8 left depth) Suffix.Index)
         tokens.old tokens.new result }
 {
-    let (at, a) = expression(alloc, tokens, limit - 1, ANY)?;
-    sign(tokens, Sign::CloseBracket)?;
-    Ok(indexed(alloc, left, at, a)?)
-}
-
-fn indexed(alloc: Global, left: SoFar, at: Expr, a: u32) -> Result<SoFar, AllocError>
-    requires { (left.depth + 1 < 2 ^ 32) × (a + 1 < 2 ^ 32) }
-    ensures { IfOk result (λ x. x
-        ≡ spec.so_far 8 (Expr.Index left.expr at) (max left.depth a + 1)) }
-{
-    let SoFar { expr, depth, .. } = left;
-    let inner = Held::new(alloc, expr)?;
-    Ok(whole(Expr::Index(inner, Held::new(alloc, at)?), depth.max(a) + 1))
+    let (at, a) = argument(alloc, tokens, limit, Sign::CloseBracket)?;
+    Ok(whole(Expr::Index(left, at), depth.max(a) + 1))
 }
 
 /// The expression, the operator and its right operand.
@@ -123,29 +127,21 @@ fn with_operator(
     alloc: Global,
     tokens: &mut Cursor,
     limit: u32,
-    left: SoFar,
+    left: Held<Expr>,
+    depth: u32,
     o: Binary,
 ) -> Result<SoFar, Stop>
     requires limit { 2 ≤ limit }
-    requires room { left.depth < limit }
-    ensures { ReadsSuch (Grows left limit)
-        (spec.extend (spec.expression_below limit) left (Suffix.Operator o))
+    requires room { depth < limit }
+    ensures { ReadsSuch (λ x. (depth < x.depth) × (x.depth ≤ limit))
+        (spec.extend (spec.expression_below limit) (spec.so_far 8 left depth) (Suffix.Operator o))
         tokens.old tokens.new result }
 {
-    let (right, a) = expression(alloc, tokens, limit - 1, rank(o) + 1)?;
-    Ok(joined(alloc, left, o, right, a)?)
-}
-
-fn joined(alloc: Global, left: SoFar, o: Binary, right: Expr, a: u32) -> Result<SoFar, AllocError>
-    requires { (left.depth + 1 < 2 ^ 32) × (a + 1 < 2 ^ 32) }
-    ensures { IfOk result (λ x. x ≡ spec.so_far (operators.rank o) (Expr.Binary o left.expr right)
-        (max left.depth a + 1)) }
-{
-    let SoFar { expr, depth, .. } = left;
-    let inner = Held::new(alloc, expr)?;
+    let rank = rank(o);
+    let (right, a) = part(alloc, tokens, limit, rank + 1)?;
     Ok(SoFar {
-        rank: rank(o),
-        expr: Expr::Binary(o, inner, Held::new(alloc, right)?),
+        rank,
+        expr: Expr::Binary(o, left, right),
         depth: depth.max(a) + 1,
     })
 }
@@ -167,9 +163,6 @@ pub fn continued(
 {
     let mut left = first;
     'more: while let Some(suffix) = suffix_of(tokens.peek(), left.rank, least) {
-        if left.depth >= limit {
-            return Err(too_deep(tokens));
-        }
         left = extended(alloc, tokens, limit, left, suffix)?;
     }
     let SoFar { expr, depth, .. } = left;
@@ -191,4 +184,20 @@ pub fn expression(
 {
     let first = operand(alloc, tokens, limit, least)?;
     continued(alloc, tokens, limit, least, first)
+}
+
+/// An expression of at least that rank and of less depth, held.
+#[cycle(expressions)]
+pub fn part(
+    alloc: Global,
+    tokens: &mut Cursor,
+    limit: u32,
+    least: u32,
+) -> Result<(Held<Expr>, u32), Stop>
+    requires { 2 ≤ limit }
+    ensures { ReadsSuch (λ x. (1 ≤ x.1) × (x.1 < limit)) (spec.expression_below limit least)
+        tokens.old tokens.new result }
+{
+    let (expr, depth) = expression(alloc, tokens, limit - 1, least)?;
+    Ok((Held::new(alloc, expr)?, depth))
 }

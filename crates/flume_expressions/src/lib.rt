@@ -9,6 +9,7 @@
 #![tactic(auto)]
 
 mod calls;
+mod ends;
 pub mod expression;
 mod operand;
 mod operator;

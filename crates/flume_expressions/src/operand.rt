@@ -1,12 +1,14 @@
-ghost use Rattle.std.specs.Prelude.{◌≡◌, ◌<◌, ◌≤◌, length, [], ◌∷◌, IfOk, IfErr, OnOk};
+ghost use Rattle.std.specs.Prelude.{◌≡◌, ◌<◌, ◌≤◌, ◌++◌, length, max, [], ◌∷◌, IfOk, IfErr, OnOk};
 ghost use Rattle.flume_grammar.specs.Limits.{the_limits};
+ghost use Rattle.flume_grammar.specs.Parts.{with_part};
 ghost use Rattle.flume_grammar.specs.inner.Out.{one, all_of};
 ghost use Rattle.flume_grammar.specs.inner.Reads.{ReadsSuch, PassesSuch, Below, FitsSoFar};
 ghost use Rattle.flume_grammar.specs.inner.Types.{at_comma};
 ghost use Rattle.flume_grammar.specs.inner.Expressions as spec;
 
 use crate::calls::{call, concat, empty, pick, sided};
-use crate::expression::{continued, expression, whole};
+use crate::ends::{after_comma, closed, field_name, listed, recorded};
+use crate::expression::{continued, expression, part, whole};
 use crate::operator::{ANY, NEGATION, NOT};
 use crate::start::operand_start;
 use flume_grammar::limits::{MAX_FIELDS, MAX_MEMBERS};
@@ -14,9 +16,9 @@ use flume_grammar::parts::{Parts, SoFar};
 use flume_grammar::start::Start;
 use flume_grammar::{Expr, Stop, Unary};
 use flume_reading::Cursor;
-use flume_reading::reading::{comma, sign, word};
+use flume_reading::reading::sign;
 use flume_tokens::Sign;
-use flume_value::{Held, Pile};
+use flume_value::{Pile, Str};
 use std::alloc::{AllocError, Global};
 
 /// The parentheses that open here are passed, and counted.
@@ -40,9 +42,8 @@ fn enclosed(alloc: Global, tokens: &mut Cursor, limit: u32, first: SoFar) -> Res
     ensures { ReadsSuch (FitsSoFar limit) (spec.enclosed limit (spec.expression_below limit) first)
         tokens.old tokens.new result }
 {
-    let (expr, depth) = continued(alloc, tokens, limit, ANY, first)?;
-    sign(tokens, Sign::Close)?;
-    Ok(whole(expr, depth))
+    let read = continued(alloc, tokens, limit, ANY, first)?;
+    closed(tokens, read)
 }
 
 /// An operand of an operator that asks for at least that rank.
@@ -118,9 +119,20 @@ fn field(
     ensures { ReadsSuch (Below limit) (spec.field (spec.expression_below limit) fields)
         tokens.old tokens.new result }
 {
-    let name = word(alloc, tokens)?;
-    sign(tokens, Sign::Colon)?;
+    let name = field_name(alloc, tokens)?;
     let (value, depth) = expression(alloc, tokens, limit - 1, ANY)?;
+    Ok(with_value(fields, name, value, depth)?)
+}
+
+/// The fields with one more.
+fn with_value(
+    fields: Parts<Expr>,
+    name: Str,
+    value: Expr,
+    depth: u32,
+) -> Result<Parts<Expr>, AllocError>
+    ensures { IfOk result (λ p. p ≡ with_part fields name value depth) }
+{
     let mut fields = fields;
     fields.put(name, value, depth)?;
     Ok(fields)
@@ -140,7 +152,8 @@ fn next_field(
         (spec.next_field the_limits (spec.expression_below limit) fields)
         tokens.old tokens.new result }
 {
-    comma(tokens, fields.len(), MAX_FIELDS)?;
+    let count = fields.len();
+    let fields = after_comma(tokens, count, MAX_FIELDS, fields)?;
     field(alloc, tokens, limit, fields)
 }
 
@@ -173,9 +186,7 @@ fn record(alloc: Global, tokens: &mut Cursor, limit: u32) -> Result<SoFar, Stop>
 {
     let first = field(alloc, tokens, limit, Parts::new(alloc))?;
     let fields = more_fields(alloc, tokens, limit, first)?;
-    sign(tokens, Sign::CloseBrace)?;
-    let (names, values, depth) = fields.into_parts();
-    Ok(whole(Expr::Record(names, values), depth + 1))
+    recorded(tokens, fields)
 }
 
 /// A comma and one more member.
@@ -192,11 +203,23 @@ fn next_member(
         (spec.next_member the_limits (spec.expression_below limit) members)
         tokens.old tokens.new result }
 {
-    let (mut exprs, depth) = members;
-    comma(tokens, exprs.len(), MAX_MEMBERS)?;
-    let (member, d) = expression(alloc, tokens, limit - 1, ANY)?;
+    let count = members.0.len();
+    let members = after_comma(tokens, count, MAX_MEMBERS, members)?;
+    let (member, depth) = expression(alloc, tokens, limit - 1, ANY)?;
+    Ok(with_member(members, member, depth)?)
+}
+
+/// The members with one more, and the depth of the deepest.
+fn with_member(
+    members: (Pile<Expr>, u32),
+    member: Expr,
+    depth: u32,
+) -> Result<(Pile<Expr>, u32), AllocError>
+    ensures { IfOk result (λ m. (m.0 ≡ members.0 ++ member ∷ []) × (m.1 ≡ max members.1 depth)) }
+{
+    let (mut exprs, deepest) = members;
     exprs.push(member)?;
-    Ok((exprs, depth.max(d)))
+    Ok((exprs, deepest.max(depth)))
 }
 
 /// The members after the first, and the depth of the deepest.
@@ -237,9 +260,8 @@ fn list(alloc: Global, tokens: &mut Cursor, limit: u32) -> Result<SoFar, Stop>
 {
     let (first, depth) = expression(alloc, tokens, limit - 1, ANY)?;
     let first = alone(alloc, first)?;
-    let (members, depth) = more_members(alloc, tokens, limit, (first, depth))?;
-    sign(tokens, Sign::CloseBracket)?;
-    Ok(whole(Expr::List(members), depth + 1))
+    let members = more_members(alloc, tokens, limit, (first, depth))?;
+    listed(tokens, members)
 }
 
 /// The rank of an operator before its operand, and of the operand.
@@ -259,10 +281,10 @@ fn prefix(alloc: Global, tokens: &mut Cursor, limit: u32, unary: Unary) -> Resul
         tokens.old tokens.new result }
 {
     let rank = prefix_rank(unary);
-    let (expr, depth) = expression(alloc, tokens, limit - 1, rank)?;
+    let (expr, depth) = part(alloc, tokens, limit, rank)?;
     Ok(SoFar {
         rank,
-        expr: Expr::Unary(unary, Held::new(alloc, expr)?),
+        expr: Expr::Unary(unary, expr),
         depth: depth + 1,
     })
 }

@@ -89,10 +89,12 @@ fn started(start: Start, line: u32, limit: u32, least: u32) -> Result<Start, Sto
     ensures deep { IfOk result (λ s. spec.HasRoom s limit) }
 {
     if !fits(&start, least) {
+        drop(start);
         Err(at(line, ScriptKind::Syntax))
     } else if limit > 1 || is_leaf(&start) {
         Ok(start)
     } else {
+        drop(start);
         Err(at(line, ScriptKind::TooDeep))
     }
 }

@@ -3,9 +3,11 @@ use Rattle.std.proofs.lemmas.Result.{err_from_is_err_and}
 use Rattle.flume_grammar.specs.Limits.{the_limits}
 use Rattle.flume_grammar.specs.inner.Out.{all_of}
 use Rattle.flume_grammar.specs.inner.Types.{at_comma}
-use Rattle.flume_grammar.specs.inner.Expressions.{suffix_of, goes_on, next_suffix, next_field, next_member, expression_below}
+use Rattle.flume_grammar.specs.inner.Expressions.{suffix_of, goes_on, next_suffix, next_field, next_member, with_suffix, expression_below}
 use Rattle.flume_grammar.proofs.Loops.{lost, reaches_start, reaches_fault}
-use Rattle.flume_grammar.proofs.Operands.{suffix_fault, opens_fault, close_next, close_fault}
+use Rattle.flume_grammar.proofs.Operands.{opens_fault, close_next, close_fault}
+use Rattle.flume_grammar.specs.inner.Reads.{FitsSoFar}
+use Rattle.flume_expressions.proofs.Sides.{after_side}
 use Rattle.flume_expressions.proofs.+expressions.Goals as goal
 
 pub expression::continued-more-init : goal.expression::continued-more-init
@@ -50,8 +52,8 @@ expression::continued-returns-in_err-left t c =
     lost (all_of (goes_on c.args.least) part c.args.first c.args.tokens.now) _ _
     (reaches_fault (goes_on c.args.least) part _ c.more.left c.more.tokens _ refl
     c.more.invariant.reaches (ap is_some s)
-    (suffix_fault c.args.limit inner c.args.least c.more.left c.more.tokens c.in-Some.suffix _ s
-    c.if-left-limit.false (c.in_err-left.ensures other))))
+    (ap (λ o. with_suffix c.args.limit inner c.more.left o c.more.tokens) s
+    ∙ c.in_err-left.ensures other)))
 
 pub operand::more_fields-returns-in_err-fields : goal.operand::more_fields-returns-in_err-fields
 operand::more_fields-returns-in_err-fields t c =
@@ -97,3 +99,8 @@ operand::operand-close-preserved t c = record {
   depth = c.in_ok-inner-2.ensures.fits;
   shorter = omega (arith, c.close.invariant.shorter, c.in_ok-inner-2.ensures.shorter);
 }
+
+pub operand::after_start-returns-in-Side : goal.operand::after_start-returns-in-Side
+operand::after_start-returns-in-Side t c =
+    after_side (FitsSoFar c.args.limit) (expression_below c.args.limit) c.args.start c.in-Side.side
+    _ _ _ c.in-Side.is c.sided.ensures

@@ -8,28 +8,31 @@ use Rattle.flume_grammar.proofs.Loops.{Reaches}
 use Rattle.flume_expressions.proofs.+expressions.Given as goal
 
 abbrev pub decreases-expression::extended : goal.decreases-expression::extended
-decreases-expression::extended l = 10 * l.limit + 1
+decreases-expression::extended l = 10 * l.limit + 3
 
 abbrev pub decreases-expression::with_index : goal.decreases-expression::with_index
-decreases-expression::with_index l = 10 * l.limit + 0
+decreases-expression::with_index l = 10 * l.limit + 2
 
 abbrev pub decreases-expression::with_operator : goal.decreases-expression::with_operator
-decreases-expression::with_operator l = 10 * l.limit + 0
+decreases-expression::with_operator l = 10 * l.limit + 1
 
 abbrev pub decreases-expression::continued : goal.decreases-expression::continued
-decreases-expression::continued l = 10 * l.limit + 2
+decreases-expression::continued l = 10 * l.limit + 4
 
 abbrev pub decreases-expression::expression : goal.decreases-expression::expression
 decreases-expression::expression l = 10 * l.limit + 9
 
+abbrev pub decreases-expression::part : goal.decreases-expression::part
+decreases-expression::part l = 10 * l.limit + 0
+
 abbrev pub decreases-calls::argument : goal.decreases-calls::argument
-decreases-calls::argument l = 10 * l.limit + 0
+decreases-calls::argument l = 10 * l.limit + 1
 
 abbrev pub decreases-operand::field : goal.decreases-operand::field
 decreases-operand::field l = 10 * l.limit + 0
 
 abbrev pub decreases-operand::prefix : goal.decreases-operand::prefix
-decreases-operand::prefix l = 10 * l.limit + 0
+decreases-operand::prefix l = 10 * l.limit + 1
 
 abbrev pub decreases-operand::next_field : goal.decreases-operand::next_field
 decreases-operand::next_field l = 10 * l.limit + 1
@@ -50,19 +53,19 @@ abbrev pub decreases-operand::list : goal.decreases-operand::list
 decreases-operand::list l = 10 * l.limit + 2
 
 abbrev pub decreases-calls::call : goal.decreases-calls::call
-decreases-calls::call l = 10 * l.limit + 1
+decreases-calls::call l = 10 * l.limit + 2
 
 abbrev pub decreases-calls::sided : goal.decreases-calls::sided
-decreases-calls::sided l = 10 * l.limit + 1
+decreases-calls::sided l = 10 * l.limit + 2
 
 abbrev pub decreases-calls::concat : goal.decreases-calls::concat
-decreases-calls::concat l = 10 * l.limit + 1
+decreases-calls::concat l = 10 * l.limit + 2
 
 abbrev pub decreases-calls::pick : goal.decreases-calls::pick
-decreases-calls::pick l = 10 * l.limit + 1
+decreases-calls::pick l = 10 * l.limit + 2
 
 abbrev pub decreases-operand::enclosed : goal.decreases-operand::enclosed
-decreases-operand::enclosed l = 10 * l.limit + 3
+decreases-operand::enclosed l = 10 * l.limit + 5
 
 abbrev pub decreases-operand::after_start : goal.decreases-operand::after_start
 decreases-operand::after_start l = 10 * l.limit + 4

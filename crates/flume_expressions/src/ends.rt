@@ -1,0 +1,74 @@
+ghost use Rattle.std.specs.Prelude.{◌≡◌, ◌<◌, ◌+◌, ◌^◌};
+ghost use Rattle.flume_grammar.specs.inner.Reads.{Reads, ReadsSuch};
+ghost use Rattle.flume_expressions.specs.Pieces as pieces;
+
+use crate::expression::whole;
+use flume_grammar::parts::{Parts, SoFar};
+use flume_grammar::{Expr, Stop};
+use flume_reading::Cursor;
+use flume_reading::reading::{comma, sign, word};
+use flume_tokens::Sign;
+use flume_value::{Pile, Str};
+use std::alloc::Global;
+
+/// What was read, where this sign ends it.
+///
+/// Where a tree would have to be dropped at once, in place of its box, its drop is proved here for
+/// any type, and not once more at each call.
+pub fn ended<T: Drop>(tokens: &mut Cursor, end: Sign, read: T) -> Result<T, Stop>
+    ensures { ReadsSuch (λ x. x ≡ read) (pieces.ended end read) tokens.old tokens.new result }
+{
+    sign(tokens, end)?;
+    Ok(read)
+}
+
+/// So many parts that were read, where a comma follows and they may be one more.
+pub fn after_comma<T: Drop>(
+    tokens: &mut Cursor,
+    parts: usize,
+    limit: usize,
+    read: T,
+) -> Result<T, Stop>
+    ensures { ReadsSuch (λ x. x ≡ read) (pieces.after_comma parts limit read)
+        tokens.old tokens.new result }
+{
+    comma(tokens, parts, limit)?;
+    Ok(read)
+}
+
+/// A field's name, and the colon after it.
+pub fn field_name(alloc: Global, tokens: &mut Cursor) -> Result<Str, Stop>
+    ensures { Reads pieces.field_name tokens.old tokens.new result }
+{
+    let name = word(alloc, tokens)?;
+    ended(tokens, Sign::Colon, name)
+}
+
+/// An expression of that depth, where its parenthesis closes.
+pub fn closed(tokens: &mut Cursor, read: (Expr, u32)) -> Result<SoFar, Stop>
+    ensures { ReadsSuch (λ x. x.depth ≡ read.1) (pieces.closed read) tokens.old tokens.new result }
+{
+    let (expr, depth) = ended(tokens, Sign::Close, read)?;
+    Ok(whole(expr, depth))
+}
+
+/// The record of these fields, where it ends.
+pub fn recorded(tokens: &mut Cursor, fields: Parts<Expr>) -> Result<SoFar, Stop>
+    requires { fields.depth + 1 < 2 ^ 32 }
+    ensures { ReadsSuch (λ x. x.depth ≡ fields.depth + 1) (pieces.recorded fields)
+        tokens.old tokens.new result }
+{
+    let fields = ended(tokens, Sign::CloseBrace, fields)?;
+    let (names, values, depth) = fields.into_parts();
+    Ok(whole(Expr::Record(names, values), depth + 1))
+}
+
+/// The list of these members, of which the deepest has that depth, where it ends.
+pub fn listed(tokens: &mut Cursor, members: (Pile<Expr>, u32)) -> Result<SoFar, Stop>
+    requires { members.1 + 1 < 2 ^ 32 }
+    ensures { ReadsSuch (λ x. x.depth ≡ members.1 + 1) (pieces.listed members)
+        tokens.old tokens.new result }
+{
+    let (members, depth) = ended(tokens, Sign::CloseBracket, members)?;
+    Ok(whole(Expr::List(members), depth + 1))
+}
