@@ -3,7 +3,7 @@ use flume_syntax::{Ast, ScriptFault, ScriptKind, parse};
 use std::alloc::Global;
 
 /// What comes of a script: so many statements, or its first fault with the line and the kind.
-#[derive(Clone, Copy, PartialEq, Eq, Debug)]
+#[derive(Clone, Copy, PartialEq, Eq)]
 pub enum Outcome {
     Statements(usize),
     Refused(u32, ScriptKind),
@@ -29,28 +29,23 @@ fn told(alloc: Global, it: Repeated<'_>) -> Outcome {
     }
 }
 
-/// The first script that comes out otherwise: its place, and what comes of it.
-pub fn first_other(alloc: Global, table: &[(&[u8], Outcome)]) -> Option<(usize, Outcome)> {
+/// The place of the first script that comes out otherwise.
+pub fn first_other(alloc: Global, table: &[(&[u8], Outcome)]) -> Option<usize> {
     for place in 0..table.len() {
         let (script, wanted) = table[place];
-        let outcome = told(alloc, (script, b"", 0, b""));
-        if outcome != wanted {
-            return Some((place, outcome));
+        if told(alloc, (script, b"", 0, b"")) != wanted {
+            return Some(place);
         }
     }
     None
 }
 
 /// The same of scripts that are made of many pieces.
-pub fn first_made_other(
-    alloc: Global,
-    table: &[(Repeated<'_>, Outcome)],
-) -> Option<(usize, Outcome)> {
+pub fn first_made_other(alloc: Global, table: &[(Repeated<'_>, Outcome)]) -> Option<usize> {
     for place in 0..table.len() {
         let (script, wanted) = table[place];
-        let outcome = told(alloc, script);
-        if outcome != wanted {
-            return Some((place, outcome));
+        if told(alloc, script) != wanted {
+            return Some(place);
         }
     }
     None

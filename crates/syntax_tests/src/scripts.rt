@@ -1,7 +1,7 @@
 use crate::made::repeated;
 use crate::outcome::{Outcome, Repeated, first_made_other, first_other, parsed};
 use flume_syntax::Ast;
-use std::alloc::{AllocError, Global};
+use std::alloc::Global;
 use std::test::Fail;
 
 /// Scripts, and how many statements each has.
@@ -62,83 +62,63 @@ static MOST: [(Repeated<'static>, Outcome); 7] = [
     ),
 ];
 
-/// Whether both scripts are read, and their trees are the same, or whether they differ.
-#[derive(Clone, Copy, PartialEq, Eq, Debug)]
-enum Trees {
-    Same,
-    Apart,
-    NotRead,
-}
-
-/// How the tree of this script is to another.
-fn beside(alloc: Global, script: Repeated<'_>, other: &Ast) -> Trees {
+/// Whether the script is read, and its tree is, or is not, the same as another.
+fn is_beside(alloc: Global, script: Repeated<'_>, other: &Ast, same: bool) -> bool {
     match parsed(alloc, script) {
-        Ok(ast) => {
-            if ast == *other {
-                Trees::Same
-            } else {
-                Trees::Apart
-            }
-        }
-        Err(_) => Trees::NotRead,
+        Ok(ast) => (ast == *other) == same,
+        Err(_) => false,
     }
 }
 
-/// How the trees of two scripts are.
-fn trees_of(alloc: Global, one: Repeated<'_>, other: Repeated<'_>) -> Trees {
+/// Whether both scripts are read, and their trees are, or are not, the same.
+fn are_beside(alloc: Global, one: Repeated<'_>, other: Repeated<'_>, same: bool) -> bool {
     match parsed(alloc, one) {
-        Ok(ast) => beside(alloc, other, &ast),
-        Err(_) => Trees::NotRead,
+        Ok(ast) => is_beside(alloc, other, &ast, same),
+        Err(_) => false,
     }
 }
 
-/// Two expressions, and how their trees are.
-type Pair<'a> = (&'a [u8], &'a [u8], Trees);
+/// Two expressions, and whether their trees are the same.
+type Pair<'a> = (&'a [u8], &'a [u8], bool);
 
 static PARENTHESES: [Pair<'static>; 8] = [
-    (b"1 - 2 - 3", b"((1 - 2) - 3)", Trees::Same),
-    (b"1 - 2 - 3", b"1 - (2 - 3)", Trees::Apart),
-    (b"a or b and c", b"a or (b and c)", Trees::Same),
-    (b"not a == b and c", b"(not (a == b)) and c", Trees::Same),
-    (
-        b"a + b * c < -d % e",
-        b"(a + (b * c)) < ((-d) % e)",
-        Trees::Same,
-    ),
-    (b"-a.in[0].b", b"-(((a.in)[0]).b)", Trees::Same),
+    (b"1 - 2 - 3", b"((1 - 2) - 3)", true),
+    (b"1 - 2 - 3", b"1 - (2 - 3)", false),
+    (b"a or b and c", b"a or (b and c)", true),
+    (b"not a == b and c", b"(not (a == b)) and c", true),
+    (b"a + b * c < -d % e", b"(a + (b * c)) < ((-d) % e)", true),
+    (b"-a.in[0].b", b"-(((a.in)[0]).b)", true),
     (
         b"pick(a, {k: 1}, [b]).k",
         b"(pick((a), {k: (1)}, [(b)])).k",
-        Trees::Same,
+        true,
     ),
     (
         b"left<int>(a) == right<int>(a)",
         b"(left<int>((a))) == (right<int>((a)))",
-        Trees::Same,
+        true,
     ),
 ];
 
-/// The first pair whose trees are otherwise: its place, and how they are.
-fn first_other_pair(alloc: Global, table: &[Pair<'_>]) -> Option<(usize, Trees)> {
+/// The place of the first pair whose trees are otherwise.
+fn first_other_pair(alloc: Global, table: &[Pair<'_>]) -> Option<usize> {
     for place in 0..table.len() {
-        let (one, other, wanted) = table[place];
-        let trees = trees_of(alloc, (EMIT, one, 1, b" }"), (EMIT, other, 1, b" }"));
-        if trees != wanted {
-            return Some((place, trees));
+        let (one, other, same) = table[place];
+        if !are_beside(alloc, (EMIT, one, 1, b" }"), (EMIT, other, 1, b" }"), same) {
+            return Some(place);
         }
     }
     None
 }
 
-/// How the tree of `x.v` in so many parentheses is to that of `x.v` alone. Parentheses open no
-/// depth, and none is kept open on the stack.
-fn trees_within(alloc: Global, parentheses: usize) -> Result<Trees, AllocError> {
-    let open = repeated(alloc, EMIT, b"(", parentheses, b"x.v")?;
-    Ok(trees_of(
-        alloc,
-        (&open, b")", parentheses, b"}"),
-        (EMIT, b"x.v", 1, b"}"),
-    ))
+/// Whether `x.v` in so many parentheses has the tree of `x.v` alone. Parentheses open no depth, and
+/// none is kept open on the stack.
+fn is_field_within(alloc: Global, parentheses: usize) -> bool {
+    let field: Repeated<'_> = (EMIT, b"x.v", 1, b"}");
+    match repeated(alloc, EMIT, b"(", parentheses, b"x.v") {
+        Ok(open) => are_beside(alloc, (&open, b")", parentheses, b"}"), field, true),
+        Err(_) => false,
+    }
 }
 
 #[test]
@@ -153,6 +133,6 @@ fn accepted_scripts(rt: HostRuntime) -> Result<(), Fail> {
 fn parentheses_show_the_tree(rt: HostRuntime) -> Result<(), Fail> {
     let alloc = rt.alloc();
     assert_eq!(rt; first_other_pair(alloc, &PARENTHESES), None);
-    assert_eq!(rt; trees_within(alloc, 30000)?, Trees::Same);
+    assert!(rt; is_field_within(alloc, 30000));
     Ok(())
 }
