@@ -5,13 +5,13 @@ use body_check::check_body;
 use dofn_eval::{Fun, call};
 use flume_grammar::{Ast, Form, Function, ScriptFault};
 use flume_syntax::parse;
-use flume_value::{CallFault, Items, Kind, Pile, Str, Value};
+use flume_value::{CallFault, Items, Kind, Value};
 use std::alloc::{AllocError, Global};
 use type_table::Shape;
 use written_types::{TypeNames, whole_type};
 
 /// What comes of a script of one function.
-#[derive(PartialEq, Debug, Drop)]
+#[derive(Drop)]
 pub enum Answer {
     NotParsed,
     Refused,
@@ -19,22 +19,6 @@ pub enum Answer {
     OtherArgument,
     Trap(Kind),
     Emits(Items),
-}
-
-pub fn texts(alloc: Global, all: &[&[u8]]) -> Result<Items, AllocError> {
-    let mut items = Pile::new(alloc);
-    for text in all {
-        items.push(Value::Text(Str::from_slice(alloc, *text)?))?;
-    }
-    Ok(items)
-}
-
-pub fn ints(alloc: Global, all: &[i64]) -> Result<Items, AllocError> {
-    let mut items = Pile::new(alloc);
-    for n in all {
-        items.push(Value::Int(*n))?;
-    }
-    Ok(items)
 }
 
 // What a function of one output answers on a number.
@@ -48,42 +32,51 @@ fn called(alloc: Global, f: &Fun, n: i64) -> Answer
     }
 }
 
-fn checked(alloc: Global, function: &Function, n: i64) -> Result<Answer, ScriptFault> {
-    let mut known = TypeNames::new(alloc);
+fn checked(
+    alloc: Global,
+    function: &Function,
+    n: i64,
+    known: &mut TypeNames,
+) -> Result<Answer, ScriptFault> {
     let int = known.intern(Shape::Int)?;
-    let takes = whole_type(alloc, 1, &function.takes, &mut known)?;
-    let gives = whole_type(alloc, 1, &function.gives, &mut known)?;
+    let takes = whole_type(alloc, 1, &function.takes, known)?;
+    let gives = whole_type(alloc, 1, &function.gives, known)?;
     if !known.types().same(takes, int) {
         return Ok(Answer::OtherArgument);
     }
     let body = function.body.as_slice();
-    let f = check_body(alloc, &mut known, &function.argument, takes, &[gives], body)?;
+    let f = check_body(alloc, known, &function.argument, takes, &[gives], body)?;
     Ok(called(alloc, &f, n))
 }
 
-fn first(alloc: Global, ast: &Ast, n: i64) -> Answer {
-    let Some(statement) = ast.statements.get(0) else {
-        return Answer::NotParsed;
-    };
-    match &statement.form {
-        Form::Function(function) => match checked(alloc, function, n) {
-            Ok(answer) => answer,
-            Err(ScriptFault::Refused { line: _, kind: _ }) => Answer::Refused,
-            Err(ScriptFault::Memory) => Answer::WantOfMemory,
+fn answer_on(alloc: Global, function: &Function, n: i64) -> Answer {
+    let mut known = TypeNames::new(alloc);
+    match checked(alloc, function, n, &mut known) {
+        Ok(answer) => answer,
+        Err(ScriptFault::Refused { line: _, kind: _ }) => Answer::Refused,
+        Err(ScriptFault::Memory) => Answer::WantOfMemory,
+    }
+}
+
+/// What the only function of a script answers.
+fn sole(alloc: Global, ast: &Ast, n: i64) -> Answer {
+    match ast.statements.as_slice() {
+        [statement] => match &statement.form {
+            Form::Function(function) => answer_on(alloc, function, n),
+            _ => Answer::NotParsed,
         },
         _ => Answer::NotParsed,
     }
 }
 
-/// What `fn f(..) -> gives { .. }` answers on the number, where it begins so, and goes on with so
-/// many of these statements.
-fn answer_behind(
+/// The script `fn f(..) -> gives { .. }`, where it begins so, and goes on with so many of these
+/// statements.
+fn script_of(
     alloc: Global,
     head: [&[u8]; 3],
     statement: &[u8],
     times: usize,
-    n: i64,
-) -> Result<Answer, AllocError> {
+) -> Result<Vec<u8>, AllocError> {
     let mut script = Vec::new(alloc);
     for part in head {
         script.extend_from_slice(part)?;
@@ -92,42 +85,155 @@ fn answer_behind(
         script.extend_from_slice(statement)?;
     }
     script.extend_from_slice(b" }")?;
-    match parse(alloc, script.as_slice()) {
-        Ok(ast) => Ok(first(alloc, &ast, n)),
-        Err(_) => Ok(Answer::NotParsed),
+    Ok(script)
+}
+
+fn parsed(alloc: Global, script: &[u8], n: i64) -> Answer {
+    match parse(alloc, script) {
+        Ok(ast) => sole(alloc, &ast, n),
+        Err(_) => Answer::NotParsed,
     }
 }
 
-/// What a function of a number answers, whose body has these statements.
-pub fn answer_of(
+/// What the function of such a script answers on the number.
+fn answer_behind(
     alloc: Global,
-    statements: &[u8],
-    n: i64,
-    gives: &[u8],
-) -> Result<Answer, AllocError> {
-    answer_behind(
-        alloc,
-        [b"fn f(x: int) -> ", gives, b" { "],
-        statements,
-        1,
-        n,
-    )
-}
-
-/// What a function answers whose body has so many of these statements, where `x` is
-/// `{a: "one two", b: "three", n: 7, all: ["x", "y"]}`.
-pub fn answer_on_row(
-    alloc: Global,
+    head: [&[u8]; 3],
     statement: &[u8],
     times: usize,
+    n: i64,
+) -> Answer {
+    match script_of(alloc, head, statement, times) {
+        Ok(script) => parsed(alloc, &script, n),
+        Err(_) => Answer::WantOfMemory,
+    }
+}
+
+/// What a body is to answer.
+#[derive(Clone, Copy)]
+pub enum Wanted {
+    Emits(&'static [i64]),
+    Texts(&'static [&'static [u8]]),
+    /// the record of the text three and a 7
+    Pair,
+    /// so many values
+    Many(usize),
+    Traps(Kind),
+    Refused,
+}
+
+fn is_wanted(answer: &Answer, wanted: Wanted) -> bool {
+    match answer {
+        Answer::Emits(items) => are_wanted(items.as_slice(), wanted),
+        Answer::Trap(kind) => matches!(wanted, Wanted::Traps(other) if *kind == other),
+        Answer::Refused => matches!(wanted, Wanted::Refused),
+        Answer::NotParsed | Answer::WantOfMemory | Answer::OtherArgument => false,
+    }
+}
+
+fn are_wanted(items: &[Value], wanted: Wanted) -> bool {
+    match wanted {
+        Wanted::Emits(all) => are_ints(items, all),
+        Wanted::Texts(all) => are_texts(items, all),
+        Wanted::Pair => are_pair(items),
+        Wanted::Many(count) => items.len() == count,
+        Wanted::Traps(_) | Wanted::Refused => false,
+    }
+}
+
+fn is_int(value: &Value, wanted: i64) -> bool {
+    matches!(value, Value::Int(n) if *n == wanted)
+}
+
+fn is_text(value: &Value, wanted: &[u8]) -> bool {
+    matches!(value, Value::Text(text) if text.is(wanted))
+}
+
+fn are_ints(items: &[Value], all: &[i64]) -> bool {
+    if items.len() != all.len() {
+        return false;
+    }
+    for (item, n) in items.iter().zip(all.iter()) {
+        if !is_int(item, *n) {
+            return false;
+        }
+    }
+    true
+}
+
+fn are_texts(items: &[Value], all: &[&[u8]]) -> bool {
+    if items.len() != all.len() {
+        return false;
+    }
+    for (item, text) in items.iter().zip(all.iter()) {
+        if !is_text(item, *text) {
+            return false;
+        }
+    }
+    true
+}
+
+/// Whether the record of the text three and a 7 is all that there is.
+fn are_pair(items: &[Value]) -> bool {
+    match items {
+        [Value::Rec(parts)] => is_pair(parts.as_slice()),
+        _ => false,
+    }
+}
+
+fn is_pair(parts: &[Value]) -> bool {
+    match parts {
+        [text, n] => is_text(text, b"three") && is_int(n, 7),
+        _ => false,
+    }
+}
+
+/// The statements of a body, the number that its function is called on, and what it answers.
+pub type Case = (&'static [u8], i64, Wanted);
+
+/// Whether a function of a number, whose body has these statements, answers so.
+fn is_answered(alloc: Global, gives: &[u8], case: Case) -> bool {
+    let (statements, n, wanted) = case;
+    let head = [b"fn f(x: int) -> ", gives, b" { "];
+    let answer = answer_behind(alloc, head, statements, 1, n);
+    is_wanted(&answer, wanted)
+}
+
+/// The place of the first body that answers otherwise.
+pub fn first_other(alloc: Global, gives: &[u8], table: &[Case]) -> Option<usize> {
+    for place in 0..table.len() {
+        if !is_answered(alloc, gives, table[place]) {
+            return Some(place);
+        }
+    }
+    None
+}
+
+/// The statements of a body on a row, and what it answers.
+pub type RowCase = (&'static [u8], Wanted);
+
+/// Whether a function answers so, whose body has so many of these statements, where `x` is
+/// `{a: "one two", b: "three", n: 7, all: ["x", "y"]}`.
+pub fn is_answered_on_row(
+    alloc: Global,
     gives: &[u8],
-) -> Result<Answer, AllocError> {
+    statement: &[u8],
+    times: usize,
+    wanted: Wanted,
+) -> bool {
     let row = b" { let x = {a: \"one two\", b: \"three\", n: n, all: [\"x\", \"y\"]} ";
-    answer_behind(
-        alloc,
-        [b"fn f(n: int) -> ", gives, row],
-        statement,
-        times,
-        7,
-    )
+    let head = [b"fn f(n: int) -> ", gives, row];
+    let answer = answer_behind(alloc, head, statement, times, 7);
+    is_wanted(&answer, wanted)
+}
+
+/// The place of the first body on a row that answers otherwise.
+pub fn first_other_on_row(alloc: Global, gives: &[u8], table: &[RowCase]) -> Option<usize> {
+    for place in 0..table.len() {
+        let (statements, wanted) = table[place];
+        if !is_answered_on_row(alloc, gives, statements, 1, wanted) {
+            return Some(place);
+        }
+    }
+    None
 }

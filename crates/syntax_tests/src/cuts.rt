@@ -1,62 +1,108 @@
-use flume_tokens::{Keyword, Refusal, Sign, TokenFault, TokenKind, TokenList, tokens};
+//! Texts, cut into tokens.
+
+use flume_tokens::{Keyword, Refusal, Sign, Token, TokenFault, TokenKind, tokens};
+use std::alloc::Global;
 use std::test::Fail;
 
-/// The number of tokens and the last line; or the fault's line.
-fn answer(outcome: Result<TokenList, TokenFault>) -> (Option<Refusal>, usize, u32) {
-    match outcome {
-        Ok(list) => (None, list.items.len(), list.last_line),
-        Err(TokenFault::Memory) => (None, 99, 0),
-        Err(TokenFault::Refused { line, kind }) => (Some(kind), 0, line),
+/// What comes of a text: so many tokens up to this last line, or a fault on this line.
+#[derive(Clone, Copy, PartialEq, Eq)]
+enum Cut {
+    Tokens(usize, u32),
+    Refused(u32, Refusal),
+    WantOfMemory,
+}
+
+fn told(alloc: Global, text: &[u8]) -> Cut {
+    match tokens(alloc, text) {
+        Ok(list) => Cut::Tokens(list.items.len(), list.last_line),
+        Err(TokenFault::Refused { line, kind }) => Cut::Refused(line, kind),
+        Err(TokenFault::Memory) => Cut::WantOfMemory,
     }
 }
 
-/// A letter for each kind of token.
-fn letter(kind: &TokenKind) -> u8 {
-    match kind {
-        TokenKind::Name(_) => b'n',
-        TokenKind::Keyword(_) => b'k',
-        TokenKind::Number(_) => b'd',
-        TokenKind::Text(_) => b't',
-        TokenKind::Sign(_) => b's',
+static CUTS: [(&[u8], Cut); 10] = [
+    (b"", Cut::Tokens(0, 1)),
+    (b"let x = a->b<=12 # no ; @\n\"q\\n\"\n", Cut::Tokens(9, 3)),
+    (b"a==b=>=c", Cut::Tokens(6, 1)),
+    (b"a\n@", Cut::Refused(2, Refusal::Token)),
+    (b"\n\"a\n\"", Cut::Refused(2, Refusal::Token)),
+    (b"\"a\\r\"", Cut::Refused(1, Refusal::Token)),
+    (b"@\n\xff", Cut::Refused(2, Refusal::Utf8)),
+    (b"aaaaaaaaaaaaaaaaaaaaaaaaaaaaaaaa", Cut::Tokens(1, 1)),
+    (
+        b"\r\n\naaaaaaaaaaaaaaaaaaaaaaaaaaaaaaaaa",
+        Cut::Refused(3, Refusal::TooLong),
+    ),
+    (b"# \xc3\xa9\n12ab", Cut::Tokens(2, 2)),
+];
+
+/// The place of the first text that is cut otherwise.
+fn first_other(alloc: Global, table: &[(&[u8], Cut)]) -> Option<usize> {
+    for place in 0..table.len() {
+        let (text, wanted) = table[place];
+        if told(alloc, text) != wanted {
+            return Some(place);
+        }
+    }
+    None
+}
+
+/// A token.
+#[derive(Clone, Copy)]
+enum Wanted {
+    Name(&'static [u8]),
+    Keyword(Keyword),
+    Number(&'static [u8]),
+    Text(&'static [u8]),
+    Sign(Sign),
+}
+
+const LINES: &[u8] = b"in inx 007 <= \"a\\\"\"\n<";
+
+/// The tokens of these lines, each with its line.
+static TOKENS: [(Wanted, u32); 6] = [
+    (Wanted::Keyword(Keyword::In), 1),
+    (Wanted::Name(b"inx"), 1),
+    (Wanted::Number(b"007"), 1),
+    (Wanted::Sign(Sign::AtMost), 1),
+    (Wanted::Text(b"a\""), 1),
+    (Wanted::Sign(Sign::Less), 2),
+];
+
+fn is_kind(kind: &TokenKind, wanted: Wanted) -> bool {
+    match wanted {
+        Wanted::Name(name) => matches!(kind, TokenKind::Name(word) if word.is(name)),
+        Wanted::Keyword(keyword) => kind.is_keyword(keyword),
+        Wanted::Number(digits) => matches!(kind, TokenKind::Number(word) if word.is(digits)),
+        Wanted::Text(text) => matches!(kind, TokenKind::Text(content) if content.is(text)),
+        Wanted::Sign(sign) => kind.is_sign(sign),
+    }
+}
+
+fn are_tokens(tokens: &[Token], wanted: &[(Wanted, u32)]) -> bool {
+    if tokens.len() != wanted.len() {
+        return false;
+    }
+    for place in 0..wanted.len() {
+        let (kind, line) = wanted[place];
+        if tokens[place].line != line || !is_kind(&tokens[place].kind, kind) {
+            return false;
+        }
+    }
+    true
+}
+
+fn has_tokens(alloc: Global, text: &[u8], wanted: &[(Wanted, u32)]) -> bool {
+    match tokens(alloc, text) {
+        Ok(list) => are_tokens(list.items.as_slice(), wanted),
+        Err(_) => false,
     }
 }
 
 #[test]
-fn counts_and_faults(rt: HostRuntime) -> Result<(), Fail> {
+fn tokens_of_texts(rt: HostRuntime) -> Result<(), Fail> {
     let alloc = rt.alloc();
-    let table: [(&[u8], (Option<Refusal>, usize, u32)); 10] = [
-        (b"", (None, 0, 1)),
-        (b"let x = a->b<=12 # no ; @\n\"q\\n\"\n", (None, 9, 3)),
-        (b"a==b=>=c", (None, 6, 1)),
-        (b"a\n@", (Some(Refusal::Token), 0, 2)),
-        (b"\n\"a\n\"", (Some(Refusal::Token), 0, 2)),
-        (b"\"a\\r\"", (Some(Refusal::Token), 0, 1)),
-        (b"@\n\xff", (Some(Refusal::Utf8), 0, 2)),
-        (b"aaaaaaaaaaaaaaaaaaaaaaaaaaaaaaaa", (None, 1, 1)),
-        (
-            b"\r\n\naaaaaaaaaaaaaaaaaaaaaaaaaaaaaaaaa",
-            (Some(Refusal::TooLong), 0, 3),
-        ),
-        (b"# \xc3\xa9\n12ab", (None, 2, 2)),
-    ];
-    for (bytes, wanted) in table {
-        assert!(rt; answer(tokens(alloc, bytes)) == wanted);
-    }
-    Ok(())
-}
-
-#[test]
-fn kinds_and_lines(rt: HostRuntime) -> Result<(), Fail> {
-    let alloc = rt.alloc();
-    let list = tokens(alloc, b"in inx 007 <= \"a\\\"\"\n<")?;
-    let mut kinds = Vec::new(alloc);
-    for token in list.items.as_slice() {
-        kinds.push(letter(&token.kind))?;
-    }
-    assert_eq!(rt; kinds.as_slice(), b"kndsts".as_slice());
-    let first = list.items.get(0).ok_or("none")?;
-    assert!(rt; first.kind == TokenKind::Keyword(Keyword::In) && first.line == 1);
-    let last = list.items.get(5).ok_or("none")?;
-    assert!(rt; last.kind == TokenKind::Sign(Sign::Less) && last.line == 2);
+    assert_eq!(rt; first_other(alloc, &CUTS), None);
+    assert!(rt; has_tokens(alloc, LINES, &TOKENS));
     Ok(())
 }

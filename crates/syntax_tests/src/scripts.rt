@@ -1,108 +1,138 @@
 use crate::made::repeated;
-use flume_syntax::parse;
-use std::alloc::{AllocError, Global};
+use crate::outcome::{Outcome, Repeated, first_made_other, first_other, parsed};
+use flume_syntax::Ast;
+use std::alloc::Global;
 use std::test::Fail;
 
-#[test]
-fn small_scripts(rt: HostRuntime) -> Result<(), Fail> {
-    let alloc = rt.alloc();
-    let table: [(&[u8], usize); 3] = [
-        (b"", 0),
-        (
-            b"type r = {type: int, fn: either<table<r, list<bool>>, text>}\n\
-              input a: r from \"f\"\n\
-              let b = do a f let c = flatten b, b, a\n\
-              let d = combine c by top 3 let e = join c, d let f = top 2 e\n\
-              let g = count f let h = group g output h to \"o\"",
-            10,
-        ),
-        (
-            b"fn f(x: r) -> int scale 20 { \
-              let y = not x.type == 1 and -2 * 3 - 4 < 5 or true \
-              if y { emit [1, 2][0] } else { for z in words(\"a b\") { emit len(z) } } \
-              case left<int>({k: 1, v: empty<int>}.v) \
-              left a { emit concat(a, text(number(\"7\"))) } \
-              right b { emit pick(false, right<list<int>>(1), b) } }",
-            1,
-        ),
-    ];
-    for (bytes, statements) in table {
-        assert!(rt; parse(alloc, bytes)?.statements.len() == statements);
-    }
-    Ok(())
-}
+/// Scripts, and how many statements each has.
+static SMALL: [(&[u8], Outcome); 3] = [
+    (b"", Outcome::Statements(0)),
+    (
+        b"type r = {type: int, fn: either<table<r, list<bool>>, text>}\n\
+          input a: r from \"f\"\n\
+          let b = do a f let c = flatten b, b, a\n\
+          let d = combine c by top 3 let e = join c, d let f = top 2 e\n\
+          let g = count f let h = group g output h to \"o\"",
+        Outcome::Statements(10),
+    ),
+    (
+        b"fn f(x: r) -> int scale 20 { \
+          let y = not x.type == 1 and -2 * 3 - 4 < 5 or true \
+          if y { emit [1, 2][0] } else { for z in words(\"a b\") { emit len(z) } } \
+          case left<int>({k: 1, v: empty<int>}.v) \
+          left a { emit concat(a, text(number(\"7\"))) } \
+          right b { emit pick(false, right<list<int>>(1), b) } }",
+        Outcome::Statements(1),
+    ),
+];
 
-/// Whether two expressions have one tree.
-fn is_same(alloc: Global, one: &[u8], other: &[u8]) -> Result<bool, AllocError> {
-    let head = b"fn f(x: r) -> r { emit ";
-    let left = parse(alloc, repeated(alloc, head, one, 1, b" }")?.as_slice());
-    let right = parse(alloc, repeated(alloc, head, other, 1, b" }")?.as_slice());
-    match (left, right) {
-        (Ok(l), Ok(r)) => Ok(l == r),
-        _ => Ok(false),
-    }
-}
+const EMIT: &[u8] = b"fn f(x: r) -> r { emit ";
 
-#[test]
-fn parentheses_show_the_tree(rt: HostRuntime) -> Result<(), Fail> {
-    let alloc = rt.alloc();
-    let table: [(&[u8], &[u8], bool); 8] = [
-        (b"1 - 2 - 3", b"((1 - 2) - 3)", true),
-        (b"1 - 2 - 3", b"1 - (2 - 3)", false),
-        (b"a or b and c", b"a or (b and c)", true),
-        (b"not a == b and c", b"(not (a == b)) and c", true),
-        (b"a + b * c < -d % e", b"(a + (b * c)) < ((-d) % e)", true),
-        (b"-a.in[0].b", b"-(((a.in)[0]).b)", true),
-        (
-            b"pick(a, {k: 1}, [b]).k",
-            b"(pick((a), {k: (1)}, [(b)])).k",
-            true,
-        ),
-        (
-            b"left<int>(a) == right<int>(a)",
-            b"(left<int>((a))) == (right<int>((a)))",
-            true,
-        ),
-    ];
-    for (one, other, same) in table {
-        assert!(rt; is_same(alloc, one, other)? == same);
-    }
-    Ok(())
-}
-
-/// Parentheses open no depth, and none is kept open on the stack.
-#[test]
-fn thirty_thousand_parentheses(rt: HostRuntime) -> Result<(), Fail> {
-    let alloc = rt.alloc();
-    let head = b"fn f(x: r) -> r { emit ";
-    let open = repeated(alloc, head, b"(", 30000, b"x.v")?;
-    let both = repeated(alloc, open.as_slice(), b")", 30000, b"}")?;
-    let field = repeated(alloc, head, b"x.v", 1, b"}")?;
-    assert!(rt; parse(alloc, both.as_slice())? == parse(alloc, field.as_slice())?);
-    Ok(())
-}
-
-#[test]
-fn as_many_parts_as_there_may_be(rt: HostRuntime) -> Result<(), Fail> {
-    let alloc = rt.alloc();
-    let head = b"fn f(x: r) -> r { emit ";
-    let table: [(&[u8], &[u8], usize, &[u8]); 7] = [
-        (head, b"1+", 30, b"1}"),
+/// As many parts and levels as there may be.
+static MOST: [(Repeated<'static>, Outcome); 7] = [
+    ((EMIT, b"1+", 30, b"1}"), Outcome::Statements(1)),
+    (
         (
             b"type t = ",
             b"list<",
             31,
             b"int>>>>>>>>>>>>>>>>>>>>>>>>>>>>>>>",
         ),
+        Outcome::Statements(1),
+    ),
+    (
         (b"fn f(x: r) -> r {", b"emit 1\n", 9000, b"}"),
+        Outcome::Statements(1),
+    ),
+    (
         (b"let a = flatten b", b",b", 255, b""),
+        Outcome::Statements(1),
+    ),
+    (
         (b"fn f(x: r) -> r { emit [a", b",a", 63, b"] }"),
+        Outcome::Statements(1),
+    ),
+    (
         (b"type r = {a: int", b",a: int", 15, b"}"),
+        Outcome::Statements(1),
+    ),
+    (
         (b"fn f(x: r) -> r { emit {a: 1", b",a: 1", 15, b"} }"),
-    ];
-    for (before, piece, times, after) in table {
-        let bytes = repeated(alloc, before, piece, times, after)?;
-        assert!(rt; parse(alloc, bytes.as_slice())?.statements.len() == 1);
+        Outcome::Statements(1),
+    ),
+];
+
+/// Whether the script is read, and its tree is, or is not, the same as another.
+fn is_beside(alloc: Global, script: Repeated<'_>, other: &Ast, same: bool) -> bool {
+    match parsed(alloc, script) {
+        Ok(ast) => (ast == *other) == same,
+        Err(_) => false,
     }
+}
+
+/// Whether both scripts are read, and their trees are, or are not, the same.
+fn are_beside(alloc: Global, one: Repeated<'_>, other: Repeated<'_>, same: bool) -> bool {
+    match parsed(alloc, one) {
+        Ok(ast) => is_beside(alloc, other, &ast, same),
+        Err(_) => false,
+    }
+}
+
+/// Two expressions, and whether their trees are the same.
+type Pair<'a> = (&'a [u8], &'a [u8], bool);
+
+static PARENTHESES: [Pair<'static>; 8] = [
+    (b"1 - 2 - 3", b"((1 - 2) - 3)", true),
+    (b"1 - 2 - 3", b"1 - (2 - 3)", false),
+    (b"a or b and c", b"a or (b and c)", true),
+    (b"not a == b and c", b"(not (a == b)) and c", true),
+    (b"a + b * c < -d % e", b"(a + (b * c)) < ((-d) % e)", true),
+    (b"-a.in[0].b", b"-(((a.in)[0]).b)", true),
+    (
+        b"pick(a, {k: 1}, [b]).k",
+        b"(pick((a), {k: (1)}, [(b)])).k",
+        true,
+    ),
+    (
+        b"left<int>(a) == right<int>(a)",
+        b"(left<int>((a))) == (right<int>((a)))",
+        true,
+    ),
+];
+
+/// The place of the first pair whose trees are otherwise.
+fn first_other_pair(alloc: Global, table: &[Pair<'_>]) -> Option<usize> {
+    for place in 0..table.len() {
+        let (one, other, same) = table[place];
+        if !are_beside(alloc, (EMIT, one, 1, b" }"), (EMIT, other, 1, b" }"), same) {
+            return Some(place);
+        }
+    }
+    None
+}
+
+/// Whether `x.v` in so many parentheses has the tree of `x.v` alone. Parentheses open no depth, and
+/// none is kept open on the stack.
+fn is_field_within(alloc: Global, parentheses: usize) -> bool {
+    let field: Repeated<'_> = (EMIT, b"x.v", 1, b"}");
+    match repeated(alloc, EMIT, b"(", parentheses, b"x.v") {
+        Ok(open) => are_beside(alloc, (&open, b")", parentheses, b"}"), field, true),
+        Err(_) => false,
+    }
+}
+
+#[test]
+fn accepted_scripts(rt: HostRuntime) -> Result<(), Fail> {
+    let alloc = rt.alloc();
+    assert_eq!(rt; first_other(alloc, &SMALL), None);
+    assert_eq!(rt; first_made_other(alloc, &MOST), None);
+    Ok(())
+}
+
+#[test]
+fn parentheses_show_the_tree(rt: HostRuntime) -> Result<(), Fail> {
+    let alloc = rt.alloc();
+    assert_eq!(rt; first_other_pair(alloc, &PARENTHESES), None);
+    assert!(rt; is_field_within(alloc, 30000));
     Ok(())
 }

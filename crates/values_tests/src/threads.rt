@@ -1,5 +1,6 @@
 use crate::samples::of_each_variant;
 use flume_value::{Items, Pile, Str, Value, partition};
+use std::alloc::{AllocError, Global};
 use std::marker::Model;
 use std::test::Fail;
 use std::thread;
@@ -61,27 +62,35 @@ fn sent<R: Threads>(rt: &R, list: Items, text: Str) -> (Items, Str) {
     thread::join(rt, move || list, move || text)
 }
 
-#[test]
-fn two_threads_read_one_list(rt: HostRuntime) -> Result<(), Fail> {
-    let values = of_each_variant(rt.alloc())?;
-    assert_eq!(rt; counts(&rt, &values), (3, 5));
-    Ok(())
+/// The counts of the values of each variant.
+fn counts_of_each<R: Threads>(rt: &R, alloc: Global) -> Result<(usize, usize), AllocError> {
+    let values = of_each_variant(alloc)?;
+    Ok(counts(rt, &values))
 }
 
-#[test]
-fn two_threads_share_work_over_values(rt: HostRuntime) -> Result<(), Fail> {
-    let values = of_each_variant(rt.alloc())?;
+/// What two threads count that share the values of each variant.
+fn shared<R: Threads>(rt: &R, alloc: Global) -> Result<(usize, usize), AllocError> {
+    let values = of_each_variant(alloc)?;
     let share = Share { values: &values };
-    assert_eq!(rt; both(&rt, &share), (3, 3));
-    Ok(())
+    Ok(both(rt, &share))
+}
+
+fn are_eight_and_hi(back: &(Items, Str)) -> bool {
+    back.0.len() == 8 && back.1.is(b"hi")
+}
+
+/// Whether the list of each variant and the text hi come back from threads.
+fn are_back<R: Threads>(rt: &R, alloc: Global) -> Result<bool, AllocError> {
+    let list = Pile::from_vec(of_each_variant(alloc)?);
+    let back = sent(rt, list, Str::from_slice(alloc, b"hi")?);
+    Ok(are_eight_and_hi(&back))
 }
 
 #[test]
-fn a_list_and_a_text_come_back_from_threads(rt: HostRuntime) -> Result<(), Fail> {
+fn threads_share_values_and_send_them(rt: HostRuntime) -> Result<(), Fail> {
     let alloc = rt.alloc();
-    let list = Pile::from_vec(of_each_variant(alloc)?);
-    let (list, text) = sent(&rt, list, Str::from_slice(alloc, b"hi")?);
-    assert_eq!(rt; list.len(), 8);
-    assert!(rt; text.is(b"hi"));
+    assert!(rt; counts_of_each(&rt, alloc)? == (3, 5));
+    assert!(rt; shared(&rt, alloc)? == (3, 3));
+    assert!(rt; are_back(&rt, alloc)?);
     Ok(())
 }

@@ -1,0 +1,52 @@
+use crate::made::repeated;
+use flume_syntax::{Ast, ScriptFault, ScriptKind, parse};
+use std::alloc::Global;
+
+/// What comes of a script: so many statements, or its first fault with the line and the kind.
+#[derive(Clone, Copy, PartialEq, Eq)]
+pub enum Outcome {
+    Statements(usize),
+    Refused(u32, ScriptKind),
+    WantOfMemory,
+}
+
+/// A script of a beginning, so many times a piece, and an end.
+pub type Repeated<'a> = (&'a [u8], &'a [u8], usize, &'a [u8]);
+
+/// The tree of the script that is made so.
+pub fn parsed(alloc: Global, it: Repeated<'_>) -> Result<Ast, ScriptFault> {
+    let (before, piece, times, after) = it;
+    let script = repeated(alloc, before, piece, times, after)?;
+    parse(alloc, &script)
+}
+
+/// What comes of the script that is made so.
+fn told(alloc: Global, it: Repeated<'_>) -> Outcome {
+    match parsed(alloc, it) {
+        Ok(ast) => Outcome::Statements(ast.statements.len()),
+        Err(ScriptFault::Refused { line, kind }) => Outcome::Refused(line, kind),
+        Err(ScriptFault::Memory) => Outcome::WantOfMemory,
+    }
+}
+
+/// The place of the first script that comes out otherwise.
+pub fn first_other(alloc: Global, table: &[(&[u8], Outcome)]) -> Option<usize> {
+    for place in 0..table.len() {
+        let (script, wanted) = table[place];
+        if told(alloc, (script, b"", 0, b"")) != wanted {
+            return Some(place);
+        }
+    }
+    None
+}
+
+/// The same of scripts that are made of many pieces.
+pub fn first_made_other(alloc: Global, table: &[(Repeated<'_>, Outcome)]) -> Option<usize> {
+    for place in 0..table.len() {
+        let (script, wanted) = table[place];
+        if told(alloc, script) != wanted {
+            return Some(place);
+        }
+    }
+    None
+}

@@ -1,0 +1,175 @@
+//! The trees of statements: types, operations, inputs, outputs and a function with a scale.
+
+use crate::bodies::has_head;
+use crate::operations::{Operated, is_operation};
+use crate::parts::{Leaf, are_words, is_leaf, read, sole};
+use flume_syntax::{Ast, Form, Function, Type};
+use flume_value::Held;
+use std::alloc::Global;
+use std::test::Fail;
+
+/// A type with parts that have none.
+#[derive(Clone, Copy)]
+enum Written {
+    Leaf(Leaf),
+    Named(&'static [u8]),
+    List(Leaf),
+    Either(Leaf, Leaf),
+    Table(Leaf, Leaf),
+    /// of an int and a text
+    Record(&'static [&'static [u8]]),
+}
+
+/// A statement.
+#[derive(Clone, Copy)]
+enum Wanted {
+    /// of the name `t`
+    Type(Written),
+    /// of the collection `l`
+    Let(Operated),
+    /// of the collection `c`, an int, from `c.csv`
+    Input,
+    /// of no body, and this scale
+    Function(&'static [u8]),
+    /// of the collection `c`, to `d.csv`
+    Output,
+}
+
+static STATEMENTS: [(&[u8], Wanted); 24] = [
+    (b"type t = int", Wanted::Type(Written::Leaf(Leaf::Int))),
+    (b"type t = bool", Wanted::Type(Written::Leaf(Leaf::Bool))),
+    (b"type t = text", Wanted::Type(Written::Leaf(Leaf::Text))),
+    (b"type t = r", Wanted::Type(Written::Named(b"r"))),
+    (
+        b"type t = list<int>",
+        Wanted::Type(Written::List(Leaf::Int)),
+    ),
+    (
+        b"type t = either<int, bool>",
+        Wanted::Type(Written::Either(Leaf::Int, Leaf::Bool)),
+    ),
+    (
+        b"type t = table<bool, int>",
+        Wanted::Type(Written::Table(Leaf::Bool, Leaf::Int)),
+    ),
+    (
+        b"type t = {type: int, b: text}",
+        Wanted::Type(Written::Record(&[b"type", b"b"])),
+    ),
+    // combiners
+    (b"let l = combine c by sum", Wanted::Let(Operated::Sum)),
+    (b"let l = combine c by count", Wanted::Let(Operated::Counts)),
+    (b"let l = combine c by min", Wanted::Let(Operated::Min)),
+    (b"let l = combine c by max", Wanted::Let(Operated::Max)),
+    (b"let l = combine c by all", Wanted::Let(Operated::All)),
+    (b"let l = combine c by any", Wanted::Let(Operated::Any)),
+    (
+        b"let l = combine c by top 3",
+        Wanted::Let(Operated::Tops(b"3")),
+    ),
+    // operations
+    (b"let l = group c", Wanted::Let(Operated::Group)),
+    (b"let l = count c", Wanted::Let(Operated::Count)),
+    (b"let l = top 3 c", Wanted::Let(Operated::Top(b"3"))),
+    (b"let l = do c f", Wanted::Let(Operated::Do(b"f"))),
+    (
+        b"let l = flatten c, d, c",
+        Wanted::Let(Operated::Flatten(&[b"c", b"d", b"c"])),
+    ),
+    (b"let l = join c, d", Wanted::Let(Operated::Join(b"d"))),
+    (b"fn f(x: int) -> bool scale 20 {}", Wanted::Function(b"20")),
+    (b"input c: int from \"c.csv\"", Wanted::Input),
+    (b"output c to \"d.csv\"", Wanted::Output),
+];
+
+fn is_type(ty: &Type, written: Written) -> bool {
+    match written {
+        Written::Leaf(leaf) => is_leaf(ty, leaf),
+        Written::Named(name) => matches!(ty, Type::Named(word) if word.is(name)),
+        Written::List(leaf) => matches!(ty, Type::List(part) if is_leaf(part.get(), leaf)),
+        Written::Either(left, right) => {
+            matches!(ty, Type::Either(one, other) if are_leaves(one, other, left, right))
+        }
+        Written::Table(key, value) => {
+            matches!(ty, Type::Table(one, other) if are_leaves(one, other, key, value))
+        }
+        Written::Record(names) => is_record(ty, names),
+    }
+}
+
+fn are_leaves(one: &Held<Type>, other: &Held<Type>, left: Leaf, right: Leaf) -> bool {
+    is_leaf(one.get(), left) && is_leaf(other.get(), right)
+}
+
+fn is_record(ty: &Type, names: &[&[u8]]) -> bool {
+    match ty {
+        Type::Record(words, types) => {
+            are_words(words.as_slice(), names) && are_int_and_text(types.as_slice())
+        }
+        _ => false,
+    }
+}
+
+fn are_int_and_text(types: &[Type]) -> bool {
+    matches!(types, [Type::Int, Type::Text])
+}
+
+fn is_form(form: &Form, wanted: Wanted) -> bool {
+    match form {
+        Form::Type(name, ty) => {
+            name.is(b"t") && matches!(wanted, Wanted::Type(written) if is_type(ty, written))
+        }
+        Form::Let(name, operation) => {
+            name.is(b"l") && matches!(wanted, Wanted::Let(it) if is_operation(operation, it))
+        }
+        Form::Input(name, ty, file) => {
+            matches!(wanted, Wanted::Input)
+                && name.is(b"c")
+                && is_leaf(ty, Leaf::Int)
+                && file.is(b"c.csv")
+        }
+        Form::Function(function) => {
+            matches!(wanted, Wanted::Function(scale) if is_scaled(function, scale))
+        }
+        Form::Output(name, file) => {
+            matches!(wanted, Wanted::Output) && name.is(b"c") && file.is(b"d.csv")
+        }
+    }
+}
+
+/// Whether the function has the head of all of them, this scale, and no body.
+fn is_scaled(function: &Function, wanted: &[u8]) -> bool {
+    match &function.scale {
+        Some(scale) => { has_head(function) && function.body.is_empty() && scale.is(wanted) }
+        None => false,
+    }
+}
+
+fn has_form(ast: &Ast, wanted: Wanted) -> bool {
+    matches!(sole(ast), Some(form) if is_form(form, wanted))
+}
+
+/// Whether the script is read as the wanted statement.
+fn is_read(alloc: Global, script: &[u8], wanted: Wanted) -> bool {
+    match read(alloc, b"", script, b"") {
+        Ok(ast) => has_form(&ast, wanted),
+        Err(_) => false,
+    }
+}
+
+/// The place of the first script that is read otherwise.
+fn first_other(alloc: Global, table: &[(&[u8], Wanted)]) -> Option<usize> {
+    for place in 0..table.len() {
+        let (script, wanted) = table[place];
+        if !is_read(alloc, script, wanted) {
+            return Some(place);
+        }
+    }
+    None
+}
+
+#[test]
+fn statements(rt: HostRuntime) -> Result<(), Fail> {
+    assert_eq!(rt; first_other(rt.alloc(), &STATEMENTS), None);
+    Ok(())
+}
