@@ -1,12 +1,11 @@
 -- The cause of each answer, from the causes of its parts.
-use Rattle.std.proofs.Common.{◌≡◌, ℕ, ◌≤◌, inl, inr, List, sym, refl, subst, arith}
+use Rattle.std.proofs.Common.{◌≡◌, ℕ, ◌≤◌, inl, inr, List, sym, refl, subst}
 use Rattle.command_words.specs.declared.words.Command.{Command}
 use Rattle.command_words.specs.declared.words.Command.TheVariants.{Direct, Run}
 use Rattle.crew.specs.Hosts.{Account}
 use Rattle.direct_meaning.specs.Inputs.{Wanted, inputs_of}
 use Rattle.exec_plan.specs.declared.plan.Plan.{Plan}
 use Rattle.flume_value.specs.declared.value.Value.{Value}
-use Rattle.outside.specs.Cause.{RoseBy}
 use Rattle.outside.specs.Says.{HasLine}
 use Rattle.outside.specs.Seen.{Seen}
 use Rattle.outside.specs.declared.file.File.{File as NamedBytes}
@@ -18,7 +17,7 @@ use Rattle.run_texts.specs.declared.status.Status.TheVariants.{Done, GaveUp, Usa
 use Rattle.script_check.specs.Script.{Script}
 use Rattle.script_plans.specs.Plans.{IsScriptPlan}
 use Rattle.run_course.specs.Answers.{Answers, IsCause, IsRefused}
-use Rattle.script_loading.specs.Loads.{AllHaveRows, IsAbove, IsMissing, Loads}
+use Rattle.script_loading.specs.Loads.{AllHaveRows, IsAbove, IsMissing}
 use Rattle.run_course.specs.Asked.{AskFor, IsAskedFor, IsTurnOf, Reads, inputs_read, tries_of}
 use Rattle.run_course.specs.Lent.{lent}
 use Rattle.run_course.specs.World.{World}

@@ -1,12 +1,11 @@
 -- The files that a call asks for, what is in them, and the turn of each.
-use Rattle.std.specs.Prelude.{◌≡◌, ◌⊎◌, ◌<◌, ◌≤◌, ℕ, List, [], ◌∷◌, ◌++◌, length, Option, Some, None, Ok, IfSome, IsSomeAnd, ⊤}
-use Rattle.csv_rows.specs.Rows.{rows_of}
+use Rattle.std.specs.Prelude.{◌≡◌, ◌⊎◌, ℕ, List, [], ◌∷◌, ◌++◌, Option, Some}
 use Rattle.direct_meaning.specs.Inputs.{Wanted, inputs_of}
 use Rattle.flume_value.specs.declared.value.Value.{Value}
-use Rattle.outside.specs.Files.{bytes_of}
 use Rattle.outside.specs.declared.file.File.{File}
 use Rattle.script_check.specs.Script.{Script}
 use Rattle.script_loading.specs.Accepted.{Accepted}
+use Rattle.script_loading.specs.Loads.{AllHaveRows, Loads}
 use Rattle.command_words.specs.Words.{asked_for}
 use Rattle.script_loading.specs.declared.limits.TheConstants.{SCRIPT_LIMIT, INPUT_LIMIT}
 use Rattle.run_course.specs.declared.limits.TheConstants.{TRIES}

@@ -1,52 +1,36 @@
 -- The parts of the course of a call.
-use Rattle.std.specs.Prelude.{◌≡◌, ◌⊎◌, ℕ, List, [], ◌∷◌, ◌++◌, codes, drop, Option, Some, Err, IsSome, IsUtf8, ⊤}
-use Rattle.std.specs.List.{All, AllZip, filter, flat_map}
-use Rattle.build_law.specs.Limits.{HasFirstOutputs, HasShortFlattens}
+use Rattle.std.specs.Prelude.{◌≡◌, ◌⊎◌, ℕ, List, [], ◌∷◌, ◌++◌, codes, Option, Some, IsSome}
+use Rattle.std.specs.List.{All, AllZip}
 use Rattle.build_law.specs.Worlds.{world_of}
 use Rattle.command_words.specs.declared.words.Command.{Command}
 use Rattle.command_words.specs.declared.words.Command.TheVariants.{Direct, Run}
 use Rattle.crew.specs.Hosts.{Account}
-use Rattle.csv_rows.specs.Rows.{rows_of}
 use Rattle.csv_rows.specs.Text.{table_text}
-use Rattle.csv_rows.specs.declared.fault.RowFault.{RowFault}
-use Rattle.csv_rows.specs.declared.fault.RowFault.TheVariants.{Bad}
-use Rattle.csv_rows.specs.declared.fault.RowFault.TheVariants as row_fault
 use Rattle.direct_meaning.specs.Direct.{meaning, sizes_of, traps_of}
 use Rattle.direct_meaning.specs.Evaluated.{bag_at}
-use Rattle.direct_meaning.specs.Inputs.{HaveRows, Wanted, inputs_of, wanted_by}
+use Rattle.direct_meaning.specs.Inputs.{inputs_of}
 use Rattle.exec_plan.specs.declared.plan.Plan.{Plan}
 use Rattle.flume_collection.specs.declared.trap.Trap.{Trap}
-use Rattle.flume_grammar.specs.declared.fault.ScriptFault.{ScriptFault}
-use Rattle.flume_grammar.specs.declared.fault.ScriptFault.TheVariants as script_fault
 use Rattle.flume_value.specs.declared.value.Value.{Value}
-use Rattle.outside.specs.Cause.{RoseBy}
 use Rattle.outside.specs.Saves.{HasFiles}
 use Rattle.outside.specs.Says.{HasLine}
 use Rattle.outside.specs.Seen.{Seen, SeenShelf}
 use Rattle.outside.specs.declared.file.File.{File as NamedBytes}
 use Rattle.outside.specs.declared.host.Phase.{Phase}
-use Rattle.outside.specs.declared.loads.LoadFault.{LoadFault}
-use Rattle.outside.specs.declared.loads.LoadFault.TheVariants as load
 use Rattle.plan_phases.specs.Told.{IsGivenUp}
 use Rattle.run_settings.specs.Settings.{RunSettings}
 use Rattle.run_texts.specs.Lines.{line_of}
 use Rattle.run_texts.specs.Texts.{size_lines}
 use Rattle.run_texts.specs.declared.status.Place.TheVariants.{File, Screen}
 use Rattle.run_texts.specs.declared.status.Status.{Status}
-use Rattle.run_texts.specs.declared.status.Status.TheVariants.{Done, GaveUp, WriteFault, ScriptRefused, InputRefused, ReadFault, WantOfMemory, TooLong, NoFile}
-use Rattle.script_check.specs.declared.made.Made.{Made}
-use Rattle.script_check.specs.declared.made.Made.TheVariants as made
+use Rattle.run_texts.specs.declared.status.Status.TheVariants.{Done, GaveUp, WriteFault, WantOfMemory}
 use Rattle.script_check.specs.declared.made.Output.{Output}
-use Rattle.script_check.specs.Needed.{is_needed, numbered}
-use Rattle.script_check.specs.Script.{Node, Script}
+use Rattle.script_check.specs.Script.{Script}
 use Rattle.script_run.specs.Runs.{phases_of}
-use Rattle.written_types.specs.Named.{Named}
-use Rattle.script_loading.specs.Accepted.{Accepted, Refused}
+use Rattle.script_loading.specs.Causes.{IsInputsCause}
 use Rattle.run_course.specs.Answers.{FailsAtFile, GivesUp, HasText, IsCause, IsCutOff, MayTell, name_at}
-use Rattle.script_loading.specs.Loads.{AllHaveRows, IsAbove, IsMissing, Loads}
 use Rattle.run_course.specs.Asked.{Reads, inputs_read, tries_of}
 use Rattle.run_course.specs.Written.{IsMeant, Table, files_of}
-use Rattle.script_loading.specs.declared.limits.TheConstants.{SCRIPT_LIMIT, INPUT_LIMIT}
 use Rattle.run_course.specs.declared.limits.TheConstants.{TRIES}
 use Rattle.run_course.specs.declared.stop.Stop.{Stop}
 use Rattle.run_course.specs.declared.stop.Trapped.{Trapped}
