@@ -15,7 +15,8 @@ use Rattle.run_texts.specs.declared.status.Status.{Status}
 use Rattle.run_texts.specs.declared.status.Status.TheVariants.{Done, GaveUp, Usage, ScriptRefused, InputRefused, Trap, ReadFault, WriteFault, WantOfMemory, TooLong, NoFile}
 use Rattle.script_program.specs.Script.{Script}
 use Rattle.run_course.specs.Answers.{Answers, IsGaveUp, IsTrap, IsUsage, MayTell}
-use Rattle.run_course.specs.Asked.{AllHaveRows, AskFor, IsAskedFor, Reads, inputs_read}
+use Rattle.script_loading.specs.Loads.{AllHaveRows}
+use Rattle.run_course.specs.Asked.{AskFor, IsAskedFor, Reads, inputs_read}
 use Rattle.run_course.specs.Promises.{IsUnlessFailed}
 use Rattle.run_course.specs.World.{World}
 use Rattle.run_course.specs.Written.{IsMeant, IsWritten, Table, Writes}

@@ -1,12 +1,11 @@
 -- The cause of each answer, from the causes of its parts.
-use Rattle.std.proofs.Common.{◌≡◌, ℕ, ◌≤◌, inl, inr, List, sym, refl, subst, arith}
+use Rattle.std.proofs.Common.{◌≡◌, ℕ, ◌≤◌, inl, inr, List, sym, refl, subst}
 use Rattle.command_words.specs.declared.words.Command.{Command}
 use Rattle.command_words.specs.declared.words.Command.TheVariants.{Direct, Run}
 use Rattle.crew.specs.Hosts.{Account}
 use Rattle.direct_meaning.specs.Inputs.{Wanted, inputs_of}
 use Rattle.exec_plan.specs.declared.plan.Plan.{Plan}
 use Rattle.flume_value.specs.declared.value.Value.{Value}
-use Rattle.outside.specs.Cause.{RoseBy}
 use Rattle.outside.specs.Says.{HasLine}
 use Rattle.outside.specs.Seen.{Seen}
 use Rattle.outside.specs.declared.file.File.{File as NamedBytes}
@@ -18,15 +17,18 @@ use Rattle.run_texts.specs.declared.status.Status.TheVariants.{Done, GaveUp, Usa
 use Rattle.script_program.specs.Script.{Script}
 use Rattle.script_plans.specs.Plans.{IsScriptPlan}
 use Rattle.run_course.specs.Answers.{Answers, IsCause, IsRefused}
-use Rattle.run_course.specs.Asked.{AllHaveRows, AskFor, IsAbove, IsAskedFor, IsMissing, IsTurnOf, Loads, Reads, inputs_read, tries_of}
+use Rattle.script_loading.specs.Loads.{AllHaveRows, IsAbove, IsMissing}
+use Rattle.run_course.specs.Asked.{AskFor, IsAskedFor, IsTurnOf, Reads, inputs_read, tries_of}
 use Rattle.run_course.specs.Lent.{lent}
 use Rattle.run_course.specs.World.{World}
 use Rattle.run_course.specs.Written.{IsWritten, Writes}
-use Rattle.run_course.specs.declared.limits.TheConstants.{SCRIPT_LIMIT, INPUT_LIMIT}
+use Rattle.script_loading.specs.declared.limits.TheConstants.{SCRIPT_LIMIT, INPUT_LIMIT}
 use Rattle.run_course.specs.declared.stop.Stop.{Stop}
 use Rattle.run_course.specs.declared.stop.Stop.TheVariants as stop
 use Rattle.run_course.specs.declared.stop.Trapped.{Trapped}
-use Rattle.run_course.specs.inner.Course.{Delivers, HasTrap, IsCommandStop, IsInputCause, IsInputsCause, IsLoaded, IsMeaningStop, IsRunStop, IsScriptCause, IsStopped, IsTrapped}
+use Rattle.script_loading.specs.Causes.{IsInputCause, IsInputsCause, IsLoaded, IsScriptCause}
+use Rattle.run_course.specs.inner.Course.{Delivers, HasTrap, IsCommandStop, IsMeaningStop, IsRunStop, IsStopped, IsTrapped}
+use Rattle.script_loading.proofs.SinceLemmas.{inputs_since}
 use Rattle.run_course.proofs.ReadLemmas.{Told, Words}
 
 abbrev SeenSource : Type 0
@@ -130,54 +132,6 @@ module _ (words : Words) (before after : SeenSource) (olds news : List Account)
   inputs_cause script status read cause =
       input_cause cause.1 status
       (script, cause.0, cause.2, cause.3, read, cause.4, cause.5) cause.6
-
--- ---- a later moment
-
--- a count that rose after a later moment rose
-rose_since : (tries before middle after : ℕ) → before ≤ middle → RoseBy tries middle after
-    → RoseBy tries before after
-rose_since tries before middle after later rose = omega arith
-
-module _ (tries : ℕ) (before middle after : SeenSource) where
-  input_since : (wanted : Wanted) (status : Status) → middle.told ≡ before.told
-      → before.faults ≤ middle.faults → IsInputCause tries middle after wanted status
-      → IsInputCause tries before after wanted status
-  input_since wanted (InputRefused name row column kind) told later cause = (
-    cause.0,
-    cause.1,
-    subst (λ (t : Told). Loads t wanted.file INPUT_LIMIT cause.1) told cause.2,
-    cause.3,
-  )
-  input_since wanted (NoFile other) told later cause =
-      (cause.0, subst (λ (t : Told). IsMissing t wanted.file) told cause.1)
-  input_since wanted (ReadFault other) told later cause =
-      (cause.0, rose_since tries before.faults middle.faults after.faults later cause.1)
-  input_since wanted (TooLong other most) told later cause = (
-    cause.0,
-    cause.1,
-    subst (λ (t : Told). IsAbove t wanted.file INPUT_LIMIT) told cause.2,
-  )
-  input_since wanted WantOfMemory told later cause = tt
-  input_since wanted Usage told later cause = absurd cause
-  input_since wanted Done told later cause = absurd cause
-  input_since wanted (ScriptRefused line kind) told later cause = absurd cause
-  input_since wanted (WriteFault place) told later cause = absurd cause
-  input_since wanted (GaveUp stage phase task) told later cause = absurd cause
-  input_since wanted (Trap origin kind element) told later cause = absurd cause
-
-  -- the same cause, counted from an earlier moment
-  pub inputs_since : (inputs : List Wanted) (status : Status) → middle.told ≡ before.told
-      → before.faults ≤ middle.faults → IsInputsCause tries middle after inputs status
-      → IsInputsCause tries before after inputs status
-  inputs_since inputs status told later cause = (
-    cause.0,
-    cause.1,
-    cause.2,
-    cause.3,
-    cause.4,
-    subst (λ (t : Told). AllHaveRows t cause.0 cause.3) told cause.5,
-    input_since cause.1 status told later cause.6,
-  )
 
 -- ---- a command
 

@@ -21,7 +21,8 @@ use Rattle.run_texts.specs.declared.status.Status.TheVariants.{Done, GaveUp, Usa
 use Rattle.script_program.specs.Script.{Script}
 use Rattle.script_run.specs.Runs.{phases_of}
 use Rattle.run_course.specs.Answers.{Answers, IsGaveUp, IsReadFault, IsTrap, MayTell}
-use Rattle.run_course.specs.Asked.{AllHaveRows, IsAskedFor, Reads, inputs_read, tries_of}
+use Rattle.script_loading.specs.Loads.{AllHaveRows}
+use Rattle.run_course.specs.Asked.{IsAskedFor, Reads, inputs_read, tries_of}
 use Rattle.run_course.specs.Lent.{lent}
 use Rattle.run_course.specs.Promises.{CanEnd, CanRun, EndsAs, EndsWith, IsEnd, IsShelfCalm}
 use Rattle.run_course.specs.World.{World}

@@ -18,7 +18,8 @@ use Rattle.script_program.specs.declared.made.Output.{Output}
 use Rattle.script_program.specs.Script.{Script}
 use Rattle.run_course.specs.Answers.{FailsAtFile}
 use Rattle.run_course.specs.Written.{Table, file_of, files_of}
-use Rattle.run_course.specs.inner.Course.{AreFiles, HaveMembers, IsFileOf, IsReady, file_with}
+use Rattle.script_loading.specs.Ready.{IsReady}
+use Rattle.run_course.specs.inner.Course.{AreFiles, HaveMembers, IsFileOf, file_with}
 
 abbrev Bags : Type 0
 Bags = List (Option (List Value))

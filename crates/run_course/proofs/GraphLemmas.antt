@@ -7,7 +7,7 @@ use Rattle.exec_graph.specs.Wellformed.{IsGraphOk}
 use Rattle.graph_build.specs.Graphs.{graph_of}
 use Rattle.script_program.specs.Script.{Script}
 use Rattle.script_laws.proofs.RuleLemmas.{well-formed}
-use Rattle.run_course.specs.Accepted.{Accepted}
+use Rattle.script_loading.specs.Accepted.{Accepted}
 
 pub accepted_graph : (bytes : List ℕ) (script : Script) → Accepted bytes script
     → IsGraphOk (graph_of script)

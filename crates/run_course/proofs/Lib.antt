@@ -1,4 +1,3 @@
-pub mod AcceptedLemmas
 pub mod GraphLemmas
 pub mod ReadLemmas
 pub mod StopLemmas
@@ -8,9 +7,6 @@ pub mod CompleteLemmas
 pub mod LeftLemmas
 pub mod CauseLemmas
 pub mod PromiseLemmas
-pub mod NameLemmas
-pub mod ProgramLemmas
-pub mod InputLemmas
 pub mod FileLemmas
 pub mod OriginLemmas
 pub mod MeaningLemmas

@@ -8,13 +8,14 @@ use Rattle.direct_meaning.specs.Inputs.{Wanted, inputs_of}
 use Rattle.flume_value.specs.declared.value.Value.{Value}
 use Rattle.outside.specs.declared.file.File.{File as NamedBytes}
 use Rattle.script_program.specs.Script.{Script}
-use Rattle.run_course.specs.Accepted.{Accepted}
-use Rattle.run_course.specs.Asked.{AllHaveRows, AskFor, HasRows, IsAbove, IsMissing, Loads, Reads}
+use Rattle.script_loading.specs.Accepted.{Accepted}
+use Rattle.script_loading.specs.Loads.{AllHaveRows, HasRows, IsAbove, IsMissing, Loads}
+use Rattle.run_course.specs.Asked.{AskFor, Reads}
 use Rattle.command_words.specs.Words.{Asked, asked_for}
 use Rattle.run_course.specs.Written.{IsMeant, Table}
-use Rattle.run_course.specs.declared.limits.TheConstants.{SCRIPT_LIMIT}
+use Rattle.script_loading.specs.declared.limits.TheConstants.{SCRIPT_LIMIT}
 use Rattle.command_words.specs.declared.words.Command.{Command}
-use Rattle.run_course.proofs.AcceptedLemmas.{accepted_once}
+use Rattle.script_loading.proofs.AcceptedLemmas.{accepted_once}
 
 abbrev pub Told : Type 0
 Told = Option (List NamedBytes)

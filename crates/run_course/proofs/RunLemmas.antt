@@ -21,7 +21,7 @@ use Rattle.script_run.specs.Comes.{AreMembers}
 use Rattle.script_run.specs.Runs.{IsFirstOf, IsRan}
 use Rattle.script_run.specs.declared.run.Ran.{Ran}
 use Rattle.run_course.specs.Answers.{MayTell, name_at}
-use Rattle.run_course.specs.Asked.{AllHaveRows}
+use Rattle.script_loading.specs.Loads.{AllHaveRows}
 use Rattle.run_course.specs.Lent.{lent}
 use Rattle.run_course.specs.Written.{AllTasksRan, Table, WritesRun, file_of, files_of, shown_as}
 use Rattle.run_course.specs.declared.stop.Stop.{Stop}

@@ -14,13 +14,14 @@ use Rattle.outside.specs.declared.file.File.{File as NamedBytes}
 use Rattle.run_texts.specs.declared.status.Status.{Status}
 use Rattle.run_texts.specs.declared.status.Status.TheVariants.{ScriptRefused, InputRefused, TooLong, NoFile}
 use Rattle.script_program.specs.Script.{Script}
-use Rattle.run_course.specs.Accepted.{Accepted, Refused}
+use Rattle.script_loading.specs.Accepted.{Accepted, Refused}
 use Rattle.run_course.specs.Answers.{IsInputRefused, IsNoFile, IsScriptRefused, IsTooLong}
-use Rattle.run_course.specs.Asked.{AllHaveRows, AskFor, HasRows, IsAbove, IsAskedFor, IsMissing, IsTurnOf, Loads, Reads, inputs_read}
+use Rattle.script_loading.specs.Loads.{AllHaveRows, HasRows, IsAbove, IsMissing, Loads}
+use Rattle.run_course.specs.Asked.{AskFor, IsAskedFor, IsTurnOf, Reads, inputs_read}
 use Rattle.command_words.specs.Words.{asked_for}
-use Rattle.run_course.specs.declared.limits.TheConstants.{SCRIPT_LIMIT, INPUT_LIMIT}
+use Rattle.script_loading.specs.declared.limits.TheConstants.{SCRIPT_LIMIT, INPUT_LIMIT}
 use Rattle.command_words.specs.declared.words.Command.{Command}
-use Rattle.run_course.proofs.AcceptedLemmas.{not_both, one_reason}
+use Rattle.script_loading.proofs.AcceptedLemmas.{not_both, one_reason}
 use Rattle.run_course.proofs.ReadLemmas.{Told, Words, not_above, not_gone_and_long, not_missing, same_asked, same_bytes, same_command, same_script}
 
 -- ---- files that stop a call

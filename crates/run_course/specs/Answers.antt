@@ -33,13 +33,14 @@ use Rattle.script_program.specs.Script.{Script}
 use Rattle.script_plans.specs.Plans.{IsScriptPlan}
 use Rattle.script_run.specs.Runs.{phases_of, split_of}
 use Rattle.task_lists.specs.Plans.{first_trap}
-use Rattle.run_course.specs.Accepted.{Refused}
-use Rattle.run_course.specs.Asked.{AllHaveRows, AskFor, IsAbove, IsAskedFor, IsMissing, IsTurnOf, Loads, Reads, tries_of}
+use Rattle.script_loading.specs.Accepted.{Refused}
+use Rattle.script_loading.specs.Loads.{AllHaveRows, IsAbove, IsMissing, Loads}
+use Rattle.run_course.specs.Asked.{AskFor, IsAskedFor, IsTurnOf, Reads, tries_of}
 use Rattle.command_words.specs.Words.{asked_for}
 use Rattle.run_course.specs.Lent.{lent}
 use Rattle.run_course.specs.World.{World}
 use Rattle.run_course.specs.Written.{IsMeant, IsWritten, Table}
-use Rattle.run_course.specs.declared.limits.TheConstants.{SCRIPT_LIMIT, INPUT_LIMIT}
+use Rattle.script_loading.specs.declared.limits.TheConstants.{SCRIPT_LIMIT, INPUT_LIMIT}
 use Rattle.command_words.specs.declared.words.Command.{Command}
 use Rattle.command_words.specs.declared.words.Command.TheVariants.{Check, Plan as Show, Direct, Run}
 

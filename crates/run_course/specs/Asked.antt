@@ -1,30 +1,16 @@
 -- The files that a call asks for, what is in them, and the turn of each.
-use Rattle.std.specs.Prelude.{◌≡◌, ◌⊎◌, ◌<◌, ◌≤◌, ℕ, List, [], ◌∷◌, ◌++◌, length, Option, Some, None, Ok, IfSome, IsSomeAnd, ⊤}
-use Rattle.csv_rows.specs.Rows.{rows_of}
+use Rattle.std.specs.Prelude.{◌≡◌, ◌⊎◌, ℕ, List, [], ◌∷◌, ◌++◌, Option, Some}
 use Rattle.direct_meaning.specs.Inputs.{Wanted, inputs_of}
 use Rattle.flume_value.specs.declared.value.Value.{Value}
-use Rattle.outside.specs.Files.{bytes_of}
 use Rattle.outside.specs.declared.file.File.{File}
 use Rattle.script_program.specs.Script.{Script}
-use Rattle.run_course.specs.Accepted.{Accepted}
+use Rattle.script_loading.specs.Accepted.{Accepted}
+use Rattle.script_loading.specs.Loads.{AllHaveRows, Loads}
 use Rattle.command_words.specs.Words.{asked_for}
-use Rattle.run_course.specs.declared.limits.TheConstants.{SCRIPT_LIMIT, INPUT_LIMIT, TRIES}
+use Rattle.script_loading.specs.declared.limits.TheConstants.{SCRIPT_LIMIT, INPUT_LIMIT}
+use Rattle.run_course.specs.declared.limits.TheConstants.{TRIES}
 use Rattle.command_words.specs.declared.words.Command.{Command}
 use Rattle.command_words.specs.declared.words.Command.TheVariants.{Check, Plan, Direct, Run}
-
--- the file of that name has these bytes, where files are told, and they are within the limit
-abbrev pub Loads : Option (List File) → List ℕ → ℕ → List ℕ → Type 0
-Loads told name limit bytes =
-    IfSome told (λ files. bytes_of files name ≡ Some bytes) × (length bytes ≤ limit)
-
--- the file of that name has more bytes than its limit, where files are told
-abbrev pub IsAbove : Option (List File) → List ℕ → ℕ → Type 0
-IsAbove told name limit =
-    IfSome told (λ files. IsSomeAnd (bytes_of files name) (λ bytes. limit < length bytes))
-
--- the source has no file of that name, where files are told
-abbrev pub IsMissing : Option (List File) → List ℕ → Type 0
-IsMissing told name = IfSome told (λ files. bytes_of files name ≡ None)
 
 -- how often a file is loaded for a command before the source's failure is the answer
 abbrev pub tries_of : Command → ℕ
@@ -40,20 +26,6 @@ abbrev pub Reads : List (List ℕ) → Option (List File) → Command → Script
 Reads words told command script =
     (name : List ℕ) × (bytes : List ℕ) × AskFor words command name
     × Loads told name SCRIPT_LIMIT bytes × Accepted bytes script
-
--- the file of an input has these rows
-abbrev pub HasRows : Option (List File) → Wanted → List Value → Type 0
-HasRows told wanted rows =
-    (bytes : List ℕ) × Loads told wanted.file INPUT_LIMIT bytes
-    × (rows_of bytes wanted.type ≡ Some (Ok rows))
-
--- the same of several inputs, in order
-abbrev pub AllHaveRows : Option (List File) → List Wanted → List (List Value) → Type 0
-AllHaveRows told [] [] = ⊤
-AllHaveRows told [] (rows ∷ others) = ⊥
-AllHaveRows told (wanted ∷ inputs) [] = ⊥
-AllHaveRows told (wanted ∷ inputs) (rows ∷ others) =
-    HasRows told wanted rows × AllHaveRows told inputs others
 
 -- the inputs that a command reads of a script: those that are needed, and none to check or plan it
 abbrev pub inputs_read : Command → Script → List Wanted

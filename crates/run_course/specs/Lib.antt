@@ -1,4 +1,3 @@
-pub mod Accepted
 pub mod Answers
 pub mod Asked
 pub mod Lent

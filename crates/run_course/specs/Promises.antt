@@ -12,7 +12,8 @@ use Rattle.outside.specs.Seen.{SeenShelf}
 use Rattle.outside.specs.declared.host.Phase.{Phase}
 use Rattle.plan_phases.specs.Told.{CanFinishAll}
 use Rattle.run_course.specs.Answers.{IsDone, IsFileFault, IsGaveUp, IsInputRefused, IsNoFile, IsReadFault, IsRefused, IsScreenFault, IsScriptRefused, IsTooLong, IsTrap, IsUsage}
-use Rattle.run_course.specs.Asked.{AllHaveRows, Reads, inputs_read, tries_of}
+use Rattle.script_loading.specs.Loads.{AllHaveRows}
+use Rattle.run_course.specs.Asked.{Reads, inputs_read, tries_of}
 use Rattle.run_course.specs.Lent.{lent}
 use Rattle.run_course.specs.World.{Keeps, World}
 use Rattle.run_course.specs.Written.{Table}

@@ -20,7 +20,8 @@ use Rattle.script_run.specs.Runs.{WereRun, phases_of}
 use Rattle.serde_json.specs.Written.{compact_text}
 use Rattle.script_program.specs.declared.made.Output.{Output}
 use Rattle.script_program.specs.Script.{Script}
-use Rattle.run_course.specs.Asked.{AllHaveRows, Reads}
+use Rattle.script_loading.specs.Loads.{AllHaveRows}
+use Rattle.run_course.specs.Asked.{Reads}
 use Rattle.run_course.specs.Lent.{lent}
 use Rattle.command_words.specs.declared.words.Command.{Command}
 use Rattle.command_words.specs.declared.words.Command.TheVariants.{Check, Plan as Show, Direct, Run}

@@ -11,12 +11,12 @@ ghost use Rattle.script_laws.specs.WellFormed.{IsWellFormed};
 ghost use Rattle.run_course.specs.Asked as spec;
 ghost use Rattle.run_course.specs.Lent.{lends};
 ghost use Rattle.run_course.specs.Written.{ShowsPlan, Writes, WritesMeaning, WritesRun};
-ghost use Rattle.run_course.specs.inner.Course.{IsCommandStop, IsMeaningStop, IsReady};
+ghost use Rattle.script_loading.specs.Ready.{IsReady};
+ghost use Rattle.run_course.specs.inner.Course.{IsCommandStop, IsMeaningStop};
 
 use crate::evaluation::written_meaning;
 use crate::files::Written;
 use crate::limits::TRIES;
-use crate::loading::rows_of_inputs;
 use crate::running::written_run;
 use crate::showing::{plan_shown, shown};
 use crate::stop::Stop;
@@ -24,6 +24,7 @@ use command_words::{Command, PlanForm};
 use outside::{Host, Source};
 use run_settings::Settings;
 use script_check::Program;
+use script_loading::rows_of_inputs;
 use std::alloc::{AllocError, Global};
 use std::thread::Threads;
 

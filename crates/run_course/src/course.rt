@@ -14,12 +14,12 @@ ghost use Rattle.run_course.specs.inner.Course.{Delivers, IsStopped};
 
 use crate::commands::{carried_out, tries_of};
 use crate::files::Written;
-use crate::loading::script_of;
 use crate::stop::Stop;
 use command_words::asked_for;
 use flume_value::Str;
 use outside::{Host, Output, Screen, Shelf, Source, save_all, say};
 use run_texts::{Place, Status, tell, tell_trap};
+use script_loading::script_of;
 use std::alloc::Global;
 use std::thread::Threads;
 

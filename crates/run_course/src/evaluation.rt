@@ -6,7 +6,8 @@ ghost use Rattle.direct_meaning.specs.Inputs.{AreInputs};
 ghost use Rattle.outside.specs.Saves.{output_file};
 ghost use Rattle.run_texts.specs.Texts.{NamedOutput, size_lines};
 ghost use Rattle.script_laws.specs.WellFormed.{IsWellFormed};
-ghost use Rattle.run_course.specs.inner.Course.{AreFiles, HaveMembers, Gives, IsFileOf, IsReady, IsStop};
+ghost use Rattle.script_loading.specs.Ready.{IsReady};
+ghost use Rattle.run_course.specs.inner.Course.{AreFiles, HaveMembers, Gives, IsFileOf, IsStop};
 
 use crate::files::{Written, file_of, trapped, with_sizes};
 use crate::stop::Stop;

@@ -2,7 +2,8 @@
 ghost use Rattle.std.specs.Prelude.{◌≡◌, ◌<◌, ◌++◌, IfOk, OnOk, codes, length, map, slice_get, Some};
 ghost use Rattle.outside.specs.Saves.{output_file};
 ghost use Rattle.run_texts.specs.Texts.{NamedOutput, size_lines};
-ghost use Rattle.run_course.specs.inner.Course.{IsReady, IsTrapOf, file_with};
+ghost use Rattle.script_loading.specs.Ready.{IsReady};
+ghost use Rattle.run_course.specs.inner.Course.{IsTrapOf, file_with};
 
 use crate::stop::{Stop, Trapped};
 use csv_rows::text_under_columns;

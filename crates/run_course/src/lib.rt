@@ -1,23 +1,20 @@
 //! The course of a call, and what each of its answers says (specs/Answers.antt).
 //!
 //! The words are read (crate command_words), the script and its inputs are loaded and decoded
-//! (`loading`), and each command does its part (`commands`): a plan is shown (`showing`), a script
-//! is evaluated (`evaluation`), or its plan is run on hosts (`running`). Only then its files are
-//! written, and the text of the screen (`course`). A call that traps, the task that a run gave up
-//! or the first refusal met is the answer, and leaves its line.
+//! (crate script_loading), and each command does its part (`commands`): a plan is shown
+//! (`showing`), a script is evaluated (`evaluation`), or its plan is run on hosts (`running`). Only
+//! then its files are written, and the text of the screen (`course`). A call that traps, the task
+//! that a run gave up or the first refusal met is the answer, and leaves its line.
 #![tactic(auto)]
 
 mod commands;
 mod course;
 mod evaluation;
 mod files;
-mod laws;
 mod limits;
-mod loading;
 mod running;
 mod showing;
 mod stop;
 
 pub use course::run;
-pub use laws::accepted_law;
-pub use limits::{INPUT_LIMIT, SCRIPT_LIMIT, TRIES};
+pub use limits::TRIES;

@@ -1,8 +1,2 @@
-/// The most bytes that a script may have.
-pub const SCRIPT_LIMIT: u64 = 65_536;
-
-/// The most bytes that an input file may have.
-pub const INPUT_LIMIT: u64 = 67_108_864;
-
 /// How often a file is loaded before the source's failure is the answer.
 pub const TRIES: u32 = 2;

@@ -10,7 +10,8 @@ ghost use Rattle.script_plans.specs.Plans.{IsScriptPlan};
 ghost use Rattle.script_run.specs.Runs.{IsPlanOf, IsRan, IsRunFault};
 ghost use Rattle.run_course.specs.Lent.{lent};
 ghost use Rattle.run_course.specs.Written.{AllTasksRan};
-ghost use Rattle.run_course.specs.inner.Course.{Gives, IsReady, IsRunStop, files_with};
+ghost use Rattle.script_loading.specs.Ready.{IsReady};
+ghost use Rattle.run_course.specs.inner.Course.{Gives, IsRunStop, files_with};
 
 use crate::files::{Written, file_of, trapped, with_sizes};
 use crate::showing::ShownPlan;

@@ -7,7 +7,7 @@ ghost use Rattle.script_laws.specs.WellFormed.{IsWellFormed};
 ghost use Rattle.script_plans.specs.Plans.{IsScriptPlan};
 ghost use Rattle.script_run.specs.Runs.{IsPlanOf};
 ghost use Rattle.run_course.specs.Written.{ShowsPlan, shown_as};
-ghost use Rattle.run_course.specs.inner.Course.{IsReady};
+ghost use Rattle.script_loading.specs.Ready.{IsReady};
 
 use build_law::types_law;
 use command_words::PlanForm;

@@ -1,138 +1,40 @@
 -- The parts of the course of a call.
-use Rattle.std.specs.Prelude.{◌≡◌, ◌⊎◌, ℕ, List, [], ◌∷◌, ◌++◌, codes, drop, Option, Some, Err, IsSome, IsUtf8, ⊤}
-use Rattle.std.specs.List.{All, AllZip, filter, flat_map}
-use Rattle.build_law.specs.Limits.{HasFirstOutputs, HasShortFlattens}
+use Rattle.std.specs.Prelude.{◌≡◌, ◌⊎◌, ℕ, List, [], ◌∷◌, ◌++◌, codes, Option, Some, IsSome}
+use Rattle.std.specs.List.{All, AllZip}
 use Rattle.build_law.specs.Worlds.{world_of}
 use Rattle.command_words.specs.declared.words.Command.{Command}
 use Rattle.command_words.specs.declared.words.Command.TheVariants.{Direct, Run}
 use Rattle.crew.specs.Hosts.{Account}
-use Rattle.csv_rows.specs.Rows.{rows_of}
 use Rattle.csv_rows.specs.Text.{table_text}
-use Rattle.csv_rows.specs.declared.fault.RowFault.{RowFault}
-use Rattle.csv_rows.specs.declared.fault.RowFault.TheVariants.{Bad}
-use Rattle.csv_rows.specs.declared.fault.RowFault.TheVariants as row_fault
 use Rattle.direct_meaning.specs.Direct.{meaning, sizes_of, traps_of}
 use Rattle.direct_meaning.specs.Evaluated.{bag_at}
-use Rattle.direct_meaning.specs.Inputs.{HaveRows, Wanted, inputs_of, wanted_by}
+use Rattle.direct_meaning.specs.Inputs.{inputs_of}
 use Rattle.exec_plan.specs.declared.plan.Plan.{Plan}
 use Rattle.flume_collection.specs.declared.trap.Trap.{Trap}
-use Rattle.flume_grammar.specs.declared.fault.ScriptFault.{ScriptFault}
-use Rattle.flume_grammar.specs.declared.fault.ScriptFault.TheVariants as script_fault
 use Rattle.flume_value.specs.declared.value.Value.{Value}
-use Rattle.outside.specs.Cause.{RoseBy}
 use Rattle.outside.specs.Saves.{HasFiles}
 use Rattle.outside.specs.Says.{HasLine}
 use Rattle.outside.specs.Seen.{Seen, SeenShelf}
 use Rattle.outside.specs.declared.file.File.{File as NamedBytes}
 use Rattle.outside.specs.declared.host.Phase.{Phase}
-use Rattle.outside.specs.declared.loads.LoadFault.{LoadFault}
-use Rattle.outside.specs.declared.loads.LoadFault.TheVariants as load
 use Rattle.plan_phases.specs.Told.{IsGivenUp}
 use Rattle.run_settings.specs.Settings.{RunSettings}
 use Rattle.run_texts.specs.Lines.{line_of}
 use Rattle.run_texts.specs.Texts.{size_lines}
 use Rattle.run_texts.specs.declared.status.Place.TheVariants.{File, Screen}
 use Rattle.run_texts.specs.declared.status.Status.{Status}
-use Rattle.run_texts.specs.declared.status.Status.TheVariants.{Done, GaveUp, WriteFault, ScriptRefused, InputRefused, ReadFault, WantOfMemory, TooLong, NoFile}
-use Rattle.script_program.specs.declared.made.Made.{Made}
-use Rattle.script_program.specs.declared.made.Made.TheVariants as made
+use Rattle.run_texts.specs.declared.status.Status.TheVariants.{Done, GaveUp, WriteFault, WantOfMemory}
 use Rattle.script_program.specs.declared.made.Output.{Output}
-use Rattle.script_program.specs.Needed.{is_needed, numbered}
-use Rattle.script_program.specs.Script.{Node, Script}
+use Rattle.script_program.specs.Script.{Script}
 use Rattle.script_run.specs.Runs.{phases_of}
-use Rattle.written_types.specs.Named.{Named}
-use Rattle.run_course.specs.Accepted.{Accepted, Refused}
+use Rattle.script_loading.specs.Causes.{IsInputsCause}
 use Rattle.run_course.specs.Answers.{FailsAtFile, GivesUp, HasText, IsCause, IsCutOff, MayTell, name_at}
-use Rattle.run_course.specs.Asked.{AllHaveRows, IsAbove, IsMissing, Loads, Reads, inputs_read, tries_of}
+use Rattle.run_course.specs.Asked.{Reads, inputs_read, tries_of}
 use Rattle.run_course.specs.Written.{IsMeant, Table, files_of}
-use Rattle.run_course.specs.declared.limits.TheConstants.{SCRIPT_LIMIT, INPUT_LIMIT, TRIES}
+use Rattle.run_course.specs.declared.limits.TheConstants.{TRIES}
 use Rattle.run_course.specs.declared.stop.Stop.{Stop}
 use Rattle.run_course.specs.declared.stop.Trapped.{Trapped}
 use Rattle.run_course.specs.declared.stop.Stop.TheVariants as stop
-
--- ---- scripts
-
--- the file that is read is named in UTF-8
-abbrev pub IsNamedMade : Made → Type 0
-IsNamedMade (made.Input file columns) = IsUtf8 file
-IsNamedMade _ = ⊤
-
--- What each accepted script is ready for: its files can be asked for by name, no statement puts too
--- many collections together, and each reads the first output of a function.
-pub record IsReady (script : Script) : Type 0 where
-  pub reads : All (λ entry. IsNamedMade entry.1.made) script.nodes
-  pub writes : All (λ entry. IsUtf8 entry.0) script.outputs
-  pub short : HasShortFlattens script
-  pub first : HasFirstOutputs script
-
--- the file of that name is accepted as this script
-abbrev pub IsLoaded : Option (List NamedBytes) → List ℕ → Script → Type 0
-IsLoaded told name script =
-    (bytes : List ℕ) × Loads told name SCRIPT_LIMIT bytes × Accepted bytes script
-
--- why a program was not made of the bytes
-abbrev pub IsScriptFault : List ℕ → ScriptFault → Type 0
-IsScriptFault bytes (script_fault.Refused line kind) = Refused bytes line kind
-IsScriptFault bytes script_fault.Memory = ⊤
-
--- ---- what is loaded
-
--- the answer to a refused load
-abbrev pub status_of : LoadFault → List ℕ → ℕ → Status
-status_of load.Missing name limit = NoFile name
-status_of load.Failed name limit = ReadFault name
-status_of load.TooLong name limit = TooLong name limit
-status_of load.Memory name limit = WantOfMemory
-
--- the answer to a refused input
-abbrev pub fault_status : RowFault → List ℕ → Status
-fault_status (Bad row column kind) name = InputRefused name row column kind
-fault_status row_fault.Memory name = WantOfMemory
-
--- how often a file is loaded before the source's failure is the answer
-module _ (tries : ℕ) (before after : Seen (List NamedBytes)) where
-  -- why no bytes of a file were loaded, where the answer is this one
-  abbrev pub IsLoadCause : List ℕ → ℕ → Status → Type 0
-  IsLoadCause name limit (NoFile other) = (other ≡ name) × IsMissing before.told name
-  IsLoadCause name limit (ReadFault other) =
-      (other ≡ name) × RoseBy tries before.faults after.faults
-  IsLoadCause name limit (TooLong other most) =
-      (other ≡ name) × (most ≡ limit) × IsAbove before.told name limit
-  IsLoadCause name limit WantOfMemory = ⊤
-  IsLoadCause name limit status = ⊥
-
-  -- why no script was read, where the answer is this one
-  abbrev pub IsScriptCause : List ℕ → Status → Type 0
-  IsScriptCause name (ScriptRefused line kind) =
-      (bytes : List ℕ) × Loads before.told name SCRIPT_LIMIT bytes × Refused bytes line kind
-  IsScriptCause name status = IsLoadCause name SCRIPT_LIMIT status
-
-  -- why an input has no rows, where the answer is this one
-  abbrev pub IsInputCause : Wanted → Status → Type 0
-  IsInputCause wanted (InputRefused name row column kind) =
-      (name ≡ wanted.file) × (bytes : List ℕ) × Loads before.told wanted.file INPUT_LIMIT bytes
-      × (rows_of bytes wanted.type ≡ Some (Err (Bad row column kind)))
-  IsInputCause wanted status = IsLoadCause wanted.file INPUT_LIMIT status
-
-  -- why not all of these inputs have rows, where the answer is this one: the first that has none
-  abbrev pub IsInputsCause : List Wanted → Status → Type 0
-  IsInputsCause inputs status =
-      (done : List Wanted) × (wanted : Wanted) × (behind : List Wanted)
-      × (rows : List (List Value)) × (inputs ≡ done ++ wanted ∷ behind)
-      × AllHaveRows before.told done rows × IsInputCause wanted status
-
--- the inputs of needed nodes, which have these numbers from one on
-abbrev pub inputs_from : Script → ℕ → Named Node → List Wanted
-inputs_from script number nodes =
-    flat_map (λ it. wanted_by it.1.1.made it.1.1.type)
-    (filter (λ it. is_needed script it.0) (numbered number nodes))
-
--- the inputs of the nodes below a number have these rows, which are of their types
-abbrev pub HasRead : Option (List NamedBytes) → Script → ℕ → List (List Value) → Type 0
-HasRead told script number rows =
-    (done : List Wanted)
-    × (inputs_of script ≡ done ++ inputs_from script number (drop number script.nodes))
-    × AllHaveRows told done rows × HaveRows done rows
 
 -- ---- what comes of it
 

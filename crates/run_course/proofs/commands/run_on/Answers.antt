@@ -5,7 +5,7 @@ use Rattle.crew.proofs.Accounts.{all_grew_not}
 use Rattle.direct_meaning.specs.Inputs.{inputs_of}
 use Rattle.outside.specs.Saves.{output_file}
 use Rattle.outside.specs.Seen.{seen}
-use Rattle.run_course.specs.inner.Course.{IsInputsCause}
+use Rattle.script_loading.specs.Causes.{IsInputsCause}
 use Rattle.run_course.proofs.CauseLemmas.{run_stop}
 use Rattle.run_course.proofs.RunLemmas.{both_ok, writes_run}
 use Rattle.run_course.proofs.commands.run_on.Goals as goal

@@ -7,7 +7,7 @@ use Rattle.outside.specs.Saves.{output_file}
 use Rattle.outside.specs.Seen.{seen}
 use Rattle.outside.specs.declared.file.File.{File}
 use Rattle.run_course.specs.Written.{Writes}
-use Rattle.run_course.specs.inner.Course.{IsScriptCause}
+use Rattle.script_loading.specs.Causes.{IsScriptCause}
 use Rattle.crew.proofs.Accounts.{all_grew_not}
 use Rattle.run_course.proofs.GraphLemmas.{accepted_graph}
 use Rattle.run_course.proofs.CauseLemmas.{command_stop, script_cause, written}

@@ -1,5 +1,5 @@
-use Rattle.run_course.proofs.ProgramLemmas.{checked_ready, checked_well}
-use Rattle.run_course.proofs.loading.program_of.Goals as goal
+use Rattle.script_loading.proofs.ProgramLemmas.{checked_ready, checked_well}
+use Rattle.script_loading.proofs.script.program_of.Goals as goal
 
 pub returns-clause-well_formed : goal.returns-clause-well_formed
 returns-clause-well_formed c =

@@ -19,8 +19,10 @@ use Rattle.script_program.specs.declared.made.Made.TheVariants as made
 use Rattle.script_program.specs.Script.{Function, Node, Script}
 use Rattle.script_laws.specs.WellFormed.{AllFit, Fits, IsWellFormed}
 use Rattle.written_types.specs.Named.{Named}
-use Rattle.run_course.specs.Asked.{AllHaveRows, HasRows}
-use Rattle.run_course.specs.inner.Course.{HasRead, IsInputCause, IsInputsCause, IsNamedMade, IsReady, inputs_from}
+use Rattle.script_loading.specs.Loads.{AllHaveRows, HasRows}
+use Rattle.script_loading.specs.inner.Reading.{HasRead, inputs_from}
+use Rattle.script_loading.specs.Causes.{IsInputCause, IsInputsCause}
+use Rattle.script_loading.specs.Ready.{IsNamedMade, IsReady}
 
 abbrev Told : Type 0
 Told = Option (List NamedBytes)

@@ -3,8 +3,8 @@ use Rattle.std.proofs.lemmas.Result.{err_from_is_err_and}
 use Rattle.script_program.specs.Needed.{is_needed}
 use Rattle.outside.specs.Seen.{seen}
 use Rattle.run_texts.specs.declared.status.Status.TheVariants.{WantOfMemory}
-use Rattle.run_course.proofs.InputLemmas.{at_place, behind_input, behind_other, behind_unneeded, input_at, its_columns, its_file, its_wanted, other_wants, stops_at, there, wants}
-use Rattle.run_course.proofs.loading.add_rows.Goals as goal
+use Rattle.script_loading.proofs.InputLemmas.{at_place, behind_input, behind_other, behind_unneeded, input_at, its_columns, its_file, its_wanted, other_wants, stops_at, there, wants}
+use Rattle.script_loading.proofs.inputs.add_rows.Goals as goal
 
 pub returns-then-not-is_needed-clause-read : goal.returns-then-not-is_needed-clause-read
 returns-then-not-is_needed-clause-read g c =

@@ -1,6 +1,6 @@
 use Rattle.std.proofs.Common.{◌≡◌, ◌≤◌}
-use Rattle.run_course.specs.inner.Course.{HasRead}
-use Rattle.run_course.proofs.loading.rows_of_inputs.Given as goal
+use Rattle.script_loading.specs.inner.Reading.{HasRead}
+use Rattle.script_loading.proofs.inputs.rows_of_inputs.Given as goal
 
 abbrev pub invariant-loop-number : goal.invariant-loop-number
 invariant-loop-number g l =

@@ -1,5 +1,5 @@
-use Rattle.run_course.proofs.AcceptedLemmas.{accepted_once, not_both, one_reason}
-use Rattle.run_course.proofs.laws.accepted_law.Goals as goal
+use Rattle.script_loading.proofs.AcceptedLemmas.{accepted_once, not_both, one_reason}
+use Rattle.script_loading.proofs.laws.accepted_law.Goals as goal
 
 pub returns-clause-one_script : goal.returns-clause-one_script
 returns-clause-one_script c = accepted_once

@@ -1,8 +1,8 @@
 use Rattle.std.proofs.lemmas.Result.{err_from_is_err_and}
 use Rattle.outside.specs.Seen.{seen}
 use Rattle.direct_meaning.specs.Inputs.{inputs_of}
-use Rattle.run_course.proofs.CauseLemmas.{inputs_since}
-use Rattle.run_course.proofs.loading.rows_of_inputs.Goals as goal
+use Rattle.script_loading.proofs.SinceLemmas.{inputs_since}
+use Rattle.script_loading.proofs.inputs.rows_of_inputs.Goals as goal
 
 pub returns-in_err-add_rows-clause-err : goal.returns-in_err-add_rows-clause-err
 returns-in_err-add_rows-clause-err g c =

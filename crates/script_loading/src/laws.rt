@@ -1,7 +1,7 @@
 ghost use Rattle.std.specs.Prelude.{◌≡◌, List, ℕ};
 ghost use Rattle.flume_grammar.specs.declared.fault.ScriptKind.{ScriptKind as Kind};
 ghost use Rattle.script_program.specs.Script.{Script};
-ghost use Rattle.run_course.specs.Accepted.{Accepted, Refused};
+ghost use Rattle.script_loading.specs.Accepted.{Accepted, Refused};
 
 /// Bytes are accepted as one script or refused for one reason, and not both.
 pub fn accepted_law()

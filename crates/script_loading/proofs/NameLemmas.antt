@@ -23,7 +23,7 @@ use Rattle.script_program.specs.Script.{Node, Script, State, nothing, script_fro
 use Rattle.script_check.specs.Operations as op
 use Rattle.script_check.specs.Rules as spec
 use Rattle.script_laws.proofs.CheckedLemmas.{both, ok-same}
-use Rattle.run_course.specs.inner.Course.{IsNamedMade}
+use Rattle.script_loading.specs.Ready.{IsNamedMade}
 
 abbrev IsNamedNode : List ℕ × Node → Type 0
 IsNamedNode entry = IsNamedMade entry.1.made

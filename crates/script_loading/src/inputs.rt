@@ -1,4 +1,4 @@
-// The script and its inputs, as they are loaded and decoded.
+// The rows of a script's inputs, as their files are loaded and decoded.
 ghost use Rattle.std.specs.Prelude.{◌≡◌, ◌≤◌, ◌<◌, ◌⊎◌, ◌+◌, IfErr, IfOk, IsUtf8, OnOk, Some, length};
 ghost use Rattle.direct_meaning.specs.Inputs.{AreInputs, Wanted, inputs_of};
 ghost use Rattle.flume_types.specs.Columns.{input_columns_of};
@@ -6,46 +6,21 @@ ghost use Rattle.flume_types.specs.Typing.{AllHave};
 ghost use Rattle.flume_types.specs.declared.types.Ty.{Ty};
 ghost use Rattle.outside.specs.Seen.{seen};
 ghost use Rattle.script_laws.specs.WellFormed.{IsWellFormed};
-ghost use Rattle.run_course.specs.Accepted.{Accepted};
-ghost use Rattle.run_course.specs.Asked.{AllHaveRows, HasRows, Loads};
-ghost use Rattle.run_course.specs.inner.Course.{HasRead, IsInputCause, IsInputsCause, IsLoadCause, IsLoaded, IsReady, IsScriptCause, IsScriptFault, fault_status, status_of};
+ghost use Rattle.script_loading.specs.Causes.{IsInputCause, IsInputsCause};
+ghost use Rattle.script_loading.specs.Loads.{AllHaveRows, HasRows};
+ghost use Rattle.script_loading.specs.Ready.{IsReady};
+ghost use Rattle.script_loading.specs.inner.Reading.{HasRead, fault_status};
 
-use crate::limits::{INPUT_LIMIT, SCRIPT_LIMIT};
+use crate::files::loaded;
+use crate::limits::INPUT_LIMIT;
 use csv_rows::{RowFault, rows_under_columns};
-use flume_grammar::ScriptFault;
-use flume_syntax::parse;
 use flume_types::Column;
 use flume_value::{Items, Pile, Str};
-use outside::{LoadFault, Source, load_tried};
+use outside::Source;
 use run_texts::Status;
-use script_check::{Made, Program, check};
+use script_check::{Made, Program};
 use std::alloc::Global;
 use std::str;
-
-/// Loads and checks the script of that name, in so many tries.
-pub fn script_of<R: Source>(
-    alloc: Global,
-    name: &str,
-    source: &mut R,
-    tries: u32,
-) -> Result<Program, Status>
-    requires tries { 0 < tries }
-    ensures files { R.files source.new ≡ R.files source.old }
-    ensures ok { IfOk result (λ program.
-        IsLoaded (R.files source.old) name.now program.script) }
-    ensures well_formed { IfOk result (λ program. IsWellFormed program.script) }
-    ensures ready { IfOk result (λ program. IsReady program.script) }
-    ensures err { IfErr result (IsScriptCause tries (seen R.files R.faults source.old)
-        (seen R.files R.faults source.new) name.now) }
-    ensures later { R.faults source.old ≤ R.faults source.new }
-{
-    let bytes = loaded(alloc, source, name, SCRIPT_LIMIT, tries)?;
-    match program_of(alloc, &bytes) {
-        Ok(program) => Ok(program),
-        Err(ScriptFault::Refused { line, kind }) => Err(Status::ScriptRefused { line, kind }),
-        Err(ScriptFault::Memory) => Err(Status::WantOfMemory),
-    }
-}
 
 /// Loads and decodes the inputs that a script needs, in its order, each in so many tries.
 pub fn rows_of_inputs<R: Source>(
@@ -136,53 +111,6 @@ fn rows_of_file<R: Source>(
     match rows_under_columns(alloc, &bytes, columns) {
         Ok(rows) => Ok(rows),
         Err(fault) => Err(input_refused(alloc, name, fault)),
-    }
-}
-
-// The program of the bytes of a script.
-fn program_of(alloc: Global, bytes: &[u8]) -> Result<Program, ScriptFault>
-    ensures accepted { IfOk result (λ program. Accepted bytes.now program.script) }
-    ensures refused { IfErr result (IsScriptFault bytes.now) }
-    ensures well_formed { IfOk result (λ program. IsWellFormed program.script) }
-    ensures ready { IfOk result (λ program. IsReady program.script) }
-{
-    let ast = parse(alloc, bytes)?;
-    check(alloc, ast)
-}
-
-// Loads a file; where the source fails, again, in so many tries.
-fn loaded<R: Source>(
-    alloc: Global,
-    source: &mut R,
-    name: &str,
-    limit: u64,
-    tries: u32,
-) -> Result<Vec<u8>, Status>
-    requires tries { 0 < tries }
-    ensures files { R.files source.new ≡ R.files source.old }
-    ensures ok { IfOk result (λ bytes. Loads (R.files source.old) name.now limit bytes.items) }
-    ensures err { IfErr result (IsLoadCause tries (seen R.files R.faults source.old)
-        (seen R.files R.faults source.new) name.now limit) }
-    ensures later { R.faults source.old ≤ R.faults source.new }
-{
-    match load_tried(alloc, source, name, limit, tries) {
-        Ok(bytes) => Ok(bytes),
-        Err(fault) => Err(refused(alloc, name, limit, fault)),
-    }
-}
-
-// What a refused load is answered with.
-fn refused(alloc: Global, name: &str, limit: u64, fault: LoadFault) -> Status
-    ensures { (result ≡ status_of fault name.now limit) ⊎ (result ≡ Status.WantOfMemory) }
-{
-    let Ok(name) = Str::from_slice(alloc, name.as_bytes()) else {
-        return Status::WantOfMemory;
-    };
-    match fault {
-        LoadFault::Missing => Status::NoFile { name },
-        LoadFault::Failed => Status::ReadFault { name },
-        LoadFault::TooLong => Status::TooLong { name, limit },
-        LoadFault::Memory => Status::WantOfMemory,
     }
 }
 

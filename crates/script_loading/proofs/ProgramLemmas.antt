@@ -13,8 +13,9 @@ use Rattle.script_program.specs.Script.{Script}
 use Rattle.script_laws.proofs.RuleLemmas.{well-formed}
 use Rattle.script_laws.specs.WellFormed.{IsWellFormed}
 use Rattle.written_types.specs.Answer.{Gives as Checks}
-use Rattle.run_course.specs.inner.Course.{IsReady, IsScriptFault}
-use Rattle.run_course.proofs.NameLemmas.{script_named}
+use Rattle.script_loading.specs.Ready.{IsReady}
+use Rattle.script_loading.specs.inner.Reading.{IsScriptFault}
+use Rattle.script_loading.proofs.NameLemmas.{script_named}
 
 -- a fault of the parser is one of the script
 pub parse_fault : (bytes : List ℕ) (why : ScriptFault) → IsRefusal bytes why

@@ -1,0 +1,63 @@
+-- A cause at a later moment is one at an earlier moment.
+use Rattle.std.proofs.Common.{◌≡◌, ℕ, ◌≤◌, List, Option, subst, arith}
+use Rattle.direct_meaning.specs.Inputs.{Wanted}
+use Rattle.outside.specs.Cause.{RoseBy}
+use Rattle.outside.specs.Seen.{Seen}
+use Rattle.outside.specs.declared.file.File.{File as NamedBytes}
+use Rattle.run_texts.specs.declared.status.Status.{Status}
+use Rattle.run_texts.specs.declared.status.Status.TheVariants.{Done, GaveUp, Usage, ScriptRefused, InputRefused, Trap, ReadFault, WriteFault, WantOfMemory, TooLong, NoFile}
+use Rattle.script_loading.specs.Causes.{IsInputCause, IsInputsCause}
+use Rattle.script_loading.specs.Loads.{AllHaveRows, IsAbove, IsMissing, Loads}
+use Rattle.script_loading.specs.declared.limits.TheConstants.{INPUT_LIMIT}
+
+abbrev Told : Type 0
+Told = Option (List NamedBytes)
+
+abbrev SeenSource : Type 0
+SeenSource = Seen (List NamedBytes)
+
+-- a count that rose after a later moment rose
+rose_since : (tries before middle after : ℕ) → before ≤ middle → RoseBy tries middle after
+    → RoseBy tries before after
+rose_since tries before middle after later rose = omega arith
+
+module _ (tries : ℕ) (before middle after : SeenSource) where
+  input_since : (wanted : Wanted) (status : Status) → middle.told ≡ before.told
+      → before.faults ≤ middle.faults → IsInputCause tries middle after wanted status
+      → IsInputCause tries before after wanted status
+  input_since wanted (InputRefused name row column kind) told later cause = (
+    cause.0,
+    cause.1,
+    subst (λ (t : Told). Loads t wanted.file INPUT_LIMIT cause.1) told cause.2,
+    cause.3,
+  )
+  input_since wanted (NoFile other) told later cause =
+      (cause.0, subst (λ (t : Told). IsMissing t wanted.file) told cause.1)
+  input_since wanted (ReadFault other) told later cause =
+      (cause.0, rose_since tries before.faults middle.faults after.faults later cause.1)
+  input_since wanted (TooLong other most) told later cause = (
+    cause.0,
+    cause.1,
+    subst (λ (t : Told). IsAbove t wanted.file INPUT_LIMIT) told cause.2,
+  )
+  input_since wanted WantOfMemory told later cause = tt
+  input_since wanted Usage told later cause = absurd cause
+  input_since wanted Done told later cause = absurd cause
+  input_since wanted (ScriptRefused line kind) told later cause = absurd cause
+  input_since wanted (WriteFault place) told later cause = absurd cause
+  input_since wanted (GaveUp stage phase task) told later cause = absurd cause
+  input_since wanted (Trap origin kind element) told later cause = absurd cause
+
+  -- the same cause, counted from an earlier moment
+  pub inputs_since : (inputs : List Wanted) (status : Status) → middle.told ≡ before.told
+      → before.faults ≤ middle.faults → IsInputsCause tries middle after inputs status
+      → IsInputsCause tries before after inputs status
+  inputs_since inputs status told later cause = (
+    cause.0,
+    cause.1,
+    cause.2,
+    cause.3,
+    cause.4,
+    subst (λ (t : Told). AllHaveRows t cause.0 cause.3) told cause.5,
+    input_since cause.1 status told later cause.6,
+  )

@@ -1,0 +1,5 @@
+pub mod Accepted
+pub mod Causes
+pub mod Loads
+pub mod Ready
+pub mod inner

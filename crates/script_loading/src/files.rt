@@ -1,0 +1,47 @@
+// A file, as it is loaded.
+ghost use Rattle.std.specs.Prelude.{◌≡◌, ◌≤◌, ◌<◌, ◌⊎◌, IfErr, IfOk};
+ghost use Rattle.outside.specs.Seen.{seen};
+ghost use Rattle.script_loading.specs.Causes.{IsLoadCause};
+ghost use Rattle.script_loading.specs.Loads.{Loads};
+ghost use Rattle.script_loading.specs.inner.Reading.{status_of};
+
+use flume_value::Str;
+use outside::{LoadFault, Source, load_tried};
+use run_texts::Status;
+use std::alloc::Global;
+
+/// Loads a file; where the source fails, again, in so many tries.
+pub fn loaded<R: Source>(
+    alloc: Global,
+    source: &mut R,
+    name: &str,
+    limit: u64,
+    tries: u32,
+) -> Result<Vec<u8>, Status>
+    requires tries { 0 < tries }
+    ensures files { R.files source.new ≡ R.files source.old }
+    ensures ok { IfOk result (λ bytes. Loads (R.files source.old) name.now limit bytes.items) }
+    ensures err { IfErr result (IsLoadCause tries (seen R.files R.faults source.old)
+        (seen R.files R.faults source.new) name.now limit) }
+    ensures later { R.faults source.old ≤ R.faults source.new }
+{
+    match load_tried(alloc, source, name, limit, tries) {
+        Ok(bytes) => Ok(bytes),
+        Err(fault) => Err(refused(alloc, name, limit, fault)),
+    }
+}
+
+// What a refused load is answered with.
+fn refused(alloc: Global, name: &str, limit: u64, fault: LoadFault) -> Status
+    ensures { (result ≡ status_of fault name.now limit) ⊎ (result ≡ Status.WantOfMemory) }
+{
+    let Ok(name) = Str::from_slice(alloc, name.as_bytes()) else {
+        return Status::WantOfMemory;
+    };
+    match fault {
+        LoadFault::Missing => Status::NoFile { name },
+        LoadFault::Failed => Status::ReadFault { name },
+        LoadFault::TooLong => Status::TooLong { name, limit },
+        LoadFault::Memory => Status::WantOfMemory,
+    }
+}

@@ -1,0 +1,19 @@
+//! The script and its inputs, as they are loaded and decoded.
+//!
+//! A file is loaded as often as the caller says before the source's failure is the answer
+//! (`files`). The bytes of a script are parsed and checked (`script`): they are accepted as one
+//! script or refused for one reason (specs/Accepted.antt, `accepted_law`). The rows of each input
+//! that a script needs are decoded under its columns, in the script's order (`inputs`). A refusal
+//! is the first that is met, with its cause (specs/Causes.antt).
+#![tactic(auto)]
+
+mod files;
+mod inputs;
+mod laws;
+mod limits;
+mod script;
+
+pub use inputs::rows_of_inputs;
+pub use laws::accepted_law;
+pub use limits::{INPUT_LIMIT, SCRIPT_LIMIT};
+pub use script::script_of;

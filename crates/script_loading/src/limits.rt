@@ -1,0 +1,5 @@
+/// The most bytes that a script may have.
+pub const SCRIPT_LIMIT: u64 = 65_536;
+
+/// The most bytes that an input file may have.
+pub const INPUT_LIMIT: u64 = 67_108_864;

@@ -1,0 +1,53 @@
+// The script, as it is loaded, parsed and checked.
+ghost use Rattle.std.specs.Prelude.{◌≡◌, ◌≤◌, ◌<◌, IfErr, IfOk};
+ghost use Rattle.outside.specs.Seen.{seen};
+ghost use Rattle.script_laws.specs.WellFormed.{IsWellFormed};
+ghost use Rattle.script_loading.specs.Accepted.{Accepted};
+ghost use Rattle.script_loading.specs.Causes.{IsLoaded, IsScriptCause};
+ghost use Rattle.script_loading.specs.Ready.{IsReady};
+ghost use Rattle.script_loading.specs.inner.Reading.{IsScriptFault};
+
+use crate::files::loaded;
+use crate::limits::SCRIPT_LIMIT;
+use flume_grammar::ScriptFault;
+use flume_syntax::parse;
+use outside::Source;
+use run_texts::Status;
+use script_check::{Program, check};
+use std::alloc::Global;
+
+/// Loads and checks the script of that name, in so many tries.
+pub fn script_of<R: Source>(
+    alloc: Global,
+    name: &str,
+    source: &mut R,
+    tries: u32,
+) -> Result<Program, Status>
+    requires tries { 0 < tries }
+    ensures files { R.files source.new ≡ R.files source.old }
+    ensures ok { IfOk result (λ program.
+        IsLoaded (R.files source.old) name.now program.script) }
+    ensures well_formed { IfOk result (λ program. IsWellFormed program.script) }
+    ensures ready { IfOk result (λ program. IsReady program.script) }
+    ensures err { IfErr result (IsScriptCause tries (seen R.files R.faults source.old)
+        (seen R.files R.faults source.new) name.now) }
+    ensures later { R.faults source.old ≤ R.faults source.new }
+{
+    let bytes = loaded(alloc, source, name, SCRIPT_LIMIT, tries)?;
+    match program_of(alloc, &bytes) {
+        Ok(program) => Ok(program),
+        Err(ScriptFault::Refused { line, kind }) => Err(Status::ScriptRefused { line, kind }),
+        Err(ScriptFault::Memory) => Err(Status::WantOfMemory),
+    }
+}
+
+// The program of the bytes of a script.
+fn program_of(alloc: Global, bytes: &[u8]) -> Result<Program, ScriptFault>
+    ensures accepted { IfOk result (λ program. Accepted bytes.now program.script) }
+    ensures refused { IfErr result (IsScriptFault bytes.now) }
+    ensures well_formed { IfOk result (λ program. IsWellFormed program.script) }
+    ensures ready { IfOk result (λ program. IsReady program.script) }
+{
+    let ast = parse(alloc, bytes)?;
+    check(alloc, ast)
+}
