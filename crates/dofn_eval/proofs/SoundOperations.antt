@@ -124,13 +124,13 @@ at_place (u ∷ ts) (v ∷ vs) zero t h e = let same : u
     ≡ t = cc in (v, refl, subst (λ r. Has r v) same h.0)
 at_place (u ∷ ts) (v ∷ vs) (suc i) t h e = at_place ts vs i t h.1 e
 
-pub sound_slot : (ts : List Ty) (vs : List Value) (i : ℕ) (t : Ty) → HaveTypes ts vs → slice_get ts i
-    ≡ Some t → Sound (Has t) (with_part (slice_get vs i) Gives)
+pub sound_slot : (ts : List Ty) (vs : List Value) (i : ℕ) (t : Ty) → HaveTypes ts vs
+    → slice_get ts i ≡ Some t → Sound (Has t) (with_part (slice_get vs i) Gives)
 sound_slot ts vs i t h e = sound_part (Has t) (Has t) (slice_get vs i) _ (at_place ts vs i t h e)
     (λ v p. p)
 
-pub sound_field : (fs : List (Field Ty)) (i : ℕ) (f : Field Ty) (x : Value) → slice_get fs i ≡ Some f
-    → Has (ty.Rec fs) x → Sound (Has f.ty) (field_in i x)
+pub sound_field : (fs : List (Field Ty)) (i : ℕ) (f : Field Ty) (x : Value)
+    → slice_get fs i ≡ Some f → Has (ty.Rec fs) x → Sound (Has f.ty) (field_in i x)
 sound_field fs i f x e h =
     let at : slice_get (types_of fs) i ≡ Some f.ty = slice_get-map (λ (g : Field Ty). g.ty) fs i
     ∙ ap (λ o. option_map (λ (g : Field Ty). g.ty) o) e in

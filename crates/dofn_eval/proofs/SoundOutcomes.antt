@@ -8,8 +8,8 @@ Sound P (Gives a) = P a
 Sound P (Traps k) = Unit {0}
 Sound P Stuck = ⊥
 
-pub sound_then : {A B : Type 0} (P : A → Type 0) (Q : B → Type 0) (o : Outcome A) (f : A → Outcome B)
-    → Sound P o → ((a : A) → P a → Sound Q (f a)) → Sound Q (then o f)
+pub sound_then : {A B : Type 0} (P : A → Type 0) (Q : B → Type 0) (o : Outcome A)
+    (f : A → Outcome B) → Sound P o → ((a : A) → P a → Sound Q (f a)) → Sound Q (then o f)
 sound_then P Q (Gives a) f s h = h a s
 sound_then P Q (Traps k) f s h = tt
 sound_then P Q Stuck f s h = absurd s

@@ -10,9 +10,10 @@
 //! headline: each output file holds the sorted text of the script's direct meaning, and the screen
 //! has the text of its command; for `run` each task of the plan was run. Each other field gives the
 //! cause of its answer, and what stands afterwards. Their words stand in the specs/ of the crates
-//! below: Words of command_words, Asked, Lent, Written and Answers of run_course, Accepted and Loads
-//! of script_loading for the scripts and their inputs, Direct of direct_meaning for the meaning,
-//! Told of plan_phases for the tasks of a run, Texts and Lines of run_texts for what is printed.
+//! below: Words of command_words, Asked, Lent, Written and Answers of run_course, Accepted and
+//! Loads of script_loading for the scripts and their inputs, Direct of direct_meaning for the
+//! meaning, Told of plan_phases for the tasks of a run, Texts and Lines of run_texts for what is
+//! printed.
 #![tactic(auto)]
 
 mod top;

@@ -7,8 +7,8 @@
 //!
 //! `MapTasks` is the map tasks of a stage, as a crew takes them. Contracts see it as a `Work`
 //! (specs/Work.antt): all that the tasks read, with what it asks (`CanWork`) and what is right for
-//! a task to give (`IsWorkValue`). `list_of` borrows the list of a collection, and `take_list` takes
-//! one of several lists away.
+//! a task to give (`IsWorkValue`). `list_of` borrows the list of a collection, and `take_list`
+//! takes one of several lists away.
 #![tactic(auto)]
 
 mod lists;

@@ -98,8 +98,8 @@ impl Meeting {
 }
 
 impl<'a> Seat<'a> {
-    // At the first pass of a phase: tells that it is at work, looks for the other, and tells whether
-    // it saw it.
+    // At the first pass of a phase: tells that it is at work, looks for the other, and tells
+    // whether it saw it.
     fn arrive(&self, phase: Phase) {
         let flags = match phase {
             Phase::Map => &self.meeting.map,
