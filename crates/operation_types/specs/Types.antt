@@ -1,5 +1,5 @@
 -- The types of what operations give, from those of their operands; or the first fault.
-use Rattle.std.specs.Prelude.{ℕ, Bool, true, false, ◌&&◌, nat_eq, length, List, [], ◌∷◌, Option, Some, None, Ok, Err, if◌then◌else◌}
+use Rattle.std.specs.Prelude.{ℕ, Bool, true, false, ◌&&◌, nat_eq, length, List, [], ◌∷◌, Option, Some, None, Err, if◌then◌else◌}
 use Rattle.std.specs.List.{list_all}
 use Rattle.flume_types.specs.declared.types.Ty.{Ty, Ty-F, out-Ty}
 use Rattle.flume_types.specs.declared.types.Ty.TheVariants as ty
