@@ -20,7 +20,7 @@ use Rattle.written_types.specs.Written.{shallow, whole_type}
 use Rattle.body_check.specs.Bodies.{body_of}
 use Rattle.script_program.specs.declared.made.Made.{Made}
 use Rattle.script_program.specs.Script.{Callee, Node, Operand, Script, State, nothing, script_from, with_node}
-use Rattle.script_check.specs.Operations as spec
+use Rattle.operation_check.specs.Operations as spec
 use Rattle.script_check.specs.Rules as rules_
 use Rattle.script_laws.proofs.CheckedLemmas.{both, ok-same}
 use Rattle.build_law.specs.Limits.{AreShort, HasFirstOutputs, HasShortFlattens, IsFirstOutput, IsShort, IsShortForm, IsShortOperation}

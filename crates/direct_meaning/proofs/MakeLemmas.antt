@@ -12,7 +12,7 @@ use Rattle.flume_value.specs.declared.value.Value.{Value}
 use Rattle.written_types.specs.Named.{Named}
 use Rattle.script_program.specs.declared.made.Made.{Made}
 use Rattle.script_program.specs.declared.made.Made.TheVariants as made
-use Rattle.script_check.specs.Operations.{sides_of}
+use Rattle.operation_check.specs.Operations.{sides_of}
 use Rattle.script_program.specs.Script.{Function, Node, Script}
 use Rattle.script_laws.specs.WellFormed.{Fits, IsWellTyped, function_at, members_at}
 use Rattle.flume_value.proofs.EachLemmas.{Each-at, each_from}

@@ -1,4 +1,1 @@
-pub mod Numbers
-pub mod Operations
 pub mod Rules
-pub mod inner

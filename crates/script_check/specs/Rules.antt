@@ -15,11 +15,11 @@ use Rattle.written_types.specs.Named.{Named, fresh}
 use Rattle.written_types.specs.Written.{shallow, whole_type}
 use Rattle.body_check.specs.Bodies.{body_of}
 use Rattle.script_program.specs.declared.made.Made.TheVariants as made
-use Rattle.script_check.specs.Numbers.{number_within}
+use Rattle.operation_check.specs.Numbers.{number_within}
 use Rattle.script_program.specs.Script.{Signature, Script, State, nothing, function_from}
 use Rattle.script_program.specs.Script.{script_from, with_type, with_function, with_node}
 use Rattle.script_program.specs.Script.{with_output}
-use Rattle.script_check.specs.Operations.{collection, made_by}
+use Rattle.operation_check.specs.Operations.{collection, made_by}
 
 -- each fault is told on this line
 module _ (line : ℕ) where

@@ -2,21 +2,16 @@
 //!
 //! `check` answers the program that a parsed script is, or its first fault with its line and kind,
 //! exactly as `specs/Rules.antt` defines: statement by statement, each by its rules in order. The
-//! rules of operations stand in `specs/Operations.antt`, and those of types in written_types. What
-//! the statements define is a program of script_program.
+//! rules of operations stand in operation_check, and those of types in written_types. What the
+//! statements define is a program of script_program.
 #![tactic(auto)]
 
 mod checks;
-mod combiner;
-mod flatten;
 mod fresh;
 mod inputs;
-mod numbers;
-mod operation;
 mod outputs;
-mod pairs;
 mod rules;
-mod sides;
+mod scales;
 mod signatures;
 
 pub use checks::check;

@@ -7,10 +7,10 @@ ghost use Rattle.script_program.specs.Script.{with_output};
 ghost use Rattle.script_check.specs.Rules as spec;
 
 use crate::fresh::{fresh, room};
-use crate::operation::collection;
 use flume_grammar::{ScriptFault, ScriptKind};
 use flume_types::{ColumnFault, Columns};
 use flume_value::Str;
+use operation_check::collection;
 use script_program::{Output, State};
 use std::alloc::Global;
 use type_table::{TypeId, columns};

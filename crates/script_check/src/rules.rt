@@ -8,11 +8,11 @@ ghost use Rattle.script_check.specs.Rules as spec;
 
 use crate::fresh::{fresh, room};
 use crate::inputs::{rows_for, rows_of};
-use crate::operation::made_by;
 use crate::outputs::output_for;
 use crate::signatures::checked;
 use flume_grammar::{Form, Function as Written, Operation, ScriptFault, Statement, Type};
 use flume_value::Str;
+use operation_check::made_by;
 use script_program::{Node, State};
 use std::alloc::Global;
 use type_table::TypeId;

@@ -6,7 +6,7 @@ ghost use Rattle.script_program.specs.Script.{function_from, with_function};
 ghost use Rattle.script_check.specs.Rules as spec;
 
 use crate::fresh::{fresh, room};
-use crate::numbers::scale;
+use crate::scales::scale;
 use dofn_eval::Fun;
 use flume_grammar::{Function as Written, ScriptFault};
 use flume_value::Pile;

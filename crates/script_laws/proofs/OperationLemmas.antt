@@ -20,11 +20,11 @@ use Rattle.combine_table.specs.declared.comb.Comb.{Comb}
 use Rattle.int_text.specs.Ints.{int_of_text}
 use Rattle.written_types.specs.Answer.{unless, or_fault}
 use Rattle.written_types.specs.Named.{Named, find}
-use Rattle.script_check.specs.Numbers.{within}
+use Rattle.operation_check.specs.Numbers.{within}
 use Rattle.script_program.specs.Script.{Function, Node, State, Operand, Callee, place}
-use Rattle.script_check.specs.Operations as spec
-use Rattle.script_check.specs.Operations.{Pair, pair_in, member_in, combined_type, numbers}
-use Rattle.script_check.specs.Operations.{all_same}
+use Rattle.operation_check.specs.Operations as spec
+use Rattle.operation_check.specs.Operations.{Pair, pair_in, member_in, combined_type, numbers}
+use Rattle.operation_check.specs.Operations.{all_same}
 use Rattle.script_laws.specs.WellFormed.{members_at, function_at, Fits}
 use Rattle.script_laws.proofs.CheckedLemmas.{both, holds, there, ok-same}
 use Rattle.script_laws.proofs.PlaceLemmas.{meaning, found-at}

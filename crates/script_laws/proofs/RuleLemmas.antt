@@ -17,7 +17,7 @@ use Rattle.written_types.specs.Written.{shallow, whole_type}
 use Rattle.body_check.specs.Bodies.{body_of}
 use Rattle.script_program.specs.declared.made.Output.{Output}
 use Rattle.script_program.specs.Script.{Function, Script, Node, State, nothing, script_from, with_node}
-use Rattle.script_check.specs.Operations.{collection, made_by}
+use Rattle.operation_check.specs.Operations.{collection, made_by}
 use Rattle.script_check.specs.Rules as spec
 use Rattle.script_laws.specs.WellFormed.{Fits, AllFit, HasColumns, IsWellTyped, IsWellFormed}
 use Rattle.script_laws.proofs.CheckedLemmas.{both, holds, there, ok-same}

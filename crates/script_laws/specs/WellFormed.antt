@@ -16,7 +16,7 @@ use Rattle.script_program.specs.declared.made.Made.{Made}
 use Rattle.script_program.specs.declared.made.Made.TheVariants as made
 use Rattle.script_program.specs.declared.made.Output.{Output}
 use Rattle.script_program.specs.Script.{Function, Node, Script}
-use Rattle.script_check.specs.Operations.{sides_of, combined_type}
+use Rattle.operation_check.specs.Operations.{sides_of, combined_type}
 
 -- ---- what numbers stand for
 

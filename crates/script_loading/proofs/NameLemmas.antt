@@ -20,7 +20,7 @@ use Rattle.written_types.specs.Written.{shallow, whole_type}
 use Rattle.body_check.specs.Bodies.{body_of}
 use Rattle.script_program.specs.declared.made.Output.{Output}
 use Rattle.script_program.specs.Script.{Node, Script, State, nothing, script_from}
-use Rattle.script_check.specs.Operations as op
+use Rattle.operation_check.specs.Operations as op
 use Rattle.script_check.specs.Rules as spec
 use Rattle.script_laws.proofs.CheckedLemmas.{both, ok-same}
 use Rattle.script_loading.specs.Ready.{IsNamedMade}

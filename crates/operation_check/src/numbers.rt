@@ -1,8 +1,7 @@
-ghost use Rattle.std.specs.Prelude.{◌≡◌, Some};
+ghost use Rattle.std.specs.Prelude.{◌≡◌};
 ghost use Rattle.written_types.specs.Answer.{Gives};
-ghost use Rattle.script_check.specs.Numbers as spec;
-ghost use Rattle.script_check.specs.Operations.{top_number as top_of};
-ghost use Rattle.script_check.specs.Rules.{scale_of};
+ghost use Rattle.operation_check.specs.Numbers as spec;
+ghost use Rattle.operation_check.specs.Operations.{top_number as top_of};
 
 use flume_grammar::{ScriptFault, ScriptKind};
 use flume_value::Str;
@@ -19,28 +18,8 @@ pub fn top_number(line: u32, digits: &Str) -> Result<u32, ScriptFault>
     }
 }
 
-/// How many emissions are expected of a hundred calls, from 0 to 10000: as many, where nothing is
-/// said.
-pub fn scale(line: u32, digits: &Option<Str>) -> Result<u32, ScriptFault>
-    ensures { Gives (λ number. number) result (scale_of line digits.now) }
-{
-    match digits {
-        None => Ok(100),
-        Some(digits) => written_scale(line, digits),
-    }
-}
-
-fn written_scale(line: u32, digits: &Str) -> Result<u32, ScriptFault>
-    ensures { Gives (λ number. number) result (scale_of line (Some digits.now)) }
-{
-    match number_within(0, 10000, digits) {
-        Some(number) => Ok(number),
-        None => Err(refused(line, ScriptKind::BadNumber)),
-    }
-}
-
 /// The number that digits write, where it lies from `low` to `high`.
-fn number_within(low: u32, high: u32, digits: &Str) -> Option<u32>
+pub fn number_within(low: u32, high: u32, digits: &Str) -> Option<u32>
     ensures { result ≡ spec.number_within low high digits.now }
 {
     let number = int_of_text(digits.as_bytes())?;

@@ -1,8 +1,8 @@
 use Rattle.std.proofs.Common.{◌≡◌, map, drop}
 use Rattle.type_table.specs.Table.{type_at}
-use Rattle.script_check.specs.Operations.{all_same}
+use Rattle.operation_check.specs.Operations.{all_same}
 use Rattle.script_program.specs.Held.{operand_in}
-use Rattle.script_check.proofs.flatten.all_same.Given as goal
+use Rattle.operation_check.proofs.flatten.all_same.Given as goal
 
 abbrev pub invariant-loop-source : goal.invariant-loop-source
 invariant-loop-source l =

@@ -1,8 +1,8 @@
 use Rattle.std.proofs.Common.{◌≡◌, ◌<◌, [], length, map, drop}
 use Rattle.std.specs.List.{All}
-use Rattle.script_check.specs.Operations.{collections_behind}
+use Rattle.operation_check.specs.Operations.{collections_behind}
 use Rattle.script_program.specs.Held.{operand_in}
-use Rattle.script_check.proofs.flatten.collections.Given as goal
+use Rattle.operation_check.proofs.flatten.collections.Given as goal
 
 abbrev pub invariant-loop-name : goal.invariant-loop-name
 invariant-loop-name l = record {

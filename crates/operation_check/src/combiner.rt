@@ -1,7 +1,7 @@
 ghost use Rattle.std.specs.Prelude.{◌≡◌, ◌<◌, length, IfOk};
 ghost use Rattle.type_table.specs.Table.{type_at, tree_of, IsWithin, Extends};
 ghost use Rattle.written_types.specs.Answer.{Gives, or_fault};
-ghost use Rattle.script_check.specs.Operations as spec;
+ghost use Rattle.operation_check.specs.Operations as spec;
 
 use crate::numbers::top_number;
 use combine_table::Comb;

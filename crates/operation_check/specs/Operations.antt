@@ -20,7 +20,7 @@ use Rattle.combine_table.specs.declared.comb.Comb.{Comb}
 use Rattle.combine_table.specs.declared.comb.Comb.TheVariants as comb
 use Rattle.written_types.specs.Answer.{Checked, ◌>>=◌, unless, or_fault}
 use Rattle.script_program.specs.declared.made.Made.TheVariants as made
-use Rattle.script_check.specs.Numbers.{number_within}
+use Rattle.operation_check.specs.Numbers.{number_within}
 use Rattle.script_program.specs.Script.{Node, State, Operand, find_node, Callee, find_function}
 
 -- ---- parts of types

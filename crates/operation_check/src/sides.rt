@@ -1,6 +1,6 @@
 ghost use Rattle.std.specs.Prelude.{◌≡◌, ◌<◌, [], ◌∷◌, ◌++◌, length, IfOk, OnOk, codes};
 ghost use Rattle.type_table.specs.Table.{type_at, Extends};
-ghost use Rattle.script_check.specs.Operations.{sides_of};
+ghost use Rattle.operation_check.specs.Operations.{sides_of};
 
 use flume_value::{Pile, Str};
 use script_program::State;

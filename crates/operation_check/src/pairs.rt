@@ -2,8 +2,8 @@ ghost use Rattle.std.specs.Prelude.{◌≡◌, ◌<◌, ℕ, List, length, map, 
 ghost use Rattle.flume_types.specs.declared.types.Ty.{Ty, out-Ty};
 ghost use Rattle.type_table.specs.Table.{type_at, field_at, AreWithin};
 ghost use Rattle.written_types.specs.Answer.{Gives, or_fault};
-ghost use Rattle.script_check.specs.Operations as spec;
-ghost use Rattle.script_check.specs.inner.Pairs.{pair_at};
+ghost use Rattle.operation_check.specs.Operations as spec;
+ghost use Rattle.operation_check.specs.inner.Pairs.{pair_at};
 
 use flume_grammar::{ScriptFault, ScriptKind};
 use type_table::{Part, Shape, TypeId, Types};
