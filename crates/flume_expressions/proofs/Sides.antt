@@ -1,5 +1,5 @@
 -- A side, read by its pieces.
-use Rattle.std.proofs.Common.{◌≡◌, ◌≢◌, ◌≤◌, ◌<◌, List, Result, Ok, Err, refl, sym, ◌∙◌, arith}
+use Rattle.std.proofs.Common.{◌≡◌, List, Result, Ok, Err, refl, sym, ◌∙◌, arith}
 use Rattle.flume_tokens.specs.declared.token.Token.{Token}
 use Rattle.flume_tokens.specs.declared.sign.Sign.TheVariants.{Greater, Less, Open}
 use Rattle.flume_grammar.specs.declared.fault.Stop.{Stop}
