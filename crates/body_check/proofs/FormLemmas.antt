@@ -9,9 +9,9 @@ use Rattle.dofn_eval.proofs.MeaningLemmas.{then_same}
 use Rattle.written_types.specs.Answer.{Checked, ◌>>=◌, unless, or_fault}
 use Rattle.written_types.specs.Named.{Named, fresh}
 use Rattle.written_types.proofs.FailsLemmas.{bind-same}
-use Rattle.operation_types.specs.Sight.{Sight, with_name}
-use Rattle.operation_types.specs.Fields.{member_type, side_types}
-use Rattle.operation_types.specs.Types.{is_bool}
+use Rattle.expression_types.specs.Sight.{Sight, with_name}
+use Rattle.expression_types.specs.Fields.{member_type, side_types}
+use Rattle.expression_types.specs.Types.{is_bool}
 use Rattle.expression_check.specs.Types.{type_of}
 use Rattle.expression_check.specs.Given.{valued, given_in}
 use Rattle.body_check.specs.Bodies.{after_all, layer_after, after as sight_after}

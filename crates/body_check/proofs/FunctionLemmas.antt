@@ -15,7 +15,7 @@ use Rattle.dofn_eval.proofs.SoundCalls.{answered_call}
 use Rattle.type_table.specs.Table.{type_at}
 use Rattle.written_types.specs.Answer.{Checked, ◌>>=◌, Gives}
 use Rattle.written_types.specs.Named.{Named}
-use Rattle.operation_types.specs.Sight.{Sight}
+use Rattle.expression_types.specs.Sight.{Sight}
 use Rattle.body_check.specs.Bodies.{after_all, after, at_start, body_of}
 use Rattle.body_check.specs.Call.{block, emitted_in, means}
 use Rattle.body_check.specs.inner.Frames.{InBody}

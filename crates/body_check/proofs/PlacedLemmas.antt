@@ -7,7 +7,7 @@ use Rattle.flume_grammar.specs.declared.tree.Body.TheVariants as body
 use Rattle.dofn_eval.specs.declared.stmt.Stmt.{Stmt}
 use Rattle.written_types.specs.Answer.{Checked, ◌>>=◌}
 use Rattle.written_types.proofs.FailsLemmas.{bind-same}
-use Rattle.operation_types.specs.Sight.{Sight}
+use Rattle.expression_types.specs.Sight.{Sight}
 use Rattle.body_check.specs.inner.Slots.{Placed, block_slots, block, let_slots, emit_slots}
 use Rattle.body_check.specs.inner.Slots.{if_slots, for_slots, case_slots, layer_placed, placed_of}
 

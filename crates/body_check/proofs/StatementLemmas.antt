@@ -19,12 +19,12 @@ use Rattle.dofn_eval.specs.Typed.{BlockTyped}
 use Rattle.dofn_eval.proofs.MeaningLemmas.{run_one-Let, run_one-Emit, run_one-If, run_one-For}
 use Rattle.dofn_eval.proofs.MeaningLemmas.{run_one-Case}
 use Rattle.written_types.specs.Answer.{Checked, ◌>>=◌, unless, or_fault}
-use Rattle.operation_types.specs.Sight.{Newest, Sight, with_name}
-use Rattle.operation_types.specs.Fields.{member_type, side_types}
+use Rattle.expression_types.specs.Sight.{Newest, Sight, with_name}
+use Rattle.expression_types.specs.Fields.{member_type, side_types}
 use Rattle.expression_check.specs.Given.{tagged, valued}
 use Rattle.expression_check.specs.Slots.{Typed}
 use Rattle.expression_check.specs.Right.{types, bound, IsRight}
-use Rattle.operation_types.proofs.TypeLemmas.{list_type_is, either_type_is}
+use Rattle.expression_types.proofs.TypeLemmas.{list_type_is, either_type_is}
 use Rattle.body_check.specs.Call.{state, Emits, for_each, by_side, after}
 use Rattle.body_check.specs.inner.Slots.{Placed, InBlock}
 use Rattle.body_check.proofs.GoesLemmas.{named, after_named, let_goes, emit_goes, valued_tagged}

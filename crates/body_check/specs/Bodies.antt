@@ -5,9 +5,9 @@ use Rattle.flume_grammar.specs.declared.tree.Body.{Body, Body-F, fold-Body}
 use Rattle.flume_grammar.specs.declared.fault.ScriptKind.TheVariants.{BadNumber, Mistyped}
 use Rattle.written_types.specs.Answer.{Checked, ◌>>=◌, unless, or_fault}
 use Rattle.written_types.specs.Named.{Named, fresh}
-use Rattle.operation_types.specs.Sight.{Sight, with_name}
-use Rattle.operation_types.specs.Fields.{member_type, side_types}
-use Rattle.operation_types.specs.Types.{is_same, is_bool}
+use Rattle.expression_types.specs.Sight.{Sight, with_name}
+use Rattle.expression_types.specs.Fields.{member_type, side_types}
+use Rattle.expression_types.specs.Types.{is_same, is_bool}
 use Rattle.expression_check.specs.Types.{type_of}
 
 -- statements one after another, where f gives what is in sight after each

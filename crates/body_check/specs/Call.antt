@@ -9,7 +9,7 @@ use Rattle.dofn_eval.specs.Outcome.{Outcome, Gives, Stuck, then, with_part}
 use Rattle.dofn_eval.specs.Operations.{chosen}
 use Rattle.dofn_eval.specs.Run.{Emissions, emitted_to}
 use Rattle.written_types.specs.Named.{Named}
-use Rattle.operation_types.specs.Fields.{member_type, side_types}
+use Rattle.expression_types.specs.Fields.{member_type, side_types}
 use Rattle.expression_check.specs.Given.{Thing, Environment, valued, given_in}
 
 -- what a statement finds and leaves: what names stand for, the newest first, and what was emitted

@@ -6,14 +6,14 @@ ghost use Rattle.std.specs.Option.{option_map};
 ghost use Rattle.type_table.specs.Table.{type_at, Extends};
 ghost use Rattle.written_types.specs.Answer.{Gives};
 ghost use Rattle.written_types.specs.Named.{find};
-ghost use Rattle.operation_types.specs.Sight.{with_name};
+ghost use Rattle.expression_types.specs.Sight.{with_name};
 ghost use Rattle.expression_check.specs.Slots.{slots_of, typed};
-ghost use Rattle.operation_types.specs.Held.{AreTypes};
+ghost use Rattle.expression_types.specs.Held.{AreTypes};
 
 use expression_check::{Typed, resolve};
+use expression_types::Scope;
 use flume_grammar::{Expr, ScriptFault};
 use flume_value::Str;
-use operation_types::Scope;
 use std::alloc::{AllocError, Global};
 use std::marker::Model;
 use type_table::{TypeId, Types};
@@ -27,7 +27,7 @@ pub struct Frame<'a> {
 
 impl<'a> Model for Frame<'a> {
     ghost use Rattle.std.specs.Prelude.{length};
-    ghost use Rattle.operation_types.specs.Held.{AreTypes};
+    ghost use Rattle.expression_types.specs.Held.{AreTypes};
     ghost use Rattle.std.specs.Coded.{codes};
     ghost use Rattle.flume_types.specs.contracts.types.Ty as coded_types;
     ghost use Rattle.body_check.specs.inner.Frames.{InBody, in_body};

@@ -8,8 +8,8 @@ use Rattle.dofn_eval.proofs.MeaningLemmas.{then_same}
 use Rattle.written_types.specs.Answer.{Checked, ◌>>=◌}
 use Rattle.written_types.specs.Named.{Named}
 use Rattle.written_types.proofs.FailsLemmas.{bind-same}
-use Rattle.operation_types.specs.Sight.{Sight}
-use Rattle.operation_types.specs.Types.{record_type, list_type}
+use Rattle.expression_types.specs.Sight.{Sight}
+use Rattle.expression_types.specs.Types.{record_type, list_type}
 use Rattle.expression_check.specs.Types.{all_types, layer_type, type_of}
 use Rattle.expression_check.specs.Given.{Thing, Environment, all_given, recorded, listed, layer_given, given_in}
 

@@ -9,8 +9,8 @@ use Rattle.type_table.specs.Table.{type_at, Extends}
 use Rattle.written_types.specs.Answer.{◌>>=◌}
 use Rattle.written_types.proofs.NamedLemmas.{same-map}
 use Rattle.expression_check.specs.declared.typed.Operand.{Operand}
-use Rattle.operation_types.specs.Held.{AreTypes}
-use Rattle.operation_types.specs.Sight.{Sight}
+use Rattle.expression_types.specs.Held.{AreTypes}
+use Rattle.expression_types.specs.Sight.{Sight}
 use Rattle.expression_check.specs.Slots.{Typed, operand, pair_slots, all_slots, pick, pick_slots, slots_of}
 
 pub operand-kept : (old new : List Ty) → Extends old new → (made : Operand)

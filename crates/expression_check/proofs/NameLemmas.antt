@@ -17,14 +17,14 @@ use Rattle.dofn_eval.proofs.MeaningLemmas.{value_of-Literal, value_of-Variable, 
 use Rattle.written_types.specs.Answer.{Checked, ◌>>=◌, or_fault}
 use Rattle.written_types.specs.Named.{find}
 use Rattle.written_types.specs.Written.{shallow}
-use Rattle.operation_types.specs.Sight.{Newest}
-use Rattle.operation_types.specs.Fields.{record_fields, field_at}
-use Rattle.operation_types.specs.Types.{place_under}
+use Rattle.expression_types.specs.Sight.{Newest}
+use Rattle.expression_types.specs.Fields.{record_fields, field_at}
+use Rattle.expression_types.specs.Types.{place_under}
 use Rattle.expression_check.specs.Given.{Thing, tagged, with_type, dotted}
-use Rattle.operation_types.specs.Places.{further, place_in}
+use Rattle.expression_types.specs.Places.{further, place_in}
 use Rattle.expression_check.specs.Slots.{Typed, literal, variable, field}
 use Rattle.expression_check.specs.Right.{types, bound, IsRight}
-use Rattle.operation_types.proofs.TypeLemmas.{there_is, shallow_is, record_type_is}
+use Rattle.expression_types.proofs.TypeLemmas.{there_is, shallow_is, record_type_is}
 use Rattle.expression_check.proofs.OutcomeLemmas.{Giving, same_one, right_made}
 
 -- ---- names

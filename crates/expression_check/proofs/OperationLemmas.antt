@@ -15,15 +15,15 @@ use Rattle.dofn_eval.specs.Typed as typing
 use Rattle.dofn_eval.proofs.MeaningLemmas.{value_of-Unary, value_of-Binary, value_of-And, value_of-Or, value_of-Index, value_of-Pick}
 use Rattle.written_types.specs.Answer.{Checked, ◌>>=◌, or_fault}
 use Rattle.written_types.specs.Written.{shallow}
-use Rattle.operation_types.specs.declared.operator.Operator.{Operator}
-use Rattle.operation_types.specs.declared.operator.Operator.TheVariants.{And, Or, Two}
-use Rattle.operation_types.specs.Sight.{Newest}
-use Rattle.operation_types.specs.Operators.{one, side_of}
-use Rattle.operation_types.specs.Types.{unary_type, binary_type, index_type, pick_type, either_of}
+use Rattle.expression_types.specs.declared.operator.Operator.{Operator}
+use Rattle.expression_types.specs.declared.operator.Operator.TheVariants.{And, Or, Two}
+use Rattle.expression_types.specs.Sight.{Newest}
+use Rattle.expression_types.specs.Operators.{one, side_of}
+use Rattle.expression_types.specs.Types.{unary_type, binary_type, index_type, pick_type, either_of}
 use Rattle.expression_check.specs.Given.{tagged, typed, valued, operated}
 use Rattle.expression_check.specs.Slots.{Typed, operation, unary, binary, index, sided, pick}
 use Rattle.expression_check.specs.Right.{types, IsRight}
-use Rattle.operation_types.proofs.TypeLemmas.{there_is, shallow_is, unary_typed, bools_are, two_typed, index_is, pick_is, side_typed}
+use Rattle.expression_types.proofs.TypeLemmas.{there_is, shallow_is, unary_typed, bools_are, two_typed, index_is, pick_is, side_typed}
 use Rattle.expression_check.proofs.OutcomeLemmas.{Giving, tagged_both, tagged_chosen, same_one, right_made}
 
 -- ---- operations

@@ -9,7 +9,7 @@ use Rattle.dofn_eval.specs.Operations.{chosen}
 use Rattle.dofn_eval.specs.Meaning.{value_of}
 use Rattle.dofn_eval.specs.Typed as typing
 use Rattle.written_types.specs.Answer.{Checked, ◌>>=◌}
-use Rattle.operation_types.specs.Sight.{Newest}
+use Rattle.expression_types.specs.Sight.{Newest}
 use Rattle.expression_check.specs.Given.{Thing, Environment, tagged, valued}
 use Rattle.expression_check.specs.Right.{types, bound, IsRight}
 

@@ -19,13 +19,13 @@ use Rattle.dofn_eval.specs.Typed as typing
 use Rattle.dofn_eval.proofs.MeaningLemmas.{value_of-Record, value_of-List}
 use Rattle.written_types.specs.Answer.{Checked, ◌>>=◌, unless}
 use Rattle.written_types.specs.Written.{shallow}
-use Rattle.operation_types.specs.Sight.{Newest}
-use Rattle.operation_types.specs.Fields.{are_different, fields_of}
-use Rattle.operation_types.specs.Types.{is_same, record_type, list_type}
+use Rattle.expression_types.specs.Sight.{Newest}
+use Rattle.expression_types.specs.Fields.{are_different, fields_of}
+use Rattle.expression_types.specs.Types.{is_same, record_type, list_type}
 use Rattle.expression_check.specs.Given.{Thing, Environment, tagged, recorded, listed}
 use Rattle.expression_check.specs.Slots.{Typed, fields, members}
 use Rattle.expression_check.specs.Right.{types, bound, IsRight}
-use Rattle.operation_types.proofs.TypeLemmas.{shallow_is}
+use Rattle.expression_types.proofs.TypeLemmas.{shallow_is}
 use Rattle.expression_check.proofs.OutcomeLemmas.{Giving, right_made}
 
 -- ---- parts, one after another

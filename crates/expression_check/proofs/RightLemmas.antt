@@ -9,9 +9,9 @@ use Rattle.dofn_eval.specs.Outcome.{then}
 use Rattle.dofn_eval.specs.Operations.{of_one}
 use Rattle.written_types.specs.Answer.{Checked, ◌>>=◌}
 use Rattle.written_types.specs.Written.{shallow, whole_type}
-use Rattle.operation_types.specs.Sight.{Newest, Sight}
-use Rattle.operation_types.specs.Operators.{operator, concat, side_of}
-use Rattle.operation_types.specs.Types.{either_of}
+use Rattle.expression_types.specs.Sight.{Newest, Sight}
+use Rattle.expression_types.specs.Operators.{operator, concat, side_of}
+use Rattle.expression_types.specs.Types.{either_of}
 use Rattle.expression_check.specs.Types.{all_types, layer_type, type_of}
 use Rattle.expression_check.specs.Given.{tagged, with_type, all_given, layer_given, given_in}
 use Rattle.expression_check.specs.Slots.{Typed, all_slots, sided, layer_slots, slots_of}

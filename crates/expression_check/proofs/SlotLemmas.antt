@@ -14,8 +14,8 @@ use Rattle.dofn_eval.specs.declared.expr.Expr.{Expr as Slots}
 use Rattle.dofn_eval.specs.declared.expr.Expr.TheVariants as expr
 use Rattle.written_types.specs.Answer.{Checked, ◌>>=◌}
 use Rattle.written_types.proofs.FailsLemmas.{bind-same}
-use Rattle.operation_types.specs.Operators.{operator, concat}
-use Rattle.operation_types.specs.Sight.{Sight}
+use Rattle.expression_types.specs.Operators.{operator, concat}
+use Rattle.expression_types.specs.Sight.{Sight}
 use Rattle.expression_check.specs.Slots.{Typed, literal, variable, empty, fields, members, all_slots, unary_slots, field_slots, record_slots, list_slots, two_slots, index_slots, pick_slots, side_slots, layer_slots, slots_of}
 
 all_mapped : {X : Type 0} (f : X → Sight → Checked Typed) (xs : List X) (s : Sight)

@@ -12,12 +12,12 @@ use Rattle.dofn_eval.specs.Operations.{of_one, of_two, field_in, member_in, chos
 use Rattle.written_types.specs.Answer.{Checked}
 use Rattle.written_types.specs.Named.{Named, find}
 use Rattle.written_types.specs.Written.{whole_type}
-use Rattle.operation_types.specs.declared.operator.Operator.{Operator}
-use Rattle.operation_types.specs.declared.operator.Operator.TheVariants.{And, Or, Two}
-use Rattle.operation_types.specs.Operators.{operator, concat, one, side_of}
-use Rattle.operation_types.specs.Fields.{fields_of, field_at, record_fields}
-use Rattle.operation_types.specs.Sight.{Newest}
-use Rattle.operation_types.specs.Types.{unary_type, two_type, index_type, either_of}
+use Rattle.expression_types.specs.declared.operator.Operator.{Operator}
+use Rattle.expression_types.specs.declared.operator.Operator.TheVariants.{And, Or, Two}
+use Rattle.expression_types.specs.Operators.{operator, concat, one, side_of}
+use Rattle.expression_types.specs.Fields.{fields_of, field_at, record_fields}
+use Rattle.expression_types.specs.Sight.{Newest}
+use Rattle.expression_types.specs.Types.{unary_type, two_type, index_type, either_of}
 
 -- a value with its type, by which the fields of a record have their places
 abbrev pub Thing : Type 0

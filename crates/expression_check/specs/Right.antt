@@ -7,7 +7,7 @@ use Rattle.dofn_eval.specs.Outcome.{Outcome}
 use Rattle.dofn_eval.specs.Meaning.{value_of}
 use Rattle.dofn_eval.specs.Typed as typing
 use Rattle.written_types.specs.Answer.{Checked}
-use Rattle.operation_types.specs.Sight.{Newest, Sight}
+use Rattle.expression_types.specs.Sight.{Newest, Sight}
 use Rattle.expression_check.specs.Types.{type_of}
 use Rattle.expression_check.specs.Given.{Thing, Environment, tagged, given_in}
 use Rattle.expression_check.specs.Slots.{Typed, slots_of}

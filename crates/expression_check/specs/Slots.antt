@@ -18,12 +18,12 @@ use Rattle.expression_check.specs.declared.typed.Typed.{Typed as Made}
 use Rattle.expression_check.specs.declared.typed.Operand.{Operand}
 use Rattle.expression_check.specs.declared.typed.Pair.{Pair}
 use Rattle.expression_check.specs.declared.typed.AllTyped.{AllTyped}
-use Rattle.operation_types.specs.declared.operator.Operator.{Operator}
-use Rattle.operation_types.specs.declared.operator.Operator.TheVariants.{And, Or, Two}
-use Rattle.operation_types.specs.Operators.{operator, concat, one, side_of}
-use Rattle.operation_types.specs.Sight.{Newest, Sight}
-use Rattle.operation_types.specs.Types.{unary_type, binary_type, index_type, pick_type, either_of, place_under, record_type, list_type, empty_type}
-use Rattle.operation_types.specs.Places.{place_in}
+use Rattle.expression_types.specs.declared.operator.Operator.{Operator}
+use Rattle.expression_types.specs.declared.operator.Operator.TheVariants.{And, Or, Two}
+use Rattle.expression_types.specs.Operators.{operator, concat, one, side_of}
+use Rattle.expression_types.specs.Sight.{Newest, Sight}
+use Rattle.expression_types.specs.Types.{unary_type, binary_type, index_type, pick_type, either_of, place_under, record_type, list_type, empty_type}
+use Rattle.expression_types.specs.Places.{place_in}
 
 -- slots, and the type of what they give
 abbrev pub Typed : Type 0

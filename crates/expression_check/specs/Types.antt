@@ -8,9 +8,9 @@ use Rattle.int_text.specs.Ints.{int_of_text}
 use Rattle.written_types.specs.Answer.{Checked, ◌>>=◌, or_fault}
 use Rattle.written_types.specs.Named.{find}
 use Rattle.written_types.specs.Written.{shallow, whole_type}
-use Rattle.operation_types.specs.Operators.{operator, concat}
-use Rattle.operation_types.specs.Sight.{Sight}
-use Rattle.operation_types.specs.Types.{unary_type, binary_type, index_type, pick_type, either_of, place_under, record_type, list_type, empty_type}
+use Rattle.expression_types.specs.Operators.{operator, concat}
+use Rattle.expression_types.specs.Sight.{Sight}
+use Rattle.expression_types.specs.Types.{unary_type, binary_type, index_type, pick_type, either_of, place_under, record_type, list_type, empty_type}
 
 -- the types of parts, from the left
 abbrev pub all_types : {X : Type 0} → (X → Sight → Checked Ty) → List X → Sight →

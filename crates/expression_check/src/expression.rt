@@ -1,7 +1,7 @@
 ghost use Rattle.std.specs.Prelude.{◌≡◌, ◌<◌, [], length, IfOk};
 ghost use Rattle.type_table.specs.Table.{Extends};
 ghost use Rattle.written_types.specs.Answer.{Gives};
-ghost use Rattle.operation_types.specs.Held.{AreTypes};
+ghost use Rattle.expression_types.specs.Held.{AreTypes};
 ghost use Rattle.expression_check.specs.Slots as spec;
 
 use crate::forms::{
@@ -9,9 +9,9 @@ use crate::forms::{
 };
 use crate::typed::{AllTyped, Operand, Pair, Typed};
 use dofn_eval::Binary;
+use expression_types::{Operator, Scope, operator_of};
 use flume_grammar::{Expr, ScriptFault, Side, Type, Unary};
 use flume_value::{Pile, Str};
-use operation_types::{Operator, Scope, operator_of};
 use std::alloc::Global;
 
 /// The expression with slots in place of names, and its type; or its first fault, on this line.

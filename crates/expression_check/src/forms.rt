@@ -6,18 +6,18 @@ ghost use Rattle.int_text.specs.Ints.{int_of_text as int_in};
 ghost use Rattle.dofn_eval.specs.declared.expr.Expr.TheVariants as slots;
 ghost use Rattle.type_table.specs.Table.{type_at, Extends};
 ghost use Rattle.written_types.specs.Answer.{Gives};
-ghost use Rattle.operation_types.specs.Held.{AreTypes};
+ghost use Rattle.expression_types.specs.Held.{AreTypes};
 ghost use Rattle.expression_check.specs.Slots as spec;
 
 use crate::typed::{AllTyped, Operand, Typed};
 use dofn_eval::Expr as Slots;
-use flume_grammar::{ScriptFault, ScriptKind, Side, Type, Unary};
-use flume_value::{Held, Pile, Str, Value};
-use int_text::int_of_text;
-use operation_types::{
+use expression_types::{
     Operator, Scope, binary_type, index_type, list_of, list_type, one, pick_type, place_under,
     record_type, side_of, side_type, unary_type,
 };
+use flume_grammar::{ScriptFault, ScriptKind, Side, Type, Unary};
+use flume_value::{Held, Pile, Str, Value};
+use int_text::int_of_text;
 use std::alloc::Global;
 use type_table::{Shape, TypeId, Types};
 use written_types::refused;

@@ -4,7 +4,7 @@ ghost use Rattle.flume_grammar.specs.declared.tree.Expr.{Expr as Expr_, out-Expr
 ghost use Rattle.written_types.specs.Named.{Named};
 ghost use Rattle.expression_check.specs.Given.{Environment, layer_given, given_in};
 ghost use Rattle.expression_check.specs.Right.{IsRightExpr};
-ghost use Rattle.operation_types.specs.Sight.{Sight};
+ghost use Rattle.expression_types.specs.Sight.{Sight};
 ghost use Rattle.expression_check.specs.Types.{layer_type, type_of};
 
 /// An expression's slots have its type, and give what it gives: whatever the values are that the

@@ -7,7 +7,7 @@
 //! slots have the type and give what the expression gives.
 //!
 //! What is in sight, and the type of each operation from those of its operands, is the crate
-//! operation_types below; here is what goes down into an expression.
+//! expression_types below; here is what goes down into an expression.
 #![tactic(auto)]
 
 mod expression;

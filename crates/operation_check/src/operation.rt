@@ -2,7 +2,7 @@ ghost use Rattle.std.specs.Prelude.{◌≡◌, ℕ, ◌<◌, List, length, map, 
 ghost use Rattle.flume_types.specs.declared.types.Ty.{Ty};
 ghost use Rattle.type_table.specs.Table.{type_at, Extends};
 ghost use Rattle.written_types.specs.Answer.{Gives};
-ghost use Rattle.operation_types.specs.Held.{AreTypes};
+ghost use Rattle.expression_types.specs.Held.{AreTypes};
 ghost use Rattle.operation_check.specs.Operations as spec;
 ghost use Rattle.script_program.specs.Program.{HasTypes, node_in};
 ghost use Rattle.script_program.specs.Held.{operand_in, callee_in};

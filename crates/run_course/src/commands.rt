@@ -23,8 +23,8 @@ use crate::stop::Stop;
 use command_words::{Command, PlanForm};
 use outside::{Host, Source};
 use run_settings::Settings;
-use script_check::Program;
 use script_loading::rows_of_inputs;
+use script_program::Program;
 use std::alloc::{AllocError, Global};
 use std::thread::Threads;
 

@@ -15,7 +15,7 @@ use direct_meaning::{Direct, direct};
 use flume_collection::Trap;
 use flume_value::{Items, Pile, Str};
 use outside::Output;
-use script_check::Program;
+use script_program::Program;
 use std::alloc::{AllocError, Global};
 
 /// What the meaning of a program writes over the rows of its inputs.

@@ -11,7 +11,7 @@ use flume_collection::Trap;
 use flume_value::{Str, Value};
 use outside::Output;
 use run_texts::push_size;
-use script_check::Program;
+use script_program::Program;
 use std::alloc::{AllocError, Global};
 use std::str;
 

@@ -22,7 +22,7 @@ use outside::{Host, Output};
 use plan_phases::RunFault;
 use run_settings::Settings;
 use run_texts::Status;
-use script_check::Program;
+use script_program::Program;
 use script_run::{Ran, run_script};
 use std::alloc::{AllocError, Global};
 use std::thread::Threads;

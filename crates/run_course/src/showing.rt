@@ -15,8 +15,8 @@ use exec_plan::Plan;
 use graph_build::build;
 use plan_print::graph_text;
 use plan_texts::{plan_json, plan_text};
-use script_check::Program;
 use script_plans::plan_of;
+use script_program::Program;
 use std::alloc::{AllocError, Global};
 
 /// A script's plan, and its text behind that of the script's execution graph.

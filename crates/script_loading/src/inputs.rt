@@ -18,7 +18,7 @@ use flume_types::Column;
 use flume_value::{Items, Pile, Str};
 use outside::Source;
 use run_texts::Status;
-use script_check::{Made, Program};
+use script_program::{Made, Program};
 use std::alloc::Global;
 use std::str;
 

@@ -13,7 +13,8 @@ use flume_grammar::ScriptFault;
 use flume_syntax::parse;
 use outside::Source;
 use run_texts::Status;
-use script_check::{Program, check};
+use script_check::check;
+use script_program::Program;
 use std::alloc::Global;
 
 /// Loads and checks the script of that name, in so many tries.

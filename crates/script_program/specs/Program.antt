@@ -6,7 +6,7 @@ use Rattle.dofn_eval.specs.Run.{means as slots_mean}
 use Rattle.dofn_eval.specs.Function.{Function as Fun, FunTyped}
 use Rattle.body_check.specs.Call.{means}
 use Rattle.type_table.specs.Table.{type_at}
-use Rattle.operation_types.specs.Held.{AreTypes}
+use Rattle.expression_types.specs.Held.{AreTypes}
 use Rattle.written_types.specs.Known.{Known}
 use Rattle.script_program.specs.declared.made.Signature.{Signature as HeldSignature}
 use Rattle.script_program.specs.declared.made.Function.{Function as HeldFunction}

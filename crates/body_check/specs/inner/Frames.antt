@@ -2,8 +2,8 @@
 use Rattle.std.specs.Prelude.{◌≡◌, ℕ, ◌-◌, List, length, map, drop}
 use Rattle.flume_types.specs.declared.types.Ty.{Ty}
 use Rattle.type_table.specs.Table.{type_at}
-use Rattle.operation_types.specs.Sight.{Newest, Sight}
-use Rattle.operation_types.specs.Held.{InSight}
+use Rattle.expression_types.specs.Sight.{Newest, Sight}
+use Rattle.expression_types.specs.Held.{InSight}
 
 pub record InBody : Type 0 where
   pub types : List Ty

@@ -9,9 +9,9 @@ use Rattle.dofn_eval.specs.declared.stmt.Stmt.{Stmt}
 use Rattle.dofn_eval.specs.declared.stmt.Stmt.TheVariants as stmt
 use Rattle.written_types.specs.Answer.{Checked, ◌>>=◌, unless, or_fault}
 use Rattle.written_types.specs.Named.{fresh}
-use Rattle.operation_types.specs.Sight.{Sight, with_name}
-use Rattle.operation_types.specs.Fields.{member_type, side_types}
-use Rattle.operation_types.specs.Types.{is_same, is_bool}
+use Rattle.expression_types.specs.Sight.{Sight, with_name}
+use Rattle.expression_types.specs.Fields.{member_type, side_types}
+use Rattle.expression_types.specs.Types.{is_same, is_bool}
 use Rattle.expression_check.specs.Slots.{Typed, slots_of}
 
 -- a statement, and what is in sight behind it

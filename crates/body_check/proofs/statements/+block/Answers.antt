@@ -6,7 +6,7 @@ use Rattle.type_table.specs.Table.{type_at}
 use Rattle.type_table.proofs.TableLemmas.{Extends-twice}
 use Rattle.written_types.specs.Answer.{Gives, Fails, or_fault}
 use Rattle.written_types.proofs.FailsLemmas.{Fails-first, Fails-same}
-use Rattle.operation_types.specs.Fields.{side_types}
+use Rattle.expression_types.specs.Fields.{side_types}
 use Rattle.expression_check.specs.Slots.{typed}
 use Rattle.body_check.specs.inner.Slots.{Placed, block, block_slots, both_slots, placed_of}
 use Rattle.body_check.proofs.PlacedLemmas.{placed-If, placed-For, placed-Case}

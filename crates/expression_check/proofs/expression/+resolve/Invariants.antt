@@ -2,7 +2,7 @@ use Rattle.std.proofs.Common.{◌≡◌, ◌+◌, ◌*◌, [], length, map, max,
 use denote.Param.Weighed.{most}
 use Rattle.flume_grammar.specs.declared.tree.Expr.{size-Expr}
 use Rattle.type_table.specs.Table.{type_at, Extends}
-use Rattle.operation_types.specs.Held.{AreTypes}
+use Rattle.expression_types.specs.Held.{AreTypes}
 use Rattle.expression_check.specs.Slots.{slots_of, all_slots}
 use Rattle.expression_check.proofs.expression.+resolve.Given as goal
 

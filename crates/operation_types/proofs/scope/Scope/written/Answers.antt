@@ -1,9 +1,0 @@
-use Rattle.std.proofs.Common.{ap, ◌∙◌}
-use Rattle.operation_types.proofs.ScopeLemmas.{sight-kept}
-use Rattle.operation_types.proofs.scope.Scope.written.Goals as goal
-
-pub returns-clause-sight : goal.returns-clause-sight
-returns-clause-sight c =
-    sight-kept c.self.inside.known c.whole_type.new.known c.self.inside.names.entries
-    c.whole_type.ensures.extends c.whole_type.ensures.names c.self.invariant
-    ∙ ap (λ s. s.sight) c.self.view_is
