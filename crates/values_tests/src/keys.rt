@@ -59,15 +59,10 @@ fn finds(
     Ok(has_each(alloc, keys, places)? && lacks(places, &Value::Wide(-2)))
 }
 
-/// Whether a map of these keys finds each of another list of them, and nothing else.
+/// Whether a map of these keys finds each of them, and nothing else.
 fn finds_each(alloc: Global, keys: &[Value]) -> Result<bool, AllocError> {
-    let same = of_each_variant(alloc)?;
-    finds_all(alloc, keys, &same)
-}
-
-fn finds_all(alloc: Global, keys: &[Value], same: &[Value]) -> Result<bool, AllocError> {
     let mut places = places_of(alloc, keys)?;
-    finds(alloc, same, &mut places)
+    finds(alloc, keys, &mut places)
 }
 
 fn finds_each_variant(alloc: Global) -> Result<bool, AllocError> {

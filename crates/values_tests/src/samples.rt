@@ -32,11 +32,11 @@ pub(crate) fn value_of(alloc: Global, sample: Sample) -> Result<Value, AllocErro
         Sample::Text(bytes) => text(alloc, bytes),
         Sample::Empty => Ok(Value::List(Pile::new(alloc))),
         Sample::Truths => list_of(alloc, Value::Bool(true)),
-        Sample::Nested => nested(alloc),
-        Sample::Record => record(alloc),
+        Sample::Nested => list_of(alloc, list_of(alloc, Value::Int(7))?),
+        Sample::Record => beside_one(alloc, text(alloc, b"hi")?),
         Sample::Pair => beside_one(alloc, Value::Bool(true)),
-        Sample::Left => left(alloc),
-        Sample::Right => right(alloc),
+        Sample::Left => Ok(Value::Left(Held::new(alloc, Value::Bool(false))?)),
+        Sample::Right => Ok(Value::Right(Held::new(alloc, Value::Bool(false))?)),
         Sample::Wide(n) => Ok(Value::Wide(n)),
     }
 }
@@ -55,27 +55,11 @@ fn list_of(alloc: Global, value: Value) -> Result<Value, AllocError> {
     Ok(Value::List(one(alloc, value)?))
 }
 
-fn nested(alloc: Global) -> Result<Value, AllocError> {
-    list_of(alloc, list_of(alloc, Value::Int(7))?)
-}
-
 /// The record of a 1 and this value.
 fn beside_one(alloc: Global, second: Value) -> Result<Value, AllocError> {
     let mut items = one(alloc, Value::Int(1))?;
     items.push(second)?;
     Ok(Value::Rec(items))
-}
-
-fn record(alloc: Global) -> Result<Value, AllocError> {
-    beside_one(alloc, text(alloc, b"hi")?)
-}
-
-fn left(alloc: Global) -> Result<Value, AllocError> {
-    Ok(Value::Left(Held::new(alloc, Value::Bool(false))?))
-}
-
-fn right(alloc: Global) -> Result<Value, AllocError> {
-    Ok(Value::Right(Held::new(alloc, Value::Bool(false))?))
 }
 
 /// A sample of each variant, in the order of values.

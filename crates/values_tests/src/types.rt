@@ -37,7 +37,7 @@ fn type_of(alloc: Global, shape: Shape) -> Result<Ty, AllocError> {
         Shape::Place => place(alloc),
         Shape::Places => list_of(alloc, place(alloc)?),
         Shape::Pair => table_type(alloc, Ty::Int, Ty::Bool),
-        Shape::Nested => table_type(alloc, Ty::Int, place(alloc)?),
+        Shape::Nested => nested(alloc),
         Shape::Either => either(alloc),
     }
 }
@@ -49,6 +49,11 @@ fn list_of(alloc: Global, ty: Ty) -> Result<Ty, AllocError> {
 fn either(alloc: Global) -> Result<Ty, AllocError> {
     let left = Held::new(alloc, Ty::Int)?;
     Ok(Ty::Either(left, Held::new(alloc, Ty::Bool)?))
+}
+
+fn nested(alloc: Global) -> Result<Ty, AllocError> {
+    let value = place(alloc)?;
+    table_type(alloc, Ty::Int, value)
 }
 
 fn push_field(
