@@ -188,7 +188,7 @@ pub fn expression(
 
 /// An expression of at least that rank and of less depth, held.
 #[cycle(expressions)]
-pub fn part(
+pub(crate) fn part(
     alloc: Global,
     tokens: &mut Cursor,
     limit: u32,
