@@ -1,13 +1,11 @@
--- Where a suffix is at fault, and what stands in parentheses.
-use Rattle.std.proofs.Common.{◌≡◌, ℕ, zero, suc, ◌+◌, ◌-◌, ◌<◌, List, Some, Ok, Err, if◌then◌else◌, refl, sym, ap, ◌∙◌, arith}
-use Rattle.std.proofs.lemmas.Bool.{lt-ltb}
+-- What stands in parentheses.
+use Rattle.std.proofs.Common.{◌≡◌, ℕ, zero, suc, ◌+◌, ◌-◌, ◌<◌, List, Ok, Err, refl, sym, ap, ◌∙◌, arith}
 use Rattle.flume_tokens.specs.declared.token.Token.{Token}
 use Rattle.flume_grammar.specs.declared.fault.Stop.{Stop}
 use Rattle.flume_grammar.specs.declared.parts.SoFar.{SoFar}
-use Rattle.flume_grammar.specs.declared.parts.Suffix.{Suffix}
-use Rattle.flume_grammar.specs.inner.Out.{Out, one, next}
+use Rattle.flume_grammar.specs.inner.Out.{Out}
 use Rattle.flume_grammar.specs.Limits.{Limits}
-use Rattle.flume_grammar.specs.inner.Expressions.{Inner, suffix_of, deep_at, extended, with_suffix, next_suffix, enclosed, bare, operand, wrapped, least_in, Opens}
+use Rattle.flume_grammar.specs.inner.Expressions.{Inner, enclosed, bare, operand, wrapped, least_in, Opens}
 
 -- so many parentheses open here, and then those tokens come
 abbrev pub OpensSoFar : Limits → ℕ → List Token → List Token → Type 0
@@ -15,14 +13,6 @@ OpensSoFar limits n ts us =
     (limit : ℕ) (inner : Inner) (least : ℕ)
     → operand limits limit inner least ts
     ≡ wrapped limit inner n (operand limits limit inner (least_in n least) us)
-
-pub suffix_fault : (limit : ℕ) (inner : Inner) (least : ℕ) (x : SoFar) (ts : List Token)
-    (s : Suffix) (e : Stop) → suffix_of (next ts) x.rank least ≡ Some s → x.depth < limit
-    → extended inner x s ts ≡ Err e
-    → next_suffix limit inner least x ts ≡ Err e
-suffix_fault limit inner least x ts s e q h p =
-    ap (λ o. with_suffix limit inner x o ts) q
-    ∙ ap (λ b. if b then extended inner x s ts else one deep_at ts) (lt-ltb x.depth limit h) ∙ p
 
 module _ (limit : ℕ) (inner : Inner) where
   wrapped_fault : (n : ℕ) (e : Stop) → wrapped limit inner n (Err e) ≡ Err e
