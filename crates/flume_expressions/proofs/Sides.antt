@@ -14,7 +14,7 @@ use Rattle.flume_grammar.specs.inner.Reading.{sign_at}
 use Rattle.flume_grammar.specs.inner.Reads.{ReadsSuch, PassesSuch}
 use Rattle.flume_grammar.specs.inner.Types.{whole_type}
 use Rattle.flume_grammar.specs.inner.Expressions as spec
-use Rattle.flume_expressions.specs.Pieces.{of_side, sided}
+use Rattle.flume_expressions.specs.inner.Pieces.{of_side, sided}
 
 module _ (g : Tree → List Token → Out SoFar) where
   opened : (o : Tree) (d : Out (Unit {0}))

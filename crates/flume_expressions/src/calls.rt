@@ -4,7 +4,7 @@ ghost use Rattle.std.specs.Prelude.{◌≡◌, ◌<◌, ◌≤◌};
 ghost use Rattle.flume_grammar.specs.Limits.{the_limits};
 ghost use Rattle.flume_grammar.specs.inner.Reads.{Reads, ReadsSuch, FitsSoFar};
 ghost use Rattle.flume_grammar.specs.inner.Expressions as spec;
-ghost use Rattle.flume_expressions.specs.Pieces as pieces;
+ghost use Rattle.flume_expressions.specs.inner.Pieces as pieces;
 
 use crate::ends::ended;
 use crate::expression::{part, whole};

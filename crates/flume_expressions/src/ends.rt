@@ -1,6 +1,6 @@
 ghost use Rattle.std.specs.Prelude.{◌≡◌, ◌<◌, ◌+◌, ◌^◌};
 ghost use Rattle.flume_grammar.specs.inner.Reads.{Reads, ReadsSuch};
-ghost use Rattle.flume_expressions.specs.Pieces as pieces;
+ghost use Rattle.flume_expressions.specs.inner.Pieces as pieces;
 
 use crate::expression::whole;
 use flume_grammar::parts::{Parts, SoFar};

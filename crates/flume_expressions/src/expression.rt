@@ -3,7 +3,7 @@ ghost use Rattle.flume_grammar.specs.Limits.{the_limits};
 ghost use Rattle.flume_grammar.specs.inner.Out.{one};
 ghost use Rattle.flume_grammar.specs.inner.Reads.{Reads, ReadsSuch, PassesSuch, Fits, Grows};
 ghost use Rattle.flume_grammar.specs.inner.Expressions as spec;
-ghost use Rattle.flume_expressions.specs.Pieces as pieces;
+ghost use Rattle.flume_expressions.specs.inner.Pieces as pieces;
 
 use crate::calls::argument;
 use crate::operand::operand;
