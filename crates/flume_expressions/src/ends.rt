@@ -22,7 +22,7 @@ pub fn ended<T: Drop>(tokens: &mut Cursor, end: Sign, read: T) -> Result<T, Stop
     Ok(read)
 }
 
-/// So many parts that were read, where a comma follows and they may be one more.
+/// What was read, where a comma follows: there are so many parts, and may be one more.
 pub fn after_comma<T: Drop>(
     tokens: &mut Cursor,
     parts: usize,
