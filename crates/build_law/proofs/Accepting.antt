@@ -5,6 +5,7 @@ use Rattle.std.proofs.lemmas.List.{length-map}
 use Rattle.flume_types.specs.Columns.{columns_of, input_columns_of}
 use Rattle.flume_types.specs.Equality.{type_eq}
 use Rattle.flume_value.proofs.EachLemmas.{Each-append, Each-weaker}
+use Rattle.exec_graph.specs.Wellformed.{most_nodes}
 use Rattle.flume_grammar.specs.declared.tree.Type as tree
 use Rattle.flume_grammar.specs.declared.tree.Form.{Form}
 use Rattle.flume_grammar.specs.declared.tree.Form.TheVariants as form
@@ -86,7 +87,7 @@ module _ (line : ℕ) (s : State) where
       let more = length-append found (one.part ∷ []) in
       omega arith
 
-  flatten_fine : (names : List (List ℕ)) (node : Node) → length names ≤ 4096
+  flatten_fine : (names : List (List ℕ)) (node : Node) → length names ≤ most_nodes
       → spec.flattened line names s ≡ Ok node → IsFine node.made
   flatten_fine names node few e =
       let all = both (spec.collections_behind line [] names s) _ node e in

@@ -6,7 +6,7 @@ use Rattle.std.proofs.lemmas.Bool.{eqb-true}
 use Rattle.std.proofs.lemmas.List.{length-map}
 use Rattle.exec_graph.specs.Meaning.{place}
 use Rattle.exec_graph.specs.Readers.{among, is_read, same_place, uses}
-use Rattle.exec_graph.specs.Wellformed.{IsForestOk, IsNodeOk}
+use Rattle.exec_graph.specs.Wellformed.{IsForestOk, IsNodeOk, most_nodes}
 use Rattle.exec_graph.specs.declared.graph.Entry.{Entry}
 use Rattle.exec_graph.specs.declared.graph.Graph.{Graph}
 use Rattle.exec_graph.specs.declared.graph.Place.{Place}
@@ -31,7 +31,7 @@ first_only j false is h = cc
 
 -- how many collections are put together
 abbrev pub FlattenFits : Made → Type 0
-FlattenFits (made.Flatten inputs) = (0 < length inputs) × (length inputs ≤ 4096)
+FlattenFits (made.Flatten inputs) = (0 < length inputs) × (length inputs ≤ most_nodes)
 FlattenFits _ = Unit {0}
 
 module _ (g : Graph) where

@@ -14,6 +14,8 @@ pub mod Lowering
 pub mod Founded
 pub mod Reading
 pub mod Fitting
+pub mod EachNode
+pub mod ObjectFree
 pub mod WellFormed
 pub mod Owning
 pub mod Trapping

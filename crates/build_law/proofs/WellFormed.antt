@@ -9,7 +9,7 @@ use Rattle.flume_types.specs.declared.types.Ty.{Ty}
 use Rattle.flume_collection.proofs.Members.{at_head, at_tail}
 use Rattle.exec_graph.specs.Meaning.{IsThere, reads}
 use Rattle.exec_graph.specs.Readers.{among, is_read, uses}
-use Rattle.exec_graph.specs.Wellformed.{IsFounded, IsGraphOk, IsNodeOk, total_size}
+use Rattle.exec_graph.specs.Wellformed.{IsFounded, IsGraphOk, IsNodeOk, most_nodes, total_size}
 use Rattle.exec_graph.specs.declared.graph.Entry.{Entry}
 use Rattle.exec_graph.specs.declared.graph.Place.{Place}
 use Rattle.written_types.specs.Named.{Named}
@@ -25,6 +25,7 @@ use Rattle.graph_build.specs.Nodes.{first_of}
 use Rattle.graph_build.specs.Wanted.{wanted, wanted_from}
 use Rattle.graph_build.proofs.WantedLemmas.{wanted_length, wanted_needed}
 use Rattle.build_law.specs.Limits.{HasShortFlattens, IsShort}
+use Rattle.build_law.proofs.ObjectFree.{have_objects}
 use Rattle.build_law.proofs.Fitting.{FlattenFits, all_ok}
 use Rattle.build_law.proofs.Founded.{counts, is_there, lows, numbers_below, reads_there}
 use Rattle.build_law.proofs.Lowering.{wanted_here}
@@ -202,10 +203,11 @@ module _ (script : Script) (well : IsWellFormed script) where
     is_graph_ok = record {
       founded = is_founded;
       nodes = nodes_ok;
+      objects = have_objects script;
       few =
           let sizes = one_each (nodes_of script) (lows script well) in
           let few = few_nodes (place_in (giving script)) 0 0 0 (wanted script) in
           let same = wanted_length script in
           let limit = well.few in
-          (let e : total_size (nodes_of script) ≤ 4096 = omega arith in e);
+          (let e : total_size (nodes_of script) ≤ most_nodes = omega arith in e);
     }

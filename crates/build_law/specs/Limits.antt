@@ -1,6 +1,7 @@
 -- What an accepted script keeps beside the rules of its statements.
 use Rattle.std.specs.Prelude.{◌≡◌, ◌≤◌, List, length}
 use Rattle.std.specs.List.{AllByRecursion}
+use Rattle.exec_graph.specs.Wellformed.{most_nodes}
 use Rattle.flume_grammar.specs.declared.tree.Form.{Form}
 use Rattle.flume_grammar.specs.declared.tree.Form.TheVariants as form
 use Rattle.flume_grammar.specs.declared.tree.Operation.{Operation}
@@ -10,9 +11,9 @@ use Rattle.script_program.specs.declared.made.Made.{Made}
 use Rattle.script_program.specs.declared.made.Made.TheVariants as made
 use Rattle.script_program.specs.Script.{Script}
 
--- at most 4096 collections are put together
+-- no more collections are put together than a Flatten may have inputs
 abbrev pub IsShort : Made → Type 0
-IsShort (made.Flatten sources) = length sources ≤ 4096
+IsShort (made.Flatten sources) = length sources ≤ most_nodes
 IsShort _ = Unit {0}
 
 -- a function's collection has what it emits to its first output
@@ -28,9 +29,9 @@ HasFirstOutputs script = AllByRecursion (λ entry. IsFirstOutput entry.1.made) s
 
 -- ---- scripts as they are written
 
--- at most 4096 collections are named in one statement
+-- and no more are named in one statement
 abbrev pub IsShortOperation : Operation → Type 0
-IsShortOperation (operation.Flatten sources) = length sources ≤ 4096
+IsShortOperation (operation.Flatten sources) = length sources ≤ most_nodes
 IsShortOperation _ = Unit {0}
 
 abbrev pub IsShortForm : Form → Type 0

@@ -1,9 +1,11 @@
+// What holds of the graph of every script.
 ghost use Rattle.std.specs.Prelude.{◌≡◌, ℕ, List, Ok, Option, Some};
 ghost use Rattle.flume_value.specs.declared.value.Value.{Value};
 ghost use Rattle.flume_collection.specs.Collection.{Collection};
 ghost use Rattle.flume_grammar.specs.Answer.{Accepts};
 ghost use Rattle.flume_grammar.specs.declared.tree.Ast.{Ast};
 ghost use Rattle.flume_grammar.specs.declared.tree.Statement.{Statement};
+ghost use Rattle.exec_graph.specs.ObjectFree.{IsObjectFree};
 ghost use Rattle.exec_graph.specs.Typing.{IsTyped};
 ghost use Rattle.exec_graph.specs.Wellformed.{IsGraphOk};
 ghost use Rattle.script_check.specs.Rules.{script_of};
@@ -11,7 +13,7 @@ ghost use Rattle.script_program.specs.Script.{Script};
 ghost use Rattle.script_laws.specs.WellFormed.{IsWellFormed};
 ghost use Rattle.direct_meaning.specs.Direct.{meaning};
 ghost use Rattle.graph_build.specs.Graphs.{graph_of};
-ghost use Rattle.graph_laws.specs.Single.{HasSingleOutputs, IsUnfused};
+ghost use Rattle.graph_laws.specs.Single.{HasNarrowSteps, IsUnfused};
 ghost use Rattle.build_law.specs.Limits.{AreShort, HasFirstOutputs, HasShortFlattens};
 ghost use Rattle.build_law.specs.Means.{IsMeaning};
 ghost use Rattle.build_law.specs.Signatures.{signatures_of};
@@ -31,10 +33,15 @@ pub fn graph_law()
         AreShort statements → script_of statements ≡ Ok script → IsGraphOk (graph_of script) }
 {}
 
-/// Each Pdo of a script's graph has one step, which has one output.
+/// Each Pdo of a script's graph has one step, which has few outputs.
 pub fn one_step_law()
     ensures unfused { (script : Script) → IsUnfused (graph_of script) }
-    ensures single { (script : Script) → HasSingleOutputs (graph_of script) }
+    ensures narrow { (script : Script) → HasNarrowSteps (graph_of script) }
+{}
+
+/// A script's graph has no objects: no source is one, and none is made.
+pub fn object_free_law()
+    ensures { (script : Script) → IsObjectFree (graph_of script) }
 {}
 
 /// The graph of a well-formed script means what the script means, over all rows of its inputs.

@@ -1,3 +1,4 @@
+// Scripts, each with the text of its graph.
 use crate::text::{Worked, graph_of, text_of};
 use exec_graph::graph_ok;
 use std::test::Fail;

@@ -2,6 +2,8 @@
 #![tactic(auto)]
 
 #[cfg(test)]
+mod barriers;
+#[cfg(test)]
 mod graph_texts;
 #[cfg(test)]
 mod steps;

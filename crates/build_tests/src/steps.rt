@@ -1,3 +1,4 @@
+// Scripts of several steps, each with the text of its graph.
 use crate::text::{Worked, text_of};
 use std::test::Fail;
 

@@ -1,3 +1,4 @@
+// The graph of a script, and its text.
 use exec_graph::Graph;
 use flume_syntax::{ScriptFault, parse};
 use graph_build::build;
@@ -23,7 +24,8 @@ pub fn graph_of(alloc: Global, script: &[u8]) -> Result<Graph, ScriptFault> {
     Ok(graph)
 }
 
-fn program(alloc: Global, script: &[u8]) -> Result<Program, ScriptFault> {
+/// The program of a script.
+pub fn program(alloc: Global, script: &[u8]) -> Result<Program, ScriptFault> {
     let ast = parse(alloc, script)?;
     check(alloc, ast)
 }

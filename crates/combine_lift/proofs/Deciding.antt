@@ -8,7 +8,7 @@ use Rattle.exec_graph.specs.Wellformed.{IsGraphOk}
 use Rattle.exec_graph.specs.Forests.{Forest}
 use Rattle.exec_graph.specs.declared.graph.Place.{Place}
 use Rattle.exec_graph.specs.declared.graph.Node.{Node}
-use Rattle.exec_graph.specs.declared.graph.Node.TheVariants.{Source, Flatten, Pdo, Gbk}
+use Rattle.exec_graph.specs.declared.graph.Node.TheVariants.{Source, Flatten, Pdo, Gbk, Barrier}
 use Rattle.exec_graph.specs.declared.graph.Entry.{Entry}
 use Rattle.exec_graph.specs.declared.graph.Graph.{Graph}
 use Rattle.exec_graph.proofs.Solving.{each_found}
@@ -19,7 +19,7 @@ use Rattle.combine_lift.specs.inner.Readings.{both, reader_of, by_places, by_nod
 use Rattle.combine_lift.specs.declared.readings.Reader.{Reader}
 use Rattle.combine_lift.specs.declared.readings.Reader.TheVariants.{Other}
 
--- the reading, where the numbers of the Pdos that read are known, and whether anything else does
+-- The reading, where the numbers of the Pdos that read are known, and whether anything else does.
 abbrev by_readers : List Entry → Bool → List ℕ → Option Reader
 by_readers all true ns = Some Other
 by_readers all false [] = None
@@ -65,6 +65,7 @@ node_first all n q (Source r) b ns h = refl
 node_first all n q (Flatten ins) b ns h = collecting all (among (place n 0) ins) b ns
 node_first all n q (Pdo c f) b ns h = calling all q c f (same_place (place n 0) c) b ns h
 node_first all n q (Gbk c o l k) b ns h = collecting all (same_place (place n 0) c) b ns
+node_first all n q (Barrier ins o l a) b ns h = collecting all (among (place n 0) ins) b ns
 
 nodes_read : (all : List Entry) (n : ℕ) (es : List Entry)
     → AllByRecursion (λ e. node_at all e.number ≡ Some e.node) es
@@ -114,8 +115,9 @@ marked_alike h i (Source r) e = refl
 marked_alike h i (Flatten ins) e = refl
 marked_alike h i (Pdo c f) e = refl
 marked_alike h i (Gbk c o l k) e = ap (λ m. Gbk c o l m) (e k)
+marked_alike h i (Barrier ins o l a) e = refl
 
--- the nodes with marks that are alike
+-- The nodes with marks that are alike.
 pub marked_same : (s t : ℕ → Option Comb → Option Comb)
     → ((n : ℕ) (k : Option Comb) → s n k ≡ t n k)
     → (es : List Entry) → map (marked_entry s) es ≡ map (marked_entry t) es

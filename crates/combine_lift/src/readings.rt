@@ -1,3 +1,4 @@
+// What reads the first output of each node.
 ghost use Rattle.std.specs.Prelude.{◌≡◌, ℕ, OnOk, IfOk, nat_eq};
 ghost use Rattle.std.specs.HashMap.{get};
 ghost use Rattle.exec_graph.specs.Wellformed.{root_comb};
@@ -44,6 +45,7 @@ fn note_node(node: &Node, readings: &mut HashMap<u32, Reader>) -> Result<(), All
         Node::Flatten(inputs) => note_places(inputs.as_slice(), readings),
         Node::Pdo(input, roots) => note(*input, reader_of(roots), readings),
         Node::Gbk(input, _, _, _) => note(*input, Reader::Other, readings),
+        Node::Barrier(inputs, _, _, _) => note_places(inputs.as_slice(), readings),
     }
 }
 

@@ -17,4 +17,9 @@ pub enum Comb {
     Any,
     /// The list of so many of the greatest values, ascending; of all where there are fewer.
     Top(u32),
+    /// The mean of ints, rounded down: what the sum's 128 bits come to, divided by the count's. It
+    /// overflows where that is not an int; where there is no value the index is bad.
+    Mean,
+    /// The list of the values that occur, ascending, each once.
+    Distinct,
 }

@@ -1,11 +1,12 @@
-ghost use Rattle.std.specs.Prelude.{◌≡◌, ◌≤◌, ◌++◌, [], length, IfOk, IfNone};
+ghost use Rattle.std.specs.Prelude.{◌≡◌, ◌≤◌, if◌then◌else◌, ◌++◌, [], ◌∷◌, length, reverse, IfOk, OnOk, IfNone};
 ghost use Rattle.std.specs.Option.{option_to_list};
 ghost use Rattle.std.specs.List.Sorted.{IsSorted};
 ghost use Rattle.flume_value.specs.Order.{value_cmp};
 ghost use Rattle.flume_value.specs.Bag.{bag_of};
-ghost use Rattle.combine_table.specs.Combinations.{least, greatest};
+ghost use Rattle.combine_table.specs.Combinations.{least, greatest, distinct};
+ghost use Rattle.combine_table.specs.inner.Repeats.{once};
 
-use flume_value::{Value, compare};
+use flume_value::{Value, compare, equals};
 use std::alloc::{AllocError, Global};
 
 /// The list with the lesser member of two that have at most one.
@@ -54,6 +55,48 @@ pub(crate) fn greatest_of_both(
     }
     descending.reverse();
     Ok(descending)
+}
+
+/// The distinct members of two ascending lists, ascending.
+pub(crate) fn distinct_of_both(
+    alloc: Global,
+    mut left: Vec<Value>,
+    mut right: Vec<Value>,
+) -> Result<Vec<Value>, AllocError>
+    requires left { IsSorted value_cmp left.items }
+    requires right { IsSorted value_cmp right.items }
+    ensures { IfOk result (λ kept. kept.items ≡ distinct (bag_of (left.items ++ right.items))) }
+{
+    let mut descending = Vec::new(alloc);
+    'draws: loop {
+        match pop_greatest(&mut left, &mut right) {
+            Some(value) => push_new(&mut descending, value)?,
+            None => break 'draws,
+        }
+    }
+    descending.reverse();
+    Ok(descending)
+}
+
+/// Pushes the value where it is not the last.
+fn push_new(values: &mut Vec<Value>, value: Value) -> Result<(), AllocError>
+    ensures { OnOk result (reverse values.new.items ≡ once value (reverse values.old.items)) }
+{
+    if !is_last(values.as_slice(), &value) {
+        values.push(value)?;
+    }
+    Ok(())
+}
+
+/// Whether the value is the last.
+fn is_last(values: &[Value], value: &Value) -> bool
+    ensures { once value.now (reverse values.now)
+        ≡ (if result then reverse values.now else value.now ∷ reverse values.now) }
+{
+    match values.last() {
+        Some(last) => equals(last, value),
+        None => false,
+    }
 }
 
 /// Takes out the greatest member of two ascending lists.

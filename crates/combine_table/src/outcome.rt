@@ -1,5 +1,5 @@
 ghost use Rattle.std.specs.Prelude.{◌≡◌, ◌≤◌, length};
-ghost use Rattle.combine_table.specs.Combinations.{answer, int_or_overflow as int_or_overflow_of, first_or_bad_index as first_or_bad_index_of};
+ghost use Rattle.combine_table.specs.Combinations.{answer, int_or_overflow as int_or_overflow_of, first_or_bad_index as first_or_bad_index_of, mean as mean_of};
 
 use flume_value::{CallFault, Kind, Value};
 
@@ -22,4 +22,17 @@ pub(crate) fn first_or_bad_index(mut values: Vec<Value>) -> Result<Value, CallFa
         Some(value) => Ok(value),
         None => Err(CallFault::Trap(Kind::BadIndex)),
     }
+}
+
+/// The mean of values with that sum and count, rounded down.
+pub(crate) fn mean(sum: i128, count: i128) -> Result<Value, CallFault>
+    ensures { result ≡ answer (mean_of sum count) }
+{
+    if count == 0 {
+        return Err(CallFault::Trap(Kind::BadIndex));
+    }
+    if count < 0 {
+        return Err(CallFault::Trap(Kind::Overflow));
+    }
+    int_or_overflow(sum.div_euclid(count))
 }

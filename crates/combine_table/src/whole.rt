@@ -3,11 +3,11 @@ ghost use Rattle.std.specs.List.{list_all, list_any};
 ghost use Rattle.std.specs.Option.{option_copied, option_to_list};
 ghost use Rattle.flume_value.specs.Bag.{bag_of};
 ghost use Rattle.combine_table.specs.Contents.{IsInt, IsBool, truth_of};
-ghost use Rattle.combine_table.specs.Combinations.{Suits, combined, IsFault, total as total_of, wrapped, first_or_bad_index, least as least_of, greatest as greatest_of};
+ghost use Rattle.combine_table.specs.Combinations.{Suits, combined, IsFault, total as total_of, wrapped, first_or_bad_index, least as least_of, greatest as greatest_of, distinct as distinct_of};
 
 use crate::comb::Comb;
 use crate::contents::{int, truth};
-use crate::outcome::int_or_overflow;
+use crate::outcome::{int_or_overflow, mean};
 use flume_value::{CallFault, Items, Kind, Pile, Value, ascending};
 use std::alloc::{AllocError, Global};
 
@@ -28,6 +28,8 @@ pub fn combine(alloc: Global, comb: Comb, values: &Items) -> Result<Value, CallF
         Comb::All => Ok(Value::Bool(all_true(values))),
         Comb::Any => Ok(Value::Bool(any_true(values))),
         Comb::Top(n) => Ok(Value::List(Pile::from_vec(top(alloc, n, values)?))),
+        Comb::Mean => mean(total(values), count(values)),
+        Comb::Distinct => Ok(Value::List(Pile::from_vec(distinct(alloc, values)?))),
     }
 }
 
@@ -94,6 +96,15 @@ fn top(alloc: Global, n: u32, values: &[Value]) -> Result<Vec<Value>, AllocError
     let all = ascending(alloc, values)?;
     let rest = all.len().saturating_sub(n as usize);
     copy_each(alloc, &all[rest..])
+}
+
+/// Each value that occurs, once, ascending. It sorts references, and copies no value but those.
+fn distinct(alloc: Global, values: &[Value]) -> Result<Vec<Value>, AllocError>
+    ensures { IfOk result (λ kept. kept.items ≡ distinct_of (bag_of values.now)) }
+{
+    let mut all = ascending(alloc, values)?;
+    all.dedup();
+    copy_each(alloc, &all)
 }
 
 fn copy_each(alloc: Global, values: &[&Value]) -> Result<Vec<Value>, AllocError>

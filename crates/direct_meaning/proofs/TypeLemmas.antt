@@ -102,6 +102,10 @@ taken by.Any t u is =
     let same = picked (type_eq t ty.Bool) ty.Bool u is in
     (tells_apart t ty.Bool same.0, sym same.1)
 taken (by.Top n) t u is = (tt, sym (some_is (ty.List t) u is))
+taken by.Mean t u is =
+    let same = picked (type_eq t ty.Int) ty.Int u is in
+    (tells_apart t ty.Int same.0, sym same.1)
+taken by.Distinct t u is = (tt, sym (some_is (ty.List t) u is))
 
 combined_has : (comb : Comb) (key member : Ty) (bag : List Value)
     → AllHave (table_of key (ty.List member)) bag

@@ -13,15 +13,18 @@ use Rattle.exec_graph.specs.declared.callers.Callers.{Callers}
 use Rattle.exec_graph.specs.declared.callers.Callers.TheVariants.{One, Several}
 use Rattle.exec_graph.specs.declared.graph.Place.{Place}
 use Rattle.exec_graph.specs.declared.graph.Node.{Node}
-use Rattle.exec_graph.specs.declared.graph.Node.TheVariants.{Source, Flatten, Pdo, Gbk}
+use Rattle.exec_graph.specs.declared.graph.Node.TheVariants.{Source, Flatten, Pdo, Gbk, Barrier}
 use Rattle.exec_graph.specs.declared.graph.Entry.{Entry}
 use Rattle.exec_graph.specs.declared.graph.Graph.{Graph}
 use Rattle.exec_graph.specs.Meaning.{AllDiffer, place}
 use Rattle.exec_graph.specs.Readers.{among, any_node, collects}
-use Rattle.exec_graph.specs.Wellformed.{IsFounded, IsGraphOk, IsLiftedOk, IsNodeOk, total_size}
+use Rattle.exec_graph.specs.Wellformed.{Ascends, HaveObjects, has_objects, is_object_at, IsFounded, IsGraphOk, IsLiftedOk, IsNodeOk, total_size, most_nodes}
 use Rattle.exec_graph.specs.Readers.{is_held}
 use Rattle.exec_graph.specs.inner.Checks.{all_read, called_by, callers_from, flatten_ok, forest_ok, in_order, lifted_ok}
+use Rattle.exec_graph.specs.inner.Objects.{is_object_in, objects_in}
 use Rattle.exec_graph.specs.inner.Spots.{spots}
+use Rattle.exec_graph.specs.Objects.{takes_such}
+use Rattle.exec_graph.proofs.ObjectLemmas.{map_same, object_there}
 use Rattle.exec_graph.proofs.Bools.{no_or, or_false}
 use Rattle.exec_graph.proofs.Founding.{Says, no_such}
 use Rattle.exec_graph.proofs.Ordering.{numbered_from, numbered_to, read_from, read_to}
@@ -29,13 +32,13 @@ use Rattle.exec_graph.proofs.Rooted.{only_from, only_to}
 use Rattle.exec_graph.proofs.Soundness.{differ_ascends}
 
 -- ---- flattens
-sizes_from : (n : ℕ) → (ltb 0 n && not (ltb 4096 n)) ≡ true → (0 < n) × (n ≤ 4096)
+sizes_from : (n : ℕ) → (ltb 0 n && not (ltb most_nodes n)) ≡ true → (0 < n) × (n ≤ most_nodes)
 sizes_from n h =
-    let p = both_true (ltb 0 n) (not (ltb 4096 n)) h in
+    let p = both_true (ltb 0 n) (not (ltb most_nodes n)) h in
     let low = p.0 in let high = p.1 in
     (grind (arith, nat_tests), grind (arith, nat_tests))
 
-sizes_to : (n : ℕ) → 0 < n → n ≤ 4096 → (ltb 0 n && not (ltb 4096 n)) ≡ true
+sizes_to : (n : ℕ) → 0 < n → n ≤ most_nodes → (ltb 0 n && not (ltb most_nodes n)) ≡ true
 sizes_to n l h = grind (arith, nat_tests)
 
 -- ---- combiners
@@ -47,6 +50,8 @@ comb_from by.Max by.Max e = refl
 comb_from by.All by.All e = refl
 comb_from by.Any by.Any e = refl
 comb_from (by.Top m) (by.Top n) e = ap by.Top (eqb-true m n e)
+comb_from by.Mean by.Mean e = refl
+comb_from by.Distinct by.Distinct e = refl
 comb_from _ _ e = cc
 
 pub comb_to : (a : Comb) → (combs.ghosts).eq a a ≡ true
@@ -57,6 +62,8 @@ comb_to by.Max = refl
 comb_to by.All = refl
 comb_to by.Any = refl
 comb_to (by.Top n) = eq-eqb n n refl
+comb_to by.Mean = refl
+comb_to by.Distinct = refl
 
 -- ---- lifted groups
 called_from : (k : Comb) (o : Option Callers) → called_by k o ≡ true → o ≡ Some (One (Some k))
@@ -94,6 +101,28 @@ lifted_to g n k d a =
     (called_to k (callers_from None g.nodes c) (only_to g.nodes c (Some k) d
     (record { reader = a.reader; alone = a.alone; root = a.root })))
 
+-- ---- objects
+abbrev pub objects : List Entry → Bool
+objects es = list_all (λ (e : Entry). objects_in es e.node) es
+
+node_objects : (es : List Entry) (x : Node) → Ascends es → objects_in es x ≡ has_objects es x
+node_objects es (Source r) up = refl
+node_objects es (Flatten ins) up = refl
+node_objects es (Pdo c f) up = refl
+node_objects es (Gbk c o l k) up = refl
+node_objects es (Barrier ins o l a) up = ap (takes_such a)
+    (map_same (is_object_in es) (is_object_at es) (λ c. object_there es c.node up) ins)
+
+objects_from : (es : List Entry) → Ascends es → objects es ≡ true → HaveObjects es
+objects_from es up h = Each-weaker (λ (e : Entry). IsTrue (objects_in es e.node))
+    (λ e. has_objects es e.node ≡ true) (λ e q. sym (node_objects es e.node up) ∙ q) es
+    (each_passes (λ (e : Entry). objects_in es e.node) es h)
+
+objects_to : (es : List Entry) → Ascends es → HaveObjects es → objects es ≡ true
+objects_to es up a = all_pass (λ (e : Entry). objects_in es e.node) es
+    (Each-weaker (λ (e : Entry). has_objects es e.node ≡ true)
+    (λ e. IsTrue (objects_in es e.node)) (λ e q. node_objects es e.node up ∙ q) es a)
+
 -- ---- one node
 record Passes (g : Graph) (n : ℕ) (x : Node) : Type 0 where
   pub flatten : flatten_ok x ≡ true
@@ -108,6 +137,7 @@ node_from g n (Pdo c f) d p =
     record { order = numbered_from 0 f q.0; read = read_from g n f q.1 }
 node_from g n (Gbk c o l None) d p = tt
 node_from g n (Gbk c o l (Some k)) d p = lifted_from g n k d p.lifted
+node_from g n (Barrier ins o l a) d p = tt
 
 node_to : (g : Graph) (n : ℕ) (x : Node) → AllDiffer g.nodes → IsNodeOk g n x → Passes g n x
 node_to g n (Source r) d a = record { flatten = refl; forest = refl; lifted = refl }
@@ -122,6 +152,7 @@ node_to g n (Pdo c f) d a = record {
 node_to g n (Gbk c o l None) d a = record { flatten = refl; forest = refl; lifted = refl }
 node_to g n (Gbk c o l (Some k)) d a =
     record { flatten = refl; forest = refl; lifted = lifted_to g n k d a }
+node_to g n (Barrier ins o l i) d a = record { flatten = refl; forest = refl; lifted = refl }
 
 -- ---- all nodes
 abbrev pub flattens : List Entry → Bool
@@ -156,9 +187,9 @@ lifts_to g ok = all_pass (λ (e : Entry). lifted_ok g e.number e.node) g.nodes
     (Each-weaker (λ (e : Entry). Passes g e.number e.node)
     (λ (e : Entry). IsTrue (lifted_ok g e.number e.node)) (λ e p. p.lifted) g.nodes (passing g ok))
 
-graph_from : (g : Graph) → IsFounded g → total_size g.nodes ≤ 4096 → flattens g.nodes ≡ true
-    → forests g ≡ true → lifts g ≡ true → IsGraphOk g
-graph_from g founded few a b c =
+graph_from : (g : Graph) → IsFounded g → total_size g.nodes ≤ most_nodes → flattens g.nodes ≡ true
+    → forests g ≡ true → objects g.nodes ≡ true → lifts g ≡ true → IsGraphOk g
+graph_from g founded few a b o c =
     let d : AllDiffer g.nodes = differ_ascends g.nodes founded.ascends in
     let two : Each (λ (e : Entry). IsTrue (forest_ok g e.number e.node)
     × IsTrue (lifted_ok g e.number e.node)) g.nodes =
@@ -176,6 +207,7 @@ graph_from g founded few a b c =
           (λ e p q. node_from g e.number e.node d
           (record { flatten = p; forest = q.0; lifted = q.1 })) g.nodes
           (each_passes (λ (e : Entry). flatten_ok e.node) g.nodes a) two;
+      objects = objects_from g.nodes founded.ascends o;
       few = few;
     }
 
@@ -188,13 +220,20 @@ not_flat g ns b e f h = no_such (IsGraphOk g)
 pub not_ordered : (g : Graph) (b : Bool) → b ≡ forests g → b ≡ false → Says false (IsGraphOk g)
 not_ordered g b f h = no_such (IsGraphOk g) (λ ok. false≢true (sym h ∙ f ∙ forests_to g ok))
 
-pub checked : (g : Graph) (ns : List Entry) (a b c d e : Bool) → ns ≡ g.nodes
-    → Says a (IsFounded g) → a ≡ true → Says b (total_size ns ≤ 4096) → b ≡ true
-    → c ≡ flattens ns → c ≡ true → d ≡ forests g → d ≡ true → e ≡ lifts g
-    → Says e (IsGraphOk g)
-checked g ns a b c d e same f at s bt i ct j dt k = (
+pub not_objects : (g : Graph) (ns : List Entry) (b : Bool) → ns ≡ g.nodes → b ≡ objects ns
+    → b ≡ false → Says false (IsGraphOk g)
+not_objects g ns b e f h = no_such (IsGraphOk g)
+    (λ ok. false≢true (sym h ∙ f ∙ ap objects e
+    ∙ objects_to g.nodes ok.founded.ascends ok.objects))
+
+pub checked : (g : Graph) (ns : List Entry) (a b c d o e : Bool) → ns ≡ g.nodes
+    → Says a (IsFounded g) → a ≡ true → Says b (total_size ns ≤ most_nodes) → b ≡ true
+    → c ≡ flattens ns → c ≡ true → d ≡ forests g → d ≡ true → o ≡ objects ns → o ≡ true
+    → e ≡ lifts g → Says e (IsGraphOk g)
+checked g ns a b c d o e same f at s bt i ct j dt p ot k = (
   λ t. graph_from g (f.0 at)
-      (subst (λ (es : List Entry). total_size es ≤ 4096) same (s.0 bt))
-      (sym (i ∙ ap flattens same) ∙ ct) (sym j ∙ dt) (sym k ∙ t),
+      (subst (λ (es : List Entry). total_size es ≤ most_nodes) same (s.0 bt))
+      (sym (i ∙ ap flattens same) ∙ ct) (sym j ∙ dt) (sym (p ∙ ap objects same) ∙ ot)
+      (sym k ∙ t),
   λ ok. k ∙ lifts_to g ok,
 )

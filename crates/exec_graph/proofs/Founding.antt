@@ -5,7 +5,7 @@ use Rattle.std.proofs.lemmas.Bool.{eqb-true, false≢true, lt-ltb}
 use Rattle.std.proofs.lemmas.Bool.Decides.{nat_tests}
 use Rattle.exec_graph.specs.declared.graph.Place.{Place}
 use Rattle.exec_graph.specs.declared.graph.Node.{Node}
-use Rattle.exec_graph.specs.declared.graph.Node.TheVariants.{Source, Flatten, Pdo, Gbk}
+use Rattle.exec_graph.specs.declared.graph.Node.TheVariants.{Source, Flatten, Pdo, Gbk, Barrier}
 use Rattle.exec_graph.specs.declared.graph.Entry.{Entry}
 use Rattle.exec_graph.specs.declared.graph.Graph.{Graph}
 use Rattle.exec_graph.specs.Meaning.{reads, node_at, gives, gives_at, IsThere}
@@ -151,6 +151,7 @@ node_there es (Source r) up h = tt
 node_there es (Flatten ins) up h = places_there es ins up h
 node_there es (Pdo c f) up h = (sym (given_there es c up) ∙ h, tt)
 node_there es (Gbk c o l k) up h = (sym (given_there es c up) ∙ h, tt)
+node_there es (Barrier ins o l a) up h = places_there es ins up h
 
 there_node : (es : List Entry) (x : Node) → Ascends es → AllByRecursion (IsThere es) (reads x)
     → reads_given es x ≡ true
@@ -158,6 +159,7 @@ there_node es (Source r) up a = refl
 there_node es (Flatten ins) up a = there_places es ins up a
 there_node es (Pdo c f) up a = given_there es c up ∙ a.0
 there_node es (Gbk c o l k) up a = given_there es c up ∙ a.0
+there_node es (Barrier ins o l i) up a = there_places es ins up a
 
 pub nodes_there : (es : List Entry) → Ascends es → list_all (λ e. reads_given es e.node) es ≡ true
     → AllByRecursion (λ e. AllByRecursion (IsThere es) (reads e.node)) es

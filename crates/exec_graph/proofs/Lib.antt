@@ -12,6 +12,9 @@ pub mod Coding
 pub mod Edging
 pub mod Founding
 pub mod Ordering
+pub mod ObjectLemmas
+pub mod Barriers
+pub mod Wholes
 pub mod Rooted
 pub mod Checking
 pub mod OutCounts

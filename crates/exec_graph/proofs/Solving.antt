@@ -6,6 +6,7 @@ use Rattle.std.specs.List.{AllByRecursion}
 use Rattle.exec_graph.specs.Meaning.{total, step_own, step_traps, own, traps, Agrees, KeepsMeaning, SameMeaning, through, place, IsKept, FitsForest, Holds, Meets, node_at, reads, is_out, has_out, gives, gives_at, IsThere, AllDiffer, OutsDiffer, HasOuts, IsRankedBy, IsSound, first, out_of, or_nothing, value, value_at, solve, collection}
 use Rattle.flume_collection.specs.Collection.{Collection, together, by_key}
 use Rattle.exec_graph.specs.World.{World}
+use Rattle.exec_graph.specs.Objects.{act_result}
 use Rattle.flume_collection.specs.Traps.{trap_le}
 use Rattle.flume_collection.specs.Sets.{put_new, gather}
 use Rattle.exec_graph.specs.Forests.{Label, Forest, Bare, Grow}
@@ -15,7 +16,7 @@ use Rattle.flume_value.specs.Bag.{bag_of}
 use Rattle.flume_value.specs.declared.value.Value.{Value}
 use Rattle.exec_graph.specs.declared.graph.Place.{Place}
 use Rattle.exec_graph.specs.declared.graph.Node.{Node}
-use Rattle.exec_graph.specs.declared.graph.Node.TheVariants.{Source, Flatten, Pdo, Gbk}
+use Rattle.exec_graph.specs.declared.graph.Node.TheVariants.{Source, Flatten, Pdo, Gbk, Barrier}
 use Rattle.exec_graph.specs.declared.graph.Entry.{Entry}
 use Rattle.exec_graph.specs.declared.graph.Graph.{Graph}
 use Rattle.flume_value.proofs.EachLemmas.{Each-both, Each-weaker}
@@ -153,6 +154,7 @@ value_alike w m k (Source r) j h = refl
 value_alike w m k (Flatten ins) j h = ap together (map_alike m k ins h)
 value_alike w m k (Pdo c f) j h = ap (λ (v : Collection). or_nothing (out_of w v f j)) h.0
 value_alike w m k (Gbk c o l i) j h = ap (by_key) h.0
+value_alike w m k (Barrier ins o l a) j h = ap (act_result w o a) (map_alike m k ins h)
 
 at_alike : (w : World) (m k : Place → Collection) (o : Option Node) (j : ℕ)
     → ((x : Node) → o ≡ Some x → AllByRecursion (λ c. k c ≡ m c) (reads x))
@@ -277,6 +279,7 @@ holds_from w m n (Source r) o h = h 0
 holds_from w m n (Flatten ins) o h = h 0
 holds_from w m n (Pdo c f) o h = fits_from w m n (m c) f o (λ j _. h j)
 holds_from w m n (Gbk c i l k) o h = h 0
+holds_from w m n (Barrier ins i l a) o h = h 0
 
 -- there is a meaning
 pub collection_meets : (w : World) (g : Graph) → IsSound g → Meets w g.nodes (collection w g)
@@ -307,6 +310,8 @@ holds_one w m k n j (Flatten ins) g a h i =
 holds_one w m k n j (Pdo c f) g a h i = one_value w m k n (m c) f j h
     (subst (λ (v : Collection). FitsForest w k n v f) a.0 i) g
 holds_one w m k n j (Gbk c o l e) g a h i = rw (eqb-true j 0 g) (i ∙ ap (by_key) a.0 ∙ sym h)
+holds_one w m k n j (Barrier ins o l e) g a h i =
+    rw (eqb-true j 0 g) (i ∙ ap (act_result w o e) (map_alike m k ins a) ∙ sym h)
 
 only : (w : World) (g : Graph) (m k : Place → Collection) → IsSound g → Meets w g.nodes m
     → Meets w g.nodes k → (r : ℕ → ℕ) → IsRankedBy r g.nodes → (fuel : ℕ) (c : Place)
@@ -338,6 +343,9 @@ own-alike w k m i (Flatten ins) a = refl
 own-alike w k m i (Pdo c f) a = ap (λ (v : Collection). total w (step_own w i) v f) a.0
 own-alike w k m i (Gbk c o l e) a = ap (λ (v : Collection). cond (l && eqb o i) (by_key v).bag [])
     a.0
+own-alike w k m i (Barrier ins o l e) a =
+    ap (λ (cs : List Collection). cond (l && eqb o i) (act_result w o e cs).bag [])
+    (map_alike m k ins a)
 
 traps-alike : (w : World) (k m : Place → Collection) (x : Node) → AllByRecursion (λ c. k c ≡ m c)
     (reads x)
@@ -347,6 +355,8 @@ traps-alike w k m (Flatten ins) a = ap (λ (cs : List Collection). (together cs)
     (map_alike m k ins a)
 traps-alike w k m (Pdo c f) a = ap (λ (v : Collection). total w (step_traps w) v f) a.0
 traps-alike w k m (Gbk c o l e) a = ap (λ (v : Collection). v.traps) a.0
+traps-alike w k m (Barrier ins o l e) a =
+    ap (λ (cs : List Collection). (act_result w o e cs).traps) (map_alike m k ins a)
 
 pub Agrees-self : (w : World) (g : Graph) (m k : Place → Collection) → IsSound g → Meets w g.nodes m
     → Meets w g.nodes k → Agrees w g g m k

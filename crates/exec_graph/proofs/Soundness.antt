@@ -1,7 +1,7 @@
 -- A graph that is ok has a meaning, and one alone.
 use Rattle.std.proofs.Common.{◌≡◌, ℕ, ◌<◌, List, [], ◌∷◌, subst, arith}
 use Rattle.exec_graph.specs.declared.graph.Node.{Node}
-use Rattle.exec_graph.specs.declared.graph.Node.TheVariants.{Source, Flatten, Pdo, Gbk}
+use Rattle.exec_graph.specs.declared.graph.Node.TheVariants.{Source, Flatten, Pdo, Gbk, Barrier}
 use Rattle.exec_graph.specs.declared.graph.Entry.{Entry}
 use Rattle.exec_graph.specs.declared.graph.Graph.{Graph}
 use Rattle.exec_graph.specs.declared.graph.Place.{Place}
@@ -26,6 +26,7 @@ outs_ok g n (Source r) h = tt
 outs_ok g n (Flatten ins) h = tt
 outs_ok g n (Pdo c f) h = subst OutsDiffer h.order (numbered_differ 0 f)
 outs_ok g n (Gbk c o l k) h = tt
+outs_ok g n (Barrier ins o l a) h = tt
 
 pub IsSound-ok : (g : Graph) → IsGraphOk g → IsSound g
 IsSound-ok g ok = record {

@@ -25,7 +25,7 @@ use Rattle.exec_graph.specs.declared.step.Does.{Does}
 use Rattle.exec_graph.specs.declared.step.Does.TheVariants as does
 use Rattle.exec_graph.specs.declared.graph.Place.{Place}
 use Rattle.exec_graph.specs.declared.graph.Node.{Node}
-use Rattle.exec_graph.specs.declared.graph.Node.TheVariants.{Source, Flatten, Pdo, Gbk}
+use Rattle.exec_graph.specs.declared.graph.Node.TheVariants.{Source, Flatten, Pdo, Gbk, Barrier}
 use Rattle.exec_graph.specs.declared.graph.Graph.{Graph}
 use Rattle.exec_graph.specs.World.{World}
 use Rattle.exec_graph.specs.Calls.{called, emitted, given, of_combine, of_group}
@@ -33,6 +33,7 @@ use Rattle.exec_graph.specs.Forests.{Label, Forest, Bare, Grow}
 use Rattle.exec_graph.specs.Meaning.{collection, through, place, is_out, has_out, FitsForest, Holds, Meets, IsThere, IsRankedBy, IsSound, gives, reads}
 use Rattle.exec_graph.specs.Typing.{Signatures, StepTyped, OutTyped, ForestTyped, NodeTyped, IsTypedBy, IsWorldTyped, IsCombined, IsGrouped, Answers}
 use Rattle.exec_graph.proofs.Entries.{all_found}
+use Rattle.exec_graph.proofs.Barriers.{AllGood, barrier_typed}
 use Rattle.exec_graph.proofs.Bools.{or_cases}
 use Rattle.exec_graph.proofs.Derived.{with_one_typed, under_zero_typed, left_typed, right_typed, split_typed, spread_typed}
 use Rattle.exec_graph.proofs.Solving.{collection_meets, kept_value, ranked_at, there_found}
@@ -178,14 +179,19 @@ made_good : (types : Place → Ty) (m : Place → Collection) (n j : ℕ) (v : C
 made_good types m n j v e is h = first_good types m n j e
     (subst (λ (c : Collection). Each (Has (types (place n 0))) c.bag) (sym is) h)
 
+zip_good : (types : Place → Ty) (m : Place → Collection) (cs : List Place)
+    → Each (Good types m) cs → AllGood (map types cs) (map m cs)
+zip_good types m [] a = tt
+zip_good types m (c ∷ cs) a = (a.0, zip_good types m cs a.1)
+
 node_good : (s : Signatures) (w : World) → IsWorldTyped s w → (types : Place → Ty)
     (m : Place → Collection) (n j : ℕ) (x : Node) → NodeTyped s types n x → Holds w m n x
     → Each (Good types m) (reads x) → gives x j ≡ true → Good types m (place n j)
 node_good s w world types m n j (Source r) a h g e =
     made_good types m n j _ e h
-    (Each-bag_of (Has (types (place n 0))) (w.rows r)
-    (subst (λ t. Each (Has t) (w.rows r)) (sym a)
-    (each_from (Has (s.inputs r)) (w.rows r) (world.rows r))))
+    (Each-bag_of (Has (types (place n 0))) (w.rows r.number)
+    (subst (λ t. Each (Has t) (w.rows r.number)) (sym a)
+    (each_from (Has (s.inputs r.number)) (w.rows r.number) (world.rows r.number))))
 node_good s w world types m n j (Flatten ins) a h g e =
     let t : Ty = types (place n 0) in
     made_good types m n j _ e h
@@ -197,6 +203,10 @@ node_good s w world types m n j (Pdo c f) a h g e =
     forest_typed s w world types m n (m c) (types c) f j a h g.0 e
 node_good s w world types m n j (Gbk c o l k) a h g e =
     made_good types m n j _ e h (gbk_good (types c) (types (place n 0)) (m c) a g.0)
+node_good s w world types m n j (Barrier ins o l d) a h g e =
+    made_good types m n j _ e h
+    (barrier_typed s w world o d (map types ins) (types (place n 0)) a (map m ins)
+    (zip_good types m ins g))
 
 -- ---- graphs
 typed_below : (s : Signatures) (w : World) → IsWorldTyped s w → (g : Graph) → IsSound g

@@ -1,6 +1,7 @@
 pub mod Forests
 pub mod Twigs
 pub mod World
+pub mod Objects
 pub mod Derived
 pub mod Calls
 pub mod Meaning
@@ -8,4 +9,5 @@ pub mod Readers
 pub mod Places
 pub mod Typing
 pub mod Wellformed
+pub mod ObjectFree
 pub mod inner

@@ -10,11 +10,12 @@ use Rattle.flume_collection.specs.Traps.{trap_set}
 use Rattle.flume_collection.specs.Collection.{Collection, together, by_key}
 use Rattle.flume_collection.specs.Calls.{passed}
 use Rattle.exec_graph.specs.World.{World}
+use Rattle.exec_graph.specs.Objects.{act_result}
 use Rattle.exec_graph.specs.Calls.{called, emitted, is_own}
 use Rattle.exec_graph.specs.Forests.{Label, Forest, Bare, Grow}
 use Rattle.exec_graph.specs.declared.graph.Place.{Place}
 use Rattle.exec_graph.specs.declared.graph.Node.{Node}
-use Rattle.exec_graph.specs.declared.graph.Node.TheVariants.{Source, Flatten, Pdo, Gbk}
+use Rattle.exec_graph.specs.declared.graph.Node.TheVariants.{Source, Flatten, Pdo, Gbk, Barrier}
 use Rattle.exec_graph.specs.declared.graph.Entry.{Entry}
 use Rattle.exec_graph.specs.declared.graph.Graph.{Graph}
 
@@ -41,10 +42,12 @@ FitsForest w m n v (Grow l kids rest) =
 
 -- m says of the outputs of node n what the node gives
 abbrev pub Holds : World → (Place → Collection) → ℕ → Node → Type 0
-Holds w m n (Source r) = m (place n 0) ≡ record { bag = bag_of (w.rows r); traps = [] }
+Holds w m n (Source r) =
+    m (place n 0) ≡ record { bag = bag_of (w.rows r.number); traps = [] }
 Holds w m n (Flatten ins) = m (place n 0) ≡ together (map m ins)
 Holds w m n (Pdo c f) = FitsForest w m n (m c) f
 Holds w m n (Gbk c o l k) = m (place n 0) ≡ by_key (m c)
+Holds w m n (Barrier ins o l a) = m (place n 0) ≡ act_result w o a (map m ins)
 
 -- m meets the equation of each node
 abbrev pub Meets : World → List Entry → (Place → Collection) → Type 0
@@ -72,12 +75,14 @@ own w m i (Source r) = []
 own w m i (Flatten ins) = []
 own w m i (Pdo c f) = total w (step_own w i) (m c) f
 own w m i (Gbk c o l k) = cond (l && (o == i)) (by_key (m c)).bag []
+own w m i (Barrier ins o l a) = cond (l && (o == i)) (act_result w o a (map m ins)).bag []
 
 abbrev pub traps : World → (Place → Collection) → Node → List Trap
 traps w m (Source r) = []
 traps w m (Flatten ins) = (together (map m ins)).traps
 traps w m (Pdo c f) = total w (step_traps w) (m c) f
 traps w m (Gbk c o l k) = (m c).traps
+traps w m (Barrier ins o l a) = (act_result w o a (map m ins)).traps
 
 -- the bag of script node i
 abbrev pub own_bag : World → (Place → Collection) → List Entry → ℕ → List Value
@@ -99,6 +104,7 @@ reads (Source r) = []
 reads (Flatten ins) = ins
 reads (Pdo c f) = c ∷ []
 reads (Gbk c o l k) = c ∷ []
+reads (Barrier ins o l a) = ins
 
 abbrev pub is_out : Option ℕ → ℕ → Bool
 is_out None j = false
@@ -115,6 +121,7 @@ gives (Source r) j = j == 0
 gives (Flatten ins) j = j == 0
 gives (Pdo c f) j = has_out j f
 gives (Gbk c o l k) j = j == 0
+gives (Barrier ins o l a) j = j == 0
 
 abbrev pub gives_at : Option Node → ℕ → Bool
 gives_at None j = false
@@ -141,6 +148,7 @@ HasOuts (Source r) = Unit {0}
 HasOuts (Flatten ins) = Unit {0}
 HasOuts (Pdo c f) = OutsDiffer f
 HasOuts (Gbk c o l k) = Unit {0}
+HasOuts (Barrier ins o l a) = Unit {0}
 
 -- each node reads nodes of lower rank alone, so that no path returns to its node
 abbrev pub IsRankedBy : (ℕ → ℕ) → List Entry → Type 0
@@ -177,10 +185,11 @@ or_nothing (Some c) = c
 
 -- what a node gives to its output j
 abbrev pub value : World → (Place → Collection) → Node → ℕ → Collection
-value w m (Source r) j = record { bag = bag_of (w.rows r); traps = [] }
+value w m (Source r) j = record { bag = bag_of (w.rows r.number); traps = [] }
 value w m (Flatten ins) j = together (map m ins)
 value w m (Pdo c f) j = or_nothing (out_of w (m c) f j)
 value w m (Gbk c o l k) j = by_key (m c)
+value w m (Barrier ins o l a) j = act_result w o a (map m ins)
 
 abbrev pub value_at : World → (Place → Collection) → Option Node → ℕ → Collection
 value_at w m None j = nothing

@@ -3,7 +3,7 @@ use Rattle.std.specs.Prelude.{ℕ, ◌==◌, ◌&&◌, ◌||◌, Bool, false, co
 use Rattle.std.specs.List.{list_any}
 use Rattle.exec_graph.specs.declared.graph.Place.{Place}
 use Rattle.exec_graph.specs.declared.graph.Node.{Node}
-use Rattle.exec_graph.specs.declared.graph.Node.TheVariants.{Source, Flatten, Pdo, Gbk}
+use Rattle.exec_graph.specs.declared.graph.Node.TheVariants.{Source, Flatten, Pdo, Gbk, Barrier}
 use Rattle.exec_graph.specs.declared.graph.Entry.{Entry}
 use Rattle.exec_graph.specs.declared.graph.Graph.{Graph}
 
@@ -19,13 +19,15 @@ calls_on c (Source r) = false
 calls_on c (Flatten ins) = false
 calls_on c (Pdo d f) = same_place c d
 calls_on c (Gbk d o l k) = false
+calls_on c (Barrier ins o l a) = false
 
--- whether the node is a Gbk or a Flatten that reads c
+-- whether the node reads c, and is no Pdo
 abbrev pub collects : Place → Node → Bool
 collects c (Source r) = false
 collects c (Flatten ins) = among c ins
 collects c (Pdo d f) = false
 collects c (Gbk d o l k) = same_place c d
+collects c (Barrier ins o l a) = among c ins
 
 abbrev pub any_node : (Node → Bool) → List Entry → Bool
 any_node t es = list_any (λ e. t e.node) es
@@ -43,7 +45,7 @@ readers es c = those (calls_on c) es
 abbrev pub uses : Place → Node → Bool
 uses c x = calls_on c x || collects c x
 
--- whether a Gbk, a Flatten or a script output reads c
+-- whether a script output reads c, or a node that is no Pdo
 abbrev pub is_held : Graph → Place → Bool
 is_held g c = any_node (collects c) g.nodes || among c g.outputs
 

@@ -1,12 +1,13 @@
 -- The types of collections: an assignment of a type to each fits a graph where each step takes what
 -- it is given, and each collection has the type of what is put into it.
-use Rattle.std.specs.Prelude.{◌≡◌, ℕ, List, [], ◌∷◌, Option, Some, None, Ok, Err}
+use Rattle.std.specs.Prelude.{◌≡◌, ℕ, List, [], ◌∷◌, map, Option, Some, None, Ok, Err}
 use Rattle.std.specs.List.{AllByRecursion, AllZip, slice_get}
 use Rattle.flume_value.specs.declared.value.Value.{Value}
 use Rattle.flume_types.specs.declared.types.Ty.{Ty}
 use Rattle.flume_types.specs.declared.types.Ty.TheVariants as type
+use Rattle.flume_types.specs.declared.types.Field.{Field}
 use Rattle.flume_types.specs.Tables.{table_of}
-use Rattle.flume_types.specs.Typing.{AllHave, Has}
+use Rattle.flume_types.specs.Typing.{AllHave, Has, types_of}
 use Rattle.bag_steps.specs.Sides.{sides_of}
 use Rattle.keyed_steps.specs.Types.{TakesType, gives_type}
 use Rattle.combine_table.specs.declared.comb.Comb.{Comb}
@@ -17,8 +18,10 @@ use Rattle.exec_graph.specs.Forests.{Forest, Bare, Grow}
 use Rattle.exec_graph.specs.World.{World}
 use Rattle.exec_graph.specs.Meaning.{place}
 use Rattle.exec_graph.specs.declared.graph.Place.{Place}
+use Rattle.exec_graph.specs.declared.graph.Act.{Act}
+use Rattle.exec_graph.specs.declared.graph.Act.TheVariants.{SideInput, Operate, Singleton}
 use Rattle.exec_graph.specs.declared.graph.Node.{Node}
-use Rattle.exec_graph.specs.declared.graph.Node.TheVariants.{Source, Flatten, Pdo, Gbk}
+use Rattle.exec_graph.specs.declared.graph.Node.TheVariants.{Source, Flatten, Pdo, Gbk, Barrier}
 use Rattle.exec_graph.specs.declared.graph.Graph.{Graph}
 
 -- the types of sources and of functions: of what a function takes, and of each of its outputs
@@ -90,12 +93,47 @@ pub record IsGrouped (t u : Ty) : Type 0 where
   pub takes : t ≡ table_of key value
   pub gives : u ≡ table_of key (type.List value)
 
+-- t is the type of records of these types, in order
+pub record IsRecord (ts : List Ty) (t : Ty) : Type 0 where
+  pub fields : List (Field Ty)
+  pub record_of : t ≡ type.Rec fields
+  pub in_order : types_of fields ≡ ts
+
+-- what a function of objects takes: the type of the one object's value, or of the record of several
+abbrev pub IsArgument : List Ty → Ty → Type 0
+IsArgument [] t = IsRecord [] t
+IsArgument (u ∷ []) t = t ≡ u
+IsArgument (u ∷ (v ∷ us)) t = IsRecord (u ∷ (v ∷ us)) t
+
+-- the type of pairs of a key and what the combiner gives, and the type of what it gives
+pub record IsWhole (c : Comb) (t u : Ty) : Type 0 where
+  pub key : Ty
+  pub value : Ty
+  pub takes : t ≡ table_of key (gives_type c value)
+  pub suits : TakesType c value
+  pub gives : u ≡ gives_type c value
+
+-- the act takes collections of these types and gives a collection of that type: a side input by a
+-- function of one output that takes the record of both types, an operate by a function of one
+-- output that takes its argument's type, and a singleton of pairs that its combiner gives
+abbrev pub ActTyped : Signatures → Act → List Ty → Ty → Type 0
+ActTyped s (SideInput f) [] u = ⊥
+ActTyped s (SideInput f) (t ∷ []) u = ⊥
+ActTyped s (SideInput f) (t ∷ (object ∷ [])) u =
+    IsRecord (t ∷ (object ∷ [])) (s.takes f) × (s.gives f ≡ u ∷ [])
+ActTyped s (SideInput f) (t ∷ (object ∷ (v ∷ vs))) u = ⊥
+ActTyped s (Operate f) ts u = IsArgument ts (s.takes f) × (s.gives f ≡ u ∷ [])
+ActTyped s (Singleton k) [] u = ⊥
+ActTyped s (Singleton k) (t ∷ []) u = IsWhole k t u
+ActTyped s (Singleton k) (t ∷ (v ∷ vs)) u = ⊥
+
 -- the types of what node n reads and gives fit the node
 abbrev pub NodeTyped : Signatures → (Place → Ty) → ℕ → Node → Type 0
-NodeTyped s types n (Source r) = types (place n 0) ≡ s.inputs r
+NodeTyped s types n (Source r) = types (place n 0) ≡ s.inputs r.number
 NodeTyped s types n (Flatten ins) = AllByRecursion (λ c. types c ≡ types (place n 0)) ins
 NodeTyped s types n (Pdo c f) = ForestTyped s types n (types c) f
 NodeTyped s types n (Gbk c o l k) = IsGrouped (types c) (types (place n 0))
+NodeTyped s types n (Barrier ins o l a) = ActTyped s a (map types ins) (types (place n 0))
 
 -- the assignment of types fits the graph
 abbrev pub IsTypedBy : Signatures → Graph → (Place → Ty) → Type 0

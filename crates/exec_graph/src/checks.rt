@@ -1,3 +1,4 @@
+// Whether a graph is well-formed.
 ghost use Rattle.std.specs.Prelude.{◌↔◌, IsTrue, IfOk};
 ghost use Rattle.exec_graph.specs.Wellformed.{IsGraphOk};
 
@@ -5,6 +6,7 @@ use crate::callers::are_lifted_ok;
 use crate::forests::are_forests_ok;
 use crate::founded::is_founded;
 use crate::graph::Graph;
+use crate::objects::are_objects_ok;
 use crate::sizes::{are_few, are_flattens_ok};
 use std::alloc::{AllocError, Global};
 
@@ -24,6 +26,9 @@ pub fn graph_ok(alloc: Global, graph: &Graph) -> Result<bool, AllocError>
         return Ok(false);
     }
     if !are_forests_ok(alloc, graph)? {
+        return Ok(false);
+    }
+    if !are_objects_ok(alloc, nodes)? {
         return Ok(false);
     }
     let lifted = are_lifted_ok(alloc, graph)?;

@@ -1,3 +1,4 @@
+// The edges of a graph, between indexes of nodes.
 ghost use Rattle.std.specs.Prelude.{◌≡◌, ◌∷◌, [], ◌++◌, map, length, IfOk};
 ghost use Rattle.exec_graph.specs.inner.Edges.{numbers, IsRising, index_of, edges_in, edges_of};
 
@@ -54,6 +55,7 @@ fn node_edges(alloc: Global, numbers: &[u32], node: &Node) -> Result<Pile<usize>
     match node {
         Node::Source(_) => Ok(Pile::new(alloc)),
         Node::Flatten(inputs) => edges_in(alloc, numbers, inputs.as_slice()),
+        Node::Barrier(inputs, _, _, _) => edges_in(alloc, numbers, inputs.as_slice()),
         Node::Pdo(c, _) => one_edge(alloc, numbers, *c),
         Node::Gbk(c, _, _, _) => one_edge(alloc, numbers, *c),
     }

@@ -1,3 +1,4 @@
+// Whether the outputs of each Pdo are numbered in order, and each is read.
 ghost use Rattle.std.specs.Prelude.{◌≡◌, IfOk};
 ghost use Rattle.std.specs.List.{list_all};
 ghost use Rattle.exec_graph.specs.Readers.{is_read};
@@ -42,7 +43,8 @@ fn is_forest_ok(
                     && are_all_read(graph, read, entry.number, spots.as_slice()),
             )
         }
-        Node::Source(_) | Node::Flatten(_) | Node::Gbk(_, _, _, _) => Ok(true),
+        Node::Source(_) | Node::Flatten(_) | Node::Gbk(_, _, _, _) | Node::Barrier(_, _, _, _) =>
+            Ok(true),
     }
 }
 

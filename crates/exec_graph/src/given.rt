@@ -1,3 +1,4 @@
+// The places that the nodes give.
 ghost use Rattle.std.specs.Prelude.{◌≡◌, OnOk, IfOk};
 ghost use Rattle.std.specs.List.{list_any, list_all};
 ghost use Rattle.exec_graph.specs.Places.{HasPlaces, HasAlso};
@@ -81,6 +82,7 @@ fn are_reads_given(nodes: &[Entry], given: &HashSet<u64>, node: &Node) -> bool
     match node {
         Node::Source(_) => true,
         Node::Flatten(inputs) => are_given(nodes, given, inputs.as_slice()),
+        Node::Barrier(inputs, _, _, _) => are_given(nodes, given, inputs.as_slice()),
         Node::Pdo(c, _) => is_place_given(nodes, given, *c),
         Node::Gbk(c, _, _, _) => is_place_given(nodes, given, *c),
     }

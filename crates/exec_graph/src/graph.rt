@@ -1,3 +1,4 @@
+// Graphs: operations under their numbers, each on collections that others give.
 use crate::step::Roots;
 use combine_table::Comb;
 use flume_value::Pile;
@@ -9,11 +10,34 @@ pub struct Place {
     pub out: u32,
 }
 
+/// What a source gives: the rows of that number. They are one row where the source is an object,
+/// and that row is its value.
+#[derive(Clone, Copy, Debug, PartialEq, Eq, Drop)]
+pub struct Input {
+    pub number: u32,
+    pub is_object: bool,
+}
+
+/// What a barrier does with the collections that it reads. Some of them are objects: collections of
+/// one value, or of none where a trap is behind it.
+#[derive(Clone, Copy, Debug, PartialEq, Eq, Drop)]
+pub enum Act {
+    /// A side input: calls the function of that number on each element of the first collection,
+    /// beside the value of the object that is the second. Gives what the calls emit.
+    SideInput(u32),
+    /// Calls the function of that number once, on the value of the one object, or on the record of
+    /// the values of several. Gives an object: what the call emits, which is one value.
+    Operate(u32),
+    /// Gives an object: the value of the only pair of the collection, or what the combiner makes of
+    /// nothing where there is no pair.
+    Singleton(Comb),
+}
+
 /// An operation.
 #[derive(Drop)]
 pub enum Node {
-    /// The rows of the input of that number.
-    Source(u32),
+    /// The rows of an input.
+    Source(Input),
     /// The collections together.
     Flatten(Pile<Place>),
     /// The steps on each element.
@@ -21,6 +45,10 @@ pub enum Node {
     /// The groups of the pairs: the script node, whether they are its own bag, and the combiner
     /// that it is lifted with.
     Gbk(Place, u32, bool, Option<Comb>),
+    /// What the act makes of the collections: the script node, and whether it is its own bag. A
+    /// barrier takes collections whole: all that it reads is finished before it begins. No rewrite
+    /// changes what it does, and nothing is fused with it.
+    Barrier(Pile<Place>, u32, bool, Act),
 }
 
 /// An operation under its number.

@@ -1,4 +1,6 @@
-ghost use Rattle.std.specs.Prelude.{◌≡◌, ℕ, List, map};
+// Laws of graphs: what steps and barriers give, that a well-formed graph has one meaning, and
+// types.
+ghost use Rattle.std.specs.Prelude.{◌≡◌, ℕ, List, [], ◌∷◌, map, true};
 ghost use Rattle.std.specs.List.{flat_map};
 ghost use Rattle.bag_groups.specs.Combining.{combined_each, traps_of_each};
 ghost use Rattle.combine_table.specs.Combinations.{combined};
@@ -16,7 +18,9 @@ ghost use Rattle.exec_graph.specs.Calls.{called, given};
 ghost use Rattle.exec_graph.specs.Derived.{with_one, under_zero, left_tagged, right_tagged, split, spread};
 ghost use Rattle.exec_graph.specs.Meaning.{Meets, IsSound, IsThere, SameMeaning, KeepsMeaning, collection};
 ghost use Rattle.exec_graph.specs.Typing.{IsTypedBy, IsWorldTyped, Signatures};
-ghost use Rattle.exec_graph.specs.Wellformed.{IsGraphOk};
+ghost use Rattle.exec_graph.specs.Objects.{IsObject, act_result, singleton_value, operated, side_input};
+ghost use Rattle.exec_graph.specs.declared.graph.Act.TheVariants.{SideInput, Operate, Singleton};
+ghost use Rattle.exec_graph.specs.Wellformed.{HaveOneRow, IsGraphOk, is_object_at};
 ghost use Rattle.exec_graph.specs.World.{World};
 
 /// What a step answers: where it calls a function, what the world's function answers; where it
@@ -36,6 +40,24 @@ pub fn step_law()
     ensures split { (w : World) (x : Value) → called w does.Split x ≡ given (split x) }
     ensures solo { (w : World) (x : Value) → called w does.Solo x ≡ given (under_zero x) }
     ensures spread { (w : World) (x : Value) → called w does.Spread x ≡ given (spread x) }
+{}
+
+/// What a barrier makes of the collections that it reads: of a side input the calls on the elements
+/// of one beside an object, of an operate the call on objects, of a singleton the value of the only
+/// pair.
+pub fn act_law()
+    ensures side_input { (w : World) (origin f : ℕ) (c object : Collection) →
+        act_result w origin (SideInput f) (c ∷ object ∷ []) ≡ side_input w origin f c object }
+    ensures operate { (w : World) (origin f : ℕ) (objects : List Collection) →
+        act_result w origin (Operate f) objects ≡ operated w origin f objects }
+    ensures singleton { (w : World) (origin : ℕ) (k : Comb) (c : Collection) →
+        act_result w origin (Singleton k) (c ∷ []) ≡ singleton_value origin k c }
+{}
+
+/// In a well-formed graph an object is one value without a trap, or no value and a trap.
+pub fn object_law()
+    ensures { (w : World) (g : Graph) → IsGraphOk g → HaveOneRow w g.nodes → (c : Place) →
+        IsThere g.nodes c → is_object_at g.nodes c ≡ true → IsObject (collection w g c) }
 {}
 
 /// A well-formed graph is sound, and a sound graph has just one meaning in each world: `collection`

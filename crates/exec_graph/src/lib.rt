@@ -1,9 +1,15 @@
 //! Execution graphs: operations on collections, and what a graph means.
 //!
-//! A `Graph` has four kinds of nodes: a source of rows, collections together (Flatten), a forest
-//! of steps on each element of a collection (Pdo), and the groups of a collection of pairs (Gbk).
-//! One type serves before and after every rewrite. It names inputs and functions by their numbers,
-//! and holds neither rows, bodies nor types.
+//! A `Graph` has five kinds of nodes: a source of rows, collections together (Flatten), a forest of
+//! steps on each element of a collection (Pdo), the groups of a collection of pairs (Gbk), and what
+//! is made of collections that are taken whole (Barrier). One type serves before and after every
+//! rewrite. It names inputs and functions by their numbers, and holds neither rows, bodies nor
+//! types.
+//!
+//! A barrier begins when all that it reads is finished, and nothing is fused with it. It makes and
+//! takes objects, which are collections of one value, or of none where a trap is behind it. Its act
+//! (`Act`) calls a function beside an object (a side input), calls a function of objects (operate),
+//! or takes the value of the only pair (singleton): specs/Objects.antt, and `act_law`.
 //!
 //! What these are is a `World` (specs/World.antt): the rows of each source, and what each function
 //! answers. A step calls a function, combines the list of a pair, or is a derived function
@@ -29,9 +35,11 @@ mod founded;
 mod given;
 mod graph;
 mod laws;
+mod objects;
 mod order;
 mod places;
 mod readers;
+mod rows;
 mod sizes;
 mod spots;
 mod step;
@@ -40,9 +48,10 @@ pub use callers::root_comb;
 pub use checks::graph_ok;
 pub use copies::copy_steps;
 pub use founded::is_founded;
-pub use graph::{Blocked, Entry, Graph, Node, Place};
-pub use laws::{meaning_law, step_law, typed_law};
+pub use graph::{Act, Blocked, Entry, Graph, Input, Node, Place};
+pub use laws::{act_law, meaning_law, object_law, step_law, typed_law};
 pub use places::{add_place, code_of};
 pub use readers::{held_places, read_places};
-pub use sizes::{count_outputs, size_of};
+pub use rows::{operate_rows_law, side_input_rows_law, singleton_rows_law};
+pub use sizes::{MOST_NODES, count_outputs, size_of};
 pub use step::{Does, Output, Roots, Step};

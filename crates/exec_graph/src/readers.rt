@@ -1,3 +1,4 @@
+// The places that are read, and those that are read whole.
 ghost use Rattle.std.specs.Prelude.{OnOk, IfOk};
 ghost use Rattle.exec_graph.specs.Readers.{among, calls_on, collects, is_read};
 ghost use Rattle.exec_graph.specs.Readers.{is_held};
@@ -8,7 +9,7 @@ use crate::places::add_place;
 use std::alloc::{AllocError, Global};
 use std::collections::HashSet;
 
-/// The collections that a Gbk, a Flatten or a script output reads.
+/// The collections that a script output reads, or a node that is no Pdo.
 pub fn held_places(alloc: Global, graph: &Graph) -> Result<HashSet<u64>, AllocError>
     ensures { IfOk result (λ s. HasPlaces s (is_held graph.now)) }
 {
@@ -31,12 +32,13 @@ pub fn read_places(alloc: Global, graph: &Graph) -> Result<HashSet<u64>, AllocEr
     Ok(places)
 }
 
-/// Adds what a Gbk or a Flatten reads.
+/// Adds what the node reads, where it is no Pdo.
 fn add_collected(node: &Node, places: &mut HashSet<u64>) -> Result<(), AllocError>
     ensures { OnOk result (HasAlso places.old places.new (λ d. collects d node.now)) }
 {
     match node {
         Node::Flatten(inputs) => add_places(inputs.as_slice(), places),
+        Node::Barrier(inputs, _, _, _) => add_places(inputs.as_slice(), places),
         Node::Gbk(c, _, _, _) => add_place(*c, places),
         Node::Source(_) | Node::Pdo(_, _) => Ok(()),
     }
@@ -48,7 +50,8 @@ fn add_called(node: &Node, places: &mut HashSet<u64>) -> Result<(), AllocError>
 {
     match node {
         Node::Pdo(c, _) => add_place(*c, places),
-        Node::Source(_) | Node::Flatten(_) | Node::Gbk(_, _, _, _) => Ok(()),
+        Node::Source(_) | Node::Flatten(_) | Node::Gbk(_, _, _, _) | Node::Barrier(_, _, _, _) =>
+            Ok(()),
     }
 }
 

@@ -1,5 +1,6 @@
+// How large a graph and its nodes are, and how large they may be.
 ghost use Rattle.std.specs.Prelude.{◌≡◌, ◌↔◌, ◌≤◌, IsTrue, IfOk, length};
-ghost use Rattle.exec_graph.specs.Wellformed.{size, total_size, most};
+ghost use Rattle.exec_graph.specs.Wellformed.{size, total_size, most_nodes};
 ghost use Rattle.exec_graph.specs.inner.Checks.{flatten_ok};
 ghost use Rattle.exec_graph.specs.inner.Spots.{firsts, kept};
 ghost use Rattle.exec_graph.specs.Forests.{after};
@@ -12,13 +13,13 @@ use std::alloc::{AllocError, Global};
 
 /// How many inputs a Flatten may have, and how many nodes a graph, where a Pdo counts once for each
 /// step.
-const MOST: usize = 4096;
+pub const MOST_NODES: usize = 16_384;
 
 /// Whether the nodes are few enough.
 pub(crate) fn are_few(alloc: Global, nodes: &[Entry]) -> Result<bool, AllocError>
-    ensures { IfOk result (λ b. IsTrue b ↔ (total_size nodes.now ≤ most)) }
+    ensures { IfOk result (λ b. IsTrue b ↔ (total_size nodes.now ≤ most_nodes)) }
 {
-    let mut left = MOST;
+    let mut left = MOST_NODES;
     for e in nodes {
         let size = size_of(alloc, &e.node)?;
         if size > left {
@@ -39,7 +40,8 @@ pub fn size_of(alloc: Global, node: &Node) -> Result<usize, AllocError>
             let spots = spots_of(alloc, roots)?;
             Ok(count_steps(spots.as_slice()))
         }
-        Node::Source(_) | Node::Flatten(_) | Node::Gbk(_, _, _, _) => Ok(1),
+        Node::Source(_) | Node::Flatten(_) | Node::Gbk(_, _, _, _) | Node::Barrier(_, _, _, _) =>
+            Ok(1),
     }
 }
 
@@ -96,8 +98,9 @@ fn is_flatten_ok(node: &Node) -> bool
     match node {
         Node::Flatten(inputs) => {
             let count = inputs.as_slice().len();
-            0 < count && count <= MOST
+            0 < count && count <= MOST_NODES
         }
-        Node::Source(_) | Node::Pdo(_, _) | Node::Gbk(_, _, _, _) => true,
+        Node::Source(_) | Node::Pdo(_, _) | Node::Gbk(_, _, _, _) | Node::Barrier(_, _, _, _) =>
+            true,
     }
 }

@@ -1,17 +1,20 @@
 -- A plan's table keeps what it has, and what a stage gives rests on what it reads alone.
-use Rattle.std.proofs.Common.{◌≡◌, ℕ, ◌<◌, Bool, true, false, cond, eqb, List, [], ◌∷◌, map, suc, refl, ap, ◌∙◌, arith}
+use Rattle.std.proofs.Common.{◌≡◌, ℕ, ◌<◌, Bool, true, false, cond, eqb, List, [], ◌∷◌, ◌++◌, map, Option, Some, None, suc, refl, ap, ◌∙◌, arith}
 use Rattle.std.proofs.lemmas.Bool.{eqb-true}
+use Rattle.std.specs.Prelude.{option_map}
+use Rattle.flume_value.proofs.EachLemmas.{Each-left, Each-right}
 use Rattle.std.specs.List.{AllByRecursion as Each, flat_map, slice_get}
 use Rattle.flume_collection.specs.Collection.{Collection, together}
 use Rattle.exec_graph.specs.World.{World}
+use Rattle.exec_graph.specs.Objects.{act_result}
 use Rattle.exec_graph.specs.Meaning.{or_nothing}
 use Rattle.exec_plan.specs.declared.plan.PlanPlace.{PlanPlace}
 use Rattle.exec_plan.specs.declared.plan.PlanPlace.TheVariants as at
 use Rattle.exec_plan.specs.declared.plan.InChannel.{InChannel}
 use Rattle.exec_plan.specs.declared.plan.Stage.{Stage}
-use Rattle.exec_plan.specs.declared.plan.Stage.TheVariants.{Mscr, Flatten}
+use Rattle.exec_plan.specs.declared.plan.Stage.TheVariants.{Mscr, Flatten, Operate}
 use Rattle.exec_plan.specs.Channels.{Fed, fed, given}
-use Rattle.exec_plan.specs.Meaning.{results, run, stage_reads, with_results}
+use Rattle.exec_plan.specs.Meaning.{in_reads, results, run, stage_reads, with_object, with_results}
 
 -- ---- the table
 -- a source, or a result of a stage below k
@@ -42,14 +45,24 @@ run_below w k (s ∷ ss) t c h =
     ∙ with_below t (results w t s) k c h
 
 -- ---- stages over tables that are alike
+object_alike : (t u : PlanPlace → Collection) (o : Option PlanPlace)
+    → Each (λ c. t c ≡ u c) (with_object o) → option_map t o ≡ option_map u o
+object_alike t u None a = refl
+object_alike t u (Some c) a = ap (λ (v : Collection). Some v) a.0
+
 fed_alike : (t u : PlanPlace → Collection) (cs : List InChannel)
-    → Each (λ c. t c ≡ u c) (map (λ (c : InChannel). c.reads) cs)
-    → map (fed t) cs ≡ map (fed u) cs
+    → Each (λ c. t c ≡ u c) (flat_map in_reads cs) → map (fed t) cs ≡ map (fed u) cs
 fed_alike t u [] a = refl
 fed_alike t u (c ∷ cs) a =
-    ap (λ (v : Collection). let x : Fed = record { value = v; does = c.does } in
-    x ∷ map (fed t) cs) a.0
-    ∙ ap (λ (l : List Fed). fed u c ∷ l) (fed_alike t u cs a.1)
+    let P : PlanPlace → Type 0 = λ d. t d ≡ u d in
+    let more : List PlanPlace = flat_map in_reads cs in
+    let reads : t c.reads ≡ u c.reads = a.0 in
+    let object : option_map t c.beside ≡ option_map u c.beside =
+    object_alike t u c.beside (Each-left P (with_object c.beside) more a.1) in
+    let rest : map (fed t) cs ≡ map (fed u) cs =
+    fed_alike t u cs (Each-right P (with_object c.beside) more a.1) in
+    λ i. (let x : Fed = record { value = reads i; beside = object i; does = c.does } in
+    x ∷ rest i)
 
 values_alike : (t u : PlanPlace → Collection) (cs : List PlanPlace) → Each (λ c. t c ≡ u c) cs
     → map t cs ≡ map u cs
@@ -64,3 +77,5 @@ results_alike w t u (Mscr m) a =
     ap (λ (cs : List Fed). flat_map (given w cs) m.outputs) (fed_alike t u m.inputs a)
 results_alike w t u (Flatten takes) a =
     ap (λ (cs : List Collection). together cs ∷ []) (values_alike t u takes a)
+results_alike w t u (Operate takes o l d) a =
+    ap (λ (cs : List Collection). act_result w o d cs ∷ []) (values_alike t u takes a)

@@ -8,16 +8,18 @@ use Rattle.flume_collection.specs.declared.trap.Trap.{Trap}
 use Rattle.flume_collection.specs.Traps.{trap_set}
 use Rattle.flume_collection.specs.Collection.{Collection, together}
 use Rattle.exec_graph.specs.World.{World}
+use Rattle.exec_graph.specs.Objects.{act_result}
 use Rattle.exec_graph.specs.Forests.{Forest, Label}
-use Rattle.exec_graph.specs.Meaning.{or_nothing, total, step_own, step_traps}
+use Rattle.exec_graph.specs.Meaning.{or_nothing, through, total, step_own, step_traps}
 use Rattle.exec_plan.specs.declared.plan.PlanPlace.{PlanPlace}
 use Rattle.exec_plan.specs.declared.plan.PlanPlace.TheVariants as at
+use Rattle.exec_plan.specs.declared.plan.InChannel.{InChannel}
 use Rattle.exec_plan.specs.declared.plan.OutChannel.{OutChannel}
 use Rattle.exec_plan.specs.declared.plan.OutChannel.TheVariants.{Group, Pass}
 use Rattle.exec_plan.specs.declared.plan.Stage.{Stage}
-use Rattle.exec_plan.specs.declared.plan.Stage.TheVariants.{Mscr, Flatten}
+use Rattle.exec_plan.specs.declared.plan.Stage.TheVariants.{Mscr, Flatten, Operate}
 use Rattle.exec_plan.specs.declared.plan.Plan.{Plan}
-use Rattle.exec_plan.specs.Channels.{Fed, fed, given, groups}
+use Rattle.exec_plan.specs.Channels.{Fed, fed, given, groups, value_on, world_in}
 
 -- ---- collections
 
@@ -25,11 +27,21 @@ use Rattle.exec_plan.specs.Channels.{Fed, fed, given, groups}
 abbrev pub results : World → (PlanPlace → Collection) → Stage → List Collection
 results w t (Mscr m) = flat_map (given w (map (fed t) m.inputs)) m.outputs
 results w t (Flatten takes) = together (map t takes) ∷ []
+results w t (Operate takes o l a) = act_result w o a (map t takes) ∷ []
+
+abbrev pub with_object : Option PlanPlace → List PlanPlace
+with_object None = []
+with_object (Some c) = c ∷ []
+
+-- what an input channel reads
+abbrev pub in_reads : InChannel → List PlanPlace
+in_reads c = c.reads ∷ with_object c.beside
 
 -- what a stage reads
 abbrev pub stage_reads : Stage → List PlanPlace
-stage_reads (Mscr m) = map (λ c. c.reads) m.inputs
+stage_reads (Mscr m) = flat_map in_reads m.inputs
 stage_reads (Flatten takes) = takes
+stage_reads (Operate takes o l a) = takes
 
 -- the table with the results of stage k
 abbrev pub with_results : ℕ → List Collection → (PlanPlace → Collection) → PlanPlace → Collection
@@ -73,15 +85,23 @@ abbrev pub total_of : {Y : Type 0} → World → (Collection → Label → List 
 total_of w q v None = []
 total_of w q v (Some f) = total w q v f
 
--- what is added for a step where it is given a collection, for groups of an origin that are its
--- own bag or not, and for collections together
+-- what is added for a step where it is given a collection, for a collection that is made as a whole
+-- for an origin, whose own bag it is or not, and for collections together
 pub record Parts (Y : Type 0) : Type 0 where
   pub steps : Collection → Label → List Y
   pub groups : ℕ → Bool → Collection → List Y
   pub flat : Collection → List Y
 
+-- steps that are called beside an object each add the whole of what they give
+abbrev pub fed_sum : {Y : Type 0} → World → Parts Y → Collection → Option Collection
+    → Option Forest → List Y
+fed_sum w p v None f = total_of w p.steps v f
+fed_sum w p v (Some object) f =
+    let u : World = world_in w (Some object) in
+    total_of u (λ c l. p.groups l.origin l.last (through u l c)) (value_on v (Some object)) f
+
 abbrev pub in_sum : {Y : Type 0} → World → Parts Y → Fed → List Y
-in_sum w p c = total_of w p.steps c.value c.does
+in_sum w p c = fed_sum w p c.value c.beside c.does
 
 abbrev pub out_sum : {Y : Type 0} → World → Parts Y → List Fed → OutChannel → List Y
 out_sum w p cs (Group g) =
@@ -94,6 +114,7 @@ channels_sum w p cs outs = flat_map (in_sum w p) cs ++ flat_map (out_sum w p cs)
 abbrev pub stage_sum : {Y : Type 0} → World → Parts Y → (PlanPlace → Collection) → Stage → List Y
 stage_sum w p t (Mscr m) = channels_sum w p (map (fed t) m.inputs) m.outputs
 stage_sum w p t (Flatten takes) = p.flat (together (map t takes))
+stage_sum w p t (Operate takes o l a) = p.groups o l (act_result w o a (map t takes))
 
 -- ---- emissions and traps
 

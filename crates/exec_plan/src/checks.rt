@@ -1,7 +1,9 @@
+// Whether a plan is well-formed: its parts in order.
 ghost use Rattle.std.specs.Prelude.{◌≡◌, ◌↔◌, IsTrue};
 ghost use Rattle.exec_plan.specs.Wellformed.{IsPlanOk};
 ghost use Rattle.exec_plan.specs.inner.Tests.{plan_test};
 
+use crate::objects::are_objects_ok;
 use crate::plan::Plan;
 use crate::stages::{are_made, are_stages_ok};
 
@@ -12,6 +14,7 @@ fn passes(plan: &Plan) -> bool
     are_stages_ok(plan.sources, stages)
         && are_made(plan.sources, stages, plan.outputs.as_slice())
         && stages.len() < 4294967296
+        && are_objects_ok(plan.objects.as_slice(), stages)
 }
 
 /// Whether the plan is well-formed. It takes no memory.

@@ -1,3 +1,4 @@
+// How many outputs a forest has, and how many results a stage gives.
 ghost use Rattle.std.specs.Prelude.{◌≡◌, ◌-◌, ◌^◌, min};
 ghost use Rattle.exec_graph.specs.Twigs.{twig};
 ghost use Rattle.exec_plan.specs.Wellformed.{kept, out_count, outs, stage_width, width, widths};
@@ -84,6 +85,6 @@ pub(crate) fn stage_width(stage: &Stage) -> u64
 {
     match stage {
         Stage::Mscr(mscr) => widths_of(mscr.outputs.as_slice()),
-        Stage::Flatten(_) => 1,
+        Stage::Flatten(_) | Stage::Operate(_, _, _, _) => 1,
     }
 }

@@ -1,10 +1,11 @@
 //! Plans: stages of MapShuffleCombineReduce in order, and what a plan means.
 //!
-//! A `Plan` reads sources, and each of its stages gives results to later ones. A stage is an `Mscr`
-//! or a Flatten. Over each input channel of an `Mscr` runs a forest of steps, whose outputs are
-//! taken by output channels: a grouping channel groups what it takes and runs its reducer on the
-//! groups, and a pass-through channel gives on what it takes. Like graphs, plans name inputs and
-//! functions by their numbers, and hold neither rows, bodies nor types.
+//! A `Plan` reads sources, and each of its stages gives results to later ones. A stage is an
+//! `Mscr`, a Flatten or an Operate, which gives an object. Over each input channel of an `Mscr`
+//! runs a forest of steps, beside an object or not, whose outputs are taken by output channels: a
+//! grouping channel groups what it takes and runs its reducer on the groups, and a pass-through
+//! channel gives on what it takes. Like graphs, plans name inputs and functions by their numbers,
+//! and hold neither rows, bodies nor types.
 //!
 //! `results` (specs/Meaning.antt) says what a stage gives over any table of collections, and `run`
 //! does so stage by stage: `plan_collection`. In a well-formed plan (`IsPlanOk`,
@@ -20,6 +21,7 @@ mod checks;
 mod counts;
 mod laws;
 mod numbers;
+mod objects;
 mod plan;
 mod stages;
 

@@ -1,5 +1,6 @@
+// Plans as data: stages with their channels, and the places of collections.
 use combine_table::Comb;
-use exec_graph::Roots;
+use exec_graph::{Act, Roots};
 use flume_value::Pile;
 
 /// A collection of a plan.
@@ -19,10 +20,11 @@ pub struct Take {
 }
 
 /// A collection that a stage reads, and the steps on each of its elements. Without steps its output
-/// 0 is the element itself.
+/// 0 is the element itself. Where there is an object, each step is called beside it.
 #[derive(Drop)]
 pub struct InChannel {
     pub reads: PlanPlace,
+    pub beside: Option<PlanPlace>,
     pub does: Option<Roots>,
 }
 
@@ -56,17 +58,23 @@ pub struct Mscr {
     pub outputs: Pile<OutChannel>,
 }
 
+/// What a plan carries out in one go.
 #[derive(Drop)]
 pub enum Stage {
     Mscr(Mscr),
     /// The collections together are the one result.
     Flatten(Pile<PlanPlace>),
+    /// The stage of a barrier that gives an object: what the act makes of the collections, for the
+    /// script node, whose own bag it is or not, is the one result.
+    Operate(Pile<PlanPlace>, u32, bool, Act),
 }
 
-/// Stages in order over so many sources, and the collections that are written out.
+/// Stages in order over so many sources, of which some are objects, and the collections that are
+/// written out.
 #[derive(Drop)]
 pub struct Plan {
     pub sources: u32,
+    pub objects: Pile<u32>,
     pub stages: Pile<Stage>,
     pub outputs: Pile<PlanPlace>,
 }

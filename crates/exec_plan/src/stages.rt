@@ -1,5 +1,7 @@
+// Whether each stage reads what is made before it, by channels that are not too many.
 ghost use Rattle.std.specs.Prelude.{◌≡◌, ◌-◌, ◌^◌, [], min};
 ghost use Rattle.std.specs.List.{list_all};
+ghost use Rattle.exec_plan.specs.Meaning.{with_object};
 ghost use Rattle.exec_plan.specs.Wellformed.{results_at};
 ghost use Rattle.exec_plan.specs.inner.Tests.{in_test, made_test, mscr_test, stage_test, stages_test};
 
@@ -40,10 +42,21 @@ pub(crate) fn are_made(sources: u32, before: &[Stage], places: &[PlanPlace]) -> 
     places.iter().all(|place| is_made(sources, before, *place))
 }
 
+fn is_object_made(sources: u32, before: &[Stage], beside: Option<PlanPlace>) -> bool
+    ensures { result ≡ list_all (made_test sources before.now) (with_object beside) }
+{
+    match beside {
+        None => true,
+        Some(place) => is_made(sources, before, place),
+    }
+}
+
 fn is_in_ok(sources: u32, before: &[Stage], channel: &InChannel) -> bool
     ensures { result ≡ in_test sources before.now channel.now }
 {
-    is_made(sources, before, channel.reads) && is_numbered(&channel.does)
+    is_made(sources, before, channel.reads)
+        && is_object_made(sources, before, channel.beside)
+        && is_numbered(&channel.does)
 }
 
 fn are_ins_ok(sources: u32, before: &[Stage], inputs: &[InChannel]) -> bool
@@ -72,6 +85,7 @@ fn is_stage_ok(sources: u32, before: &[Stage], stage: &Stage) -> bool
     match stage {
         Stage::Mscr(mscr) => is_mscr_ok(sources, before, mscr),
         Stage::Flatten(takes) => are_made(sources, before, takes.as_slice()),
+        Stage::Operate(takes, _, _, _) => are_made(sources, before, takes.as_slice()),
     }
 }
 

@@ -1,15 +1,15 @@
 -- How many nodes there are after a step.
-use Rattle.std.proofs.Common.{◌≡◌, ℕ, ◌+◌, ◌-◌, ◌*◌, ◌<◌, ◌≤◌, ◌↔◌, Bool, true, false, cond, not, eqb, leb, ◌&&◌, ◌||◌, List, [], ◌∷◌, ◌++◌, length, map, Option, Some, None, zero, suc, refl, sym, ap, ◌∙◌, subst, arith}
-use Rattle.std.proofs.lemmas.Bool.{eqb-true, eq-eqb, false≢true, leb-true, le-leb}
+use Rattle.std.proofs.Common.{◌≡◌, ℕ, ◌+◌, ◌-◌, ◌*◌, ◌<◌, ◌≤◌, ◌↔◌, Bool, true, false, cond, not, eqb, leb, ◌&&◌, ◌||◌, List, [], ◌∷◌, ◌++◌, length, map, Some, zero, suc, refl, sym, ap, ◌∙◌, subst, arith}
+use Rattle.std.proofs.lemmas.Bool.{eqb-true, leb-true, le-leb}
 use Rattle.std.specs.List.{list_any, AllByRecursion}
 use Rattle.flume_value.proofs.EachLemmas.{Each-weaker}
 use Rattle.exec_graph.specs.Forests.{Forest, steps}
-use Rattle.exec_graph.specs.Meaning.{place, node_at, reads, AllDiffer}
+use Rattle.exec_graph.specs.Meaning.{place, node_at, AllDiffer}
 use Rattle.exec_graph.specs.Readers.{same_place, among, any_node, uses, is_read}
-use Rattle.exec_graph.specs.Wellformed.{IsGraphOk, IsNodeOk, size, total_size}
+use Rattle.exec_graph.specs.Wellformed.{IsGraphOk, IsNodeOk, size, total_size, most_nodes}
 use Rattle.exec_graph.specs.declared.graph.Place.{Place}
 use Rattle.exec_graph.specs.declared.graph.Node.{Node}
-use Rattle.exec_graph.specs.declared.graph.Node.TheVariants.{Source, Flatten, Pdo, Gbk}
+use Rattle.exec_graph.specs.declared.graph.Node.TheVariants.{Source, Flatten, Pdo, Gbk, Barrier}
 use Rattle.exec_graph.specs.declared.graph.Entry.{Entry}
 use Rattle.exec_graph.specs.declared.graph.Graph.{Graph}
 use Rattle.exec_graph.proofs.Entries.{entry, all_found}
@@ -37,6 +37,7 @@ size-reread r (Source s) = refl
 size-reread r (Flatten ins) = refl
 size-reread r (Pdo c f) = refl
 size-reread r (Gbk c o l k) = refl
+size-reread r (Barrier ins o l a) = refl
 
 size-map : (r : Place → Place) (es : List Entry)
     → total_size (map (reread_entry r) es) ≡ total_size es
@@ -265,13 +266,13 @@ same_by true t f g = sym (f refl)
 same_by false true f g = g refl
 same_by false false f g = refl
 
--- the test that the code makes
+-- The test that the code makes.
 pub limited : (after gone s sum limit : ℕ) (r : Bool) → after + gone + s ≡ sum
-    → limit ≡ 4096 + s + gone → (r ≡ true) ↔ (sum ≤ limit) → r ≡ leb after 4096
+    → limit ≡ most_nodes + s + gone → (r ≡ true) ↔ (sum ≤ limit) → r ≡ leb after most_nodes
 limited after gone s sum limit r e l h =
-    same_by r (leb after 4096)
-    (λ i. let k : sum ≤ limit = h.0 i in le-leb after 4096 (omega arith))
-    (λ i. let k : after ≤ 4096 = leb-true after 4096 i in h.1 (omega arith))
+    same_by r (leb after most_nodes)
+    (λ i. let k : sum ≤ limit = h.0 i in le-leb after most_nodes (omega arith))
+    (λ i. let k : after ≤ most_nodes = leb-true after most_nodes i in h.1 (omega arith))
 
 -- ---- the test of the code
 
@@ -280,31 +281,31 @@ size_below : (es : List Entry) (n : ℕ) (y : Node) → node_at es n ≡ Some y
 size_below es n y h = let e = size-without es n y h in omega arith
 
 pub few_steps : (g : Graph) (c : Pair) (es : List Entry) (st : ℕ) → IsGraphOk g → CanCall g c
-    → es ≡ g.nodes → st ≡ size_or_none (node_at es c.other) → st ≤ 4096
+    → es ≡ g.nodes → st ≡ size_or_none (node_at es c.other) → st ≤ most_nodes
 few_steps g c es st ok can e s =
     let f : Forest = forest_of (node_at g.nodes c.other) in
     let a : st ≡ steps f = s ∙ ap (λ (l : List Entry). size_or_none (node_at l c.other)) e
     ∙ ap size_or_none can.pdo in
     let b : steps f ≤ total_size g.nodes =
     size_below g.nodes c.other (Pdo (place c.flatten 0) f) can.pdo in
-    let d : total_size g.nodes ≤ 4096 = ok.few in
+    let d : total_size g.nodes ≤ most_nodes = ok.few in
     omega arith
 
 pub few_inputs : (g : Graph) (c : Pair) (es : List Entry) (ins : List Place) → IsGraphOk g
-    → CanCall g c → es ≡ g.nodes → ins ≡ inputs_of (node_at es c.flatten) → length ins ≤ 4096
+    → CanCall g c → es ≡ g.nodes → ins ≡ inputs_of (node_at es c.flatten) → length ins ≤ most_nodes
 few_inputs g c es ins ok can e i =
     let at : (0 < length (inputs_of (node_at g.nodes c.flatten)))
-    × (length (inputs_of (node_at g.nodes c.flatten)) ≤ 4096) =
+    × (length (inputs_of (node_at g.nodes c.flatten)) ≤ most_nodes) =
     all_found (λ e. IsNodeOk g e.number e.node) g.nodes c.flatten
     (Flatten (inputs_of (node_at g.nodes c.flatten))) can.flatten ok.nodes in
-    subst (λ (l : List Place). length l ≤ 4096)
+    subst (λ (l : List Place). length l ≤ most_nodes)
     (sym (i ∙ ap (λ (l : List Entry). inputs_of (node_at l c.flatten)) e)) at.1
 
 pub room_is : (g : Graph) (c : Pair) (es : List Entry) (all st outs limit : ℕ) (ins : List Place)
     (read r : Bool) → IsGraphOk g → CanCall g c → es ≡ g.nodes → all ≡ total_size es
     → st ≡ size_or_none (node_at es c.other) → ins ≡ inputs_of (node_at es c.flatten)
     → outs ≡ outputs_of (forest_of (node_at es c.other))
-    → read ≡ read_elsewhere g c.flatten c.other → limit ≡ 4096 + st + cond read 0 1
+    → read ≡ read_elsewhere g c.flatten c.other → limit ≡ most_nodes + st + cond read 0 1
     → (r ≡ true) ↔ (all + length ins * st + outs ≤ limit) → r ≡ has_room g c
 room_is g c es all st outs limit ins read r ok can e a s i o w l h =
     let f : Forest = forest_of (node_at g.nodes c.other) in

@@ -2,7 +2,7 @@
 use Rattle.std.proofs.Common.{◌≡◌, refl, ◌∙◌, ap}
 use Rattle.std.specs.Ordering.{eq_by_cmp, is_eq, nat_cmp, ordering_then}
 use Rattle.flume_value.specs.declared.fault.Kind.{Kind}
-use Rattle.flume_value.specs.declared.fault.Kind.TheVariants.{Overflow, DivideByZero, BadIndex, BadNumber}
+use Rattle.flume_value.specs.declared.fault.Kind.TheVariants.{Overflow, DivideByZero, BadIndex, BadNumber, NotOne}
 use Rattle.flume_value.specs.contracts.fault.KindOrd.TheImpl as kinds
 use Rattle.flume_value.proofs.OrderLemmas.{derived_cmp-value_cmp}
 use Rattle.flume_collection.specs.contracts.trap.TrapOrd.TheImpl.{ghosts}
@@ -16,18 +16,27 @@ derived_kind Overflow Overflow = refl
 derived_kind Overflow DivideByZero = refl
 derived_kind Overflow BadIndex = refl
 derived_kind Overflow BadNumber = refl
+derived_kind Overflow NotOne = refl
 derived_kind DivideByZero Overflow = refl
 derived_kind DivideByZero DivideByZero = refl
 derived_kind DivideByZero BadIndex = refl
 derived_kind DivideByZero BadNumber = refl
+derived_kind DivideByZero NotOne = refl
 derived_kind BadIndex Overflow = refl
 derived_kind BadIndex DivideByZero = refl
 derived_kind BadIndex BadIndex = refl
 derived_kind BadIndex BadNumber = refl
+derived_kind BadIndex NotOne = refl
 derived_kind BadNumber Overflow = refl
 derived_kind BadNumber DivideByZero = refl
 derived_kind BadNumber BadIndex = refl
 derived_kind BadNumber BadNumber = refl
+derived_kind BadNumber NotOne = refl
+derived_kind NotOne Overflow = refl
+derived_kind NotOne DivideByZero = refl
+derived_kind NotOne BadIndex = refl
+derived_kind NotOne BadNumber = refl
+derived_kind NotOne NotOne = refl
 
 pub derived_cmp : (a b : Trap) → (ghosts).cmp a b ≡ trap_cmp a b
 derived_cmp a b =

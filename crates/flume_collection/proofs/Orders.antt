@@ -10,7 +10,7 @@ use Rattle.std.proofs.lemmas.Cmp.{nat_cmp_total, on_total, then_total}
 use Rattle.std.proofs.lemmas.List.MinMax.{ranks_by}
 use Rattle.flume_value.specs.declared.value.Value.{Value}
 use Rattle.flume_value.specs.declared.fault.Kind.{Kind}
-use Rattle.flume_value.specs.declared.fault.Kind.TheVariants.{Overflow, DivideByZero, BadIndex, BadNumber}
+use Rattle.flume_value.specs.declared.fault.Kind.TheVariants.{Overflow, DivideByZero, BadIndex, BadNumber, NotOne}
 use Rattle.flume_value.specs.Order.{value_cmp}
 use Rattle.flume_value.specs.Bag.{put, bag_of}
 use Rattle.flume_value.proofs.OrderLemmas.{value_cmp-total, value_cmp-IsAntisymmetric}
@@ -67,18 +67,27 @@ same_kind Overflow Overflow same = refl
 same_kind Overflow DivideByZero same = absurd (cc)
 same_kind Overflow BadIndex same = absurd (cc)
 same_kind Overflow BadNumber same = absurd (cc)
+same_kind Overflow NotOne same = absurd (cc)
 same_kind DivideByZero Overflow same = absurd (cc)
 same_kind DivideByZero DivideByZero same = refl
 same_kind DivideByZero BadIndex same = absurd (cc)
 same_kind DivideByZero BadNumber same = absurd (cc)
+same_kind DivideByZero NotOne same = absurd (cc)
 same_kind BadIndex Overflow same = absurd (cc)
 same_kind BadIndex DivideByZero same = absurd (cc)
 same_kind BadIndex BadIndex same = refl
 same_kind BadIndex BadNumber same = absurd (cc)
+same_kind BadIndex NotOne same = absurd (cc)
 same_kind BadNumber Overflow same = absurd (cc)
 same_kind BadNumber DivideByZero same = absurd (cc)
 same_kind BadNumber BadIndex same = absurd (cc)
 same_kind BadNumber BadNumber same = refl
+same_kind BadNumber NotOne same = absurd (cc)
+same_kind NotOne Overflow same = absurd (cc)
+same_kind NotOne DivideByZero same = absurd (cc)
+same_kind NotOne BadIndex same = absurd (cc)
+same_kind NotOne BadNumber same = absurd (cc)
+same_kind NotOne NotOne same = refl
 
 both_tied : (o p : Ordering) → ordering_then o p ≡ Equal → (o ≡ Equal) × (p ≡ Equal)
 both_tied Less p e = cc

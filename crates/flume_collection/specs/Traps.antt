@@ -16,6 +16,7 @@ kind_place kind.Overflow = 0
 kind_place kind.DivideByZero = 1
 kind_place kind.BadIndex = 2
 kind_place kind.BadNumber = 3
+kind_place kind.NotOne = 4
 
 -- traps are ordered by the script node, then by element, then by kind
 abbrev pub trap_cmp : Trap → Trap → Ordering

@@ -33,7 +33,7 @@ pub fn closed_text(alloc: Global, bytes: &[u8]) -> Result<Option<(Str, usize)>, 
             content.push(byte)?;
             after_backslash = false;
         } else if *b == b'"' {
-            return Ok(Some((Str::from_vec(content), i + 1)));
+            return Ok(Some((Str::from_vec(content)?, i + 1)));
         } else if *b == b'\n' {
             return Ok(None);
         } else if *b == b'\\' {

@@ -147,7 +147,5 @@ fn dotted(alloc: Global, name: &Str) -> Result<Vec<u8>, AllocError>
 fn prefixed(alloc: Global, prefix: &[u8], name: &Str) -> Result<Str, AllocError>
     ensures { IfOk result (λ s. s ≡ prefix.now ++ name.now) }
 {
-    let mut bytes = Vec::from_slice(alloc, prefix)?;
-    bytes.extend_from_slice(name.as_bytes())?;
-    Ok(Str::from_vec(bytes))
+    Str::from_slice(alloc, prefix)?.joined(alloc, name)
 }

@@ -1,3 +1,4 @@
+// Copies of values: each equals its source.
 ghost use Rattle.std.specs.Prelude.{◌≡◌, IfOk};
 
 use crate::held::Held;

@@ -1,3 +1,4 @@
+// Why a call gives no value.
 use std::alloc::{AllocError, AllocFailed};
 
 /// Why a call traps. Of two traps of one element the earlier kind here comes first.
@@ -11,6 +12,8 @@ pub enum Kind {
     BadIndex,
     /// A text that is no number in range.
     BadNumber,
+    /// Where one value is wanted, none or several. No call gives it yet.
+    NotOne,
 }
 
 /// Why a call gave nothing.

@@ -1,3 +1,4 @@
+// The partition of a key: FNV-1a of its canonical bytes, hashed while they are walked.
 #![tactic(auto, using(crate::proofs::CanonicalLemmas::canonical_rules))]
 
 ghost use Rattle.std.specs.Prelude.{◌≡◌, ◌<◌, ◌≤◌, ◌++◌, length};

@@ -4,6 +4,12 @@
 //! as a list and as the value itself, so that `≡` means equal content and a copy equals its
 //! source. Values have one total order, by variant and then by content (`order_law`).
 //!
+//! A text of up to 22 bytes stands in place, as most do: making it, copying it and letting it go
+//! take no memory, and a value is no larger for it. Texts are compared by their bytes as numbers of
+//! 64 bits; a longer text keeps its first eight beside its allocation, so that an order is mostly
+//! told without a look there. Sorting, which most time of a run goes to, is several times as fast
+//! so. Contracts see none of this: a text is the list of its bytes.
+//!
 //! A bag is seen as the ascending list of its members, `bag_of`. So two bags are equal where
 //! these lists are, whatever the order in which their members came (`bag_law`), bags add up
 //! (`bag_sum_law`), and what a function gives for each member is a bag again (`bag_image_law`).
@@ -18,8 +24,12 @@ mod copies;
 mod fault;
 mod hashing;
 mod held;
+mod long;
+mod numbers;
 mod order;
 mod pile;
+mod sharing;
+mod short;
 mod text;
 mod value;
 
@@ -31,5 +41,6 @@ pub use hashing::partition;
 pub use held::Held;
 pub use order::{compare, equals, order_law};
 pub use pile::Pile;
+pub use sharing::sorted_by_threads;
 pub use text::Str;
 pub use value::{Items, Value};

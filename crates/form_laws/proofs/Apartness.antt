@@ -10,7 +10,7 @@ use Rattle.exec_graph.specs.Readers.{same_place}
 use Rattle.exec_graph.specs.Wellformed.{IsGraphOk, IsNodeOk}
 use Rattle.exec_graph.specs.declared.graph.Place.{Place}
 use Rattle.exec_graph.specs.declared.graph.Node.{Node}
-use Rattle.exec_graph.specs.declared.graph.Node.TheVariants.{Source, Flatten, Pdo, Gbk}
+use Rattle.exec_graph.specs.declared.graph.Node.TheVariants.{Source, Flatten, Pdo, Gbk, Barrier}
 use Rattle.exec_graph.specs.declared.graph.Entry.{Entry}
 use Rattle.exec_graph.specs.declared.graph.Blocked.{Blocked}
 use Rattle.exec_graph.proofs.Entries.{all_found}
@@ -81,6 +81,7 @@ inputs_same es (Some (Source r)) = refl
 inputs_same es (Some (Flatten ins)) = refl
 inputs_same es (Some (Pdo c f)) = refl
 inputs_same es (Some (Gbk c o l k)) = refl
+inputs_same es (Some (Barrier ins o l a)) = refl
 
 all_any : (f : Place → Place → Bool) (cs : List Place) → ((c : Place) → f c c ≡ true)
     → Each (λ c. list_any (f c) cs ≡ true) cs
@@ -124,6 +125,7 @@ inputs_some b c None ok h = omega arith
 inputs_some b c (Some (Source r)) ok h = omega arith
 inputs_some b c (Some (Pdo d f)) ok h = omega arith
 inputs_some b c (Some (Gbk d o l k)) ok h = omega arith
+inputs_some b c (Some (Barrier ins o l a)) ok h = omega arith
 inputs_some b c (Some (Flatten ins)) ok h =
     (all_found (λ e. IsNodeOk b.graph e.number e.node) b.graph.nodes c.node (Flatten ins) h
     ok.nodes).0
@@ -140,6 +142,7 @@ from_some b (Some (Flatten ins)) ok g = absurd g
 from_some b (Some (Pdo c f)) ok g = absurd g
 from_some b (Some (Gbk c o l k)) ok g =
     inputs_some b c (node_at b.graph.nodes c.node) ok refl
+from_some b (Some (Barrier ins o l a)) ok g = absurd g
 
 keys_some : (b : Blocked) (n : ℕ) → IsGraphOk b.graph → IsGbk b n → 0 < length (keys_of b n)
 keys_some b n ok g =
@@ -226,6 +229,7 @@ passes_distinct b n None ok h = tt
 passes_distinct b n (Some (Source r)) ok h = tt
 passes_distinct b n (Some (Flatten ins)) ok h = tt
 passes_distinct b n (Some (Gbk c o l k)) ok h = tt
+passes_distinct b n (Some (Barrier ins o l a)) ok h = tt
 passes_distinct b n (Some (Pdo d f)) ok h =
     distinct_kept same_place (passes b) (outputs_of n f) (outputs_distinct b n d f ok h)
 

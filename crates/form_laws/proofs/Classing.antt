@@ -3,9 +3,10 @@ use Rattle.std.proofs.Common.{◌≡◌, ℕ, ◌<◌, ◌≤◌, Bool, true, fa
 use Rattle.std.proofs.lemmas.Bool.{eqb-true, eq-eqb, false≢true}
 use Rattle.std.specs.List.{AllByRecursion as Each, list_any}
 use Rattle.flume_value.proofs.BoolLemmas.{both_true}
+use Rattle.exec_graph.specs.Wellformed.{HaveObjects}
 use Rattle.exec_graph.specs.declared.graph.Place.{Place}
 use Rattle.exec_graph.specs.declared.graph.Node.{Node}
-use Rattle.exec_graph.specs.declared.graph.Node.TheVariants.{Source, Flatten, Pdo, Gbk}
+use Rattle.exec_graph.specs.declared.graph.Node.TheVariants.{Source, Flatten, Pdo, Gbk, Barrier}
 use Rattle.exec_graph.specs.declared.graph.Blocked.{Blocked}
 use Rattle.exec_graph.proofs.Bools.{or_cases, not_true}
 use Rattle.graph_laws.proofs.ReadPlaces.{same_self}
@@ -93,12 +94,14 @@ gbk_node (Some (Source r)) h = absurd h
 gbk_node (Some (Flatten ins)) h = absurd h
 gbk_node (Some (Pdo c f)) h = absurd h
 gbk_node (Some (Gbk c o l k)) h = (Gbk c o l k, refl, refl)
+gbk_node (Some (Barrier ins o l a)) h = absurd h
 
 pub node_gbk : (x : Node) → is_gbk x ≡ true → IsGbkAt (Some x)
 node_gbk (Source r) h = absurd (false≢true h)
 node_gbk (Flatten ins) h = absurd (false≢true h)
 node_gbk (Pdo c f) h = absurd (false≢true h)
 node_gbk (Gbk c o l k) h = tt
+node_gbk (Barrier ins o l a) h = absurd (false≢true h)
 
 -- ---- members
 pub each_counted : (P : ℕ → Type 0) (ns : List ℕ) → ((n : ℕ) → 0 < times n ns → P n) → Each P ns
@@ -198,9 +201,12 @@ pub record AreParts (b : Blocked) (cs : List (List ℕ)) : Type 0 where
   pub once : (n : ℕ) → IsGbk b n → times n (members cs) ≡ 1
   pub level : Each (HasLevel b) cs
   pub apart : AreApart b cs
+  -- what each node is made of is of the right kinds
+  pub objects : HaveObjects b.graph.nodes
 
-pub classes_part : (b : Blocked) (cs : List (List ℕ)) → AreClasses b cs → AreParts b cs
-classes_part b cs a =
+pub classes_part : (b : Blocked) (cs : List (List ℕ)) → HaveObjects b.graph.nodes
+    → AreClasses b cs → AreParts b cs
+classes_part b cs objects a =
     let gbk : (n : ℕ) → 0 < times n (members cs) → IsGbk b n = member_gbk b cs a.gbks in
     record {
       gbks = a.gbks;
@@ -209,4 +215,5 @@ classes_part b cs a =
           linked_level b n k ((a.linked n k (gbk n (g n h)) (gbk k (g k i))).0 (s n k h i))));
       apart = apart b cs (λ n h. let o = a.once n (gbk n h) in omega arith)
           (λ n k h i r. (a.linked n k (gbk n h) (gbk k i)).1 (inr ([], r)));
+      objects = objects;
     }

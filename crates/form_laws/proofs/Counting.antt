@@ -6,9 +6,11 @@ use Rattle.combine_table.specs.declared.comb.Comb.{Comb}
 use Rattle.exec_graph.specs.Forests.{Forest}
 use Rattle.exec_graph.specs.Meaning.{AllDiffer, node_at, place}
 use Rattle.exec_graph.specs.Readers.{among}
+use Rattle.exec_graph.specs.declared.graph.Act.{Act}
+use Rattle.exec_graph.specs.declared.graph.Act.TheVariants.{SideInput, Operate, Singleton}
 use Rattle.exec_graph.specs.declared.graph.Place.{Place}
 use Rattle.exec_graph.specs.declared.graph.Node.{Node}
-use Rattle.exec_graph.specs.declared.graph.Node.TheVariants.{Source, Flatten, Pdo, Gbk}
+use Rattle.exec_graph.specs.declared.graph.Node.TheVariants.{Source, Flatten, Pdo, Gbk, Barrier}
 use Rattle.exec_graph.specs.declared.graph.Entry.{Entry}
 use Rattle.exec_graph.specs.declared.graph.Blocked.{Blocked}
 use Rattle.plan_laws.specs.declared.operations.Key.{Key}
@@ -19,7 +21,7 @@ use Rattle.plan_laws.specs.Operations.{IsReducer, Reads, key_runs, reducer_runs,
 use Rattle.plan_roles.specs.Mappers.{is_mapper, is_reducer, is_stage, maps_at, reducer_of}
 use Rattle.form_laws.specs.declared.ranked.Ranked.{Ranked}
 use Rattle.form_laws.specs.Classes.{IsGbk, IsGbkAt, has_same, keys_of, members}
-use Rattle.form_laws.specs.Operations.{all_alone, alone, alone_of, class_keys, class_ranked, operations, trivial}
+use Rattle.form_laws.specs.Operations.{all_alone, alone, alone_of, class_keys, class_ranked, barrier_ranked, operations, trivial}
 use Rattle.form_laws.proofs.Basics.{one_among, times_append}
 use Rattle.form_laws.proofs.Classing.{AreParts, each_counted, gbk_node, member_gbk, node_gbk}
 use Rattle.form_laws.proofs.Keying.{class_mapper, classes_runs, keys_times, no_keys, one_key, reducers}
@@ -47,10 +49,22 @@ pdo_other : (b : Blocked) (m n : ℕ) (g : Forest) (s : Bool) → (m ≡ n → �
 pdo_other b m n g true f = refl
 pdo_other b m n g false f = zero_times n m (eqb m n) refl f
 
+barrier_other : (b : Blocked) (m n : ℕ) (a : Act) → (m ≡ n → ⊥)
+    → times n (runs_of (barrier_ranked b m a ∷ [])) ≡ 0
+barrier_other b m n (SideInput g) f = zero_times n m (eqb m n) refl f
+barrier_other b m n (Operate g) f = zero_times n m (eqb m n) refl f
+barrier_other b m n (Singleton k) f = zero_times n m (eqb m n) refl f
+
+barrier_time : (b : Blocked) (n : ℕ) (a : Act) → times n (runs_of (barrier_ranked b n a ∷ [])) ≡ 1
+barrier_time b n (SideInput g) = one_time n
+barrier_time b n (Operate g) = one_time n
+barrier_time b n (Singleton k) = one_time n
+
 alone_other : (b : Blocked) (m n : ℕ) (x : Node) → (m ≡ n → ⊥)
     → times n (runs_of (alone_of b m x)) ≡ 0
 alone_other b m n (Source r) f = refl
 alone_other b m n (Gbk c o l k) f = refl
+alone_other b m n (Barrier ins o l a) f = barrier_other b m n a f
 alone_other b m n (Flatten ins) f = flat_other b m n (is_stage b m) f
 alone_other b m n (Pdo c g) f = pdo_other b m n g (is_mapper b m || is_reducer b m) f
 
@@ -209,6 +223,10 @@ one_if : (b : Blocked) (n : ℕ) (f : Forest)
     → times n (runs_of (alone b n (trivial n f) ∷ [])) ≡ 1
 one_if b n f = one_time n
 
+not_some : (k : ℕ) → (0 < k → ⊥) → k ≡ 0
+not_some zero f = refl
+not_some (suc k) f = absurd (f (omega arith))
+
 not_gbk : (b : Blocked) (cs : List (List ℕ)) → AreParts b cs → (n : ℕ) (d : Place) (f : Forest)
     → node_at b.graph.nodes n ≡ Some (Pdo d f) → times n (members cs) ≡ 0
 not_gbk b cs p n d f h =
@@ -276,6 +294,23 @@ gbk_once b cs p n c o last k differ h =
     (λ g e. reads_it b n g (Gbk c o last k) differ h e) (members cs)) in
     omega arith
 
+barrier_once : (b : Blocked) (cs : List (List ℕ)) → AreParts b cs
+    → (n : ℕ) (ins : List Place) (o : ℕ)
+    (l : Bool) (a : Act) → AllDiffer b.graph.nodes
+    → node_at b.graph.nodes n ≡ Some (Barrier ins o l a)
+    → times n (runs_of (operations b cs)) ≡ 1
+barrier_once b cs p n ins o l a differ h =
+    let all = all_runs b cs n (Barrier ins o l a) differ h in
+    let bad : 0 < times n (members cs) → ⊥ =
+    λ t. subst IsGbkAt h (member_gbk b cs p.gbks n t) in
+    let gs : times n (members cs) ≡ 0 = not_some (times n (members cs)) bad in
+    let ks = no_mapper_keys b n cs (ap (maps_at b n) h) in
+    let rs : times n (reducers b (members cs)) ≡ 0 =
+    reducers_none b n (members cs) (all_true (λ g. reducer_of b g ≡ Some n → ⊥)
+    (λ g e. reads_it b n g (Barrier ins o l a) differ h e) (members cs)) in
+    let t = barrier_time b n a in
+    omega arith
+
 once_by : (b : Blocked) (cs : List (List ℕ)) → AreParts b cs → (n : ℕ) (x : Option Node)
     → AllDiffer b.graph.nodes → node_at b.graph.nodes n ≡ x → works_at x ≡ true
     → times n (runs_of (operations b cs)) ≡ 1
@@ -283,6 +318,7 @@ once_by b cs p n None d h w = absurd (false≢true w)
 once_by b cs p n (Some (Source r)) d h w = absurd (false≢true w)
 once_by b cs p n (Some (Flatten ins)) d h w = absurd (false≢true w)
 once_by b cs p n (Some (Gbk c o last k)) d h w = gbk_once b cs p n c o last k d h
+once_by b cs p n (Some (Barrier ins o l a)) d h w = barrier_once b cs p n ins o l a d h
 once_by b cs p n (Some (Pdo c f)) d h w =
     let all = all_runs b cs n (Pdo c f) d h in
     let gs = not_gbk b cs p n c f h in

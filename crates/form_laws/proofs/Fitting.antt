@@ -1,39 +1,71 @@
 -- What is formed fits: channels differ and are used, and no Flatten is carried out twice.
-use Rattle.std.proofs.Common.{◌≡◌, ◌<◌, ◌≤◌, ℕ, Bool, true, false, cond, ◌||◌, List, [], ◌∷◌, map, length, Option, Some, None, zero, suc, refl, sym, ap, subst, arith, inl, inr}
+use Rattle.std.proofs.Common.{◌≡◌, ◌<◌, ◌≤◌, ℕ, Bool, true, false, cond, ◌||◌, List, [], ◌∷◌, map, length, Option, Some, None, zero, suc, refl, sym, ap, ◌∙◌, subst, arith, inl, inr}
 use Rattle.std.specs.List.{flat_map, AllByRecursion as Each}
 use Rattle.flume_value.proofs.EachLemmas.{Each-append, Each-both, Each-map, Each-weaker}
 use Rattle.exec_graph.specs.Forests.{Forest}
-use Rattle.exec_graph.specs.Meaning.{AllDiffer, IsSound, node_at}
+use Rattle.exec_graph.specs.Meaning.{AllDiffer, IsSound, IsThere, node_at, place}
 use Rattle.exec_graph.specs.Readers.{same_place}
-use Rattle.exec_graph.specs.Wellformed.{IsBlockedOk}
+use Rattle.exec_graph.specs.Wellformed.{IsBlockedOk, is_object, is_object_at}
+use Rattle.exec_graph.specs.declared.graph.Act.{Act}
+use Rattle.exec_graph.specs.declared.graph.Act.TheVariants.{SideInput, Operate, Singleton}
 use Rattle.exec_graph.specs.declared.graph.Place.{Place}
 use Rattle.exec_graph.specs.declared.graph.Node.{Node}
-use Rattle.exec_graph.specs.declared.graph.Node.TheVariants.{Source, Flatten, Pdo, Gbk}
+use Rattle.exec_graph.specs.declared.graph.Node.TheVariants.{Source, Flatten, Pdo, Gbk, Barrier}
 use Rattle.exec_graph.specs.declared.graph.Entry.{Entry}
 use Rattle.exec_graph.specs.declared.graph.Blocked.{Blocked}
 use Rattle.exec_graph.proofs.Solving.{each_found}
 use Rattle.exec_graph.proofs.Soundness.{IsSound-ok}
-use Rattle.plan_laws.specs.declared.operations.Key.TheVariants.{Mapper}
+use Rattle.plan_laws.specs.declared.operations.Key.TheVariants.{Mapper, Whole}
 use Rattle.plan_laws.specs.declared.operations.Operation.{Operation}
 use Rattle.plan_laws.specs.declared.operations.Operation.TheVariants.{Flat, Class}
-use Rattle.plan_laws.specs.Operations.{IsFlat, IsHonest, runs, times}
+use Rattle.plan_laws.specs.declared.operations.Key.{Key}
+use Rattle.plan_laws.specs.Operations.{IsFlat, IsHonest, runs, times, works_at}
 use Rattle.plan_rules.specs.Fitting.{AreFit, IsFit, IsUsed, flat_runs, same_key}
 use Rattle.plan_roles.specs.Mappers.{is_mapper, is_reducer, is_stage, maps_at, outputs_of, passes, reducer_of}
 use Rattle.form_laws.specs.declared.ranked.Ranked.{Ranked}
 use Rattle.form_laws.specs.Classes.{IsGbk, IsGbkAt, keys_of, members}
 use Rattle.form_laws.specs.Formed.{AreFormed, in_order}
-use Rattle.form_laws.specs.Operations.{all_alone, alone, alone_of, class_keys, class_operation, class_ranked, grouped, key_passes, operations, trivial}
+use Rattle.form_laws.specs.Operations.{all_alone, alone, alone_of, class_keys, class_operation, class_ranked, grouped, key_passes, barrier_does, operations, passes_at, trivial}
 use Rattle.form_laws.proofs.Basics.{absent, times_append}
 use Rattle.form_laws.proofs.Classing.{AreParts, classes_part, member_gbk}
-use Rattle.form_laws.proofs.Counting.{all_runs, all_true, no_mapper_keys, one_time, reads_it, reducers_none}
+use Rattle.form_laws.proofs.Counting.{all_runs, all_true, no_mapper_keys, one_time, reads_it, reducers_none, runs_once}
 use Rattle.form_laws.proofs.Forming.{ordered_keep, parts_do_all}
 use Rattle.form_laws.proofs.Keying.{reducers}
 use Rattle.form_laws.proofs.Ordering.{runs_of}
 use Rattle.form_laws.proofs.Progress.{all_alone_so}
 use Rattle.form_laws.proofs.Settling.{among_all, formed_ordered}
-use Rattle.form_laws.proofs.Standing.{uses_ok}
+use Rattle.form_laws.proofs.Standing.{outs_there, passes_there, uses_ok}
 use Rattle.form_laws.proofs.Apartness.{class_some, class_used, keys_distinct, outputs_distinct, to_distinct, uses_distinct}
 use Rattle.form_laws.proofs.Reducing.{all_reduced}
+
+-- ---- what passes through is no object
+pdo_outs : (b : Blocked) (n : ℕ) (d : Place) (f : Forest) (cs : List Place)
+    → node_at b.graph.nodes n ≡ Some (Pdo d f)
+    → Each (λ c. (c.node ≡ n) × IsThere b.graph.nodes c) cs
+    → Each (λ c. is_object_at b.graph.nodes c ≡ false) cs
+pdo_outs b n d f cs h a =
+    Each-weaker (λ c. (c.node ≡ n) × IsThere b.graph.nodes c)
+    (λ c. is_object_at b.graph.nodes c ≡ false)
+    (λ c i. ap (λ (m : ℕ). is_object (node_at b.graph.nodes m)) i.0 ∙ ap is_object h) cs a
+
+no_objects : (b : Blocked) (n : ℕ) (o : Option Node) → node_at b.graph.nodes n ≡ o
+    → Each (λ c. is_object_at b.graph.nodes c ≡ false) (passes_at b n o)
+no_objects b n None h = tt
+no_objects b n (Some (Source r)) h = tt
+no_objects b n (Some (Flatten ins)) h = tt
+no_objects b n (Some (Gbk c o l k)) h = tt
+no_objects b n (Some (Barrier ins o l a)) h = tt
+no_objects b n (Some (Pdo d f)) h =
+    pdo_outs b n d f (passes_at b n (Some (Pdo d f))) h (passes_there b n (Some (Pdo d f)) h)
+
+passes_no : (b : Blocked) (ks : List Key)
+    → Each (λ c. is_object_at b.graph.nodes c ≡ false) (flat_map (key_passes b) ks)
+passes_no b [] = tt
+passes_no b (Whole c ∷ ks) = passes_no b ks
+passes_no b (Mapper n ∷ ks) =
+    Each-append (λ c. is_object_at b.graph.nodes c ≡ false)
+    (passes_at b n (node_at b.graph.nodes n)) (flat_map (key_passes b) ks)
+    (no_objects b n (node_at b.graph.nodes n) refl) (passes_no b ks)
 
 -- ---- operations
 class_fit : (b : Blocked) (ns : List ℕ) → IsBlockedOk b → Each (IsGbk b) ns → 0 < length ns
@@ -46,6 +78,7 @@ class_fit b ns ok a h = record {
   passed = to_distinct same_place (flat_map (key_passes b) (class_keys b ns))
       (keys_distinct b (class_keys b ns) (IsSound-ok b.graph ok.ok)
       (uses_distinct (flat_map (keys_of b) ns)));
+  collections = passes_no b (class_keys b ns);
   reduced = all_reduced b ns ok;
 }
 
@@ -56,8 +89,22 @@ trivial_fit b n d f ok h = record {
   differ = to_distinct same_key (Mapper n ∷ []) (tt, tt);
   used = inl tt;
   passed = to_distinct same_place (outputs_of n f) (outputs_distinct b n d f ok h);
+  collections = pdo_outs b n d f (outputs_of n f) h (outs_there b.graph.nodes n d f h);
   reduced = tt;
 }
+
+barrier_fit : (b : Blocked) (n : ℕ) (ins : List Place) (o : ℕ) (l : Bool) (a : Act)
+    → node_at b.graph.nodes n ≡ Some (Barrier ins o l a) → IsFit b.graph.nodes (barrier_does n a)
+barrier_fit b n ins o l (SideInput f) h = record {
+  some = omega arith;
+  differ = to_distinct same_key (Mapper n ∷ []) (tt, tt);
+  used = inl tt;
+  passed = to_distinct same_place (place n 0 ∷ []) (tt, tt);
+  collections = (ap is_object h, tt);
+  reduced = tt;
+}
+barrier_fit b n ins o l (Operate f) h = tt
+barrier_fit b n ins o l (Singleton k) h = tt
 
 abbrev Fits : Blocked → Ranked → Type 0
 Fits b y = IsFit b.graph.nodes y.does
@@ -76,6 +123,7 @@ node_fits : (b : Blocked) (n : ℕ) (x : Node) → IsSound b.graph
     → node_at b.graph.nodes n ≡ Some x → Each (Fits b) (alone_of b n x)
 node_fits b n (Source r) ok h = tt
 node_fits b n (Gbk c o l k) ok h = tt
+node_fits b n (Barrier ins o l a) ok h = (barrier_fit b n ins o l a h, tt)
 node_fits b n (Flatten ins) ok h = flat_fits b n (is_stage b n)
 node_fits b n (Pdo d f) ok h = pdo_fits b n d f (is_mapper b n || is_reducer b n) ok h
 
@@ -165,6 +213,11 @@ flats_by b cs p n (Some (Gbk c o l k)) ok h =
     (flats_each b.graph.nodes (in_order b cs) (parts_do_all b cs p ok).sound)
     (λ i. subst IsFlat h i) in
     omega arith
+flats_by b cs p n (Some (Barrier ins o l a)) ok h =
+    let r = runs_once b cs p ok.differ n (ap works_at h) in
+    let e = (formed_ordered b cs p ok).runs n in
+    let f = fewer_all n (in_order b cs) in
+    omega arith
 
 -- ---- the law
 pub formed_fit : (b : Blocked) (os : List Operation) → IsBlockedOk b → AreFormed b os
@@ -172,7 +225,7 @@ pub formed_fit : (b : Blocked) (os : List Operation) → IsBlockedOk b → AreFo
 formed_fit b os ok f =
     let es : List Entry = b.graph.nodes in
     let cs : List (List ℕ) = f.classes in
-    let p = classes_part b cs f.classed in
+    let p = classes_part b cs ok.ok.objects f.classed in
     let sound : IsSound b.graph = IsSound-ok b.graph ok.ok in
     subst (AreFit es) (sym f.ordered) (record {
       fit = ordered_keep (IsFit es) es _ _ (operations b cs)

@@ -4,11 +4,13 @@ use Rattle.std.specs.List.{AllByRecursion as Each}
 use Rattle.flume_value.proofs.EachLemmas.{Each-append, Each-map, Each-weaker}
 use Rattle.exec_graph.specs.Forests.{Forest}
 use Rattle.exec_graph.specs.Meaning.{IsSound, node_at}
+use Rattle.exec_graph.specs.Wellformed.{HaveObjects, has_objects}
 use Rattle.exec_graph.specs.declared.graph.Place.{Place}
 use Rattle.exec_graph.specs.declared.graph.Node.{Node}
-use Rattle.exec_graph.specs.declared.graph.Node.TheVariants.{Source, Flatten, Pdo, Gbk}
+use Rattle.exec_graph.specs.declared.graph.Node.TheVariants.{Source, Flatten, Pdo, Gbk, Barrier}
 use Rattle.exec_graph.specs.declared.graph.Entry.{Entry}
 use Rattle.exec_graph.specs.declared.graph.Blocked.{Blocked}
+use Rattle.exec_graph.proofs.Entries.{all_found}
 use Rattle.exec_graph.proofs.Solving.{each_found}
 use Rattle.plan_laws.specs.declared.operations.Operation.{Operation}
 use Rattle.plan_laws.specs.declared.operations.Operation.TheVariants.{Flat}
@@ -25,7 +27,7 @@ use Rattle.form_laws.proofs.Ordering.{pick_ok}
 use Rattle.form_laws.proofs.Progress.{all_alone_so}
 use Rattle.form_laws.proofs.Providing.{Among}
 use Rattle.form_laws.proofs.Settling.{among_all, formed_ordered, formed_told}
-use Rattle.form_laws.proofs.Standing.{class_honest, trivial_honest}
+use Rattle.form_laws.proofs.Standing.{class_honest, barrier_honest, trivial_honest}
 
 -- ---- what holds of all operations holds of all in order
 keep_by : (P : Operation → Type 0) (es : List Entry) (k : ℕ) (made : List Place)
@@ -66,11 +68,12 @@ pdo_honest b n d f true h = tt
 pdo_honest b n d f false h = (trivial_honest b.graph.nodes n d f h, tt)
 
 node_honest : (b : Blocked) (n : ℕ) (x : Node) → node_at b.graph.nodes n ≡ Some x
-    → Each (Honest b) (alone_of b n x)
-node_honest b n (Source r) h = tt
-node_honest b n (Gbk c o l k) h = tt
-node_honest b n (Flatten ins) h = flat_honest b n ins (is_stage b n) h
-node_honest b n (Pdo d f) h = pdo_honest b n d f (is_mapper b n || is_reducer b n) h
+    → has_objects b.graph.nodes x ≡ true → Each (Honest b) (alone_of b n x)
+node_honest b n (Source r) h t = tt
+node_honest b n (Gbk c o l k) h t = tt
+node_honest b n (Barrier ins o l a) h t = (barrier_honest b.graph.nodes n ins o l a h t, tt)
+node_honest b n (Flatten ins) h t = flat_honest b n ins (is_stage b n) h
+node_honest b n (Pdo d f) h t = pdo_honest b n d f (is_mapper b n || is_reducer b n) h
 
 pub all_honest : (b : Blocked) (cs : List (List ℕ)) → AreParts b cs → IsSound b.graph
     → Each (Honest b) (operations b cs)
@@ -83,7 +86,9 @@ all_honest b cs p ok =
     (all_alone_so b (Honest b) es
     (Each-weaker (λ e. node_at es e.number ≡ Some e.node)
     (λ e. Each (Honest b) (alone_of b e.number e.node))
-    (λ e h. node_honest b e.number e.node h) es (each_found es ok.differ)))
+    (λ e h. node_honest b e.number e.node h
+    (all_found (λ d. has_objects es d.node ≡ true) es e.number e.node h p.objects)) es
+    (each_found es ok.differ)))
 
 -- ---- the law
 pub parts_do_all : (b : Blocked) (cs : List (List ℕ)) → AreParts b cs → IsSound b.graph
@@ -100,8 +105,8 @@ parts_do_all b cs p ok =
       once = λ n h. o.runs n ∙ runs_once b cs p ok.differ n h;
     }
 
-pub formed_do_all : (b : Blocked) (os : List Operation) → IsSound b.graph → AreFormed b os
-    → DoAll b.graph os
-formed_do_all b os ok f =
+pub formed_do_all : (b : Blocked) (os : List Operation) → IsSound b.graph
+    → HaveObjects b.graph.nodes → AreFormed b os → DoAll b.graph os
+formed_do_all b os ok objects f =
     subst (DoAll b.graph) (sym f.ordered)
-    (parts_do_all b f.classes (classes_part b f.classes f.classed) ok)
+    (parts_do_all b f.classes (classes_part b f.classes objects f.classed) ok)

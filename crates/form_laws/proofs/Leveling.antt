@@ -5,7 +5,7 @@ use Rattle.flume_value.proofs.EachLemmas.{Each-weaker}
 use Rattle.exec_graph.specs.Meaning.{node_at, reads, IsSound, IsRankedBy}
 use Rattle.exec_graph.specs.declared.graph.Place.{Place}
 use Rattle.exec_graph.specs.declared.graph.Node.{Node}
-use Rattle.exec_graph.specs.declared.graph.Node.TheVariants.{Source, Flatten, Pdo, Gbk}
+use Rattle.exec_graph.specs.declared.graph.Node.TheVariants.{Source, Flatten, Pdo, Gbk, Barrier}
 use Rattle.exec_graph.specs.declared.graph.Entry.{Entry}
 use Rattle.exec_graph.specs.declared.graph.Graph.{Graph}
 use Rattle.exec_graph.proofs.Solving.{short_ranked, lower_most, place_of, ranked_at}
@@ -24,12 +24,15 @@ level_of l (Source r) = 0
 level_of l (Flatten ins) = greatest (map (λ (c : Place). l c.node) ins)
 level_of l (Pdo c f) = l c.node
 level_of l (Gbk c o last k) = suc (l c.node)
+level_of l (Barrier ins x y d) =
+    one_gbk (Barrier ins x y d) + greatest (map (λ (c : Place). l c.node) ins)
 
 by_is : (l : ℕ → ℕ) (x : Node) → level_by l x ≡ level_of l x
 by_is l (Source r) = refl
 by_is l (Flatten ins) = omega arith
 by_is l (Pdo c f) = omega arith
 by_is l (Gbk c o last k) = omega arith
+by_is l (Barrier ins x y d) = refl
 
 by_alike : (l m : ℕ → ℕ) (x : Node) → Each (λ (c : Place). l c.node ≡ m c.node) (reads x)
     → level_by l x ≡ level_by m x

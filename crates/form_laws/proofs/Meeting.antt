@@ -7,9 +7,10 @@ use Rattle.combine_table.specs.declared.comb.Comb.{Comb}
 use Rattle.exec_graph.specs.Forests.{Forest}
 use Rattle.exec_graph.specs.Meaning.{node_at, place, reads, gives}
 use Rattle.exec_graph.specs.Readers.{among, same_place}
+use Rattle.exec_graph.specs.declared.graph.Act.{Act}
 use Rattle.exec_graph.specs.declared.graph.Place.{Place}
 use Rattle.exec_graph.specs.declared.graph.Node.{Node}
-use Rattle.exec_graph.specs.declared.graph.Node.TheVariants.{Source, Flatten, Pdo, Gbk}
+use Rattle.exec_graph.specs.declared.graph.Node.TheVariants.{Source, Flatten, Pdo, Gbk, Barrier}
 use Rattle.exec_graph.specs.declared.graph.Entry.{Entry}
 use Rattle.exec_graph.specs.declared.graph.Blocked.{Blocked}
 use Rattle.exec_graph.proofs.Bools.{or_left, or_right, not_true}
@@ -39,12 +40,14 @@ zero_flat (Flatten ins) c i g =
     ap (λ (j : ℕ). place c.node j) (sym (eqb-true c.out 0 g))
 zero_flat (Pdo d f) c i g = absurd (false≢true i)
 zero_flat (Gbk d o l k) c i g = absurd (false≢true i)
+zero_flat (Barrier ins o l a) c i g = absurd (false≢true i)
 
 zero_gbk : (x : Node) (c : Place) → is_gbk x ≡ true → gives x c.out ≡ true → place c.node 0 ≡ c
 zero_gbk (Source r) c i g = absurd (false≢true i)
 zero_gbk (Flatten ins) c i g = absurd (false≢true i)
 zero_gbk (Pdo d f) c i g = absurd (false≢true i)
 zero_gbk (Gbk d o l k) c i g = ap (λ (j : ℕ). place c.node j) (sym (eqb-true c.out 0 g))
+zero_gbk (Barrier ins o l a) c i g = absurd (false≢true i)
 
 pub some_is : (o : Option ℕ) (n : ℕ) → o ≡ Some n → is_number o n ≡ true
 some_is None n h = let bad : ⊥ = cc in absurd bad
@@ -60,6 +63,7 @@ reduces_by b m n (Source r) g h = absurd (false≢true g)
 reduces_by b m n (Flatten ins) g h = absurd (false≢true g)
 reduces_by b m n (Pdo c f) g h = absurd (false≢true g)
 reduces_by b m n (Gbk c o l k) g h = some_is (reducer_of b m) n h
+reduces_by b m n (Barrier ins o l a) g h = absurd (false≢true g)
 
 -- the reducer of a Gbk of the graph is a reducer
 pub reducer_found : (b : Blocked) (m n : ℕ) (x : Node) → node_at b.graph.nodes m ≡ Some x
@@ -108,6 +112,19 @@ flat_met b n ins c x h s r g =
           (and_both (among c ins) (is_stage b n) r s)));
     }
 
+-- what takes collections whole
+pub barrier_met : (b : Blocked) (n : ℕ) (ins : List Place) (o : ℕ) (l : Bool) (a : Act) (c : Place)
+    (x : Node) → node_at b.graph.nodes n ≡ Some (Barrier ins o l a) → among c ins ≡ true
+    → gives x c.out ≡ true → ((is_mapper b c.node ≡ true) → ⊥) → IsMet b c x
+barrier_met b n ins o l a c x h r g nm = record {
+  flatten = λ i. stage_read b c.node n (Barrier ins o l a) h
+      (ap (λ (d : Place). among d ins) (zero_flat x c i g) ∙ r) refl;
+  gbk = λ i. none_or (reducer_of b c.node) (λ k j. false≢true
+      (reducer_only b c.node k n (Barrier ins o l a) j h
+      (ap (λ (d : Place). among d ins) (zero_gbk x c i g) ∙ r)).pdo);
+  mapper = λ i. absurd (nm i);
+}
+
 -- a script output
 pub output_met : (b : Blocked) (c : Place) (x : Node) → among c b.graph.outputs ≡ true
     → gives x c.out ≡ true → IsMet b c x
@@ -138,6 +155,8 @@ whole_reader es d c (Some (Source r)) e h = inl (among_one c d h, subst NotFlat 
 whole_reader es d c (Some (Flatten ins)) e h = inr (ins, e, h)
 whole_reader es d c (Some (Pdo y f)) e h = inl (among_one c d h, subst NotFlat (sym e) refl)
 whole_reader es d c (Some (Gbk y o l k)) e h = inl (among_one c d h, subst NotFlat (sym e) refl)
+whole_reader es d c (Some (Barrier ins o l a)) e h =
+    inl (among_one c d h, subst NotFlat (sym e) refl)
 
 pub not_flat : (x : Node) (d c : Place) (es : List Entry) → (d ≡ c) × NotFlat (node_at es d.node)
     → node_at es c.node ≡ Some x → is_flatten x ≡ true → ⊥

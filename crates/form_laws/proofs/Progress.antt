@@ -1,13 +1,17 @@
 -- What each operation reads is given by operations below it.
-use Rattle.std.proofs.Common.{◌≡◌, ℕ, ◌*◌, ◌<◌, Bool, true, false, cond, eqb, ◌||◌, List, [], ◌∷◌, map, Option, Some, None, suc, refl, sym, ap, ◌∙◌, subst, inl, inr}
+use Rattle.std.proofs.Common.{◌≡◌, ℕ, ◌*◌, ◌<◌, Bool, true, false, cond, eqb, ◌||◌, List, [], ◌∷◌, ◌++◌, map, Option, Some, None, suc, refl, sym, ap, ◌∙◌, subst, inl, inr}
+use Rattle.std.proofs.lemmas.Bool.{false≢true}
 use Rattle.std.specs.List.{flat_map, AllByRecursion as Each}
 use Rattle.flume_value.proofs.EachLemmas.{Each-append, Each-both, Each-map, Each-weaker}
 use Rattle.exec_graph.specs.Forests.{Forest}
 use Rattle.exec_graph.specs.Meaning.{IsRankedBy, IsSound, IsThere, node_at, reads}
 use Rattle.exec_graph.specs.Readers.{among}
+use Rattle.exec_graph.specs.Wellformed.{has_objects}
+use Rattle.exec_graph.specs.declared.graph.Act.{Act}
+use Rattle.exec_graph.specs.declared.graph.Act.TheVariants.{SideInput, Operate, Singleton}
 use Rattle.exec_graph.specs.declared.graph.Place.{Place}
 use Rattle.exec_graph.specs.declared.graph.Node.{Node}
-use Rattle.exec_graph.specs.declared.graph.Node.TheVariants.{Source, Flatten, Pdo, Gbk}
+use Rattle.exec_graph.specs.declared.graph.Node.TheVariants.{Source, Flatten, Pdo, Gbk, Barrier}
 use Rattle.exec_graph.specs.declared.graph.Entry.{Entry}
 use Rattle.exec_graph.specs.declared.graph.Blocked.{Blocked}
 use Rattle.exec_graph.proofs.Entries.{all_found}
@@ -15,15 +19,16 @@ use Rattle.exec_graph.proofs.Solving.{each_found, ranked_at}
 use Rattle.exec_graph.proofs.Bools.{or_false}
 use Rattle.graph_laws.proofs.ReadPlaces.{all_among}
 use Rattle.plan_laws.specs.declared.operations.Operation.TheVariants.{Flat}
-use Rattle.plan_laws.specs.Operations.{channel_of, flat_inputs, inputs_of, pdo_channel}
+use Rattle.plan_laws.specs.declared.operations.Key.{Key}
+use Rattle.plan_laws.specs.Operations.{channel_of, flat_inputs, inputs_of, pdo_channel, reading_reads, reads_of}
 use Rattle.plan_roles.specs.Levels.{level}
 use Rattle.plan_roles.specs.Mappers.{is_mapper, is_reducer, is_stage, key_of}
 use Rattle.form_laws.specs.declared.ranked.Ranked.{Ranked}
 use Rattle.form_laws.specs.Classes.{IsGbk, IsGbkAt, keys_at, keys_of}
-use Rattle.form_laws.specs.Operations.{all_alone, alone, alone_of, class_keys, class_level, class_ranked, operations, trivial}
+use Rattle.form_laws.specs.Operations.{all_alone, alone, alone_of, class_keys, class_level, class_ranked, barrier_does, barrier_ranked, operations, trivial}
 use Rattle.form_laws.proofs.Classing.{AreParts, HasLevel}
 use Rattle.form_laws.proofs.Standing.{inputs_there, uses_ok}
-use Rattle.form_laws.proofs.Giving.{AllGiven, GivenBelow, KeyGiven, flat_given, key_given_by, pdo_given}
+use Rattle.form_laws.proofs.Giving.{AllGiven, GivenBelow, KeyGiven, flat_given, key_given_by, barrier_given, pdo_given}
 
 -- ---- all operations
 gbk_keys : (b : Blocked) (cs : List (List ℕ)) → AreParts b cs → (w : ℕ) (r : ℕ → ℕ) (y : Ranked)
@@ -45,6 +50,7 @@ gbk_keys b cs p w r y n (Some (Gbk d o last k)) ok ra wide h g rank =
     (eqb (suc (level es c.node)) (level es n)) ok ra wide h i u rank refl refl) (inputs_of es d)
     (all_among (λ c. among c (inputs_of es d) ≡ true) (inputs_of es d) (λ c i. i))
     (inputs_there es d (node_at es d.node) ok.there refl t))
+gbk_keys b cs p w r y n (Some (Barrier ins o l a)) ok ra wide h g rank = absurd g
 
 members_keys : (b : Blocked) (cs : List (List ℕ)) → AreParts b cs → (w : ℕ) (r : ℕ → ℕ)
     (y : Ranked) (ns : List ℕ) → IsSound b.graph → IsRankedBy r b.graph.nodes
@@ -64,19 +70,27 @@ class_level_is b x (n ∷ ns) a =
     Each-weaker (λ k. level b.graph.nodes k ≡ x)
     (λ k. level b.graph.nodes n ≡ level b.graph.nodes k) (λ k h. a.0 ∙ sym h) (n ∷ ns) a
 
+-- what all channels read
+all_reads : (P : Place → Type 0) (es : List Entry) (ks : List Key)
+    → Each (λ k. Each P (reading_reads (channel_of es k))) ks
+    → Each P (flat_map reading_reads (map (channel_of es) ks))
+all_reads P es [] a = tt
+all_reads P es (k ∷ ks) a =
+    Each-append P (reading_reads (channel_of es k))
+    (flat_map reading_reads (map (channel_of es) ks)) a.0 (all_reads P es ks a.1)
+
 class_given : (b : Blocked) (cs : List (List ℕ)) → AreParts b cs → (w : ℕ) (r : ℕ → ℕ)
     (ns : List ℕ) → IsSound b.graph → IsRankedBy r b.graph.nodes → ((k : ℕ) → suc (r k) < w)
     → Each (IsGbk b) ns → HasLevel b ns → AllGiven b cs w r (class_ranked b ns)
 class_given b cs p w r ns ok ra wide a h =
     let es : List Entry = b.graph.nodes in
     let y : Ranked = class_ranked b ns in
-    Each-map (GivenBelow b cs w r y) (λ c. c.reads) (map (channel_of es) (class_keys b ns))
-    (Each-map (λ c. GivenBelow b cs w r y c.reads) (channel_of es) (class_keys b ns)
+    all_reads (GivenBelow b cs w r y) es (class_keys b ns)
     (uses_ok (KeyGiven b cs w r y) (flat_map (keys_of b) ns)
     (members_keys b cs p w r y ns ok ra wide
     (Each-both (IsGbk b) (λ n. class_level b ns ≡ level es n)
     (λ n. IsGbk b n × (y.rank ≡ 2 * level es n)) (λ n g q. (g, ap (λ (k : ℕ). 2 * k) q)) ns a
-    (class_level_is b h.0 ns h.1)))))
+    (class_level_is b h.0 ns h.1))))
 
 -- ---- what stands by itself
 flat_all : (b : Blocked) (cs : List (List ℕ)) → AreParts b cs → (w : ℕ) (r : ℕ → ℕ) (n : ℕ)
@@ -114,19 +128,53 @@ pdo_alone b cs p w r n d f false ok ra wide h t =
     let y : Ranked = alone b n (trivial n f) in
     let q = or_false (is_mapper b n) (is_reducer b n) t in (
       (
-        subst (λ (o : Option Node). GivenBelow b cs w r y (pdo_channel n o).reads) (sym h)
-            (pdo_given b cs p w r y n d f ok wide (ranked_at r b.graph.nodes n (Pdo d f) ra h).0 h
-            (inl q.1) (inr (refl, refl))),
-        tt,
-      ),
+          subst (λ (o : Option Node).
+          Each (GivenBelow b cs w r y) (reading_reads (pdo_channel n o) ++ [])) (sym h) (
+            pdo_given b cs p w r y n d f ok wide (ranked_at r b.graph.nodes n (Pdo d f) ra h).0 h
+                (inl q.1) (inr (refl, refl)),
+            tt,
+          )
+          ),
       tt,
     )
+
+lone_reads : (es : List Entry) (n : ℕ) (ins : List Place) (o : ℕ) (l : Bool) (a : Act)
+    → node_at es n ≡ Some (Barrier ins o l a) → has_objects es (Barrier ins o l a) ≡ true
+    → reads_of es (barrier_does n a) ≡ ins
+lone_reads es n [] o l (SideInput f) h t = absurd (false≢true t)
+lone_reads es n (c ∷ []) o l (SideInput f) h t = absurd (false≢true t)
+lone_reads es n (c ∷ (d ∷ [])) o l (SideInput f) h t =
+    ap (λ (x : Option Node). reading_reads (pdo_channel n x) ++ []) h
+lone_reads es n (c ∷ (d ∷ (e ∷ ds))) o l (SideInput f) h t = absurd (false≢true t)
+lone_reads es n ins o l (Operate f) h t = ap flat_inputs h
+lone_reads es n ins o l (Singleton k) h t = ap flat_inputs h
+
+lone_alone : (b : Blocked) (cs : List (List ℕ)) → AreParts b cs → (w : ℕ) (r : ℕ → ℕ) (n : ℕ)
+    (ins : List Place) (o : ℕ) (l : Bool) (a : Act) → IsSound b.graph
+    → IsRankedBy r b.graph.nodes → ((k : ℕ) → suc (r k) < w)
+    → node_at b.graph.nodes n ≡ Some (Barrier ins o l a) → AllGiven b cs w r (barrier_ranked b n a)
+lone_alone b cs p w r n ins o l a ok ra wide h =
+    let es : List Entry = b.graph.nodes in
+    let x : Node = Barrier ins o l a in
+    let has : has_objects es x ≡ true =
+    all_found (λ e. has_objects es e.node ≡ true) es n x h p.objects in
+    subst (Each (GivenBelow b cs w r (barrier_ranked b n a)))
+    (sym (lone_reads es n ins o l a h has))
+    (Each-both (λ c. (among c ins ≡ true) × (r c.node < r n)) (IsThere es)
+    (GivenBelow b cs w r (barrier_ranked b n a))
+    (λ c i u. barrier_given b cs p w r n ins o l a c ok wide i.1 h i.0 u) ins
+    (Each-both (λ c. among c ins ≡ true) (λ (c : Place). r c.node < r n)
+    (λ c. (among c ins ≡ true) × (r c.node < r n)) (λ c s q. (s, q)) ins
+    (all_among (λ c. among c ins ≡ true) ins (λ c i. i)) (ranked_at r es n x ra h))
+    (all_found (λ e. Each (IsThere es) (reads e.node)) es n x h ok.there))
 
 node_alone : (b : Blocked) (cs : List (List ℕ)) → AreParts b cs → (w : ℕ) (r : ℕ → ℕ) (n : ℕ)
     (x : Node) → IsSound b.graph → IsRankedBy r b.graph.nodes → ((k : ℕ) → suc (r k) < w)
     → node_at b.graph.nodes n ≡ Some x → Each (AllGiven b cs w r) (alone_of b n x)
 node_alone b cs p w r n (Source s) ok ra wide h = tt
 node_alone b cs p w r n (Gbk d o last k) ok ra wide h = tt
+node_alone b cs p w r n (Barrier ins o l a) ok ra wide h =
+    (lone_alone b cs p w r n ins o l a ok ra wide h, tt)
 node_alone b cs p w r n (Flatten ins) ok ra wide h =
     flat_alone b cs p w r n ins (is_stage b n) ok ra wide h refl
 node_alone b cs p w r n (Pdo d f) ok ra wide h =

@@ -8,7 +8,7 @@ use Rattle.exec_graph.specs.Meaning.{AllDiffer, node_at, place}
 use Rattle.exec_graph.specs.Readers.{among, same_place}
 use Rattle.exec_graph.specs.declared.graph.Place.{Place}
 use Rattle.exec_graph.specs.declared.graph.Node.{Node}
-use Rattle.exec_graph.specs.declared.graph.Node.TheVariants.{Source, Flatten, Pdo, Gbk}
+use Rattle.exec_graph.specs.declared.graph.Node.TheVariants.{Source, Flatten, Pdo, Gbk, Barrier}
 use Rattle.exec_graph.specs.declared.graph.Entry.{Entry}
 use Rattle.exec_graph.specs.declared.graph.Blocked.{Blocked}
 use Rattle.exec_graph.proofs.Solving.{each_found}
@@ -203,6 +203,7 @@ fed_input es (Gbk x o last k) c d f h e =
           (refl, ap (λ cs. among c cs) at ∙ rw i refl)
       | inr i ↦ (refl, i)
     ]
+fed_input es (Barrier ins o l a) c d f h e = absurd (false≢true h)
 
 mapper_key : (b : Blocked) (n k : ℕ) (c : Place) → c.node ≡ n → is_mapper b n ≡ true
     → suc (level b.graph.nodes n) ≡ k → key_of b k c ≡ Mapper n

@@ -7,9 +7,10 @@ use Rattle.exec_graph.specs.Forests.{Forest, Bare, Grow}
 use Rattle.exec_graph.specs.Meaning.{AllDiffer, IsThere, node_at, place, reads, has_out, is_out, gives_at}
 use Rattle.exec_graph.specs.Readers.{among, any_node, calls_on, collects, is_held, readers, same_place, those}
 use Rattle.exec_graph.specs.Wellformed.{is_lifted}
+use Rattle.exec_graph.specs.declared.graph.Act.{Act}
 use Rattle.exec_graph.specs.declared.graph.Place.{Place}
 use Rattle.exec_graph.specs.declared.graph.Node.{Node}
-use Rattle.exec_graph.specs.declared.graph.Node.TheVariants.{Source, Flatten, Pdo, Gbk}
+use Rattle.exec_graph.specs.declared.graph.Node.TheVariants.{Source, Flatten, Pdo, Gbk, Barrier}
 use Rattle.exec_graph.specs.declared.graph.Entry.{Entry}
 use Rattle.exec_graph.specs.declared.graph.Blocked.{Blocked}
 use Rattle.exec_graph.proofs.Entries.{entry}
@@ -21,7 +22,7 @@ use Rattle.graph_laws.proofs.ReadPlaces.{same_self}
 use Rattle.graph_laws.proofs.Reading.{those_has}
 use Rattle.plan_laws.proofs.Running.{place_same}
 use Rattle.plan_laws.specs.Operations.{IsIn, IsPdo, IsReducer, Reads}
-use Rattle.plan_roles.specs.Reading.{carries_on, goes_on, goes_past, one_of, only_reader}
+use Rattle.plan_roles.specs.Reading.{carries_on, goes_on, goes_past, one_of, only_reader, works_on}
 use Rattle.plan_roles.specs.Mappers.{feeds_unmarked, is_mapper, is_stage, maps, maps_at, outputs_of, reducer_of, unless_mapper}
 use Rattle.form_laws.proofs.Basics.{any_found, none_found, negated}
 
@@ -31,32 +32,36 @@ is_gbk (Source r) = false
 is_gbk (Flatten ins) = false
 is_gbk (Pdo c f) = false
 is_gbk (Gbk c o l k) = true
+is_gbk (Barrier ins o l a) = false
 
 abbrev pub is_pdo : Node → Bool
 is_pdo (Source r) = false
 is_pdo (Flatten ins) = false
 is_pdo (Pdo c f) = true
 is_pdo (Gbk c o l k) = false
+is_pdo (Barrier ins o l a) = false
 
 abbrev pub is_flatten : Node → Bool
 is_flatten (Source r) = false
 is_flatten (Flatten ins) = true
 is_flatten (Pdo c f) = false
 is_flatten (Gbk c o l k) = false
+is_flatten (Barrier ins o l a) = false
 
 -- ---- stages
--- a reader that is no Gbk is a Pdo or a Flatten
+-- a reader that is no Gbk works on it or is a Flatten
 goes : (x : Node) (c : Place) → is_gbk x ≡ false → among c (reads x) ≡ true
-    → (calls_on c x || flattens c x) ≡ true
+    → (works_on c x || flattens c x) ≡ true
 goes (Source r) c g h = absurd (false≢true h)
 goes (Flatten ins) c g h = h
 goes (Pdo d f) c g h = h
 goes (Gbk d o l k) c g h = absurd (false≢true (sym g))
+goes (Barrier ins o l a) c g h = or_left (among c ins) false h
 
 pub read_on : (es : List Entry) (c : Place) (k : ℕ) (x : Node) → node_at es k ≡ Some x
     → among c (reads x) ≡ true → is_gbk x ≡ false → goes_on es c ≡ true
 read_on es c k x e r g =
-    any_found (λ e. calls_on c e.node || flattens c e.node) es k x e (goes x c g r)
+    any_found (λ e. works_on c e.node || flattens c e.node) es k x e (goes x c g r)
 
 -- a Flatten that another node than a Gbk reads is a stage
 pub stage_read : (b : Blocked) (n k : ℕ) (x : Node) → node_at b.graph.nodes k ≡ Some x
@@ -120,6 +125,8 @@ only_by b n r k (Source s) h e i = absurd (false≢true i)
 only_by b n r k (Flatten ins) h e i = absurd (held_by b (place n 0) k (Flatten ins) h.unheld e i)
 only_by b n r k (Gbk d o l u) h e i =
     absurd (held_by b (place n 0) k (Gbk d o l u) h.unheld e (one_reads (place n 0) d i))
+only_by b n r k (Barrier ins o l a) h e i =
+    absurd (held_by b (place n 0) k (Barrier ins o l a) h.unheld e i)
 only_by b n r k (Pdo d f) h e i = record {
   same = those_has (λ q. q ≡ r) (calls_on (place n 0)) b.graph.nodes k (Pdo d f) e
       (one_reads (place n 0) d i) (subst (Each (λ q. q ≡ r)) (sym h.alone) (refl, tt));
@@ -159,6 +166,7 @@ pub calls_reads : (c : Place) (x : Node) → calls_on c x ≡ true → Reads c (
 calls_reads c (Source r) h = absurd (false≢true h)
 calls_reads c (Flatten ins) h = absurd (false≢true h)
 calls_reads c (Gbk d o l k) h = absurd (false≢true h)
+calls_reads c (Barrier ins o l a) h = absurd (false≢true h)
 calls_reads c (Pdo d f) h = sym (place_same c d h)
 
 reducer_by : (b : Blocked) (n : ℕ) (o : Option ℕ) → AllDiffer b.graph.nodes → reducer_of b n ≡ o
@@ -183,6 +191,7 @@ mapper_pdo b n None h = absurd (false≢true h)
 mapper_pdo b n (Some (Source r)) h = absurd (false≢true h)
 mapper_pdo b n (Some (Flatten ins)) h = absurd (false≢true h)
 mapper_pdo b n (Some (Gbk c o x k)) h = absurd (false≢true h)
+mapper_pdo b n (Some (Barrier ins o l a)) h = absurd (false≢true h)
 mapper_pdo b n (Some (Pdo c f)) h = tt
 
 pub record Maps (b : Blocked) (n : ℕ) (f : Forest) : Type 0 where
@@ -236,6 +245,7 @@ near_by b c None e g m = absurd (false≢true m)
 near_by b c (Some (Source r)) e g m = absurd (false≢true m)
 near_by b c (Some (Flatten ins)) e g m = absurd (false≢true m)
 near_by b c (Some (Gbk d o last k)) e g m = absurd (false≢true m)
+near_by b c (Some (Barrier ins o l a)) e g m = absurd (false≢true m)
 near_by b c (Some (Pdo d f)) e g m =
     none_in (goes_past b.graph.nodes) c (outputs_of c.node f) (maps_so b c.node d f m).near
     (out_in c.node c.out f g)
@@ -253,6 +263,16 @@ mapper_unread b p c f h t m =
     let n : carries_on es c (entry p (Pdo c f)) ≡ false =
     none_found (carries_on es c) es p (Pdo c f) (mapper_near b c t m) h in
     false≢true (sym n ∙ or_left (same_place c c) false (same_self c))
+
+-- and nothing takes it whole
+pub mapper_whole : (b : Blocked) (n : ℕ) (ins : List Place) (o : ℕ) (l : Bool) (a : Act) (c : Place)
+    → node_at b.graph.nodes n ≡ Some (Barrier ins o l a) → among c ins ≡ true
+    → IsThere b.graph.nodes c → is_mapper b c.node ≡ true → ⊥
+mapper_whole b n ins o l a c h i t m =
+    let es : List Entry = b.graph.nodes in
+    let n' : carries_on es c (entry n (Barrier ins o l a)) ≡ false =
+    none_found (carries_on es c) es n (Barrier ins o l a) (mapper_near b c t m) h in
+    false≢true (sym n' ∙ or_left (among c ins) false i)
 
 not_both : (a x : Bool) → (a && x) ≡ false → a ≡ true → x ≡ false
 not_both true x h e = h

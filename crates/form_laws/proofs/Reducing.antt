@@ -8,7 +8,7 @@ use Rattle.exec_graph.specs.Readers.{among, calls_on, is_held, readers, same_pla
 use Rattle.exec_graph.specs.Wellformed.{IsBlockedOk, IsLiftedOk, IsNodeOk, is_lifted}
 use Rattle.exec_graph.specs.declared.graph.Place.{Place}
 use Rattle.exec_graph.specs.declared.graph.Node.{Node}
-use Rattle.exec_graph.specs.declared.graph.Node.TheVariants.{Source, Flatten, Pdo, Gbk}
+use Rattle.exec_graph.specs.declared.graph.Node.TheVariants.{Source, Flatten, Pdo, Gbk, Barrier}
 use Rattle.exec_graph.specs.declared.graph.Entry.{Entry}
 use Rattle.exec_graph.specs.declared.graph.Blocked.{Blocked}
 use Rattle.exec_graph.proofs.Entries.{all_found}
@@ -40,6 +40,7 @@ unmapped_by b r c None h l = absurd h
 unmapped_by b r c (Some (Source s)) h l = absurd h
 unmapped_by b r c (Some (Flatten ins)) h l = absurd h
 unmapped_by b r c (Some (Gbk d o x k)) h l = absurd h
+unmapped_by b r c (Some (Barrier ins x y d)) h l = absurd h
 unmapped_by b r c (Some (Pdo d f)) h l =
     false_and (not (is_lifted (node_at b.graph.nodes d.node))) _
     (ap (λ (x : Place). not (is_lifted (node_at b.graph.nodes x.node))) h ∙ ap not l)
@@ -85,6 +86,7 @@ reduced_by b n (Some (Pdo c f)) ok h = tt
 reduced_by b n (Some (Gbk c o l None)) ok h = tt
 reduced_by b n (Some (Gbk c o l (Some k))) ok h =
     let r = lifted_reducer b n c o l k ok h in has_reducer r.0 (reducer_of b n) r.1
+reduced_by b n (Some (Barrier ins o l a)) ok h = tt
 
 pub all_reduced : (b : Blocked) (ns : List ℕ) → IsBlockedOk b
     → Each (IsReduced b.graph.nodes) (map (grouped b) ns)

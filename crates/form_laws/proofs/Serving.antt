@@ -1,12 +1,15 @@
 -- Who gives a collection.
-use Rattle.std.proofs.Common.{◌≡◌, ℕ, ◌*◌, ◌≤◌, ◌⊎◌, Bool, true, false, cond, not, eqb, ◌||◌, List, [], ◌∷◌, ◌++◌, map, Option, Some, suc, refl, sym, ap, ◌∙◌, subst, arith, inl, inr}
+use Rattle.std.proofs.Common.{◌≡◌, ℕ, ◌*◌, ◌≤◌, ◌⊎◌, Bool, true, false, cond, not, eqb, ◌&&◌, ◌||◌, List, [], ◌∷◌, ◌++◌, map, Option, Some, None, suc, refl, sym, ap, ◌∙◌, subst, arith, inl, inr}
 use Rattle.std.proofs.lemmas.Bool.{eqb-true, false≢true}
 use Rattle.std.specs.List.{flat_map}
 use Rattle.exec_graph.specs.Forests.{Forest}
 use Rattle.exec_graph.specs.Meaning.{AllDiffer, IsSound, has_out, node_at, place, gives as node_gives}
+use Rattle.exec_graph.specs.declared.graph.Act.{Act}
+use Rattle.exec_graph.specs.declared.graph.Act.TheVariants.{SideInput, Operate, Singleton}
+use Rattle.exec_graph.specs.declared.graph.Input.{Input}
 use Rattle.exec_graph.specs.declared.graph.Place.{Place}
 use Rattle.exec_graph.specs.declared.graph.Node.{Node}
-use Rattle.exec_graph.specs.declared.graph.Node.TheVariants.{Source, Flatten, Pdo, Gbk}
+use Rattle.exec_graph.specs.declared.graph.Node.TheVariants.{Source, Flatten, Pdo, Gbk, Barrier}
 use Rattle.exec_graph.specs.declared.graph.Entry.{Entry}
 use Rattle.exec_graph.specs.declared.graph.Blocked.{Blocked}
 use Rattle.exec_graph.proofs.Solving.{each_found}
@@ -19,7 +22,7 @@ use Rattle.plan_roles.specs.Levels.{level}
 use Rattle.plan_roles.specs.Reading.{goes_on}
 use Rattle.plan_roles.specs.Mappers.{is_mapper, is_reducer, is_stage, outputs_of, passes, reducer_of, reduces}
 use Rattle.form_laws.specs.declared.ranked.Ranked.{Ranked}
-use Rattle.form_laws.specs.Operations.{all_alone, alone, class_keys, class_level, class_operation, class_ranked, grouped, key_passes, operations, passes_at, trivial}
+use Rattle.form_laws.specs.Operations.{all_alone, alone, class_keys, class_level, class_operation, class_ranked, grouped, key_passes, barrier_ranked, operations, passes_at, trivial}
 use Rattle.form_laws.proofs.Basics.{any_at, in_filter, in_left, in_right}
 use Rattle.form_laws.proofs.Classing.{AreParts}
 use Rattle.form_laws.proofs.Leveling.{levels_at}
@@ -28,9 +31,14 @@ use Rattle.form_laws.proofs.Reading.{is_flatten, is_gbk, out_in, reducer_ok}
 use Rattle.form_laws.proofs.Providing.{Among, ClassOf, alone_in, among_left, among_right, class_gives, class_of, maps_in, passes_in}
 
 -- ---- who gives a collection
+-- whether the node is a Flatten
+abbrev pub ends_at : Option Node → Bool
+ends_at None = false
+ends_at (Some x) = is_flatten x
+
 -- a Flatten that Gbks and script outputs alone read
 abbrev pub is_end : List Entry → Operation → Bool
-is_end es (Flat n) = not (goes_on es (place n 0))
+is_end es (Flat n) = ends_at (node_at es n) && not (goes_on es (place n 0))
 is_end es (Class keys groups passes) = false
 
 pub record Served (b : Blocked) (cs : List (List ℕ)) (c : Place) : Type 0 where
@@ -41,7 +49,8 @@ pub record Served (b : Blocked) (cs : List (List ℕ)) (c : Place) : Type 0 wher
       ((is_mapper b c.node ≡ true) × (by.rank ≡ 2 * suc (level b.graph.nodes c.node)))
       ⊎ ((by.rank ≤ 2 * level b.graph.nodes c.node)
       ⊎ ((by.rank ≡ suc (2 * level b.graph.nodes c.node)) × (by.number ≡ c.node)))
-  pub flat : by.does ≡ Flat c.node → (x : Node) → node_at b.graph.nodes c.node ≡ Some x
+  pub flat : is_end b.graph.nodes by.does ≡ true → (x : Node)
+      → node_at b.graph.nodes c.node ≡ Some x
       → is_flatten x ≡ true
   pub ends : (is_end b.graph.nodes by.does ≡ false)
       ⊎ ((by.does ≡ Flat c.node) × (place c.node 0 ≡ c))
@@ -49,7 +58,7 @@ pub record Served (b : Blocked) (cs : List (List ℕ)) (c : Place) : Type 0 wher
 place_is : (c : Place) → c.out ≡ 0 → place c.node 0 ≡ c
 place_is c h = ap (λ (j : ℕ). place c.node j) (sym h)
 
-source_by : (e : Entry) (es : List Entry) (n r : ℕ) (b : Bool) → eqb e.number n ≡ b
+source_by : (e : Entry) (es : List Entry) (n : ℕ) (r : Input) (b : Bool) → eqb e.number n ≡ b
     → cond b (Some e.node) (node_at es n) ≡ Some (Source r)
     → (node_at es n ≡ Some (Source r) → IsIn (place n 0) (source_places es))
     → IsIn (place n 0) (source_place e.number e.node ++ source_places es)
@@ -61,7 +70,7 @@ source_by e es n r true i h f =
 source_by e es n r false i h f =
     in_right (place n 0) (source_place e.number e.node) (source_places es) (f h)
 
-source_in : (es : List Entry) (n r : ℕ) → node_at es n ≡ Some (Source r)
+source_in : (es : List Entry) (n : ℕ) (r : Input) → node_at es n ≡ Some (Source r)
     → IsIn (place n 0) (source_places es)
 source_in [] n r h = let bad : ⊥ = cc in absurd bad
 source_in (e ∷ es) n r h =
@@ -74,9 +83,8 @@ reducer_out b c d f h g =
     subst (λ (o : Option Node). IsIn c (map (place c.node) (outs_at o))) (sym h)
     (out_in c.node c.out f g)
 
-no_flat : {X : Type 0} {ks : List Key} {gs : List Grouped} {cs : List Place} {n : ℕ}
-    → Class ks gs cs ≡ Flat n → X
-no_flat i = let bad : ⊥ = cc in absurd bad
+never : {X : Type 0} → false ≡ true → X
+never i = absurd (false≢true i)
 
 serve_flat : (b : Blocked) (cs : List (List ℕ)) (c : Place) (ins : List Place)
     → node_at b.graph.nodes c.node ≡ Some (Flatten ins) → c.out ≡ 0 → is_stage b c.node ≡ true
@@ -93,6 +101,48 @@ serve_flat b cs c ins h z s =
       flat = λ _ x e. (let same : Some (Flatten ins) ≡ Some x = sym h ∙ e in
           let is : Flatten ins ≡ x = cc in ap is_flatten (sym is));
       ends = inr (refl, place_is c z);
+    }
+
+serve_barrier : (b : Blocked) (cs : List (List ℕ)) (c : Place) (ins : List Place) (o : ℕ) (l : Bool)
+    (a : Act) → node_at b.graph.nodes c.node ≡ Some (Barrier ins o l a) → c.out ≡ 0 → Served b cs c
+serve_barrier b cs c ins o l (SideInput f) h z =
+    let y : Ranked = barrier_ranked b c.node (SideInput f) in
+    record {
+      by = y;
+      among = among_right y (map (class_ranked b) cs) (all_alone b b.graph.nodes)
+          (alone_in b b.graph.nodes c.node (Barrier ins o l (SideInput f)) y h (inl refl));
+      gives = inl (place_is c z);
+      bound = inr (inr (refl, refl));
+      flat = λ i. never i;
+      ends = inl refl;
+    }
+serve_barrier b cs c ins o l (Operate f) h z =
+    let es : List Entry = b.graph.nodes in
+    let y : Ranked = barrier_ranked b c.node (Operate f) in
+    let end : is_end es (Flat c.node) ≡ false =
+    ap (λ (x : Option Node). ends_at x && not (goes_on es (place c.node 0))) h in
+    record {
+      by = y;
+      among = among_right y (map (class_ranked b) cs) (all_alone b es)
+          (alone_in b es c.node (Barrier ins o l (Operate f)) y h (inl refl));
+      gives = inl (place_is c z);
+      bound = inr (inl (omega arith));
+      flat = λ i x e. never (sym end ∙ i);
+      ends = inl end;
+    }
+serve_barrier b cs c ins o l (Singleton k) h z =
+    let es : List Entry = b.graph.nodes in
+    let y : Ranked = barrier_ranked b c.node (Singleton k) in
+    let end : is_end es (Flat c.node) ≡ false =
+    ap (λ (x : Option Node). ends_at x && not (goes_on es (place c.node 0))) h in
+    record {
+      by = y;
+      among = among_right y (map (class_ranked b) cs) (all_alone b es)
+          (alone_in b es c.node (Barrier ins o l (Singleton k)) y h (inl refl));
+      gives = inl (place_is c z);
+      bound = inr (inl (omega arith));
+      flat = λ i x e. never (sym end ∙ i);
+      ends = inl end;
     }
 
 serve_class : (b : Blocked) (cs : List (List ℕ)) (n : ℕ) (k : ClassOf b cs n) (c : Place)
@@ -112,7 +162,7 @@ serve_class b cs n k c i h =
         | inl m ↦ inl (m.0, r ∙ ap (λ (x : ℕ). 2 * x) m.1)
         | inr e ↦ inr (inl (omega arith))
       ];
-      flat = λ i. no_flat i;
+      flat = λ i. never i;
       ends = inl refl;
     }
 
@@ -135,6 +185,7 @@ reducer_gbk b m n (Source r) h = absurd (false≢true h)
 reducer_gbk b m n (Flatten ins) h = absurd (false≢true h)
 reducer_gbk b m n (Pdo c f) h = absurd (false≢true h)
 reducer_gbk b m n (Gbk c o l k) h = (refl, is_some_of (reducer_of b m) n h)
+reducer_gbk b m n (Barrier ins o l a) h = absurd (false≢true h)
 
 -- the Gbk that a reducer reduces
 pub record ReducesOne (b : Blocked) (n : ℕ) : Type 0 where
@@ -181,7 +232,7 @@ serve_trivial b cs c d f h g s =
           (subst (λ x. Among y (cond x [] (y ∷ []))) (sym s) (inl refl)));
       gives = out_in c.node c.out f g;
       bound = inr (inr (refl, refl));
-      flat = λ i. no_flat i;
+      flat = λ i. never i;
       ends = inl refl;
     }
 
@@ -207,6 +258,8 @@ provide b cs p c (Gbk d o last k) ok h g t =
     inr (serve_class b cs c.node cl c (class_gives b cs c.node cl c
     (subst (λ (o : Option ℕ). IsIn c (reduced b.graph.nodes c.node o)) (sym (t.gbk refl))
     (inl (place_is c (eqb-true c.out 0 g))))) (inr refl))
+provide b cs p c (Barrier ins o l a) ok h g t =
+    inr (serve_barrier b cs c ins o l a h (eqb-true c.out 0 g))
 provide b cs p c (Pdo d f) ok h g t =
     inr (serve_pdo b cs p c d f (is_mapper b c.node) (is_reducer b c.node) ok h g t.mapper refl
     refl)

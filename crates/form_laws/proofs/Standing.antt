@@ -1,13 +1,16 @@
 -- Each operation that is formed stands for nodes of the graph.
 use Rattle.std.proofs.Common.{◌≡◌, ◌⊎◌, ℕ, Bool, true, false, cond, not, eqb, ◌&&◌, List, [], ◌∷◌, ◌++◌, map, Option, Some, None, suc, refl, sym, ap, ◌∙◌, subst, inl, inr}
-use Rattle.std.proofs.lemmas.Bool.{eq-eqb}
+use Rattle.std.proofs.lemmas.Bool.{eq-eqb, false≢true}
 use Rattle.std.specs.List.{flat_map, AllByRecursion as Each, filter}
 use Rattle.flume_value.proofs.EachLemmas.{Each-append, Each-both, Each-weaker}
 use Rattle.exec_graph.specs.Forests.{Forest}
 use Rattle.exec_graph.specs.Meaning.{IsSound, IsThere, gives_at, has_out, node_at, place, reads}
+use Rattle.exec_graph.specs.Wellformed.{has_objects}
+use Rattle.exec_graph.specs.declared.graph.Act.{Act}
+use Rattle.exec_graph.specs.declared.graph.Act.TheVariants.{SideInput, Operate, Singleton}
 use Rattle.exec_graph.specs.declared.graph.Place.{Place}
 use Rattle.exec_graph.specs.declared.graph.Node.{Node}
-use Rattle.exec_graph.specs.declared.graph.Node.TheVariants.{Source, Flatten, Pdo, Gbk}
+use Rattle.exec_graph.specs.declared.graph.Node.TheVariants.{Source, Flatten, Pdo, Gbk, Barrier}
 use Rattle.exec_graph.specs.declared.graph.Entry.{Entry}
 use Rattle.exec_graph.specs.declared.graph.Blocked.{Blocked}
 use Rattle.exec_graph.proofs.Entries.{all_found}
@@ -15,13 +18,13 @@ use Rattle.exec_plan.specs.Channels.{outs_of}
 use Rattle.graph_laws.proofs.ReadPlaces.{same_self}
 use Rattle.plan_laws.specs.declared.operations.Key.{Key}
 use Rattle.plan_laws.specs.declared.operations.Key.TheVariants.{Mapper, Whole}
-use Rattle.plan_laws.specs.Operations.{HasKey, IsGroupedOk, IsHonest, IsKeyOk, IsPdo, IsTaken, TakesInputs, has_key, inputs_at, inputs_of}
+use Rattle.plan_laws.specs.Operations.{HasKey, IsFlat, IsGroupedOk, IsHonest, IsKeyOk, IsPdo, IsTaken, TakesInputs, has_key, inputs_at, inputs_of}
 use Rattle.plan_laws.proofs.Carrying.{outs_has}
 use Rattle.plan_roles.specs.Levels.{level}
 use Rattle.plan_roles.specs.Mappers.{is_mapper, key_of, outputs_of, passes}
 use Rattle.plan_rules.specs.Fitting.{same_key}
 use Rattle.form_laws.specs.Classes.{IsGbk, IsGbkAt, keys_at, keys_of}
-use Rattle.form_laws.specs.Operations.{class_keys, class_operation, first_uses, grouped, key_passes, passes_at, trivial}
+use Rattle.form_laws.specs.Operations.{class_keys, class_operation, first_uses, grouped, key_passes, barrier_does, passes_at, trivial}
 use Rattle.form_laws.proofs.Basics.{all_kept}
 use Rattle.form_laws.proofs.Classing.{key_same}
 use Rattle.form_laws.proofs.Reading.{mapper_pdo, reducer_ok}
@@ -45,6 +48,7 @@ inputs_from es (Some (Source r)) = []
 inputs_from es (Some (Flatten ins)) = []
 inputs_from es (Some (Pdo c f)) = []
 inputs_from es (Some (Gbk c o l k)) = inputs_of es c
+inputs_from es (Some (Barrier ins o l a)) = []
 
 pub keys_map : (b : Blocked) (n : ℕ) (o : Option Node) → keys_at b n o
     ≡ map (key_of b (level b.graph.nodes n)) (inputs_from b.graph.nodes o)
@@ -53,6 +57,7 @@ keys_map b n (Some (Source r)) = refl
 keys_map b n (Some (Flatten ins)) = refl
 keys_map b n (Some (Pdo c f)) = refl
 keys_map b n (Some (Gbk c o l k)) = refl
+keys_map b n (Some (Barrier ins o l a)) = refl
 
 -- the keys of the node n, one for each input
 pub keys_are : (b : Blocked) (n : ℕ) → keys_of b n
@@ -169,6 +174,7 @@ inputs_there es c (Some (Flatten ins)) a h t =
     all_found (λ e. Each (IsThere es) (reads e.node)) es c.node (Flatten ins) h a
 inputs_there es c (Some (Pdo d f)) a h t = (t, tt)
 inputs_there es c (Some (Gbk d o l k)) a h t = (t, tt)
+inputs_there es c (Some (Barrier ins i l d)) a h t = (t, tt)
 
 takes_by : (es : List Entry) (keys : List Key) (n : ℕ) (o : Option Node)
     → Each (λ e. Each (IsThere es) (reads e.node)) es → node_at es n ≡ o → IsGbkAt o
@@ -182,6 +188,7 @@ takes_by es keys n (Some (Gbk c o l k)) a h g i =
     (all_found (λ e. Each (IsThere es) (reads e.node)) es n (Gbk c o l k) h a).0 in
     Each-both (HasKey keys) (IsThere es) (IsTaken es keys) (λ c x y. (x, y)) (inputs_of es c) i
     (inputs_there es c (node_at es c.node) a refl t)
+takes_by es keys n (Some (Barrier ins x y d)) a h g i = absurd g
 
 -- ---- what passes through
 outs_at_there : (es : List Entry) (n : ℕ) (d : Place) (f : Forest) (js : List ℕ)
@@ -191,7 +198,7 @@ outs_at_there es n d f [] h a = tt
 outs_at_there es n d f (j ∷ js) h a =
     ((refl, ap (λ (o : Option Node). gives_at o j) h ∙ a.0), outs_at_there es n d f js h a.1)
 
-outs_there : (es : List Entry) (n : ℕ) (d : Place) (f : Forest)
+pub outs_there : (es : List Entry) (n : ℕ) (d : Place) (f : Forest)
     → node_at es n ≡ Some (Pdo d f) → Each (λ c. (c.node ≡ n) × IsThere es c) (outputs_of n f)
 outs_there es n d f h = outs_at_there es n d f (outs_of f) h (outs_has f)
 
@@ -201,6 +208,7 @@ passes_there b n None h = tt
 passes_there b n (Some (Source r)) h = tt
 passes_there b n (Some (Flatten ins)) h = tt
 passes_there b n (Some (Gbk d o l k)) h = tt
+passes_there b n (Some (Barrier ins o l a)) h = tt
 passes_there b n (Some (Pdo d f)) h =
     all_kept (λ c. (c.node ≡ n) × IsThere b.graph.nodes c) (passes b) (outputs_of n f)
     (outs_there b.graph.nodes n d f h)
@@ -256,3 +264,18 @@ trivial_honest es n d f h = (
   Each-weaker (λ c. (c.node ≡ n) × IsThere es c) (IsTaken es (Mapper n ∷ []))
       (λ c i. (inl (eq-eqb n c.node (sym i.0)), i.1)) (outputs_of n f) (outs_there es n d f h),
 )
+
+-- and so does what takes collections whole
+pub barrier_honest : (es : List Entry) (n : ℕ) (ins : List Place) (o : ℕ) (l : Bool) (a : Act)
+    → node_at es n ≡ Some (Barrier ins o l a) → has_objects es (Barrier ins o l a) ≡ true
+    → IsHonest es (barrier_does n a)
+barrier_honest es n [] o l (SideInput f) h t = absurd (false≢true t)
+barrier_honest es n (c ∷ []) o l (SideInput f) h t = absurd (false≢true t)
+barrier_honest es n (c ∷ (d ∷ [])) o l (SideInput f) h t = (
+  (subst IsPdo (sym h) tt, tt),
+  tt,
+  ((inl (eq-eqb n n refl), ap (λ (x : Option Node). gives_at x 0) h), tt),
+)
+barrier_honest es n (c ∷ (d ∷ (e ∷ ds))) o l (SideInput f) h t = absurd (false≢true t)
+barrier_honest es n ins o l (Operate f) h t = subst IsFlat (sym h) tt
+barrier_honest es n ins o l (Singleton k) h t = subst IsFlat (sym h) tt

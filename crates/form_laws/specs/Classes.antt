@@ -3,7 +3,7 @@ use Rattle.std.specs.Prelude.{◌≡◌, ◌↔◌, ◌⊎◌, ℕ, ◌<◌, Boo
 use Rattle.std.specs.List.{AllByRecursion, flat_map, list_any}
 use Rattle.exec_graph.specs.Meaning.{node_at}
 use Rattle.exec_graph.specs.declared.graph.Node.{Node}
-use Rattle.exec_graph.specs.declared.graph.Node.TheVariants.{Source, Flatten, Pdo, Gbk}
+use Rattle.exec_graph.specs.declared.graph.Node.TheVariants.{Source, Flatten, Pdo, Gbk, Barrier}
 use Rattle.exec_graph.specs.declared.graph.Blocked.{Blocked}
 use Rattle.plan_laws.specs.declared.operations.Key.{Key}
 use Rattle.plan_laws.specs.Operations.{times}
@@ -22,6 +22,7 @@ keys_at b n (Some (Source r)) = []
 keys_at b n (Some (Flatten ins)) = []
 keys_at b n (Some (Pdo c f)) = []
 keys_at b n (Some (Gbk c o l k)) = keys_in b n c
+keys_at b n (Some (Barrier ins o l a)) = []
 
 -- the keys of what the Gbk n takes, in order
 abbrev pub keys_of : Blocked → ℕ → List Key
@@ -52,6 +53,7 @@ IsGbkAt (Some (Source r)) = ⊥
 IsGbkAt (Some (Flatten ins)) = ⊥
 IsGbkAt (Some (Pdo c f)) = ⊥
 IsGbkAt (Some (Gbk c o l k)) = Unit {0}
+IsGbkAt (Some (Barrier ins o l a)) = ⊥
 
 -- the node n is a Gbk
 abbrev pub IsGbk : Blocked → ℕ → Type 0

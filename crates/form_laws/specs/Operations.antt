@@ -4,10 +4,12 @@ use Rattle.std.specs.Prelude.{ℕ, ◌*◌, cond, not, ◌||◌, List, [], ◌�
 use Rattle.std.proofs.Common.{suc}
 use Rattle.std.specs.List.{flat_map}
 use Rattle.exec_graph.specs.Forests.{Forest}
-use Rattle.exec_graph.specs.Meaning.{node_at}
+use Rattle.exec_graph.specs.Meaning.{node_at, place}
+use Rattle.exec_graph.specs.declared.graph.Act.{Act}
+use Rattle.exec_graph.specs.declared.graph.Act.TheVariants.{SideInput, Operate, Singleton}
 use Rattle.exec_graph.specs.declared.graph.Place.{Place}
 use Rattle.exec_graph.specs.declared.graph.Node.{Node}
-use Rattle.exec_graph.specs.declared.graph.Node.TheVariants.{Source, Flatten, Pdo, Gbk}
+use Rattle.exec_graph.specs.declared.graph.Node.TheVariants.{Source, Flatten, Pdo, Gbk, Barrier}
 use Rattle.exec_graph.specs.declared.graph.Entry.{Entry}
 use Rattle.exec_graph.specs.declared.graph.Blocked.{Blocked}
 use Rattle.plan_laws.specs.declared.operations.Key.{Key}
@@ -43,6 +45,7 @@ passes_at b n (Some (Source r)) = []
 passes_at b n (Some (Flatten ins)) = []
 passes_at b n (Some (Pdo c f)) = passes_of b n f
 passes_at b n (Some (Gbk c o l k)) = []
+passes_at b n (Some (Barrier ins o l a)) = []
 
 -- the outputs of a mapper that pass through
 abbrev pub key_passes : Blocked → Key → List Place
@@ -82,12 +85,30 @@ abbrev pub alone : Blocked → ℕ → Operation → Ranked
 alone b n does =
     record { rank = suc (2 * level b.graph.nodes n); number = n; does = does }
 
+-- ---- steps beside objects, and what gives an object
+
+-- a step beside an object is a trivial MSCR; what gives an object has rank 2L
+abbrev pub barrier_does : ℕ → Act → Operation
+barrier_does n (SideInput f) = Class (Mapper n ∷ []) [] (place n 0 ∷ [])
+barrier_does n (Operate f) = Flat n
+barrier_does n (Singleton k) = Flat n
+
+abbrev pub barrier_rank : ℕ → Act → ℕ
+barrier_rank k (SideInput f) = suc (2 * k)
+barrier_rank k (Operate f) = 2 * k
+barrier_rank k (Singleton c) = 2 * k
+
+abbrev pub barrier_ranked : Blocked → ℕ → Act → Ranked
+barrier_ranked b n a =
+    record { rank = barrier_rank (level b.graph.nodes n) a; number = n; does = barrier_does n a }
+
 abbrev pub alone_of : Blocked → ℕ → Node → List Ranked
 alone_of b n (Source r) = []
 alone_of b n (Flatten ins) = cond (is_stage b n) (alone b n (Flat n) ∷ []) []
 alone_of b n (Pdo c f) =
     cond (is_mapper b n || is_reducer b n) [] (alone b n (trivial n f) ∷ [])
 alone_of b n (Gbk c o l k) = []
+alone_of b n (Barrier ins o l a) = barrier_ranked b n a ∷ []
 
 abbrev pub all_alone : Blocked → List Entry → List Ranked
 all_alone b es = flat_map (λ e. alone_of b e.number e.node) es

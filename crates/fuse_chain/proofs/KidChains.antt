@@ -8,19 +8,21 @@ use Rattle.std.specs.List.{AllByRecursion as Each}
 use Rattle.exec_graph.specs.Forests.{Forest}
 use Rattle.exec_graph.specs.declared.graph.Place.{Place}
 use Rattle.exec_graph.specs.declared.graph.Node.{Node}
-use Rattle.exec_graph.specs.declared.graph.Node.TheVariants.{Source, Flatten, Pdo, Gbk}
+use Rattle.exec_graph.specs.declared.graph.Node.TheVariants.{Source, Flatten, Pdo, Gbk, Barrier}
 use Rattle.exec_graph.specs.declared.graph.Entry.{Entry}
 use Rattle.exec_graph.specs.declared.graph.Graph.{Graph}
 use Rattle.exec_graph.specs.declared.graph.Blocked.{Blocked}
 use Rattle.exec_graph.specs.Meaning.{place, node_at, reads, IsThere}
 use Rattle.exec_graph.specs.Readers.{among, any_node, calls_on, readers, same_place, those}
-use Rattle.exec_graph.specs.Wellformed.{Ascends}
 use Rattle.exec_graph.proofs.Entries.{all_found}
-use Rattle.pardo_fuse.specs.Readers.{CanFuse, Cut, cut_of, is_pdo, is_unmarked}
-use Rattle.pardo_fuse.specs.Fusing.{fused, fused_by, is_first, joined_nodes}
+use Rattle.pardo_fuse.specs.Readers.{Cut, cut_of, is_pdo, is_unmarked}
+use Rattle.pardo_fuse.specs.Fusing.{fused, is_first}
+use Rattle.pardo_fuse.specs.SingleFusing.{CanFuse, fused_by, joined_nodes}
+use Rattle.pardo_fuse.specs.Parting.{parted}
 use Rattle.pardo_fuse.specs.Wellformed.{IsFusible}
+use Rattle.pardo_fuse.proofs.Rejoining.{joined_is}
+use Rattle.fuse_chain.proofs.Premises.{AscendsLow, CanChain, can_chain, low_last}
 use Rattle.pardo_fuse.proofs.Chaining.{more_inner}
-use Rattle.pardo_fuse.proofs.Fusible.{can_fuse}
 use Rattle.pardo_fuse.proofs.Once.{there_zero}
 use Rattle.pardo_fuse.proofs.Places.{and_left, pdo_is, place_is, same_is, same_self}
 use Rattle.pardo_fuse.proofs.Seeing.{any_at}
@@ -28,10 +30,10 @@ use Rattle.fuse_chain.specs.Cuts.{IsNextKid, siblings_of}
 use Rattle.fuse_chain.specs.Rewrites.{ByKids, InOrder, IsKid, Kid, Leads, Rewrite, is_sibling, other_of}
 use Rattle.fuse_chain.proofs.CutStates.{any_two}
 use Rattle.fuse_chain.proofs.KidSteps.{kid_of_cut}
-use Rattle.fuse_chain.proofs.Splits.{append_end, ascends_last, end, found_of, those_none, those_two}
+use Rattle.fuse_chain.proofs.Splits.{append_end, end, found_of, those_none, those_two}
 use Rattle.fuse_chain.proofs.States.{graph_of}
 
--- the outputs of which some of these Pdos, or none at all, are readers
+-- The outputs of which some of these Pdos, or none at all, are readers.
 abbrev pub later : Blocked → List Entry → Cut
 later b done = record {
   graph = b.graph;
@@ -48,7 +50,6 @@ can_later b done can = record {
   ok = can.ok;
   single = can.single;
   marked = can.marked;
-  few = can.few;
   pdos = λ c h. and_left (is_pdo (node_at b.graph.nodes c.node))
       (cond (among c b.marks) false true)
       (and_left (is_unmarked b c) (any_node (calls_on c) done
@@ -65,7 +66,7 @@ same_cut g marks i j h = ap (λ (k : Place → Bool). let x : Cut = record {
 } in x) (fun_ext h)
 
 -- ---- one node more
--- the node makes no output more inner
+-- The node makes no output more inner.
 pub stays : (b : Blocked) (done : List Entry) (e : Entry)
     → ((c : Place) → calls_on c e.node ≡ true → is_unmarked b c ≡ true
     → any_node (calls_on c) done ≡ true) → later b (end done e) ≡ later b done
@@ -82,7 +83,7 @@ stays b done e h = same_cut b.graph b.marks (later b (end done e)).inner (later 
     by c true false true n i j k = absurd (false≢true (sym j ∙ h c k i))
     by c true false false n i j k = refl
 
--- the node is the first reader of an unmarked output
+-- The node is the first reader of an unmarked output.
 pub grows : (b : Blocked) (done : List Entry) (e : Entry) (d : Place) (f : Forest)
     → e.node ≡ Pdo d f → place d.node 0 ≡ d → is_unmarked b d ≡ true
     → later b (end done e) ≡ more_inner (later b done) d.node
@@ -113,12 +114,12 @@ pub record KidsFrom (b : Blocked) (done rest : List Entry) : Type 0 where
   pub all : Each (λ r. is_sibling r ≡ false) rewrites
   pub order : InOrder rewrites
   pub leads : Leads rewrites (cut_graph (later b done)) (cut_graph (later b b.graph.nodes))
-  pub above : (low : ℕ) → Each (λ d. low < d.number) rest
+  pub above : (low : ℕ) → Each (λ (d : Entry). d.number < b.graph.next → low < d.number) rest
       → Each (λ r. low < other_of r) rewrites
 
-module _ (b : Blocked) (fu : IsFusible b) where
+module _ (b : Blocked) (chain : CanChain b) where
   can : CanFuse (cut_of b)
-  can = can_fuse b fu
+  can = chain.can
 
   abbrev es : List Entry
   es = b.graph.nodes
@@ -144,7 +145,7 @@ module _ (b : Blocked) (fu : IsFusible b) where
       ∙ ap (λ r. is_unmarked b d && cond r false true) read
       ∙ and-false (is_unmarked b d)
 
-  -- an unmarked output that is read
+  -- An unmarked output that is read.
   pdo_of : (d : Place) → is_unmarked b d ≡ true → is_pdo (node_at es d.node) ≡ true
   pdo_of d u = and_left (is_pdo (node_at es d.node)) (cond (among d b.marks) false true) u
 
@@ -195,19 +196,21 @@ module _ (b : Blocked) (fu : IsFusible b) where
       let zero : place d.node 0 ≡ d = zero_of e.number d f
       (found_of es done rest e can.ok.differ split
       ∙ ap (λ (x : Node). Some x) is) u in
-      let order : Ascends (e ∷ rest) = ascends_last done (e ∷ rest)
-      (subst Ascends split fu.ok.ok.founded.ascends) in
+      let order : AscendsLow b.graph.next (e ∷ rest) = low_last b.graph.next done (e ∷ rest)
+      (subst (AscendsLow b.graph.next) split chain.low) in
+      let here : e.number < b.graph.next =
+      chain.first e.number d (first_of done rest e d f split is none) in
       record {
         rewrites = Kid step.0 step.1 e.number ∷ i.rewrites;
         all = (refl, i.all);
-        order = (i.above e.number order.0, i.order);
+        order = (i.above e.number (order.0 here), i.order);
         leads = (
           cut_graph (later b (end done e)),
           subst (λ (k : Cut). IsKid (cut_graph (later b done)) step.0 step.1 e.number
               (cut_graph k)) (sym (grows b done e d f is zero u)) step.2,
           i.leads,
         );
-        above = λ low a. (a.0, i.above low a.1);
+        above = λ low a. (a.0 here, i.above low a.1);
       }
 
   kids_node : (done rest : List Entry) (e : Entry) → es ≡ done ++ (e ∷ rest)
@@ -230,6 +233,8 @@ module _ (b : Blocked) (fu : IsFusible b) where
           done) (same c h) ∙ k) i
       by true false j k = kids_more done rest e d f split is j k i
   kids_node done rest e split (Gbk c o l k) is i = kids_skip done rest e (λ c h. absurd
+      (false≢true (sym (ap (calls_on c) is) ∙ h))) i
+  kids_node done rest e split (Barrier ins o l a) is i = kids_skip done rest e (λ c h. absurd
       (false≢true (sym (ap (calls_on c) is) ∙ h))) i
 
   kids_from : (done rest : List Entry) → es ≡ done ++ rest → KidsFrom b done rest
@@ -263,6 +268,12 @@ module _ (b : Blocked) (fu : IsFusible b) where
             last_cut i.leads;
       }
 
-  pub kids_lead : ByKids (fused_by (siblings_of b)).graph (fused b).graph
+  pub kids_by : ByKids (cut_graph (siblings_of b)) (fused_by (cut_of b)).graph
   unfolding fused_by
-  kids_lead = kids_last
+  kids_by = kids_last
+
+pub kids_lead : (b : Blocked) → IsFusible b
+    → ByKids (fused_by (siblings_of (parted b))).graph (fused b).graph
+unfolding fused_by
+kids_lead b fu = subst (λ (d : Blocked). ByKids (cut_graph (siblings_of (parted b))) d.graph)
+    (sym (joined_is b fu)) (kids_by (parted b) (can_chain b fu))

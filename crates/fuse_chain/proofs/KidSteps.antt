@@ -5,7 +5,7 @@ use Rattle.std.specs.List.{AllByRecursion as Each}
 use Rattle.exec_graph.specs.Forests.{Label, Forest, Bare, Grow, numbered, with_out}
 use Rattle.exec_graph.specs.declared.graph.Place.{Place}
 use Rattle.exec_graph.specs.declared.graph.Node.{Node}
-use Rattle.exec_graph.specs.declared.graph.Node.TheVariants.{Source, Flatten, Pdo, Gbk}
+use Rattle.exec_graph.specs.declared.graph.Node.TheVariants.{Source, Flatten, Pdo, Gbk, Barrier}
 use Rattle.exec_graph.specs.declared.graph.Entry.{Entry}
 use Rattle.exec_graph.specs.Meaning.{place, node_at, AllDiffer, has_out, is_out}
 use Rattle.exec_graph.specs.Readers.{among, any_node, calls_on, collects, is_read, readers, same_place}
@@ -14,8 +14,9 @@ use Rattle.exec_graph.proofs.Solving.{each_found}
 use Rattle.graph_laws.specs.Joining.{beside, grafted}
 use Rattle.graph_laws.specs.Kids.{kept_by, number_in, out_kept}
 use Rattle.graph_laws.proofs.Joining.{lacks_grafted}
-use Rattle.pardo_fuse.specs.Readers.{CanFuse, Cut, is_outer, is_pdo}
-use Rattle.pardo_fuse.specs.Fusing.{forest_of, fused_by, holds_out, is_first, joined_nodes, keeps_output, leads}
+use Rattle.pardo_fuse.specs.Readers.{Cut, is_outer, is_pdo}
+use Rattle.pardo_fuse.specs.Fusing.{holds_out, is_first, leads}
+use Rattle.pardo_fuse.specs.SingleFusing.{CanFuse, forest_of, fused_by, joined_nodes, keeps_output}
 use Rattle.pardo_fuse.proofs.Chaining.{more_inner, next_trees}
 use Rattle.pardo_fuse.proofs.Counting.{times}
 use Rattle.pardo_fuse.proofs.Finding.{IsNew, any_joined, search_place}
@@ -154,6 +155,7 @@ holder b n can h =
           has = ap (has_out n) (sym forest) ∙ h;
         }
     by p (Gbk c o l k) at h = absurd (false≢true h)
+    by p (Barrier ins o l a) at h = absurd (false≢true h)
 
 first_only : (n q : ℕ) (xs : List ℕ) → is_first n xs ≡ true → is_first q xs ≡ true → n ≡ q
 first_only n q [] h i = absurd (false≢true h)
@@ -168,7 +170,7 @@ leads_first b n c h = by (b.inner c) h
     by true i = absurd (false≢true i)
     by false i = i
 
--- the first Pdo of those that read a collection reads it
+-- The first Pdo of those that read a collection reads it.
 first_reads : (b : Cut) (c : Place) (q : ℕ) → CanFuse b
     → is_first q (readers b.graph.nodes c) ≡ true → IsReader b c q
 first_reads b c q can h = by (readers b.graph.nodes c) h (all_readers b c b.graph.nodes
@@ -184,7 +186,6 @@ can_more b n can h = record {
   ok = can.ok;
   single = can.single;
   marked = can.marked;
-  few = can.few;
   pdos = λ c i. or_else (is_pdo (node_at b.graph.nodes c.node) ≡ true)
       (same_place c (place n 0)) (b.inner c) i
       (λ s. ap (λ (y : Place). is_pdo (node_at b.graph.nodes y.node)) (same_is c (place n 0) s) ∙ h)

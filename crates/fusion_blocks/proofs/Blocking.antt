@@ -8,7 +8,7 @@ use Rattle.exec_graph.specs.Readers.{among, same_place}
 use Rattle.exec_graph.specs.Wellformed.{IsBlockedOk, IsGraphOk, is_lifted}
 use Rattle.exec_graph.specs.declared.graph.Place.{Place}
 use Rattle.exec_graph.specs.declared.graph.Node.{Node}
-use Rattle.exec_graph.specs.declared.graph.Node.TheVariants.{Source, Flatten, Pdo, Gbk}
+use Rattle.exec_graph.specs.declared.graph.Node.TheVariants.{Source, Flatten, Pdo, Gbk, Barrier}
 use Rattle.exec_graph.specs.declared.graph.Entry.{Entry}
 use Rattle.exec_graph.specs.declared.graph.Graph.{Graph}
 use Rattle.exec_graph.proofs.Bools.{or_else, or_left, or_right}
@@ -50,6 +50,7 @@ fed_by es c n (Flatten ins) = by (is_grouped es (place n 0))
 fed_by es c n (Pdo d f) = and_none (is_grouped es (place n 0))
 fed_by es c n (Gbk d o l k) =
     ap (λ (b : Bool). same_place c d || b) (and_none (is_grouped es (place n 0)))
+fed_by es c n (Barrier ins o l a) = and_none (is_grouped es (place n 0))
 
 among_all : (P : Place → Type 0) (c : Place) (cs : List Place) → among c cs ≡ true
     → AllByRecursion P cs → P c
@@ -76,6 +77,7 @@ fed_there es c n (Flatten ins) h a = by (is_grouped es (place n 0)) h
     by false q = absurd (false≢true q)
 fed_there es c n (Pdo d f) h a = absurd (false≢true h)
 fed_there es c n (Gbk d o l k) h a = among_all (IsThere es) c (d ∷ []) h a
+fed_there es c n (Barrier ins o l i) h a = absurd (false≢true h)
 
 feeding_there : (es rest : List Entry) (c : Place) → list_any (feeds_by es c) rest ≡ true
     → AllByRecursion (λ e. AllByRecursion (IsThere es) (reads e.node)) rest → IsThere es c

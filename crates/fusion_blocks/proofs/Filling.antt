@@ -10,9 +10,9 @@ use Rattle.exec_graph.proofs.Entries.{all_found, map_alike}
 use Rattle.exec_graph.proofs.Solving.{each_found, ranked_at, short_ranked, lower_most, place_of, there_found}
 use Rattle.exec_graph.specs.declared.graph.Place.{Place}
 use Rattle.exec_graph.specs.declared.graph.Node.{Node}
-use Rattle.exec_graph.specs.declared.graph.Node.TheVariants.{Source, Flatten, Pdo, Gbk}
+use Rattle.exec_graph.specs.declared.graph.Node.TheVariants.{Source, Flatten, Pdo, Gbk, Barrier}
 use Rattle.exec_graph.specs.declared.graph.Entry.{Entry}
-use Rattle.fusion_blocks.specs.Estimates.{capped, estimate, scale_of, sum_of, AreEstimates}
+use Rattle.fusion_blocks.specs.Estimates.{act_estimate, capped, estimate, scale_of, sum_of, AreEstimates}
 use Rattle.fusion_blocks.specs.inner.Tables.{AllBelow, Fills, Grows, Has, HasAll, IsBelow, IsPartly, IsRanked, IsRight, or_zero}
 
 -- what a loop comes to next
@@ -46,6 +46,8 @@ estimate_alike scales l m (Flatten ins) a = ap (λ (ns : List ℕ). capped (sum_
 estimate_alike scales l m (Pdo c f) a =
     ap (λ (n : ℕ). capped (n * scale_of scales f / 100)) a.0
 estimate_alike scales l m (Gbk c o e k) a = a.0
+estimate_alike scales l m (Barrier ins o e d) a = ap (act_estimate scales d)
+    (map_alike (λ (c : Place). l c.node) (λ (c : Place). m c.node) ins a)
 
 -- what rests on what was known is as it was
 right_grown : (scales : List ℕ) (es : List Entry) (s t : ℕ → Option ℕ) (n v : ℕ) → Grows s t

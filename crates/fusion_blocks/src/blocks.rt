@@ -1,3 +1,4 @@
+// The marks of a graph: where the chains from groups to what feeds a group are cut.
 ghost use Rattle.std.specs.Prelude.{◌≡◌, OnOk, IfOk};
 ghost use Rattle.exec_graph.specs.Wellformed.{IsBlockedOk, IsGraphOk};
 ghost use Rattle.fusion_blocks.specs.Blocks.{IsBlocked, IsMarkOf};
@@ -88,7 +89,7 @@ fn mark_fed(
             }
             mark_all(nodes, index, estimates, inputs.as_slice(), before, marks)
         }
-        Node::Source(_) | Node::Pdo(_, _) => Ok(()),
+        Node::Source(_) | Node::Pdo(_, _) | Node::Barrier(_, _, _, _) => Ok(()),
     }
 }
 

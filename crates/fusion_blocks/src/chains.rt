@@ -1,3 +1,4 @@
+// The chain to a collection, as far as it may be cut, and its first collection of least estimate.
 ghost use Rattle.std.specs.Prelude.{◌≡◌, OnOk, IfOk};
 ghost use Rattle.node_index.specs.Index.{IsIndex};
 ghost use Rattle.fusion_blocks.specs.inner.Stretches.{AreBefore, IsPdoOf, IsStretch, longer};
@@ -68,7 +69,9 @@ pub(crate) fn stretch_to(
         }
         Some(Node::Gbk(_, _, _, None)) => Ok(Stretch::Least(c)),
         Some(Node::Gbk(_, _, _, Some(_))) => Ok(Stretch::Empty),
-        Some(Node::Source(_)) | Some(Node::Flatten(_)) | None => Ok(Stretch::Open),
+        Some(Node::Source(_)) | Some(Node::Flatten(_)) | Some(Node::Barrier(_, _, _, _)) | None => {
+            Ok(Stretch::Open)
+        }
     }
 }
 

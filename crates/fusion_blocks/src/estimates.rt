@@ -1,10 +1,12 @@
+// How many elements each collection has, by estimate.
 ghost use Rattle.std.specs.Prelude.{◌≡◌, ◌*◌, ◌/◌, ℕ, map, IfOk, OnOk};
 ghost use Rattle.exec_graph.specs.declared.graph.Place.{Place as GhostPlace};
-ghost use Rattle.fusion_blocks.specs.Estimates.{AreEstimates, capped, estimate, scale_of, step_scale, sum_of};
+ghost use Rattle.fusion_blocks.specs.Estimates.{act_estimate, AreEstimates, capped, estimate, scale_of, step_scale, sum_of};
+ghost use Rattle.exec_graph.specs.declared.graph.Act.TheVariants.{SideInput};
 ghost use Rattle.node_index.specs.Index.{IsIndex};
 ghost use Rattle.fusion_blocks.specs.inner.Tables.{AllBelow, Fills, Has, HasAll, IsBelow, IsPartly, IsRanked, known, table};
 
-use exec_graph::{Does, Entry, Node, Place, Roots};
+use exec_graph::{Act, Does, Entry, Node, Place, Roots};
 use node_index::{find_node, reads_of};
 use std::alloc::{AllocError, Global};
 use std::collections::HashMap;
@@ -73,6 +75,36 @@ fn sum_of(estimates: &HashMap<u32, u64>, inputs: &[Place]) -> u64
     sum
 }
 
+/// The estimate of what is made of whole collections.
+fn act_estimate(scales: &[u32], estimates: &HashMap<u32, u64>, act: Act, inputs: &[Place]) -> u64
+    ensures { result ≡ act_estimate scales.now act
+        (map (λ (c : GhostPlace). known estimates.now c.node) inputs.now) }
+{
+    match act {
+        Act::SideInput(function) => side_estimate(scales, estimates, function, inputs),
+        Act::Operate(_) | Act::Singleton(_) => sum_of(estimates, inputs),
+    }
+}
+
+fn side_estimate(
+    scales: &[u32],
+    estimates: &HashMap<u32, u64>,
+    function: u32,
+    inputs: &[Place],
+) -> u64
+    ensures { result ≡ act_estimate scales.now (SideInput function)
+        (map (λ (c : GhostPlace). known estimates.now c.node) inputs.now) }
+{
+    if inputs.is_empty() {
+        return 0;
+    }
+    let first = inputs[0];
+    scaled(
+        known(estimates, first.node),
+        step_scale(scales, Does::Call(function)),
+    )
+}
+
 /// The estimate of a node, by those of the nodes that it reads.
 fn estimate_of(scales: &[u32], estimates: &HashMap<u32, u64>, node: &Node) -> u64
     ensures { result ≡ estimate scales.now (known estimates.now) node.now }
@@ -82,6 +114,9 @@ fn estimate_of(scales: &[u32], estimates: &HashMap<u32, u64>, node: &Node) -> u6
         Node::Flatten(inputs) => sum_of(estimates, inputs.as_slice()),
         Node::Pdo(c, roots) => scaled(known(estimates, c.node), scale_of(scales, roots)),
         Node::Gbk(c, _, _, _) => known(estimates, c.node),
+        Node::Barrier(inputs, _, _, act) => {
+            act_estimate(scales, estimates, *act, inputs.as_slice())
+        }
     }
 }
 

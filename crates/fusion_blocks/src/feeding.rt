@@ -1,3 +1,4 @@
+// Which collections feed a Gbk.
 ghost use Rattle.std.specs.Prelude.{◌≡◌, ◌||◌, ℕ, OnOk, IfOk, nat_eq};
 ghost use Rattle.std.specs.HashSet.{contains};
 ghost use Rattle.exec_graph.specs.Meaning.{place};
@@ -26,7 +27,7 @@ fn add_grouped(node: &Node, grouped: &mut HashSet<u32>) -> Result<(), AllocError
 {
     match node {
         Node::Gbk(c, _, _, _) => add_first(*c, grouped),
-        Node::Source(_) | Node::Flatten(_) | Node::Pdo(_, _) => Ok(()),
+        Node::Source(_) | Node::Flatten(_) | Node::Pdo(_, _) | Node::Barrier(_, _, _, _) => Ok(()),
     }
 }
 

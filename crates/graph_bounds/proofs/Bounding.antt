@@ -1,155 +1,301 @@
 -- The labels of a fused graph are those of the Pdos that are fused, and so are its sources.
-use Rattle.std.proofs.Common.{◌≡◌, ℕ, ◌+◌, ◌<◌, ◌^◌, Bool, true, false, cond, List, [], ◌∷◌, map, length, Option, Some, None, zero, suc, refl, ap, ◌∙◌, inl}
+use Rattle.std.proofs.Common.{◌≡◌, ℕ, ◌+◌, ◌<◌, ◌≤◌, ◌^◌, ◌⊎◌, Bool, true, false, cond, List, [], ◌∷◌, map, length, Option, Some, None, zero, suc, refl, sym, ap, ◌∙◌, inl, inr, arith}
 use Rattle.std.specs.List.{AllByRecursion, flat_map}
-use Rattle.flume_value.proofs.EachLemmas.{Each-append}
-use Rattle.exec_graph.specs.Forests.{Forest, Label, Bare, Grow, after, after_out, numbered}
+use Rattle.flume_value.proofs.EachLemmas.{Each-append, Each-both}
+use Rattle.exec_graph.specs.Forests.{Forest, Bare, Grow, after, after_out, numbered}
 use Rattle.exec_graph.specs.Meaning.{node_at}
 use Rattle.exec_graph.specs.Readers.{readers}
+use Rattle.exec_graph.specs.declared.graph.Input.{Input}
+use Rattle.exec_graph.specs.declared.graph.Act.{Act}
 use Rattle.exec_graph.specs.declared.graph.Place.{Place}
 use Rattle.exec_graph.specs.declared.graph.Node.{Node}
-use Rattle.exec_graph.specs.declared.graph.Node.TheVariants.{Source, Flatten, Pdo, Gbk}
+use Rattle.exec_graph.specs.declared.graph.Node.TheVariants.{Source, Flatten, Pdo, Gbk, Barrier}
 use Rattle.exec_graph.specs.declared.graph.Entry.{Entry}
+use Rattle.exec_graph.specs.declared.graph.Graph.{Graph}
 use Rattle.exec_graph.specs.declared.graph.Blocked.{Blocked}
+use Rattle.exec_graph.specs.ObjectFree.{IsNodeFree, IsObjectFree}
 use Rattle.exec_graph.proofs.Entries.{all_found}
 use Rattle.graph_laws.specs.Joining.{reread}
-use Rattle.graph_laws.specs.Kids.{kept_by}
-use Rattle.pardo_fuse.specs.Fusing.{finished, first_label, forest_of, fused, fused_by, joined_nodes, keeps_output, kids_of, leads, left_of, new_place, planted, step_at, step_of, trees, with_numbers}
+use Rattle.graph_laws.specs.Lifting.{lifted}
+use Rattle.sink_laws.specs.Chain.{IsSunk}
+use Rattle.pardo_fuse.specs.Fusing.{finished, forest_over, fused, hanging, hung, in_turn, joined_by, kept_nodes, kept_of, kids_on, leads, moved_to, step_in, with_numbers}
+use Rattle.pardo_fuse.proofs.Parting.{IsRow, row_of}
 use Rattle.pardo_fuse.specs.Readers.{Cut, cut_of}
-use Rattle.graph_laws.specs.Single.{HasSteps, IsOneOutput}
+use Rattle.graph_laws.specs.Single.{HasSteps, IsOneStep, most_outputs, width}
 use Rattle.pardo_fuse.specs.Wellformed.{IsFusible}
-use Rattle.plan_rules.specs.Fitting.{HasFewOutputs, HasSourcesBelow, IsInBounds, IsNarrow, IsSourceBelow}
+use Rattle.plan_rules.specs.Fitting.{HasFewOutputs, HasSourcesBelow, IsInBounds, IsNarrow, IsSourceBelow, SourcesAgree}
+use Rattle.graph_bounds.specs.Sources.{AreOfKinds, HasKinds, BringSuch, BringsSuch, OfSource}
+use Rattle.graph_bounds.proofs.Sourcing.{such_lifted, such_sunk}
 
--- each label is the first of its step
-abbrev AreFirst : Forest → Type 0
-AreFirst Bare = Unit {0}
-AreFirst (Grow l kids rest) = (l.at ≡ 0) × AreFirst kids × AreFirst rest
-
-first_few : (n : ℕ) (f : Forest) → AreFirst f → HasFewOutputs n f
-first_few n Bare h = tt
-first_few n (Grow l kids rest) h =
-    (inl h.0, first_few 0 kids h.1, first_few (l.at + 1) rest h.2)
-
-kept_first : (keep : ℕ → Bool) (f : Forest) → AreFirst f → AreFirst (kept_by keep f)
-kept_first keep Bare h = tt
-kept_first keep (Grow l kids rest) h =
-    (h.0, kept_first keep kids h.1, kept_first keep rest h.2)
-
-numbered_first : (n : ℕ) (f : Forest) → AreFirst f → AreFirst (numbered n f)
-numbered_first n Bare h = tt
-numbered_first n (Grow l kids rest) h = (
+numbered_few : (m s : ℕ) (f : Forest) → HasFewOutputs m f → HasFewOutputs m (numbered s f)
+numbered_few m s Bare h = tt
+numbered_few m s (Grow l kids rest) h = (
   h.0,
-  numbered_first (after_out n l.out) kids h.1,
-  numbered_first (after (after_out n l.out) kids) rest h.2,
+  numbered_few 0 (after_out s l.out) kids h.1,
+  numbered_few (l.at + 1) (after (after_out s l.out) kids) rest h.2,
 )
 
 -- ---- trees
 
-abbrev AreSingle : List Entry → Type 0
-AreSingle es = AllByRecursion (λ e. HasSteps IsOneOutput e.node) es
+-- a step of a Pdo, with few outputs
+abbrev AreFew : List Entry → Type 0
+AreFew es = AllByRecursion (λ (e : Entry). HasSteps (λ f. IsRow 0 f × (width f ≤ 8)) e.node) es
 
-step_first : (es : List Entry) (n : ℕ) (o : Option Node) → AreSingle es → node_at es n ≡ o
-    → (step_of o).at ≡ 0
-step_first es n None a h = refl
-step_first es n (Some (Source r)) a h = refl
-step_first es n (Some (Flatten ins)) a h = refl
-step_first es n (Some (Gbk c o l k)) a h = refl
-step_first es n (Some (Pdo c f)) a h =
-    let one = all_found (λ e. HasSteps IsOneOutput e.node) es n (Pdo c f) h a in
-    ap (λ (x : Forest). (first_label x).at) one.alone ∙ one.first
+-- outputs from place i on; what stands before them has as many
+hung_few : (b : Cut) (n i m : ℕ) (over : Option ℕ → Forest) (f rest : Forest) → IsRow i f
+    → i + width f ≤ 8 → (i ≡ 0) ⊎ (m ≡ i) → ((o : Option ℕ) → HasFewOutputs 0 (over o))
+    → ((q : ℕ) → HasFewOutputs q rest) → HasFewOutputs m (hung b n over f rest)
+hung_few b n i m over Bare rest r w c h g = g m
+hung_few b n i m over (Grow l kids more) rest r w c h g = (
+  by c,
+  h l.out,
+  hung_few b n (suc i) (l.at + 1) over more rest r.2 (omega arith)
+      (inr (let e = r.0 in omega arith)) h g,
+)
+  where
+    by : (i ≡ 0) ⊎ (m ≡ i) → (l.at ≡ 0) ⊎ ((l.at ≡ m) × (m < 8))
+    by (inl z) = inl (r.0 ∙ z)
+    by (inr z) = inr (r.0 ∙ sym z, omega arith)
 
-planted_first : (l : ℕ → Label) (f : ℕ → Forest) (ns : List ℕ) → ((n : ℕ) → (l n).at ≡ 0)
-    → ((n : ℕ) → AreFirst (f n)) → AreFirst (planted l f ns)
-planted_first l f [] h g = tt
-planted_first l f (n ∷ ns) h g = (h n, g n, planted_first l f ns h g)
+step_few : (es : List Entry) (n : ℕ) (o : Option Node) → AreFew es → node_at es n ≡ o
+    → IsRow 0 (step_in o) × (width (step_in o) ≤ 8)
+step_few es n None a h = (tt, omega arith)
+step_few es n (Some (Source r)) a h = (tt, omega arith)
+step_few es n (Some (Flatten ins)) a h = (tt, omega arith)
+step_few es n (Some (Gbk c o l k)) a h = (tt, omega arith)
+step_few es n (Some (Barrier ins o l d)) a h = (tt, omega arith)
+step_few es n (Some (Pdo c f)) a h =
+    all_found (λ (e : Entry). HasSteps (λ f. IsRow 0 f × (width f ≤ 8)) e.node) es n (Pdo c f) h a
 
-trees_first : (b : Cut) (k : ℕ) (ns : List ℕ) → AreSingle b.graph.nodes
-    → AreFirst (trees b k ns)
-unfolding trees
-trees_first b zero ns a = tt
-trees_first b (suc k) ns a =
-    planted_first (step_at b) (λ n. trees b k (kids_of b n)) ns
-    (λ n. step_first b.graph.nodes n (node_at b.graph.nodes n) a refl)
-    (λ n. trees_first b k (kids_of b n) a)
+turn_few : (b : Cut) (over : ℕ → Option ℕ → Forest) → AreFew b.graph.nodes
+    → ((n : ℕ) (o : Option ℕ) → HasFewOutputs 0 (over n o)) → (ns : List ℕ) (m : ℕ)
+    → HasFewOutputs m
+    (in_turn (λ n rest. hung b n (over n) (step_in (node_at b.graph.nodes n)) rest) ns)
+turn_few b over a h [] m = tt
+turn_few b over a h (n ∷ ns) m =
+    let s = step_few b.graph.nodes n (node_at b.graph.nodes n) a refl in
+    let w = s.1 in
+    hung_few b n 0 m (over n) (step_in (node_at b.graph.nodes n))
+    (in_turn (λ n rest. hung b n (over n) (step_in (node_at b.graph.nodes n)) rest) ns)
+    s.0 (omega arith) (inl refl) (h n) (turn_few b over a h ns)
 
-forest_first : (b : Cut) (c : Place) → AreSingle b.graph.nodes → AreFirst (forest_of b c)
-forest_first b c a =
-    kept_first (keeps_output b) (trees b (length b.graph.nodes) (readers b.graph.nodes c))
-    (trees_first b (length b.graph.nodes) (readers b.graph.nodes c) a)
+trees_few : (b : Cut) (k : ℕ) (ns : List ℕ) (m : ℕ) → AreFew b.graph.nodes
+    → HasFewOutputs m (hanging b k ns)
+unfolding hanging
+trees_few b zero ns m a = tt
+trees_few b (suc k) ns m a =
+    turn_few b (λ n o. hanging b k (kids_on b n o)) a
+    (λ n o. trees_few b k (kids_on b n o) 0 a) ns m
 
 -- ---- nodes that are left
 
-abbrev IsLeft : ℕ → Node → Type 0
-IsLeft n (Source r) = r < n
+abbrev IsLeft : (Input ⊎ Act → Type 0) → Node → Type 0
+IsLeft n (Source r) = n (inl r)
 IsLeft n (Flatten ins) = Unit {0}
-IsLeft n (Pdo c f) = AreFirst f
+IsLeft n (Pdo c f) = HasFewOutputs 0 f
 IsLeft n (Gbk c o l k) = Unit {0}
+IsLeft n (Barrier ins o l a) = n (inr a)
 
-left_good : (b : Cut) (n k : ℕ) (x : Node) → AreSingle b.graph.nodes → IsSourceBelow n x
-    → AllByRecursion (λ e. IsLeft n e.node) (left_of b k x)
+left_good : (b : Cut) (n : Input ⊎ Act → Type 0) (k : ℕ) (x : Node) → AreFew b.graph.nodes
+    → BringsSuch n x
+    → AllByRecursion (λ e. IsLeft n e.node) (kept_of b k x)
 left_good b n k (Source r) a h = (h, tt)
 left_good b n k (Flatten ins) a h = (tt, tt)
 left_good b n k (Gbk c o l m) a h = (tt, tt)
+left_good b n k (Barrier ins i l d) a h = (h, tt)
 left_good b n k (Pdo c f) a h =
     elim (leads b k c) as (λ s. AllByRecursion (λ (e : Entry). IsLeft n e.node) (cond s (record {
       number = k;
-      node = Pdo c (forest_of b c);
-    } ∷ []) [])) [ true ↦ (forest_first b c a, tt) | false ↦ tt ]
+      node = Pdo c (forest_over b c);
+    } ∷ []) [])) [ true ↦ (trees_few b (length b.graph.nodes) (readers b.graph.nodes c) 0 a, tt) | false ↦ tt ]
 
-all_left : (b : Cut) (n : ℕ) (es : List Entry) → AreSingle b.graph.nodes
-    → AllByRecursion (λ e. IsSourceBelow n e.node) es
-    → AllByRecursion (λ e. IsLeft n e.node) (flat_map (λ e. left_of b e.number e.node) es)
+all_left : (b : Cut) (n : Input ⊎ Act → Type 0) (es : List Entry) → AreFew b.graph.nodes
+    → AllByRecursion (λ e. BringsSuch n e.node) es
+    → AllByRecursion (λ e. IsLeft n e.node) (flat_map (λ e. kept_of b e.number e.node) es)
 all_left b n [] a h = tt
 all_left b n (e ∷ es) a h =
-    Each-append (λ e. IsLeft n e.node) (left_of b e.number e.node)
-    (flat_map (λ e. left_of b e.number e.node) es)
+    Each-append (λ e. IsLeft n e.node) (kept_of b e.number e.node)
+    (flat_map (λ e. kept_of b e.number e.node) es)
     (left_good b n e.number e.node a h.0) (all_left b n es a h.1)
 
 -- ---- the fused nodes
 
-node_below : (r : Place → Place) (n : ℕ) (x : Node) → IsLeft n x
-    → IsSourceBelow n (reread r (with_numbers x))
+node_below : (r : Place → Place) (n : Input ⊎ Act → Type 0) (x : Node) → IsLeft n x
+    → BringsSuch n (reread r (with_numbers x))
 node_below r n (Source s) h = h
 node_below r n (Flatten ins) h = tt
 node_below r n (Pdo c f) h = tt
 node_below r n (Gbk c o l k) h = tt
+node_below r n (Barrier ins o l a) h = h
 
-node_narrow : (r : Place → Place) (n : ℕ) (x : Node) → IsLeft n x
+node_narrow : (r : Place → Place) (n : Input ⊎ Act → Type 0) (x : Node) → IsLeft n x
     → IsNarrow (reread r (with_numbers x))
 node_narrow r n (Source s) h = tt
 node_narrow r n (Flatten ins) h = tt
-node_narrow r n (Pdo c f) h = first_few 0 (numbered 0 f) (numbered_first 0 f h)
+node_narrow r n (Pdo c f) h = numbered_few 0 0 f h
 node_narrow r n (Gbk c o l k) h = tt
+node_narrow r n (Barrier ins o l a) h = tt
 
-all_below : (r : Place → Place) (n : ℕ) (hs : List Entry)
+all_below : (r : Place → Place) (n : Input ⊎ Act → Type 0) (hs : List Entry)
     → AllByRecursion (λ e. IsLeft n e.node) hs
-    → AllByRecursion (λ e. IsSourceBelow n e.node) (map (finished r) hs)
+    → AllByRecursion (λ e. BringsSuch n e.node) (map (finished r) hs)
 all_below r n [] a = tt
 all_below r n (h ∷ hs) a = (node_below r n h.node a.0, all_below r n hs a.1)
 
-all_narrow : (r : Place → Place) (n : ℕ) (hs : List Entry)
+all_narrow : (r : Place → Place) (n : Input ⊎ Act → Type 0) (hs : List Entry)
     → AllByRecursion (λ e. IsLeft n e.node) hs
     → AllByRecursion (λ e. IsNarrow e.node) (map (finished r) hs)
 all_narrow r n [] a = tt
 all_narrow r n (h ∷ hs) a = (node_narrow r n h.node a.0, all_narrow r n hs a.1)
 
+few : (b : Blocked) → IsFusible b → AreFew b.graph.nodes
+few b fu = Each-both (λ (e : Entry). HasSteps IsOneStep e.node)
+    (λ (e : Entry). HasSteps (λ f. width f ≤ most_outputs) e.node)
+    (λ (e : Entry). HasSteps (λ f. IsRow 0 f × (width f ≤ 8)) e.node)
+    (λ e s w. by e.node s w) b.graph.nodes fu.unfused fu.narrow
+  where
+    by : (x : Node) → HasSteps IsOneStep x → HasSteps (λ f. width f ≤ most_outputs) x
+        → HasSteps (λ f. IsRow 0 f × (width f ≤ 8)) x
+    by (Source r) s w = tt
+    by (Flatten ins) s w = tt
+    by (Pdo c f) s w = (row_of f s, w)
+    by (Gbk c o l k) s w = tt
+    by (Barrier ins o l a) s w = tt
+
+pub such_fused : (n : Input ⊎ Act → Type 0) (b : Blocked) → IsFusible b → BringSuch n b.graph.nodes
+    → BringSuch n (fused b).graph.nodes
+unfolding joined_by
+such_fused n b can h =
+    let hs : List Entry = kept_nodes (cut_of b) in
+    all_below (moved_to hs) n hs (all_left (cut_of b) n b.graph.nodes (few b can) h)
+
+narrow_fused : (n : Input ⊎ Act → Type 0) (b : Blocked) → IsFusible b → BringSuch n b.graph.nodes
+    → AllByRecursion (λ e. IsNarrow e.node) (fused b).graph.nodes
+unfolding joined_by
+narrow_fused n b can h =
+    let hs : List Entry = kept_nodes (cut_of b) in
+    all_narrow (moved_to hs) n hs (all_left (cut_of b) n b.graph.nodes (few b can) h)
+
+-- ---- the bounds
+such_below : (n : ℕ) (es : List Entry) → AllByRecursion (λ e. IsSourceBelow n e.node) es
+    → BringSuch (OfSource (λ r. r.number < n)) es
+such_below n [] h = tt
+such_below n (e ∷ es) h = (node_such n e.node h.0, such_below n es h.1)
+  where
+    node_such : (n : ℕ) (x : Node) → IsSourceBelow n x → BringsSuch (OfSource (λ r. r.number < n)) x
+    node_such n (Source s) i = i
+    node_such n (Flatten ins) i = tt
+    node_such n (Pdo c f) i = tt
+    node_such n (Gbk c o l k) i = tt
+    node_such n (Barrier ins o l a) i = tt
+
+below_such : (n : ℕ) (es : List Entry) → BringSuch (OfSource (λ r. r.number < n)) es
+    → AllByRecursion (λ e. IsSourceBelow n e.node) es
+below_such n [] h = tt
+below_such n (e ∷ es) h = (such_node n e.node h.0, below_such n es h.1)
+  where
+    such_node : (n : ℕ) (x : Node) → BringsSuch (OfSource (λ r. r.number < n)) x → IsSourceBelow n x
+    such_node n (Source s) i = i
+    such_node n (Flatten ins) i = tt
+    such_node n (Pdo c f) i = tt
+    such_node n (Gbk c o l k) i = tt
+    such_node n (Barrier ins o l a) i = tt
+
+pub sources_sunk : (n : ℕ) (g h : Graph) → IsSunk g h → HasSourcesBelow n g
+    → HasSourcesBelow n h
+sources_sunk n g h k s =
+    below_such n h.nodes (such_sunk (OfSource (λ r. r.number < n)) g h k (such_below n g.nodes s))
+
+pub sources_lifted : (n : ℕ) (g : Graph) → HasSourcesBelow n g → HasSourcesBelow n (lifted g)
+sources_lifted n g h =
+    below_such n (lifted g).nodes
+    (such_lifted (OfSource (λ r. r.number < n)) g (such_below n g.nodes h))
+
 pub sources_fused : (n : ℕ) (b : Blocked) → IsFusible b → HasSourcesBelow n b.graph
     → HasSourcesBelow n (fused b).graph
-unfolding fused_by
 sources_fused n b can h =
-    let hs : List Entry = joined_nodes (cut_of b) in
-    all_below (new_place hs) n hs (all_left (cut_of b) n b.graph.nodes can.single h)
+    below_such n (fused b).graph.nodes
+    (such_fused (OfSource (λ r. r.number < n)) b can (such_below n b.graph.nodes h))
 
-narrow_fused : (n : ℕ) (b : Blocked) → IsFusible b → HasSourcesBelow n b.graph
-    → AllByRecursion (λ e. IsNarrow e.node) (fused b).graph.nodes
-unfolding fused_by
-narrow_fused n b can h =
-    let hs : List Entry = joined_nodes (cut_of b) in
-    all_narrow (new_place hs) n hs (all_left (cut_of b) n b.graph.nodes can.single h)
+-- sources of one number are of one kind
+kinds_agree : (kind : ℕ → Bool) (g : Graph) → HasKinds kind g → SourcesAgree g.nodes
+kinds_agree kind g h n m r s a b e =
+    let P : Input ⊎ Act → Type 0 = OfSource (λ r. r.is_object ≡ kind r.number) in
+    all_found (λ e. BringsSuch P e.node) g.nodes n (Source r) a h
+    ∙ ap kind e
+    ∙ sym (all_found (λ e. BringsSuch P e.node) g.nodes m (Source s) b h)
 
-pub bounds_fused : (n : ℕ) (b : Blocked) → IsFusible b → HasSourcesBelow n b.graph
-    → (fused b).graph.next < 2 ^ 32 → IsInBounds n (fused b).graph
-bounds_fused n b can h few = record {
+pub kinds_fused : (kind : ℕ → Bool) (b : Blocked) → IsFusible b → HasKinds kind b.graph
+    → HasKinds kind (fused b).graph
+kinds_fused kind b can h = such_fused (OfSource (λ r. r.is_object ≡ kind r.number)) b can h
+
+pub kinds_sunk : (kind : ℕ → Bool) (g h : Graph) → IsSunk g h → HasKinds kind g → HasKinds kind h
+kinds_sunk kind g h k s = such_sunk (OfSource (λ r. r.is_object ≡ kind r.number)) g h k s
+
+pub kinds_lifted : (kind : ℕ → Bool) (g : Graph) → HasKinds kind g → HasKinds kind (lifted g)
+kinds_lifted kind g h = such_lifted (OfSource (λ r. r.is_object ≡ kind r.number)) g h
+
+-- ---- graphs without objects
+
+-- no source is an object, and there is no act
+abbrev IsFree : Input ⊎ Act → Type 0
+IsFree (inl r) = r.is_object ≡ false
+IsFree (inr a) = ⊥
+
+free_such : (es : List Entry) → AllByRecursion (λ e. IsNodeFree e.node) es → BringSuch IsFree es
+free_such [] h = tt
+free_such (e ∷ es) h = (node_such e.node h.0, free_such es h.1)
+  where
+    node_such : (x : Node) → IsNodeFree x → BringsSuch IsFree x
+    node_such (Source s) i = i
+    node_such (Flatten ins) i = tt
+    node_such (Pdo c f) i = tt
+    node_such (Gbk c o l k) i = tt
+    node_such (Barrier ins o l a) i = i
+
+such_free : (es : List Entry) → BringSuch IsFree es → AllByRecursion (λ e. IsNodeFree e.node) es
+such_free [] h = tt
+such_free (e ∷ es) h = (such_node e.node h.0, such_free es h.1)
+  where
+    such_node : (x : Node) → BringsSuch IsFree x → IsNodeFree x
+    such_node (Source s) i = i
+    such_node (Flatten ins) i = tt
+    such_node (Pdo c f) i = tt
+    such_node (Gbk c o l k) i = tt
+    such_node (Barrier ins o l a) i = i
+
+pub free_sunk : (g h : Graph) → IsSunk g h → IsObjectFree g → IsObjectFree h
+free_sunk g h k s = such_free h.nodes (such_sunk IsFree g h k (free_such g.nodes s))
+
+pub free_lifted : (g : Graph) → IsObjectFree g → IsObjectFree (lifted g)
+free_lifted g h = such_free (lifted g).nodes (such_lifted IsFree g (free_such g.nodes h))
+
+pub free_fused : (b : Blocked) → IsFusible b → IsObjectFree b.graph → IsObjectFree (fused b).graph
+free_fused b can h =
+    such_free (fused b).graph.nodes (such_fused IsFree b can (free_such b.graph.nodes h))
+
+-- where no source is an object, no number is that of one
+free_kinds : (es : List Entry) → AllByRecursion (λ e. IsNodeFree e.node) es
+    → BringSuch (OfSource (λ r. r.is_object ≡ false)) es
+free_kinds [] h = tt
+free_kinds (e ∷ es) h = (node_kind e.node h.0, free_kinds es h.1)
+  where
+    node_kind : (x : Node) → IsNodeFree x → BringsSuch (OfSource (λ r. r.is_object ≡ false)) x
+    node_kind (Source s) i = i
+    node_kind (Flatten ins) i = tt
+    node_kind (Pdo c f) i = tt
+    node_kind (Gbk c o l k) i = tt
+    node_kind (Barrier ins o l a) i = tt
+
+pub kinds_free : (g : Graph) → IsObjectFree g → AreOfKinds g
+kinds_free g h = ((λ n. false), free_kinds g.nodes h)
+
+pub bounds_fused : (n : ℕ) (kind : ℕ → Bool) (b : Blocked) → IsFusible b
+    → HasSourcesBelow n b.graph → HasKinds kind b.graph → (fused b).graph.next < 2 ^ 32
+    → IsInBounds n (fused b).graph
+bounds_fused n kind b can h k few = record {
   below = sources_fused n b can h;
+  agree = kinds_agree kind (fused b).graph (kinds_fused kind b can k);
   numbers = few;
-  narrow = narrow_fused n b can h;
+  narrow = narrow_fused (OfSource (λ r. r.number < n)) b can (such_below n b.graph.nodes h);
 }

@@ -3,6 +3,7 @@
 use Rattle.std.specs.Prelude.{ℕ, ◌+◌, Bool, true, false, List, [], ◌∷◌, map, Some, None}
 use Rattle.combine_table.specs.declared.comb.Comb.TheVariants as by
 use Rattle.exec_graph.specs.declared.graph.Entry.{Entry}
+use Rattle.exec_graph.specs.declared.graph.Input.{Input}
 use Rattle.exec_graph.specs.declared.graph.Node.{Node}
 use Rattle.exec_graph.specs.declared.graph.Node.TheVariants.{Source, Flatten, Pdo, Gbk}
 use Rattle.exec_graph.specs.declared.graph.Place.{Place}
@@ -17,6 +18,10 @@ use Rattle.script_program.specs.declared.made.Made.TheVariants as made
 
 abbrev pub entry : ℕ → Node → Entry
 entry number node = record { number = number; node = node }
+
+-- the input of that number, whose rows are read: it is no object
+abbrev pub read_input : ℕ → Input
+read_input number = record { number = number; is_object = false }
 
 -- one step, whose one output is number 0
 abbrev pub one_step : ℕ → Bool → Does → Forest
@@ -85,7 +90,8 @@ inputs_of _ = 0
 -- the nodes of the collection `origin` from number n on, where these places give the collections of
 -- the script, and `source` is the number of the next input
 abbrev pub made_nodes : (ℕ → Place) → ℕ → ℕ → ℕ → Made → List Entry
-made_nodes gives origin source n (made.Input file columns) = entry n (Source source) ∷ []
+made_nodes gives origin source n (made.Input file columns) =
+    entry n (Source (read_input source)) ∷ []
 made_nodes gives origin source n (made.Do input function output) =
     entry n (last_step origin (does.Call function) (gives input)) ∷ []
 made_nodes gives origin source n (made.Group input) =

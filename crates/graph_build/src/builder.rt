@@ -1,10 +1,11 @@
+// The graph of a program, built collection by collection in the order of the script.
 ghost use Rattle.std.specs.Prelude.{◌≡◌, ◌<◌, ◌^◌, [], ◌∷◌, ◌++◌, Some, length, map, IfOk, OnOk};
 ghost use Rattle.exec_graph.specs.declared.graph.Node.TheVariants.{Flatten};
 ghost use Rattle.graph_build.specs.Graphs as spec;
 ghost use Rattle.graph_build.specs.Nodes.{entry, last_step as last_step_of, made_nodes};
 ghost use Rattle.graph_build.specs.Wanted.{wanted, wanted_at as wanted_in};
 
-use crate::nodes::{last_step, push_node};
+use crate::nodes::{last_step, push_node, read_input};
 use crate::numbers::{ahead_of, before_last, giving, inputs_of, number_of, place_in};
 use crate::operations::{push_count, push_join, push_top};
 use crate::wanted::wanted_at;
@@ -132,7 +133,7 @@ fn push_operation(
         node,
     } = start;
     match made {
-        Made::Input { .. } => push_node(nodes, node, Node::Source(source)),
+        Made::Input { .. } => push_node(nodes, node, read_input(source)),
         Made::Do {
             source,
             function,

@@ -1,3 +1,4 @@
+// The collection that each node is built for.
 ghost use Rattle.std.specs.Prelude.{◌≡◌, ◌+◌, ◌<◌, ◌++◌, length, replicate, IfOk, OnOk};
 ghost use Rattle.graph_build.specs.Origins as spec;
 ghost use Rattle.graph_build.specs.Wanted.{wanted_at as wanted_in};

@@ -1,10 +1,11 @@
+// Single nodes: inputs, steps of one output, and groups.
 ghost use Rattle.std.specs.Prelude.{◌≡◌, [], ◌∷◌, ◌++◌, Some, IfOk, OnOk};
-ghost use Rattle.exec_graph.specs.declared.graph.Node.TheVariants.{Pdo};
+ghost use Rattle.exec_graph.specs.declared.graph.Node.TheVariants.{Pdo, Source};
 ghost use Rattle.exec_graph.specs.Forests.{Bare, grown};
 ghost use Rattle.exec_graph.specs.Twigs.{twig};
 ghost use Rattle.graph_build.specs.Nodes as spec;
 
-use exec_graph::{Does, Entry, Node, Output, Place, Roots, Step};
+use exec_graph::{Does, Entry, Input, Node, Output, Place, Roots, Step};
 use flume_value::Pile;
 use std::alloc::{AllocError, Global};
 
@@ -13,6 +14,16 @@ pub(crate) fn push_node(nodes: &mut Pile<Entry>, number: u32, node: Node) -> Res
     ensures { OnOk result (nodes.new ≡ nodes.old ++ spec.entry number node ∷ []) }
 {
     nodes.push(Entry { number, node })
+}
+
+/// The input of that number, whose rows are read.
+pub(crate) fn read_input(number: u32) -> Node
+    ensures { result ≡ Source (spec.read_input number) }
+{
+    Node::Source(Input {
+        number,
+        is_object: false,
+    })
 }
 
 /// The step of a collection that does not give it.

@@ -1,3 +1,4 @@
+// The numbers of nodes, in the order in which they are built.
 ghost use Rattle.std.specs.Prelude.{◌≡◌, ◌+◌, ◌<◌, [], ◌∷◌, ◌++◌, length, IfOk, OnOk};
 ghost use Rattle.graph_build.specs.Graphs as spec;
 ghost use Rattle.graph_build.specs.Nodes.{before_last as before_last_of, first_of as place_of, inputs_of as inputs_in};

@@ -1,3 +1,4 @@
+// Operations that are made of several nodes: counts, joins and greatest members.
 ghost use Rattle.std.specs.Prelude.{◌≡◌, ◌+◌, ◌<◌, ◌^◌, [], ◌∷◌, ◌++◌, IfOk, OnOk};
 ghost use Rattle.exec_graph.specs.declared.graph.Node.TheVariants.{Flatten};
 ghost use Rattle.graph_build.specs.Nodes as spec;

@@ -1,3 +1,4 @@
+// The collections that are needed, of which alone nodes are built.
 ghost use Rattle.std.specs.Prelude.{◌≡◌, ◌<◌, length};
 ghost use Rattle.std.specs.Option.{option_copied};
 ghost use Rattle.graph_build.specs.Wanted as spec;

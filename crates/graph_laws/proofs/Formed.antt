@@ -5,7 +5,7 @@ use Rattle.std.proofs.lemmas.Bool.{eqb-true, eq-eqb, false≢true}
 use Rattle.flume_value.proofs.EachLemmas.{Each-both}
 use Rattle.exec_graph.specs.declared.graph.Place.{Place}
 use Rattle.exec_graph.specs.declared.graph.Node.{Node}
-use Rattle.exec_graph.specs.declared.graph.Node.TheVariants.{Source, Flatten, Pdo, Gbk}
+use Rattle.exec_graph.specs.declared.graph.Node.TheVariants.{Source, Flatten, Pdo, Gbk, Barrier}
 use Rattle.exec_graph.specs.declared.graph.Entry.{Entry}
 use Rattle.exec_graph.specs.declared.graph.Graph.{Graph}
 use Rattle.exec_graph.specs.Forests.{Forest, numbered}
@@ -35,6 +35,7 @@ node_formed g p c f n (Pdo d h) at ok a e = by (eqb n p) refl
         let apart : n ≡ p → ⊥ = λ i. false≢true (sym q ∙ eq-eqb n p i) in a (apart, apart)
 node_formed g p c f n (Gbk d o l None) at ok a e = tt
 node_formed g p c f n (Gbk d o l (Some k)) at ok a e = a
+node_formed g p c f n (Barrier ins o l i) at ok a e = tt
 
 pub formed : (g : Graph) (p : ℕ) (c : Place) (f : Forest) → IsSound g
     → node_at g.nodes p ≡ Some (Pdo c f) → IsForestOk g p f → IsNear p p g → IsGraphOk g
@@ -51,6 +52,7 @@ formed g p c f ok at forest near = record {
       (λ (e : Entry). IsNodeOk g e.number e.node)
       (λ e a at_e. node_formed g p c f e.number e.node at forest a at_e) g.nodes near.nodes
       (each_found g.nodes ok.differ);
+  objects = near.objects;
   few = near.few;
 }
 

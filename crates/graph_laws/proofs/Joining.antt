@@ -9,6 +9,7 @@ use Rattle.flume_collection.specs.Sets.{put_new, gather}
 use Rattle.exec_graph.specs.Meaning.{through, place, IsKept, FitsForest, total, step_own, step_traps, Holds, Meets, own, traps, node_at, reads, is_out, has_out, gives_at, IsThere, IsSound, KeepsMeaning}
 use Rattle.flume_collection.specs.Collection.{Collection, together, by_key}
 use Rattle.exec_graph.specs.World.{World}
+use Rattle.exec_graph.specs.Objects.{act_result}
 use Rattle.flume_collection.specs.declared.trap.Trap.{Trap}
 use Rattle.flume_collection.specs.Traps.{trap_le}
 use Rattle.flume_collection.proofs.Bagging.{Swaps, gather-append, gather-gather}
@@ -19,7 +20,7 @@ use Rattle.exec_graph.proofs.Entries.{entry, all_map, all_found, flat_map_alike}
 use Rattle.graph_laws.proofs.Changes.{all_set, all_without, all_set_others, differ_without, node_at-without_other, sum_set, sum_at}
 use Rattle.exec_graph.specs.declared.graph.Place.{Place}
 use Rattle.exec_graph.specs.declared.graph.Node.{Node}
-use Rattle.exec_graph.specs.declared.graph.Node.TheVariants.{Source, Flatten, Pdo, Gbk}
+use Rattle.exec_graph.specs.declared.graph.Node.TheVariants.{Source, Flatten, Pdo, Gbk, Barrier}
 use Rattle.exec_graph.specs.declared.graph.Entry.{Entry}
 use Rattle.exec_graph.specs.declared.graph.Graph.{Graph}
 use Rattle.exec_graph.proofs.Bools.{or_left, or_right, or_false, not_true}
@@ -209,6 +210,8 @@ holds_reread w k m r n (Flatten ins) a o h = o 0 ∙ h ∙ ap together (sym (map
 holds_reread w k m r n (Pdo c f) a o h = subst (λ (v : Collection). FitsForest w k n v f) (sym a.0)
     (fits_moved w m k n n (m c) f (λ j _. o j) h)
 holds_reread w k m r n (Gbk c i l e) a o h = o 0 ∙ h ∙ ap (by_key) (sym a.0)
+holds_reread w k m r n (Barrier ins i l e) a o h =
+    o 0 ∙ h ∙ ap (act_result w i e) (sym (map_reread k m r ins a))
 
 pub own-reread : (w : World) (k m : Place → Collection) (r : Place → Place) (i : ℕ) (x : Node)
     → AllByRecursion (λ c. k (r c) ≡ m c) (reads x) → own w k i (reread r x) ≡ own w m i x
@@ -217,6 +220,9 @@ own-reread w k m r i (Flatten ins) a = refl
 own-reread w k m r i (Pdo c f) a = ap (λ (v : Collection). total w (step_own w i) v f) a.0
 own-reread w k m r i (Gbk c o l e) a = ap (λ (v : Collection). cond (l && eqb o i) (by_key v).bag
     []) a.0
+own-reread w k m r i (Barrier ins o l e) a =
+    ap (λ (cs : List Collection). cond (l && eqb o i) (act_result w o e cs).bag [])
+    (map_reread k m r ins a)
 
 pub traps-reread : (w : World) (k m : Place → Collection) (r : Place → Place) (x : Node)
     → AllByRecursion (λ c. k (r c) ≡ m c) (reads x) → traps w k (reread r x) ≡ traps w m x
@@ -225,6 +231,8 @@ traps-reread w k m r (Flatten ins) a = ap (λ (cs : List Collection). (together 
     (map_reread k m r ins a)
 traps-reread w k m r (Pdo c f) a = ap (λ (v : Collection). total w (step_traps w) v f) a.0
 traps-reread w k m r (Gbk c o l e) a = ap (λ (v : Collection). v.traps) a.0
+traps-reread w k m r (Barrier ins o l e) a =
+    ap (λ (cs : List Collection). (act_result w o e cs).traps) (map_reread k m r ins a)
 
 -- the parts of the nodes of a joined graph
 sum_joined : {Y B : Type 0} (s : Y → B → B) → Swaps s

@@ -9,7 +9,9 @@ use Rattle.flume_value.specs.Bag.{bag_of}
 use Rattle.flume_collection.specs.declared.trap.Trap.{Trap}
 use Rattle.flume_collection.specs.Traps.{trap_le}
 use Rattle.flume_collection.specs.Sets.{set_of}
-use Rattle.exec_graph.specs.Wellformed.{comb_at, IsLiftedOk, IsNodeOk, size, total_size, Ascends, IsGraphOk}
+use Rattle.exec_graph.specs.Objects.{takes_such}
+use Rattle.exec_graph.proofs.ObjectLemmas.{map_same}
+use Rattle.exec_graph.specs.Wellformed.{HaveObjects, has_objects, is_object, is_object_at, comb_at, IsLiftedOk, IsNodeOk, size, total_size, Ascends, IsGraphOk, most_nodes}
 use Rattle.exec_graph.specs.Meaning.{place, Holds, own, traps, node_at, reads, gives, gives_at, IsThere, KeepsMeaning, SameMeaning}
 use Rattle.flume_collection.specs.Collection.{Collection}
 use Rattle.exec_graph.specs.World.{World}
@@ -20,7 +22,7 @@ use Rattle.exec_graph.proofs.Entries.{all_map}
 use Rattle.exec_graph.proofs.Soundness.{SameMeaning-kept}
 use Rattle.exec_graph.specs.declared.graph.Place.{Place}
 use Rattle.exec_graph.specs.declared.graph.Node.{Node}
-use Rattle.exec_graph.specs.declared.graph.Node.TheVariants.{Source, Flatten, Pdo, Gbk}
+use Rattle.exec_graph.specs.declared.graph.Node.TheVariants.{Source, Flatten, Pdo, Gbk, Barrier}
 use Rattle.exec_graph.specs.declared.graph.Entry.{Entry}
 use Rattle.exec_graph.specs.declared.graph.Graph.{Graph}
 use Rattle.flume_value.proofs.EachLemmas.{Each-weaker}
@@ -31,6 +33,7 @@ reads-marked h (Source r) = refl
 reads-marked h (Flatten ins) = refl
 reads-marked h (Pdo c f) = refl
 reads-marked h (Gbk c o l k) = refl
+reads-marked h (Barrier ins o l a) = refl
 
 own-marked : (w : World) (m : Place → Collection) (i : ℕ) (h : Option Comb → Option Comb) (x : Node)
     → own w m i (marked h x) ≡ own w m i x
@@ -38,6 +41,7 @@ own-marked w m i h (Source r) = refl
 own-marked w m i h (Flatten ins) = refl
 own-marked w m i h (Pdo c f) = refl
 own-marked w m i h (Gbk c o l k) = refl
+own-marked w m i h (Barrier ins o l a) = refl
 
 traps-marked : (w : World) (m : Place → Collection) (h : Option Comb → Option Comb) (x : Node)
     → traps w m (marked h x) ≡ traps w m x
@@ -45,6 +49,7 @@ traps-marked w m h (Source r) = refl
 traps-marked w m h (Flatten ins) = refl
 traps-marked w m h (Pdo c f) = refl
 traps-marked w m h (Gbk c o l k) = refl
+traps-marked w m h (Barrier ins o l a) = refl
 
 holds-marked : (w : World) (m : Place → Collection) (n : ℕ) (h : Option Comb → Option Comb)
     (x : Node) → Holds w m n x → Holds w m n (marked h x)
@@ -52,18 +57,21 @@ holds-marked w m n h (Source r) a = a
 holds-marked w m n h (Flatten ins) a = a
 holds-marked w m n h (Pdo c f) a = a
 holds-marked w m n h (Gbk c o l k) a = a
+holds-marked w m n h (Barrier ins o l i) a = a
 
 gives-marked : (h : Option Comb → Option Comb) (x : Node) (j : ℕ) → gives (marked h x) j ≡ gives x j
 gives-marked h (Source r) j = refl
 gives-marked h (Flatten ins) j = refl
 gives-marked h (Pdo c f) j = refl
 gives-marked h (Gbk c o l k) j = refl
+gives-marked h (Barrier ins o l a) j = refl
 
 size-marked : (h : Option Comb → Option Comb) (x : Node) → size (marked h x) ≡ size x
 size-marked h (Source r) = refl
 size-marked h (Flatten ins) = refl
 size-marked h (Pdo c f) = refl
 size-marked h (Gbk c o l k) = refl
+size-marked h (Barrier ins o l a) = refl
 
 calls-marked : (c : Place) (h : Option Comb → Option Comb) (x : Node)
     → calls_on c (marked h x) ≡ calls_on c x
@@ -71,6 +79,7 @@ calls-marked c h (Source r) = refl
 calls-marked c h (Flatten ins) = refl
 calls-marked c h (Pdo d f) = refl
 calls-marked c h (Gbk d o l k) = refl
+calls-marked c h (Barrier ins o l a) = refl
 
 collects-marked : (c : Place) (h : Option Comb → Option Comb) (x : Node)
     → collects c (marked h x) ≡ collects c x
@@ -78,6 +87,7 @@ collects-marked c h (Source r) = refl
 collects-marked c h (Flatten ins) = refl
 collects-marked c h (Pdo d f) = refl
 collects-marked c h (Gbk d o l k) = refl
+collects-marked c h (Barrier ins o l a) = refl
 
 root-marked : (h : Option Comb → Option Comb) (x : Node)
     → comb_at (Some (marked h x)) ≡ comb_at (Some x)
@@ -85,6 +95,15 @@ root-marked h (Source r) = refl
 root-marked h (Flatten ins) = refl
 root-marked h (Pdo d f) = refl
 root-marked h (Gbk d o l i) = refl
+root-marked h (Barrier ins o l a) = refl
+
+object-marked : (h : Option Comb → Option Comb) (x : Node)
+    → is_object (Some (marked h x)) ≡ is_object (Some x)
+object-marked h (Source r) = refl
+object-marked h (Flatten ins) = refl
+object-marked h (Pdo d f) = refl
+object-marked h (Gbk d o l i) = refl
+object-marked h (Barrier ins o l a) = refl
 
 -- ---- lists of nodes
 abbrev marked_at : (Option Comb → Option Comb) → Option Node → Option Node
@@ -216,6 +235,32 @@ node_ok s g n (Pdo c f) h a = record {
   read = λ j i. is_read-marked s g (place n j) ∙ a.read j i;
 }
 node_ok s g n (Gbk c o l k) h a = mark_ok s g c n o l (s n k) (h k (had g c n o l k a))
+node_ok s g n (Barrier ins o l i) h a = tt
+
+object_at-marked : (h : Option Comb → Option Comb) (o : Option Node)
+    → is_object (marked_at h o) ≡ is_object o
+object_at-marked h None = refl
+object_at-marked h (Some x) = object-marked h x
+
+objects-marked : (s : ℕ → Option Comb → Option Comb) (es : List Entry) (h : Option Comb
+    → Option Comb) (x : Node) → has_objects es x ≡ true
+    → has_objects (map (marked_entry s) es) (marked h x) ≡ true
+objects-marked s es h (Source r) a = a
+objects-marked s es h (Flatten ins) a = a
+objects-marked s es h (Pdo c f) a = a
+objects-marked s es h (Gbk c o l k) a = a
+objects-marked s es h (Barrier ins o l i) a =
+    ap (takes_such i) (map_same (is_object_at (map (marked_entry s) es)) (is_object_at es)
+    (λ c. ap is_object (node_at-marked s es c.node)
+    ∙ object_at-marked (s c.node) (node_at es c.node)) ins)
+    ∙ a
+
+HaveObjects-remarked : (s : ℕ → Option Comb → Option Comb) (g : Graph) → HaveObjects g.nodes
+    → HaveObjects (map (marked_entry s) g.nodes)
+HaveObjects-remarked s g a =
+    all_map (marked_entry s) (λ (e : Entry). has_objects g.nodes e.node ≡ true)
+    (λ e. has_objects (map (marked_entry s) g.nodes) e.node ≡ true)
+    (λ e b. objects-marked s g.nodes (s e.number) e.node b) g.nodes a
 
 pub IsGraphOk-remarked : (s : ℕ → Option Comb → Option Comb) (g : Graph)
     → ((n : ℕ) (k : Option Comb) → Allowed g n k → Allowed g n (s n k)) → IsGraphOk g
@@ -251,7 +296,8 @@ IsGraphOk-remarked s g h ok =
       nodes = all_map (marked_entry s) (λ (e : Entry). IsNodeOk g e.number e.node)
           (λ e. IsNodeOk (remarked s g) e.number e.node)
           (λ e a. node_ok s g e.number e.node (h e.number) a) g.nodes ok.nodes;
-      few = subst (λ (n : ℕ). n ≤ 4096) (sym (size-all s g.nodes)) ok.few;
+      objects = HaveObjects-remarked s g ok.objects;
+      few = subst (λ (n : ℕ). n ≤ most_nodes) (sym (size-all s g.nodes)) ok.few;
     }
 
 -- ---- types
@@ -261,6 +307,7 @@ typed_marked s types n h (Source r) a = a
 typed_marked s types n h (Flatten ins) a = a
 typed_marked s types n h (Pdo c f) a = a
 typed_marked s types n h (Gbk c o l k) a = a
+typed_marked s types n h (Barrier ins o l i) a = a
 
 pub KeepsTypes-remarked : (marks : ℕ → Option Comb → Option Comb) (g : Graph)
     → KeepsTypes g (remarked marks g)

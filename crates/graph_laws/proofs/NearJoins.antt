@@ -12,7 +12,7 @@ use Rattle.exec_graph.specs.declared.graph.Graph.{Graph}
 use Rattle.exec_graph.specs.Forests.{Forest, steps}
 use Rattle.exec_graph.specs.Meaning.{AllDiffer, node_at, place}
 use Rattle.exec_graph.specs.Readers.{among, any_node, calls_on, collects, is_read, readers, same_place, uses}
-use Rattle.exec_graph.specs.Wellformed.{IsLiftedOk, comb_at, root_comb, total_size}
+use Rattle.exec_graph.specs.Wellformed.{IsLiftedOk, comb_at, root_comb, total_size, most_nodes}
 use Rattle.exec_graph.proofs.Bools.{not_true, or_left}
 use Rattle.exec_graph.proofs.Entries.{all_found, all_map, entry}
 use Rattle.exec_graph.proofs.Soundness.{differ_ascends}
@@ -20,6 +20,7 @@ use Rattle.graph_laws.specs.Joining.{CanJoin, joined, moved, reread, reread_entr
 use Rattle.graph_laws.proofs.Changes.{all_set, all_set_others, all_without, differ_without, node_at-without_other}
 use Rattle.graph_laws.proofs.Nearly.{IsFar, IsNear, NearNode, Spares, among_spared, calls_spared, collects_spared, comb_mapped, comb_set, near_reread, uses_spared}
 use Rattle.graph_laws.proofs.Reading.{any_here, any_map, any_set, any_without, ascends_map, ascends_set, ascends_without, size_map, size_set, size_without, those_has, those_map, those_not, those_set, those_without}
+use Rattle.graph_laws.proofs.ObjectNodes.{node_without, objects_joined}
 use Rattle.graph_laws.proofs.Wellness.{node_at-map, node_at-set_same}
 
 far_from : (n : ℕ) (x : Place) → (x.node ≡ n → ⊥) → eqb x.node n ≡ false
@@ -39,19 +40,6 @@ moved_spares p q x far d = by (eqb d.node q) refl
     by false e = refl
 
 -- ---- one node
-node_without : (es : List Entry) (q m : ℕ) → (m ≡ q → ⊥)
-    → node_at (without es q) m ≡ node_at es m
-node_without [] q m far = refl
-node_without (d ∷ es) q m far = by (eqb d.number q) refl (node_without es q m far)
-  where
-    by : (b : Bool) → eqb d.number q ≡ b → node_at (without es q) m ≡ node_at es m
-        → node_at (cond b es (d ∷ without es q)) m
-        ≡ cond (eqb d.number m) (Some d.node) (node_at es m)
-    by true e i = sym (ap (λ b. cond b (Some d.node) (node_at es m))
-        (not_true (eqb d.number m) (λ j. far (sym (eqb-true d.number m j)
-        ∙ eqb-true d.number q e))))
-    by false e i = ap (cond (eqb d.number m) (Some d.node)) i
-
 node_set : (es : List Entry) (p m : ℕ) (x : Node) → (m ≡ p → ⊥)
     → node_at (set_node es p x) m ≡ node_at es m
 node_set [] p m x far = refl
@@ -245,7 +233,7 @@ near_joined g p q c d f h new can count keeps near =
     let other : total_size set + steps f ≡ total_size left + steps new =
     size_set left p z (Pdo c f) at_p in
     let mapped_few : total_size k.nodes ≡ total_size set = size_map r set in
-    let was : total_size g.nodes ≤ 4096 = near.few in
+    let was : total_size g.nodes ≤ most_nodes = near.few in
     record {
       ascends = ascends_map r set (ascends_set left p z (Pdo c f) at_p
           (ascends_without g.nodes q near.ascends));
@@ -254,6 +242,7 @@ near_joined g p q c d f h new can count keeps near =
           (all_set (λ e. e.number < g.next) left p z below_left
           (all_found (λ e. e.number < g.next) left p (Pdo c f) at_p below_left));
       few = omega arith;
+      objects = objects_joined g p q c d f h new can near.objects;
       nodes = all_map (reread_entry r) H (λ e. NearNode p p k e.number e.node) (λ e a. a) set
           (all_set_others H left p z (differ_without g.nodes q differ) others here);
     }

@@ -7,13 +7,13 @@ use Rattle.combine_table.specs.declared.comb.Comb.{Comb}
 use Rattle.flume_value.proofs.EachLemmas.{Each-weaker}
 use Rattle.exec_graph.specs.declared.graph.Place.{Place}
 use Rattle.exec_graph.specs.declared.graph.Node.{Node}
-use Rattle.exec_graph.specs.declared.graph.Node.TheVariants.{Source, Flatten, Pdo, Gbk}
+use Rattle.exec_graph.specs.declared.graph.Node.TheVariants.{Source, Flatten, Pdo, Gbk, Barrier}
 use Rattle.exec_graph.specs.declared.graph.Entry.{Entry}
 use Rattle.exec_graph.specs.declared.graph.Graph.{Graph}
 use Rattle.exec_graph.specs.Forests.{Forest, steps}
 use Rattle.exec_graph.specs.Meaning.{node_at, place}
 use Rattle.exec_graph.specs.Readers.{among, any_node, calls_on, collects, is_read, same_place, uses}
-use Rattle.exec_graph.specs.Wellformed.{Ascends, IsForestOk, IsGraphOk, IsLiftedOk, IsNodeOk, comb_at, root_comb, total_size}
+use Rattle.exec_graph.specs.Wellformed.{HaveObjects, Ascends, IsForestOk, IsGraphOk, IsLiftedOk, IsNodeOk, comb_at, root_comb, total_size, most_nodes}
 use Rattle.exec_graph.proofs.Bools.{not_true, or_else, or_left, or_right}
 use Rattle.flume_value.proofs.BoolLemmas.{both_true}
 use Rattle.exec_graph.proofs.Entries.{all_found, all_map, entry}
@@ -23,6 +23,7 @@ use Rattle.graph_laws.specs.Kids.{moved_out, refitted}
 use Rattle.graph_laws.proofs.Changes.{all_set, all_set_others}
 use Rattle.graph_laws.proofs.Reading.{any_map, any_map_to, any_set, ascends_map, ascends_set, size_map, size_set, those_map, those_set}
 use Rattle.graph_laws.proofs.Wellness.{mapped, node_at-map}
+use Rattle.graph_laws.proofs.ObjectNodes.{kind_set, objects_refitted}
 
 -- neither of two numbers
 abbrev pub IsFar : ℕ → ℕ → ℕ → Type 0
@@ -31,15 +32,17 @@ IsFar p q n = (n ≡ p → ⊥) × (n ≡ q → ⊥)
 -- a node is ok, but for the forest of a Pdo of one of two numbers
 abbrev pub NearNode : ℕ → ℕ → Graph → ℕ → Node → Type 0
 NearNode p q g n (Source r) = Unit {0}
-NearNode p q g n (Flatten ins) = (0 < length ins) × (length ins ≤ 4096)
+NearNode p q g n (Flatten ins) = (0 < length ins) × (length ins ≤ most_nodes)
 NearNode p q g n (Pdo c f) = IsFar p q n → IsForestOk g n f
 NearNode p q g n (Gbk c o l None) = Unit {0}
 NearNode p q g n (Gbk c o l (Some k)) = IsLiftedOk g n k
+NearNode p q g n (Barrier ins o l a) = Unit {0}
 
 pub record IsNear (p q : ℕ) (g : Graph) : Type 0 where
   pub ascends : Ascends g.nodes
   pub below : Each (λ e. e.number < g.next) g.nodes
-  pub few : total_size g.nodes ≤ 4096
+  pub few : total_size g.nodes ≤ most_nodes
+  pub objects : HaveObjects g.nodes
   pub nodes : Each (λ e. NearNode p q g e.number e.node) g.nodes
 
 node_near : (p q : ℕ) (g : Graph) (n : ℕ) (x : Node) → IsNodeOk g n x → NearNode p q g n x
@@ -48,12 +51,14 @@ node_near p q g n (Flatten ins) a = a
 node_near p q g n (Pdo c f) a = λ far. a
 node_near p q g n (Gbk c o l None) a = tt
 node_near p q g n (Gbk c o l (Some k)) a = a
+node_near p q g n (Barrier ins o l i) a = tt
 
 pub near_from : (p q : ℕ) (g : Graph) → IsGraphOk g → IsNear p q g
 near_from p q g ok = record {
   ascends = ok.founded.ascends;
   below = ok.founded.below;
   few = ok.few;
+  objects = ok.objects;
   nodes = Each-weaker (λ (e : Entry). IsNodeOk g e.number e.node)
       (λ e. NearNode p q g e.number e.node) (λ e a. node_near p q g e.number e.node a) g.nodes
       ok.nodes;
@@ -75,6 +80,7 @@ calls_spared r x h (Source s) = refl
 calls_spared r x h (Flatten ins) = refl
 calls_spared r x h (Pdo c f) = h c
 calls_spared r x h (Gbk c o l k) = refl
+calls_spared r x h (Barrier ins o l a) = refl
 
 pub collects_spared : (r : Place → Place) (x : Place) → Spares r x → (y : Node)
     → collects x (reread r y) ≡ collects x y
@@ -82,6 +88,7 @@ collects_spared r x h (Source s) = refl
 collects_spared r x h (Flatten ins) = among_spared r x h ins
 collects_spared r x h (Pdo c f) = refl
 collects_spared r x h (Gbk c o l k) = h c
+collects_spared r x h (Barrier ins o l a) = among_spared r x h ins
 
 pub uses_spared : (r : Place → Place) (x : Place) → Spares r x → (y : Node)
     → uses x (reread r y) ≡ uses x y
@@ -93,35 +100,12 @@ comb_mapped r (Some (Source s)) = refl
 comb_mapped r (Some (Flatten ins)) = refl
 comb_mapped r (Some (Pdo c f)) = refl
 comb_mapped r (Some (Gbk c o l k)) = refl
+comb_mapped r (Some (Barrier ins o l a)) = refl
 
 pub comb_set : (es : List Entry) (n m : ℕ) (x y : Node) → node_at es n ≡ Some y
     → comb_at (Some x) ≡ comb_at (Some y)
     → comb_at (node_at (set_node es n x) m) ≡ comb_at (node_at es m)
-comb_set [] n m x y h e = let bad : ⊥ = cc in absurd bad
-comb_set (d ∷ es) n m x y h e =
-    by (eqb d.number n) refl h (λ i. comb_set es n m x y i e)
-  where
-    pick : (b : Bool) (u v : Option Node) → comb_at (Some x) ≡ comb_at u
-        → comb_at (cond b (Some x) v) ≡ comb_at (cond b u v)
-    pick true u v i = i
-    pick false u v i = refl
-
-    later : (b : Bool) (u v w : Option Node) → comb_at v ≡ comb_at w
-        → comb_at (cond b u v) ≡ comb_at (cond b u w)
-    later true u v w i = refl
-    later false u v w i = i
-
-    by : (b : Bool) → eqb d.number n ≡ b → cond b (Some d.node) (node_at es n) ≡ Some y
-        → (node_at es n ≡ Some y
-        → comb_at (node_at (set_node es n x) m) ≡ comb_at (node_at es m))
-        → comb_at (node_at (cond b (entry n x ∷ es) (d ∷ set_node es n x)) m)
-        ≡ comb_at (cond (eqb d.number m) (Some d.node) (node_at es m))
-    by true q i f =
-        pick (eqb n m) (Some d.node) (node_at es m) (e ∙ ap comb_at (sym i))
-        ∙ ap (λ (k : ℕ). comb_at (cond (eqb k m) (Some d.node) (node_at es m)))
-        (sym (eqb-true d.number n q))
-    by false q i f = later (eqb d.number m) (Some d.node) (node_at (set_node es n x) m)
-        (node_at es m) (f i)
+comb_set es n m x y h e = kind_set comb_at es n m x y h e
 
 -- ---- a Pdo with another forest, whose outputs are numbered otherwise
 away : (n : ℕ) (x : Place) → (x.node ≡ n → ⊥) → eqb x.node n ≡ false
@@ -181,10 +165,11 @@ pub near_reread : (p q p2 q2 : ℕ) (g h : Graph) (r : Place → Place) (n : ℕ
     → NearNode p2 q2 h n (reread r x)
 near_reread p q p2 q2 g h r n (Source s) a b i = tt
 near_reread p q p2 q2 g h r n (Flatten ins) a b i =
-    subst (λ (k : ℕ). (0 < k) × (k ≤ 4096)) (sym (length-map ins r)) i
+    subst (λ (k : ℕ). (0 < k) × (k ≤ most_nodes)) (sym (length-map ins r)) i
 near_reread p q p2 q2 g h r n (Pdo c f) a b i = a f i
 near_reread p q p2 q2 g h r n (Gbk c o l None) a b i = tt
 near_reread p q p2 q2 g h r n (Gbk c o l (Some k)) a b i = b k i
+near_reread p q p2 q2 g h r n (Barrier ins o l d) a b i = tt
 
 abbrev pub IsEither : ℕ → ℕ → ℕ → Type 0
 IsEither p q n = (n ≡ p) ⊎ (n ≡ q)
@@ -214,7 +199,7 @@ near_refitted p q g n c f new r free can near =
     size_set g.nodes n z (Pdo c f) can.at in
     let mapped_few : total_size h.nodes ≡ total_size set = size_map mv set in
     let same : steps new ≡ steps f = can.steps in
-    let was : total_size g.nodes ≤ 4096 = near.few in
+    let was : total_size g.nodes ≤ most_nodes = near.few in
     record {
       ascends = ascends_map mv set (ascends_set g.nodes n z (Pdo c f) can.at near.ascends);
       below = all_map (reread_entry mv) (λ (e : Entry). e.number < g.next)
@@ -222,6 +207,7 @@ near_refitted p q g n c f new r free can near =
           (all_set (λ e. e.number < g.next) g.nodes n z near.below
           (all_found (λ e. e.number < g.next) g.nodes n (Pdo c f) can.at near.below));
       few = omega arith;
+      objects = objects_refitted g n c f new r can.at near.objects;
       nodes = all_map (reread_entry mv) H (λ e. NearNode p q h e.number e.node) (λ e a. a) set
           (all_set_others H g.nodes n z (differ_ascends g.nodes near.ascends) others here);
     }
@@ -256,6 +242,7 @@ uses_to n i r (Pdo c f) h =
     (λ e. or_left (same_place (place n (r i)) (moved_out n r c)) false (same_to n i r c e))
     (λ e. absurd (false≢true e))
 uses_to n i r (Gbk c o l k) h = same_to n i r c h
+uses_to n i r (Barrier ins o l a) h = among_to n i r ins h
 
 pub read_to : (g : Graph) (n : ℕ) (c : Place) (f new : Forest) (r : ℕ → ℕ)
     → node_at g.nodes n ≡ Some (Pdo c f) → (i : ℕ) → is_read g (place n i) ≡ true

@@ -4,7 +4,7 @@ use Rattle.std.proofs.lemmas.Bool.{eq-eqb}
 use Rattle.std.specs.List.{AllByRecursion}
 use Rattle.exec_graph.specs.declared.graph.Place.{Place}
 use Rattle.exec_graph.specs.declared.graph.Node.{Node}
-use Rattle.exec_graph.specs.declared.graph.Node.TheVariants.{Source, Flatten, Pdo, Gbk}
+use Rattle.exec_graph.specs.declared.graph.Node.TheVariants.{Source, Flatten, Pdo, Gbk, Barrier}
 use Rattle.exec_graph.specs.declared.graph.Entry.{Entry}
 use Rattle.exec_graph.specs.declared.graph.Graph.{Graph}
 use Rattle.exec_graph.specs.Meaning.{reads}
@@ -32,6 +32,7 @@ uses_all Q (Source r) h = tt
 uses_all Q (Flatten ins) h = all_among Q ins h
 uses_all Q (Pdo c f) h = (h c (or_false (same_place c c) (same_self c)), tt)
 uses_all Q (Gbk c o l k) h = (h c (same_self c), tt)
+uses_all Q (Barrier ins o l a) h = all_among Q ins h
 
 all_used : (Q : Place → Type 0) (es : List Entry)
     → ((c : Place) → any_node (uses c) es ≡ true → Q c)

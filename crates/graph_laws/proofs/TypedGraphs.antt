@@ -5,10 +5,10 @@ use Rattle.flume_types.specs.declared.types.Ty.{Ty}
 use Rattle.flume_value.proofs.EachLemmas.{Each-both, Each-weaker}
 use Rattle.exec_graph.specs.Forests.{Forest}
 use Rattle.exec_graph.specs.Meaning.{place, node_at, reads, IsThere, IsSound}
-use Rattle.exec_graph.specs.Typing.{Signatures, ForestTyped, IsGrouped, KeepsTypes, NodeTyped}
+use Rattle.exec_graph.specs.Typing.{ActTyped, Signatures, ForestTyped, IsGrouped, KeepsTypes, NodeTyped}
 use Rattle.exec_graph.specs.declared.graph.Place.{Place}
 use Rattle.exec_graph.specs.declared.graph.Node.{Node}
-use Rattle.exec_graph.specs.declared.graph.Node.TheVariants.{Source, Flatten, Pdo, Gbk}
+use Rattle.exec_graph.specs.declared.graph.Node.TheVariants.{Source, Flatten, Pdo, Gbk, Barrier}
 use Rattle.exec_graph.specs.declared.graph.Entry.{Entry}
 use Rattle.exec_graph.specs.declared.graph.Graph.{Graph}
 use Rattle.exec_graph.proofs.Entries.{entry, all_map, all_found}
@@ -25,6 +25,12 @@ flat_typed : (types new : Place → Ty) (r : Place → Place) (t u : Ty) (cs : L
 flat_typed types new r t u [] e a b = tt
 flat_typed types new r t u (c ∷ cs) e a b =
     (a.0 ∙ b.0 ∙ sym e, flat_typed types new r t u cs e a.1 b.1)
+
+pub types_reread : (new types : Place → Ty) (r : Place → Place) (cs : List Place)
+    → AllByRecursion (λ c. new (r c) ≡ types c) cs → map new (map r cs) ≡ map types cs
+types_reread new types r [] a = refl
+types_reread new types r (c ∷ cs) a =
+    let i = types_reread new types r cs a.1 in let j : new (r c) ≡ types c = a.0 in cc
 
 grouped_typed : (t u v w : Ty) → v ≡ t → w ≡ u → IsGrouped t u → IsGrouped v w
 grouped_typed t u v w e f a =
@@ -43,6 +49,10 @@ typed_reread s types new r n (Pdo c f) a o h =
     (typed_moved s types new n n (types c) f (λ j _. o j) h)
 typed_reread s types new r n (Gbk c i l k) a o h =
     grouped_typed (types c) (types (place n 0)) (new (r c)) (new (place n 0)) a.0 (o 0) h
+typed_reread s types new r n (Barrier ins i l d) a o h =
+    subst (ActTyped s d (map new (map r ins))) (sym (o 0))
+    (subst (λ (ts : List Ty). ActTyped s d ts (types (place n 0)))
+    (sym (types_reread new types r ins a)) h)
 
 pub KeepsTypes-refitted : (g : Graph) (n : ℕ) (c : Place) (f new : Forest) (r : ℕ → ℕ)
     → IsSound g → node_at g.nodes n ≡ Some (Pdo c f) → IsRefit n f new r

@@ -11,7 +11,7 @@ use Rattle.exec_graph.proofs.Bools.{or_left, or_right, not_true}
 use Rattle.graph_laws.proofs.Joining.{KeepsMeaning-as_kid, KeepsMeaning-as_sibling}
 use Rattle.exec_graph.specs.declared.graph.Place.{Place}
 use Rattle.exec_graph.specs.declared.graph.Node.{Node}
-use Rattle.exec_graph.specs.declared.graph.Node.TheVariants.{Source, Flatten, Pdo, Gbk}
+use Rattle.exec_graph.specs.declared.graph.Node.TheVariants.{Source, Flatten, Pdo, Gbk, Barrier}
 use Rattle.exec_graph.specs.declared.graph.Entry.{Entry}
 use Rattle.exec_graph.specs.declared.graph.Graph.{Graph}
 use Rattle.exec_graph.proofs.Solving.{gives_found}
@@ -39,6 +39,7 @@ gives-reread r (Source s) j = refl
 gives-reread r (Flatten ins) j = refl
 gives-reread r (Pdo c f) j = refl
 gives-reread r (Gbk c o l k) j = refl
+gives-reread r (Barrier ins o l a) j = refl
 
 gives_at-mapped : (r : Place → Place) (o : Option Node) (j : ℕ)
     → gives_at (mapped r o) j ≡ gives_at o j
@@ -125,12 +126,14 @@ reads_reread P Q r h (Source s) a = tt
 reads_reread P Q r h (Flatten ins) a = all_map r P Q h ins a
 reads_reread P Q r h (Pdo c f) a = (h c a.0, tt)
 reads_reread P Q r h (Gbk c o l k) a = (h c a.0, tt)
+reads_reread P Q r h (Barrier ins o l i) a = all_map r P Q h ins a
 
 pub outs_reread : (r : Place → Place) (x : Node) → HasOuts x → HasOuts (reread r x)
 outs_reread r (Source s) h = h
 outs_reread r (Flatten ins) h = h
 outs_reread r (Pdo c f) h = h
 outs_reread r (Gbk c o l k) h = h
+outs_reread r (Barrier ins o l a) h = h
 
 differs_set : (k : ℕ) (es : List Entry) (p : ℕ) (x y : Node) → node_at es p ≡ Some y
     → AllByRecursion (λ e. e.number ≡ k → ⊥) es

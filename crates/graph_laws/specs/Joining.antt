@@ -3,7 +3,7 @@ use Rattle.std.specs.Prelude.{◌≡◌, ℕ, ◌⊎◌, true, false, cond, ◌=
 use Rattle.exec_graph.specs.Forests.{Forest, Bare, Grow}
 use Rattle.exec_graph.specs.declared.graph.Place.{Place}
 use Rattle.exec_graph.specs.declared.graph.Node.{Node}
-use Rattle.exec_graph.specs.declared.graph.Node.TheVariants.{Source, Flatten, Pdo, Gbk}
+use Rattle.exec_graph.specs.declared.graph.Node.TheVariants.{Source, Flatten, Pdo, Gbk, Barrier}
 use Rattle.exec_graph.specs.declared.graph.Entry.{Entry}
 use Rattle.exec_graph.specs.declared.graph.Graph.{Graph}
 use Rattle.exec_graph.specs.Meaning.{place, is_out, has_out, node_at}
@@ -52,6 +52,7 @@ reread r (Source s) = Source s
 reread r (Flatten ins) = Flatten (map r ins)
 reread r (Pdo c f) = Pdo (r c) f
 reread r (Gbk c o l k) = Gbk (r c) o l k
+reread r (Barrier ins o l a) = Barrier (map r ins) o l a
 
 abbrev pub reread_entry : (Place → Place) → Entry → Entry
 reread_entry r e = record { number = e.number; node = reread r e.node }

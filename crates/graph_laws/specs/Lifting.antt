@@ -5,7 +5,7 @@ use Rattle.exec_graph.specs.Wellformed.{comb_at}
 use Rattle.exec_graph.specs.Meaning.{place, node_at}
 use Rattle.exec_graph.specs.Readers.{among, any_node, collects, readers}
 use Rattle.exec_graph.specs.declared.graph.Node.{Node}
-use Rattle.exec_graph.specs.declared.graph.Node.TheVariants.{Source, Flatten, Pdo, Gbk}
+use Rattle.exec_graph.specs.declared.graph.Node.TheVariants.{Source, Flatten, Pdo, Gbk, Barrier}
 use Rattle.exec_graph.specs.declared.graph.Entry.{Entry}
 use Rattle.exec_graph.specs.declared.graph.Graph.{Graph}
 
@@ -17,6 +17,7 @@ marked h (Source r) = Source r
 marked h (Flatten ins) = Flatten ins
 marked h (Pdo c f) = Pdo c f
 marked h (Gbk c o l k) = Gbk c o l (h k)
+marked h (Barrier ins o l a) = Barrier ins o l a
 
 abbrev pub marked_entry : (ℕ → Option Comb → Option Comb) → Entry → Entry
 marked_entry s e = record { number = e.number; node = marked (s e.number) e.node }

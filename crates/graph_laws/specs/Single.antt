@@ -1,9 +1,11 @@
--- Graphs whose Pdos have one step each, as they are before steps are fused.
-use Rattle.std.specs.Prelude.{◌≡◌}
+-- Graphs whose Pdos have one step each, as they are before steps are fused, and how many outputs
+-- such a step has.
+use Rattle.std.specs.Prelude.{◌≡◌, ◌≤◌, ℕ}
+use Rattle.std.proofs.Common.{suc}
 use Rattle.std.specs.List.{AllByRecursion}
 use Rattle.exec_graph.specs.Forests.{Forest, Label, Bare, Grow, Branch, limb}
 use Rattle.exec_graph.specs.declared.graph.Node.{Node}
-use Rattle.exec_graph.specs.declared.graph.Node.TheVariants.{Source, Flatten, Pdo, Gbk}
+use Rattle.exec_graph.specs.declared.graph.Node.TheVariants.{Source, Flatten, Pdo, Gbk, Barrier}
 use Rattle.exec_graph.specs.declared.graph.Graph.{Graph}
 
 -- P holds of the node's steps, where it has any
@@ -12,6 +14,7 @@ HasSteps P (Source r) = Unit {0}
 HasSteps P (Flatten ins) = Unit {0}
 HasSteps P (Pdo c f) = P f
 HasSteps P (Gbk c o l k) = Unit {0}
+HasSteps P (Barrier ins o l a) = Unit {0}
 
 -- P holds of the steps of each Pdo
 abbrev pub AllSteps : (Forest → Type 0) → Graph → Type 0
@@ -27,6 +30,19 @@ pub record IsOneStep (f : Forest) : Type 0 where
 -- each Pdo has one step
 abbrev pub IsUnfused : Graph → Type 0
 IsUnfused g = AllSteps IsOneStep g
+
+-- how many outputs the roots of a forest have
+abbrev pub width : Forest → ℕ
+width Bare = 0
+width (Grow l kids rest) = suc (width rest)
+
+-- how many outputs a step has at most
+abbrev pub most_outputs : ℕ
+most_outputs = 8
+
+-- the steps of each Pdo have few outputs
+abbrev pub HasNarrowSteps : Graph → Type 0
+HasNarrowSteps g = AllSteps (λ f. width f ≤ most_outputs) g
 
 -- the forest is one step with one output, with none on it
 pub record IsOneOutput (f : Forest) : Type 0 where

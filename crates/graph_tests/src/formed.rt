@@ -1,5 +1,6 @@
+// The graph of a word count with one change, and whether it is well-formed.
 use combine_table::Comb;
-use exec_graph::{Does, Entry, Graph, Node, Output, Place, Roots, Step, graph_ok};
+use exec_graph::{Does, Entry, Graph, Input, Node, Output, Place, Roots, Step, graph_ok};
 use flume_value::Pile;
 use std::alloc::{AllocError, Global};
 use std::test::Fail;
@@ -15,6 +16,12 @@ enum Change {
     NumberedFromOne,
     FlattenOfNothing,
 }
+
+/// The rows that the words are cut from.
+const WORDS: Input = Input {
+    number: 0,
+    is_object: false,
+};
 
 fn first_of(node: u32) -> Place {
     Place { node, out: 0 }
@@ -39,7 +46,7 @@ fn lift(change: Change) -> Option<Comb> {
 fn node(alloc: Global, number: u32, change: Change) -> Result<Node, AllocError> {
     match number {
         0 if change == Change::FlattenOfNothing => Ok(Node::Flatten(Pile::new(alloc))),
-        0 => Ok(Node::Source(0)),
+        0 => Ok(Node::Source(WORDS)),
         1 => pdo(alloc, 0, Does::Call(0), 0),
         2 => pdo(alloc, 1, Does::Pair, 0),
         3 => Ok(Node::Gbk(first_of(2), 1, false, lift(change))),
@@ -89,38 +96,37 @@ fn word_count(alloc: Global, change: Change) -> Result<Graph, AllocError> {
     })
 }
 
+/// A change, and whether the graph is then well-formed: a lifted group is so unless its combiner is
+/// another, or something else reads it.
+static TABLE: [(Change, bool); 8] = [
+    (Change::Nothing, true),
+    (Change::Lifted(Comb::Sum), true),
+    (Change::Lifted(Comb::Max), false),
+    (Change::LiftedAndWrittenOut, false),
+    (Change::LiftedAndReadTwice, false),
+    (Change::LastUnread, false),
+    (Change::NumberedFromOne, false),
+    (Change::FlattenOfNothing, false),
+];
+
+fn is_ok(alloc: Global, change: Change) -> Option<bool> {
+    let graph = word_count(alloc, change).ok()?;
+    graph_ok(alloc, &graph).ok()
+}
+
+/// The place of the first change of which something else is told.
+fn first_other(alloc: Global) -> Option<usize> {
+    for place in 0..TABLE.len() {
+        let (change, wanted) = TABLE[place];
+        if is_ok(alloc, change) != Some(wanted) {
+            return Some(place);
+        }
+    }
+    None
+}
+
 #[test]
 fn tells_well_formed_graphs_from_others(rt: HostRuntime) -> Result<(), Fail> {
-    let alloc = rt.alloc();
-    let table = [
-        ("the word count", Change::Nothing, true),
-        ("a lifted group", Change::Lifted(Comb::Sum), true),
-        (
-            "a group lifted with another combiner",
-            Change::Lifted(Comb::Max),
-            false,
-        ),
-        (
-            "a lifted group that is written out",
-            Change::LiftedAndWrittenOut,
-            false,
-        ),
-        (
-            "a lifted group with a second reader",
-            Change::LiftedAndReadTwice,
-            false,
-        ),
-        ("an output that nothing reads", Change::LastUnread, false),
-        (
-            "an output that is not the next",
-            Change::NumberedFromOne,
-            false,
-        ),
-        ("a flatten of nothing", Change::FlattenOfNothing, false),
-    ];
-    for (name, change, well_formed) in &table {
-        let graph = word_count(alloc, *change)?;
-        assert_eq!(rt; graph_ok(alloc, &graph)?, *well_formed, "{name}");
-    }
+    assert_eq!(rt; first_other(rt.alloc()), None);
     Ok(())
 }

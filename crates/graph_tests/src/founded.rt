@@ -1,5 +1,6 @@
+// Graphs, and whether each is founded.
 use combine_table::Comb;
-use exec_graph::{Does, Entry, Graph, Node, Output, Place, Roots, Step, is_founded};
+use exec_graph::{Does, Entry, Graph, Input, Node, Output, Place, Roots, Step, is_founded};
 use flume_value::Pile;
 use std::alloc::{AllocError, Global};
 use std::test::Fail;
@@ -12,6 +13,12 @@ enum Shape {
     Group(u32),
     Sums(u32),
 }
+
+/// The rows of every source.
+const ROWS: Input = Input {
+    number: 0,
+    is_object: false,
+};
 
 fn first_of(node: u32) -> Place {
     Place { node, out: 0 }
@@ -35,7 +42,7 @@ fn sums(alloc: Global, input: u32) -> Result<Node, AllocError> {
 
 fn node(alloc: Global, shape: Shape) -> Result<Node, AllocError> {
     match shape {
-        Shape::Source => Ok(Node::Source(0)),
+        Shape::Source => Ok(Node::Source(ROWS)),
         Shape::Flatten(one, other) => flatten(alloc, one, other),
         Shape::Group(input) => Ok(Node::Gbk(first_of(input), 1, true, None)),
         Shape::Sums(input) => sums(alloc, input),
@@ -65,78 +72,136 @@ fn graph(
     })
 }
 
+/// Nodes under their numbers, the node that is written out, the next number, and whether the graph
+/// is founded.
+#[derive(Clone, Copy)]
+struct Case {
+    nodes: &'static [(u32, Shape)],
+    told: u32,
+    next: u32,
+    founded: bool,
+}
+
+static TABLE: [Case; 9] = [
+    // a chain
+    Case {
+        nodes: &[
+            (0, Shape::Source),
+            (1, Shape::Group(0)),
+            (2, Shape::Sums(1)),
+        ],
+        told: 2,
+        next: 3,
+        founded: true,
+    },
+    // a flatten that names one input twice
+    Case {
+        nodes: &[
+            (0, Shape::Source),
+            (1, Shape::Flatten(0, 0)),
+            (2, Shape::Group(1)),
+        ],
+        told: 2,
+        next: 3,
+        founded: true,
+    },
+    // a node that reads one of a higher number
+    Case {
+        nodes: &[
+            (0, Shape::Source),
+            (1, Shape::Group(2)),
+            (2, Shape::Flatten(0, 0)),
+        ],
+        told: 1,
+        next: 3,
+        founded: true,
+    },
+    // a cycle
+    Case {
+        nodes: &[
+            (0, Shape::Source),
+            (1, Shape::Flatten(0, 2)),
+            (2, Shape::Flatten(1, 1)),
+        ],
+        told: 2,
+        next: 3,
+        founded: false,
+    },
+    // a node that reads itself
+    Case {
+        nodes: &[
+            (0, Shape::Source),
+            (1, Shape::Group(1)),
+            (2, Shape::Group(0)),
+        ],
+        told: 2,
+        next: 3,
+        founded: false,
+    },
+    // a node that reads what is not there
+    Case {
+        nodes: &[
+            (0, Shape::Source),
+            (1, Shape::Group(0)),
+            (2, Shape::Group(7)),
+        ],
+        told: 1,
+        next: 3,
+        founded: false,
+    },
+    // an output that is not there
+    Case {
+        nodes: &[
+            (0, Shape::Source),
+            (1, Shape::Group(0)),
+            (2, Shape::Sums(1)),
+        ],
+        told: 7,
+        next: 3,
+        founded: false,
+    },
+    // a next number that a node has
+    Case {
+        nodes: &[
+            (0, Shape::Source),
+            (1, Shape::Group(0)),
+            (2, Shape::Sums(1)),
+        ],
+        told: 2,
+        next: 2,
+        founded: false,
+    },
+    // one number twice
+    Case {
+        nodes: &[
+            (0, Shape::Source),
+            (1, Shape::Group(0)),
+            (1, Shape::Group(0)),
+        ],
+        told: 1,
+        next: 3,
+        founded: false,
+    },
+];
+
+fn is_told(alloc: Global, case: Case) -> Option<bool> {
+    let graph = graph(alloc, case.nodes, case.told, case.next).ok()?;
+    is_founded(alloc, &graph).ok()
+}
+
+/// The place of the first graph of which something else is told.
+fn first_other(alloc: Global) -> Option<usize> {
+    for place in 0..TABLE.len() {
+        let case = TABLE[place];
+        if is_told(alloc, case) != Some(case.founded) {
+            return Some(place);
+        }
+    }
+    None
+}
+
 #[test]
 fn tells_founded_graphs_from_others(rt: HostRuntime) -> Result<(), Fail> {
-    use Shape::{Flatten, Group, Source, Sums};
-    let alloc = rt.alloc();
-    let table = [
-        (
-            "a chain",
-            [(0, Source), (1, Group(0)), (2, Sums(1))],
-            2,
-            3,
-            true,
-        ),
-        (
-            "a flatten that names one input twice",
-            [(0, Source), (1, Flatten(0, 0)), (2, Group(1))],
-            2,
-            3,
-            true,
-        ),
-        (
-            "a node that reads one of a higher number",
-            [(0, Source), (1, Group(2)), (2, Flatten(0, 0))],
-            1,
-            3,
-            true,
-        ),
-        (
-            "a cycle",
-            [(0, Source), (1, Flatten(0, 2)), (2, Flatten(1, 1))],
-            2,
-            3,
-            false,
-        ),
-        (
-            "a node that reads itself",
-            [(0, Source), (1, Group(1)), (2, Group(0))],
-            2,
-            3,
-            false,
-        ),
-        (
-            "a node that reads what is not there",
-            [(0, Source), (1, Group(0)), (2, Group(7))],
-            1,
-            3,
-            false,
-        ),
-        (
-            "an output that is not there",
-            [(0, Source), (1, Group(0)), (2, Sums(1))],
-            7,
-            3,
-            false,
-        ),
-        (
-            "a next number that a node has",
-            [(0, Source), (1, Group(0)), (2, Sums(1))],
-            2,
-            2,
-            false,
-        ),
-        (
-            "one number twice",
-            [(0, Source), (1, Group(0)), (1, Group(0))],
-            1,
-            3,
-            false,
-        ),
-    ];
-    for (name, shapes, told, next, founded) in &table {
-        let graph = graph(alloc, shapes, *told, *next)?;
-        assert_eq!(rt; is_founded(alloc, &graph)?, *founded, "{name}");
-    }
+    assert_eq!(rt; first_other(rt.alloc()), None);
     Ok(())
 }

@@ -5,3 +5,5 @@
 mod formed;
 #[cfg(test)]
 mod founded;
+#[cfg(test)]
+mod objects;

@@ -1,9 +1,10 @@
 -- The types of pairs, of their groups, and of what combiners make of them.
-use Rattle.std.proofs.Common.{◌≡◌, ◌-◌, ◌&&◌, Bool, true, false, if◌then◌else◌, ℤ, List, [], ◌∷◌, drop, length, map, Option, Some, is_some, refl, sym, ap, ◌∙◌, subst}
+use Rattle.std.proofs.Common.{◌≡◌, ◌-◌, ◌&&◌, Bool, true, false, if◌then◌else◌, ℤ, pos, negsuc, zero, suc, List, [], ◌∷◌, drop, length, map, Option, Some, is_some, refl, sym, ap, ◌∙◌, subst}
 use Rattle.std.specs.Prelude.{All, Result, Ok, Err, codes, filter, option_map}
 use Rattle.std.specs.List.{AllByRecursion as Each, cons_option, list_all, list_any, flat_map}
 use Rattle.std.specs.Option.{IsSomeAnd}
 use Rattle.std.proofs.lemmas.List.Elements.{All-from_recursion}
+use Rattle.std.proofs.lemmas.List.Filters.{All-dedup}
 use Rattle.flume_value.specs.declared.fault.Kind.{Kind}
 use Rattle.flume_value.specs.declared.fault.Kind.TheVariants.{Overflow}
 use Rattle.flume_value.specs.declared.value.Value.{Value, Value-F, out-Value}
@@ -30,7 +31,7 @@ use Rattle.bag_groups.proofs.PairLemmas.{Parts}
 use Rattle.combine_table.specs.declared.comb.Comb.{Comb}
 use Rattle.combine_table.specs.declared.comb.Comb.TheVariants as by
 use Rattle.combine_table.specs.Contents.{IsBool, IsInt, truth_of}
-use Rattle.combine_table.specs.Combinations.{Suits, combined, least, first_or_bad_index, total, wrapped}
+use Rattle.combine_table.specs.Combinations.{Suits, combined, least, first_or_bad_index, total, wrapped, quotient, mean, distinct}
 use Rattle.keyed_steps.specs.Keyed.{IsGroup}
 use Rattle.keyed_steps.specs.Types.{TakesType, gives_type}
 
@@ -102,6 +103,8 @@ suits by.Max t e v h = tt
 suits by.All t e v h = is_bool_value t v e h
 suits by.Any t e v h = is_bool_value t v e h
 suits (by.Top n) t e v h = tt
+suits by.Mean t e v h = is_int_value t v e h
+suits by.Distinct t e v h = tt
 
 pub group_suits : (comb : Comb) (key value : Ty) → TakesType comb value → (g : Value)
     → Has (table_of key (ty.List value)) g → IsGroup comb g
@@ -133,6 +136,17 @@ combined_to v = Ok v
 is_what : (t : Ty) (v w : Value) → Has t v → combined_to v ≡ Ok w → Has t w
 is_what t v w h e = let same : v ≡ w = cc in subst (Has t) same h
 
+mean_has : (s c : ℤ) (w : Value) → mean s c ≡ Ok w → Has ty.Int w
+mean_has s (pos zero) w e = cc
+mean_has s (pos (suc n)) w e =
+    int_if (fits_int (quotient s (suc n))) (quotient s (suc n)) w e
+mean_has s (negsuc n) w e = cc
+
+Each-once : (t : Ty) (b : List Value) → Each (Has t) b → Each (Has t) (distinct b)
+Each-once t b h =
+    each_from (Has t) (distinct b)
+    (All-dedup value_eq (Has t) b (All-from_recursion (Has t) b h))
+
 combined_has : (comb : Comb) (t : Ty) (b : List Value) (w : Value) → Each (Has t) b
     → combined comb b ≡ Ok w → Has (gives_type comb t) w
 combined_has by.Sum t b w h e = int_if (fits_int (wrapped (total b))) (wrapped (total b)) w e
@@ -147,6 +161,9 @@ combined_has by.Any t b w h e =
 combined_has (by.Top n) t b w h e =
     is_what (ty.List t) (variant.List (drop (length b - n) b)) w
     (has_list t (drop (length b - n) b) (Each-drop (Has t) (length b - n) b h)) e
+combined_has by.Mean t b w h e = mean_has (wrapped (total b)) (wrapped (pos (length b))) w e
+combined_has by.Distinct t b w h e =
+    is_what (ty.List t) (variant.List (distinct b)) w (has_list t (distinct b) (Each-once t b h)) e
 
 made_has : (key t : Ty) (k : Value) (r : Result Value Kind) → Has key k
     → ((w : Value) → r ≡ Ok w → Has t w) → Each (Has (table_of key t)) (combined_pair k r)

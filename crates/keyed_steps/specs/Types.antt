@@ -10,6 +10,7 @@ abbrev pub TakesType : Comb → Ty → Type 0
 TakesType by.Sum t = t ≡ ty.Int
 TakesType by.All t = t ≡ ty.Bool
 TakesType by.Any t = t ≡ ty.Bool
+TakesType by.Mean t = t ≡ ty.Int
 TakesType _ t = Unit {0}
 
 -- the type of what the combiner makes of values of the type
@@ -21,3 +22,5 @@ gives_type by.Max t = t
 gives_type by.All t = ty.Bool
 gives_type by.Any t = ty.Bool
 gives_type (by.Top n) t = ty.List t
+gives_type by.Mean t = ty.Int
+gives_type by.Distinct t = ty.List t

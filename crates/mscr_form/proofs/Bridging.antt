@@ -4,10 +4,12 @@ use Rattle.std.proofs.lemmas.Bool.{eqb-true}
 use Rattle.std.specs.List.{flat_map, AllByRecursion as Each}
 use Rattle.flume_value.proofs.EachLemmas.{Each-append}
 use Rattle.exec_graph.specs.Forests.{Forest}
-use Rattle.exec_graph.specs.Meaning.{node_at}
+use Rattle.exec_graph.specs.Meaning.{node_at, place}
+use Rattle.exec_graph.specs.declared.graph.Act.{Act}
+use Rattle.exec_graph.specs.declared.graph.Act.TheVariants.{SideInput, Operate, Singleton}
 use Rattle.exec_graph.specs.declared.graph.Place.{Place}
 use Rattle.exec_graph.specs.declared.graph.Node.{Node}
-use Rattle.exec_graph.specs.declared.graph.Node.TheVariants.{Source, Flatten, Pdo, Gbk}
+use Rattle.exec_graph.specs.declared.graph.Node.TheVariants.{Source, Flatten, Pdo, Gbk, Barrier}
 use Rattle.exec_graph.specs.declared.graph.Entry.{Entry}
 use Rattle.exec_graph.specs.declared.graph.Blocked.{Blocked}
 use Rattle.plan_laws.specs.declared.operations.Key.{Key}
@@ -19,10 +21,10 @@ use Rattle.plan_roles.specs.declared.roles.Part.TheVariants as part
 use Rattle.plan_roles.specs.declared.roles.Role.{Role}
 use Rattle.plan_roles.specs.Levels.{level}
 use Rattle.plan_roles.specs.Mappers.{is_mapper, is_reducer, is_stage, key_of, outputs_of, reducer_of}
-use Rattle.plan_roles.specs.Roles.{passes_of, role_of, roles}
+use Rattle.plan_roles.specs.Roles.{act_part, passes_of, role_of, roles}
 use Rattle.form_laws.specs.declared.ranked.Ranked.{Ranked}
 use Rattle.form_laws.specs.Classes.{IsGbk, IsGbkAt, keys_at as node_keys, keys_of}
-use Rattle.form_laws.specs.Operations.{all_alone, alone, alone_of, class_keys, class_operation, class_ranked, first_uses, grouped, key_passes, least_of, operations, passes_at, trivial}
+use Rattle.form_laws.specs.Operations.{all_alone, alone, alone_of, class_keys, class_operation, class_ranked, first_uses, grouped, key_passes, least_of, barrier_ranked, operations, passes_at, trivial}
 use Rattle.form_laws.proofs.Standing.{inputs_from, keys_are, uses_ok}
 use Rattle.mscr_form.specs.inner.Ranking.{all_keys, alone_part, alone_role, class_with, grouped_with, key_passes_with, keys_in_role, level_in_role, operations_with, part_passes, passes_in_role, reducer_in_role, role_in}
 use Rattle.mscr_form.proofs.Placing.{part_keys_are}
@@ -68,6 +70,11 @@ flat_passes : (s : Bool) → part_passes (cond s part.Stage part.Inlined) ≡ []
 flat_passes true = refl
 flat_passes false = refl
 
+act_passes : (n : ℕ) (a : Act) → part_passes (act_part n a) ≡ []
+act_passes n (SideInput f) = refl
+act_passes n (Operate f) = refl
+act_passes n (Singleton k) = refl
+
 pdo_passes : (m r : Bool) (ps os : List Place) → m ≡ true
     → part_passes (cond m (part.Mapper ps) (cond r part.Reducer (part.Trivial os))) ≡ ps
 pdo_passes m r ps os h = rw h refl
@@ -83,6 +90,7 @@ passes_by b n None h = refl
 passes_by b n (Some (Source r)) h = refl
 passes_by b n (Some (Flatten ins)) h = flat_passes (is_stage b n)
 passes_by b n (Some (Gbk c o l k)) h = refl
+passes_by b n (Some (Barrier ins o l a)) h = act_passes n a
 passes_by b n (Some (Pdo c f)) h =
     pdo_passes (is_mapper b n) (is_reducer b n) (passes_of b n f) (outputs_of n f) h
 
@@ -107,6 +115,7 @@ reducer_by b n (Some (Source r)) h = absurd h
 reducer_by b n (Some (Flatten ins)) h = absurd h
 reducer_by b n (Some (Pdo c f)) h = absurd h
 reducer_by b n (Some (Gbk c o l k)) h = refl
+reducer_by b n (Some (Barrier ins o l a)) h = absurd h
 
 grouped_same : (b : Blocked) (n : ℕ) → IsGbk b n → grouped_with (roles b) n ≡ grouped b n
 grouped_same b n h =
@@ -227,10 +236,31 @@ pdo_alone b n x f false true ps = refl
 pdo_alone b n x f false false ps =
     alone_is b n (trivial n f) (level b.graph.nodes n * 2 + 1) (twice (level b.graph.nodes n))
 
+barrier_is : (b : Blocked) (n : ℕ) (o : Operation) (x y : ℕ) → x ≡ y
+    → (let r : Ranked = record { rank = x; number = n; does = o } in r) ∷ []
+    ≡ (let r : Ranked = record { rank = y; number = n; does = o } in r) ∷ []
+barrier_is b n o x y e =
+    ap (λ (k : ℕ). (let r : Ranked = record { rank = k; number = n; does = o } in r) ∷ []) e
+
+double : (l : ℕ) → l * 2 ≡ 2 * l
+double l = omega arith
+
+act_alone : (b : Blocked) (n : ℕ) (x : Node) (a : Act)
+    → alone_part (role_of b (record { number = n; node = x })) (act_part n a)
+    ≡ barrier_ranked b n a ∷ []
+act_alone b n x (SideInput f) =
+    let l : ℕ = level b.graph.nodes n in
+    barrier_is b n (Class (Mapper n ∷ []) [] (place n 0 ∷ [])) (l * 2 + 1) (suc (2 * l)) (twice l)
+act_alone b n x (Operate f) =
+    let l : ℕ = level b.graph.nodes n in barrier_is b n (Flat n) (l * 2) (2 * l) (double l)
+act_alone b n x (Singleton k) =
+    let l : ℕ = level b.graph.nodes n in barrier_is b n (Flat n) (l * 2) (2 * l) (double l)
+
 alone_same : (b : Blocked) (n : ℕ) (x : Node)
     → alone_role (role_of b (record { number = n; node = x })) ≡ alone_of b n x
 alone_same b n (Source r) = refl
 alone_same b n (Gbk c o l k) = refl
+alone_same b n (Barrier ins o l a) = act_alone b n (Barrier ins o l a) a
 alone_same b n (Flatten ins) = flat_alone b n (Flatten ins) (is_stage b n)
 alone_same b n (Pdo c f) =
     pdo_alone b n (Pdo c f) f (is_mapper b n) (is_reducer b n) (passes_of b n f)

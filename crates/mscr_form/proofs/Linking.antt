@@ -5,7 +5,7 @@ use Rattle.std.specs.List.{list_any}
 use Rattle.flume_value.proofs.BoolLemmas.{and_both, both_true}
 use Rattle.exec_graph.specs.Meaning.{AllDiffer, node_at}
 use Rattle.exec_graph.specs.declared.graph.Node.{Node}
-use Rattle.exec_graph.specs.declared.graph.Node.TheVariants.{Source, Flatten, Pdo, Gbk}
+use Rattle.exec_graph.specs.declared.graph.Node.TheVariants.{Source, Flatten, Pdo, Gbk, Barrier}
 use Rattle.exec_graph.specs.declared.graph.Blocked.{Blocked}
 use Rattle.plan_laws.specs.declared.operations.Key.{Key}
 use Rattle.plan_roles.specs.declared.roles.Role.{Role}
@@ -68,6 +68,7 @@ any_gbk b n f (Some (Source r)) h = absurd (false≢true h)
 any_gbk b n f (Some (Flatten ins)) h = absurd (false≢true h)
 any_gbk b n f (Some (Pdo c t)) h = absurd (false≢true h)
 any_gbk b n f (Some (Gbk c o l k)) h = tt
+any_gbk b n f (Some (Barrier ins o l a)) h = absurd (false≢true h)
 
 related_gbk : (b : Blocked) (n k : ℕ) → related b n k ≡ true → IsGbk b k
 related_gbk b n k h =

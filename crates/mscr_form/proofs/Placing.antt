@@ -4,9 +4,11 @@ use Rattle.std.proofs.lemmas.Bool.{eqb-true, false≢true}
 use Rattle.std.specs.List.{AllByRecursion as Each}
 use Rattle.exec_graph.specs.Meaning.{AllDiffer, node_at}
 use Rattle.exec_graph.specs.Wellformed.{Ascends}
+use Rattle.exec_graph.specs.declared.graph.Act.{Act}
+use Rattle.exec_graph.specs.declared.graph.Act.TheVariants.{SideInput, Operate, Singleton}
 use Rattle.exec_graph.specs.declared.graph.Place.{Place}
 use Rattle.exec_graph.specs.declared.graph.Node.{Node}
-use Rattle.exec_graph.specs.declared.graph.Node.TheVariants.{Source, Flatten, Pdo, Gbk}
+use Rattle.exec_graph.specs.declared.graph.Node.TheVariants.{Source, Flatten, Pdo, Gbk, Barrier}
 use Rattle.exec_graph.specs.declared.graph.Entry.{Entry}
 use Rattle.exec_graph.specs.declared.graph.Blocked.{Blocked}
 use Rattle.exec_graph.proofs.Solving.{each_found}
@@ -14,7 +16,7 @@ use Rattle.plan_roles.specs.declared.roles.Part.TheVariants as part
 use Rattle.plan_roles.specs.declared.roles.Role.{Role}
 use Rattle.plan_roles.specs.Levels.{level}
 use Rattle.plan_roles.specs.Mappers.{is_mapper, is_reducer, is_stage}
-use Rattle.plan_roles.specs.Roles.{part_of, role_of, roles}
+use Rattle.plan_roles.specs.Roles.{act_part, part_of, role_of, roles}
 use Rattle.form_laws.specs.Classes.{IsGbk, IsGbkAt, keys_at as node_keys, keys_of}
 use Rattle.mscr_form.specs.inner.Buckets.{is_group}
 use Rattle.mscr_form.specs.inner.Labels.{keys_at, level_at, no_role, part_keys, role_at}
@@ -30,12 +32,18 @@ pdo_keys true r ps os = refl
 pdo_keys false true ps os = refl
 pdo_keys false false ps os = refl
 
+act_keys : (n : ℕ) (a : Act) → part_keys (act_part n a) ≡ []
+act_keys n (SideInput f) = refl
+act_keys n (Operate f) = refl
+act_keys n (Singleton k) = refl
+
 pub part_keys_are : (b : Blocked) (n : ℕ) (x : Node)
     → part_keys (part_of b n x) ≡ node_keys b n (Some x)
 part_keys_are b n (Source r) = refl
 part_keys_are b n (Flatten ins) = flat_keys (is_stage b n)
 part_keys_are b n (Pdo c f) = pdo_keys (is_mapper b n) (is_reducer b n) _ _
 part_keys_are b n (Gbk c o l k) = refl
+part_keys_are b n (Barrier ins o l a) = act_keys n a
 
 flat_group : (s : Bool) → is_group (cond s part.Stage part.Inlined) ≡ false
 flat_group true = refl
@@ -47,18 +55,25 @@ pdo_group true r ps os = refl
 pdo_group false true ps os = refl
 pdo_group false false ps os = refl
 
+act_group : (n : ℕ) (a : Act) → is_group (act_part n a) ≡ false
+act_group n (SideInput f) = refl
+act_group n (Operate f) = refl
+act_group n (Singleton k) = refl
+
 group_gbk : (b : Blocked) (n : ℕ) (x : Node) → is_group (part_of b n x) ≡ true → IsGbkAt (Some x)
 group_gbk b n (Source r) h = absurd (false≢true h)
 group_gbk b n (Flatten ins) h = absurd (false≢true (sym (flat_group (is_stage b n)) ∙ h))
 group_gbk b n (Pdo c f) h =
     absurd (false≢true (sym (pdo_group (is_mapper b n) (is_reducer b n) _ _) ∙ h))
 group_gbk b n (Gbk c o l k) h = tt
+group_gbk b n (Barrier ins o l a) h = absurd (false≢true (sym (act_group n a) ∙ h))
 
 gbk_group : (b : Blocked) (n : ℕ) (x : Node) → IsGbkAt (Some x) → is_group (part_of b n x) ≡ true
 gbk_group b n (Source r) h = absurd h
 gbk_group b n (Flatten ins) h = absurd h
 gbk_group b n (Pdo c f) h = absurd h
 gbk_group b n (Gbk c o l k) h = refl
+gbk_group b n (Barrier ins o l a) h = absurd h
 
 -- ---- places
 -- the entry at a place, and its role

@@ -1,3 +1,4 @@
+// The classes of Gbks, by their labels.
 ghost use Rattle.std.specs.Prelude.{◌≡◌, ◌<◌, ℕ, [], filter, length, IfOk};
 ghost use Rattle.exec_graph.specs.Meaning.{IsSound};
 ghost use Rattle.exec_graph.specs.Wellformed.{Ascends};
@@ -22,7 +23,8 @@ fn is_group(role: &Role) -> bool
         | Part::Inlined
         | Part::Mapper(_)
         | Part::Reducer
-        | Part::Trivial(_) => false,
+        | Part::Trivial(_)
+        | Part::Operate => false,
     }
 }
 

@@ -1,3 +1,4 @@
+// Labels of Gbks: one label where a chain of shared keys joins them.
 ghost use Rattle.std.specs.Prelude.{◌≡◌, ◌==◌, ◌<◌, ◌∷◌, [], ◌++◌, ℕ, Bool, cond, length, map, nat_eq, true, IfOk, IfSome, List, None, OnOk, Some};
 ghost use Rattle.plan_rules.specs.Fitting.{same_key};
 ghost use Rattle.form_laws.specs.Classes.{has_same};
@@ -163,7 +164,8 @@ fn join_role(
         | Part::Inlined
         | Part::Mapper(_)
         | Part::Reducer
-        | Part::Trivial(_) => Ok(()),
+        | Part::Trivial(_)
+        | Part::Operate => Ok(()),
     }
 }
 

@@ -1,3 +1,4 @@
+// The operations of a graph with their ranks.
 ghost use Rattle.std.specs.Prelude.{◌≡◌, ◌==◌, [], ◌∷◌, ◌++◌, ℕ, ◌<◌, cond, length, map, nat_eq, IfOk, IfSome, MatchOption, None, OnOk, Some};
 ghost use Rattle.std.specs.HashMap.{get};
 ghost use Rattle.std.specs.List.{flat_map};
@@ -82,7 +83,8 @@ fn part_reducer(part: &Part) -> Option<u32>
         | Part::Inlined
         | Part::Mapper(_)
         | Part::Reducer
-        | Part::Trivial(_) => None,
+        | Part::Trivial(_)
+        | Part::Operate => None,
     }
 }
 
@@ -294,6 +296,16 @@ fn alone(role: &Role, does: Operation) -> Ranked
     }
 }
 
+fn object(role: &Role) -> Ranked
+    ensures { result ≡ spec.object_at role.now }
+{
+    Ranked {
+        rank: u64::from(role.level) * 2,
+        number: role.number,
+        does: Operation::Flat(role.number),
+    }
+}
+
 /// Each output of a Pdo passes through.
 fn trivial(alloc: Global, number: u32, outs: &[Place]) -> Result<Operation, AllocError>
     ensures { IfOk result (λ x. x ≡ Class (Mapper number ∷ []) [] outs.now) }
@@ -316,6 +328,10 @@ fn push_alone(alloc: Global, role: &Role, all: &mut Vec<Ranked>) -> Result<(), A
         Part::Trivial(outs) => {
             let does = trivial(alloc, role.number, outs.as_slice())?;
             all.push(alone(role, does))?;
+            Ok(())
+        }
+        Part::Operate => {
+            all.push(object(role))?;
             Ok(())
         }
         Part::Source | Part::Inlined | Part::Mapper(_) | Part::Reducer | Part::Group(_, _) => Ok(

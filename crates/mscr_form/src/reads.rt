@@ -1,30 +1,74 @@
-ghost use Rattle.std.specs.Prelude.{◌≡◌, ◌++◌, map, IfOk, OnOk};
-ghost use Rattle.exec_graph.specs.Meaning.{node_at};
+// The collections that an operation reads, and those that sources give.
+ghost use Rattle.std.specs.Prelude.{◌≡◌, ◌++◌, [], ◌∷◌, ℕ, Bool, IfOk, OnOk};
+ghost use Rattle.std.specs.List.{flat_map};
+ghost use Rattle.exec_graph.specs.Meaning.{node_at, place};
 ghost use Rattle.exec_graph.specs.Places.{HasAlso, HasPlaces};
 ghost use Rattle.exec_graph.specs.Readers.{among};
 ghost use Rattle.node_index.specs.Index.{IsIndex};
 ghost use Rattle.plan_laws.specs.Operations as operations;
 
-use exec_graph::{Entry, Node, Place, add_place};
+use exec_graph::{Act, Entry, Node, Place, add_place};
 use flume_value::Pile;
 use node_index::find_node;
 use plan_laws::{Key, Operation};
 use std::alloc::{AllocError, Global};
 use std::collections::{HashMap, HashSet};
 
-/// What an input channel reads.
-fn key_reads(nodes: &[Entry], index: &HashMap<u32, usize>, key: Key) -> Place
+/// Adds what a step beside an object reads.
+fn add_side(number: u32, act: Act, inputs: &[Place], all: &mut Vec<Place>) -> Result<(), AllocError>
+    ensures { (o : ℕ) (l : Bool) → OnOk result (all.new.items ≡ all.old.items
+        ++ operations.reading_reads (operations.side_channel number o l act inputs.now)) }
+{
+    match act {
+        Act::SideInput(_) => {
+            if inputs.len() == 2 {
+                all.push(inputs[0])?;
+                all.push(inputs[1])?;
+                Ok(())
+            } else {
+                add_itself(number, all)
+            }
+        }
+        Act::Operate(_) | Act::Singleton(_) => add_itself(number, all),
+    }
+}
+
+/// Adds the first output of a node.
+fn add_itself(number: u32, all: &mut Vec<Place>) -> Result<(), AllocError>
+    ensures { OnOk result (all.new.items ≡ all.old.items ++ place number 0 ∷ []) }
+{
+    all.push(Place {
+        node: number,
+        out: 0,
+    })?;
+    Ok(())
+}
+
+/// Adds what an input channel reads.
+fn add_key_reads(
+    nodes: &[Entry],
+    index: &HashMap<u32, usize>,
+    key: Key,
+    all: &mut Vec<Place>,
+) -> Result<(), AllocError>
     requires { IsIndex index.now nodes.now }
-    ensures { result ≡ (operations.channel_of nodes.now key).reads }
+    ensures { OnOk result (all.new.items ≡ all.old.items
+        ++ operations.reading_reads (operations.channel_of nodes.now key)) }
 {
     match key {
-        Key::Whole(c) => c,
+        Key::Whole(c) => {
+            all.push(c)?;
+            Ok(())
+        }
         Key::Mapper(number) => match find_node(nodes, index, number) {
-            Some(Node::Pdo(c, _)) => *c,
-            _ => Place {
-                node: number,
-                out: 0,
-            },
+            Some(Node::Pdo(c, _)) => {
+                all.push(*c)?;
+                Ok(())
+            }
+            Some(Node::Barrier(inputs, _, _, act)) => {
+                add_side(number, *act, inputs.as_slice(), all)
+            }
+            _ => add_itself(number, all),
         },
     }
 }
@@ -37,13 +81,13 @@ fn keys_read(
 ) -> Result<Pile<Place>, AllocError>
     requires { IsIndex index.now nodes.now }
     ensures { IfOk result (λ cs. cs
-        ≡ map (λ c. c.reads) (operations.channels_of nodes.now keys.now)) }
+        ≡ flat_map operations.reading_reads (operations.channels_of nodes.now keys.now)) }
 {
-    let mut all = Pile::new(alloc);
+    let mut all = Vec::new(alloc);
     for key in keys {
-        all.push(key_reads(nodes, index, *key))?;
+        add_key_reads(nodes, index, *key, &mut all)?;
     }
-    Ok(all)
+    Ok(Pile::from_vec(all))
 }
 
 /// The inputs of a Flatten.
@@ -58,6 +102,10 @@ fn flatten_reads(
 {
     match find_node(nodes, index, number) {
         Some(Node::Flatten(inputs)) => {
+            let copied = Vec::from_slice(alloc, inputs.as_slice())?;
+            Ok(Pile::from_vec(copied))
+        }
+        Some(Node::Barrier(inputs, _, _, _)) => {
             let copied = Vec::from_slice(alloc, inputs.as_slice())?;
             Ok(Pile::from_vec(copied))
         }
@@ -94,7 +142,9 @@ fn add_source(entry: &Entry, places: &mut HashSet<u64>) -> Result<(), AllocError
             },
             places,
         ),
-        Node::Flatten(_) | Node::Pdo(_, _) | Node::Gbk(_, _, _, _) => Ok(()),
+        Node::Flatten(_) | Node::Pdo(_, _) | Node::Gbk(_, _, _, _) | Node::Barrier(_, _, _, _) => {
+            Ok(())
+        }
     }
 }
 

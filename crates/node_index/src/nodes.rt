@@ -1,3 +1,4 @@
+// Where nodes stand in a graph, by their numbers.
 ghost use Rattle.std.specs.Prelude.{◌≡◌, ◌==◌, ◌<◌, ℕ, cond, length, nat_eq, None, Some, IfOk, OnOk, IfSome, MatchOption};
 ghost use Rattle.std.specs.HashMap.{get};
 ghost use Rattle.exec_graph.specs.Meaning.{node_at, reads};
@@ -67,6 +68,7 @@ pub fn reads_of(node: &Node) -> &[Place]
     match node {
         Node::Source(_) => &[],
         Node::Flatten(inputs) => inputs.as_slice(),
+        Node::Barrier(inputs, _, _, _) => inputs.as_slice(),
         Node::Pdo(c, _) => slice::from_ref(c),
         Node::Gbk(c, _, _, _) => slice::from_ref(c),
     }

@@ -58,6 +58,8 @@ combined_type comb.Max member = Some member
 combined_type comb.All member = only ty.Bool member
 combined_type comb.Any member = only ty.Bool member
 combined_type (comb.Top n) member = Some (ty.List member)
+combined_type comb.Mean member = only ty.Int member
+combined_type comb.Distinct member = Some (ty.List member)
 
 -- the numbers of operands
 abbrev pub numbers : List Operand → List ℕ

@@ -50,6 +50,8 @@ pub fn combined(
         Comb::All => only(line, Shape::Bool, member, state),
         Comb::Any => only(line, Shape::Bool, member, state),
         Comb::Top(_) => Ok(state.intern(Shape::List(member))?),
+        Comb::Mean => only(line, Shape::Int, member, state),
+        Comb::Distinct => Ok(state.intern(Shape::List(member))?),
     }
 }
 

@@ -4,7 +4,7 @@ use Rattle.exec_graph.specs.declared.graph.Blocked.{Blocked}
 use Rattle.exec_graph.specs.declared.graph.Entry.{Entry}
 use Rattle.exec_graph.specs.declared.graph.Graph.{Graph}
 use Rattle.exec_graph.specs.declared.graph.Node.{Node}
-use Rattle.exec_graph.specs.declared.graph.Node.TheVariants.{Source, Flatten, Pdo, Gbk}
+use Rattle.exec_graph.specs.declared.graph.Node.TheVariants.{Source, Flatten, Pdo, Gbk, Barrier}
 use Rattle.exec_plan.specs.declared.plan.Plan.{Plan}
 use Rattle.form_laws.specs.Formed.{IsFormed}
 use Rattle.fusion_blocks.specs.Blocks.{IsBlocked}
@@ -28,6 +28,7 @@ source_count_at (Source r) = 1
 source_count_at (Flatten ins) = 0
 source_count_at (Pdo c f) = 0
 source_count_at (Gbk c o l k) = 0
+source_count_at (Barrier ins o l a) = 0
 
 abbrev pub source_count : List Entry → ℕ
 source_count [] = 0

@@ -1,5 +1,5 @@
 -- What stands on a shelf after files were written to it.
-use Rattle.std.specs.Prelude.{◌≡◌, ◌⊎◌, ◌≤◌, ◌<◌, ℕ, List, IfSome, length, slice_get, string_bytes, take}
+use Rattle.std.specs.Prelude.{◌≡◌, ◌⊎◌, ◌≤◌, ◌<◌, ℕ, List, IfSome, length, slice_get, take}
 use Rattle.std.specs.Option.{option_map}
 use Rattle.outside.specs.Begun.{begun_after, left_after}
 use Rattle.outside.specs.Cause.{Rose}
@@ -11,7 +11,7 @@ use Rattle.outside.specs.declared.saves.Output.{Output}
 
 -- an output as the file that it is to be
 abbrev pub output_file : Output → File
-output_file output = record { name = string_bytes output.name; bytes = output.text.items }
+output_file output = record { name = output.name; bytes = output.text.items }
 
 -- The shelf has got these files, each of them whole and ended, and has not failed.
 pub record HasFiles (files : List File) (before after : SeenShelf) : Type 0 where

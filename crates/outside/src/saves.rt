@@ -1,14 +1,16 @@
+// Files written one after the other, each of them whole or cut short.
 ghost use Rattle.std.specs.Prelude.{◌≤◌, ◌∷◌, [], IfErr, OnErr, OnOk, map};
 ghost use Rattle.outside.specs.Saves.{FailsAt, HasFiles, output_file};
 ghost use Rattle.outside.specs.Seen.{seen_shelf};
 
+use crate::names::FileName;
 use crate::{Failed, Shelf};
 
 /// A file to write.
 #[derive(Debug, Drop)]
 pub struct Output {
     /// The name, as it is passed to `begin`.
-    pub name: String,
+    pub name: FileName,
     /// All of the bytes.
     pub text: Vec<u8>,
 }

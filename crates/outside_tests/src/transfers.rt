@@ -1,8 +1,8 @@
 // Files and texts that pass between memory and a call, as tables.
 use flume_value::{Pile, Str};
 use outside::{
-    At, CalmHost, Fail, File, Host, LoadFault, MemHost, MemScreen, MemShelf, MemSource, Output,
-    Phase, load_tried, save_all, say_all,
+    At, CalmHost, Fail, File, FileName, Host, LoadFault, MemHost, MemScreen, MemShelf, MemSource,
+    Output, Phase, load_tried, save_all, say_all,
 };
 use std::alloc::{AllocError, Global};
 use std::test::Fail as TestFail;
@@ -14,7 +14,7 @@ fn file(alloc: Global, name: &[u8], bytes: &[u8]) -> Result<File, AllocError> {
 }
 
 fn output(alloc: Global, name: &str, text: &[u8]) -> Result<Output, AllocError> {
-    let name = String::from_str(alloc, name)?;
+    let name = FileName::new(alloc, name)?;
     let text = Vec::from_slice(alloc, text)?;
     Ok(Output { name, text })
 }

@@ -1,50 +1,49 @@
--- The fused graph with its marks is ok
-use Rattle.std.proofs.Common.{◌≡◌, ℕ, ◌+◌, ◌<◌, ◌≤◌, Bool, true, false, cond, ◌||◌, ◌&&◌, List, [], ◌∷◌, ◌++◌, map, length, length-append, Option, Some, None, refl, sym, ap, ◌∙◌, arith}
+-- The fused graph with its marks is ok.
+use Rattle.std.proofs.Common.{◌≡◌, ℕ, ◌<◌, ◌≤◌, Bool, true, false, cond, ◌||◌, ◌&&◌, List, [], ◌∷◌, ◌++◌, map, length, Option, Some, None, refl, sym, ap, ◌∙◌, arith}
 use Rattle.std.proofs.lemmas.Bool.{false≢true}
 use Rattle.std.specs.List.{flat_map, AllByRecursion}
 use Rattle.exec_graph.specs.Forests.{Label, Forest, Bare, Grow, steps, numbered, new_label, new_out, after, after_out, with_out}
 use Rattle.exec_graph.specs.declared.graph.Place.{Place}
 use Rattle.exec_graph.specs.declared.graph.Node.{Node}
-use Rattle.exec_graph.specs.declared.graph.Node.TheVariants.{Source, Flatten, Pdo, Gbk}
+use Rattle.exec_graph.specs.declared.graph.Node.TheVariants.{Source, Flatten, Pdo, Gbk, Barrier}
 use Rattle.exec_graph.specs.declared.graph.Entry.{Entry}
-use Rattle.exec_graph.specs.Meaning.{node_at, gives_at, IsThere, IsSound, SameMeaning}
+use Rattle.exec_graph.specs.Meaning.{node_at, gives_at, IsThere, IsSound}
 use Rattle.graph_laws.specs.Joining.{reread}
 use Rattle.exec_graph.proofs.Entries.{all_found, all_map}
 use Rattle.flume_value.proofs.EachLemmas.{Each-weaker, Each-both, Each-append}
 use Rattle.exec_graph.proofs.Solving.{each_found, there_found}
 use Rattle.exec_graph.specs.declared.graph.Blocked.{Blocked}
-use Rattle.pardo_fuse.specs.Readers.{Cut, cut_of, is_outer}
-use Rattle.pardo_fuse.specs.Readers.{among, calls_on, collects, any_node, is_pdo, is_marked, is_kept, CanFuse}
-use Rattle.pardo_fuse.specs.Fusing.{keeps_output, leads, forest_of, left_of, joined_nodes, with_numbers, finished, holds_out, fused, fused_by}
-use Rattle.exec_graph.specs.Wellformed.{Ascends, IsNodeOk, is_lifted, size, total_size, IsBlockedOk}
+use Rattle.pardo_fuse.specs.Readers.{Cut, cut_of, is_outer, among, calls_on, collects, any_node, is_pdo, is_marked, is_kept}
+use Rattle.pardo_fuse.specs.Fusing.{finished, holds_out, leads, with_numbers}
+use Rattle.pardo_fuse.specs.SingleFusing.{CanFuse, forest_of, fused_by, joined_nodes, left_of}
+use Rattle.exec_graph.specs.Objects.{takes_such}
+use Rattle.graph_laws.proofs.ObjectNodes.{flags_reread}
+use Rattle.exec_graph.specs.Wellformed.{HaveObjects, has_objects, is_object, is_object_at, Ascends, IsNodeOk, is_lifted, most_nodes, size, total_size, IsBlockedOk}
 use Rattle.exec_graph.specs.Readers.{uses, is_read}
-use Rattle.pardo_fuse.specs.Wellformed.{IsFusible}
-use Rattle.pardo_fuse.proofs.Partition.{numbers}
-use Rattle.pardo_fuse.proofs.Once.{AllGrown, all_of, left_numbers, all_left}
+use Rattle.pardo_fuse.proofs.Once.{AllGrown}
 use Rattle.pardo_fuse.proofs.Levels.{all_grown}
-use Rattle.pardo_fuse.proofs.Few.{left_length, steps_length, steps-pruned}
-use Rattle.exec_graph.proofs.Soundness.{SameMeaning-kept}
-use Rattle.pardo_fuse.proofs.Meaning.{KeepsMeaning-fused}
-use Rattle.pardo_fuse.proofs.Fusible.{can_fuse}
+use Rattle.pardo_fuse.proofs.Few.{joined_size}
 use Rattle.pardo_fuse.proofs.Naming.{all_joined, all_cond, differ_joined}
 use Rattle.pardo_fuse.proofs.Finding.{search_place, any_joined, not_new, no_joined, IsSeen, IsNew, right}
-use Rattle.pardo_fuse.proofs.Seeing.{all_among}
+use Rattle.pardo_fuse.proofs.Seeing.{all_among, seen_left}
 use Rattle.pardo_fuse.proofs.Wellness.{at_finished, done_node, well, well_kept, others_left, IsSound-fused}
 use Rattle.pardo_fuse.proofs.Settling.{now, nodes_now}
 use Rattle.pardo_fuse.proofs.Using.{graph_now, outs_read}
 use Rattle.pardo_fuse.proofs.Lifting.{gbk, lifted_ok}
 
--- what else has to hold of the graph: its nodes are ok, no marked Gbk is lifted, and no marked
--- output is fused away
+-- What else has to hold of the graph: the numbers that are left ascend, there are not too many
+-- steps, its nodes are ok, no marked Gbk is lifted, and no marked output is fused away.
 pub record IsCutOk (b : Cut) : Type 0 where
-  pub ascends : Ascends b.graph.nodes
-  pub below : AllByRecursion (λ e. e.number < b.graph.next) b.graph.nodes
+  pub ascends : Ascends (joined_nodes b)
+  pub below : AllByRecursion (λ (e : Entry). e.number < b.graph.next) (joined_nodes b)
+  pub few : total_size b.graph.nodes ≤ most_nodes
   pub nodes : AllByRecursion (λ e. IsNodeOk b.graph e.number e.node) b.graph.nodes
   pub unlifted : AllByRecursion (λ c. is_lifted (node_at b.graph.nodes c.node) ≡ false) b.marks
   pub outer : AllByRecursion (λ c. is_outer b c ≡ true) b.marks
+  pub objects : HaveObjects b.graph.nodes
 
 -- ---- sizes
-steps-numbered : (s : ℕ) (f : Forest) → steps (numbered s f) ≡ steps f
+pub steps-numbered : (s : ℕ) (f : Forest) → steps (numbered s f) ≡ steps f
 steps-numbered s Bare = refl
 steps-numbered s (Grow l kids rest) = let a = steps-numbered (after_out s l.out) kids in let b =
     steps-numbered (after (after_out s l.out) kids) rest in omega arith
@@ -54,36 +53,12 @@ size_done r (Source s) = refl
 size_done r (Flatten ins) = refl
 size_done r (Pdo c f) = steps-numbered 0 f
 size_done r (Gbk c o l k) = refl
+size_done r (Barrier ins o l a) = refl
 
-total_done : (r : Place → Place) (hs : List Entry) → total_size (map (finished r) hs)
+pub total_done : (r : Place → Place) (hs : List Entry) → total_size (map (finished r) hs)
     ≡ total_size hs
 total_done r [] = refl
 total_done r (h ∷ hs) = let a = total_done r hs in let e = size_done r h.node in omega arith
-
-left_size : (b : Cut) (n : ℕ) (x : Node) (hs : List Entry)
-    → total_size (left_of b n x ++ hs) ≤ length (left_numbers b n x) + total_size hs
-left_size b n (Source r) hs = omega arith
-left_size b n (Flatten ins) hs = omega arith
-left_size b n (Pdo c f) hs = by (leads b n c)
-  where
-    by : (r : Bool) → total_size (cond r ((record {
-      number = n;
-      node =
-          Pdo c (forest_of b c);
-    }) ∷ []) [] ++ hs) ≤ length (cond r (numbers (all_of b c)) []) +
-        total_size hs
-    by true = let e = steps_length (all_of b c) in let f : steps (forest_of b c)
-        ≡ steps (all_of b c) = steps-pruned (keeps_output b) (all_of b c) in omega arith
-    by false = omega arith
-left_size b n (Gbk c o l k) hs = omega arith
-
-joined_size : (b : Cut) (es : List Entry) → total_size (flat_map (λ e. left_of b e.number e.node)
-    es) ≤ length (all_left b es)
-joined_size b [] = omega arith
-joined_size b (e ∷ es) =
-    let i = joined_size b es in
-    let a = left_size b e.number e.node (flat_map (λ e. left_of b e.number e.node) es) in
-    omega (arith, length-append (left_numbers b e.number e.node) (all_left b es))
 
 -- ---- each node
 same_label : (s : ℕ) (l : Label) → new_label s (new_label s l) ≡ new_label s l
@@ -106,7 +81,7 @@ after_numbered s (Grow l kids rest) =
     (after_out s l.out) kids)
     ∙ after_numbered (after (after_out s l.out) kids) rest
 
-numbered_again : (s : ℕ) (f : Forest) → numbered s (numbered s f) ≡ numbered s f
+pub numbered_again : (s : ℕ) (f : Forest) → numbered s (numbered s f) ≡ numbered s f
 numbered_again s Bare = refl
 numbered_again s (Grow l kids rest) =
     let a : ℕ = after_out s l.out in
@@ -126,7 +101,7 @@ abbrev OkNow : Cut → Entry → Type 0
 OkNow b h = node_at (joined_nodes b) h.number ≡ Some h.node
     → IsNodeOk (graph_now b) h.number (reread (now b) (with_numbers h.node))
 
-length-map : (r : Place → Place) (ds : List Place) → length (map r ds) ≡ length ds
+pub length-map : (r : Place → Place) (ds : List Place) → length (map r ds) ≡ length ds
 length-map r [] = refl
 length-map r (d ∷ ds) = let i = length-map r ds in omega arith
 
@@ -156,6 +131,7 @@ left_ok b can g fu n (Gbk c o l (Some k)) at = (
       e.number e.node) b.graph.nodes n (Gbk c o l (Some k)) at fu.nodes),
   tt,
 )
+left_ok b can g fu n (Barrier ins o l i) at = (λ _. tt, tt)
 
 -- ---- marks
 uses_cases : (c : Place) (es : List Entry) → any_node (uses c) es ≡ true
@@ -198,8 +174,9 @@ pdo_read b c fu t (Some (Source r)) at h = absurd (false≢true h)
 pdo_read b c fu t (Some (Flatten ins)) at h = absurd (false≢true h)
 pdo_read b c fu t (Some (Pdo d f)) at h = there_read b c fu t d f at
 pdo_read b c fu t (Some (Gbk d o l k)) at h = absurd (false≢true h)
+pdo_read b c fu t (Some (Barrier ins o l a)) at h = absurd (false≢true h)
 
-mark_seen : (b : Cut) → CanFuse b → IsCutOk b → AllByRecursion (IsSeen b) b.marks
+pub mark_seen : (b : Cut) → CanFuse b → IsCutOk b → AllByRecursion (IsSeen b) b.marks
 mark_seen b can fu = Each-both (IsThere b.graph.nodes) (λ c. is_outer b c
     ≡ true) (IsSeen b) (λ c t m. record {
       there = t;
@@ -214,6 +191,7 @@ lifted_done r p (Source s) h = refl
 lifted_done r p (Flatten ins) h = refl
 lifted_done r p (Pdo c f) h = refl
 lifted_done r p (Gbk c o l k) h = absurd (false≢true h)
+lifted_done r p (Barrier ins o l a) h = refl
 
 lifted_same : (r : Place → Place) (x : Node) → is_lifted (Some (reread r (with_numbers x)))
     ≡ is_lifted (Some x)
@@ -222,6 +200,7 @@ lifted_same r (Flatten ins) = refl
 lifted_same r (Pdo c f) = refl
 lifted_same r (Gbk c o l None) = refl
 lifted_same r (Gbk c o l (Some k)) = refl
+lifted_same r (Barrier ins o l a) = refl
 
 abbrev Here : Cut → Entry → Type 0
 Here b e = node_at (joined_nodes b) e.number ≡ Some e.node
@@ -246,6 +225,73 @@ unlifted_by b c can g s l false h =
     b.graph.nodes c.node x.0 x.1 (sym (ap is_pdo x.1) ∙ h)))
     ∙ lifted_same (now b) x.0 ∙ sym (ap is_lifted x.1) ∙ l
 
+-- ---- objects
+object_done : (r : Place → Place) (p : ℕ) (x : Node) → holds_out p x ≡ true
+    → is_object (Some (reread r (with_numbers x))) ≡ false
+object_done r p (Source s) h = absurd (false≢true h)
+object_done r p (Flatten ins) h = refl
+object_done r p (Pdo c f) h = refl
+object_done r p (Gbk c o l k) h = absurd (false≢true h)
+object_done r p (Barrier ins o l a) h = absurd (false≢true h)
+
+object_same : (r : Place → Place) (x : Node)
+    → is_object (Some (reread r (with_numbers x))) ≡ is_object (Some x)
+object_same r (Source s) = refl
+object_same r (Flatten ins) = refl
+object_same r (Pdo c f) = refl
+object_same r (Gbk c o l k) = refl
+object_same r (Barrier ins o l a) = refl
+
+no_object : (o : Option Node) → is_pdo o ≡ true → is_object o ≡ false
+no_object None h = refl
+no_object (Some (Source s)) h = absurd (false≢true h)
+no_object (Some (Flatten ins)) h = refl
+no_object (Some (Pdo c f)) h = refl
+no_object (Some (Gbk c o l k)) h = refl
+no_object (Some (Barrier ins o l a)) h = absurd (false≢true h)
+
+object_by : (b : Cut) (c : Place) → (can : CanFuse b) → AllGrown b → IsSeen b c → (t : Bool)
+    → is_pdo (node_at b.graph.nodes c.node) ≡ t
+    → is_object_at (nodes_now b) (now b c) ≡ is_object_at b.graph.nodes c
+object_by b c can g s true h =
+    let hs : List Entry = joined_nodes b in
+    let i : IsNew (Here b) hs c = search_place (Here b) c hs (each_found hs (differ_joined b
+    b.graph.nodes can.ok.differ)) (any_joined b c.node can g h (well_kept b c can s h)) in
+    ap (λ (d : Place). is_object (node_at (nodes_now b) d.node)) i.is
+    ∙ ap is_object (at_finished (now b) hs i.here.number ∙ ap (done_node (now b)) i.holds)
+    ∙ object_done (now b) c.node i.here.node i.keeps
+    ∙ sym (no_object (node_at b.graph.nodes c.node) h)
+object_by b c can g s false h =
+    let hs : List Entry = joined_nodes b in
+    let x = there_found b.graph.nodes c s.there in
+    ap (λ (d : Place). is_object (node_at (nodes_now b) d.node)) (not_new c hs (no_joined b c.node
+    can g h))
+    ∙ ap is_object (at_finished (now b) hs c.node ∙ ap (done_node (now b)) (others_left b
+    b.graph.nodes c.node x.0 x.1 (sym (ap is_pdo x.1) ∙ h)))
+    ∙ object_same (now b) x.0 ∙ sym (ap is_object x.1)
+
+abbrev ObjectsNow : Cut → Entry → Type 0
+ObjectsNow b h = has_objects (nodes_now b) (reread (now b) (with_numbers h.node)) ≡ true
+
+left_objects : (b : Cut) → (can : CanFuse b) → AllGrown b → IsCutOk b → (n : ℕ) (x : Node)
+    → node_at b.graph.nodes n ≡ Some x → AllByRecursion (ObjectsNow b) (left_of b n x)
+left_objects b can g fu n (Source r) at = (refl, tt)
+left_objects b can g fu n (Flatten ins) at = (refl, tt)
+left_objects b can g fu n (Pdo c f) at =
+    all_cond (ObjectsNow b) (leads b n c) (record { number = n; node = Pdo c (forest_of b c) })
+    (λ i. refl)
+left_objects b can g fu n (Gbk c o l k) at = (refl, tt)
+left_objects b can g fu n (Barrier ins o l d) at = (
+  ap (takes_such d) (flags_reread (is_object_at (nodes_now b)) (is_object_at b.graph.nodes)
+      (now b) ins (Each-weaker (IsSeen b)
+      (λ c. is_object_at (nodes_now b) (now b c) ≡ is_object_at b.graph.nodes c)
+      (λ c s. object_by b c can g s (is_pdo (node_at b.graph.nodes c.node)) refl) ins
+      (seen_left b can n (Barrier ins o l d) at refl)))
+      ∙ all_found (λ e. has_objects b.graph.nodes e.node ≡ true) b.graph.nodes n
+      (Barrier ins o l d) at fu.objects,
+  tt,
+)
+
 -- ---- numbers
 left_all : (b : Cut) (P : ℕ → Type 0) (n : ℕ) (x : Node) → P n
     → AllByRecursion (λ h. P h.number) (left_of b n x)
@@ -254,8 +300,9 @@ left_all b P n (Flatten ins) p = (p, tt)
 left_all b P n (Pdo c f) p = all_cond (λ h. P h.number) (leads b n c)
     (record { number = n; node = Pdo c (forest_of b c) }) (λ l. p)
 left_all b P n (Gbk c o l k) p = (p, tt)
+left_all b P n (Barrier ins o l a) p = (p, tt)
 
-all_numbers : (b : Cut) (P : ℕ → Type 0) (es : List Entry) → AllByRecursion (λ e. P e.number) es
+pub all_numbers : (b : Cut) (P : ℕ → Type 0) (es : List Entry) → AllByRecursion (λ e. P e.number) es
     → AllByRecursion (λ h. P h.number) (flat_map (λ e. left_of b e.number e.node) es)
 all_numbers b P [] a = tt
 all_numbers b P (e ∷ es) a = Each-append (λ h. P h.number) (left_of b e.number e.node)
@@ -273,15 +320,17 @@ left_ascends b n (Pdo c f) hs a u = by (leads b n c)
     by true = (a, u)
     by false = u
 left_ascends b n (Gbk c o l k) hs a u = (a, u)
+left_ascends b n (Barrier ins i l d) hs a u = (a, u)
 
-joined_ascends : (b : Cut) (es : List Entry) → Ascends es
+pub joined_ascends : (b : Cut) (es : List Entry) → Ascends es
     → Ascends (flat_map (λ e. left_of b e.number e.node) es)
 joined_ascends b [] u = tt
 joined_ascends b (e ∷ es) u = left_ascends b e.number e.node
     (flat_map (λ e. left_of b e.number e.node) es)
     (all_numbers b (λ m. e.number < m) es u.0) (joined_ascends b es u.1)
 
-done_ascends : (r : Place → Place) (hs : List Entry) → Ascends hs → Ascends (map (finished r) hs)
+pub done_ascends : (r : Place → Place) (hs : List Entry) → Ascends hs
+    → Ascends (map (finished r) hs)
 done_ascends r [] u = tt
 done_ascends r (h ∷ hs) u = (
   all_map (finished r) (λ d. h.number < d.number) (λ d. h.number < d.number) (λ d a. a) hs u.0,
@@ -302,10 +351,9 @@ IsBlockedOk-fused_by b can fu =
     record {
       ok = record {
         founded = record {
-          ascends = done_ascends (now b) hs (joined_ascends b b.graph.nodes fu.ascends);
-          below = all_map (finished (now b)) (λ d. d.number < b.graph.next)
-              (λ d. d.number < b.graph.next) (λ d a. a) hs
-              (all_numbers b (λ m. m < b.graph.next) b.graph.nodes fu.below);
+          ascends = done_ascends (now b) hs fu.ascends;
+          below = all_map (finished (now b)) (λ (d : Entry). d.number < b.graph.next)
+              (λ (d : Entry). d.number < b.graph.next) (λ d a. a) hs fu.below;
           there = sound.there;
           told = sound.told;
           ranked = sound.ranked;
@@ -316,8 +364,12 @@ IsBlockedOk-fused_by b can fu =
             (with_numbers h.node))) (λ e a f. f a) hs (each_found hs (differ_joined b
             b.graph.nodes can.ok.differ)) (all_joined b (OkNow b) (left_ok b can g fu)
             b.graph.nodes (each_found b.graph.nodes can.ok.differ)));
-        few = let a = total_done (now b) hs in let d = joined_size b b.graph.nodes in let e =
-            left_length b can in let f = can.few in omega arith;
+        objects = all_map (finished (now b)) (ObjectsNow b)
+            (λ e. has_objects (nodes_now b) e.node ≡ true) (λ e a. a) hs
+            (all_joined b (ObjectsNow b) (left_objects b can g fu) b.graph.nodes
+            (each_found b.graph.nodes can.ok.differ));
+        few = let a = total_done (now b) hs in let d = joined_size b can in let f = fu.few in
+            omega arith;
       };
       marked = all_map (now b) (IsSeen b) (IsThere (nodes_now b)) (λ c s. (well b can.ok.ranked.0 c
           can.ok.ranked.1 can g s).there) b.marks seen;
@@ -329,24 +381,13 @@ IsBlockedOk-fused_by b can fu =
           refl) b.marks seen fu.unlifted);
     }
 
-marked_outer : (p m : Bool) → m ≡ true → cond (p && cond m false true) false true ≡ true
+pub marked_outer : (p m : Bool) → m ≡ true → cond (p && cond m false true) false true ≡ true
 marked_outer true true h = refl
 marked_outer true false h = absurd (false≢true h)
 marked_outer false m h = refl
 
-pub IsBlockedOk-fused : (a : Blocked) → IsFusible a → IsBlockedOk (fused a)
-IsBlockedOk-fused a fu =
-    IsBlockedOk-fused_by (cut_of a) (can_fuse a fu)
-    (record {
-      ascends = fu.ok.ok.founded.ascends;
-      below = fu.ok.ok.founded.below;
-      nodes = fu.ok.ok.nodes;
-      unlifted = fu.ok.unlifted;
-      outer = Each-weaker (λ c. among c a.marks ≡ true) (λ c. is_outer (cut_of a) c
-          ≡ true) (λ c m. marked_outer (is_pdo (node_at a.graph.nodes c.node)) (is_marked a c) m)
-          a.marks (all_among a.marks);
-    })
-
-pub SameMeaning-fused : (a : Blocked) → IsFusible a → SameMeaning a.graph (fused a).graph
-SameMeaning-fused a fu = SameMeaning-kept a.graph (fused a).graph fu.ok.ok
-    (IsBlockedOk-fused a fu).ok (KeepsMeaning-fused (cut_of a) (can_fuse a fu))
+-- No marked output is fused away.
+pub cut_outer : (a : Blocked) → AllByRecursion (λ c. is_outer (cut_of a) c ≡ true) a.marks
+cut_outer a = Each-weaker (λ c. among c a.marks ≡ true) (λ c. is_outer (cut_of a) c
+    ≡ true) (λ c m. marked_outer (is_pdo (node_at a.graph.nodes c.node)) (is_marked a c) m)
+    a.marks (all_among a.marks)

@@ -1,20 +1,19 @@
--- Where each collection that is still read is found in the fused graph, and back
+-- Where each collection that is still read is found in the fused graph, and back.
 use Rattle.std.proofs.Common.{◌≡◌, ℕ, ◌<◌, Bool, true, false, cond, eqb, ◌||◌, List, [], ◌∷◌, ◌++◌, Option, Some, None, refl, sym, ap, ◌∙◌, arith, zero, suc}
 use Rattle.std.proofs.lemmas.Bool.{eqb-true, false≢true}
 use Rattle.std.specs.List.{flat_map, AllByRecursion}
 use Rattle.exec_graph.specs.Forests.{Forest}
 use Rattle.exec_graph.specs.declared.graph.Place.{Place}
 use Rattle.exec_graph.specs.declared.graph.Node.{Node}
-use Rattle.exec_graph.specs.declared.graph.Node.TheVariants.{Source, Flatten, Pdo, Gbk}
+use Rattle.exec_graph.specs.declared.graph.Node.TheVariants.{Source, Flatten, Pdo, Gbk, Barrier}
 use Rattle.exec_graph.specs.declared.graph.Entry.{Entry}
 use Rattle.exec_graph.specs.Meaning.{place, node_at, has_out, AllDiffer, IsThere}
-use Rattle.graph_laws.proofs.Numbering.{old_in}
+use Rattle.graph_laws.proofs.Numbering.{old_in, number_back}
 use Rattle.exec_graph.proofs.Entries.{all_found}
-use Rattle.graph_laws.proofs.Numbering.{number_back}
 use Rattle.exec_graph.proofs.Solving.{each_found}
-use Rattle.pardo_fuse.specs.Readers.{Cut}
-use Rattle.pardo_fuse.specs.Readers.{any_node, is_pdo, is_kept, readers, CanFuse}
-use Rattle.pardo_fuse.specs.Fusing.{keeps_output, leads, forest_of, left_of, joined_nodes, holds_out, out_number, new_place}
+use Rattle.pardo_fuse.specs.Readers.{Cut, any_node, is_pdo, is_kept, readers}
+use Rattle.pardo_fuse.specs.Fusing.{holds_out, leads, out_number}
+use Rattle.pardo_fuse.specs.SingleFusing.{CanFuse, forest_of, joined_nodes, keeps_output, left_of, new_place}
 use Rattle.pardo_fuse.proofs.Counting.{one_if, hit, times, sum_append}
 use Rattle.pardo_fuse.proofs.Places.{pdo_is, place_is}
 use Rattle.pardo_fuse.proofs.Partition.{numbers}
@@ -29,6 +28,7 @@ former_at (Some (Source r)) c = c
 former_at (Some (Flatten ins)) c = c
 former_at (Some (Pdo d f)) c = place (old_in 0 f c.out) 0
 former_at (Some (Gbk d o l k)) c = c
+former_at (Some (Barrier ins o l a)) c = c
 
 abbrev pub former : List Entry → Place → Place
 former hs c = former_at (node_at hs c.node) c
@@ -81,6 +81,7 @@ former_of c n (Source r) h = absurd (false≢true h)
 former_of c n (Flatten ins) h = absurd (false≢true h)
 former_of c n (Pdo d f) h = ap (λ (j : ℕ). place j 0) (number_back 0 f c.node h).back
 former_of c n (Gbk d o l k) h = absurd (false≢true h)
+former_of c n (Barrier ins o l a) h = absurd (false≢true h)
 
 pub former_back : (c : Place) (hs : List Entry) → AllDiffer hs → any_node (holds_out c.node) hs
     ≡ true → former hs (new_place hs c) ≡ place c.node 0
@@ -93,7 +94,7 @@ former_back c hs d h =
     ∙ former_of c s.here.number s.here.node s.keeps
 
 -- ---- what is left has the outputs
-any_append : (t : Node → Bool) (xs ys : List Entry) → any_node t (xs ++ ys)
+pub any_append : (t : Node → Bool) (xs ys : List Entry) → any_node t (xs ++ ys)
     ≡ (any_node t xs || any_node t ys)
 any_append t [] ys = refl
 any_append t (x ∷ xs) ys = ap (λ (r : Bool). t x.node || r) (any_append t xs ys)
@@ -128,6 +129,8 @@ left_has b p g h k n (Pdo c f) at t = by (leads b n c) t
     by true t = rw (times_has b p k (readers b.graph.nodes c) (all_of b c) (g c) t) refl
     by false t = absurd (omega arith)
 left_has b p g h k n (Gbk c o l q) at t = absurd (not_alone b p n (Gbk c o l q) h at refl t)
+left_has b p g h k n (Barrier ins o l a) at t =
+    absurd (not_alone b p n (Barrier ins o l a) h at refl t)
 
 pub right : (a b : Bool) → b ≡ true → (a || b) ≡ true
 right true b h = refl
@@ -151,7 +154,7 @@ any_left b p g h k (e ∷ es) fo t =
         (flat_map (λ e. left_of b e.number e.node) es)) (f (omega arith))
     by f (suc n) i = rw (left_has b p g h k e.number e.node fo.0 (omega arith)) refl
 
--- a Pdo whose output is kept keeps it in one of the joined nodes
+-- A Pdo whose output is kept keeps it in one of the joined nodes.
 pub any_joined : (b : Cut) (p : ℕ) → CanFuse b → AllGrown b → is_pdo (node_at b.graph.nodes p)
     ≡ true → keeps_output b p ≡ true → any_node (holds_out p) (joined_nodes b) ≡ true
 any_joined b p can g h k =
@@ -179,6 +182,7 @@ left_lacks b p g fo not n (Pdo c f) at =
     b.graph.nodes c) (all_readers b c b.graph.nodes fo)) (has_pruned (keeps_output b) (all_of b
     c) p q))))
 left_lacks b p g fo not n (Gbk c o l q) at = (refl, tt)
+left_lacks b p g fo not n (Barrier ins o l a) at = (refl, tt)
 
 pub any_none : (t : Node → Bool) (es : List Entry) → AllByRecursion (λ h. t h.node ≡ false) es
     → any_node t es ≡ false
@@ -192,7 +196,7 @@ no_joined b p can g not =
     any_none (holds_out p) (joined_nodes b) (all_joined b (λ h. holds_out p h.node
     ≡ false) (left_lacks b p g fo not) b.graph.nodes fo)
 
--- what is a Pdo now was one
+-- What is a Pdo now was one.
 left_pdos : (b : Cut) (n : ℕ) (x : Node) → node_at b.graph.nodes n ≡ Some x
     → AllByRecursion (λ h. is_pdo (Some h.node) ≡ true → is_pdo (node_at b.graph.nodes h.number)
     ≡ true) (left_of b n x)
@@ -205,6 +209,7 @@ left_pdos b n (Pdo c f) at = all_cond (λ h. is_pdo (Some h.node) ≡ true
           Pdo c (forest_of b c);
     }) (λ i h. ap is_pdo at)
 left_pdos b n (Gbk c o l q) at = (λ h. absurd (false≢true h), tt)
+left_pdos b n (Barrier ins o l a) at = (λ h. absurd (false≢true h), tt)
 
 pub joined_pdos : (b : Cut) (n : ℕ) (d : Place) (f : Forest) → CanFuse b
     → node_at (joined_nodes b) n ≡ Some (Pdo d f) → is_pdo (node_at b.graph.nodes n) ≡ true
@@ -221,14 +226,15 @@ former_self (Some (Source r)) c h = refl
 former_self (Some (Flatten ins)) c h = refl
 former_self (Some (Pdo d f)) c h = absurd (h d f refl)
 former_self (Some (Gbk d o l k)) c h = refl
+former_self (Some (Barrier ins o l a)) c h = refl
 
--- another collection than a Pdo's stands where it stood
+-- Another collection than a Pdo's stands where it stood.
 pub former_other : (b : Cut) (c : Place) → CanFuse b → is_pdo (node_at b.graph.nodes c.node)
     ≡ false → former (joined_nodes b) c ≡ c
 former_other b c can not = former_self (node_at (joined_nodes b) c.node) c (λ d f at. false≢true
     (sym not ∙ joined_pdos b c.node d f can at))
 
--- a collection that is still read
+-- A collection that is still read.
 pub record IsSeen (b : Cut) (c : Place) : Type 0 where
   pub there : IsThere b.graph.nodes c
   pub kept : is_pdo (node_at b.graph.nodes c.node) ≡ true → is_kept b c ≡ true

@@ -1,18 +1,17 @@
--- As many levels as there are nodes are enough for every forest
+-- As many levels as there are nodes are enough for every forest.
 use Rattle.std.proofs.Common.{◌≡◌, ℕ, ◌+◌, ◌<◌, ◌≤◌, Bool, true, false, cond, List, [], ◌∷◌, length, refl, sym, subst, arith, zero, suc}
 use Rattle.std.proofs.lemmas.Bool.{false≢true}
 use Rattle.std.specs.List.{AllByRecursion}
 use Rattle.exec_graph.specs.Forests.{Forest}
 use Rattle.exec_graph.specs.declared.graph.Place.{Place}
 use Rattle.exec_graph.specs.declared.graph.Node.{Node}
-use Rattle.exec_graph.specs.declared.graph.Node.TheVariants.{Source, Flatten, Pdo, Gbk}
+use Rattle.exec_graph.specs.declared.graph.Node.TheVariants.{Source, Flatten, Pdo, Gbk, Barrier}
 use Rattle.exec_graph.specs.declared.graph.Entry.{Entry}
 use Rattle.exec_graph.specs.Meaning.{place, reads, IsRankedBy}
 use Rattle.flume_value.proofs.EachLemmas.{Each-weaker}
 use Rattle.exec_graph.proofs.Solving.{place_of, lower_most, short_ranked}
-use Rattle.pardo_fuse.specs.Readers.{Cut}
-use Rattle.pardo_fuse.specs.Readers.{calls_on, readers, is_inner, CanFuse}
-use Rattle.pardo_fuse.specs.Fusing.{kids_of, Grown, planted, trees, step_at}
+use Rattle.pardo_fuse.specs.Readers.{Cut, calls_on, readers, is_inner}
+use Rattle.pardo_fuse.specs.SingleFusing.{CanFuse, Grown, kids_of, planted, step_at, trees}
 use Rattle.pardo_fuse.proofs.Places.{same_is}
 use Rattle.pardo_fuse.proofs.Once.{AllGrown}
 
@@ -21,7 +20,7 @@ pub grown_planted : (b : Cut) (t : ℕ → Forest) (ns : List ℕ)
 grown_planted b t [] a = tt
 grown_planted b t (n ∷ ns) a = (refl, a.0, grown_planted b t ns a.1)
 
--- what reads c is above c
+-- What reads c is above c.
 above_by : (r : ℕ → ℕ) (c : Place) (n : ℕ) (x : Node)
     → AllByRecursion (λ (d : Place). r d.node < r n) (reads x) → calls_on c x ≡ true
     → r c.node < r n
@@ -29,6 +28,7 @@ above_by r c n (Source s) a h = absurd (false≢true h)
 above_by r c n (Flatten ins) a h = absurd (false≢true h)
 above_by r c n (Pdo d f) a h = subst (λ (p : Place). r p.node < r n) (sym (same_is c d h)) a.0
 above_by r c n (Gbk d o l k) a h = absurd (false≢true h)
+above_by r c n (Barrier ins i l d) a h = absurd (false≢true h)
 
 pub readers_above : (r : ℕ → ℕ) (c : Place) (es : List Entry) → IsRankedBy r es
     → AllByRecursion (λ n. r c.node < r n) (readers es c)
@@ -49,7 +49,7 @@ kids_above b r n a = by (is_inner b (place n 0))
     by true = readers_above r (place n 0) b.graph.nodes a
     by false = tt
 
-grown_trees : (b : Cut) (r : ℕ → ℕ) (top : ℕ) → IsRankedBy r b.graph.nodes → ((n : ℕ)
+pub grown_trees : (b : Cut) (r : ℕ → ℕ) (top : ℕ) → IsRankedBy r b.graph.nodes → ((n : ℕ)
     → r n ≤ top) → (k : ℕ) (ns : List ℕ) → AllByRecursion (λ n. top < r n + k) ns
     → Grown b ns (trees b k ns)
 unfolding trees

@@ -1,4 +1,4 @@
--- A lifted Gbk stays one that may be lifted
+-- A lifted Gbk stays one that may be lifted.
 use Rattle.std.proofs.Common.{◌≡◌, ℕ, ◌+◌, Bool, true, false, cond, eqb, ◌||◌, List, [], ◌∷◌, ◌++◌, map, Option, Some, refl, sym, ap, ◌∙◌, subst, arith}
 use Rattle.std.proofs.lemmas.Bool.{eqb-true, eq-eqb, false≢true}
 use Rattle.std.specs.List.{flat_map, AllByRecursion}
@@ -6,17 +6,17 @@ use Rattle.exec_graph.specs.Forests.{Label, Forest, Bare, Grow, numbered}
 use Rattle.combine_table.specs.declared.comb.Comb.{Comb}
 use Rattle.exec_graph.specs.declared.graph.Place.{Place}
 use Rattle.exec_graph.specs.declared.graph.Node.{Node}
-use Rattle.exec_graph.specs.declared.graph.Node.TheVariants.{Source, Flatten, Pdo, Gbk}
+use Rattle.exec_graph.specs.declared.graph.Node.TheVariants.{Source, Flatten, Pdo, Gbk, Barrier}
 use Rattle.exec_graph.specs.declared.graph.Entry.{Entry}
 use Rattle.exec_graph.specs.Meaning.{place, node_at, reads, gives_at}
 use Rattle.graph_laws.specs.Joining.{reread}
 use Rattle.flume_value.proofs.EachLemmas.{Each-weaker}
 use Rattle.exec_graph.proofs.Entries.{all_found}
 use Rattle.exec_graph.proofs.Solving.{each_found}
-use Rattle.pardo_fuse.specs.Readers.{Cut}
-use Rattle.pardo_fuse.specs.Readers.{same_place, among, calls_on, collects, any_node, is_pdo, is_inner, readers, those, CanFuse}
+use Rattle.pardo_fuse.specs.Readers.{Cut, same_place, among, calls_on, collects, any_node, is_pdo, is_inner, readers, those}
 use Rattle.graph_laws.specs.Kids.{kept_by}
-use Rattle.pardo_fuse.specs.Fusing.{Grown, step_at, step_of, first_label, keeps_output, leads, is_first, forest_of, left_of, joined_nodes, with_numbers, finished}
+use Rattle.pardo_fuse.specs.Fusing.{finished, is_first, leads, with_numbers}
+use Rattle.pardo_fuse.specs.SingleFusing.{CanFuse, first_label, forest_of, Grown, joined_nodes, keeps_output, left_of, step_at, step_of}
 use Rattle.exec_graph.specs.Wellformed.{IsLiftedOk, comb_at, comb_of, root_comb}
 use Rattle.pardo_fuse.proofs.Counting.{one_if, times, passes, times_those}
 use Rattle.pardo_fuse.proofs.Places.{same_is, same_self}
@@ -29,20 +29,20 @@ use Rattle.pardo_fuse.proofs.Settling.{now, now_apart}
 use Rattle.pardo_fuse.proofs.Using.{leader_at, graph_now}
 
 -- ---- what does not read the Gbk's output does not read it now
-not_true : (a : Bool) → (a ≡ true → ⊥) → a ≡ false
+pub not_true : (a : Bool) → (a ≡ true → ⊥) → a ≡ false
 not_true true f = absurd (f refl)
 not_true false f = refl
 
--- r gives e for c alone
-abbrev Only : (Place → Place) → Place → Place → Type 0
+-- r gives e for c alone.
+abbrev pub Only : (Place → Place) → Place → Place → Type 0
 Only r c d = r d ≡ c → d ≡ c
 
-same_back : (r : Place → Place) (c d : Place) → Only r c d → same_place c d ≡ false
+pub same_back : (r : Place → Place) (c d : Place) → Only r c d → same_place c d ≡ false
     → same_place c (r d) ≡ false
 same_back r c d o h = not_true (same_place c (r d)) (λ i. false≢true (sym h
     ∙ ap (same_place c) (o (sym (same_is c (r d) i))) ∙ same_self c))
 
-among_back : (r : Place → Place) (c : Place) (ds : List Place) → AllByRecursion (Only r c) ds
+pub among_back : (r : Place → Place) (c : Place) (ds : List Place) → AllByRecursion (Only r c) ds
     → among c ds ≡ false → among c (map r ds) ≡ false
 among_back r c [] a h = refl
 among_back r c (d ∷ ds) a h = by (among_back r c ds a.1) (same_place c d) refl h
@@ -58,8 +58,9 @@ collects_back r c (Source s) a h = h
 collects_back r c (Flatten ins) a h = among_back r c ins a h
 collects_back r c (Pdo d f) a h = h
 collects_back r c (Gbk d o l k) a h = same_back r c d a.0 h
+collects_back r c (Barrier ins i l d) a h = among_back r c ins a h
 
-any_each : (t : Node → Bool) (es : List Entry) → any_node t es ≡ false
+pub any_each : (t : Node → Bool) (es : List Entry) → any_node t es ≡ false
     → AllByRecursion (λ e. t e.node ≡ false) es
 any_each t [] h = tt
 any_each t (e ∷ es) h = by (any_each t es) (t e.node) refl h
@@ -130,6 +131,12 @@ left_collects b n can g k a m (Gbk d o l i) at = (
       ≡ false) b.graph.nodes m (Gbk d o l i) at a),
   tt,
 )
+left_collects b n can g k a m (Barrier ins i l d) at = (
+  collects_back (now b) (place n 0) (Barrier ins i l d) (all_only b n ins can g k (seen_left b can m
+      (Barrier ins i l d) at refl)) (all_found (λ e. collects (place n 0) e.node
+      ≡ false) b.graph.nodes m (Barrier ins i l d) at a),
+  tt,
+)
 
 -- ---- its one reader
 abbrev those_now : Cut → Place → List Entry → List ℕ
@@ -141,7 +148,7 @@ those_map b c [] = refl
 those_map b c (h ∷ hs) = ap (λ (l : List ℕ). cond (calls_on c (reread (now b) (with_numbers
     h.node))) (h.number ∷ l) l) (those_map b c hs)
 
-those-append : (t : Node → Bool) (xs ys : List Entry) → those t (xs ++ ys)
+pub those-append : (t : Node → Bool) (xs ys : List Entry) → those t (xs ++ ys)
     ≡ those t xs ++ those t ys
 those-append t [] ys = refl
 those-append t (x ∷ xs) ys = by (t x.node) (those-append t xs ys)
@@ -158,7 +165,7 @@ calls_same b n d can g k s true e = ap (λ (x : Place). same_place (place n 0) (
     (same_is (place n 0) d e)) ∙ ap (same_place (place n 0)) k.same ∙ same_self (place n 0)
 calls_same b n d can g k s false e = same_back (now b) (place n 0) d (only_seen b n d can g k s) e
 
--- a Pdo that reads the Gbk leads
+-- A Pdo that reads the Gbk leads.
 abbrev Leading : Cut → ℕ → Type 0
 Leading b n = (m : ℕ) (f : Forest) → node_at b.graph.nodes m ≡ Some (Pdo (place n 0) f)
     → leads b m (place n 0) ≡ true
@@ -184,6 +191,7 @@ left_calls b n can g k lead m (Pdo d f) at = by (leads b m d) (same_place (place
         ∙ ap (λ (x : Place). Some (Pdo x f)) (sym p))))
     by false false l e = refl
 left_calls b n can g k lead m (Gbk d o l i) at = refl
+left_calls b n can g k lead m (Barrier ins o l a) at = refl
 
 readers_left : (b : Cut) (n : ℕ) → CanFuse b → AllGrown b → IsGbk b n → Leading b n
     → (es : List Entry) → Found b es → those_now b (place n 0) (flat_map (λ e. left_of b e.number
@@ -218,7 +226,7 @@ alone_leads b n q can k a m f at =
     by true e u = eq-eqb m q (sym (eqb-true q m e))
     by false e u = absurd (omega arith)
 
--- the one root of its forest is the step of the reader
+-- The one root of its forest is the step of the reader.
 root_fun : (k : Comb) (f : Forest) → root_comb f ≡ Some k → comb_of (first_label f).does ≡ Some k
 root_fun k Bare h = let bad : ⊥ = cc in absurd bad
 root_fun k (Grow l kids Bare) h = h

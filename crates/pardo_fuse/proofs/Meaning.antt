@@ -1,4 +1,4 @@
--- The fused graph means what the graph means
+-- The fused graph means what the graph means.
 use Rattle.std.proofs.Common.{◌≡◌, ℕ, Bool, true, false, cond, List, [], ◌∷◌, ◌++◌, map, Option, Some, None, refl, sym, ap, ◌∙◌, subst, append-nil}
 use Rattle.std.proofs.lemmas.List.Concat.{flat_map-append}
 use Rattle.std.proofs.lemmas.List.Folds.{flat_map-map}
@@ -13,20 +13,19 @@ use Rattle.flume_collection.proofs.Orders.{bags, sets, one_bag}
 use Rattle.exec_graph.specs.Forests.{Label, Forest, Bare, Grow, numbered, new_out, with_out}
 use Rattle.exec_graph.specs.declared.graph.Place.{Place}
 use Rattle.exec_graph.specs.declared.graph.Node.{Node}
-use Rattle.exec_graph.specs.declared.graph.Node.TheVariants.{Source, Flatten, Pdo, Gbk}
+use Rattle.exec_graph.specs.declared.graph.Node.TheVariants.{Source, Flatten, Pdo, Gbk, Barrier}
 use Rattle.exec_graph.specs.declared.graph.Entry.{Entry}
 use Rattle.exec_graph.specs.Meaning.{through, place, FitsForest, total, step_own, step_traps, Holds, Meets, own, traps, node_at, reads, KeepsMeaning}
 use Rattle.graph_laws.specs.Joining.{reread}
-use Rattle.graph_laws.specs.Kids.{number_in}
+use Rattle.graph_laws.specs.Kids.{number_in, kept_by}
 use Rattle.exec_graph.proofs.Entries.{all_found, all_map}
 use Rattle.flume_value.proofs.EachLemmas.{Each-weaker, Each-both}
 use Rattle.graph_laws.proofs.Joining.{map_reread, holds_reread, own-reread, traps-reread}
 use Rattle.graph_laws.proofs.Numbering.{number_back, fits_numbered, total-numbered}
 use Rattle.exec_graph.proofs.Solving.{each_found}
-use Rattle.pardo_fuse.specs.Readers.{Cut}
-use Rattle.pardo_fuse.specs.Readers.{is_pdo, readers, those, CanFuse, HasOneStep, IsSingle}
-use Rattle.graph_laws.specs.Kids.{kept_by}
-use Rattle.pardo_fuse.specs.Fusing.{named, first_label, step_of, kept_label, keeps_output, leads, forest_of, left_of, joined_nodes, new_place, with_numbers, finished, fused_by}
+use Rattle.pardo_fuse.specs.Readers.{Cut, is_pdo, readers, those}
+use Rattle.pardo_fuse.specs.Fusing.{finished, leads, with_numbers}
+use Rattle.pardo_fuse.specs.SingleFusing.{CanFuse, first_label, forest_of, fused_by, HasOneStep, IsSingle, joined_nodes, keeps_output, kept_label, left_of, named, new_place, step_of}
 use Rattle.pardo_fuse.proofs.Counting.{gather_same, times_those}
 use Rattle.pardo_fuse.proofs.Partition.{numbers}
 use Rattle.pardo_fuse.proofs.Once.{Found, AllGrown, all_of, left_numbers, all_left, each_once, any}
@@ -100,6 +99,14 @@ left_holds w b m can g meets n (Gbk c o l k) at = (
       (λ e. Holds w m e.number e.node) b.graph.nodes n (Gbk c o l k) at meets),
   tt,
 )
+left_holds w b m can g meets n (Barrier ins o l a) at = (
+  λ _. holds_reread w (values b m) m (now b) n (Barrier ins o l a)
+      (seen_same b m can g ins (seen_left
+      b can n (Barrier ins o l a) at refl)) (at_other b m n can (ap is_pdo at))
+      (all_found (λ e. Holds
+      w m e.number e.node) b.graph.nodes n (Barrier ins o l a) at meets),
+  tt,
+)
 
 meets_now : (w : World) (b : Cut) (m : Place → Collection) → (can : CanFuse b) → AllGrown b
     → Meets w b.graph.nodes m → Meets w (map (finished (now b)) (joined_nodes b)) (values b m)
@@ -133,7 +140,7 @@ single_total w p v n (Grow l Bare Bare) s h = append-nil (p v l) ∙ sym (h l)
 single_total w p v n (Grow l Bare (Grow m kids rest)) s h = absurd s
 single_total w p v n (Grow l (Grow m kids rest) others) s h = absurd s
 
--- a sum over nodes in which a Pdo counts by its steps
+-- A sum over nodes in which a Pdo counts by its steps.
 pub record IsSum {Y : Type 0} (w : World) (part : (Place → Collection) → Node
     → List Y) (p : Collection → Label → List Y) : Type 0 where
   pub steps : (m : Place → Collection) (c : Place) (f : Forest) → part m (Pdo c f)
@@ -190,6 +197,9 @@ left_part {Y = Y} w part p is b m can g meets n (Pdo c f) at = by (leads b n c) 
 left_part w part p is b m can g meets n (Gbk c o l k) at =
     ap (λ l. l ++ []) (is.moved (values b m) m (now b) (Gbk c o l k) (seen_same b m can g (c ∷ [])
     (seen_left b can n (Gbk c o l k) at refl)) ∙ ap (part_at (part m)) (sym at))
+left_part w part p is b m can g meets n (Barrier ins x y d) at =
+    ap (λ l. l ++ []) (is.moved (values b m) m (now b) (Barrier ins x y d) (seen_same b m can g ins
+    (seen_left b can n (Barrier ins x y d) at refl)) ∙ ap (part_at (part m)) (sym at))
 
 flat_joined : {Y : Type 0} (b : Cut) (F : Entry → List Y) (G : ℕ → List Y) → ((n : ℕ) (x : Node)
     → node_at b.graph.nodes n ≡ Some x → flat_map F (left_of b n x)
@@ -228,7 +238,7 @@ sum_now {Y = Y} s sw w part p is b m can g meets z =
     (now b)) (joined_nodes b) ∙ flat_joined b (λ h. part (values b m) (reread (now b)
     (with_numbers h.node))) G (left_part w part p is b m can g meets) es fo))
 
-own_sum : (w : World) (i : ℕ) → IsSum w (λ m x. own w m i x) (step_own w i)
+pub own_sum : (w : World) (i : ℕ) → IsSum w (λ m x. own w m i x) (step_own w i)
 own_sum w i = record {
   steps = λ m c f. refl;
   moved =
@@ -239,7 +249,7 @@ own_sum w i = record {
   numbered = λ v o l. refl;
 }
 
-traps_sum : (w : World) → IsSum w (λ m x. traps w m x) (step_traps w)
+pub traps_sum : (w : World) → IsSum w (λ m x. traps w m x) (step_traps w)
 traps_sum w = record {
   steps = λ m c f. refl;
   moved =

@@ -1,19 +1,19 @@
--- Nothing is left to fuse in the fused graph
+-- Nothing is left to fuse in the fused graph.
 use Rattle.std.proofs.Common.{◌≡◌, ℕ, Bool, true, false, cond, ◌||◌, ◌&&◌, List, [], ◌∷◌, map, Option, Some, None, refl, sym, ap, ◌∙◌}
 use Rattle.std.proofs.lemmas.Bool.{eqb-true, false≢true}
 use Rattle.std.specs.List.{AllByRecursion}
 use Rattle.exec_graph.specs.Forests.{Forest, numbered}
 use Rattle.exec_graph.specs.declared.graph.Place.{Place}
 use Rattle.exec_graph.specs.declared.graph.Node.{Node}
-use Rattle.exec_graph.specs.declared.graph.Node.TheVariants.{Source, Flatten, Pdo, Gbk}
+use Rattle.exec_graph.specs.declared.graph.Node.TheVariants.{Source, Flatten, Pdo, Gbk, Barrier}
 use Rattle.exec_graph.specs.declared.graph.Entry.{Entry}
 use Rattle.exec_graph.specs.Meaning.{node_at}
 use Rattle.exec_graph.proofs.Entries.{all_found}
 use Rattle.exec_graph.proofs.Solving.{each_found}
 use Rattle.exec_graph.specs.declared.graph.Blocked.{Blocked}
-use Rattle.pardo_fuse.specs.Readers.{Cut, cut_of}
-use Rattle.pardo_fuse.specs.Readers.{same_place, among, is_pdo, is_marked, is_unmarked, is_inner, is_kept, is_marked_or_needed, any_node, collects, calls_on, readers, CanFuse}
-use Rattle.pardo_fuse.specs.Fusing.{leads, is_first, forest_of, left_of, joined_nodes, new_place, finished, fused, fused_by}
+use Rattle.pardo_fuse.specs.Readers.{Cut, cut_of, same_place, among, is_pdo, is_marked, is_unmarked, is_inner, is_kept, any_node, collects, calls_on, readers}
+use Rattle.pardo_fuse.specs.Fusing.{finished, is_first, leads}
+use Rattle.pardo_fuse.specs.SingleFusing.{CanFuse, forest_of, fused_by, joined_nodes, left_of, new_place}
 use Rattle.pardo_fuse.specs.Wellformed.{IsSettled}
 use Rattle.pardo_fuse.proofs.Places.{same_is, same_self}
 use Rattle.pardo_fuse.proofs.Once.{AllGrown}
@@ -29,7 +29,7 @@ now b = new_place (joined_nodes b)
 abbrev pub nodes_now : Cut → List Entry
 nodes_now b = map (finished (now b)) (joined_nodes b)
 
--- the Pdo n of the fused graph leads those that read c
+-- The Pdo n of the fused graph leads those that read c.
 pub record IsLeader (b : Cut) (n : ℕ) (c : Place) : Type 0 where
   pub old : Forest
   pub at : node_at b.graph.nodes n ≡ Some (Pdo c old)
@@ -56,6 +56,7 @@ left_led b n (Pdo d g) at =
       sym q ∙ ap (forest_of b) p,
     ))
 left_led b n (Gbk d o l k) at = (λ c f e. let bad : ⊥ = cc in absurd bad, tt)
+left_led b n (Barrier ins o l a) at = (λ c f e. let bad : ⊥ = cc in absurd bad, tt)
 
 pub record IsLed (b : Cut) (n : ℕ) (d : Place) (h : Forest) : Type 0 where
   pub from : Place
@@ -72,6 +73,7 @@ done_pdo r (Some (Source s)) d h e = let bad : ⊥ = cc in absurd bad
 done_pdo r (Some (Flatten ins)) d h e = let bad : ⊥ = cc in absurd bad
 done_pdo r (Some (Pdo c f)) d h e = (c, f, refl, cc, cc)
 done_pdo r (Some (Gbk c o l k)) d h e = let bad : ⊥ = cc in absurd bad
+done_pdo r (Some (Barrier ins o l a)) d h e = let bad : ⊥ = cc in absurd bad
 
 pub led : (b : Cut) → (can : CanFuse b) → (n : ℕ) (d : Place) (h : Forest)
     → node_at (nodes_now b) n ≡ Some (Pdo d h) → IsLed b n d h
@@ -92,7 +94,7 @@ led b can n d h at =
 pub leader_seen : (b : Cut) (n : ℕ) (c : Place) → CanFuse b → IsLeader b n c → IsSeen b c
 leader_seen b n c can l = leads_seen b can n c l.old l.at l.leads
 
--- collections that are still read stay apart
+-- Collections that are still read stay apart.
 pub now_apart : (b : Cut) (c d : Place) → CanFuse b → AllGrown b → IsSeen b c → IsSeen b d
     → now b c ≡ now b d → c ≡ d
 now_apart b c d can g s t e = sym (found_again b c can g s) ∙ ap (former (joined_nodes b)) e
@@ -102,7 +104,7 @@ first_only : (n q : ℕ) (xs : List ℕ) → is_first n xs ≡ true → is_first
 first_only n q [] h i = absurd (false≢true h)
 first_only n q (x ∷ xs) h i = eqb-true n x h ∙ sym (eqb-true q x i)
 
-leads_first : (b : Cut) (n : ℕ) (c : Place) → leads b n c ≡ true
+pub leads_first : (b : Cut) (n : ℕ) (c : Place) → leads b n c ≡ true
     → is_first n (readers b.graph.nodes c) ≡ true
 leads_first b n c h = by (is_inner b c) h
   where
@@ -137,6 +139,7 @@ done_pdos b n can h = ap is_pdo (at_finished (now b) (joined_nodes b) n)
     by (Some (Flatten ins)) e = refl
     by (Some (Pdo c f)) e = absurd (false≢true (sym h ∙ joined_pdos b n c f can e))
     by (Some (Gbk c o l k)) e = refl
+    by (Some (Barrier ins o l a)) e = refl
 
 marked_by : (m : Bool) → cond m false true ≡ false → m ≡ true
 marked_by true h = refl
@@ -160,9 +163,9 @@ outer_by a c can g h false e = ap (λ (r : Bool). r && cond (among (now (cut_of 
     x.node)) (not_new c (joined_nodes (cut_of a)) (no_joined (cut_of a) c.node can g e))
     ∙ done_pdos (cut_of a) c.node can e)
 
-pub IsSettled-fused : (a : Blocked) → CanFuse (cut_of a) → IsSettled (fused a)
+pub IsSettled-fused_by : (a : Blocked) → CanFuse (cut_of a) → IsSettled (fused_by (cut_of a))
 unfolding fused_by
-IsSettled-fused a can =
+IsSettled-fused_by a can =
     let b : Cut = cut_of a in
     let g : AllGrown b = all_grown b can in
     record {
@@ -178,15 +181,3 @@ IsSettled-fused a can =
           (leader_seen b n l.from can l.leader) (leader_seen b q m.from can m.leader) (l.is
           ∙ sym m.is));
     }
-
-outer_is : (p m : Bool) → p ≡ true → cond (p && cond m false true) false true ≡ m
-outer_is true true h = refl
-outer_is true false h = refl
-outer_is false m h = absurd (false≢true h)
-
--- a step keeps its output exactly where it is marked and a Pdo reads it, or something else reads it
-pub kept_as_said : (a : Blocked) (c : Place) → is_pdo (node_at a.graph.nodes c.node) ≡ true
-    → is_kept (cut_of a) c ≡ is_marked_or_needed a c
-kept_as_said a c h = ap (λ (r : Bool). any_node (collects c) a.graph.nodes || (among c
-    a.graph.outputs || (r && any_node (calls_on c) a.graph.nodes))) (outer_is (is_pdo (node_at
-    a.graph.nodes c.node)) (is_marked a c) h)

@@ -1,77 +1,65 @@
--- The fused graph: the parent of a step is the step whose unmarked output it read, and steps
--- without a parent that read one collection are the roots of one Pdo.
-use Rattle.std.specs.Prelude.{◌≡◌, ℕ, ◌==◌, Bool, false, cond, List, [], ◌∷◌, map, length, Option, Some, None}
+-- The fused graph: a step hangs on the unmarked output that it read, and steps that read one
+-- collection which is no such output are the roots of one Pdo.
+use Rattle.std.specs.Prelude.{ℕ, ◌==◌, Bool, false, cond, List, [], ◌∷◌, map, length, Option, Some, None}
 use Rattle.std.proofs.Common.{zero, suc}
 use Rattle.std.specs.List.{flat_map}
-use Rattle.exec_graph.specs.Forests.{Label, Forest, Bare, Grow, numbered, with_out}
-use Rattle.exec_graph.specs.declared.step.Does.TheVariants as does
+use Rattle.exec_graph.specs.Forests.{Forest, Bare, Grow, numbered, with_out}
 use Rattle.exec_graph.specs.Meaning.{place, node_at, has_out}
 use Rattle.graph_laws.specs.Joining.{reread}
-use Rattle.graph_laws.specs.Kids.{kept_by, number_in, out_kept}
+use Rattle.graph_laws.specs.Kids.{number_in}
+use Rattle.exec_graph.specs.Places.{code}
 use Rattle.exec_graph.specs.declared.graph.Place.{Place}
 use Rattle.exec_graph.specs.declared.graph.Node.{Node}
-use Rattle.exec_graph.specs.declared.graph.Node.TheVariants.{Source, Flatten, Pdo, Gbk}
+use Rattle.exec_graph.specs.declared.graph.Node.TheVariants.{Source, Flatten, Pdo, Gbk, Barrier}
 use Rattle.exec_graph.specs.declared.graph.Entry.{Entry}
 use Rattle.exec_graph.specs.declared.graph.Blocked.{Blocked}
 use Rattle.pardo_fuse.specs.Readers.{Cut, cut_of, readers, is_inner, is_kept}
 
--- ---- forests whose outputs have the numbers of the former Pdos
-abbrev pub named : ℕ → Label → Label
-named n l = with_out (Some n) l
+-- ---- forests, whose kept outputs have the codes of their former collections
 
-abbrev pub blank : Label
-blank = record { origin = 0; last = false; does = does.Pair; at = 0; out = None }
+abbrev pub named : Cut → ℕ → Option ℕ → Option ℕ
+named b n None = None
+named b n (Some j) = cond (is_kept b (place n j)) (Some (code (place n j))) None
 
--- the one step of a Pdo
-abbrev pub first_label : Forest → Label
-first_label Bare = blank
-first_label (Grow l kids rest) = l
+-- the Pdos whose steps become kids on an output of Pdo n
+abbrev pub kids_on : Cut → ℕ → Option ℕ → List ℕ
+kids_on b n None = []
+kids_on b n (Some j) = cond (is_inner b (place n j)) (readers b.graph.nodes (place n j)) []
 
-abbrev pub step_of : Option Node → Label
-step_of None = blank
-step_of (Some (Source r)) = blank
-step_of (Some (Flatten ins)) = blank
-step_of (Some (Pdo c f)) = first_label f
-step_of (Some (Gbk c o l k)) = blank
+-- the outputs of the step of Pdo n in order, each under the forest over it, before the rest
+abbrev pub hung : Cut → ℕ → (Option ℕ → Forest) → Forest → Forest → Forest
+hung b n over Bare rest = rest
+hung b n over (Grow l kids more) rest =
+    Grow (with_out (named b n l.out) l) (over l.out) (hung b n over more rest)
 
--- the step of the Pdo n, under the Pdo's number
-abbrev pub step_at : Cut → ℕ → Label
-step_at b n = named n (step_of (node_at b.graph.nodes n))
+abbrev pub step_in : Option Node → Forest
+step_in None = Bare
+step_in (Some (Source r)) = Bare
+step_in (Some (Flatten ins)) = Bare
+step_in (Some (Pdo c f)) = f
+step_in (Some (Gbk c o l k)) = Bare
+step_in (Some (Barrier ins o l a)) = Bare
 
--- the Pdos whose parent is the Pdo n
-abbrev pub kids_of : Cut → ℕ → List ℕ
-kids_of b n = cond (is_inner b (place n 0)) (readers b.graph.nodes (place n 0)) []
+abbrev pub in_turn : (ℕ → Forest → Forest) → List ℕ → Forest
+in_turn tree [] = Bare
+in_turn tree (n ∷ ns) = tree n (in_turn tree ns)
 
--- the trees of the Pdos ns side by side: over each step the trees of its kids
-abbrev pub Grown : Cut → List ℕ → Forest → Type 0
-Grown b [] Bare = Unit {0}
-Grown b [] (Grow l kids rest) = ⊥
-Grown b (n ∷ ns) Bare = ⊥
-Grown b (n ∷ ns) (Grow l kids rest) = (l ≡ step_at b n) × Grown b (kids_of b n) kids × Grown b ns
-    rest
-
--- the same as a function, down to a number of levels
-abbrev pub planted : (ℕ → Label) → (ℕ → Forest) → List ℕ → Forest
-planted l f [] = Bare
-planted l f (n ∷ ns) = Grow (l n) (f n) (planted l f ns)
-
-unfoldable pub trees : Cut → ℕ → List ℕ → Forest
-trees b zero ns = Bare
-trees b (suc k) ns = planted (step_at b) (λ n. trees b k (kids_of b n)) ns
-
--- only some outputs are kept
-abbrev pub kept_label : (ℕ → Bool) → Label → Label
-kept_label keep l = with_out (out_kept keep l.out) l
-
-abbrev pub keeps_output : Cut → ℕ → Bool
-keeps_output b n = is_kept b (place n 0)
+-- the trees of the Pdos ns side by side, down to a number of levels: over each output of a step the
+-- trees of its kids
+unfoldable pub hanging : Cut → ℕ → List ℕ → Forest
+hanging b zero ns = Bare
+hanging b (suc k) ns =
+    in_turn (λ n rest. hung b n (λ o. hanging b k (kids_on b n o))
+    (step_in (node_at b.graph.nodes n))
+    rest) ns
 
 -- all that is computed from c without a kept collection in between: as many levels as there are
 -- nodes are enough
-abbrev pub forest_of : Cut → Place → Forest
-forest_of b c = kept_by (keeps_output b) (trees b (length b.graph.nodes) (readers b.graph.nodes c))
+abbrev pub forest_over : Cut → Place → Forest
+forest_over b c = hanging b (length b.graph.nodes) (readers b.graph.nodes c)
 
 -- ---- the nodes that are left
+
 abbrev pub is_first : ℕ → List ℕ → Bool
 is_first n [] = false
 is_first n (q ∷ qs) = n == q
@@ -80,62 +68,65 @@ is_first n (q ∷ qs) = n == q
 abbrev pub leads : Cut → ℕ → Place → Bool
 leads b n c = cond (is_inner b c) false (is_first n (readers b.graph.nodes c))
 
-abbrev pub left_of : Cut → ℕ → Node → List Entry
-left_of b n (Source r) = record { number = n; node = Source r } ∷ []
-left_of b n (Flatten ins) = record { number = n; node = Flatten ins } ∷ []
-left_of b n (Pdo c f) = cond (leads b n c) (record {
+abbrev pub kept_of : Cut → ℕ → Node → List Entry
+kept_of b n (Source r) = record { number = n; node = Source r } ∷ []
+kept_of b n (Flatten ins) = record { number = n; node = Flatten ins } ∷ []
+kept_of b n (Pdo c f) = cond (leads b n c) (record {
   number = n;
-  node =
-      Pdo c (forest_of b c);
+  node = Pdo c (forest_over b c);
 } ∷ []) []
-left_of b n (Gbk c o l k) = record { number = n; node = Gbk c o l k } ∷ []
+kept_of b n (Gbk c o l k) = record { number = n; node = Gbk c o l k } ∷ []
+kept_of b n (Barrier ins o l a) = record { number = n; node = Barrier ins o l a } ∷ []
 
-abbrev pub joined_nodes : Cut → List Entry
-joined_nodes b = flat_map (λ e. left_of b e.number e.node) b.graph.nodes
+abbrev pub kept_nodes : Cut → List Entry
+kept_nodes b = flat_map (λ e. kept_of b e.number e.node) b.graph.nodes
 
 -- ---- outputs get the numbers from 0 in preorder, and what reads them reads these
+
 abbrev pub holds_out : ℕ → Node → Bool
 holds_out n (Source r) = false
 holds_out n (Flatten ins) = false
 holds_out n (Pdo c f) = has_out n f
 holds_out n (Gbk c o l k) = false
+holds_out n (Barrier ins o l a) = false
 
 abbrev pub out_number : ℕ → Node → ℕ
 out_number n (Source r) = 0
 out_number n (Flatten ins) = 0
 out_number n (Pdo c f) = number_in 0 f n
 out_number n (Gbk c o l k) = 0
+out_number n (Barrier ins o l a) = 0
 
 -- where a former collection is now
-abbrev pub new_place : List Entry → Place → Place
-new_place [] c = c
-new_place (h ∷ hs) c = cond (holds_out c.node h.node) (place h.number (out_number c.node h.node))
-    (new_place hs c)
+abbrev pub moved_to : List Entry → Place → Place
+moved_to [] c = c
+moved_to (h ∷ hs) c = cond (holds_out (code c) h.node) (place h.number (out_number (code c) h.node))
+    (moved_to hs c)
 
 abbrev pub with_numbers : Node → Node
 with_numbers (Source r) = Source r
 with_numbers (Flatten ins) = Flatten ins
 with_numbers (Pdo c f) = Pdo c (numbered 0 f)
 with_numbers (Gbk c o l k) = Gbk c o l k
+with_numbers (Barrier ins o l a) = Barrier ins o l a
 
 abbrev pub finished : (Place → Place) → Entry → Entry
 finished r h = record { number = h.number; node = reread r (with_numbers h.node) }
 
-abbrev pub renamed : List Entry → Cut → Blocked
-renamed hs b =
+abbrev pub moved_all : List Entry → Cut → Blocked
+moved_all hs b =
     record {
       graph = record {
-        nodes = map (finished (new_place hs)) hs;
-        outputs =
-            map (new_place hs) b.graph.outputs;
+        nodes = map (finished (moved_to hs)) hs;
+        outputs = map (moved_to hs) b.graph.outputs;
         next = b.graph.next;
       };
-      marks = map (new_place hs) b.marks;
+      marks = map (moved_to hs) b.marks;
     }
 
-unfoldable pub fused_by : Cut → Blocked
-fused_by b = renamed (joined_nodes b) b
+unfoldable pub joined_by : Cut → Blocked
+joined_by b = moved_all (kept_nodes b) b
 
 -- the normal form
 abbrev pub fused : Blocked → Blocked
-fused b = fused_by (cut_of b)
+fused b = joined_by (cut_of b)

@@ -1,11 +1,9 @@
--- Who reads a collection, in a graph with marked collections
-use Rattle.std.specs.Prelude.{◌≡◌, ℕ, ◌&&◌, ◌||◌, ◌≤◌, length, Bool, true, false, cond, List, Option, Some, None}
-use Rattle.std.specs.List.{AllByRecursion}
-use Rattle.exec_graph.specs.Forests.{Forest, Bare, Grow}
-use Rattle.exec_graph.specs.Meaning.{node_at, IsThere, IsSound}
+-- Who reads a collection, in a graph with marked collections.
+use Rattle.std.specs.Prelude.{◌&&◌, ◌||◌, Bool, true, false, cond, List, Option, Some, None}
+use Rattle.exec_graph.specs.Meaning.{node_at}
 use Rattle.exec_graph.specs.declared.graph.Place.{Place}
 use Rattle.exec_graph.specs.declared.graph.Node.{Node}
-use Rattle.exec_graph.specs.declared.graph.Node.TheVariants.{Source, Flatten, Pdo, Gbk}
+use Rattle.exec_graph.specs.declared.graph.Node.TheVariants.{Source, Flatten, Pdo, Gbk, Barrier}
 use Rattle.exec_graph.specs.declared.graph.Graph.{Graph}
 use Rattle.exec_graph.specs.declared.graph.Blocked.{Blocked}
 pub use Rattle.exec_graph.specs.Readers.{same_place, among, calls_on, collects, any_node, those, readers}
@@ -16,6 +14,7 @@ is_pdo (Some (Source r)) = false
 is_pdo (Some (Flatten ins)) = false
 is_pdo (Some (Pdo c f)) = true
 is_pdo (Some (Gbk c o l k)) = false
+is_pdo (Some (Barrier ins o l a)) = false
 
 abbrev pub is_marked : Blocked → Place → Bool
 is_marked b c = among c b.marks
@@ -40,39 +39,8 @@ is_inner b c = b.inner c
 abbrev pub is_outer : Cut → Place → Bool
 is_outer b c = cond (b.inner c) false true
 
--- a step keeps its output where a Gbk, a Flatten or a script output reads it, or where a Pdo reads
--- it that is not fused into it
+-- a step keeps its output where a Gbk, a Flatten, a Barrier or a script output reads it, or where a
+-- Pdo reads it that is not fused into it
 abbrev pub is_kept : Cut → Place → Bool
 is_kept b c = any_node (collects c) b.graph.nodes || (among c b.graph.outputs || (is_outer b c &&
     any_node (calls_on c) b.graph.nodes))
-
--- a Pdo has one step, whose output is 0 where it has one
-abbrev pub IsFirst : Option ℕ → Type 0
-IsFirst None = Unit {0}
-IsFirst (Some j) = j ≡ 0
-
-abbrev pub IsSingle : Forest → Type 0
-IsSingle Bare = ⊥
-IsSingle (Grow l Bare Bare) = IsFirst l.out
-IsSingle (Grow l Bare (Grow m kids rest)) = ⊥
-IsSingle (Grow l (Grow m kids rest) others) = ⊥
-
-abbrev pub HasOneStep : Node → Type 0
-HasOneStep (Source r) = Unit {0}
-HasOneStep (Flatten ins) = Unit {0}
-HasOneStep (Pdo c f) = IsSingle f
-HasOneStep (Gbk c o l k) = Unit {0}
-
--- the graph is ok and small, and each Pdo has one step
-pub record CanFuse (b : Cut) : Type 0 where
-  pub ok : IsSound b.graph
-  pub single : AllByRecursion (λ e. HasOneStep e.node) b.graph.nodes
-  pub marked : AllByRecursion (IsThere b.graph.nodes) b.marks
-  pub few : length b.graph.nodes ≤ 4096
-  pub pdos : (c : Place) → b.inner c ≡ true → is_pdo (node_at b.graph.nodes c.node) ≡ true
-
--- what is kept, said of marks: a Gbk, a Flatten or a script output reads it, or it is marked and a
--- Pdo reads it
-abbrev pub is_marked_or_needed : Blocked → Place → Bool
-is_marked_or_needed b c = any_node (collects c) b.graph.nodes || (among c b.graph.outputs ||
-    (is_marked b c && any_node (calls_on c) b.graph.nodes))

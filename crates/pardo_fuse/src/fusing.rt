@@ -1,3 +1,4 @@
+// Fusing: the nodes that are left, and what is read where it is now.
 ghost use Rattle.std.specs.Prelude.{◌≡◌, map, IfOk};
 ghost use Rattle.std.specs.List.{flat_map};
 ghost use Rattle.exec_graph.specs.Meaning.{SameMeaning};
@@ -5,7 +6,7 @@ ghost use Rattle.exec_graph.specs.Typing.{KeepsTypes};
 ghost use Rattle.exec_graph.specs.Wellformed.{IsBlockedOk};
 ghost use Rattle.graph_laws.specs.Joining.{reread, reread_entry};
 ghost use Rattle.pardo_fuse.specs.Readers.{cut_of};
-ghost use Rattle.pardo_fuse.specs.Fusing.{fused, left_of};
+ghost use Rattle.pardo_fuse.specs.Fusing.{fused, kept_of};
 ghost use Rattle.pardo_fuse.specs.Wellformed.{IsFusible, IsSettled};
 ghost use Rattle.pardo_fuse.specs.inner.Naming.{AllShort, all_names, by_index, numbered_entry};
 
@@ -18,8 +19,8 @@ use std::alloc::{AllocError, Global};
 use std::collections::HashMap;
 use std::mem;
 
-/// Makes each Pdo that reads an unmarked output of a Pdo a kid of that output's step, and those
-/// that then read one collection one Pdo. Each Pdo has one step with one output before.
+/// Makes each Pdo that reads an unmarked output of a Pdo a kid on that output of its step, and Pdos
+/// that then read one collection one Pdo. Before, each Pdo has one step with few outputs.
 pub fn fuse(alloc: Global, blocked: Blocked) -> Result<Blocked, AllocError>
     requires { IsFusible blocked }
     ensures fused { IfOk result (λ c. c ≡ fused blocked) }
@@ -38,7 +39,7 @@ pub fn fuse(alloc: Global, blocked: Blocked) -> Result<Blocked, AllocError>
 fn joined(alloc: Global, blocked: &Blocked) -> Result<Joined, AllocError>
     requires { AllShort (cut_of blocked.now) blocked.now.graph.nodes }
     ensures nodes { IfOk result (λ j. j.nodes.items
-        ≡ flat_map (λ e. map numbered_entry (left_of (cut_of blocked.now) e.number e.node))
+        ≡ flat_map (λ e. map numbered_entry (kept_of (cut_of blocked.now) e.number e.node))
         blocked.now.graph.nodes) }
     ensures names { IfOk result (λ j. j.naming.names.items ≡ all_names (cut_of blocked.now)) }
 {
@@ -52,7 +53,7 @@ fn renamed(
     alloc: Global,
     blocked: Blocked,
     nodes: Vec<Entry>,
-    index: &HashMap<u32, Place>,
+    index: &HashMap<u64, Place>,
 ) -> Blocked
     ensures { result ≡ record {
       graph = record {
@@ -79,7 +80,7 @@ fn renamed(
     }
 }
 
-fn reread_all(alloc: Global, nodes: Vec<Entry>, index: &HashMap<u32, Place>) -> Pile<Entry>
+fn reread_all(alloc: Global, nodes: Vec<Entry>, index: &HashMap<u64, Place>) -> Pile<Entry>
     ensures { result ≡ map (reread_entry (by_index index.now)) nodes.items }
 {
     let mut all = nodes;
@@ -89,13 +90,13 @@ fn reread_all(alloc: Global, nodes: Vec<Entry>, index: &HashMap<u32, Place>) -> 
     Pile::from_vec(all)
 }
 
-fn reread_entry(alloc: Global, entry: &mut Entry, index: &HashMap<u32, Place>)
+fn reread_entry(alloc: Global, entry: &mut Entry, index: &HashMap<u64, Place>)
     ensures { entry.new ≡ reread_entry (by_index index.now) entry.old }
 {
     reread(alloc, &mut entry.node, index);
 }
 
-fn reread(alloc: Global, node: &mut Node, index: &HashMap<u32, Place>)
+fn reread(alloc: Global, node: &mut Node, index: &HashMap<u64, Place>)
     ensures { node.new ≡ reread (by_index index.now) node.old }
 {
     match node {
@@ -106,5 +107,9 @@ fn reread(alloc: Global, node: &mut Node, index: &HashMap<u32, Place>)
         }
         Node::Pdo(c, _) => *c = place_of(*c, index),
         Node::Gbk(c, _, _, _) => *c = place_of(*c, index),
+        Node::Barrier(inputs, _, _, _) => {
+            let former = mem::replace(inputs, Pile::new(alloc));
+            *inputs = places_of(former, index);
+        }
     }
 }

@@ -1,9 +1,10 @@
+// The nodes that are left: of the Pdos that read one collection the first, with its forest.
 ghost use Rattle.std.specs.Prelude.{◌≡◌, ◌++◌, ◌∷◌, [], ◌<◌, ◌^◌, length, map, true, IfOk, OnOk};
 ghost use Rattle.std.specs.List.{flat_map};
 ghost use Rattle.exec_graph.specs.Forests.{numbered};
 ghost use Rattle.exec_graph.specs.Readers.{readers};
 ghost use Rattle.pardo_fuse.specs.Readers.{cut_of};
-ghost use Rattle.pardo_fuse.specs.Fusing.{forest_of, left_of, trees};
+ghost use Rattle.pardo_fuse.specs.Fusing.{forest_over, kept_of};
 ghost use Rattle.pardo_fuse.specs.inner.Naming.{AllShort, LeadsShort, all_names, labels, left_names, names_from, numbered_entry};
 ghost use Rattle.pardo_fuse.specs.inner.Tables.{AreTables};
 
@@ -32,7 +33,7 @@ pub(crate) fn joined_nodes(
     requires tables { AreTables blocked.now tables.now }
     requires short { AllShort (cut_of blocked.now) blocked.now.graph.nodes }
     ensures nodes { IfOk result (λ j. j.nodes.items
-        ≡ flat_map (λ e. map numbered_entry (left_of (cut_of blocked.now) e.number e.node))
+        ≡ flat_map (λ e. map numbered_entry (kept_of (cut_of blocked.now) e.number e.node))
         blocked.now.graph.nodes) }
     ensures names { IfOk result (λ j. j.naming.names.items ≡ all_names (cut_of blocked.now)) }
 {
@@ -58,7 +59,7 @@ fn push_left(
     requires tables { AreTables blocked.now tables.now }
     requires short { LeadsShort (cut_of blocked.now) entry.now.number entry.now.node }
     ensures nodes { OnOk result (nodes.new.items ≡ nodes.old.items
-        ++ map numbered_entry (left_of (cut_of blocked.now) entry.now.number entry.now.node)) }
+        ++ map numbered_entry (kept_of (cut_of blocked.now) entry.now.number entry.now.node)) }
     ensures names { OnOk result (naming.new.names.items ≡ naming.old.names.items
         ++ left_names (cut_of blocked.now) entry.now.number entry.now.node) }
 {
@@ -80,6 +81,10 @@ fn push_left(
         Node::Gbk(c, origin, last, lifted) => {
             push_node(number, Node::Gbk(*c, *origin, *last, *lifted), nodes)
         }
+        Node::Barrier(inputs, origin, last, act) => {
+            let copy = copied(alloc, inputs.as_slice())?;
+            push_node(number, Node::Barrier(copy, *origin, *last, *act), nodes)
+        }
     }
 }
 
@@ -93,11 +98,10 @@ fn forest_of(
     naming: &mut Naming,
 ) -> Result<Roots, AllocError>
     requires tables { AreTables blocked.now tables.now }
-    requires few { labels (trees (cut_of blocked.now) (length blocked.now.graph.nodes)
-        (readers blocked.now.graph.nodes c)) < 2 ^ 32 }
-    ensures forest { IfOk result (λ f. f ≡ numbered 0 (forest_of (cut_of blocked.now) c)) }
+    requires few { labels (forest_over (cut_of blocked.now) c) < 2 ^ 32 }
+    ensures forest { IfOk result (λ f. f ≡ numbered 0 (forest_over (cut_of blocked.now) c)) }
     ensures names { OnOk result (naming.new.names.items ≡ naming.old.names.items
-        ++ names_from lead 0 (forest_of (cut_of blocked.now) c)) }
+        ++ names_from lead 0 (forest_over (cut_of blocked.now) c)) }
 {
     let roots = readers_of(blocked, tables, c);
     naming.next = 0;

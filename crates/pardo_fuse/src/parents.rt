@@ -1,8 +1,10 @@
-ghost use Rattle.std.specs.Prelude.{◌≡◌, ◌<◌, ◌^◌, Some};
+// Which Pdos become kids on an output, which of them lead, and which outputs are kept.
+ghost use Rattle.std.specs.Prelude.{◌≡◌, ◌<◌, ◌^◌, [], cond, Some, None};
+ghost use Rattle.exec_graph.specs.Places.{code};
 ghost use Rattle.exec_graph.specs.Meaning.{node_at};
 ghost use Rattle.exec_graph.specs.Readers.{readers};
-ghost use Rattle.pardo_fuse.specs.Readers.{cut_of, is_pdo, is_unmarked};
-ghost use Rattle.pardo_fuse.specs.Fusing.{is_first, keeps_output, kids_of, leads};
+ghost use Rattle.pardo_fuse.specs.Readers.{cut_of, is_kept, is_pdo, is_unmarked};
+ghost use Rattle.pardo_fuse.specs.Fusing.{is_first, kids_on, leads, named};
 ghost use Rattle.pardo_fuse.specs.inner.Tables.{AreTables};
 
 use crate::tables::Tables;
@@ -21,56 +23,38 @@ pub(crate) fn readers_of<'a>(blocked: &Blocked, tables: &'a Tables, c: Place) ->
     }
 }
 
-fn is_pdo_node(node: &Node) -> bool
-    ensures { result ≡ is_pdo (Some node.now) }
+/// The Pdos that become kids on an output of a Pdo's step.
+pub(crate) fn kids_on<'a>(
+    blocked: &Blocked,
+    tables: &'a Tables,
+    number: u32,
+    out: Option<u32>,
+) -> &'a [u32]
+    requires { AreTables blocked.now tables.now }
+    ensures { result.now ≡ kids_on (cut_of blocked.now) number out }
 {
-    match node {
-        Node::Pdo(_, _) => true,
-        Node::Source(_) | Node::Flatten(_) | Node::Gbk(_, _, _, _) => false,
+    match out {
+        Some(j) => kids_of(
+            blocked,
+            tables,
+            Place {
+                node: number,
+                out: j,
+            },
+        ),
+        None => &[],
     }
 }
 
-fn is_pdo_at(blocked: &Blocked, tables: &Tables, number: u32) -> bool
+/// The Pdos that read the collection, where it is an unmarked output of a Pdo.
+fn kids_of<'a>(blocked: &Blocked, tables: &'a Tables, c: Place) -> &'a [u32]
     requires { AreTables blocked.now tables.now }
-    ensures { result ≡ is_pdo (node_at blocked.now.graph.nodes number) }
+    ensures { result.now ≡ cond (is_unmarked blocked.now c) (readers blocked.now.graph.nodes c) [] }
 {
-    match find_node(blocked.graph.nodes.as_slice(), &tables.index, number) {
-        Some(node) => is_pdo_node(node),
-        None => false,
-    }
-}
-
-/// Whether it is an unmarked output of a Pdo.
-fn is_inner(blocked: &Blocked, tables: &Tables, c: Place) -> bool
-    requires { AreTables blocked.now tables.now }
-    ensures { result ≡ is_unmarked blocked.now c }
-{
-    let _out = c.out;
-    is_pdo_at(blocked, tables, c.node) && !tables.marks.contains(&code_of(c))
-}
-
-/// The Pdos that become kids of the step of a Pdo.
-pub(crate) fn kids_of<'a>(blocked: &Blocked, tables: &'a Tables, number: u32) -> &'a [u32]
-    requires { AreTables blocked.now tables.now }
-    ensures { result.now ≡ kids_of (cut_of blocked.now) number }
-{
-    let output = Place {
-        node: number,
-        out: 0,
-    };
-    if is_inner(blocked, tables, output) {
-        readers_of(blocked, tables, output)
+    if is_inner(blocked, tables, c) {
+        readers_of(blocked, tables, c)
     } else {
         &[]
-    }
-}
-
-fn is_first(number: u32, numbers: &[u32]) -> bool
-    ensures { result ≡ is_first number numbers.now }
-{
-    match numbers.first() {
-        Some(first) => number == *first,
-        None => false,
     }
 }
 
@@ -86,19 +70,88 @@ pub(crate) fn leads(blocked: &Blocked, tables: &Tables, number: u32, c: Place) -
     }
 }
 
-/// Whether the step of a Pdo keeps its output.
-#[tactic(auto, using(crate::proofs::Keeping::kept_inner, crate::proofs::Keeping::kept_outer))]
-pub(crate) fn keeps_output(blocked: &Blocked, tables: &Tables, number: u32) -> bool
-    requires { AreTables blocked.now tables.now }
-    ensures { result ≡ keeps_output (cut_of blocked.now) number }
+fn is_first(number: u32, numbers: &[u32]) -> bool
+    ensures { result ≡ is_first number numbers.now }
 {
-    let output = Place {
-        node: number,
-        out: 0,
-    };
-    if is_inner(blocked, tables, output) {
-        tables.held.contains(&code_of(output))
+    match numbers.first() {
+        Some(first) => number == *first,
+        None => false,
+    }
+}
+
+/// The code of an output of a Pdo, where it is kept.
+pub(crate) fn kept_code(
+    blocked: &Blocked,
+    tables: &Tables,
+    number: u32,
+    out: Option<u32>,
+) -> Option<u64>
+    requires { AreTables blocked.now tables.now }
+    ensures { result ≡ named (cut_of blocked.now) number out }
+{
+    match out {
+        Some(j) => code_if_kept(
+            blocked,
+            tables,
+            Place {
+                node: number,
+                out: j,
+            },
+        ),
+        None => None,
+    }
+}
+
+fn code_if_kept(blocked: &Blocked, tables: &Tables, c: Place) -> Option<u64>
+    requires { AreTables blocked.now tables.now }
+    ensures { result ≡ cond (is_kept (cut_of blocked.now) c) (Some (code c)) None }
+{
+    if is_kept(blocked, tables, c) {
+        Some(code_of(c))
     } else {
-        tables.read.contains(&code_of(output))
+        None
+    }
+}
+
+/// Whether the collection is kept.
+#[tactic(auto, using(crate::proofs::Keeping::kept_inner, crate::proofs::Keeping::kept_outer))]
+fn is_kept(blocked: &Blocked, tables: &Tables, c: Place) -> bool
+    requires { AreTables blocked.now tables.now }
+    ensures { result ≡ is_kept (cut_of blocked.now) c }
+{
+    let _out = c.out;
+    if is_inner(blocked, tables, c) {
+        tables.held.contains(&code_of(c))
+    } else {
+        tables.read.contains(&code_of(c))
+    }
+}
+
+/// Whether it is an unmarked output of a Pdo.
+fn is_inner(blocked: &Blocked, tables: &Tables, c: Place) -> bool
+    requires { AreTables blocked.now tables.now }
+    ensures { result ≡ is_unmarked blocked.now c }
+{
+    let _out = c.out;
+    is_pdo_at(blocked, tables, c.node) && !tables.marks.contains(&code_of(c))
+}
+
+fn is_pdo_at(blocked: &Blocked, tables: &Tables, number: u32) -> bool
+    requires { AreTables blocked.now tables.now }
+    ensures { result ≡ is_pdo (node_at blocked.now.graph.nodes number) }
+{
+    match find_node(blocked.graph.nodes.as_slice(), &tables.index, number) {
+        Some(node) => is_pdo_node(node),
+        None => false,
+    }
+}
+
+fn is_pdo_node(node: &Node) -> bool
+    ensures { result ≡ is_pdo (Some node.now) }
+{
+    match node {
+        Node::Pdo(_, _) => true,
+        Node::Source(_) | Node::Flatten(_) | Node::Gbk(_, _, _, _) | Node::Barrier(_, _, _, _) =>
+            false,
     }
 }

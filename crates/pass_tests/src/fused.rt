@@ -1,12 +1,13 @@
 // What is seen of a graph in which steps are fused.
 use exec_graph::{Blocked, Entry, Graph, Node, Place, Step, graph_ok};
 use fusion_blocks::block;
-use pardo_fuse::{fuse, has_single_outputs};
+use pardo_fuse::{fuse, has_single_outputs, single_law};
 use std::alloc::{AllocError, Global};
 
 /// The graph with its marks by these scales of functions, fused, if it is well-formed, each Pdo has
 /// one step, and there is memory.
 pub(crate) fn fused(alloc: Global, scales: &[u32], graph: Graph) -> Option<Blocked> {
+    single_law();
     match graph_ok(alloc, &graph) {
         Ok(true) if has_single_outputs(&graph) => fuse(
             alloc,
@@ -19,8 +20,8 @@ pub(crate) fn fused(alloc: Global, scales: &[u32], graph: Graph) -> Option<Block
 /// An output: its node, and its number there.
 pub(crate) type Spot = (u32, u32);
 
-/// What is to be seen of a graph with marks: the steps of its Pdos, what Flattens and Gbks read,
-/// what is written out, and what is marked.
+/// What is to be seen of a graph with marks: the steps of its Pdos, what Flattens, Barriers and Gbks
+/// read, what is written out, and what is marked.
 #[derive(Clone, Copy)]
 pub(crate) struct Shape {
     pub(crate) calls: &'static [Call],
@@ -95,7 +96,7 @@ fn has_reads(alloc: Global, nodes: &[Entry], wanted: &[(u32, Spot)]) -> Result<b
     Ok(all.as_slice() == wanted)
 }
 
-/// What Flattens and Gbks read, each with its number.
+/// What Flattens, Barriers and Gbks read, each with its number.
 fn reads(alloc: Global, nodes: &[Entry]) -> Result<Vec<(u32, Spot)>, AllocError> {
     let mut all = Vec::new(alloc);
     for entry in nodes {
@@ -107,7 +108,11 @@ fn reads(alloc: Global, nodes: &[Entry]) -> Result<Vec<(u32, Spot)>, AllocError>
 fn add_reads(entry: &Entry, all: &mut Vec<(u32, Spot)>) -> Result<(), AllocError> {
     match &entry.node {
         Node::Source(_) | Node::Pdo(_, _) => Ok(()),
-        Node::Flatten(inputs) => add_inputs(entry.number, inputs.as_slice(), all),
+        Node::Flatten(inputs) | Node::Barrier(inputs, _, _, _) => add_inputs(
+            entry.number,
+            inputs.as_slice(),
+            all,
+        ),
         Node::Gbk(input, _, _, _) => add_inputs(entry.number, &[*input], all),
     }
 }

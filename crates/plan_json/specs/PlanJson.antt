@@ -1,9 +1,10 @@
 -- A plan as a JSON value. The members of an object stand in the order of their keys' bytes.
 use Rattle.std.specs.Prelude.{ℕ, List, codes, map, Option, Some, None}
 use Rattle.std.specs.Str.Lossy.{utf8_lossy}
-use Rattle.serde_json.specs.Data.{Data, null, string, array, object, no_items, item, no_members, member}
+use Rattle.serde_json.specs.Data.{Data, Members, null, string, array, object, no_items, item, no_members, member}
 use Rattle.serde_json.specs.View.{items_of}
 use Rattle.combine_table.specs.declared.comb.Comb.{Comb}
+use Rattle.exec_graph.specs.declared.graph.Act.{Act}
 use Rattle.exec_plan.specs.Channels.{numbers}
 use Rattle.exec_plan.specs.declared.plan.PlanPlace.{PlanPlace}
 use Rattle.exec_plan.specs.declared.plan.Take.{Take}
@@ -12,8 +13,9 @@ use Rattle.exec_plan.specs.declared.plan.Grouping.{Grouping}
 use Rattle.exec_plan.specs.declared.plan.OutChannel.{OutChannel}
 use Rattle.exec_plan.specs.declared.plan.OutChannel.TheVariants.{Group, Pass}
 use Rattle.exec_plan.specs.declared.plan.Stage.{Stage}
-use Rattle.exec_plan.specs.declared.plan.Stage.TheVariants.{Mscr, Flatten}
+use Rattle.exec_plan.specs.declared.plan.Stage.TheVariants.{Mscr, Flatten, Operate}
 use Rattle.exec_plan.specs.declared.plan.Plan.{Plan}
+use Rattle.plan_writing.specs.Acts.{act_text}
 use Rattle.plan_writing.specs.Lists.{numbered, paired}
 use Rattle.plan_writing.specs.Naming.{Naming, Written}
 use Rattle.plan_writing.specs.Places.{dotted, given_text, place_text, take_text}
@@ -34,10 +36,20 @@ one_json text = array (item (text_json text) no_items)
 
 -- ---- channels
 
+-- the object that steps are called beside: the last member, where there is one
+abbrev pub beside_json : Option PlanPlace → Members
+beside_json None = no_members
+beside_json (Some place) = member (codes "with") (text_json (place_text place)) no_members
+
+-- what an input channel does and reads
+abbrev pub channel_json : Data → Data → Option PlanPlace → Data
+channel_json does reads beside =
+    object (member (codes "does") does (member (codes "reads") reads (beside_json beside)))
+
 abbrev pub in_json : Naming → InChannel → Data
 in_json names channel =
-    object (member (codes "does") (text_json (forest_text names channel.does))
-    (member (codes "reads") (text_json (place_text channel.reads)) no_members))
+    channel_json (text_json (forest_text names channel.does))
+    (text_json (place_text channel.reads)) channel.beside
 
 -- the combiner of a lifted channel
 abbrev pub lift_json : Naming → Option Comb → Data
@@ -77,9 +89,18 @@ flatten_json stage takes =
     (member (codes "kind") (string (codes "flatten"))
     (member (codes "takes") (texts_json place_text takes) no_members)))
 
+abbrev pub operate_json : Naming → ℕ → List PlanPlace → ℕ → Act → Data
+operate_json names stage takes origin does =
+    object (member (codes "does") (text_json (act_text names origin does))
+    (member (codes "gives") (one_json (dotted stage 0))
+    (member (codes "kind") (string (codes "operate"))
+    (member (codes "takes") (texts_json place_text takes) no_members))))
+
 abbrev pub stage_json : Naming → ℕ → Stage → Data
 stage_json names stage (Mscr mscr) = mscr_json names stage mscr.inputs mscr.outputs
 stage_json names stage (Flatten takes) = flatten_json stage takes
+stage_json names stage (Operate takes origin last does) =
+    operate_json names stage takes origin does
 
 -- ---- the whole
 

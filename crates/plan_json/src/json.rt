@@ -1,3 +1,4 @@
+// A plan as a JSON value: its stages with their channels, and the outputs of the script.
 ghost use Rattle.std.specs.Prelude.{◌≡◌, ◌<◌, IfOk, Some, length, map, slice_get};
 ghost use Rattle.serde_json.specs.Data.{array};
 ghost use Rattle.serde_json.specs.View.{view, items_of};
@@ -7,9 +8,10 @@ ghost use Rattle.plan_writing.specs.Naming.{Written};
 ghost use Rattle.plan_json.specs.PlanJson as spec;
 
 use crate::values::{
-    forest_value, given_value, lift_value, node_value, place_value, places_value, result_value,
-    take_value, takes_value, text_value,
+    act_value, forest_value, given_value, lift_value, node_value, place_value, places_value,
+    result_value, take_value, takes_value, text_value,
 };
+use exec_graph::Act;
 use exec_plan::{Grouping, InChannel, Mscr, OutChannel, Plan, PlanPlace, Stage, Take};
 use plan_writing::Names;
 use serde_json::{Value, json};
@@ -91,6 +93,9 @@ fn stage_value<N: Names>(
     match stage {
         Stage::Mscr(mscr) => mscr_value(alloc, names, number, mscr),
         Stage::Flatten(takes) => flatten_value(alloc, number, takes.as_slice()),
+        Stage::Operate(takes, origin, _, act) => {
+            operate_value(alloc, names, number, takes.as_slice(), *origin, *act)
+        }
     }
 }
 
@@ -116,6 +121,23 @@ fn flatten_value(alloc: Global, number: u64, takes: &[PlanPlace]) -> Result<Valu
     let gives = result_value(alloc, number, 0)?;
     let takes = places_value(alloc, takes)?;
     json!(in alloc; {"gives": [gives], "kind": "flatten", "takes": takes})
+}
+
+fn operate_value<N: Names>(
+    alloc: Global,
+    names: &N,
+    number: u64,
+    takes: &[PlanPlace],
+    origin: u32,
+    act: Act,
+) -> Result<Value, AllocError>
+    ensures { IfOk result (λ value. view value
+        ≡ spec.operate_json (N.naming names.now) number takes.now origin act) }
+{
+    let does = act_value(alloc, names, origin, act)?;
+    let gives = result_value(alloc, number, 0)?;
+    let takes = places_value(alloc, takes)?;
+    json!(in alloc; {"does": does, "gives": [gives], "kind": "operate", "takes": takes})
 }
 
 fn ins_value<N: Names>(alloc: Global, names: &N, inputs: &[InChannel]) -> Result<Value, AllocError>
@@ -151,7 +173,24 @@ fn in_value<N: Names>(alloc: Global, names: &N, channel: &InChannel) -> Result<V
 {
     let does = forest_value(alloc, names, &channel.does)?;
     let reads = place_value(alloc, channel.reads)?;
-    json!(in alloc; {"does": does, "reads": reads})
+    match channel.beside {
+        None => json!(in alloc; {"does": does, "reads": reads}),
+        Some(object) => beside_value(alloc, does, reads, object),
+    }
+}
+
+/// An input channel whose steps are called beside an object.
+fn beside_value(
+    alloc: Global,
+    does: Value,
+    reads: Value,
+    object: PlanPlace,
+) -> Result<Value, AllocError>
+    ensures { IfOk result (λ value.
+        view value ≡ spec.channel_json (view does) (view reads) (Some object)) }
+{
+    let with = place_value(alloc, object)?;
+    json!(in alloc; {"does": does, "reads": reads, "with": with})
 }
 
 /// An output channel of a stage.

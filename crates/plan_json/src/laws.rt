@@ -1,3 +1,4 @@
+// What holds of JSON texts.
 ghost use Rattle.std.specs.Prelude.{◌≡◌, ℕ, List, IsUtf8};
 ghost use Rattle.serde_json.specs.Data.{string};
 ghost use Rattle.plan_json.specs.PlanJson.{text_json};

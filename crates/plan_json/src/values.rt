@@ -2,14 +2,15 @@
 ghost use Rattle.std.specs.Prelude.{◌≡◌, IfOk};
 ghost use Rattle.serde_json.specs.View.{view};
 ghost use Rattle.exec_plan.specs.Channels.{numbers};
+ghost use Rattle.plan_writing.specs.Acts.{act_text};
 ghost use Rattle.plan_writing.specs.Forests.{forest_text};
 ghost use Rattle.plan_writing.specs.Places.{dotted, given_text, place_text, take_text};
 ghost use Rattle.plan_json.specs.PlanJson as spec;
 
 use combine_table::Comb;
-use exec_graph::Roots;
+use exec_graph::{Act, Roots};
 use exec_plan::{Grouping, PlanPlace, Take};
-use plan_writing::{Names, outs_of, push_dotted, push_forest, push_place, push_take};
+use plan_writing::{Names, outs_of, push_act, push_dotted, push_forest, push_place, push_take};
 use serde_json::Value;
 use std::alloc::{AllocError, Global};
 
@@ -58,6 +59,21 @@ pub(crate) fn forest_value<N: Names>(
 {
     let mut text = Vec::new(alloc);
     push_forest(&mut text, names, does)?;
+    text_value(alloc, text.as_slice())
+}
+
+/// What an object is made by.
+pub(crate) fn act_value<N: Names>(
+    alloc: Global,
+    names: &N,
+    origin: u32,
+    act: Act,
+) -> Result<Value, AllocError>
+    ensures { IfOk result (λ value.
+        view value ≡ spec.text_json (act_text (N.naming names.now) origin act)) }
+{
+    let mut text = Vec::new(alloc);
+    push_act(&mut text, names, origin, act)?;
     text_value(alloc, text.as_slice())
 }
 

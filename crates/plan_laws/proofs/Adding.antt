@@ -1,14 +1,20 @@
 -- What operations add up to is what their nodes do.
-use Rattle.std.proofs.Common.{◌≡◌, ℕ, ◌+◌, List, [], ◌∷◌, ◌++◌, map, Option, Some, None, append-nil, refl, sym, ap, ◌∙◌}
+use Rattle.std.proofs.Common.{◌≡◌, ℕ, Bool, ◌+◌, List, [], ◌∷◌, ◌++◌, map, Option, Some, None, append-nil, refl, sym, ap, ◌∙◌}
 use Rattle.std.proofs.lemmas.List.Concat.{flat_map-append}
 use Rattle.std.specs.List.{flat_map, AllByRecursion as Each}
 use Rattle.flume_collection.specs.Collection.{Collection, together, by_key}
 use Rattle.exec_graph.specs.World.{World}
+use Rattle.exec_graph.specs.Objects.{act_result}
+use Rattle.exec_graph.specs.declared.graph.Act.{Act}
+use Rattle.exec_graph.specs.declared.graph.Act.TheVariants.{SideInput, Operate as Operates, Singleton}
+use Rattle.exec_graph.specs.declared.step.Does.TheVariants as does
+use Rattle.exec_graph.proofs.Barriers.{barrier_side_input}
+use Rattle.exec_plan.specs.Channels.{value_on, world_in}
 use Rattle.exec_graph.specs.Forests.{Forest}
-use Rattle.exec_graph.specs.Meaning.{place, Meets, node_at, reads, IsThere, total, own, traps}
+use Rattle.exec_graph.specs.Meaning.{through, place, Meets, node_at, reads, IsThere, total, own, traps}
 use Rattle.exec_graph.specs.declared.graph.Place.{Place}
 use Rattle.exec_graph.specs.declared.graph.Node.{Node}
-use Rattle.exec_graph.specs.declared.graph.Node.TheVariants.{Source, Flatten, Pdo, Gbk}
+use Rattle.exec_graph.specs.declared.graph.Node.TheVariants.{Source, Flatten, Pdo, Gbk, Barrier}
 use Rattle.exec_graph.specs.declared.graph.Entry.{Entry}
 use Rattle.exec_plan.specs.declared.plan.Grouping.{Grouping}
 use Rattle.exec_plan.specs.declared.plan.OutChannel.{OutChannel}
@@ -21,9 +27,9 @@ use Rattle.plan_laws.specs.declared.operations.Key.TheVariants.{Mapper, Whole}
 use Rattle.plan_laws.specs.declared.operations.Grouped.{Grouped}
 use Rattle.plan_laws.specs.declared.operations.Operation.{Operation}
 use Rattle.plan_laws.specs.declared.operations.Operation.TheVariants.{Flat, Class}
-use Rattle.plan_laws.specs.Operations.{IsFlat, IsGroupedOk, IsHonest, IsKeyOk, IsPdo, IsReducer, Reads, TakesInputs, flat_inputs, forest_at, group_at, group_of, group_runs, key_runs, numbered_outs, pass_of, pdo_channel, reducer_of, reducer_runs, runs, valued}
-use Rattle.plan_laws.proofs.Running.{carried_sum}
-use Rattle.plan_laws.proofs.Carrying.{IsPlain, feeds, group_at_is, group_does, holds_at, there_at}
+use Rattle.plan_laws.specs.Operations.{IsSide, side_channel, IsFlat, IsGroupedOk, IsHonest, IsKeyOk, IsPdo, IsReducer, Reads, TakesInputs, flat_inputs, forest_at, group_at, group_of, group_runs, key_runs, numbered_outs, pass_of, pdo_channel, reducer_of, reducer_runs, runs, valued}
+use Rattle.plan_laws.proofs.Running.{carried_sum, flat_part}
+use Rattle.plan_laws.proofs.Carrying.{side_is, IsPlain, feeds, group_at_is, group_does, holds_at, there_at}
 
 -- ---- what an operation does is what its nodes do
 abbrev pub node_sum : {Y : Type 0} → World → Parts Y → (Place → Collection) → Node → List Y
@@ -31,6 +37,7 @@ node_sum w p m (Source r) = []
 node_sum w p m (Flatten ins) = p.flat (together (map m ins))
 node_sum w p m (Pdo c f) = total w p.steps (m c) f
 node_sum w p m (Gbk c o l k) = p.groups o l (by_key (m c))
+node_sum w p m (Barrier ins o l a) = p.groups o l (act_result w o a (map m ins))
 
 abbrev pub sum_at : {Y : Type 0} → World → Parts Y → (Place → Collection) → Option Node → List Y
 sum_at w p m None = []
@@ -42,6 +49,7 @@ own_is w m i (Source r) = refl
 own_is w m i (Flatten ins) = refl
 own_is w m i (Pdo c f) = refl
 own_is w m i (Gbk c o l k) = refl
+own_is w m i (Barrier ins o l a) = refl
 
 pub traps_are : (w : World) (m : Place → Collection) (x : Node) → traps w m x ≡ node_sum w
     (trap_parts w) m x
@@ -49,6 +57,22 @@ traps_are w m (Source r) = refl
 traps_are w m (Flatten ins) = refl
 traps_are w m (Pdo c f) = refl
 traps_are w m (Gbk c o l k) = refl
+traps_are w m (Barrier ins o l a) = refl
+
+side_sum : {Y : Type 0} (w : World) (p : Parts Y) (m : Place → Collection) (n o : ℕ) (l : Bool)
+    (a : Act) (ins : List Place) → IsSide a ins
+    → in_sum w p (valued m (side_channel n o l a ins)) ≡ p.groups o l (act_result w o a (map m ins))
+side_sum w p m n o l (SideInput f) [] h = absurd h
+side_sum w p m n o l (SideInput f) (c ∷ []) h = absurd h
+side_sum w p m n o l (SideInput f) (c ∷ (d ∷ [])) h =
+    let given : Collection = through (world_in w (Some (m d)))
+    (record { origin = o; last = l; does = does.Call f; at = 0; out = Some 0 })
+    (value_on (m c) (Some (m d))) in
+    append-nil (p.groups o l given)
+    ∙ ap (p.groups o l) (side_is w o l f (m c) (m d) ∙ sym (barrier_side_input w o f (m c) (m d)))
+side_sum w p m n o l (SideInput f) (c ∷ (d ∷ (x ∷ xs))) h = absurd h
+side_sum w p m n o l (Operates f) ins h = absurd h
+side_sum w p m n o l (Singleton k) ins h = absurd h
 
 pdo_sum : {Y : Type 0} (w : World) (p : Parts Y) (m : Place → Collection) (n : ℕ) (o : Option Node)
     → IsPdo o → in_sum w p (valued m (pdo_channel n o)) ≡ sum_at w p m o
@@ -56,6 +80,7 @@ pdo_sum w p m n None h = absurd h
 pdo_sum w p m n (Some (Source r)) h = absurd h
 pdo_sum w p m n (Some (Flatten ins)) h = absurd h
 pdo_sum w p m n (Some (Gbk c o l k)) h = absurd h
+pdo_sum w p m n (Some (Barrier ins o l a)) h = side_sum w p m n o l a ins h
 pdo_sum w p m n (Some (Pdo c f)) h = refl
 
 keys_sum : {Y : Type 0} (w : World) (p : Parts Y) (m : Place → Collection) (es : List Entry)
@@ -75,6 +100,7 @@ reducer_sum w p m es n r None h = absurd h
 reducer_sum w p m es n r (Some (Source s)) h = absurd h
 reducer_sum w p m es n r (Some (Flatten ins)) h = absurd h
 reducer_sum w p m es n r (Some (Gbk c o l k)) h = absurd h
+reducer_sum w p m es n r (Some (Barrier ins o l a)) h = absurd h
 reducer_sum w p m es n r (Some (Pdo c f)) h = ap (λ (d : Place). total w p.steps (m d) f) (sym h)
 
 reduced_sum : {Y : Type 0} (w : World) (p : Parts Y) (m : Place → Collection) (es : List Entry)
@@ -94,6 +120,7 @@ grouping_sum w p m es keys n r (Some (Flatten ins)) a e h = absurd h
 grouping_sum w p m es keys n r (Some (Pdo c f)) a e h = absurd h
 grouping_sum w p m es keys n r (Some (Gbk c o l k)) a e h = ap (p.groups o l)
     (holds_at w m es n (Gbk c o l k) a e)
+grouping_sum w p m es keys n r (Some (Barrier ins o l d)) a e h = absurd h
 
 group_sum : {Y : Type 0} (w : World) (p : Parts Y) (m : Place → Collection) (es : List Entry)
     (keys : List Key) (g : Grouped) → IsPlain m → Meets w es m → Each (IsKeyOk es) keys
@@ -141,11 +168,12 @@ sum_numbered w p ins n (Group g ∷ os) = ap (λ l. out_sum w p ins (Group g) ++
     (sum_numbered w p ins (n + width (Group g)) os)
 
 flat_sum : {Y : Type 0} (w : World) (p : Parts Y) (m : Place → Collection) (o : Option Node)
-    → IsFlat o → p.flat (together (map m (flat_inputs o))) ≡ sum_at w p m o
+    → IsFlat o → flat_part w p o (map m (flat_inputs o)) ≡ sum_at w p m o
 flat_sum w p m None i = absurd i
 flat_sum w p m (Some (Source s)) i = absurd i
 flat_sum w p m (Some (Pdo d f)) i = absurd i
 flat_sum w p m (Some (Gbk c x l k)) i = absurd i
+flat_sum w p m (Some (Barrier ins x l a)) i = refl
 flat_sum w p m (Some (Flatten ins)) i = refl
 
 pub operation_sum : {Y : Type 0} (w : World) (p : Parts Y) (m : Place → Collection)

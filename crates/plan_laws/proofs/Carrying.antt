@@ -7,26 +7,35 @@ use Rattle.std.specs.List.{flat_map, AllByRecursion as Each, slice_get}
 use Rattle.flume_value.proofs.EachLemmas.{Each-append, Each-weaker}
 use Rattle.flume_collection.specs.Collection.{Collection, together, by_key}
 use Rattle.exec_graph.specs.World.{World}
+use Rattle.exec_graph.specs.Calls.{called}
+use Rattle.exec_graph.specs.Objects.{act_result, side_input}
+use Rattle.exec_graph.specs.declared.graph.Act.{Act}
+use Rattle.exec_graph.specs.declared.graph.Act.TheVariants.{SideInput, Operate as Operates, Singleton}
+use Rattle.exec_graph.specs.declared.step.Does.TheVariants as does
+use Rattle.exec_graph.proofs.Barriers.{barrier_side_input}
+use Rattle.exec_graph.proofs.StepFacts.{call_answers}
+use Rattle.flume_collection.specs.Calls.{Called, passed}
+use Rattle.flume_value.specs.declared.value.Value.{Value}
 use Rattle.exec_graph.specs.Forests.{Label, Forest, Bare, Grow}
 use Rattle.exec_graph.specs.Meaning.{through, place, IsKept, FitsForest, Holds, Meets, node_at, reads, is_out, has_out, gives_at, IsThere, first, out_of, or_nothing}
 use Rattle.exec_graph.specs.declared.graph.Place.{Place}
 use Rattle.exec_graph.specs.declared.graph.Node.{Node}
-use Rattle.exec_graph.specs.declared.graph.Node.TheVariants.{Source, Flatten, Pdo, Gbk}
+use Rattle.exec_graph.specs.declared.graph.Node.TheVariants.{Source, Flatten, Pdo, Gbk, Barrier}
 use Rattle.exec_graph.specs.declared.graph.Entry.{Entry}
 use Rattle.exec_graph.proofs.Entries.{all_found}
 use Rattle.exec_graph.proofs.Bools.{or_left, or_right}
 use Rattle.exec_graph.proofs.Solving.{out_lacks}
 use Rattle.exec_plan.specs.declared.plan.OutChannel.{OutChannel}
 use Rattle.exec_plan.specs.declared.plan.OutChannel.TheVariants.{Group, Pass}
-use Rattle.exec_plan.specs.Channels.{Fed, kept_out, outs_of, numbers, output_of, channel_out, taken, groups, given}
+use Rattle.exec_plan.specs.Channels.{Fed, value_on, world_in, kept_out, outs_of, numbers, output_of, channel_out, taken, groups, given}
 use Rattle.exec_plan.specs.Wellformed.{width}
 use Rattle.plan_laws.specs.declared.operations.Key.{Key}
 use Rattle.plan_laws.specs.declared.operations.Key.TheVariants.{Mapper, Whole}
 use Rattle.plan_laws.specs.declared.operations.Grouped.{Grouped}
 use Rattle.plan_laws.specs.declared.operations.Operation.{Operation}
 use Rattle.plan_laws.specs.declared.operations.Operation.TheVariants.{Flat, Class}
-use Rattle.plan_laws.specs.Operations.{HasKey, IsFlat, IsGroupedOk, IsHonest, IsKeyOk, IsPdo, IsReducer, IsTaken, Reads, TakesInputs, channel_of, channels_of, flat_inputs, forest_at, group_at, group_gives, group_of, has_key, inputs_at, inputs_of, key_out, numbered_out, numbered_outs, out_in, outs_at, pass_of, pdo_channel, position, reduced, reducer_of, take_of, valued}
-use Rattle.plan_laws.proofs.Running.{Carries, place_same}
+use Rattle.plan_laws.specs.Operations.{HasKey, IsFlat, IsGroupedOk, IsHonest, IsKeyOk, IsPdo, IsReducer, IsSide, IsTaken, one_call, side_channel, Reads, TakesInputs, channel_of, channels_of, flat_inputs, forest_at, group_at, group_gives, group_of, has_key, inputs_at, inputs_of, key_out, numbered_out, numbered_outs, out_in, outs_at, pass_of, pdo_channel, position, reduced, reducer_of, take_of, valued}
+use Rattle.plan_laws.proofs.Running.{Carries, flat_value, place_same}
 
 -- the input channels with what they read
 abbrev pub feeds : (Place → Collection) → List Entry → List Key → List Fed
@@ -98,6 +107,21 @@ outs_same w m n v f (j ∷ js) a h =
     let e : output_of w v (Some f) j ≡ m (place n j) = ap or_nothing (out_is w m n v f j a h.0) in
     cc
 
+-- ---- a step beside an object
+pub side_is : (w : World) (o : ℕ) (l : Bool) (f : ℕ) (c d : Collection)
+    → through (world_in w (Some d))
+    (record { origin = o; last = l; does = does.Call f; at = 0; out = Some 0 })
+    (value_on c (Some d)) ≡ side_input w o f c d
+side_is w o l f c d =
+    let u : World = world_in w (Some d) in
+    let same : called u (does.Call f) ≡ u.called f = λ i x. call_answers u f x i in
+    ap (λ (g : Value → Called). passed o 0 g (value_on c (Some d))) same
+
+side_through : (w : World) (o : ℕ) (l : Bool) (f : ℕ) (c d : Collection)
+    → output_of (world_in w (Some d)) (value_on c (Some d)) (Some (one_call o l f)) 0
+    ≡ side_input w o f c d
+side_through w o l f c d = side_is w o l f c d
+
 -- ---- what a channel takes
 pub holds_at : (w : World) (m : Place → Collection) (es : List Entry) (n : ℕ) (x : Node)
     → Meets w es m → node_at es n ≡ Some x → Holds w m n x
@@ -106,19 +130,39 @@ holds_at w m es n x a h = all_found (λ e. Holds w m e.number e.node) es n x h a
 place_is : (c : Place) (n : ℕ) → n ≡ c.node → place n c.out ≡ c
 place_is c n h = ap (λ (k : ℕ). place k c.out) h
 
+-- what an input channel gives to an output
+abbrev pub fed_out : World → Fed → ℕ → Collection
+fed_out w r j = output_of (world_in w r.beside) (value_on r.value r.beside) r.does j
+
+side_out : (w : World) (m : Place → Collection) (n o : ℕ) (l : Bool) (a : Act) (ins : List Place)
+    (j : ℕ) → IsSide a ins → m (place n 0) ≡ act_result w o a (map m ins) → j ≡ 0
+    → fed_out w (valued m (side_channel n o l a ins)) j ≡ m (place n j)
+side_out w m n o l (SideInput f) [] j i h e = absurd i
+side_out w m n o l (SideInput f) (c ∷ []) j i h e = absurd i
+side_out w m n o l (SideInput f) (c ∷ (d ∷ [])) j i h e =
+    let r : Fed = valued m (side_channel n o l (SideInput f) (c ∷ (d ∷ []))) in
+    ap (fed_out w r) e ∙ side_through w o l f (m c) (m d)
+    ∙ sym (h ∙ barrier_side_input w o f (m c) (m d)) ∙ ap (λ (k : ℕ). m (place n k)) (sym e)
+side_out w m n o l (SideInput f) (c ∷ (d ∷ (x ∷ xs))) j i h e = absurd i
+side_out w m n o l (Operates f) ins j i h e = absurd i
+side_out w m n o l (Singleton k) ins j i h e = absurd i
+
 mapper_out : (w : World) (m : Place → Collection) (es : List Entry) (n : ℕ) (c : Place)
     (o : Option Node) → Meets w es m → node_at es n ≡ o → IsPdo o → gives_at o c.out ≡ true
-    → output_of w (m (pdo_channel n o).reads) (pdo_channel n o).does c.out ≡ m (place n c.out)
+    → fed_out w (valued m (pdo_channel n o)) c.out ≡ m (place n c.out)
 mapper_out w m es n c None a h p t = absurd p
 mapper_out w m es n c (Some (Source r)) a h p t = absurd p
 mapper_out w m es n c (Some (Flatten ins)) a h p t = absurd p
 mapper_out w m es n c (Some (Gbk d x l k)) a h p t = absurd p
+mapper_out w m es n c (Some (Barrier ins x l d)) a h p t =
+    side_out w m n x l d ins c.out p (holds_at w m es n (Barrier ins x l d) a h)
+    (eqb-true c.out 0 t)
 mapper_out w m es n c (Some (Pdo d f)) a h p t = ap or_nothing (out_is w m n (m d) f c.out
     (holds_at w m es n (Pdo d f) a h) t)
 
 key_value : (w : World) (m : Place → Collection) (es : List Entry) (k : Key) (c : Place)
-    → Meets w es m → IsKeyOk es k → IsThere es c → has_key k c ≡ true → output_of w
-    (m (channel_of es k).reads) (channel_of es k).does (key_out k c) ≡ m c
+    → Meets w es m → IsKeyOk es k → IsThere es c → has_key k c ≡ true
+    → fed_out w (valued m (channel_of es k)) (key_out k c) ≡ m c
 key_value w m es (Mapper n) c a ok t h =
     let e : n ≡ c.node = eqb-true n c.node h in
     mapper_out w m es n c (node_at es n) a refl ok (ap (λ (x : ℕ). gives_at (node_at es x) c.out) e
@@ -171,6 +215,7 @@ inputs_sum w m es c (Some (Flatten ins)) p a h t =
     (sym (eqb-true c.out 0 t))
 inputs_sum w m es c (Some (Pdo d f)) p a h t = p c
 inputs_sum w m es c (Some (Gbk d x l k)) p a h t = p c
+inputs_sum w m es c (Some (Barrier ins x l d)) p a h t = p c
 
 reducer_at : (w : World) (m : Place → Collection) (es : List Entry) (n r : ℕ) (o : Option Node)
     → Meets w es m → node_at es r ≡ o → Reads (place n 0) o → map (output_of w (m (place n 0))
@@ -179,6 +224,7 @@ reducer_at w m es n r None a h p = absurd p
 reducer_at w m es n r (Some (Source s)) a h p = absurd p
 reducer_at w m es n r (Some (Flatten ins)) a h p = absurd p
 reducer_at w m es n r (Some (Gbk d x l k)) a h p = absurd p
+reducer_at w m es n r (Some (Barrier ins x l d)) a h p = absurd p
 reducer_at w m es n r (Some (Pdo d f)) a h p =
     outs_same w m r (m (place n 0)) f (outs_of f) (subst (λ (c : Place). FitsForest w m r (m c) f) p
     (holds_at w m es r (Pdo d f) a h)) (outs_has f)
@@ -207,6 +253,7 @@ group_at_is w m es keys n r (Some (Gbk c x l k)) p a ok h t i =
     i)
     ∙ ap (by_key) (inputs_sum w m es c (node_at es c.node) p a refl t)
     ∙ sym (holds_at w m es n (Gbk c x l k) a h)
+group_at_is w m es keys n r (Some (Barrier ins x l d)) p a ok h t i = absurd i
 
 pub group_does : (es : List Entry) (keys : List Key) (r : Option ℕ) (o : Option Node) → TakesInputs
     es keys o → (group_at es keys r o).does ≡ reducer_of es r
@@ -215,6 +262,7 @@ group_does es keys r (Some (Source s)) i = absurd i
 group_does es keys r (Some (Flatten ins)) i = absurd i
 group_does es keys r (Some (Pdo d f)) i = absurd i
 group_does es keys r (Some (Gbk c x l k)) i = refl
+group_does es keys r (Some (Barrier ins x l d)) i = absurd i
 
 -- each node reads what is there
 pub there_at : (es : List Entry) (n : ℕ) (o : Option Node) → node_at es n ≡ o
@@ -225,6 +273,7 @@ there_at es n (Some (Flatten ins)) h a = tt
 there_at es n (Some (Pdo d f)) h a = tt
 there_at es n (Some (Gbk c x l k)) h a = (all_found (λ e. Each (IsThere es) (reads e.node)) es n
     (Gbk c x l k) h a).0
+there_at es n (Some (Barrier ins x l d)) h a = tt
 
 group_is : (w : World) (m : Place → Collection) (es : List Entry) (keys : List Key) (g : Grouped)
     → IsPlain m → Meets w es m → Each (IsKeyOk es) keys
@@ -278,12 +327,14 @@ all_numbered w ins n (o ∷ os) =
     cc
 
 flat_is : (w : World) (m : Place → Collection) (es : List Entry) (n : ℕ) (o : Option Node)
-    → Meets w es m → node_at es n ≡ o → IsFlat o → together (map m (flat_inputs o)) ∷ []
-    ≡ m (place n 0) ∷ []
+    → Meets w es m → node_at es n ≡ o → IsFlat o
+    → flat_value w o (map m (flat_inputs o)) ∷ [] ≡ m (place n 0) ∷ []
 flat_is w m es n None a h i = absurd i
 flat_is w m es n (Some (Source s)) a h i = absurd i
 flat_is w m es n (Some (Pdo d f)) a h i = absurd i
 flat_is w m es n (Some (Gbk c x l k)) a h i = absurd i
+flat_is w m es n (Some (Barrier ins x l d)) a h i = ap (λ (c : Collection). c ∷ [])
+    (sym (holds_at w m es n (Barrier ins x l d) a h))
 flat_is w m es n (Some (Flatten ins)) a h i = ap (λ (c : Collection). c ∷ [])
     (sym (holds_at w m es n (Flatten ins) a h))
 

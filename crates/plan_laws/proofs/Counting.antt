@@ -19,7 +19,7 @@ use Rattle.flume_collection.specs.Collection.{Collection}
 use Rattle.exec_graph.specs.World.{World}
 use Rattle.exec_graph.specs.declared.graph.Place.{Place}
 use Rattle.exec_graph.specs.declared.graph.Node.{Node}
-use Rattle.exec_graph.specs.declared.graph.Node.TheVariants.{Source, Flatten, Pdo, Gbk}
+use Rattle.exec_graph.specs.declared.graph.Node.TheVariants.{Source, Flatten, Pdo, Gbk, Barrier}
 use Rattle.exec_graph.specs.declared.graph.Entry.{Entry}
 use Rattle.exec_graph.specs.declared.graph.Graph.{Graph}
 
@@ -67,6 +67,7 @@ idle w m i (Some (Source r)) h = refl
 idle w m i (Some (Flatten ins)) h = refl
 idle w m i (Some (Pdo c f)) h = absurd (false≢true (sym h))
 idle w m i (Some (Gbk c o l k)) h = absurd (false≢true (sym h))
+idle w m i (Some (Barrier ins o l a)) h = absurd (false≢true (sym h))
 
 once_by : (w : World) (m : Place → Collection) (i : ℕ) (es : List Entry) (ns : List ℕ) (n : ℕ)
     (o : Option Node) → AllDiffer es → node_at es n ≡ o → (works_at o ≡ true → times n ns ≡ 1)
@@ -77,6 +78,8 @@ once_by w m i es ns n (Some (Flatten ins)) d h f = inl refl
 once_by w m i es ns n (Some (Pdo c t)) d h f = inr (f refl ∙ sym (times_one n (Pdo c t) es d h))
 once_by w m i es ns n (Some (Gbk c o l k)) d h f = inr (f refl ∙ sym (times_one n (Gbk c o l k) es d
     h))
+once_by w m i es ns n (Some (Barrier ins o l a)) d h f =
+    inr (f refl ∙ sym (times_one n (Barrier ins o l a) es d h))
 
 pub own_same : (w : World) (m : Place → Collection) (g : Graph) (os : List Operation) (i : ℕ)
     → IsSound g → DoAll g os → own_bag w m g.nodes i

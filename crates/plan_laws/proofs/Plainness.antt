@@ -1,6 +1,6 @@
 -- A collection of a graph together with none else is the collection.
-use Rattle.std.proofs.Common.{◌≡◌, ℕ, Bool, true, false, cond, List, [], ◌∷◌, ◌++◌, length, map, append-nil, Option, Some, None, zero, suc, refl, sym, ap, ◌∙◌, subst}
-use Rattle.std.specs.List.{flat_map}
+use Rattle.std.proofs.Common.{◌≡◌, ℕ, Bool, true, false, cond, List, [], ◌∷◌, ◌++◌, length, map, append-nil, Option, Some, None, Result, Ok, Err, zero, suc, refl, sym, ap, ◌∙◌, subst}
+use Rattle.std.specs.List.{flat_map, slice_get}
 use Rattle.flume_value.specs.declared.value.Value.{Value}
 use Rattle.flume_value.specs.Bag.{bag_of}
 use Rattle.flume_value.proofs.BagLemmas.{bag_of-settled, bag_of-twice}
@@ -12,12 +12,21 @@ use Rattle.flume_collection.specs.Collection.{Collection, together, by_key}
 use Rattle.flume_collection.proofs.Bagging.{set-gathered}
 use Rattle.flume_collection.proofs.Orders.{trap_order}
 use Rattle.exec_graph.specs.World.{World}
+use Rattle.exec_graph.specs.Objects.{argument, beside, called_beside, value_object, trap_object, act_result, none_of, one_answer, one_emitted, singleton_value, only, operated_on, or_of_nothing, side_input_on, unless_behind, value_in, values_in, whole_combined}
+use Rattle.exec_graph.specs.declared.graph.Act.{Act}
+use Rattle.exec_graph.specs.declared.graph.Act.TheVariants.{SideInput, Operate as Operates, Singleton}
+use Rattle.combine_table.specs.declared.comb.Comb.{Comb}
+use Rattle.combine_table.specs.Combinations.{combined}
+use Rattle.flume_value.specs.declared.fault.Kind.{Kind}
+use Rattle.bag_groups.specs.Pairs.{value_of}
+use Rattle.flume_collection.specs.Calls.{Called, emissions, or_none, trap_of}
+use Rattle.std.specs.Option.{option_and_then}
 use Rattle.exec_graph.specs.Calls.{emitted, trapped}
 use Rattle.exec_graph.specs.Forests.{Forest, Bare, Grow}
 use Rattle.exec_graph.specs.Meaning.{collection, first, is_out, or_nothing, node_at, out_of, solve, through, value_at}
 use Rattle.exec_graph.specs.declared.graph.Place.{Place}
 use Rattle.exec_graph.specs.declared.graph.Node.{Node}
-use Rattle.exec_graph.specs.declared.graph.Node.TheVariants.{Source, Flatten, Pdo, Gbk}
+use Rattle.exec_graph.specs.declared.graph.Node.TheVariants.{Source, Flatten, Pdo, Gbk, Barrier}
 use Rattle.exec_graph.specs.declared.graph.Entry.{Entry}
 use Rattle.exec_graph.specs.declared.graph.Graph.{Graph}
 use Rattle.exec_graph.proofs.Solving.{collection_is}
@@ -59,14 +68,77 @@ out_normal w v (Grow l kids rest) j =
     (first_normal (out_of w (through w l v) kids j) (out_of w v rest j)
     (out_normal w (through w l v) kids j) (out_normal w v rest j))
 
+just_normal : (v : Value) → IsNormal (value_object v)
+just_normal v = record { bag = refl; traps = refl }
+
+trap_normal : (t : Trap) → IsNormal (trap_object t)
+trap_normal t = record { bag = refl; traps = refl }
+
+none_normal : (cs : List Collection) → IsNormal (none_of cs)
+none_normal cs = made_normal [] (flat_map (λ (c : Collection). c.traps) cs)
+
+side_normal : (w : World) (o f : ℕ) (v : Option Value) (c d : Collection)
+    → IsNormal (side_input_on w o f v c d)
+side_normal w o f v c d =
+    let e : Collection = called_beside v c d in
+    let g : Value → Called = (beside v w).called f in
+    made_normal (flat_map (λ x. emissions 0 (g x)) e.bag)
+    (e.traps ++ flat_map (λ x. trap_of o (g x)) e.bag)
+
+emitted_normal : (o : ℕ) (x : Value) (v : Option Value) → IsNormal (one_emitted o x v)
+emitted_normal o x None = trap_normal _
+emitted_normal o x (Some v) = just_normal v
+
+answer_normal : (o : ℕ) (x : Value) (c : Called) → IsNormal (one_answer o x c)
+answer_normal o x (Ok outputs) = emitted_normal o x (only (or_none (slice_get outputs 0)))
+answer_normal o x (Err trap) = trap_normal _
+
+operated_normal : (w : World) (o f : ℕ) (vs : Option (List Value)) (cs : List Collection)
+    → IsNormal (operated_on w o f vs cs)
+operated_normal w o f None cs = none_normal cs
+operated_normal w o f (Some vs) cs =
+    answer_normal o (argument vs) (w.called f (argument vs))
+
+combined_normal : (o : ℕ) (r : Result Value Kind) → IsNormal (whole_combined o r)
+combined_normal o (Ok v) = just_normal v
+combined_normal o (Err k) = trap_normal _
+
+nothing_normal : (o : ℕ) (k : Comb) (v : Option Value) → IsNormal (or_of_nothing o k v)
+nothing_normal o k None = combined_normal o (combined k [])
+nothing_normal o k (Some v) = just_normal v
+
+behind_normal : (ts : List Trap) (c d : Collection) → IsNormal c → IsNormal d
+    → IsNormal (unless_behind ts c d)
+behind_normal [] c d h i = i
+behind_normal (t ∷ ts) c d h i = h
+
+one_normal : (o : ℕ) (k : Comb) (c : Collection) → IsNormal (singleton_value o k c)
+one_normal o k c =
+    let v : Option Value = option_and_then value_of (only c.bag) in
+    behind_normal c.traps (none_of (c ∷ [])) (or_of_nothing o k v) (none_normal (c ∷ []))
+    (nothing_normal o k v)
+
+barrier_normal : (w : World) (o : ℕ) (a : Act) (cs : List Collection)
+    → IsNormal (act_result w o a cs)
+unfolding act_result
+barrier_normal w o (SideInput f) [] = none_normal []
+barrier_normal w o (SideInput f) (c ∷ []) = none_normal (c ∷ [])
+barrier_normal w o (SideInput f) (c ∷ (d ∷ [])) = side_normal w o f (value_in d) c d
+barrier_normal w o (SideInput f) (c ∷ (d ∷ (e ∷ es))) = none_normal (c ∷ (d ∷ (e ∷ es)))
+barrier_normal w o (Operates f) cs = operated_normal w o f (values_in cs) cs
+barrier_normal w o (Singleton k) [] = none_normal []
+barrier_normal w o (Singleton k) (c ∷ []) = one_normal o k c
+barrier_normal w o (Singleton k) (c ∷ (d ∷ ds)) = none_normal (c ∷ (d ∷ ds))
+
 value_normal : (w : World) (m : Place → Collection) (o : Option Node) (j : ℕ)
     → ((c : Place) → IsNormal (m c)) → IsNormal (value_at w m o j)
 value_normal w m None j h = record { bag = refl; traps = refl }
-value_normal w m (Some (Source r)) j h = source_normal (w.rows r)
+value_normal w m (Some (Source r)) j h = source_normal (w.rows r.number)
 value_normal w m (Some (Flatten ins)) j h = made_normal (flat_map (λ (c : Collection). c.bag)
     (map m ins)) (flat_map (λ (c : Collection). c.traps) (map m ins))
 value_normal w m (Some (Pdo c f)) j h = out_normal w (m c) f j
 value_normal w m (Some (Gbk c o l k)) j h = keyed_normal (m c).bag (m c).traps (h c)
+value_normal w m (Some (Barrier ins o l a)) j h = barrier_normal w o a (map m ins)
 
 solve_normal : (w : World) (es : List Entry) (k : ℕ) (c : Place) → IsNormal (solve w es k c)
 unfolding solve

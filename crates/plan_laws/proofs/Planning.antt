@@ -21,7 +21,7 @@ use Rattle.flume_collection.specs.Collection.{Collection}
 use Rattle.exec_graph.specs.World.{World}
 use Rattle.exec_graph.specs.declared.graph.Place.{Place}
 use Rattle.exec_graph.specs.declared.graph.Node.{Node}
-use Rattle.exec_graph.specs.declared.graph.Node.TheVariants.{Source, Flatten, Pdo, Gbk}
+use Rattle.exec_graph.specs.declared.graph.Node.TheVariants.{Source, Flatten, Pdo, Gbk, Barrier}
 use Rattle.exec_graph.specs.declared.graph.Entry.{Entry}
 use Rattle.exec_graph.specs.declared.graph.Graph.{Graph}
 
@@ -39,6 +39,7 @@ source_tells w m all n (Source r) c e h (inr i) = absurd i
 source_tells w m all n (Flatten ins) c e h i = absurd i
 source_tells w m all n (Pdo d f) c e h i = absurd i
 source_tells w m all n (Gbk d o l k) c e h i = absurd i
+source_tells w m all n (Barrier ins o l a) c e h i = absurd i
 
 sources_tell : (w : World) (m : Place → Collection) (all es : List Entry)
     → Each (λ e. node_at all e.number ≡ Some e.node) es → Meets w es m → TellsAll m (sources w)

@@ -1,11 +1,15 @@
 -- The plan of operations that carry out a graph says of each collection what the graph says.
-use Rattle.std.proofs.Common.{◌≡◌, ℕ, ◌+◌, ◌⊎◌, Bool, true, false, cond, eqb, List, [], ◌∷◌, ◌++◌, map, length, Some, suc, refl, sym, ap, ◌∙◌, subst, arith, inl, inr}
+use Rattle.std.proofs.Common.{◌≡◌, ℕ, ◌+◌, ◌⊎◌, Bool, true, false, cond, eqb, List, [], ◌∷◌, ◌++◌, map, length, Option, Some, None, suc, refl, sym, ap, ◌∙◌, subst, arith, inl, inr}
 use Rattle.std.proofs.lemmas.Bool.{eqb-true, eq-eqb, false≢true}
+use Rattle.std.specs.Prelude.{option_map}
 use Rattle.std.specs.List.{flat_map, AllByRecursion as Each, slice_get}
 use Rattle.flume_value.proofs.BoolLemmas.{both_true}
-use Rattle.flume_value.proofs.EachLemmas.{Each-weaker}
+use Rattle.flume_value.proofs.EachLemmas.{Each-left, Each-right, Each-weaker}
 use Rattle.flume_collection.specs.Collection.{Collection, together}
 use Rattle.exec_graph.specs.World.{World}
+use Rattle.exec_graph.specs.Objects.{act_result}
+use Rattle.exec_graph.specs.declared.graph.Node.{Node}
+use Rattle.exec_graph.specs.declared.graph.Node.TheVariants.{Source, Flatten, Pdo, Gbk, Barrier}
 use Rattle.exec_graph.specs.Meaning.{place, or_nothing}
 use Rattle.exec_graph.specs.Readers.{same_place}
 use Rattle.exec_graph.specs.declared.graph.Place.{Place}
@@ -17,18 +21,28 @@ use Rattle.exec_plan.specs.Meaning.{Parts, channels_sum, results, run, stage_sum
 use Rattle.exec_plan.proofs.Running.{IsBelow, more_below, run_below, with_below}
 use Rattle.plan_laws.specs.declared.operations.Operation.{Operation}
 use Rattle.plan_laws.specs.declared.operations.Operation.TheVariants.{Flat, Class}
-use Rattle.plan_laws.specs.Operations.{AreReady, IsIn, Reading, channels_of, class_outs, flat_inputs, gives_of, made_by, named, placed, places_of, reads_of, stage_of, stages_of, valued}
+use Rattle.plan_laws.specs.Operations.{AreReady, IsIn, Reading, channels_of, class_outs, flat_inputs, flat_stage, gives_of, made_by, named, placed, places_of, reading_reads, reads_of, with_object, stage_of, stages_of, valued}
 use Rattle.exec_graph.specs.Meaning.{node_at}
 
 -- ---- what an operation gives, and adds up to, where m says what the graph's collections are
+abbrev pub flat_value : World → Option Node → List Collection → Collection
+flat_value w (Some (Barrier ins o l a)) cs = act_result w o a cs
+flat_value w o cs = together cs
+
+abbrev pub flat_part : {Y : Type 0} → World → Parts Y → Option Node → List Collection → List Y
+flat_part w p (Some (Barrier ins o l a)) cs = p.groups o l (act_result w o a cs)
+flat_part w p o cs = p.flat (together cs)
+
 abbrev pub carried : World → (Place → Collection) → List Entry → Operation → List Collection
-carried w m es (Flat n) = together (map m (flat_inputs (node_at es n))) ∷ []
+carried w m es (Flat n) =
+    flat_value w (node_at es n) (map m (flat_inputs (node_at es n))) ∷ []
 carried w m es (Class keys groups passes) =
     flat_map (given w (map (valued m) (channels_of es keys))) (class_outs es keys groups passes)
 
 abbrev pub carried_sum : {Y : Type 0} → World → Parts Y → (Place → Collection) → List Entry
     → Operation → List Y
-carried_sum w p m es (Flat n) = p.flat (together (map m (flat_inputs (node_at es n))))
+carried_sum w p m es (Flat n) =
+    flat_part w p (node_at es n) (map m (flat_inputs (node_at es n)))
 carried_sum w p m es (Class keys groups passes) =
     channels_sum w p (map (valued m) (channels_of es keys)) (class_outs es keys groups passes)
 
@@ -37,14 +51,26 @@ abbrev pub Carries : World → (Place → Collection) → List Entry → Operati
 Carries w m es o = carried w m es o ≡ map m (gives_of es o)
 
 -- ---- a stage whose collections stand elsewhere
+object_named : (m : Place → Collection) (t : PlanPlace → Collection) (f : Place → PlanPlace)
+    (o : Option Place) → Each (λ c. t (f c) ≡ m c) (with_object o)
+    → option_map t (option_map f o) ≡ option_map m o
+object_named m t f None a = refl
+object_named m t f (Some c) a = ap (λ (v : Collection). Some v) a.0
+
 pub fed_named : (m : Place → Collection) (t : PlanPlace → Collection) (f : Place → PlanPlace)
-    (rs : List Reading) → Each (λ c. t (f c) ≡ m c) (map (λ (r : Reading). r.reads) rs)
+    (rs : List Reading) → Each (λ c. t (f c) ≡ m c) (flat_map reading_reads rs)
     → map (fed t) (map (named f) rs) ≡ map (valued m) rs
 fed_named m t f [] a = refl
 fed_named m t f (r ∷ rs) a =
-    ap (λ (v : Collection). let x : Fed = record { value = v; does = r.does } in
-    x ∷ map (fed t) (map (named f) rs)) a.0
-    ∙ ap (λ (l : List Fed). valued m r ∷ l) (fed_named m t f rs a.1)
+    let P : Place → Type 0 = λ c. t (f c) ≡ m c in
+    let more : List Place = flat_map reading_reads rs in
+    let reads : t (f r.reads) ≡ m r.reads = a.0 in
+    let object : option_map t (option_map f r.beside) ≡ option_map m r.beside =
+    object_named m t f r.beside (Each-left P (with_object r.beside) more a.1) in
+    let rest : map (fed t) (map (named f) rs) ≡ map (valued m) rs =
+    fed_named m t f rs (Each-right P (with_object r.beside) more a.1) in
+    λ i. (let x : Fed = record { value = reads i; beside = object i; does = r.does } in
+    x ∷ rest i)
 
 pub values_named : (m : Place → Collection) (t : PlanPlace → Collection) (f : Place → PlanPlace)
     (cs : List Place) → Each (λ c. t (f c) ≡ m c) cs → map t (map f cs) ≡ map m cs
@@ -53,12 +79,32 @@ values_named m t f (c ∷ cs) a =
     ap (λ (v : Collection). v ∷ map t (map f cs)) a.0
     ∙ ap (λ (l : List Collection). m c ∷ l) (values_named m t f cs a.1)
 
+flat_results : (w : World) (t : PlanPlace → Collection) (o : Option Node) (takes : List PlanPlace)
+    → results w t (flat_stage o takes) ≡ flat_value w o (map t takes) ∷ []
+flat_results w t None takes = refl
+flat_results w t (Some (Source r)) takes = refl
+flat_results w t (Some (Flatten ins)) takes = refl
+flat_results w t (Some (Pdo c f)) takes = refl
+flat_results w t (Some (Gbk c o l k)) takes = refl
+flat_results w t (Some (Barrier ins o l a)) takes = refl
+
+flat_summed : {Y : Type 0} (w : World) (p : Parts Y) (t : PlanPlace → Collection)
+    (o : Option Node) (takes : List PlanPlace)
+    → stage_sum w p t (flat_stage o takes) ≡ flat_part w p o (map t takes)
+flat_summed w p t None takes = refl
+flat_summed w p t (Some (Source r)) takes = refl
+flat_summed w p t (Some (Flatten ins)) takes = refl
+flat_summed w p t (Some (Pdo c f)) takes = refl
+flat_summed w p t (Some (Gbk c o l k)) takes = refl
+flat_summed w p t (Some (Barrier ins o l a)) takes = refl
+
 results_named : (w : World) (m : Place → Collection) (t : PlanPlace → Collection)
     (f : Place → PlanPlace) (es : List Entry) (o : Operation)
     → Each (λ c. t (f c) ≡ m c) (reads_of es o)
     → results w t (stage_of es f o) ≡ carried w m es o
 results_named w m t f es (Flat n) a =
-    ap (λ (cs : List Collection). together cs ∷ [])
+    flat_results w t (node_at es n) (map f (flat_inputs (node_at es n)))
+    ∙ ap (λ (cs : List Collection). flat_value w (node_at es n) cs ∷ [])
     (values_named m t f (flat_inputs (node_at es n)) a)
 results_named w m t f es (Class keys groups passes) a =
     ap (λ (cs : List Fed). flat_map (given w cs) (class_outs es keys groups passes))
@@ -69,8 +115,8 @@ sum_named : {Y : Type 0} (w : World) (p : Parts Y) (m : Place → Collection)
     → Each (λ c. t (f c) ≡ m c) (reads_of es o)
     → stage_sum w p t (stage_of es f o) ≡ carried_sum w p m es o
 sum_named w p m t f es (Flat n) a =
-    ap (λ (cs : List Collection). p.flat (together cs))
-    (values_named m t f (flat_inputs (node_at es n)) a)
+    flat_summed w p t (node_at es n) (map f (flat_inputs (node_at es n)))
+    ∙ ap (flat_part w p (node_at es n)) (values_named m t f (flat_inputs (node_at es n)) a)
 sum_named w p m t f es (Class keys groups passes) a =
     ap (λ (cs : List Fed). channels_sum w p cs (class_outs es keys groups passes))
     (fed_named m t f (channels_of es keys) a)

@@ -23,7 +23,7 @@ use Rattle.flume_collection.specs.Collection.{Collection}
 use Rattle.exec_graph.specs.World.{World}
 use Rattle.exec_graph.specs.declared.graph.Place.{Place}
 use Rattle.exec_graph.specs.declared.graph.Node.{Node}
-use Rattle.exec_graph.specs.declared.graph.Node.TheVariants.{Source, Flatten, Pdo, Gbk}
+use Rattle.exec_graph.specs.declared.graph.Node.TheVariants.{Source, Flatten, Pdo, Gbk, Barrier}
 use Rattle.exec_graph.specs.declared.graph.Entry.{Entry}
 use Rattle.exec_graph.specs.declared.graph.Graph.{Graph}
 
@@ -77,6 +77,10 @@ found_absorbed w m es b n j (Gbk c o l e) a k h g i =
     rw (eqb-true j 0 g) (ap (λ (c : Collection). gather (put_new trap_le) c.traps b)
     (holds_at w m es n (Gbk c o l e) a h) ∙ subst (λ (o : Option Node). Absorbs b
     (sum_at w (trap_parts w) m o)) h (k n (ap works_at h)))
+found_absorbed w m es b n j (Barrier ins o l e) a k h g i =
+    rw (eqb-true j 0 g) (ap (λ (c : Collection). gather (put_new trap_le) c.traps b)
+    (holds_at w m es n (Barrier ins o l e) a h) ∙ subst (λ (o : Option Node). Absorbs b
+    (sum_at w (trap_parts w) m o)) h (k n (ap works_at h)))
 
 coll_absorbed : (w : World) (m : Place → Collection) (es : List Entry) (b : List Trap) (r : ℕ → ℕ)
     → Meets w es m → HasWork w m es b → Each (λ e. Each (IsThere es) (reads e.node)) es → IsRankedBy
@@ -99,6 +103,8 @@ node_absorbed w m es b n (Flatten ins) k h i = absorbs_set (flat_map (λ c. c.tr
 node_absorbed w m es b n (Pdo c f) k h i = subst (λ (o : Option Node). Absorbs b
     (sum_at w (trap_parts w) m o)) h (k n (ap works_at h))
 node_absorbed w m es b n (Gbk c o l e) k h i = subst (λ (o : Option Node). Absorbs b
+    (sum_at w (trap_parts w) m o)) h (k n (ap works_at h))
+node_absorbed w m es b n (Barrier ins o l e) k h i = subst (λ (o : Option Node). Absorbs b
     (sum_at w (trap_parts w) m o)) h (k n (ap works_at h))
 
 any_absorbed : (w : World) (m : Place → Collection) (es : List Entry) (n : ℕ) (o : Option Node)

@@ -1,15 +1,18 @@
 -- Operations of a plan, by the nodes of a graph that they carry out.
-use Rattle.std.specs.Prelude.{◌≡◌, ℕ, ◌+◌, ◌⊎◌, Bool, true, false, cond, ◌==◌, List, [], ◌∷◌, ◌++◌, map, Option, Some, None}
+use Rattle.std.specs.Prelude.{◌≡◌, ℕ, ◌+◌, ◌⊎◌, Bool, true, false, cond, ◌==◌, List, [], ◌∷◌, ◌++◌, map, Option, Some, None, option_map}
 use Rattle.std.proofs.Common.{suc}
 use Rattle.std.specs.List.{AllByRecursion, flat_map}
 use Rattle.flume_collection.specs.Collection.{Collection}
 use Rattle.exec_graph.specs.World.{World}
-use Rattle.exec_graph.specs.Forests.{Forest}
+use Rattle.exec_graph.specs.Forests.{Forest, Bare, Grow}
+use Rattle.exec_graph.specs.declared.graph.Act.{Act}
+use Rattle.exec_graph.specs.declared.graph.Act.TheVariants.{SideInput, Operate as Operates, Singleton}
+use Rattle.exec_graph.specs.declared.step.Does.TheVariants as does
 use Rattle.exec_graph.specs.Meaning.{IsThere, all_traps, collection, node_at, own_bag, place}
 use Rattle.exec_graph.specs.Readers.{same_place}
 use Rattle.exec_graph.specs.declared.graph.Place.{Place}
 use Rattle.exec_graph.specs.declared.graph.Node.{Node}
-use Rattle.exec_graph.specs.declared.graph.Node.TheVariants.{Source, Flatten, Pdo, Gbk}
+use Rattle.exec_graph.specs.declared.graph.Node.TheVariants.{Source, Flatten, Pdo, Gbk, Barrier}
 use Rattle.exec_graph.specs.declared.graph.Entry.{Entry}
 use Rattle.exec_graph.specs.declared.graph.Graph.{Graph}
 use Rattle.exec_plan.specs.declared.plan.PlanPlace.{PlanPlace}
@@ -20,7 +23,7 @@ use Rattle.exec_plan.specs.declared.plan.Grouping.{Grouping}
 use Rattle.exec_plan.specs.declared.plan.OutChannel.{OutChannel}
 use Rattle.exec_plan.specs.declared.plan.OutChannel.TheVariants.{Group, Pass}
 use Rattle.exec_plan.specs.declared.plan.Stage.{Stage}
-use Rattle.exec_plan.specs.declared.plan.Stage.TheVariants.{Mscr, Flatten as Joined}
+use Rattle.exec_plan.specs.declared.plan.Stage.TheVariants.{Mscr, Flatten as Joined, Operate}
 use Rattle.exec_plan.specs.declared.plan.Plan.{Plan}
 use Rattle.exec_plan.specs.Channels.{Fed, outs_of}
 use Rattle.exec_plan.specs.Meaning.{emitted_by, plan_collection, plan_traps}
@@ -33,24 +36,36 @@ use Rattle.plan_laws.specs.declared.operations.Operation.TheVariants.{Flat, Clas
 
 -- ---- input channels
 
--- a collection of the graph, and the steps on it
+-- a collection of the graph, and the steps on it, beside an object or none
 pub record Reading : Type 0 where
   pub reads : Place
+  pub beside : Option Place
   pub does : Option Forest
 
 -- the channel, where f says which collection of the plan each of the graph's is
 abbrev pub named : (Place → PlanPlace) → Reading → InChannel
-named f r = record { reads = f r.reads; does = r.does }
+named f r = record { reads = f r.reads; beside = option_map f r.beside; does = r.does }
 
 -- the channel with what it reads, where m says what each collection of the graph is
 abbrev pub valued : (Place → Collection) → Reading → Fed
-valued m r = record { value = m r.reads; does = r.does }
+valued m r = record { value = m r.reads; beside = option_map m r.beside; does = r.does }
 
 abbrev pub whole : Place → Reading
-whole c = record { reads = c; does = None }
+whole c = record { reads = c; beside = None; does = None }
+
+-- one step, which calls a function, and whose output is kept
+abbrev pub one_call : ℕ → Bool → ℕ → Forest
+one_call o l f =
+    Grow (record { origin = o; last = l; does = does.Call f; at = 0; out = Some 0 }) Bare Bare
+
+abbrev pub side_channel : ℕ → ℕ → Bool → Act → List Place → Reading
+side_channel n o l (SideInput f) (c ∷ (object ∷ [])) =
+    record { reads = c; beside = Some object; does = Some (one_call o l f) }
+side_channel n o l a ins = whole (place n 0)
 
 abbrev pub pdo_channel : ℕ → Option Node → Reading
-pdo_channel n (Some (Pdo c f)) = record { reads = c; does = Some f }
+pdo_channel n (Some (Pdo c f)) = record { reads = c; beside = None; does = Some f }
+pdo_channel n (Some (Barrier ins o l a)) = side_channel n o l a ins
 pdo_channel n o = whole (place n 0)
 
 abbrev pub channel_of : List Entry → Key → Reading
@@ -135,10 +150,15 @@ class_outs es keys groups passes =
 
 abbrev pub flat_inputs : Option Node → List Place
 flat_inputs (Some (Flatten ins)) = ins
+flat_inputs (Some (Barrier ins o l a)) = ins
 flat_inputs o = []
 
+abbrev pub flat_stage : Option Node → List PlanPlace → Stage
+flat_stage (Some (Barrier ins o l a)) takes = Operate takes o l a
+flat_stage o takes = Joined takes
+
 abbrev pub stage_of : List Entry → (Place → PlanPlace) → Operation → Stage
-stage_of es f (Flat n) = Joined (map f (flat_inputs (node_at es n)))
+stage_of es f (Flat n) = flat_stage (node_at es n) (map f (flat_inputs (node_at es n)))
 stage_of es f (Class keys groups passes) =
     Mscr
     (record {
@@ -146,10 +166,17 @@ stage_of es f (Class keys groups passes) =
       outputs = class_outs es keys groups passes;
     })
 
+abbrev pub with_object : Option Place → List Place
+with_object None = []
+with_object (Some c) = c ∷ []
+
+abbrev pub reading_reads : Reading → List Place
+reading_reads r = r.reads ∷ with_object r.beside
+
 -- the collections of the graph that it reads
 abbrev pub reads_of : List Entry → Operation → List Place
 reads_of es (Flat n) = flat_inputs (node_at es n)
-reads_of es (Class keys groups passes) = map (λ c. c.reads) (channels_of es keys)
+reads_of es (Class keys groups passes) = flat_map reading_reads (channels_of es keys)
 
 -- the collections of the graph that its results are, in order
 abbrev pub outs_at : Option Node → List ℕ
@@ -185,8 +212,14 @@ runs (Class keys groups passes) = flat_map key_runs keys ++ flat_map group_runs 
 
 -- ---- an operation that stands for nodes of the graph
 
+abbrev pub IsSide : Act → List Place → Type 0
+IsSide (SideInput f) (c ∷ (object ∷ [])) = Unit {0}
+IsSide a ins = ⊥
+
+-- a Pdo, or a step beside an object
 abbrev pub IsPdo : Option Node → Type 0
 IsPdo (Some (Pdo c f)) = Unit {0}
+IsPdo (Some (Barrier ins o l a)) = IsSide a ins
 IsPdo o = ⊥
 
 abbrev pub IsKeyOk : List Entry → Key → Type 0
@@ -216,8 +249,15 @@ TakesInputs es keys o = ⊥
 abbrev pub IsGroupedOk : List Entry → List Key → Grouped → Type 0
 IsGroupedOk es keys g = TakesInputs es keys (node_at es g.gbk) × IsReducer es g.gbk g.reducer
 
+abbrev pub IsOperate : Act → Type 0
+IsOperate (SideInput f) = ⊥
+IsOperate (Operates f) = Unit {0}
+IsOperate (Singleton k) = Unit {0}
+
+-- a Flatten, or what is made of objects or of one pair
 abbrev pub IsFlat : Option Node → Type 0
 IsFlat (Some (Flatten ins)) = Unit {0}
+IsFlat (Some (Barrier ins o l a)) = IsOperate a
 IsFlat o = ⊥
 
 abbrev pub IsHonest : List Entry → Operation → Type 0
@@ -245,15 +285,24 @@ places_of es k f (o ∷ os) = places_of es (suc k) (placed k 0 (gives_of es o) f
 
 -- sources stand under their numbers
 abbrev pub source_at : Option Node → ℕ
-source_at (Some (Source r)) = r
+source_at (Some (Source r)) = r.number
 source_at o = 0
 
 abbrev pub at_source : List Entry → Place → PlanPlace
 at_source es c = at.Source (source_at (node_at es c.node))
 
+-- the sources that are objects
+abbrev pub object_source : Node → List ℕ
+object_source (Source r) = cond r.is_object (r.number ∷ []) []
+object_source (Flatten ins) = []
+object_source (Pdo c f) = []
+object_source (Gbk c o l k) = []
+object_source (Barrier ins o l a) = []
+
 abbrev pub plan_of : ℕ → List Entry → List Place → List Operation → Plan
 plan_of sources es outs os = record {
   sources = sources;
+  objects = flat_map (λ e. object_source e.node) es;
   stages = stages_of es 1 (at_source es) os;
   outputs = map (places_of es 1 (at_source es) os) outs;
 }
@@ -279,6 +328,7 @@ source_place n (Source r) = place n 0 ∷ []
 source_place n (Flatten ins) = []
 source_place n (Pdo c f) = []
 source_place n (Gbk c o l k) = []
+source_place n (Barrier ins o l a) = []
 
 abbrev pub source_places : List Entry → List Place
 source_places [] = []
@@ -289,19 +339,20 @@ abbrev pub times : ℕ → List ℕ → ℕ
 times n [] = 0
 times n (k ∷ ks) = cond (k == n) 1 0 + times n ks
 
--- Pdos and Gbks
+-- Pdos, Gbks, and what is made of whole collections
 abbrev pub works : Node → Bool
 works (Source r) = false
 works (Flatten ins) = false
 works (Pdo c f) = true
 works (Gbk c o l k) = true
+works (Barrier ins o l a) = true
 
 abbrev pub works_at : Option Node → Bool
 works_at None = false
 works_at (Some x) = works x
 
--- each stands for nodes and reads what is made, what is written out is made, and each Pdo and each
--- Gbk is carried out once
+-- each stands for nodes and reads what is made, what is written out is made, and each node that
+-- works is carried out once
 pub record DoAll (g : Graph) (os : List Operation) : Type 0 where
   pub sound : AllByRecursion (IsHonest g.nodes) os
   pub ready : AreReady g.nodes (source_places g.nodes) os

@@ -1,4 +1,6 @@
-ghost use Rattle.std.specs.Prelude.{◌≡◌, ◌<◌, ◌^◌, ◌+◌, length, map, IfOk, OnOk};
+// The plan of operations, made stage by stage.
+ghost use Rattle.std.specs.Prelude.{◌≡◌, ◌<◌, ◌^◌, ◌+◌, ◌++◌, length, map, IfOk, OnOk};
+ghost use Rattle.std.specs.List.{flat_map};
 ghost use Rattle.node_index.specs.Index.{IsIndex};
 ghost use Rattle.plan_laws.specs.Operations as spec;
 ghost use Rattle.plan_making.specs.Small.{IsSmall};
@@ -7,7 +9,7 @@ ghost use Rattle.plan_making.specs.inner.Names.{name_in};
 use crate::names::{all_named, name_results};
 use crate::results::gives_of;
 use crate::stages::stage_of;
-use exec_graph::{Entry, Graph};
+use exec_graph::{Entry, Graph, Node};
 use exec_plan::{Plan, PlanPlace, Stage};
 use flume_value::Pile;
 use node_index::index_of;
@@ -47,6 +49,29 @@ fn draw(
     Ok(Drawn { stages, names })
 }
 
+/// Adds the number of a source that is an object.
+fn push_object(node: &Node, all: &mut Pile<u32>) -> Result<(), AllocError>
+    ensures { OnOk result (all.new ≡ all.old ++ spec.object_source node.now) }
+{
+    if let Node::Source(input) = node {
+        if input.is_object {
+            all.push(input.number)?;
+        }
+    }
+    Ok(())
+}
+
+/// The numbers of the sources that are objects.
+fn objects_of(alloc: Global, nodes: &[Entry]) -> Result<Pile<u32>, AllocError>
+    ensures { IfOk result (λ all. all ≡ flat_map (λ e. spec.object_source e.node) nodes.now) }
+{
+    let mut all = Pile::new(alloc);
+    for e in nodes {
+        push_object(&e.node, &mut all)?;
+    }
+    Ok(all)
+}
+
 /// The plan of operations that are carried out one after another, over so many sources.
 pub fn make_plan(
     alloc: Global,
@@ -62,8 +87,10 @@ pub fn make_plan(
     let index = index_of(alloc, nodes)?;
     let Drawn { stages, names } = draw(alloc, nodes, &index, operations)?;
     let outputs = all_named(alloc, nodes, &index, &names, graph.outputs.as_slice())?;
+    let objects = objects_of(alloc, nodes)?;
     Ok(Plan {
         sources,
+        objects,
         stages,
         outputs,
     })

@@ -1,3 +1,4 @@
+// Where the collections of the graph are in the plan.
 ghost use Rattle.std.specs.Prelude.{◌≡◌, ◌<◌, ◌^◌, ℕ, cond, length, map, IfOk, OnOk};
 ghost use Rattle.node_index.specs.Index.{IsIndex};
 ghost use Rattle.exec_graph.specs.Readers.{same_place};
@@ -19,7 +20,7 @@ fn at_source(nodes: &[Entry], index: &HashMap<u32, usize>, c: Place) -> PlanPlac
     ensures { result ≡ at_source nodes.now c }
 {
     match find_node(nodes, index, c.node) {
-        Some(Node::Source(number)) => PlanPlace::Source(*number),
+        Some(Node::Source(input)) => PlanPlace::Source(input.number),
         _ => PlanPlace::Source(0),
     }
 }

@@ -1,3 +1,4 @@
+// The stage of an operation, with its input and output channels.
 ghost use Rattle.std.specs.Prelude.{◌≡◌, ◌<◌, ◌^◌, ◌++◌, length, map, IfOk, OnOk};
 ghost use Rattle.exec_graph.specs.Meaning.{node_at};
 ghost use Rattle.node_index.specs.Index.{IsIndex};
@@ -10,7 +11,7 @@ use crate::channels::{Channels, channels_of, take_of};
 use crate::groups::push_groups;
 use crate::names::{all_named, named};
 use crate::results::numbered_outs;
-use exec_graph::{Entry, Node, Place};
+use exec_graph::{Act, Does, Entry, Node, Output, Place, Roots, Step};
 use exec_plan::{InChannel, Mscr, OutChannel, PlanPlace, Stage};
 use flume_value::Pile;
 use node_index::find_node;
@@ -31,8 +32,56 @@ fn whole(
 {
     InChannel {
         reads: named(nodes, index, names, c),
+        beside: None,
         does: None,
     }
+}
+
+/// One step that calls the function, and whose output is kept.
+fn one_call(alloc: Global, origin: u32, last: bool, function: u32) -> Result<Roots, AllocError>
+    ensures { IfOk result (λ roots. roots ≡ operations.one_call origin last function) }
+{
+    let output = Output::new(Some(0), Vec::new(alloc));
+    let step = Step::new(origin, last, Does::Call(function), output, Vec::new(alloc));
+    let mut steps = Vec::new(alloc);
+    steps.push(step)?;
+    Ok(Roots::new(steps))
+}
+
+/// A node whose function is called for a script node, whose own bag it gives or not.
+#[derive(Clone, Copy)]
+struct Call {
+    node: u32,
+    origin: u32,
+    last: bool,
+}
+
+/// The channel of a step beside an object.
+fn side(
+    alloc: Global,
+    nodes: &[Entry],
+    index: &HashMap<u32, usize>,
+    names: &HashMap<(u32, u32), PlanPlace>,
+    call: Call,
+    act: Act,
+    inputs: &[Place],
+) -> Result<InChannel, AllocError>
+    requires { IsIndex index.now nodes.now }
+    ensures { IfOk result (λ channel. channel ≡ operations.named (name_in nodes.now names.now)
+        (operations.side_channel call.node call.origin call.last act inputs.now)) }
+{
+    if let Act::SideInput(function) = act {
+        if inputs.len() == 2 {
+            let does = one_call(alloc, call.origin, call.last, function)?;
+            return Ok(InChannel {
+                reads: named(nodes, index, names, inputs[0]),
+                beside: Some(named(nodes, index, names, inputs[1])),
+                does: Some(does),
+            });
+        }
+    }
+    let node = call.node;
+    Ok(whole(nodes, index, names, Place { node, out: 0 }))
 }
 
 /// The channel of a mapper.
@@ -52,8 +101,18 @@ fn mapper(
             let does = roots.copy(alloc)?;
             Ok(InChannel {
                 reads: named(nodes, index, names, *c),
+                beside: None,
                 does: Some(does),
             })
+        }
+        Some(Node::Barrier(inputs, origin, last, act)) => {
+            let call = Call {
+                node: number,
+                origin: *origin,
+                last: *last,
+            };
+            let channel = side(alloc, nodes, index, names, call, *act, inputs.as_slice())?;
+            Ok(channel)
         }
         _ => Ok(whole(
             nodes,
@@ -185,7 +244,27 @@ fn flat_takes(
             let takes = all_named(alloc, nodes, index, names, inputs.as_slice())?;
             Ok(takes)
         }
+        Some(Node::Barrier(inputs, _, _, _)) => {
+            let takes = all_named(alloc, nodes, index, names, inputs.as_slice())?;
+            Ok(takes)
+        }
         _ => Ok(Pile::new(alloc)),
+    }
+}
+
+/// The stage of a Flatten, or of a barrier that gives an object.
+fn flat_stage(
+    nodes: &[Entry],
+    index: &HashMap<u32, usize>,
+    number: u32,
+    takes: Pile<PlanPlace>,
+) -> Stage
+    requires { IsIndex index.now nodes.now }
+    ensures { result ≡ operations.flat_stage (node_at nodes.now number) takes }
+{
+    match find_node(nodes, index, number) {
+        Some(Node::Barrier(_, origin, last, act)) => Stage::Operate(takes, *origin, *last, *act),
+        _ => Stage::Flatten(takes),
     }
 }
 
@@ -205,7 +284,7 @@ pub(crate) fn stage_of(
     match operation {
         Operation::Flat(number) => {
             let takes = flat_takes(alloc, nodes, index, names, *number)?;
-            Ok(Stage::Flatten(takes))
+            Ok(flat_stage(nodes, index, *number, takes))
         }
         Operation::Class(keys, groups, passes) => {
             let mscr = class_stage(

@@ -11,7 +11,7 @@ use Rattle.exec_graph.specs.World.{World}
 use Rattle.exec_plan.specs.declared.plan.Grouping.{Grouping}
 use Rattle.exec_plan.specs.declared.plan.Mscr.{Mscr as Channels}
 use Rattle.exec_plan.specs.declared.plan.Stage.{Stage}
-use Rattle.exec_plan.specs.declared.plan.Stage.TheVariants.{Mscr, Flatten}
+use Rattle.exec_plan.specs.declared.plan.Stage.TheVariants.{Mscr, Flatten, Operate}
 use Rattle.exec_plan.specs.declared.plan.Plan.{Plan}
 use Rattle.task_lists.specs.Runs.{traps_of}
 use Rattle.task_lists.specs.Tasks.{Split, Lists, Task, groupings, grouping_at, map_count, map_phase, map_task_at, no_task, reduce_count, reduce_phase, reduce_task, reduce_task_at}
@@ -111,6 +111,7 @@ module _ (w : World) where
         let reduces = by_groupings k t s (groupings s.outputs) refl in
         λ i. maps i ++ reduces i
     stage_traps k t (Flatten takes) = refl
+    stage_traps k t (Operate takes o l a) = refl
 
     traps_from : (k : ℕ) (ss : List Stage) (t : Lists)
         → flat_map (phase_traps w) (phases_from w n k ss t) ≡ tasks_from (task_traps w) w n k ss t

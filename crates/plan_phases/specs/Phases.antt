@@ -10,7 +10,7 @@ use Rattle.exec_graph.specs.World.{World}
 use Rattle.exec_plan.specs.declared.plan.Grouping.{Grouping}
 use Rattle.exec_plan.specs.declared.plan.Mscr.{Mscr as Channels}
 use Rattle.exec_plan.specs.declared.plan.Stage.{Stage}
-use Rattle.exec_plan.specs.declared.plan.Stage.TheVariants.{Mscr, Flatten}
+use Rattle.exec_plan.specs.declared.plan.Stage.TheVariants.{Mscr, Flatten, Operate}
 use Rattle.exec_plan.specs.declared.plan.Plan.{Plan}
 use Rattle.task_lists.specs.Runs.{traps_of}
 use Rattle.task_lists.specs.Tasks.{Split, Lists, Task, groupings, map_count, map_task_at, reduce_count, reduce_task_at}
@@ -47,11 +47,12 @@ abbrev pub reduce_phases : World → ℕ → Split → Lists → Channels → Li
 reduce_phases w k n t s [] = []
 reduce_phases w k n t s (g ∷ gs) = reduce_phase_of w k n t s ∷ []
 
--- a Flatten stage has none
+-- other stages have none
 abbrev pub stage_phases : World → ℕ → Split → Lists → Stage → List PhaseTasks
 stage_phases w k n t (Mscr s) =
     map_phase_of k n t s ∷ reduce_phases w k n t s (groupings s.outputs)
 stage_phases w k n t (Flatten takes) = []
+stage_phases w k n t (Operate takes o l a) = []
 
 -- ---- of a plan
 

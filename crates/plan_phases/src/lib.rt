@@ -1,6 +1,6 @@
 //! The phases of a plan, in the order in which a run makes them.
 //!
-//! A stage has a map phase, and where it groups a reduce phase; a Flatten stage has neither.
+//! A stage has a map phase, and where it groups a reduce phase; other stages have neither.
 //! `phases` (specs/Phases.antt) lists those of all stages, each over the lists that it finds, with
 //! the tasks of each. `phases_law` says that their traps, in order, are all traps of the plan's
 //! tasks. So the first trap is that of the least trapping task of the first phase that has one.

@@ -1,10 +1,12 @@
 -- The text of an execution graph: a line for each node, and for each output of the script.
 use Rattle.std.specs.Prelude.{ℕ, ◌==◌, List, [], ◌∷◌, ◌++◌, codes, decimal, if◌then◌else◌, slice_index}
 use Rattle.std.specs.List.{flat_map}
+use Rattle.exec_graph.specs.declared.graph.Act.{Act}
+use Rattle.exec_graph.specs.declared.graph.Act.TheVariants.{SideInput, Operate, Singleton}
 use Rattle.exec_graph.specs.declared.graph.Entry.{Entry}
 use Rattle.exec_graph.specs.declared.graph.Graph.{Graph}
 use Rattle.exec_graph.specs.declared.graph.Node.{Node}
-use Rattle.exec_graph.specs.declared.graph.Node.TheVariants.{Source, Flatten, Pdo, Gbk}
+use Rattle.exec_graph.specs.declared.graph.Node.TheVariants.{Source, Flatten, Pdo, Gbk, Barrier}
 use Rattle.exec_graph.specs.declared.graph.Place.{Place}
 use Rattle.exec_graph.specs.Forests.{Forest, Bare, Grow}
 use Rattle.graph_build.specs.Origins.{origins_of}
@@ -13,7 +15,7 @@ use Rattle.script_program.specs.declared.made.Output.{Output}
 use Rattle.script_program.specs.Script.{Script}
 use Rattle.written_types.specs.Named.{Named}
 use Rattle.plan_print.specs.Names.{name_at}
-use Rattle.plan_print.specs.Steps.{step_text}
+use Rattle.plan_print.specs.Steps.{act_text, step_text}
 
 -- what a node gives: the first output by the number of the node alone
 abbrev pub place_text : Place → List ℕ
@@ -29,6 +31,21 @@ root_text script (Grow step kids rest) = step_text script step.origin step.does
 abbrev pub input_text : Place → List ℕ
 input_text place = place_text place ++ codes " "
 
+-- an object beside a collection
+abbrev pub object_text : Place → List ℕ
+object_text object = codes "with " ++ input_text object
+
+-- a collection, and the object beside it
+abbrev pub beside_text : List Place → List ℕ
+beside_text [] = []
+beside_text (input ∷ objects) = input_text input ++ flat_map object_text objects
+
+-- what an act takes: a collection beside an object, objects, or one collection
+abbrev pub taken_text : Act → List Place → List ℕ
+taken_text (SideInput function) inputs = codes "do " ++ beside_text inputs
+taken_text (Operate function) inputs = codes "operate " ++ flat_map input_text inputs
+taken_text (Singleton combiner) inputs = codes "operate " ++ flat_map input_text inputs
+
 -- the node of the collection `origin`, behind its number
 abbrev pub node_text : Script → ℕ → Node → List ℕ
 node_text script origin (Source input) = codes "source " ++ name_at script.nodes origin
@@ -38,6 +55,8 @@ node_text script origin (Pdo input steps) =
     codes "do " ++ (input_text input ++ root_text script steps)
 node_text script origin (Gbk input group last lifted) =
     codes "group " ++ (input_text input ++ name_at script.nodes group)
+node_text script origin (Barrier inputs own last act) =
+    taken_text act inputs ++ act_text script own act
 
 -- the line of a node, where the nodes are built for these collections
 abbrev pub node_line : Script → List ℕ → Entry → List ℕ

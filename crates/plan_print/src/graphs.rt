@@ -1,12 +1,14 @@
+// The text of a graph: a line for each node, and for each output of the script.
 ghost use Rattle.std.specs.Prelude.{◌≡◌, ◌<◌, ◌++◌, codes, length, slice_get, slice_index, ℕ, List, Some, IfOk, OnOk};
 ghost use Rattle.script_program.specs.declared.made.Output.{Output};
 ghost use Rattle.std.specs.List.{flat_map};
 ghost use Rattle.plan_print.specs.GraphText as spec;
 ghost use Rattle.plan_print.specs.Names.{name_at};
+ghost use Rattle.plan_print.specs.Steps.{act_text};
 
 use crate::names::{node_name, push_number};
-use crate::steps::push_step;
-use exec_graph::{Entry, Graph, Node, Place, Roots};
+use crate::steps::{push_act, push_step};
+use exec_graph::{Act, Entry, Graph, Node, Place, Roots};
 use graph_build::origins;
 use printing::push_quoted;
 use script_program::Program;
@@ -86,6 +88,9 @@ fn push_node(
         Node::Flatten(inputs) => push_flatten(text, program, origin, inputs.as_slice()),
         Node::Pdo(input, steps) => push_do(text, program, *input, steps),
         Node::Gbk(input, group, _, _) => push_group(text, program, *input, *group),
+        Node::Barrier(inputs, own, _, act) => {
+            push_barrier(text, program, *own, *act, inputs.as_slice())
+        }
     }
 }
 
@@ -160,6 +165,61 @@ fn push_group(
     text.extend_from_slice(b"group ")?;
     push_input(text, input)?;
     text.extend_from_slice(node_name(program, origin as usize))
+}
+
+/// Adds what is made of collections that are taken whole.
+fn push_barrier(
+    text: &mut Vec<u8>,
+    program: &Program,
+    origin: u32,
+    act: Act,
+    inputs: &[Place],
+) -> Result<(), AllocError>
+    ensures { OnOk result (text.new.items ≡ text.old.items
+        ++ (spec.taken_text act inputs.now ++ act_text program.now.script origin act)) }
+{
+    push_taken(text, act, inputs)?;
+    push_act(text, program, origin, act)
+}
+
+/// Adds what an act takes.
+fn push_taken(text: &mut Vec<u8>, act: Act, inputs: &[Place]) -> Result<(), AllocError>
+    ensures { OnOk result (text.new.items ≡ text.old.items ++ spec.taken_text act inputs.now) }
+{
+    match act {
+        Act::SideInput(_) => {
+            text.extend_from_slice(b"do ")?;
+            push_beside(text, inputs)
+        }
+        Act::Operate(_) | Act::Singleton(_) => {
+            text.extend_from_slice(b"operate ")?;
+            push_inputs(text, inputs)
+        }
+    }
+}
+
+/// Adds a collection, and the object beside it.
+fn push_beside(text: &mut Vec<u8>, inputs: &[Place]) -> Result<(), AllocError>
+    ensures { OnOk result (text.new.items ≡ text.old.items ++ spec.beside_text inputs.now) }
+{
+    match inputs {
+        [] => Ok(()),
+        [input, objects @ ..] => {
+            push_input(text, *input)?;
+            push_objects(text, objects)
+        }
+    }
+}
+
+fn push_objects(text: &mut Vec<u8>, objects: &[Place]) -> Result<(), AllocError>
+    ensures { OnOk result (text.new.items ≡ text.old.items
+        ++ flat_map spec.object_text objects.now) }
+{
+    for object in objects {
+        text.extend_from_slice(b"with ")?;
+        push_input(text, *object)?;
+    }
+    Ok(())
 }
 
 fn push_input(text: &mut Vec<u8>, input: Place) -> Result<(), AllocError>

@@ -1,3 +1,4 @@
+// The names of what a program numbers, and numbers in decimal.
 ghost use Rattle.std.specs.Prelude.{◌≡◌, ◌++◌, OnOk, decimal};
 ghost use Rattle.plan_print.specs.Names.{name_at};
 

@@ -9,7 +9,7 @@ use Rattle.exec_graph.specs.Readers.{among, same_place}
 use Rattle.exec_graph.specs.Wellformed.{IsGraphOk}
 use Rattle.exec_graph.specs.declared.graph.Place.{Place}
 use Rattle.exec_graph.specs.declared.graph.Node.{Node}
-use Rattle.exec_graph.specs.declared.graph.Node.TheVariants.{Source, Flatten, Pdo, Gbk}
+use Rattle.exec_graph.specs.declared.graph.Node.TheVariants.{Source, Flatten, Pdo, Gbk, Barrier}
 use Rattle.exec_graph.specs.declared.graph.Entry.{Entry}
 use Rattle.exec_graph.specs.declared.graph.Graph.{Graph}
 use Rattle.exec_graph.proofs.Bools.{or_else, or_left, or_right}
@@ -100,6 +100,7 @@ by_input es c d e (Some (Flatten ins)) h t f g a =
     (subst (λ (x : Place). groups x e.node ≡ true) (sym (first_of es d ins h t)) g)) a)
 by_input es c d e (Some (Pdo b p)) h t f g a = itself es c d e f g (lone c d a)
 by_input es c d e (Some (Gbk b k l q)) h t f g a = itself es c d e f g (lone c d a)
+by_input es c d e (Some (Barrier ins u y v)) h t f g a = itself es c d e f g (lone c d a)
 
 taken_by : (es : List Entry) (c : Place) (n : ℕ) (x : Node) → node_at es n ≡ Some x
     → AllByRecursion (IsThere es) (reads x) → takes es c x ≡ true → feeds es c ≡ true
@@ -111,12 +112,14 @@ taken_by es c n (Gbk d k l q) f t h =
     (λ i. itself es c d (entry n (Gbk d k l q)) f (is_same d d refl) i)
     (λ i. by_input es c d (entry n (Gbk d k l q)) (node_at es d.node) refl t.0 f
     (is_same d d refl) i)
+taken_by es c n (Barrier ins o l a) f t h = absurd (false≢true h)
 
 grouping : (c : Place) (x : Node) → groups c x ≡ true → (es : List Entry) → takes es c x ≡ true
 grouping c (Source r) h es = absurd (false≢true h)
 grouping c (Flatten ins) h es = absurd (false≢true h)
 grouping c (Pdo d p) h es = absurd (false≢true h)
 grouping c (Gbk d k l q) h es = or_left (same_place c d) (among c (inputs_of es d)) h
+grouping c (Barrier ins o l a) h es = absurd (false≢true h)
 
 -- the Gbk x of the Flatten n takes the inputs of that
 through_flatten : (es : List Entry) (c : Place) (n : ℕ) (y x : Node) → node_at es n ≡ Some y
@@ -132,6 +135,8 @@ through_flatten es c n (Flatten ins) (Gbk d k l q) f h g =
     or_right (same_place c d) (among c (inputs_of es d))
     (ap (λ (o : Option Node). among c (inputs_at d o))
     (subst (λ (m : ℕ). node_at es m ≡ Some (Flatten ins)) at f) ∙ h)
+through_flatten es c n (Barrier ins o l a) x f h g = absurd (false≢true h)
+through_flatten es c n (Flatten ins) (Barrier js o l a) f h g = absurd (false≢true g)
 
 abbrev taken : List Entry → Place → Entry → Bool
 taken es c e = takes es c e.node

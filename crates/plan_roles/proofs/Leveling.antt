@@ -3,9 +3,10 @@ use Rattle.std.proofs.Common.{◌≡◌, ℕ, ◌+◌, ◌<◌, ◌≤◌, List,
 use Rattle.std.specs.List.{AllByRecursion}
 use Rattle.flume_value.proofs.EachLemmas.{Each-weaker}
 use Rattle.exec_graph.specs.Meaning.{node_at, reads, IsRankedBy}
+use Rattle.exec_graph.specs.declared.graph.Act.TheVariants.{SideInput, Operate, Singleton}
 use Rattle.exec_graph.specs.declared.graph.Place.{Place}
 use Rattle.exec_graph.specs.declared.graph.Node.{Node}
-use Rattle.exec_graph.specs.declared.graph.Node.TheVariants.{Source, Flatten, Pdo, Gbk}
+use Rattle.exec_graph.specs.declared.graph.Node.TheVariants.{Source, Flatten, Pdo, Gbk, Barrier}
 use Rattle.exec_graph.specs.declared.graph.Entry.{Entry}
 use Rattle.exec_graph.proofs.Entries.{map_alike}
 use Rattle.exec_graph.proofs.Solving.{lower_most, place_of, ranked_at, short_ranked}
@@ -76,6 +77,13 @@ greatest_most f b [] a = omega arith
 greatest_most f b (c ∷ cs) a =
     let i = greatest_most f b cs a.1 in let h : f c.node ≤ b = a.0 in omega arith
 
+greatest_less : (f : ℕ → ℕ) (b : ℕ) (c : Place) (cs : List Place)
+    → AllByRecursion (λ (d : Place). f d.node < b) (c ∷ cs)
+    → greatest (map (λ (d : Place). f d.node) (c ∷ cs)) < b
+greatest_less f b c [] a = let h : f c.node < b = a.0 in omega arith
+greatest_less f b c (d ∷ ds) a =
+    let h : f c.node < b = a.0 in let i = greatest_less f b d ds a.1 in omega arith
+
 by_most : (f : ℕ → ℕ) (b : ℕ) (x : Node) → AllByRecursion (λ (c : Place). f c.node < b) (reads x)
     → level_by f x ≤ b
 by_most f b (Source r) a = omega arith
@@ -84,6 +92,13 @@ by_most f b (Flatten ins) a =
     (λ (c : Place). f c.node ≤ b) (λ c h. omega arith) ins a) in omega arith
 by_most f b (Pdo c g) a = let h : f c.node < b = a.0 in omega arith
 by_most f b (Gbk c o l k) a = let h : f c.node < b = a.0 in omega arith
+by_most f b (Barrier [] x y d) a = omega arith
+by_most f b (Barrier (c ∷ cs) x y (SideInput g)) a =
+    let i = greatest_less f b c cs a in omega arith
+by_most f b (Barrier (c ∷ cs) x y (Operate g)) a =
+    let i = greatest_less f b c cs a in omega arith
+by_most f b (Barrier (c ∷ cs) x y (Singleton k)) a =
+    let i = greatest_less f b c cs a in omega arith
 
 at_most : (f : ℕ → ℕ) (b : ℕ) (o : Option Node)
     → ((x : Node) → o ≡ Some x → AllByRecursion (λ (c : Place). f c.node < b) (reads x))

@@ -4,10 +4,13 @@ use Rattle.std.proofs.lemmas.Bool.{false≢true}
 use Rattle.std.specs.List.{AllByRecursion}
 use Rattle.exec_graph.specs.Meaning.{node_at, reads, IsRankedBy, IsThere}
 use Rattle.exec_graph.specs.Readers.{among, same_place}
-use Rattle.exec_graph.specs.Wellformed.{IsGraphOk, IsNodeOk}
+use Rattle.exec_graph.specs.Wellformed.{has_objects, IsGraphOk, IsNodeOk}
+use Rattle.exec_graph.specs.Objects.{takes_such}
+use Rattle.exec_graph.specs.declared.graph.Act.{Act}
+use Rattle.exec_graph.specs.declared.graph.Act.TheVariants.{SideInput, Operate, Singleton}
 use Rattle.exec_graph.specs.declared.graph.Place.{Place}
 use Rattle.exec_graph.specs.declared.graph.Node.{Node}
-use Rattle.exec_graph.specs.declared.graph.Node.TheVariants.{Source, Flatten, Pdo, Gbk}
+use Rattle.exec_graph.specs.declared.graph.Node.TheVariants.{Source, Flatten, Pdo, Gbk, Barrier}
 use Rattle.exec_graph.specs.declared.graph.Entry.{Entry}
 use Rattle.exec_graph.specs.declared.graph.Graph.{Graph}
 use Rattle.exec_graph.proofs.Bools.{or_else, or_left, or_right}
@@ -107,6 +110,12 @@ path_by g r ok ra k n l p x h m =
     path_on g.nodes n x h (level_found g.nodes r ok.founded.there ra n x h) m
     (p m.place.node found.0 (omega arith) found.1)
 
+-- nothing is made of no collections
+nothing_taken : (a : Act) → takes_such a [] ≡ true → ⊥
+nothing_taken (SideInput f) h = false≢true h
+nothing_taken (Operate f) h = false≢true h
+nothing_taken (Singleton k) h = false≢true h
+
 path_of : (g : Graph) (r : ℕ → ℕ) → IsGraphOk g → IsRankedBy r g.nodes → (k n : ℕ)
     → r n < suc k → HasPaths g r k → (x : Node) → node_at g.nodes n ≡ Some x → IsNodeOk g n x
     → IsPath g.nodes n (level g.nodes n)
@@ -120,6 +129,11 @@ path_of g r ok ra k n l p (Pdo c f) h w =
     path_by g r ok ra k n l p (Pdo c f) h (has_greatest (level g.nodes) c [])
 path_of g r ok ra k n l p (Gbk c o m q) h w =
     path_by g r ok ra k n l p (Gbk c o m q) h (has_greatest (level g.nodes) c [])
+path_of g r ok ra k n l p (Barrier [] x y d) h w =
+    absurd (nothing_taken d (all_found (λ e. has_objects g.nodes e.node ≡ true) g.nodes n
+    (Barrier [] x y d) h ok.objects))
+path_of g r ok ra k n l p (Barrier (c ∷ cs) x y d) h w =
+    path_by g r ok ra k n l p (Barrier (c ∷ cs) x y d) h (has_greatest (level g.nodes) c cs)
 
 path_through : (g : Graph) (r : ℕ → ℕ) → IsGraphOk g → IsRankedBy r g.nodes → (k : ℕ)
     → HasPaths g r k

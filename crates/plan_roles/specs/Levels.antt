@@ -1,26 +1,30 @@
 -- The level of a node: the greatest number of Gbks on a path from a source to it, itself included.
-use Rattle.std.specs.Prelude.{◌≡◌, ℕ, ◌+◌, ◌≤◌, true, List, [], ◌∷◌, map, length, max, Option, Some, None}
+use Rattle.std.specs.Prelude.{◌≡◌, ℕ, ◌+◌, ◌≤◌, true, cond, List, [], ◌∷◌, map, length, max, Option, Some, None}
 use Rattle.std.proofs.Common.{zero, suc}
 use Rattle.exec_graph.specs.Meaning.{node_at, reads}
+use Rattle.exec_graph.specs.Objects.{gives_object}
 use Rattle.exec_graph.specs.Readers.{among}
+use Rattle.exec_graph.specs.declared.graph.Input.{Input}
 use Rattle.exec_graph.specs.declared.graph.Place.{Place}
 use Rattle.exec_graph.specs.declared.graph.Node.{Node}
-use Rattle.exec_graph.specs.declared.graph.Node.TheVariants.{Source, Flatten, Pdo, Gbk}
+use Rattle.exec_graph.specs.declared.graph.Node.TheVariants.{Source, Flatten, Pdo, Gbk, Barrier}
 use Rattle.exec_graph.specs.declared.graph.Entry.{Entry}
 use Rattle.exec_graph.specs.declared.graph.Graph.{Graph}
 
 -- ---- by paths
 
--- how many Gbks the node is
+-- how many Gbks the node is; what makes an object of collections counts as one
 abbrev pub one_gbk : Node → ℕ
 one_gbk (Source r) = 0
 one_gbk (Flatten ins) = 0
 one_gbk (Pdo c f) = 0
 one_gbk (Gbk c o l k) = 1
+one_gbk (Barrier [] o l a) = 0
+one_gbk (Barrier (c ∷ cs) o l a) = cond (gives_object a) 1 0
 
 -- a path from a source to the node n, with so many Gbks on it
 pub data IsPath (es : List Entry) : ℕ → ℕ → Type 0 where
-  begins : {n r : ℕ} → node_at es n ≡ Some (Source r) → IsPath es n 0
+  begins : {n : ℕ} {r : Input} → node_at es n ≡ Some (Source r) → IsPath es n 0
   goes : {n gbks : ℕ} {x : Node} (c : Place) → node_at es n ≡ Some x → among c (reads x) ≡ true
       → IsPath es c.node gbks → IsPath es n (one_gbk x + gbks)
 

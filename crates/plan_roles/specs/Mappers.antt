@@ -8,7 +8,7 @@ use Rattle.exec_graph.specs.Readers.{among}
 use Rattle.exec_graph.specs.Wellformed.{is_lifted}
 use Rattle.exec_graph.specs.declared.graph.Place.{Place}
 use Rattle.exec_graph.specs.declared.graph.Node.{Node}
-use Rattle.exec_graph.specs.declared.graph.Node.TheVariants.{Source, Flatten, Pdo, Gbk}
+use Rattle.exec_graph.specs.declared.graph.Node.TheVariants.{Source, Flatten, Pdo, Gbk, Barrier}
 use Rattle.exec_graph.specs.declared.graph.Blocked.{Blocked}
 use Rattle.fusion_blocks.specs.Feeding.{flattens}
 use Rattle.exec_plan.specs.Channels.{outs_of}
@@ -39,6 +39,7 @@ maps b n (Pdo c f) =
     && (list_any (feeds_unmarked b) (outputs_of n f)
     && not (list_any (goes_past b.graph.nodes) (outputs_of n f)))
 maps b n (Gbk c o l k) = false
+maps b n (Barrier ins o l a) = false
 
 abbrev pub maps_at : Blocked → ℕ → Option Node → Bool
 maps_at b n None = false
@@ -82,6 +83,7 @@ reduces b gbk (Source r) n = false
 reduces b gbk (Flatten ins) n = false
 reduces b gbk (Pdo c f) n = false
 reduces b gbk (Gbk c o l k) n = is_number (reducer_of b gbk) n
+reduces b gbk (Barrier ins o l a) n = false
 
 -- whether the node n is the reducer of a Gbk
 abbrev pub is_reducer : Blocked → ℕ → Bool

@@ -3,10 +3,10 @@ use Rattle.std.specs.Prelude.{ℕ, ◌==◌, not, ◌&&◌, ◌||◌, Bool, fals
 use Rattle.std.proofs.Common.{suc}
 use Rattle.std.specs.List.{list_any}
 use Rattle.exec_graph.specs.Meaning.{place}
-use Rattle.exec_graph.specs.Readers.{among, any_node, calls_on, is_held, readers, same_place}
+use Rattle.exec_graph.specs.Readers.{among, any_node, is_held, readers, same_place}
 use Rattle.exec_graph.specs.declared.graph.Place.{Place}
 use Rattle.exec_graph.specs.declared.graph.Node.{Node}
-use Rattle.exec_graph.specs.declared.graph.Node.TheVariants.{Source, Flatten, Pdo, Gbk}
+use Rattle.exec_graph.specs.declared.graph.Node.TheVariants.{Source, Flatten, Pdo, Gbk, Barrier}
 use Rattle.exec_graph.specs.declared.graph.Entry.{Entry}
 use Rattle.exec_graph.specs.declared.graph.Graph.{Graph}
 use Rattle.fusion_blocks.specs.Feeding.{flattens}
@@ -21,6 +21,7 @@ takes es c (Source r) = false
 takes es c (Flatten ins) = false
 takes es c (Pdo d f) = false
 takes es c (Gbk d o l k) = same_place c d || among c (inputs_of es d)
+takes es c (Barrier ins o l a) = false
 
 -- whether c feeds a Gbk whose level passes the test
 abbrev pub feeds_level : List Entry → (ℕ → Bool) → Place → Bool
@@ -36,13 +37,22 @@ feeds_other es c = feeds_level es (λ k. not (k == suc (level es c.node))) c
 
 -- ---- Pdos and Flattens
 
--- whether a Pdo or a Flatten reads c
-abbrev pub goes_on : List Entry → Place → Bool
-goes_on es c = any_node (λ x. calls_on c x || flattens c x) es
+-- whether the node reads c, and is a Pdo or takes it whole
+abbrev pub works_on : Place → Node → Bool
+works_on c (Source r) = false
+works_on c (Flatten ins) = false
+works_on c (Pdo d f) = same_place c d
+works_on c (Gbk d o l k) = false
+works_on c (Barrier ins o l a) = among c ins
 
--- whether the entry is a Pdo of c, or a Flatten of c that a Pdo or another Flatten reads
+-- whether a node reads c that is neither a source nor a Gbk
+abbrev pub goes_on : List Entry → Place → Bool
+goes_on es c = any_node (λ x. works_on c x || flattens c x) es
+
+-- whether the entry works on c, or is a Flatten of c that is read by another than a Gbk or a script
+-- output
 abbrev pub carries_on : List Entry → Place → Entry → Bool
-carries_on es c e = calls_on c e.node || (flattens c e.node && goes_on es (place e.number 0))
+carries_on es c e = works_on c e.node || (flattens c e.node && goes_on es (place e.number 0))
 
 -- whether some reader of c is neither a Gbk, nor a script output, nor a Flatten whose every reader
 -- is a Gbk or a script output

@@ -1,10 +1,13 @@
 -- What each node of a fused graph is for forming.
-use Rattle.std.specs.Prelude.{ℕ, cond, List, map}
+use Rattle.std.specs.Prelude.{ℕ, cond, List, [], ◌∷◌, map}
 use Rattle.std.specs.List.{filter}
 use Rattle.exec_graph.specs.Forests.{Forest}
+use Rattle.exec_graph.specs.Meaning.{place}
+use Rattle.exec_graph.specs.declared.graph.Act.{Act}
+use Rattle.exec_graph.specs.declared.graph.Act.TheVariants.{SideInput, Operate, Singleton}
 use Rattle.exec_graph.specs.declared.graph.Place.{Place}
 use Rattle.exec_graph.specs.declared.graph.Node.{Node}
-use Rattle.exec_graph.specs.declared.graph.Node.TheVariants.{Source, Flatten, Pdo, Gbk}
+use Rattle.exec_graph.specs.declared.graph.Node.TheVariants.{Source, Flatten, Pdo, Gbk, Barrier}
 use Rattle.exec_graph.specs.declared.graph.Entry.{Entry}
 use Rattle.exec_graph.specs.declared.graph.Blocked.{Blocked}
 use Rattle.plan_roles.specs.declared.roles.Part.{Part}
@@ -23,12 +26,20 @@ pdo_part b n f =
     cond (is_mapper b n) (part.Mapper (passes_of b n f))
     (cond (is_reducer b n) part.Reducer (part.Trivial (outputs_of n f)))
 
+-- a step beside an object is a stage by itself, as a Pdo that is no mapper; and so is what gives an
+-- object
+abbrev pub act_part : ℕ → Act → Part
+act_part n (SideInput f) = part.Trivial (place n 0 ∷ [])
+act_part n (Operate f) = part.Operate
+act_part n (Singleton k) = part.Operate
+
 -- the part of the node n
 abbrev pub part_of : Blocked → ℕ → Node → Part
 part_of b n (Source r) = part.Source
 part_of b n (Flatten ins) = cond (is_stage b n) part.Stage part.Inlined
 part_of b n (Pdo c f) = pdo_part b n f
 part_of b n (Gbk c o l k) = part.Group (keys_in b n c) (reducer_of b n)
+part_of b n (Barrier ins o l a) = act_part n a
 
 abbrev pub role_of : Blocked → Entry → Role
 role_of b e = record {

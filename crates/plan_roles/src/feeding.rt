@@ -1,3 +1,4 @@
+// Which Gbks a collection feeds, itself or by Flattens.
 ghost use Rattle.std.specs.Prelude.{◌≡◌, ◌&&◌, ◌==◌, not, OnOk, IfOk};
 ghost use Rattle.std.proofs.Common.{suc};
 ghost use Rattle.exec_graph.specs.Places.{HasAlso};
@@ -79,7 +80,7 @@ fn add_taken(
             let inputs = inputs_of(nodes, &levels.index, c);
             add_all_fed(nodes, levels, gbk_level, inputs, feeding)
         }
-        Node::Source(_) | Node::Flatten(_) | Node::Pdo(_, _) => Ok(()),
+        Node::Source(_) | Node::Flatten(_) | Node::Pdo(_, _) | Node::Barrier(_, _, _, _) => Ok(()),
     }
 }
 

@@ -1,3 +1,4 @@
+// The keys that a Gbk takes by, and its reducer.
 ghost use Rattle.std.specs.Prelude.{◌≡◌, ◌||◌, ℕ, nat_eq, OnOk, IfOk};
 ghost use Rattle.std.specs.HashSet.{contains};
 ghost use Rattle.plan_roles.specs.Mappers.{is_mapper, is_reducer, key_of, keys_in, reduces, reducer_of};
@@ -75,7 +76,7 @@ fn add_reducer(
             }
             None => Ok(()),
         },
-        Node::Source(_) | Node::Flatten(_) | Node::Pdo(_, _) => Ok(()),
+        Node::Source(_) | Node::Flatten(_) | Node::Pdo(_, _) | Node::Barrier(_, _, _, _) => Ok(()),
     }
 }
 

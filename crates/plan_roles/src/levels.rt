@@ -1,4 +1,6 @@
-ghost use Rattle.std.specs.Prelude.{◌≡◌, ◌+◌, ◌<◌, ◌≤◌, ◌^◌, length, map, IfOk, OnOk};
+// The level of each node, worked out once.
+ghost use Rattle.std.specs.Prelude.{◌≡◌, ◌+◌, ◌<◌, ◌≤◌, ◌^◌, length, map, IfOk, OnOk, ℕ, Bool};
+ghost use Rattle.exec_graph.specs.declared.graph.Node.TheVariants.{Barrier};
 ghost use Rattle.exec_graph.specs.declared.graph.Place.{Place as GhostPlace};
 ghost use Rattle.exec_graph.specs.declared.graph.Entry.{Entry as GhostEntry};
 ghost use Rattle.node_index.specs.Index.{IsIndex};
@@ -6,7 +8,7 @@ ghost use Rattle.fusion_blocks.specs.inner.Tables.{AllBelow, IsBelow, IsRanked};
 ghost use Rattle.plan_roles.specs.Levels.{greatest, level, one_gbk};
 ghost use Rattle.plan_roles.specs.inner.Known.{AreKnown, AreLevels, level_in};
 
-use exec_graph::{Entry, Node, Place};
+use exec_graph::{Act, Entry, Node, Place};
 use node_index::{find_node, index_of, reads_of};
 use std::alloc::{AllocError, Global};
 use std::collections::HashMap;
@@ -140,6 +142,19 @@ fn greatest_level(
     Ok(most)
 }
 
+fn risen_by(act: Act, inputs: &[Place], read: u32) -> u32
+    requires { read + 1 < 2 ^ 32 }
+    ensures { (origin : ℕ) (last : Bool) → result ≡ one_gbk (Barrier inputs.now origin last act) + read }
+{
+    if inputs.is_empty() {
+        return read;
+    }
+    match act {
+        Act::SideInput(_) => read,
+        Act::Operate(_) | Act::Singleton(_) => read + 1,
+    }
+}
+
 /// The level of a node that reads collections of that level.
 fn risen(node: &Node, read: u32) -> u32
     requires { read + 1 < 2 ^ 32 }
@@ -147,6 +162,7 @@ fn risen(node: &Node, read: u32) -> u32
 {
     match node {
         Node::Gbk(_, _, _, _) => read + 1,
+        Node::Barrier(inputs, _, _, act) => risen_by(*act, inputs.as_slice(), read),
         Node::Source(_) | Node::Flatten(_) | Node::Pdo(_, _) => read,
     }
 }

@@ -1,3 +1,4 @@
+// Which Pdos are mappers.
 ghost use Rattle.std.specs.Prelude.{◌≡◌, ◌||◌, ◌&&◌, ◌==◌, ℕ, nat_eq, OnOk, IfOk};
 ghost use Rattle.std.specs.HashSet.{contains};
 ghost use Rattle.std.specs.List.{list_any};
@@ -67,7 +68,9 @@ fn maps(alloc: Global, blocked: &Blocked, found: &Found, entry: &Entry) -> Resul
                     && !any_past(blocked, found, outputs.as_slice()),
             )
         }
-        Node::Source(_) | Node::Flatten(_) | Node::Gbk(_, _, _, _) => Ok(false),
+        Node::Source(_) | Node::Flatten(_) | Node::Gbk(_, _, _, _) | Node::Barrier(_, _, _, _) => {
+            Ok(false)
+        }
     }
 }
 

@@ -1,9 +1,9 @@
+// Which collections are read, and by what kind of reader.
 ghost use Rattle.std.specs.Prelude.{◌≡◌, ◌&&◌, ◌||◌, OnOk, IfOk};
 ghost use Rattle.exec_graph.specs.Meaning.{place};
 ghost use Rattle.exec_graph.specs.Places.{HasAlso, HasPlaces};
-ghost use Rattle.exec_graph.specs.Readers.{calls_on};
 ghost use Rattle.fusion_blocks.specs.Feeding.{flattens};
-ghost use Rattle.plan_roles.specs.Reading.{carries_on, goes_on, goes_past};
+ghost use Rattle.plan_roles.specs.Reading.{carries_on, goes_on, goes_past, works_on};
 ghost use Rattle.plan_roles.specs.Mappers.{is_stage, is_staged};
 ghost use Rattle.plan_roles.specs.inner.Tables.{HasAmong, IsReading};
 
@@ -54,11 +54,12 @@ fn on_places(alloc: Global, nodes: &[Entry]) -> Result<HashSet<u64>, AllocError>
 
 fn add_on(node: &Node, all: &mut HashSet<u64>) -> Result<(), AllocError>
     ensures { OnOk result (HasAlso all.old all.new
-        (λ d. calls_on d node.now || flattens d node.now)) }
+        (λ d. works_on d node.now || flattens d node.now)) }
 {
     match node {
         Node::Pdo(c, _) => add_place(*c, all),
         Node::Flatten(inputs) => add_places(inputs.as_slice(), all),
+        Node::Barrier(inputs, _, _, _) => add_places(inputs.as_slice(), all),
         Node::Source(_) | Node::Gbk(_, _, _, _) => Ok(()),
     }
 }
@@ -106,6 +107,7 @@ fn add_past(
             }
             add_places(inputs.as_slice(), all)
         }
+        Node::Barrier(inputs, _, _, _) => add_places(inputs.as_slice(), all),
         Node::Source(_) | Node::Gbk(_, _, _, _) => Ok(()),
     }
 }
@@ -164,6 +166,8 @@ fn add_staged(
             }
             add_places(inputs.as_slice(), all)
         }
-        Node::Source(_) | Node::Pdo(_, _) | Node::Gbk(_, _, _, _) => Ok(()),
+        Node::Source(_) | Node::Pdo(_, _) | Node::Gbk(_, _, _, _) | Node::Barrier(_, _, _, _) => Ok(
+            (),
+        ),
     }
 }

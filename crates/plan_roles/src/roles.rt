@@ -1,8 +1,9 @@
+// What each node is for forming.
 ghost use Rattle.std.specs.Prelude.{◌≡◌, cond, IfOk};
 ghost use Rattle.exec_graph.specs.Wellformed.{IsBlockedOk};
 ghost use Rattle.plan_roles.specs.declared.roles.Part.TheVariants as part;
 ghost use Rattle.plan_roles.specs.Mappers.{is_mapper, is_reducer, is_stage};
-ghost use Rattle.plan_roles.specs.Roles.{part_of, pdo_part, role_of, roles};
+ghost use Rattle.plan_roles.specs.Roles.{act_part, part_of, pdo_part, role_of, roles};
 ghost use Rattle.plan_roles.specs.inner.Tables.{AreFound, HasNumbers};
 
 use crate::found::{Found, find_all};
@@ -11,7 +12,7 @@ use crate::mappers::mappers_of;
 use crate::outputs::outputs_of;
 use crate::passing::passes_of;
 use crate::reading::is_stage;
-use exec_graph::{Blocked, Entry, Node, Place, Roots};
+use exec_graph::{Act, Blocked, Entry, Node, Place, Roots};
 use flume_value::Pile;
 use plan_laws::Key;
 use std::alloc::{AllocError, Global};
@@ -32,6 +33,8 @@ pub enum Part {
     Reducer,
     /// A Pdo that is neither, with its outputs, all of which pass through.
     Trivial(Pile<Place>),
+    /// A barrier that gives an object: a stage by itself.
+    Operate,
     /// A Gbk, with the keys of what it takes in order, and the Pdo that reduces its groups.
     Group(Pile<Key>, Option<u32>),
 }
@@ -116,6 +119,23 @@ fn part_of(
             let keys = keys_in(alloc, blocked, found, mappers, entry.number, c)?;
             Ok(Part::Group(keys, reducer_of(blocked, found, mappers, entry.number)))
         }
+        Node::Barrier(_, _, _, act) => {
+            let part = part_of_act(alloc, entry.number, *act)?;
+            Ok(part)
+        }
+    }
+}
+
+fn part_of_act(alloc: Global, node: u32, act: Act) -> Result<Part, AllocError>
+    ensures { IfOk result (λ p. p ≡ act_part node act) }
+{
+    match act {
+        Act::SideInput(_) => {
+            let mut outputs = Pile::new(alloc);
+            outputs.push(Place { node, out: 0 })?;
+            Ok(Part::Trivial(outputs))
+        }
+        Act::Operate(_) | Act::Singleton(_) => Ok(Part::Operate),
     }
 }
 

@@ -6,7 +6,7 @@ use Rattle.exec_graph.specs.Meaning.{place}
 use Rattle.exec_graph.specs.Wellformed.{size, total_size}
 use Rattle.exec_graph.specs.declared.graph.Place.{Place}
 use Rattle.exec_graph.specs.declared.graph.Node.{Node}
-use Rattle.exec_graph.specs.declared.graph.Node.TheVariants.{Source, Flatten, Pdo, Gbk}
+use Rattle.exec_graph.specs.declared.graph.Node.TheVariants.{Source, Flatten, Pdo, Gbk, Barrier}
 use Rattle.exec_graph.specs.declared.graph.Entry.{Entry}
 use Rattle.exec_plan.specs.Channels.{outs_of}
 use Rattle.exec_plan.specs.Wellformed.{kept, out_count}
@@ -19,6 +19,7 @@ node_outs (Source r) = 0 ∷ []
 node_outs (Flatten ins) = 0 ∷ []
 node_outs (Pdo c f) = outs_of f
 node_outs (Gbk c o l k) = 0 ∷ []
+node_outs (Barrier ins o l a) = 0 ∷ []
 
 -- the collections of a graph
 abbrev pub collections : List Entry → List Place
@@ -66,6 +67,7 @@ few_outs (Pdo c f) h =
     let a = few_kept 0 f h in
     let b = outs_length f in omega arith
 few_outs (Gbk c o l k) h = omega arith
+few_outs (Barrier ins o l a) h = omega arith
 
 pub few_collections : (es : List Entry) → AllByRecursion (λ e. IsNarrow e.node) es
     → length (collections es) ≤ 8 * total_size es

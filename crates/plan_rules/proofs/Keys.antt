@@ -1,26 +1,27 @@
--- The channels of a class are not more than twice the collections of the graph.
+-- The channels of a class are not more than the collections of the graph: that of a mapper stands
+-- for an output of its node, and what is read as it is for itself.
 use Rattle.std.proofs.Common.{◌≡◌, ℕ, ◌+◌, ◌≤◌, true, false, List, [], ◌∷◌, length, Option, Some, None, refl, sym, ap, ◌∙◌, subst, arith}
 use Rattle.std.proofs.lemmas.Bool.{eqb-true, eq-eqb, false≢true}
 use Rattle.std.proofs.lemmas.Map.Keys.{IsDistinct-head, IsDistinct-tail}
-use Rattle.std.specs.List.{AllByRecursion, IsDistinct, list_any}
+use Rattle.std.specs.List.{AllByRecursion, IsDistinct, flat_map, list_any}
 use Rattle.exec_graph.specs.Meaning.{IsThere, node_at}
 use Rattle.exec_graph.specs.Readers.{same_place}
 use Rattle.exec_graph.specs.declared.graph.Place.{Place}
 use Rattle.exec_graph.specs.declared.graph.Node.{Node}
-use Rattle.exec_graph.specs.declared.graph.Node.TheVariants.{Source, Flatten, Pdo, Gbk}
+use Rattle.exec_graph.specs.declared.graph.Node.TheVariants.{Source, Flatten, Pdo, Gbk, Barrier}
 use Rattle.exec_graph.specs.declared.graph.Entry.{Entry}
 use Rattle.exec_graph.proofs.Bools.{or_else}
 use Rattle.exec_graph.proofs.Solving.{there_found}
 use Rattle.plan_laws.specs.declared.operations.Key.{Key}
 use Rattle.plan_laws.specs.declared.operations.Key.TheVariants.{Mapper, Whole}
 use Rattle.plan_laws.specs.declared.operations.Grouped.{Grouped}
-use Rattle.plan_laws.specs.Operations.{IsGroupedOk, IsTaken, TakesInputs, has_key, inputs_of}
+use Rattle.plan_laws.specs.Operations.{IsGroupedOk, IsTaken, TakesInputs, has_key, inputs_of, key_runs}
 use Rattle.plan_laws.proofs.Running.{place_same}
 use Rattle.plan_rules.specs.Fitting.{IsUsed, gbk_inputs, same_key, takes_key}
 use Rattle.plan_rules.proofs.Collections.{collections, node_outs}
 use Rattle.plan_rules.proofs.Made.{same_self}
-use Rattle.plan_rules.proofs.Members.{Differ, Has, lighter, shorter, weight}
-use Rattle.plan_rules.proofs.Places.{given_has, number_has, numbers, numbers_weigh, outs_count, there_has}
+use Rattle.plan_rules.proofs.Members.{Differ, Has, weight}
+use Rattle.plan_rules.proofs.Places.{given_has, number_has, numbers, outs_count, there_has}
 
 -- ---- mappers, and collections as they are
 
@@ -34,7 +35,7 @@ wholes [] = []
 wholes (Mapper n ∷ ks) = wholes ks
 wholes (Whole c ∷ ks) = c ∷ wholes ks
 
-keys_parted : (ks : List Key) → length ks ≡ length (mappers ks) + length (wholes ks)
+pub keys_parted : (ks : List Key) → length ks ≡ length (mappers ks) + length (wholes ks)
 keys_parted [] = refl
 keys_parted (Mapper n ∷ ks) = let i = keys_parted ks in omega arith
 keys_parted (Whole c ∷ ks) = let i = keys_parted ks in omega arith
@@ -53,7 +54,7 @@ other_wholes c (Mapper k ∷ ks) a = other_wholes c ks a.1
 other_wholes c (Whole d ∷ ks) a =
     (λ e. false≢true (sym a.0 ∙ same_self c d e), other_wholes c ks a.1)
 
-mappers_differ : (ks : List Key) → IsDistinct same_key ks → Differ (mappers ks)
+pub mappers_differ : (ks : List Key) → IsDistinct same_key ks → Differ (mappers ks)
 mappers_differ [] d = tt
 mappers_differ (Mapper n ∷ ks) d = (
   other_mappers n ks (IsDistinct-head same_key (Mapper n) ks d),
@@ -61,7 +62,7 @@ mappers_differ (Mapper n ∷ ks) d = (
 )
 mappers_differ (Whole c ∷ ks) d = mappers_differ ks (IsDistinct-tail same_key (Whole c) ks d)
 
-wholes_differ : (ks : List Key) → IsDistinct same_key ks → Differ (wholes ks)
+pub wholes_differ : (ks : List Key) → IsDistinct same_key ks → Differ (wholes ks)
 wholes_differ [] d = tt
 wholes_differ (Mapper n ∷ ks) d = wholes_differ ks (IsDistinct-tail same_key (Mapper n) ks d)
 wholes_differ (Whole c ∷ ks) d = (
@@ -85,7 +86,7 @@ places_differ (c ∷ cs) d = (
 
 -- ---- a channel that a group takes of
 
-record Taken (es : List Entry) (k : Key) : Type 0 where
+pub record Taken (es : List Entry) (k : Key) : Type 0 where
   pub at : Place
   pub has : has_key k at ≡ true
   pub there : IsThere es at
@@ -105,6 +106,7 @@ gbk_taken es keys k (Some (Source r)) t h = absurd t
 gbk_taken es keys k (Some (Flatten ins)) t h = absurd t
 gbk_taken es keys k (Some (Pdo c f)) t h = absurd t
 gbk_taken es keys k (Some (Gbk c o l m)) t h = input_taken es keys k (inputs_of es c) t h
+gbk_taken es keys k (Some (Barrier ins o l a)) t h = absurd t
 
 key_taken : (es : List Entry) (keys : List Key) (k : Key) (gs : List Grouped)
     → AllByRecursion (IsGroupedOk es keys) gs → IsUsed es gs k → Taken es k
@@ -139,17 +141,17 @@ whole_there es c t =
     subst (λ (d : Place). Has d (collections es)) (sym (place_same c t.at t.has))
     (there_has es t.at t.there)
 
-abbrev AreTaken : List Entry → List Key → Type 0
+abbrev pub AreTaken : List Entry → List Key → Type 0
 AreTaken es ks = AllByRecursion (Taken es) ks
 
-mappers_stand : (es : List Entry) (ks : List Key) → AreTaken es ks
+pub mappers_stand : (es : List Entry) (ks : List Key) → AreTaken es ks
     → AllByRecursion (λ n. Has n (numbers es)) (mappers ks)
 mappers_stand es [] a = tt
 mappers_stand es (Mapper n ∷ ks) a =
     ((mapper_weighs es n a.0).stands, mappers_stand es ks a.1)
 mappers_stand es (Whole c ∷ ks) a = mappers_stand es ks a.1
 
-mappers_weigh : (es : List Entry) (ks : List Key) → AreTaken es ks
+pub mappers_weigh : (es : List Entry) (ks : List Key) → AreTaken es ks
     → length (mappers ks) ≤ weight (outs_of_number es) (mappers ks)
 mappers_weigh es [] a = omega arith
 mappers_weigh es (Mapper n ∷ ks) a =
@@ -157,29 +159,18 @@ mappers_weigh es (Mapper n ∷ ks) a =
     let i = mappers_weigh es ks a.1 in omega arith
 mappers_weigh es (Whole c ∷ ks) a = mappers_weigh es ks a.1
 
-wholes_there : (es : List Entry) (ks : List Key) → AreTaken es ks
+pub wholes_there : (es : List Entry) (ks : List Key) → AreTaken es ks
     → AllByRecursion (λ c. Has c (collections es)) (wholes ks)
 wholes_there es [] a = tt
 wholes_there es (Mapper n ∷ ks) a = wholes_there es ks a.1
 wholes_there es (Whole c ∷ ks) a = (whole_there es c a.0, wholes_there es ks a.1)
 
-all_taken : (es : List Entry) (keys : List Key) (gs : List Grouped) (ks : List Key)
+pub all_taken : (es : List Entry) (keys : List Key) (gs : List Grouped) (ks : List Key)
     → AllByRecursion (IsGroupedOk es keys) gs → AllByRecursion (IsUsed es gs) ks → AreTaken es ks
 all_taken es keys gs [] a u = tt
 all_taken es keys gs (k ∷ ks) a u = (key_taken es keys k gs a u.0, all_taken es keys gs ks a u.1)
 
-pub keys_short : (es : List Entry) (keys : List Key) (gs : List Grouped)
-    → AllByRecursion (λ e. node_at es e.number ≡ Some e.node) es
-    → AllByRecursion (IsGroupedOk es keys) gs → IsDistinct same_key keys
-    → AllByRecursion (IsUsed es gs) keys
-    → length keys ≤ length (collections es) + length (collections es)
-keys_short es keys gs f a d u =
-    let t = all_taken es keys gs keys a u in
-    let p = keys_parted keys in
-    let m = lighter (outs_of_number es) (mappers keys) (numbers es) (mappers_differ keys d)
-    (mappers_stand es keys t) in
-    let n = mappers_weigh es keys t in
-    let w = numbers_weigh es es f in
-    let c = shorter (wholes keys) (collections es) (wholes_differ keys d)
-    (wholes_there es keys t) in
-    omega arith
+pub mappers_run : (ks : List Key) → mappers ks ≡ flat_map key_runs ks
+mappers_run [] = refl
+mappers_run (Mapper n ∷ ks) = ap (λ ns. n ∷ ns) (mappers_run ks)
+mappers_run (Whole c ∷ ks) = mappers_run ks

@@ -2,12 +2,15 @@ pub mod Made
 pub mod Widths
 pub mod Taking
 pub mod Staging
+pub mod PlanObjects
 pub mod Planning
 pub mod Members
 pub mod Collections
 pub mod Places
 pub mod Runs
 pub mod Keys
+pub mod Apart
+pub mod Beside
 pub mod Lifted
 pub mod Limits
 pub mod Wellness

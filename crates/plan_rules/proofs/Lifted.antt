@@ -8,7 +8,7 @@ use Rattle.exec_graph.specs.Readers.{calls_on, readers, those}
 use Rattle.exec_graph.specs.Wellformed.{IsGraphOk, IsNodeOk, comb_at, is_lifted}
 use Rattle.exec_graph.specs.declared.graph.Place.{Place}
 use Rattle.exec_graph.specs.declared.graph.Node.{Node}
-use Rattle.exec_graph.specs.declared.graph.Node.TheVariants.{Source, Flatten, Pdo, Gbk}
+use Rattle.exec_graph.specs.declared.graph.Node.TheVariants.{Source, Flatten, Pdo, Gbk, Barrier}
 use Rattle.exec_graph.specs.declared.graph.Entry.{Entry}
 use Rattle.exec_graph.specs.declared.graph.Graph.{Graph}
 use Rattle.exec_graph.proofs.Entries.{all_found}
@@ -50,6 +50,7 @@ forest_lifted es c n r k None h i a q = absurd i
 forest_lifted es c n r k (Some (Source s)) h i a q = absurd i
 forest_lifted es c n r k (Some (Flatten ins)) h i a q = absurd i
 forest_lifted es c n r k (Some (Gbk d x l m)) h i a q = absurd i
+forest_lifted es c n r k (Some (Barrier ins x y d)) h i a q = absurd i
 forest_lifted es c n r k (Some (Pdo d f)) h i a q =
     let same : n ≡ r = one_reader n r (readers es c) a
     (those_has (calls_on c) es r (Pdo d f) h (same_self c d (sym i))) in
@@ -73,6 +74,7 @@ gbk_lifted g n r (Some (Gbk c o l None)) ok h i s = tt
 gbk_lifted g n r (Some (Gbk c o l (Some k))) ok h i s =
     reducer_lifted g n r k c o l
     (all_found (λ e. IsNodeOk g e.number e.node) g.nodes n (Gbk c o l (Some k)) h ok.nodes) i s
+gbk_lifted g n r (Some (Barrier ins o l a)) ok h i s = tt
 
 pub all_lifted : (g : Graph) (keys : List Key) (gs : List Grouped) → IsGraphOk g
     → AllByRecursion (IsGroupedOk g.nodes keys) gs → AllByRecursion (IsReduced g.nodes) gs

@@ -1,11 +1,11 @@
 -- The channels, results and stages of operations are not more than the graph allows.
-use Rattle.std.proofs.Common.{◌≡◌, ℕ, ◌+◌, ◌≤◌, ◌⊎◌, List, [], ◌∷◌, ◌++◌, length, Option, Some, None, refl, arith, inl, inr, length-append}
+use Rattle.std.proofs.Common.{◌≡◌, ℕ, ◌+◌, ◌≤◌, ◌⊎◌, List, [], ◌∷◌, ◌++◌, length, Option, Some, None, refl, sym, subst, arith, inl, inr, length-append}
 use Rattle.std.specs.List.{AllByRecursion, flat_map}
 use Rattle.flume_value.proofs.EachLemmas.{Each-weaker}
 use Rattle.exec_graph.specs.Meaning.{node_at, place}
 use Rattle.exec_graph.specs.declared.graph.Place.{Place}
 use Rattle.exec_graph.specs.declared.graph.Node.{Node}
-use Rattle.exec_graph.specs.declared.graph.Node.TheVariants.{Source, Flatten, Pdo, Gbk}
+use Rattle.exec_graph.specs.declared.graph.Node.TheVariants.{Source, Flatten, Pdo, Gbk, Barrier}
 use Rattle.exec_graph.specs.declared.graph.Entry.{Entry}
 use Rattle.plan_laws.specs.declared.operations.Key.{Key}
 use Rattle.plan_laws.specs.declared.operations.Key.TheVariants.{Mapper, Whole}
@@ -14,9 +14,11 @@ use Rattle.plan_laws.specs.declared.operations.Operation.TheVariants.{Class}
 use Rattle.plan_laws.specs.Operations.{IsGroupedOk, IsHonest, IsTaken, TakesInputs, group_gives, group_runs, key_runs, outs_at, reduced, reducer_runs, runs}
 use Rattle.plan_rules.specs.Fitting.{IsAlone, IsClassFit, IsUsed}
 use Rattle.plan_rules.proofs.Collections.{collections}
-use Rattle.plan_rules.proofs.Keys.{keys_short, outs_of_number, places_differ}
-use Rattle.plan_rules.proofs.Members.{Differ, Has, differ_right, lighter, shorter, weight, weight-append}
-use Rattle.plan_rules.proofs.Places.{numbers, numbers_weigh, outs_count, there_has}
+use Rattle.plan_rules.proofs.Apart.{IsApart, Misses, misses_left}
+use Rattle.plan_rules.proofs.Beside.{beside_short}
+use Rattle.plan_rules.proofs.Keys.{all_taken, keys_parted, mappers, mappers_differ, mappers_run, mappers_stand, mappers_weigh, outs_of_number, places_differ, wholes, wholes_differ, wholes_there}
+use Rattle.plan_rules.proofs.Members.{Differ, Has, differ_right, weight, weight-append}
+use Rattle.plan_rules.proofs.Places.{numbers, outs_count, there_has}
 use Rattle.plan_rules.proofs.Runs.{all_stand, groups_work}
 use Rattle.plan_rules.proofs.Widths.{length_map}
 
@@ -29,6 +31,7 @@ gbk_weighs es keys (Some (Source r)) t = absurd t
 gbk_weighs es keys (Some (Flatten ins)) t = absurd t
 gbk_weighs es keys (Some (Pdo c f)) t = absurd t
 gbk_weighs es keys (Some (Gbk c o l k)) t = refl
+gbk_weighs es keys (Some (Barrier ins o l a)) t = absurd t
 
 outs_weigh : (o : Option Node) → length (outs_at o) ≤ outs_count o
 outs_weigh None = omega arith
@@ -36,6 +39,7 @@ outs_weigh (Some (Source r)) = omega arith
 outs_weigh (Some (Flatten ins)) = omega arith
 outs_weigh (Some (Pdo c f)) = omega arith
 outs_weigh (Some (Gbk c o l k)) = omega arith
+outs_weigh (Some (Barrier ins o l a)) = omega arith
 
 reduced_weighs : (es : List Entry) (n : ℕ) (r : Option ℕ) → outs_of_number es n ≡ 1
     → length (reduced es n r) ≤ weight (outs_of_number es) (n ∷ reducer_runs r)
@@ -65,24 +69,6 @@ groups_weigh es keys (g ∷ gs) a =
     let l = length-append (group_gives es g) (flat_map (group_gives es) gs) in
     record { groups = omega arith; results = omega arith }
 
--- what the nodes that are carried out give is no more than there are collections
-groups_light : (es : List Entry) (keys : List Key) (gs : List Grouped) (cs : List Place)
-    → AllByRecursion (λ e. node_at es e.number ≡ Some e.node) es
-    → AllByRecursion (IsGroupedOk es keys) gs → Differ (runs (Class keys gs cs))
-    → weight (outs_of_number es) (flat_map group_runs gs) ≤ length (collections es)
-groups_light es keys gs cs f a d =
-    let l = lighter (outs_of_number es) (flat_map group_runs gs) (numbers es)
-    (differ_right (flat_map key_runs keys) (flat_map group_runs gs) d)
-    (all_stand es (flat_map group_runs gs) (groups_work es keys gs a)) in
-    let w = numbers_weigh es es f in omega arith
-
-passes_short : (es : List Entry) (keys : List Key) (gs : List Grouped) (cs : List Place)
-    → AllByRecursion (IsTaken es keys) cs → IsClassFit es keys gs cs
-    → length cs ≤ length (collections es)
-passes_short es keys gs cs a f =
-    shorter cs (collections es) (places_differ cs f.passed)
-    (Each-weaker (IsTaken es keys) (λ c. Has c (collections es)) (λ c t. there_has es c t.1) cs a)
-
 -- ---- one operation
 
 -- its channels, and its results
@@ -98,26 +84,43 @@ alone_short (Mapper n ∷ []) h = omega arith
 alone_short (Mapper n ∷ (k ∷ ks)) h = absurd h
 alone_short (Whole c ∷ ks) h = absurd h
 
+-- the channels are not more than the collections
 inputs_short : (es : List Entry) (keys : List Key) (gs : List Grouped) (cs : List Place)
-    → AllByRecursion (λ e. node_at es e.number ≡ Some e.node) es
-    → AllByRecursion (IsGroupedOk es keys) gs → IsClassFit es keys gs cs
-    → IsAlone keys ⊎ AllByRecursion (IsUsed es gs) keys
-    → length keys ≤ 1 + (length (collections es) + length (collections es))
-inputs_short es keys gs cs f a t (inl h) = let l = alone_short keys h in omega arith
-inputs_short es keys gs cs f a t (inr h) =
-    let l = keys_short es keys gs f a t.differ h in omega arith
+    → AllByRecursion (λ e. node_at es e.number ≡ Some e.node) es → Differ (numbers es)
+    → length (collections es) ≤ 131072 → AllByRecursion (IsGroupedOk es keys) gs
+    → IsClassFit es keys gs cs → IsApart (Class keys gs cs)
+    → IsAlone keys ⊎ AllByRecursion (IsUsed es gs) keys → length keys ≤ 131072
+inputs_short es keys gs cs f dn m a t o (inl h) = let l = alone_short keys h in omega arith
+inputs_short es keys gs cs f dn m a t o (inr h) =
+    let taken = all_taken es keys gs keys a h in
+    let p = keys_parted keys in
+    let n = mappers_weigh es keys taken in
+    let apart : AllByRecursion (λ c. Misses (mappers keys) c.node) (wholes keys) =
+    Each-weaker (λ c. Misses (runs (Class keys gs cs)) c.node)
+    (λ c. Misses (mappers keys) c.node)
+    (λ c q. subst (λ (ns : List ℕ). Misses ns c.node) (sym (mappers_run keys))
+    (misses_left (flat_map key_runs keys) (flat_map group_runs gs) c.node q))
+    (wholes keys) o.0 in
+    let b = beside_short es (mappers keys) (wholes keys) f dn (mappers_differ keys t.differ)
+    (mappers_stand es keys taken) (wholes_differ keys t.differ) (wholes_there es keys taken)
+    apart in
+    omega arith
 
 pub class_bounded : (es : List Entry) (keys : List Key) (gs : List Grouped) (cs : List Place)
-    → AllByRecursion (λ e. node_at es e.number ≡ Some e.node) es
-    → length (collections es) ≤ 32768 → IsHonest es (Class keys gs cs)
-    → IsClassFit es keys gs cs → Differ (runs (Class keys gs cs)) → Bounded es keys gs cs
-class_bounded es keys gs cs f m h t d =
+    → AllByRecursion (λ e. node_at es e.number ≡ Some e.node) es → Differ (numbers es)
+    → length (collections es) ≤ 131072 → IsHonest es (Class keys gs cs)
+    → IsClassFit es keys gs cs → Differ (runs (Class keys gs cs))
+    → IsApart (Class keys gs cs) → Bounded es keys gs cs
+class_bounded es keys gs cs f dn m h t d o =
+    let ns : List ℕ = flat_map group_runs gs in
     let w = groups_weigh es keys gs h.1 in
-    let p : length gs ≤ weight (outs_of_number es) (flat_map group_runs gs) = w.groups in
-    let q : length (flat_map (group_gives es) gs)
-    ≤ weight (outs_of_number es) (flat_map group_runs gs) = w.results in
-    let l = groups_light es keys gs cs f h.1 d in
-    let c = passes_short es keys gs cs h.2 t in
-    let k = inputs_short es keys gs cs f h.1 t t.used in
+    let p : length gs ≤ weight (outs_of_number es) ns = w.groups in
+    let q : length (flat_map (group_gives es) gs) ≤ weight (outs_of_number es) ns =
+    w.results in
+    let b = beside_short es ns cs f dn (differ_right (flat_map key_runs keys) ns d)
+    (all_stand es ns (groups_work es keys gs h.1)) (places_differ cs t.passed)
+    (Each-weaker (IsTaken es keys) (λ c. Has c (collections es)) (λ c i. there_has es c i.1) cs
+    h.2) o.1 in
+    let k = inputs_short es keys gs cs f dn m h.1 t o t.used in
     let a = length-append (flat_map (group_gives es) gs) cs in
-    record { inputs = omega arith; outputs = omega arith; results = omega arith }
+    record { inputs = k; outputs = omega arith; results = omega arith }

@@ -9,7 +9,7 @@ use Rattle.exec_graph.specs.Meaning.{IsThere, gives, has_out, is_out, node_at, p
 use Rattle.exec_graph.specs.Wellformed.{Ascends}
 use Rattle.exec_graph.specs.declared.graph.Place.{Place}
 use Rattle.exec_graph.specs.declared.graph.Node.{Node}
-use Rattle.exec_graph.specs.declared.graph.Node.TheVariants.{Source, Flatten, Pdo, Gbk}
+use Rattle.exec_graph.specs.declared.graph.Node.TheVariants.{Source, Flatten, Pdo, Gbk, Barrier}
 use Rattle.exec_graph.specs.declared.graph.Entry.{Entry}
 use Rattle.exec_graph.proofs.Bools.{or_else}
 use Rattle.exec_graph.proofs.Solving.{there_found}
@@ -86,6 +86,7 @@ given_has (Source r) j h = inl (nought j h)
 given_has (Flatten ins) j h = inl (nought j h)
 given_has (Pdo c f) j h = out_has j f h
 given_has (Gbk c o l k) j h = inl (nought j h)
+given_has (Barrier ins o l a) j h = inl (nought j h)
 
 abbrev pub entry_places : Entry → List Place
 entry_places e = map (place e.number) (node_outs e.node)

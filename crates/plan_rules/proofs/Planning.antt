@@ -5,7 +5,7 @@ use Rattle.flume_value.proofs.EachLemmas.{Each-weaker}
 use Rattle.exec_graph.specs.Meaning.{node_at}
 use Rattle.exec_graph.specs.declared.graph.Place.{Place}
 use Rattle.exec_graph.specs.declared.graph.Node.{Node}
-use Rattle.exec_graph.specs.declared.graph.Node.TheVariants.{Source, Flatten, Pdo, Gbk}
+use Rattle.exec_graph.specs.declared.graph.Node.TheVariants.{Source, Flatten, Pdo, Gbk, Barrier}
 use Rattle.exec_graph.specs.declared.graph.Entry.{Entry}
 use Rattle.exec_graph.specs.declared.graph.Graph.{Graph}
 use Rattle.exec_plan.specs.declared.plan.PlanPlace.{PlanPlace}
@@ -14,8 +14,10 @@ use Rattle.exec_plan.specs.Wellformed.{AreStages, IsMade, IsPlanOk, results_at}
 use Rattle.plan_laws.specs.declared.operations.Operation.{Operation}
 use Rattle.plan_laws.specs.Operations.{AreReady, DoAll, IsHonest, IsIn, at_source, gives_of, made_by, placed, places_of, plan_of, reads_of, source_at, source_place, source_places, stage_of, stages_of}
 use Rattle.plan_laws.proofs.Running.{in_append}
-use Rattle.plan_rules.specs.Fitting.{IsSourceBelow}
+use Rattle.plan_rules.specs.Fitting.{IsSourceBelow, SourcesAgree}
 use Rattle.plan_rules.proofs.Made.{made_more, placed_made, results_here}
+use Rattle.exec_graph.specs.Wellformed.{HaveObjects}
+use Rattle.plan_rules.proofs.PlanObjects.{PassesCollections, plan_objects}
 use Rattle.plan_rules.proofs.Staging.{IsShort, places_made, stage_ok}
 use Rattle.plan_rules.proofs.Taking.{AreNumbered}
 use Rattle.plan_rules.proofs.Widths.{operation_width}
@@ -74,12 +76,13 @@ source_made : (n : ℕ) (all : List Entry) (i : ℕ) (x : Node) (c : Place) → 
 source_made n all i (Source r) c h b (inl e) =
     let found : node_at all c.node ≡ Some (Source r) =
     ap (λ (d : Place). node_at all d.node) (sym e) ∙ h in
-    let o : source_at (node_at all c.node) ≡ r = ap source_at found in
+    let o : source_at (node_at all c.node) ≡ r.number = ap source_at found in
     omega arith
 source_made n all i (Source r) c h b (inr e) = absurd e
 source_made n all i (Flatten ins) c h b e = absurd e
 source_made n all i (Pdo d f) c h b e = absurd e
 source_made n all i (Gbk d o l k) c h b e = absurd e
+source_made n all i (Barrier ins o l a) c h b e = absurd e
 
 sources_made : (n : ℕ) (all es : List Entry)
     → AllByRecursion (λ e. node_at all e.number ≡ Some e.node) es
@@ -103,9 +106,10 @@ stages_length es k f (o ∷ os) =
 pub plan_kept : (n : ℕ) (g : Graph) (os : List Operation) → DoAll g os → AreNumbered g.nodes
     → AllByRecursion (λ e. node_at g.nodes e.number ≡ Some e.node) g.nodes
     → AllByRecursion (λ e. IsSourceBelow n e.node) g.nodes
-    → AllByRecursion (IsShort g.nodes) os → length os < 2 ^ 32
-    → IsPlanOk (plan_of n g.nodes g.outputs os)
-plan_kept n g os d a found below short few =
+    → AllByRecursion (IsShort g.nodes) os → length os < 2 ^ 32 → SourcesAgree g.nodes
+    → HaveObjects g.nodes
+    → AllByRecursion (PassesCollections g.nodes) os → IsPlanOk (plan_of n g.nodes g.outputs os)
+plan_kept n g os d a found below short few agree objects passes =
     let start : Place → PlanPlace = at_source g.nodes in
     let k = stages_keep n g.nodes [] 1 start (source_places g.nodes) os a refl
     (sources_made n g.nodes g.nodes found below) d.sound short d.ready in
@@ -118,4 +122,5 @@ plan_kept n g os d a found below short few =
           (λ c. IsMade n (stages_of g.nodes 1 start os) (places_of g.nodes 1 start os c))
           k.made_all g.outputs d.told);
       few = omega arith;
+      objects = plan_objects g os found agree d objects passes;
     }

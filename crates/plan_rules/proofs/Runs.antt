@@ -6,7 +6,7 @@ use Rattle.flume_value.proofs.EachLemmas.{Each-append, Each-weaker}
 use Rattle.exec_graph.specs.Meaning.{node_at, place}
 use Rattle.exec_graph.specs.declared.graph.Place.{Place}
 use Rattle.exec_graph.specs.declared.graph.Node.{Node}
-use Rattle.exec_graph.specs.declared.graph.Node.TheVariants.{Source, Flatten, Pdo, Gbk}
+use Rattle.exec_graph.specs.declared.graph.Node.TheVariants.{Source, Flatten, Pdo, Gbk, Barrier}
 use Rattle.exec_graph.specs.declared.graph.Entry.{Entry}
 use Rattle.exec_graph.specs.declared.graph.Graph.{Graph}
 use Rattle.plan_laws.specs.declared.operations.Key.{Key}
@@ -29,6 +29,7 @@ pdo_works (Some (Source r)) h = absurd h
 pdo_works (Some (Flatten ins)) h = absurd h
 pdo_works (Some (Pdo c f)) h = refl
 pdo_works (Some (Gbk c o l k)) h = absurd h
+pdo_works (Some (Barrier ins o l a)) h = refl
 
 gbk_works : (es : List Entry) (keys : List Key) (o : Option Node) → TakesInputs es keys o
     → works_at o ≡ true
@@ -37,6 +38,7 @@ gbk_works es keys (Some (Source r)) h = absurd h
 gbk_works es keys (Some (Flatten ins)) h = absurd h
 gbk_works es keys (Some (Pdo c f)) h = absurd h
 gbk_works es keys (Some (Gbk c o l k)) h = refl
+gbk_works es keys (Some (Barrier ins o l a)) h = absurd h
 
 reads_works : (d : Place) (o : Option Node) → Reads d o → works_at o ≡ true
 reads_works d None h = absurd h
@@ -44,6 +46,7 @@ reads_works d (Some (Source r)) h = absurd h
 reads_works d (Some (Flatten ins)) h = absurd h
 reads_works d (Some (Pdo c f)) h = refl
 reads_works d (Some (Gbk c o l k)) h = absurd h
+reads_works d (Some (Barrier ins o l a)) h = absurd h
 
 keys_work : (es : List Entry) (ks : List Key) → AllByRecursion (IsKeyOk es) ks
     → AllByRecursion (Works es) (flat_map key_runs ks)
@@ -65,7 +68,7 @@ groups_work es keys (g ∷ gs) a =
     (gbk_works es keys (node_at es g.gbk) a.0.0, reducer_works es g.gbk g.reducer a.0.1)
     (groups_work es keys gs a.1)
 
-class_works : (es : List Entry) (keys : List Key) (gs : List Grouped) (cs : List Place)
+pub class_works : (es : List Entry) (keys : List Key) (gs : List Grouped) (cs : List Place)
     → IsHonest es (Class keys gs cs) → AllByRecursion (Works es) (runs (Class keys gs cs))
 class_works es keys gs cs h =
     Each-append (Works es) (flat_map key_runs keys) (flat_map group_runs gs)

@@ -1,20 +1,23 @@
 -- The stage of an operation is well-formed where what it reads is made.
 use Rattle.std.proofs.Common.{◌≡◌, ℕ, ◌+◌, ◌<◌, ◌≤◌, Bool, true, false, ◌||◌, List, [], ◌∷◌, ◌++◌, map, length, Option, Some, None, refl, arith, length-append}
-use Rattle.std.specs.List.{AllByRecursion}
+use Rattle.std.specs.Prelude.{option_map}
+use Rattle.std.specs.List.{AllByRecursion, flat_map}
+use Rattle.flume_value.proofs.EachLemmas.{Each-left, Each-right}
 use Rattle.exec_graph.specs.Meaning.{node_at}
 use Rattle.exec_graph.specs.declared.graph.Place.{Place}
 use Rattle.exec_graph.specs.declared.graph.Node.{Node}
-use Rattle.exec_graph.specs.declared.graph.Node.TheVariants.{Source, Flatten, Pdo, Gbk}
+use Rattle.exec_graph.specs.declared.graph.Node.TheVariants.{Source, Flatten, Pdo, Gbk, Barrier}
 use Rattle.exec_graph.specs.declared.graph.Entry.{Entry}
 use Rattle.exec_plan.specs.declared.plan.PlanPlace.{PlanPlace}
 use Rattle.exec_plan.specs.declared.plan.OutChannel.{OutChannel}
 use Rattle.exec_plan.specs.declared.plan.Stage.{Stage}
+use Rattle.exec_plan.specs.Meaning.{in_reads, with_object as with_place}
 use Rattle.exec_plan.specs.Wellformed.{AreOuts, IsGroupOk, IsLiftOk, IsMade, IsStageOk, most_channels, width}
 use Rattle.plan_laws.specs.declared.operations.Key.{Key}
 use Rattle.plan_laws.specs.declared.operations.Grouped.{Grouped}
 use Rattle.plan_laws.specs.declared.operations.Operation.{Operation}
 use Rattle.plan_laws.specs.declared.operations.Operation.TheVariants.{Flat, Class}
-use Rattle.plan_laws.specs.Operations.{IsGroupedOk, IsHonest, IsKeyOk, IsTaken, Reading, TakesInputs, channel_of, channels_of, flat_inputs, group_at, group_of, inputs_of, named, numbered_outs, pass_of, reads_of, reducer_of, stage_of}
+use Rattle.plan_laws.specs.Operations.{IsGroupedOk, IsHonest, IsKeyOk, IsTaken, Reading, TakesInputs, channel_of, channels_of, flat_inputs, flat_stage, group_at, group_of, inputs_of, named, numbered_outs, pass_of, reading_reads, reads_of, reducer_of, stage_of, with_object}
 use Rattle.plan_rules.proofs.Taking.{AreNumbered, inputs, inputs_numbered, reducer_numbered, take_exists, takes_exist}
 use Rattle.plan_rules.proofs.Widths.{length_map}
 
@@ -41,6 +44,7 @@ group_ok es f keys n r (Some (Gbk c x y k)) a ok t l = record {
   steps = reducer_numbered es r a;
   lift = l;
 }
+group_ok es f keys n r (Some (Barrier ins x y d)) a ok t l = absurd t
 
 passes_ok : (es : List Entry) (f : Place → PlanPlace) (keys : List Key) (passed : Bool) (n : ℕ)
     (cs : List Place) → AreNumbered es → AllByRecursion (IsKeyOk es) keys
@@ -66,11 +70,22 @@ outs_ok es f keys n (g ∷ gs) cs a ok i l h = (
 
 -- ---- stages
 
+object_made : (n : ℕ) (before : List Stage) (f : Place → PlanPlace) (o : Option Place)
+    → AllByRecursion (λ c. IsMade n before (f c)) (with_object o)
+    → AllByRecursion (IsMade n before) (with_place (option_map f o))
+object_made n before f None a = tt
+object_made n before f (Some c) a = a
+
 inputs_made : (n : ℕ) (before : List Stage) (f : Place → PlanPlace) (rs : List Reading)
-    → AllByRecursion (λ c. IsMade n before (f c)) (map (λ (r : Reading). r.reads) rs)
-    → AllByRecursion (λ c. IsMade n before c.reads) (map (named f) rs)
+    → AllByRecursion (λ c. IsMade n before (f c)) (flat_map reading_reads rs)
+    → AllByRecursion (λ c. AllByRecursion (IsMade n before) (in_reads c)) (map (named f) rs)
 inputs_made n before f [] a = tt
-inputs_made n before f (r ∷ rs) a = (a.0, inputs_made n before f rs a.1)
+inputs_made n before f (r ∷ rs) a =
+    let P : Place → Type 0 = λ c. IsMade n before (f c) in
+    let more : List Place = flat_map reading_reads rs in (
+      (a.0, object_made n before f r.beside (Each-left P (with_object r.beside) more a.1)),
+      inputs_made n before f rs (Each-right P (with_object r.beside) more a.1),
+    )
 
 pub places_made : (n : ℕ) (before : List Stage) (f : Place → PlanPlace) (cs : List Place)
     → AllByRecursion (λ c. IsMade n before (f c)) cs
@@ -94,11 +109,22 @@ abbrev pub IsShort : List Entry → Operation → Type 0
 IsShort es (Flat n) = Unit {0}
 IsShort es (Class keys gs cs) = IsClassShort es keys gs cs
 
+flat_ok : (n : ℕ) (before : List Stage) (o : Option Node) (takes : List PlanPlace)
+    → AllByRecursion (IsMade n before) takes → IsStageOk n before (flat_stage o takes)
+flat_ok n before None takes a = a
+flat_ok n before (Some (Source s)) takes a = a
+flat_ok n before (Some (Flatten ins)) takes a = a
+flat_ok n before (Some (Pdo c f)) takes a = a
+flat_ok n before (Some (Gbk c o l k)) takes a = a
+flat_ok n before (Some (Barrier ins o l d)) takes a = a
+
 pub stage_ok : (n : ℕ) (es : List Entry) (before : List Stage) (f : Place → PlanPlace)
     (o : Operation) → AreNumbered es → IsHonest es o → IsShort es o
     → AllByRecursion (λ c. IsMade n before (f c)) (reads_of es o)
     → IsStageOk n before (stage_of es f o)
-stage_ok n es before f (Flat k) a s t r = places_made n before f (flat_inputs (node_at es k)) r
+stage_ok n es before f (Flat k) a s t r =
+    flat_ok n before (node_at es k) (map f (flat_inputs (node_at es k)))
+    (places_made n before f (flat_inputs (node_at es k)) r)
 stage_ok n es before f (Class keys gs cs) a s t r =
     let e = length_map (named f) (map (channel_of es) keys) in
     let d = length_map (channel_of es) keys in

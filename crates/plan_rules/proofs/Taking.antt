@@ -5,8 +5,10 @@ use Rattle.std.specs.List.{AllByRecursion, slice_get}
 use Rattle.exec_graph.specs.Forests.{Forest, after, numbered}
 use Rattle.exec_graph.specs.Meaning.{IsThere, gives_at, has_out, node_at}
 use Rattle.exec_graph.specs.declared.graph.Place.{Place}
+use Rattle.exec_graph.specs.declared.graph.Act.{Act}
+use Rattle.exec_graph.specs.declared.graph.Act.TheVariants.{SideInput, Operate as Operates, Singleton}
 use Rattle.exec_graph.specs.declared.graph.Node.{Node}
-use Rattle.exec_graph.specs.declared.graph.Node.TheVariants.{Source, Flatten, Pdo, Gbk}
+use Rattle.exec_graph.specs.declared.graph.Node.TheVariants.{Source, Flatten, Pdo, Gbk, Barrier}
 use Rattle.exec_graph.specs.declared.graph.Entry.{Entry}
 use Rattle.exec_graph.proofs.Entries.{all_found}
 use Rattle.exec_graph.proofs.Numbered.{numbered_within}
@@ -15,7 +17,7 @@ use Rattle.exec_plan.specs.declared.plan.InChannel.{InChannel}
 use Rattle.exec_plan.specs.Wellformed.{Exists, IsNumbered, kept, outs, outs_at}
 use Rattle.plan_laws.specs.declared.operations.Key.{Key}
 use Rattle.plan_laws.specs.declared.operations.Key.TheVariants.{Mapper, Whole}
-use Rattle.plan_laws.specs.Operations.{HasKey, IsKeyOk, IsPdo, IsTaken, channel_of, forest_at, has_key, key_out, named, out_in, pdo_channel, position, reducer_of, take_of}
+use Rattle.plan_laws.specs.Operations.{IsSide, side_channel, HasKey, IsKeyOk, IsPdo, IsTaken, channel_of, forest_at, has_key, key_out, named, out_in, pdo_channel, position, reducer_of, take_of}
 use Rattle.plan_laws.proofs.Carrying.{behind}
 use Rattle.plan_making.proofs.Widths.{kept_after}
 
@@ -25,6 +27,7 @@ IsNodeNumbered (Source r) = Unit {0}
 IsNodeNumbered (Flatten ins) = Unit {0}
 IsNodeNumbered (Pdo c f) = numbered 0 f ≡ f
 IsNodeNumbered (Gbk c o l k) = Unit {0}
+IsNodeNumbered (Barrier ins o l a) = Unit {0}
 
 abbrev pub AreNumbered : List Entry → Type 0
 AreNumbered es = AllByRecursion (λ e. IsNodeNumbered e.node) es
@@ -35,12 +38,32 @@ out_below j f e h =
     let high : j < after 0 f = w.high in
     let k = kept_after f in omega arith
 
+side_below : (n j o : ℕ) (l : Bool) (a : Act) (ins : List Place) → IsSide a ins → j ≡ 0
+    → j < outs (side_channel n o l a ins).does
+side_below n j o l (SideInput f) [] i e = absurd i
+side_below n j o l (SideInput f) (c ∷ []) i e = absurd i
+side_below n j o l (SideInput f) (c ∷ (d ∷ [])) i e = omega arith
+side_below n j o l (SideInput f) (c ∷ (d ∷ (x ∷ xs))) i e = absurd i
+side_below n j o l (Operates f) ins i e = absurd i
+side_below n j o l (Singleton k) ins i e = absurd i
+
+side_numbered : (n o : ℕ) (l : Bool) (a : Act) (ins : List Place)
+    → IsNumbered (side_channel n o l a ins).does
+side_numbered n o l (SideInput f) [] = tt
+side_numbered n o l (SideInput f) (c ∷ []) = tt
+side_numbered n o l (SideInput f) (c ∷ (d ∷ [])) = refl
+side_numbered n o l (SideInput f) (c ∷ (d ∷ (x ∷ xs))) = tt
+side_numbered n o l (Operates f) ins = tt
+side_numbered n o l (Singleton k) ins = tt
+
 mapper_below : (es : List Entry) (n : ℕ) (c : Place) (o : Option Node) → AreNumbered es
     → node_at es n ≡ o → IsPdo o → gives_at o c.out ≡ true → c.out < outs (pdo_channel n o).does
 mapper_below es n c None a h p t = absurd p
 mapper_below es n c (Some (Source s)) a h p t = absurd p
 mapper_below es n c (Some (Flatten ins)) a h p t = absurd p
 mapper_below es n c (Some (Gbk d x l k)) a h p t = absurd p
+mapper_below es n c (Some (Barrier ins i l d)) a h p t =
+    side_below n c.out i l d ins p (eqb-true c.out 0 t)
 mapper_below es n c (Some (Pdo d f)) a h p t =
     out_below c.out f (all_found (λ e. IsNodeNumbered e.node) es n (Pdo d f) h a) t
 
@@ -93,6 +116,7 @@ forest_numbered es r None a h = tt
 forest_numbered es r (Some (Source s)) a h = tt
 forest_numbered es r (Some (Flatten ins)) a h = tt
 forest_numbered es r (Some (Gbk d x l k)) a h = tt
+forest_numbered es r (Some (Barrier ins i l d)) a h = tt
 forest_numbered es r (Some (Pdo d f)) a h =
     all_found (λ e. IsNodeNumbered e.node) es r (Pdo d f) h a
 
@@ -107,6 +131,7 @@ pdo_numbered es n None a h = tt
 pdo_numbered es n (Some (Source s)) a h = tt
 pdo_numbered es n (Some (Flatten ins)) a h = tt
 pdo_numbered es n (Some (Gbk d x l k)) a h = tt
+pdo_numbered es n (Some (Barrier ins i l d)) a h = side_numbered n i l d ins
 pdo_numbered es n (Some (Pdo d f)) a h =
     all_found (λ e. IsNodeNumbered e.node) es n (Pdo d f) h a
 

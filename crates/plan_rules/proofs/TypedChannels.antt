@@ -1,22 +1,27 @@
 -- The types of a graph's collections fit the channels of an operation.
 use Rattle.std.proofs.Common.{◌≡◌, ℕ, Bool, true, false, cond, List, [], ◌∷◌, map, Option, Some, None, suc, refl, sym, ap, ◌∙◌, subst}
 use Rattle.std.proofs.lemmas.Bool.{eqb-true}
-use Rattle.std.specs.List.{AllByRecursion, slice_get}
+use Rattle.std.specs.List.{AllByRecursion, flat_map, slice_get}
 use Rattle.flume_types.specs.declared.types.Ty.{Ty}
 use Rattle.flume_types.specs.declared.types.Ty.TheVariants as type
 use Rattle.exec_graph.specs.Meaning.{IsThere, gives_at, node_at, place}
-use Rattle.exec_graph.specs.Typing.{ForestTyped, NodeTyped, Signatures}
+use Rattle.exec_graph.specs.Typing.{ActTyped, ForestTyped, NodeTyped, Signatures}
 use Rattle.exec_graph.specs.declared.graph.Place.{Place}
+use Rattle.exec_graph.specs.declared.graph.Act.{Act}
+use Rattle.exec_graph.specs.declared.graph.Act.TheVariants.{SideInput, Operate as Operates, Singleton}
+use Rattle.exec_graph.specs.declared.step.Does.TheVariants as does
+use Rattle.std.specs.Prelude.{option_map}
+use Rattle.flume_value.proofs.EachLemmas.{Each-left, Each-right}
 use Rattle.exec_graph.specs.declared.graph.Node.{Node}
-use Rattle.exec_graph.specs.declared.graph.Node.TheVariants.{Source, Flatten, Pdo, Gbk}
+use Rattle.exec_graph.specs.declared.graph.Node.TheVariants.{Source, Flatten, Pdo, Gbk, Barrier}
 use Rattle.exec_graph.specs.declared.graph.Entry.{Entry}
 use Rattle.exec_graph.proofs.Entries.{all_found}
 use Rattle.exec_plan.specs.declared.plan.PlanPlace.{PlanPlace}
-use Rattle.exec_plan.specs.Typing.{ChannelTyped, InsTyped, take_type}
+use Rattle.exec_plan.specs.Typing.{InTyped, ChannelTyped, InsTyped, take_type}
 use Rattle.graph_laws.proofs.TypedForests.{typed_moved}
 use Rattle.plan_laws.specs.declared.operations.Key.{Key}
 use Rattle.plan_laws.specs.declared.operations.Key.TheVariants.{Mapper, Whole}
-use Rattle.plan_laws.specs.Operations.{HasKey, IsKeyOk, IsPdo, IsTaken, Reading, channel_of, has_key, inputs_at, inputs_of, key_out, out_in, pdo_channel, position, take_of}
+use Rattle.plan_laws.specs.Operations.{IsSide, reading_reads, side_channel, HasKey, IsKeyOk, IsPdo, IsTaken, Reading, channel_of, has_key, inputs_at, inputs_of, key_out, out_in, pdo_channel, position, take_of}
 use Rattle.plan_laws.proofs.Carrying.{behind}
 use Rattle.plan_laws.proofs.Running.{place_same}
 use Rattle.plan_rules.proofs.Taking.{inputs}
@@ -60,37 +65,70 @@ says_all types (k ∷ ks) = (λ j. refl, says_later types k ks 0 ks (says_all ty
 abbrev pub AreNamed : (Place → Ty) → (PlanPlace → Ty) → (Place → PlanPlace) → List Place → Type 0
 AreNamed types t f cs = AllByRecursion (λ c. t (f c) ≡ types c) cs
 
+side_typed : (s : Signatures) (types : Place → Ty) (t : PlanPlace → Ty) (f : Place → PlanPlace)
+    (outs : Place → Ty) (n i o : ℕ) (l : Bool) (a : Act) (ins : List Place) → IsSide a ins
+    → ActTyped s a (map types ins) (types (place n 0)) → outs (place i 0) ≡ types (place n 0)
+    → AreNamed types t f (reading_reads (side_channel n o l a ins))
+    → InTyped s t outs i (t (f (side_channel n o l a ins).reads))
+    (option_map f (side_channel n o l a ins).beside) (side_channel n o l a ins).does
+side_typed s types t f outs n i o l (SideInput h) [] p a g e = absurd p
+side_typed s types t f outs n i o l (SideInput h) (c ∷ []) p a g e = absurd p
+side_typed s types t f outs n i o l (SideInput h) (c ∷ (d ∷ [])) p a g e = record {
+  label = record { origin = o; last = l; does = does.Call h; at = 0; out = Some 0 };
+  alone = refl;
+  function = h;
+  calls = refl;
+  first = refl;
+  kept = refl;
+  typed = subst (ActTyped s (SideInput h) (t (f c) ∷ (t (f d) ∷ []))) (sym g)
+      (subst (λ (u : Ty). ActTyped s (SideInput h) (u ∷ (t (f d) ∷ [])) (types (place n 0)))
+      (sym e.0)
+      (subst (λ (u : Ty). ActTyped s (SideInput h) (types c ∷ (u ∷ [])) (types (place n 0)))
+      (sym e.1.0) a));
+}
+side_typed s types t f outs n i o l (SideInput h) (c ∷ (d ∷ (x ∷ xs))) p a g e = absurd p
+side_typed s types t f outs n i o l (Operates h) ins p a g e = absurd p
+side_typed s types t f outs n i o l (Singleton k) ins p a g e = absurd p
+
 mapper_typed : (s : Signatures) (types : Place → Ty) (t : PlanPlace → Ty) (f : Place → PlanPlace)
     (es : List Entry) (outs : Place → Ty) (n i : ℕ) (o : Option Node) → AreTyped s types es
     → node_at es n ≡ o → IsPdo o → ((j : ℕ) → outs (place i j) ≡ types (place n j))
-    → t (f (pdo_channel n o).reads) ≡ types (pdo_channel n o).reads
-    → ChannelTyped s outs i (t (f (pdo_channel n o).reads)) (pdo_channel n o).does
+    → AreNamed types t f (reading_reads (pdo_channel n o))
+    → InTyped s t outs i (t (f (pdo_channel n o).reads)) (option_map f (pdo_channel n o).beside)
+    (pdo_channel n o).does
 mapper_typed s types t f es outs n i None a h p g e = absurd p
 mapper_typed s types t f es outs n i (Some (Source r)) a h p g e = absurd p
 mapper_typed s types t f es outs n i (Some (Flatten ins)) a h p g e = absurd p
 mapper_typed s types t f es outs n i (Some (Gbk c o l k)) a h p g e = absurd p
+mapper_typed s types t f es outs n i (Some (Barrier ins x y d)) a h p g e =
+    side_typed s types t f outs n i x y d ins p (typed_at s types es n (Barrier ins x y d) a h)
+    (g 0) e
 mapper_typed s types t f es outs n i (Some (Pdo c x)) a h p g e =
-    subst (λ (u : Ty). ForestTyped s outs i u x) (sym e)
+    subst (λ (u : Ty). ForestTyped s outs i u x) (sym e.0)
     (typed_moved s types outs n i (types c) x (λ j _. g j)
     (typed_at s types es n (Pdo c x) a h))
 
 inputs_typed : (s : Signatures) (types : Place → Ty) (t : PlanPlace → Ty) (f : Place → PlanPlace)
     (es : List Entry) (outs : Place → Ty) (n : ℕ) (ks : List Key) → AreTyped s types es
     → AllByRecursion (IsKeyOk es) ks → Says types outs n ks
-    → AreNamed types t f (map (λ (r : Reading). r.reads) (map (channel_of es) ks))
+    → AreNamed types t f (flat_map reading_reads (map (channel_of es) ks))
     → InsTyped s t outs n (inputs es f ks)
 inputs_typed s types t f es outs n [] a ok h e = tt
-inputs_typed s types t f es outs n (Mapper m ∷ ks) a ok h e = (
-  mapper_typed s types t f es outs m n (node_at es m) a refl ok.0 h.0 e.0,
-  inputs_typed s types t f es outs (suc n) ks a ok.1 h.1 e.1,
-)
+inputs_typed s types t f es outs n (Mapper m ∷ ks) a ok h e =
+    let P : Place → Type 0 = λ c. t (f c) ≡ types c in
+    let reads : List Place = reading_reads (pdo_channel m (node_at es m)) in
+    let more : List Place = flat_map reading_reads (map (channel_of es) ks) in (
+      mapper_typed s types t f es outs m n (node_at es m) a refl ok.0 h.0
+          (Each-left P reads more e),
+      inputs_typed s types t f es outs (suc n) ks a ok.1 h.1 (Each-right P reads more e),
+    )
 inputs_typed s types t f es outs n (Whole c ∷ ks) a ok h e =
     (h.0 0 ∙ sym e.0, inputs_typed s types t f es outs (suc n) ks a ok.1 h.1 e.1)
 
 pub all_inputs_typed : (s : Signatures) (types : Place → Ty) (t : PlanPlace → Ty)
     (f : Place → PlanPlace) (es : List Entry) (ks : List Key) → AreTyped s types es
     → AllByRecursion (IsKeyOk es) ks
-    → AreNamed types t f (map (λ (r : Reading). r.reads) (map (channel_of es) ks))
+    → AreNamed types t f (flat_map reading_reads (map (channel_of es) ks))
     → InsTyped s t (channel_types types ks) 0 (inputs es f ks)
 all_inputs_typed s types t f es ks a ok e =
     inputs_typed s types t f es (channel_types types ks) 0 ks a ok (says_all types ks) e
@@ -135,6 +173,7 @@ read_typed s types es c None a h t = (refl, tt)
 read_typed s types es c (Some (Source r)) a h t = (refl, tt)
 read_typed s types es c (Some (Pdo d f)) a h t = (refl, tt)
 read_typed s types es c (Some (Gbk d o l k)) a h t = (refl, tt)
+read_typed s types es c (Some (Barrier ins i l d)) a h t = (refl, tt)
 read_typed s types es c (Some (Flatten ins)) a h t =
     let z : 0 ≡ c.out = sym (eqb-true c.out 0 t) in
     same_types types c.node (types c) ins (ap (λ (j : ℕ). types (place c.node j)) z)

@@ -9,7 +9,7 @@ use Rattle.exec_graph.specs.Typing.{IsTypedBy, NodeTyped, Signatures}
 use Rattle.exec_graph.specs.Wellformed.{IsGraphOk}
 use Rattle.exec_graph.specs.declared.graph.Place.{Place}
 use Rattle.exec_graph.specs.declared.graph.Node.{Node}
-use Rattle.exec_graph.specs.declared.graph.Node.TheVariants.{Source, Flatten, Pdo, Gbk}
+use Rattle.exec_graph.specs.declared.graph.Node.TheVariants.{Source, Flatten, Pdo, Gbk, Barrier}
 use Rattle.exec_graph.specs.declared.graph.Entry.{Entry}
 use Rattle.exec_graph.specs.declared.graph.Graph.{Graph}
 use Rattle.exec_plan.specs.declared.plan.PlanPlace.{PlanPlace}
@@ -124,6 +124,7 @@ source_typed s types all os n (Source r) c h a (inr e) = absurd e
 source_typed s types all os n (Flatten ins) c h a e = absurd e
 source_typed s types all os n (Pdo d f) c h a e = absurd e
 source_typed s types all os n (Gbk d o l k) c h a e = absurd e
+source_typed s types all os n (Barrier ins i l d) c h a e = absurd e
 
 sources_typed : (s : Signatures) (types : Place → Ty) (all es : List Entry)
     (os : List Operation) → AllByRecursion (λ e. node_at all e.number ≡ Some e.node) es

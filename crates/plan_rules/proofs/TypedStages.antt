@@ -4,10 +4,10 @@ use Rattle.std.specs.List.{AllByRecursion, flat_map, slice_get}
 use Rattle.flume_types.specs.declared.types.Ty.{Ty}
 use Rattle.exec_graph.specs.Forests.{numbered}
 use Rattle.exec_graph.specs.Meaning.{IsThere, node_at, place, reads}
-use Rattle.exec_graph.specs.Typing.{ForestTyped, Signatures}
+use Rattle.exec_graph.specs.Typing.{ActTyped, ForestTyped, Signatures}
 use Rattle.exec_graph.specs.declared.graph.Place.{Place}
 use Rattle.exec_graph.specs.declared.graph.Node.{Node}
-use Rattle.exec_graph.specs.declared.graph.Node.TheVariants.{Source, Flatten, Pdo, Gbk}
+use Rattle.exec_graph.specs.declared.graph.Node.TheVariants.{Source, Flatten, Pdo, Gbk, Barrier}
 use Rattle.exec_graph.specs.declared.graph.Entry.{Entry}
 use Rattle.exec_graph.proofs.Entries.{all_found}
 use Rattle.exec_plan.specs.declared.plan.PlanPlace.{PlanPlace}
@@ -20,7 +20,7 @@ use Rattle.plan_laws.specs.declared.operations.Key.{Key}
 use Rattle.plan_laws.specs.declared.operations.Grouped.{Grouped}
 use Rattle.plan_laws.specs.declared.operations.Operation.{Operation}
 use Rattle.plan_laws.specs.declared.operations.Operation.TheVariants.{Flat, Class}
-use Rattle.plan_laws.specs.Operations.{IsFlat, IsGroupedOk, IsHonest, IsReducer, IsTaken, Reads, TakesInputs, flat_inputs, forest_at, gives_of, group_at, group_gives, group_of, numbered_outs, outs_at, pass_of, reads_of, reduced, reducer_of, stage_of}
+use Rattle.plan_laws.specs.Operations.{flat_stage, IsFlat, IsGroupedOk, IsHonest, IsReducer, IsTaken, Reads, TakesInputs, flat_inputs, forest_at, gives_of, group_at, group_gives, group_of, numbered_outs, outs_at, pass_of, reads_of, reduced, reducer_of, stage_of}
 use Rattle.plan_rules.proofs.Counted.{out_stands}
 use Rattle.plan_rules.proofs.Taking.{AreNumbered, IsNodeNumbered}
 use Rattle.plan_rules.proofs.TypedChannels.{AreNamed, AreTyped, all_inputs_typed, channel_types, taken_typed, takes_typed, typed_at}
@@ -74,6 +74,7 @@ forest_typed s types t es k i n r None a m h p g = absurd p
 forest_typed s types t es k i n r (Some (Source q)) a m h p g = absurd p
 forest_typed s types t es k i n r (Some (Flatten ins)) a m h p g = absurd p
 forest_typed s types t es k i n r (Some (Gbk d o l q)) a m h p g = absurd p
+forest_typed s types t es k i n r (Some (Barrier ins x y d)) a m h p g = absurd p
 forest_typed s types t es k i n r (Some (Pdo d f)) a m h p g =
     let order : numbered 0 f ≡ f = all_found (λ e. IsNodeNumbered e.node) es r (Pdo d f) h m in
     typed_moved s types (types_from t k i) r 0 (types (place n 0)) f
@@ -116,6 +117,7 @@ group_typed s types t es keys k i n r (Some (Gbk c o l z)) a m w h p q g =
       grouped = typed_at s types es n (Gbk c o l z) a h;
       reduced = reducer_typed s types t es k i n r a m q g;
     }
+group_typed s types t es keys k i n r (Some (Barrier ins x y d)) a m w h p q g = absurd p
 
 passes_typed : (s : Signatures) (types : Place → Ty) (t : PlanPlace → Ty) (es : List Entry)
     (keys : List Key) (k i : ℕ) (cs : List Place) → AllByRecursion (IsTaken es keys) cs
@@ -162,15 +164,25 @@ flat_typed types t f k n [] e a h = tt
 flat_typed types t f k n (c ∷ cs) e a h =
     (a.0 ∙ h.0 ∙ sym e, flat_typed types t f k n cs e a.1 h.1)
 
+named_types : (types : Place → Ty) (t : PlanPlace → Ty) (f : Place → PlanPlace)
+    (cs : List Place) → AreNamed types t f cs → map t (map f cs) ≡ map types cs
+named_types types t f [] a = refl
+named_types types t f (c ∷ cs) a =
+    let i = named_types types t f cs a.1 in let j : t (f c) ≡ types c = a.0 in cc
+
 flatten_typed : (s : Signatures) (types : Place → Ty) (t : PlanPlace → Ty)
     (f : Place → PlanPlace) (es : List Entry) (k n : ℕ) (o : Option Node) → AreTyped s types es
     → node_at es n ≡ o → IsFlat o → t (at.Result k 0) ≡ types (place n 0)
     → AreNamed types t f (flat_inputs o)
-    → AllByRecursion (λ c. t c ≡ t (at.Result k 0)) (map f (flat_inputs o))
+    → StageTyped s t k (flat_stage o (map f (flat_inputs o)))
 flatten_typed s types t f es k n None a h p e m = absurd p
 flatten_typed s types t f es k n (Some (Source r)) a h p e m = absurd p
 flatten_typed s types t f es k n (Some (Pdo c x)) a h p e m = absurd p
 flatten_typed s types t f es k n (Some (Gbk c o l z)) a h p e m = absurd p
+flatten_typed s types t f es k n (Some (Barrier ins i l d)) a h p e m =
+    subst (ActTyped s d (map t (map f ins))) (sym e)
+    (subst (λ (us : List Ty). ActTyped s d us (types (place n 0)))
+    (sym (named_types types t f ins m)) (typed_at s types es n (Barrier ins i l d) a h))
 flatten_typed s types t f es k n (Some (Flatten ins)) a h p e m =
     flat_typed types t f k n ins e m (typed_at s types es n (Flatten ins) a h)
 

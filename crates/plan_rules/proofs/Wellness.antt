@@ -3,9 +3,9 @@ use Rattle.std.proofs.Common.{◌≡◌, ℕ, ◌<◌, ◌≤◌, ◌^◌, List,
 use Rattle.std.specs.List.{AllByRecursion, flat_map}
 use Rattle.flume_value.proofs.EachLemmas.{Each-weaker}
 use Rattle.exec_graph.specs.Meaning.{node_at}
-use Rattle.exec_graph.specs.Wellformed.{IsGraphOk, IsNodeOk, total_size}
+use Rattle.exec_graph.specs.Wellformed.{IsGraphOk, IsNodeOk, most_nodes, total_size}
 use Rattle.exec_graph.specs.declared.graph.Node.{Node}
-use Rattle.exec_graph.specs.declared.graph.Node.TheVariants.{Source, Flatten, Pdo, Gbk}
+use Rattle.exec_graph.specs.declared.graph.Node.TheVariants.{Source, Flatten, Pdo, Gbk, Barrier}
 use Rattle.exec_graph.specs.declared.graph.Entry.{Entry}
 use Rattle.exec_graph.specs.declared.graph.Graph.{Graph}
 use Rattle.exec_graph.proofs.Solving.{each_found}
@@ -16,12 +16,15 @@ use Rattle.plan_laws.specs.declared.operations.Operation.TheVariants.{Flat, Clas
 use Rattle.plan_laws.specs.Operations.{DoAll, IsHonest, gives_of, plan_of, runs}
 use Rattle.plan_making.specs.Small.{IsNarrow, IsSmall}
 use Rattle.plan_rules.specs.Fitting.{AreFit, IsFit, IsInBounds}
+use Rattle.plan_rules.proofs.Apart.{IsApart, operations_apart}
+use Rattle.plan_rules.proofs.Beside.{ascending_differ}
 use Rattle.plan_rules.proofs.Collections.{collections, few_collections}
 use Rattle.plan_rules.proofs.Lifted.{all_lifted}
 use Rattle.plan_rules.proofs.Limits.{class_bounded}
 use Rattle.plan_rules.proofs.Members.{Differ, shorter}
 use Rattle.plan_rules.proofs.Places.{nodes_short, numbers}
 use Rattle.plan_rules.proofs.Planning.{plan_kept}
+use Rattle.plan_rules.proofs.PlanObjects.{PassesCollections, passes_fit}
 use Rattle.plan_rules.proofs.Runs.{each_differ, operations_short, runs_differ, runs_stand}
 use Rattle.plan_rules.proofs.Staging.{IsShort}
 use Rattle.plan_rules.proofs.Taking.{AreNumbered, IsNodeNumbered}
@@ -32,6 +35,7 @@ node_numbered g n (Source r) h = tt
 node_numbered g n (Flatten ins) h = tt
 node_numbered g n (Pdo c f) h = h.order
 node_numbered g n (Gbk c o l k) h = tt
+node_numbered g n (Barrier ins o l a) h = tt
 
 pub nodes_numbered : (g : Graph) → IsGraphOk g → AreNumbered g.nodes
 nodes_numbered g ok =
@@ -50,11 +54,12 @@ pub record IsGood (es : List Entry) (o : Operation) : Type 0 where
   pub narrow : IsNarrow es o
   pub results : length (gives_of es o) < 2 ^ 32
 
-one_good : (g : Graph) (o : Operation) → IsGraphOk g → length (collections g.nodes) ≤ 32768
-    → IsHonest g.nodes o → IsFit g.nodes o → Differ (runs o) → IsGood g.nodes o
-one_good g (Flat n) ok m h t d = record { short = tt; narrow = tt; results = omega arith }
-one_good g (Class keys gs cs) ok m h t d =
-    let b = class_bounded g.nodes keys gs cs (founds g ok) m h t d in
+one_good : (g : Graph) (o : Operation) → IsGraphOk g → length (collections g.nodes) ≤ 131072
+    → IsHonest g.nodes o → IsFit g.nodes o → Differ (runs o) → IsApart o → IsGood g.nodes o
+one_good g (Flat n) ok m h t d a = record { short = tt; narrow = tt; results = omega arith }
+one_good g (Class keys gs cs) ok m h t d a =
+    let b = class_bounded g.nodes keys gs cs (founds g ok)
+    (ascending_differ g.nodes ok.founded.ascends) m h t d a in
     let i : length keys ≤ 131072 = b.inputs in
     let r : length (gives_of g.nodes (Class keys gs cs)) ≤ 131072 = b.results in
     let w = class_widths g.nodes keys gs cs h.1 in
@@ -69,19 +74,22 @@ one_good g (Class keys gs cs) ok m h t d =
       results = omega arith;
     }
 
-all_good : (g : Graph) (os : List Operation) → IsGraphOk g → length (collections g.nodes) ≤ 32768
-    → AllByRecursion (IsHonest g.nodes) os → AllByRecursion (IsFit g.nodes) os
-    → AllByRecursion (λ o. Differ (runs o)) os → AllByRecursion (IsGood g.nodes) os
-all_good g [] ok m h t d = tt
-all_good g (o ∷ os) ok m h t d =
-    (one_good g o ok m h.0 t.0 d.0, all_good g os ok m h.1 t.1 d.1)
+all_good : (g : Graph) (os : List Operation) → IsGraphOk g
+    → length (collections g.nodes) ≤ 131072 → AllByRecursion (IsHonest g.nodes) os
+    → AllByRecursion (IsFit g.nodes) os → AllByRecursion (λ o. Differ (runs o)) os
+    → AllByRecursion IsApart os → AllByRecursion (IsGood g.nodes) os
+all_good g [] ok m h t d a = tt
+all_good g (o ∷ os) ok m h t d a =
+    (one_good g o ok m h.0 t.0 d.0 a.0, all_good g os ok m h.1 t.1 d.1 a.1)
 
 pub operations_good : (n : ℕ) (g : Graph) (os : List Operation) → IsGraphOk g → IsInBounds n g
     → DoAll g os → AreFit g.nodes os → AllByRecursion (IsGood g.nodes) os
 operations_good n g os ok b d f =
     let m = few_collections g.nodes b.narrow in
-    let t : total_size g.nodes ≤ 4096 = ok.few in
-    all_good g os ok (omega arith) d.sound f.fit (each_differ os (runs_differ g os d f))
+    let t : total_size g.nodes ≤ most_nodes = ok.few in
+    let r = runs_differ g os d f in
+    all_good g os ok (omega arith) d.sound f.fit (each_differ os r)
+    (operations_apart g.nodes os (founds g ok) d.sound d.ready r)
 
 -- fewer operations than numbers of nodes
 pub operations_few : (n : ℕ) (g : Graph) (os : List Operation) → IsGraphOk g → IsInBounds n g
@@ -101,7 +109,8 @@ plan_well_formed n g os ok b d f =
     plan_kept n g os d (nodes_numbered g ok) (founds g ok) b.below
     (Each-weaker (IsGood g.nodes) (IsShort g.nodes) (λ o h. h.short) os
     (operations_good n g os ok b d f))
-    (operations_few n g os ok b d f)
+    (operations_few n g os ok b d f) b.agree ok.objects
+    (Each-weaker (IsFit g.nodes) (PassesCollections g.nodes) (passes_fit g.nodes) os f.fit)
 
 pub operations_small : (n : ℕ) (g : Graph) (os : List Operation) → IsGraphOk g → IsInBounds n g
     → DoAll g os → AreFit g.nodes os → IsSmall g.nodes os

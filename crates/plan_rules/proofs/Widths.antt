@@ -5,7 +5,7 @@ use Rattle.exec_graph.specs.Forests.{Forest, Bare, Grow}
 use Rattle.exec_graph.specs.Meaning.{node_at, place}
 use Rattle.exec_graph.specs.declared.graph.Place.{Place}
 use Rattle.exec_graph.specs.declared.graph.Node.{Node}
-use Rattle.exec_graph.specs.declared.graph.Node.TheVariants.{Source, Flatten, Pdo, Gbk}
+use Rattle.exec_graph.specs.declared.graph.Node.TheVariants.{Source, Flatten, Pdo, Gbk, Barrier}
 use Rattle.exec_graph.specs.declared.graph.Entry.{Entry}
 use Rattle.exec_plan.specs.declared.plan.PlanPlace.{PlanPlace}
 use Rattle.exec_plan.specs.declared.plan.OutChannel.{OutChannel}
@@ -16,7 +16,7 @@ use Rattle.plan_laws.specs.declared.operations.Key.{Key}
 use Rattle.plan_laws.specs.declared.operations.Grouped.{Grouped}
 use Rattle.plan_laws.specs.declared.operations.Operation.{Operation}
 use Rattle.plan_laws.specs.declared.operations.Operation.TheVariants.{Flat, Class}
-use Rattle.plan_laws.specs.Operations.{IsGroupedOk, IsHonest, IsReducer, Reads, TakesInputs, forest_at, gives_of, group_at, group_gives, group_of, numbered_out, numbered_outs, outs_at, pass_of, reduced, reducer_of, stage_of}
+use Rattle.plan_laws.specs.Operations.{flat_inputs, flat_stage, IsGroupedOk, IsHonest, IsReducer, Reads, TakesInputs, forest_at, gives_of, group_at, group_gives, group_of, numbered_out, numbered_outs, outs_at, pass_of, reduced, reducer_of, stage_of}
 
 pub length_map : {X Y : Type 0} (f : X → Y) (xs : List X) → length (map f xs) ≡ length xs
 length_map f [] = refl
@@ -52,6 +52,7 @@ forest_outs n r None h = absurd h
 forest_outs n r (Some (Source s)) h = absurd h
 forest_outs n r (Some (Flatten ins)) h = absurd h
 forest_outs n r (Some (Gbk c x l k)) h = absurd h
+forest_outs n r (Some (Barrier ins o l a)) h = absurd h
 forest_outs n r (Some (Pdo c f)) h = sym (length_map (place r) (outs_of f) ∙ outs_length f)
 
 pub reducer_outs : (es : List Entry) (n : ℕ) (r : Option ℕ) → IsReducer es n r
@@ -67,6 +68,7 @@ group_width es keys n r (Some (Source s)) t h = absurd t
 group_width es keys n r (Some (Flatten ins)) t h = absurd t
 group_width es keys n r (Some (Pdo c f)) t h = absurd t
 group_width es keys n r (Some (Gbk c x l k)) t h = reducer_outs es n r h
+group_width es keys n r (Some (Barrier ins o l a)) t h = absurd t
 
 pub class_widths : (es : List Entry) (keys : List Key) (gs : List Grouped) (cs : List Place)
     → AllByRecursion (IsGroupedOk es keys) gs
@@ -82,9 +84,17 @@ class_widths es keys (g ∷ gs) cs h =
     let e = length-append (group_gives es g ++ flat_map (group_gives es) gs) cs in
     omega arith
 
+flat_width : (o : Option Node) (takes : List PlanPlace) → stage_width (flat_stage o takes) ≡ 1
+flat_width None takes = refl
+flat_width (Some (Source s)) takes = refl
+flat_width (Some (Flatten ins)) takes = refl
+flat_width (Some (Pdo c f)) takes = refl
+flat_width (Some (Gbk c o l k)) takes = refl
+flat_width (Some (Barrier ins o l a)) takes = refl
+
 pub operation_width : (es : List Entry) (f : Place → PlanPlace) (o : Operation) → IsHonest es o
     → stage_width (stage_of es f o) ≡ length (gives_of es o)
-operation_width es f (Flat n) h = refl
+operation_width es f (Flat n) h = flat_width (node_at es n) (map f (flat_inputs (node_at es n)))
 operation_width es f (Class keys gs cs) h =
     numbered_widths 0 (map (group_of es keys) gs ++ map (pass_of keys) cs)
     ∙ class_widths es keys gs cs h.1

@@ -4,11 +4,13 @@ use Rattle.std.specs.List.{AllByRecursion, IsDistinct, flat_map, list_any}
 use Rattle.exec_graph.specs.Forests.{Forest, Bare, Grow}
 use Rattle.exec_graph.specs.Meaning.{node_at}
 use Rattle.exec_graph.specs.Readers.{same_place}
-use Rattle.exec_graph.specs.Wellformed.{is_lifted}
+use Rattle.exec_graph.specs.Wellformed.{is_lifted, is_object_at}
 use Rattle.exec_graph.specs.declared.graph.Place.{Place}
+use Rattle.exec_graph.specs.declared.graph.Input.{Input}
 use Rattle.exec_graph.specs.declared.graph.Node.{Node}
-use Rattle.exec_graph.specs.declared.graph.Node.TheVariants.{Source, Flatten, Pdo, Gbk}
+use Rattle.exec_graph.specs.declared.graph.Node.TheVariants.{Source, Flatten, Pdo, Gbk, Barrier}
 use Rattle.exec_graph.specs.declared.graph.Entry.{Entry}
+use Rattle.graph_laws.specs.Single.{most_outputs}
 use Rattle.exec_graph.specs.declared.graph.Graph.{Graph}
 use Rattle.plan_laws.specs.declared.operations.Key.{Key}
 use Rattle.plan_laws.specs.declared.operations.Key.TheVariants.{Mapper, Whole}
@@ -55,13 +57,14 @@ abbrev pub IsReduced : List Entry → Grouped → Type 0
 IsReduced es g = HasReducer (is_lifted (node_at es g.gbk)) g.reducer
 
 -- the channels differ, and a group takes of each of them, or the one channel is a mapper; the
--- collections that pass through differ; and lifted Gbks have reducers
+-- collections that pass through differ, and are no objects; and lifted Gbks have reducers
 pub record IsClassFit (es : List Entry) (keys : List Key) (groups : List Grouped)
     (passes : List Place) : Type 0 where
   pub some : 0 < length keys
   pub differ : IsDistinct same_key keys
   pub used : IsAlone keys ⊎ AllByRecursion (IsUsed es groups) keys
   pub passed : IsDistinct same_place passes
+  pub collections : AllByRecursion (λ c. is_object_at es c ≡ false) passes
   pub reduced : AllByRecursion (IsReduced es) groups
 
 abbrev pub IsFit : List Entry → Operation → Type 0
@@ -80,18 +83,15 @@ pub record AreFit (es : List Entry) (os : List Operation) : Type 0 where
 -- ---- graphs
 
 abbrev pub IsSourceBelow : ℕ → Node → Type 0
-IsSourceBelow n (Source r) = r < n
+IsSourceBelow n (Source r) = r.number < n
 IsSourceBelow n (Flatten ins) = Unit {0}
 IsSourceBelow n (Pdo c f) = Unit {0}
 IsSourceBelow n (Gbk c o l k) = Unit {0}
+IsSourceBelow n (Barrier ins o l a) = Unit {0}
 
 -- the graph reads no more than so many sources
 abbrev pub HasSourcesBelow : ℕ → Graph → Type 0
 HasSourcesBelow n g = AllByRecursion (λ e. IsSourceBelow n e.node) g.nodes
-
--- how many outputs a step may have
-abbrev pub most_outputs : ℕ
-most_outputs = 8
 
 -- the outputs of a step stand side by side from its first on, and are not too many; n is the next
 -- output of the step that stands before
@@ -106,9 +106,17 @@ IsNarrow (Source r) = Unit {0}
 IsNarrow (Flatten ins) = Unit {0}
 IsNarrow (Pdo c f) = HasFewOutputs 0 f
 IsNarrow (Gbk c o l k) = Unit {0}
+IsNarrow (Barrier ins o l a) = Unit {0}
+
+-- sources of one number are objects, or none of them is
+abbrev pub SourcesAgree : List Entry → Type 0
+SourcesAgree es =
+    (n m : ℕ) (r s : Input) → node_at es n ≡ Some (Source r) → node_at es m ≡ Some (Source s)
+    → r.number ≡ s.number → r.is_object ≡ s.is_object
 
 -- the graph reads so many sources, its numbers have 32 bits, and no step has too many outputs
 pub record IsInBounds (sources : ℕ) (g : Graph) : Type 0 where
   pub below : HasSourcesBelow sources g
+  pub agree : SourcesAgree g.nodes
   pub numbers : g.next < 2 ^ 32
   pub narrow : AllByRecursion (λ e. IsNarrow e.node) g.nodes

@@ -6,4 +6,6 @@ mod called;
 #[cfg(test)]
 mod making;
 #[cfg(test)]
+mod objects;
+#[cfg(test)]
 mod texts;

@@ -39,7 +39,26 @@ fn tree(alloc: Global, step: Step) -> Result<Option<Roots>, AllocError> {
 /// An input channel with one step.
 pub fn input(alloc: Global, reads: PlanPlace, step: Step) -> Result<InChannel, AllocError> {
     let does = tree(alloc, step)?;
-    Ok(InChannel { reads, does })
+    Ok(InChannel {
+        reads,
+        beside: None,
+        does,
+    })
+}
+
+/// An input channel with one step, which is called beside an object.
+pub fn beside(
+    alloc: Global,
+    reads: PlanPlace,
+    object: PlanPlace,
+    step: Step,
+) -> Result<InChannel, AllocError> {
+    let does = tree(alloc, step)?;
+    Ok(InChannel {
+        reads,
+        beside: Some(object),
+        does,
+    })
 }
 
 /// A channel that groups output 0 of the first input channel. Its results are numbered from 0 on.
@@ -88,9 +107,10 @@ pub fn result(stage: u32, number: u32) -> PlanPlace {
 }
 
 /// These stages, and where the outputs are read.
-pub fn plan(stages: Vec<Stage>, outputs: Vec<PlanPlace>) -> Plan {
+pub fn plan(alloc: Global, stages: Vec<Stage>, outputs: Vec<PlanPlace>) -> Plan {
     Plan {
         sources: 1,
+        objects: Pile::new(alloc),
         stages: Pile::from_vec(stages),
         outputs: Pile::from_vec(outputs),
     }
@@ -100,5 +120,5 @@ pub fn plan(stages: Vec<Stage>, outputs: Vec<PlanPlace>) -> Plan {
 pub fn one_stage(alloc: Global, stage: Stage) -> Result<Plan, AllocError> {
     let stages = list(alloc, stage)?;
     let outputs = list(alloc, result(1, 0))?;
-    Ok(plan(stages, outputs))
+    Ok(plan(alloc, stages, outputs))
 }

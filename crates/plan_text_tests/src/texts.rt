@@ -1,3 +1,4 @@
+// Plans with the texts that they print.
 use crate::called::{Called, Written};
 use crate::making::{
     grouping, input, leaf, list, mscr, one_stage, over, plan, reducing, result, take, with,
@@ -94,7 +95,7 @@ fn chained(alloc: Global) -> Result<Plan, AllocError> {
     let first = list(alloc, first_groups(alloc)?)?;
     let stages = with(first, second_groups(alloc)?)?;
     let outputs = list(alloc, result(2, 0))?;
-    Ok(plan(stages, outputs))
+    Ok(plan(alloc, stages, outputs))
 }
 
 /// Groups with two readers.
@@ -143,7 +144,7 @@ fn shared(alloc: Global) -> Result<Plan, AllocError> {
     let groups = both_readers(alloc)?;
     let stages = list(alloc, mscr(alloc, read, groups)?)?;
     let outputs = with(list(alloc, result(1, 0))?, result(1, 1))?;
-    Ok(plan(stages, outputs))
+    Ok(plan(alloc, stages, outputs))
 }
 
 /// One input, twice.
@@ -226,6 +227,7 @@ fn greatest_inputs(alloc: Global) -> Result<Vec<InChannel>, AllocError> {
     let functions = input(alloc, PlanPlace::Source(0), three_outputs(alloc)?)?;
     let identity = InChannel {
         reads: PlanPlace::Source(1),
+        beside: None,
         does: None,
     };
     with(list(alloc, functions)?, identity)
@@ -241,11 +243,11 @@ fn greatest(alloc: Global) -> Result<Plan, AllocError> {
     let outputs = Pile::from_vec(greatest_channels(alloc)?);
     let stages = list(alloc, Stage::Mscr(Mscr { inputs, outputs }))?;
     let places = with(list(alloc, result(1, 0))?, PlanPlace::Source(1))?;
-    Ok(plan(stages, places))
+    Ok(plan(alloc, stages, places))
 }
 
 /// Whether a plan has this text and this JSON.
-fn has_texts(
+pub fn has_texts(
     alloc: Global,
     names: &Called,
     plan: &Plan,

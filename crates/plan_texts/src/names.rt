@@ -1,3 +1,4 @@
+// What a program calls the numbers of its plans.
 ghost use Rattle.plan_texts.specs.Texts.{naming_of};
 
 use combine_table::Comb;

@@ -1,3 +1,4 @@
+// The texts of a plan, by the names of its program.
 ghost use Rattle.std.specs.Prelude.{◌≡◌, IfOk};
 ghost use Rattle.serde_json.specs.Written.{compact_text};
 ghost use Rattle.plan_texts.specs.Texts as spec;

@@ -1,6 +1,7 @@
 -- The text of a plan, line by line.
 use Rattle.std.specs.Prelude.{ℕ, List, [], ◌++◌, codes, decimal, Option, Some, None}
 use Rattle.combine_table.specs.declared.comb.Comb.{Comb}
+use Rattle.exec_graph.specs.declared.graph.Act.{Act}
 use Rattle.exec_plan.specs.Channels.{numbers}
 use Rattle.exec_plan.specs.declared.plan.PlanPlace.{PlanPlace}
 use Rattle.exec_plan.specs.declared.plan.Take.{Take}
@@ -9,9 +10,10 @@ use Rattle.exec_plan.specs.declared.plan.Grouping.{Grouping}
 use Rattle.exec_plan.specs.declared.plan.OutChannel.{OutChannel}
 use Rattle.exec_plan.specs.declared.plan.OutChannel.TheVariants.{Group, Pass}
 use Rattle.exec_plan.specs.declared.plan.Stage.{Stage}
-use Rattle.exec_plan.specs.declared.plan.Stage.TheVariants.{Mscr, Flatten}
+use Rattle.exec_plan.specs.declared.plan.Stage.TheVariants.{Mscr, Flatten, Operate}
 use Rattle.exec_plan.specs.declared.plan.Plan.{Plan}
 use Rattle.printing.specs.Printed.{quoted}
+use Rattle.plan_writing.specs.Acts.{act_text}
 use Rattle.plan_writing.specs.Lists.{joined, numbered, paired, spaced}
 use Rattle.plan_writing.specs.Naming.{Naming, Written}
 use Rattle.plan_writing.specs.Places.{dotted, given_text, place_text, take_text}
@@ -19,14 +21,23 @@ use Rattle.plan_writing.specs.Forests.{forest_text}
 
 -- ---- channels
 
+-- the object that steps are called beside
+abbrev pub beside_text : Option PlanPlace → List ℕ
+beside_text None = []
+beside_text (Some object) = codes " with " ++ place_text object
+
+-- what an input channel reads
+abbrev pub in_begin : ℕ → InChannel → List ℕ
+in_begin number channel =
+    codes "in "
+    ++ (decimal number
+    ++ (codes " reads " ++ (place_text channel.reads ++ beside_text channel.beside)))
+
 -- an input channel
 abbrev pub in_line : Naming → ℕ → InChannel → List ℕ
 in_line names number channel =
-    codes "in "
-    ++ (decimal number
-    ++ (codes " reads "
-    ++ (place_text channel.reads
-    ++ (codes " does " ++ (forest_text names channel.does ++ codes "\n")))))
+    in_begin number channel
+    ++ (codes " does " ++ (forest_text names channel.does ++ codes "\n"))
 
 -- the combiner of a lifted channel
 abbrev pub lift_text : Naming → Option Comb → List ℕ
@@ -75,6 +86,16 @@ flatten_line stage takes =
     ++ (codes " flatten takes"
     ++ (spaced place_text takes ++ (codes " gives " ++ (dotted stage 0 ++ codes "\n")))))
 
+abbrev pub operate_begin : ℕ → List PlanPlace → List ℕ
+operate_begin stage takes =
+    codes "stage " ++ (decimal stage ++ (codes " operate takes" ++ spaced place_text takes))
+
+abbrev pub operate_line : Naming → ℕ → List PlanPlace → ℕ → Act → List ℕ
+operate_line names stage takes origin does =
+    operate_begin stage takes
+    ++ (codes " does "
+    ++ (act_text names origin does ++ (codes " gives " ++ (dotted stage 0 ++ codes "\n"))))
+
 -- the lines of a stage: its channels are numbered from 0
 abbrev pub stage_text : Naming → ℕ → Stage → List ℕ
 stage_text names stage (Mscr mscr) =
@@ -82,6 +103,8 @@ stage_text names stage (Mscr mscr) =
     ++ (joined (numbered (in_line names) 0 mscr.inputs)
     ++ joined (numbered (out_line names stage) 0 mscr.outputs))
 stage_text names stage (Flatten takes) = flatten_line stage takes
+stage_text names stage (Operate takes origin last does) =
+    operate_line names stage takes origin does
 
 -- ---- the whole
 

@@ -1,3 +1,4 @@
+// The lines of input and output channels.
 ghost use Rattle.std.specs.Prelude.{◌≡◌, ◌++◌, OnOk};
 ghost use Rattle.plan_writing.specs.Lists.{spaced};
 ghost use Rattle.plan_writing.specs.Places.{given_text, place_text, take_text};
@@ -21,13 +22,34 @@ pub(crate) fn push_in<N: Names>(
     ensures { OnOk result (text.new.items
         ≡ text.old.items ++ spec.in_line (N.naming names.now) number channel.now) }
 {
+    push_in_begin(text, number, channel)?;
+    text.extend_from_slice(b" does ")?;
+    push_forest(text, names, &channel.does)?;
+    text.extend_from_slice(b"\n")
+}
+
+/// Adds what an input channel reads.
+fn push_in_begin(text: &mut Vec<u8>, number: u64, channel: &InChannel) -> Result<(), AllocError>
+    ensures { OnOk result (text.new.items ≡ text.old.items ++ spec.in_begin number channel.now) }
+{
     text.extend_from_slice(b"in ")?;
     push_number(text, number)?;
     text.extend_from_slice(b" reads ")?;
     push_place(text, channel.reads)?;
-    text.extend_from_slice(b" does ")?;
-    push_forest(text, names, &channel.does)?;
-    text.extend_from_slice(b"\n")
+    push_beside(text, channel.beside)
+}
+
+/// Adds the object that steps are called beside.
+fn push_beside(text: &mut Vec<u8>, beside: Option<PlanPlace>) -> Result<(), AllocError>
+    ensures { OnOk result (text.new.items ≡ text.old.items ++ spec.beside_text beside) }
+{
+    match beside {
+        None => Ok(()),
+        Some(object) => {
+            text.extend_from_slice(b" with ")?;
+            push_place(text, object)
+        }
+    }
 }
 
 /// Adds the line of an output channel of a stage.

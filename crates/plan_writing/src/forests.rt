@@ -1,3 +1,4 @@
+// Forests of steps, printed from the root on.
 ghost use Rattle.std.specs.Prelude.{◌≡◌, ◌++◌, OnOk, [], codes};
 ghost use Rattle.exec_graph.specs.Forests.{grown};
 ghost use Rattle.exec_graph.specs.Twigs.{twig};

@@ -1,3 +1,4 @@
+// What the numbers of a plan are called, as whoever writes it tells.
 ghost use Rattle.std.specs.Prelude.{◌≡◌, ◌++◌, ◌<◌, OnOk, Some, length, slice_get};
 ghost use Rattle.std.specs.Option.{option_map};
 ghost use Rattle.plan_writing.specs.Naming.{Naming};

@@ -1,3 +1,4 @@
+// The collections of a plan, by their numbers.
 ghost use Rattle.std.specs.Prelude.{◌≡◌, ◌+◌, ◌++◌, OnOk, decimal};
 ghost use Rattle.plan_writing.specs.Places as spec;
 

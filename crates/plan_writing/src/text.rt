@@ -1,11 +1,14 @@
+// The text of a plan: its stages, and the outputs of the script.
 ghost use Rattle.std.specs.Prelude.{◌≡◌, ◌++◌, ◌<◌, IfOk, OnOk, Some, length, slice_get};
 ghost use Rattle.plan_writing.specs.Lists.{joined, numbered, paired};
 ghost use Rattle.plan_writing.specs.Naming.{Written};
 ghost use Rattle.plan_writing.specs.PlanText as spec;
 
+use crate::acts::push_act;
 use crate::channels::{push_in, push_out, push_places};
 use crate::names::Names;
 use crate::places::{push_dotted, push_number, push_place};
+use exec_graph::Act;
 use exec_plan::{InChannel, Mscr, OutChannel, Plan, PlanPlace, Stage};
 use printing::push_quoted;
 use std::alloc::{AllocError, Global};
@@ -51,6 +54,9 @@ fn push_stage<N: Names>(
     match stage {
         Stage::Mscr(mscr) => push_mscr(alloc, text, names, number, mscr),
         Stage::Flatten(takes) => push_flatten(text, number, takes.as_slice()),
+        Stage::Operate(takes, origin, _, act) => {
+            push_operate(text, names, number, takes.as_slice(), *origin, *act)
+        }
     }
 }
 
@@ -116,6 +122,39 @@ fn push_flatten(text: &mut Vec<u8>, number: u64, takes: &[PlanPlace]) -> Result<
     text.extend_from_slice(b" gives ")?;
     push_dotted(text, number, 0)?;
     text.extend_from_slice(b"\n")
+}
+
+fn push_operate<N: Names>(
+    text: &mut Vec<u8>,
+    names: &N,
+    number: u64,
+    takes: &[PlanPlace],
+    origin: u32,
+    act: Act,
+) -> Result<(), AllocError>
+    ensures { OnOk result (text.new.items ≡ text.old.items
+        ++ spec.operate_line (N.naming names.now) number takes.now origin act) }
+{
+    push_operate_begin(text, number, takes)?;
+    text.extend_from_slice(b" does ")?;
+    push_act(text, names, origin, act)?;
+    text.extend_from_slice(b" gives ")?;
+    push_dotted(text, number, 0)?;
+    text.extend_from_slice(b"\n")
+}
+
+fn push_operate_begin(
+    text: &mut Vec<u8>,
+    number: u64,
+    takes: &[PlanPlace],
+) -> Result<(), AllocError>
+    ensures { OnOk result (text.new.items
+        ≡ text.old.items ++ spec.operate_begin number takes.now) }
+{
+    text.extend_from_slice(b"stage ")?;
+    push_number(text, number)?;
+    text.extend_from_slice(b" operate takes")?;
+    push_places(text, takes)
 }
 
 /// Adds the lines of the script's outputs, which are read at these places.

@@ -156,5 +156,5 @@ fn name_of(mut outputs: Vec<Output>, place: usize) -> Str
     ensures { option_map (λ file. file.name) (slice_get (map output_file outputs.items) place)
         ≡ Some result }
 {
-    Str::from_vec(outputs.swap_remove(place).name.into_bytes())
+    outputs.swap_remove(place).name.into_text()
 }

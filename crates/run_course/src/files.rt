@@ -9,7 +9,7 @@ use crate::stop::{Stop, Trapped};
 use csv_rows::text_under_columns;
 use flume_collection::Trap;
 use flume_value::{Str, Value};
-use outside::Output;
+use outside::{FileName, Output};
 use run_texts::push_size;
 use script_program::Program;
 use std::alloc::{AllocError, Global};
@@ -41,7 +41,7 @@ pub fn file_of(
         unreachable!();
     };
     Ok(Output {
-        name: String::from_str(alloc, name)?,
+        name: FileName::new(alloc, name)?,
         text,
     })
 }

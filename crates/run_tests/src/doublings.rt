@@ -77,10 +77,10 @@ fn stage_count(text: &[u8]) -> usize {
         .count()
 }
 
-// Sinking the flattens would make too many nodes of the last three, so these are stages. What is
-// run is what was planned.
+// All flattens but one are sunk, so the steps below them are one stage, and that one is another.
+// What is run is what was planned.
 #[test]
-fn seven_stages(rt: HostRuntime) -> Result<(), Fail> {
+fn two_stages(rt: HostRuntime) -> Result<(), Fail> {
     let alloc = rt.alloc();
     let script = script(alloc)?;
     let given = Given {
@@ -90,7 +90,7 @@ fn seven_stages(rt: HostRuntime) -> Result<(), Fail> {
     let plan = ["flume", "plan", "s"];
     let (code, shelf, shown) = called(&rt, alloc, &plan, given, CALM, &mut [CALM_HOST; 16])?;
     assert_eq!(rt; (code, shelf.file_count()), (0, 0));
-    assert_eq!(rt; stage_count(shown.text()), 7);
+    assert_eq!(rt; stage_count(shown.text()), 2);
     let mut screen = Vec::from_slice(alloc, shown.text())?;
     screen.append(&mut sizes(alloc)?)?;
     screen.extend_from_slice(b"done\n")?;

@@ -11,7 +11,7 @@ use std::test::Fail as TestFail;
 use std::thread::Threads;
 
 // The most bytes that the shelf or the screen takes.
-const MOST: u64 = 100_000;
+const MOST: u64 = 1_000_000;
 
 /// A name, and the bytes of the file of that name.
 pub type Named<'a> = (&'a str, &'a [u8]);

@@ -45,6 +45,7 @@ trap_kind_name trap.Overflow = codes "Overflow"
 trap_kind_name trap.DivideByZero = codes "DivideByZero"
 trap_kind_name trap.BadIndex = codes "BadIndex"
 trap_kind_name trap.BadNumber = codes "BadNumber"
+trap_kind_name trap.NotOne = codes "NotOne"
 
 -- the name of each phase of a stage
 abbrev pub phase_name : Phase → List ℕ

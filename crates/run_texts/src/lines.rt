@@ -178,6 +178,7 @@ fn trap_kind(kind: Kind) -> &'static [u8]
         Kind::DivideByZero => b"DivideByZero",
         Kind::BadIndex => b"BadIndex",
         Kind::BadNumber => b"BadNumber",
+        Kind::NotOne => b"NotOne",
     }
 }
 

@@ -4,7 +4,7 @@ use Rattle.std.specs.List.{AllByRecursion}
 use Rattle.flume_value.proofs.EachLemmas.{Each-append, Each-weaker}
 use Rattle.exec_graph.specs.declared.graph.Entry.{Entry}
 use Rattle.exec_graph.specs.declared.graph.Node.{Node}
-use Rattle.exec_graph.specs.declared.graph.Node.TheVariants.{Source, Flatten, Pdo, Gbk}
+use Rattle.exec_graph.specs.declared.graph.Node.TheVariants.{Source, Flatten, Pdo, Gbk, Barrier}
 use Rattle.exec_graph.specs.declared.graph.Place.{Place}
 use Rattle.graph_build.specs.Graphs.{behind, giving, graph_of, next_source, nodes_at, nodes_from, place_in}
 use Rattle.graph_build.specs.Nodes.{made_nodes}
@@ -23,6 +23,7 @@ node_below m n (Source r) le h = omega arith
 node_below m n (Flatten ins) le h = tt
 node_below m n (Pdo c f) le h = tt
 node_below m n (Gbk c o l k) le h = tt
+node_below m n (Barrier ins o l a) le h = tt
 
 all_below_more : (m n : ℕ) (es : List Entry) → m ≤ n → Below m es → Below n es
 all_below_more m n es le h =

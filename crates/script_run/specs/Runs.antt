@@ -6,6 +6,7 @@ use Rattle.build_law.specs.Worlds.{world_of}
 use Rattle.crew.specs.Hosts.{Account}
 use Rattle.direct_meaning.specs.Direct.{meaning, sizes_of, traps_of}
 use Rattle.exec_graph.specs.World.{World}
+use Rattle.exec_plan.specs.ObjectFree.{IsPlanObjectFree}
 use Rattle.exec_plan.specs.Typing.{IsPlanTyped}
 use Rattle.exec_plan.specs.Wellformed.{IsPlanOk}
 use Rattle.exec_plan.specs.declared.plan.Plan.{Plan}
@@ -26,9 +27,11 @@ use Rattle.task_lists.specs.Tasks.{Split}
 use Rattle.script_run.specs.Comes.{AreMembers}
 use Rattle.script_run.specs.declared.run.Ran.{Ran}
 
--- the plan is well-formed and typed, and means what the script's graph means, over any rows
+-- the plan is well-formed and typed, has no objects, and means what the script's graph means, over
+-- any rows
 pub record IsPlanOf (script : Script) (plan : Plan) : Type 0 where
   pub well_formed : IsPlanOk plan
+  pub object_free : IsPlanObjectFree plan
   pub typed : IsPlanTyped (signatures_of script) plan
   pub same : (w : World) → SamePlan w (graph_of script) plan
 

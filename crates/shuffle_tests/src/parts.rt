@@ -44,6 +44,21 @@ fn grouped(alloc: Global, pairs: Vec<Value>, passed: i64) -> Result<MapOut, Allo
     })
 }
 
+// Whether the pair of these ints stands at that place.
+fn stands(
+    alloc: Global,
+    pairs: &[&Value],
+    place: usize,
+    key: i64,
+    value: i64,
+) -> Result<bool, AllocError> {
+    let wanted = ints(alloc, key, value)?;
+    match pairs.get(place) {
+        Some(pair) => Ok(**pair == wanted),
+        None => Ok(false),
+    }
+}
+
 #[test]
 fn pairs_are_gathered_by_the_partition_of_their_key(rt: HostRuntime) -> Result<(), Fail> {
     let alloc = rt.alloc();
@@ -55,8 +70,10 @@ fn pairs_are_gathered_by_the_partition_of_their_key(rt: HostRuntime) -> Result<(
     let ones = gather_pairs(alloc, outs.as_slice(), 0, one)?;
     let twos = gather_pairs(alloc, outs.as_slice(), 0, two)?;
     assert!(rt; one != two && ones.len() == 4 && twos.len() == 2);
-    assert!(rt; *ones[0] == ints(alloc, 1, 10)? && *ones[3] == ints(alloc, 1, 13)?);
-    assert!(rt; *twos[0] == ints(alloc, 2, 20)? && *twos[1] == ints(alloc, 2, 21)?);
+    assert!(rt; stands(alloc, ones.as_slice(), 0, 1, 10)?);
+    assert!(rt; stands(alloc, ones.as_slice(), 3, 1, 13)?);
+    assert!(rt; stands(alloc, twos.as_slice(), 0, 2, 20)?);
+    assert!(rt; stands(alloc, twos.as_slice(), 1, 2, 21)?);
     assert!(rt; gather_pairs(alloc, outs.as_slice(), 1, one)?.is_empty());
     Ok(())
 }

@@ -1,37 +1,32 @@
 -- What is next in the chain can be done, and what stands where nothing is next.
-use Rattle.std.proofs.Common.{◌≡◌, ℕ, ◌+◌, ◌-◌, ◌<◌, ◌≤◌, Bool, true, false, cond, eqb, leb, ◌||◌, List, [], ◌∷◌, length, Option, Some, None, refl, sym, ap, ◌∙◌, subst, arith, inl, inr, ◌⊎◌}
-use Rattle.std.proofs.lemmas.Bool.{eqb-true, eq-eqb, false≢true, leb-true, leb-false}
+use Rattle.std.proofs.Common.{◌≡◌, ℕ, ◌<◌, ◌≤◌, Bool, true, false, cond, leb, List, [], ◌∷◌, length, Option, Some, None, refl, sym, ap, ◌∙◌, subst, inl, inr, ◌⊎◌}
+use Rattle.std.proofs.lemmas.Bool.{eqb-true, leb-true, leb-false}
 use Rattle.std.specs.List.{AllByRecursion}
 use Rattle.flume_value.proofs.EachLemmas.{Each-both, Each-weaker}
 use Rattle.exec_graph.specs.Forests.{Forest}
-use Rattle.exec_graph.specs.Meaning.{place, node_at, reads, gives, IsThere, KeepsMeaning}
-use Rattle.exec_graph.specs.Readers.{same_place, among, is_read}
-use Rattle.exec_graph.specs.Typing.{KeepsTypes}
-use Rattle.exec_graph.specs.Wellformed.{IsGraphOk, IsNodeOk, most, total_size}
+use Rattle.exec_graph.specs.Meaning.{place, node_at, reads, IsThere}
+use Rattle.exec_graph.specs.Readers.{among}
+use Rattle.exec_graph.specs.Wellformed.{IsGraphOk, most_nodes, total_size}
 use Rattle.exec_graph.specs.declared.graph.Place.{Place}
 use Rattle.exec_graph.specs.declared.graph.Node.{Node}
-use Rattle.exec_graph.specs.declared.graph.Node.TheVariants.{Source, Flatten, Pdo, Gbk}
+use Rattle.exec_graph.specs.declared.graph.Node.TheVariants.{Source, Flatten, Pdo, Gbk, Barrier}
 use Rattle.exec_graph.specs.declared.graph.Entry.{Entry}
 use Rattle.exec_graph.specs.declared.graph.Graph.{Graph}
-use Rattle.exec_graph.proofs.Bools.{or_left, or_right}
-use Rattle.exec_graph.proofs.Entries.{all_found}
 use Rattle.exec_graph.proofs.Solving.{each_found}
 use Rattle.exec_graph.proofs.Soundness.{differ_ascends}
-use Rattle.graph_laws.specs.Single.{IsOneOutput, IsOneStep}
-use Rattle.graph_laws.proofs.Kids.{KeepsMeaning-then}
-use Rattle.graph_laws.proofs.ReadPlaces.{same_self, all_among}
+use Rattle.graph_laws.proofs.ReadPlaces.{all_among}
 use Rattle.graph_laws.proofs.Wellness.{gives_of}
 use Rattle.sink_laws.specs.declared.pair.Pair.{Pair}
-use Rattle.sink_laws.specs.Kept.{IsKept}
-use Rattle.sink_laws.specs.Merging.{spliced, merged, dropped, CanMerge}
-use Rattle.sink_laws.specs.Sinking.{outputs_of, sunk, CanSink}
-use Rattle.sink_laws.specs.Chain.{is_before, lesser, least, inputs_of, forest_of, nest_of, nest_at, next_nest, after_nest, call_of, call_at, next_call, after_call, CanCall, CanNest, has_room, sink_next, next_by, next_graph, Leads, stay, go, IsSunk, ReadsNoFlatten, NoPdoReadsFlatten, IsFull}
+use Rattle.sink_laws.specs.Kept.{IsKept, IsOfPdo}
+use Rattle.sink_laws.specs.Merging.{spliced, merged, CanMerge}
+use Rattle.sink_laws.specs.Sinking.{sunk}
+use Rattle.sink_laws.specs.Chain.{is_before, lesser, least, inputs_of, forest_of, nest_of, nest_at, next_nest, after_nest, call_of, call_at, next_call, after_call, CanCall, CanNest, has_room, sink_next, next_by, next_graph, Leads, stay, go, ReadsNoFlatten, NoPdoReadsFlatten, IsFull}
 use Rattle.sink_laws.proofs.MergeMeaning.{IsFounded-merged}
 use Rattle.sink_laws.proofs.Steps.{IsGood-trans, IsGood-merge_step, IsGood-sink_step}
-use Rattle.sink_laws.proofs.TypesKept.{IsTyped-sunk, IsTyped-merged, IsTyped-tidied, AllSteps-sink_step, AllSteps-merge_step}
+use Rattle.sink_laws.proofs.TypesKept.{IsTyped-sunk, IsTyped-merged, IsTyped-tidied, AllSteps-sink_step, AllSteps-merge_step, AllSteps-kept, KeepsSteps-self}
 use Rattle.sink_laws.proofs.Weights.{total_weight, merge_lighter}
 
--- P holds of what is there
+-- P holds of what is there.
 abbrev pub Only : {X : Type 0} → (X → Type 0) → Option X → Type 0
 Only {X} P o = (x : X) → o ≡ Some x → P x
 
@@ -71,6 +66,7 @@ call_can g n p f (Some (Flatten ins)) e h =
     })
 call_can g n p f (Some (Pdo c k)) e h = none_only (CanCall g)
 call_can g n p f (Some (Gbk c o l k)) e h = none_only (CanCall g)
+call_can g n p f (Some (Barrier ins o l a)) e h = none_only (CanCall g)
 
 call_can_at : (g : Graph) (p : ℕ) (x : Node) → node_at g.nodes p ≡ Some x
     → AllByRecursion (IsThere g.nodes) (reads x) → Only (CanCall g) (call_at g.nodes p x)
@@ -89,7 +85,9 @@ call_can_at g p (Pdo c f) h t = by (node_at g.nodes c.node) refl
         (h ∙ ap (λ (d : Place). Some (Pdo d f)) (first ins e))
     by (Some (Pdo d k)) e = none_only (CanCall g)
     by (Some (Gbk d o l k)) e = none_only (CanCall g)
+    by (Some (Barrier ins o l a)) e = none_only (CanCall g)
 call_can_at g p (Gbk c o l k) h t = none_only (CanCall g)
+call_can_at g p (Barrier ins o l a) h t = none_only (CanCall g)
 
 pub next_call_can : (g : Graph) → IsGraphOk g → Only (CanCall g) (next_call g.nodes)
 next_call_can g ok =
@@ -104,7 +102,7 @@ next_call_can g ok =
 -- ---- a merge that is next
 
 nest_room : (g : Graph) (n e : ℕ) (ins es : List Place) (b : Bool)
-    → leb (length (spliced e es ins)) 4096 ≡ b → node_at g.nodes n ≡ Some (Flatten ins)
+    → leb (length (spliced e es ins)) most_nodes ≡ b → node_at g.nodes n ≡ Some (Flatten ins)
     → node_at g.nodes e ≡ Some (Flatten es) → among (place e 0) ins ≡ true
     → Only (CanNest g) (cond b (Some (record { flatten = n; other = e })) None)
 nest_room g n e ins es true i a b r =
@@ -116,7 +114,7 @@ nest_room g n e ins es true i a b r =
       outer = a;
       inner = b;
       nested = r;
-      room = leb-true (length (spliced e es ins)) 4096 i;
+      room = leb-true (length (spliced e es ins)) most_nodes i;
     })))
 nest_room g n e ins es false i a b r = none_only (CanNest g)
 
@@ -128,10 +126,11 @@ nest_can g n ins c (Some (Source i)) h a r t = none_only (CanNest g)
 nest_can g n ins c (Some (Flatten es)) h a r t =
     let first : c ≡ place c.node 0 = ap (λ (j : ℕ). place c.node j)
     (eqb-true c.out 0 (gives_of g.nodes c c.node (Flatten es) refl h t)) in
-    nest_room g n c.node ins es (leb (length (spliced c.node es ins)) 4096) refl a h
+    nest_room g n c.node ins es (leb (length (spliced c.node es ins)) most_nodes) refl a h
     (subst (λ (d : Place). among d ins ≡ true) first r)
 nest_can g n ins c (Some (Pdo d k)) h a r t = none_only (CanNest g)
 nest_can g n ins c (Some (Gbk d o l k)) h a r t = none_only (CanNest g)
+nest_can g n ins c (Some (Barrier cs o l i)) h a r t = none_only (CanNest g)
 
 nest_can_at : (g : Graph) (n : ℕ) (x : Node) → node_at g.nodes n ≡ Some x
     → AllByRecursion (IsThere g.nodes) (reads x) → Only (CanNest g) (nest_at g.nodes n x)
@@ -145,6 +144,7 @@ nest_can_at g n (Flatten ins) h t =
     (all_among (λ c. among c ins ≡ true) ins (λ c i. i)) t)
 nest_can_at g n (Pdo c f) h t = none_only (CanNest g)
 nest_can_at g n (Gbk c o l k) h t = none_only (CanNest g)
+nest_can_at g n (Barrier ins o l a) h t = none_only (CanNest g)
 
 pub next_nest_can : (g : Graph) → IsGraphOk g → Only (CanNest g) (next_nest g.nodes)
 next_nest_can g ok =
@@ -162,8 +162,7 @@ pub IsKept-trans : (g h i : Graph) → IsKept g h → IsKept h i → IsKept g i
 IsKept-trans g h i a b = record {
   good = IsGood-trans g h i a.good b.good;
   types = λ s t. b.types s (a.types s t);
-  unfused = λ u. b.unfused (a.unfused u);
-  single = λ u. b.single (a.single u);
+  steps = AllSteps-kept (IsOfPdo g) h i b.steps a.steps;
 }
 
 pub IsKept-refl : (g : Graph) → IsGraphOk g → IsKept g g
@@ -173,8 +172,7 @@ IsKept-refl g ok = record {
     keeps = λ w m h. (m, h, record { outputs = refl; own = λ i. refl; traps = refl });
   };
   types = λ s t. t;
-  unfused = λ u. u;
-  single = λ u. u;
+  steps = KeepsSteps-self g ok;
 }
 
 pub IsKept-nest : (g : Graph) (n : Pair) → IsGraphOk g → CanNest g n → IsKept g (after_nest g n)
@@ -185,12 +183,11 @@ IsKept-nest g n ok can =
       good = IsGood-merge_step g n.flatten ins n.other es ok can;
       types = λ s t. IsTyped-tidied s (merged g n.flatten ins n.other es) n.other
           (IsTyped-merged s g n.flatten ins n.other es can t);
-      unfused = AllSteps-merge_step IsOneStep g n.flatten ins n.other es;
-      single = AllSteps-merge_step IsOneOutput g n.flatten ins n.other es;
+      steps = AllSteps-merge_step (IsOfPdo g) g n.flatten ins n.other es (KeepsSteps-self g ok);
     }
 
 pub IsKept-call : (g : Graph) (p : Pair) → IsGraphOk g → CanCall g p
-    → total_size (after_call g p).nodes ≤ most → IsKept g (after_call g p)
+    → total_size (after_call g p).nodes ≤ most_nodes → IsKept g (after_call g p)
 IsKept-call g p ok can room =
     let ins : List Place = inputs_of (node_at g.nodes p.flatten) in
     let f : Forest = forest_of (node_at g.nodes p.other) in
@@ -198,8 +195,8 @@ IsKept-call g p ok can room =
       good = IsGood-sink_step g p.flatten p.other f ins ok can room;
       types = λ s t. IsTyped-tidied s (sunk g p.other f ins) p.flatten
           (IsTyped-sunk s g p.flatten p.other f ins ok.founded.below ok.founded.there can t);
-      unfused = AllSteps-sink_step IsOneStep g p.flatten p.other f ins can;
-      single = AllSteps-sink_step IsOneOutput g p.flatten p.other f ins can;
+      steps = AllSteps-sink_step (IsOfPdo g) g p.flatten p.other f ins can
+          (KeepsSteps-self g ok);
     }
 
 pub Leads-trans : (g h i : Graph) → Leads g h → Leads h i → Leads g i
@@ -263,6 +260,7 @@ no_call es p (Source r) h = tt
 no_call es p (Flatten ins) h = tt
 no_call es p (Pdo c f) h = λ ins e. no_call_of c.node p ins (node_at es c.node) h e
 no_call es p (Gbk c o l k) h = tt
+no_call es p (Barrier ins o l a) h = tt
 
 no_room : (g h : Graph) (b : Bool) → cond b (Some h) None ≡ None → b ≡ false
 no_room g h true e = let bad : ⊥ = cc in absurd bad
@@ -276,7 +274,8 @@ normal_by g None h e = inl (Each-weaker (λ (e : Entry). call_at g.nodes e.numbe
 normal_by g (Some p) h e = inr (
   p,
   h,
-  leb-false (total_size (after_call g p).nodes) 4096 (no_room g (after_call g p) (has_room g p) e),
+  leb-false (total_size (after_call g p).nodes) most_nodes
+      (no_room g (after_call g p) (has_room g p) e),
 )
 
 pub normal_form : (g : Graph) → next_nest g.nodes ≡ None → next_graph g ≡ None

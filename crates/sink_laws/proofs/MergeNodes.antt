@@ -1,17 +1,15 @@
 -- After a merge, each node is as it must be.
 use Rattle.std.proofs.Common.{◌≡◌, ℕ, ◌+◌, ◌<◌, ◌≤◌, Bool, true, false, cond, eqb, ◌||◌, List, [], ◌∷◌, ◌++◌, Option, Some, None, length, refl, sym, ap, ◌∙◌, arith, length-append}
-use Rattle.std.proofs.lemmas.Bool.{eqb-true, eq-eqb, false≢true}
+use Rattle.std.proofs.lemmas.Bool.{false≢true}
 use Rattle.std.proofs.lemmas.List.Folds.{list_any-append}
 use Rattle.std.specs.List.{AllByRecursion}
 use Rattle.combine_table.specs.declared.comb.Comb.{Comb}
-use Rattle.flume_value.proofs.EachLemmas.{Each-weaker}
-use Rattle.exec_graph.specs.Forests.{Forest}
-use Rattle.exec_graph.specs.Meaning.{place, node_at, reads}
-use Rattle.exec_graph.specs.Readers.{same_place, among, any_node, calls_on, collects, readers, uses, is_read}
-use Rattle.exec_graph.specs.Wellformed.{IsForestOk, IsLiftedOk, IsNodeOk, comb_at, size, total_size}
+use Rattle.exec_graph.specs.Meaning.{place, node_at}
+use Rattle.exec_graph.specs.Readers.{same_place, among, any_node, calls_on, collects, uses, is_read}
+use Rattle.exec_graph.specs.Wellformed.{IsLiftedOk, IsNodeOk, comb_at, size, total_size, most_nodes}
 use Rattle.exec_graph.specs.declared.graph.Place.{Place}
 use Rattle.exec_graph.specs.declared.graph.Node.{Node}
-use Rattle.exec_graph.specs.declared.graph.Node.TheVariants.{Source, Flatten, Pdo, Gbk}
+use Rattle.exec_graph.specs.declared.graph.Node.TheVariants.{Source, Flatten, Pdo, Gbk, Barrier}
 use Rattle.exec_graph.specs.declared.graph.Entry.{Entry}
 use Rattle.exec_graph.specs.declared.graph.Graph.{Graph}
 use Rattle.exec_graph.proofs.Bools.{no_or, or_false, or_left, or_right}
@@ -23,8 +21,8 @@ use Rattle.graph_laws.specs.Joining.{set_node}
 use Rattle.graph_laws.proofs.Changes.{all_set_others}
 use Rattle.graph_laws.proofs.Wellness.{node_at-set_other}
 use Rattle.sink_laws.specs.Merging.{spliced, merged, CanMerge}
-use Rattle.sink_laws.proofs.Readership.{any_none, any_set, any_set_up, those_set}
-use Rattle.sink_laws.proofs.Rerouting.{unlike, apart_input}
+use Rattle.sink_laws.proofs.Readership.{any_set, any_set_up, those_set}
+use Rattle.sink_laws.proofs.Rerouting.{apart_input}
 use Rattle.sink_laws.proofs.SinkNodes.{NodesOk, two_kinds}
 use Rattle.sink_laws.proofs.Unread.{none_passes, same_true}
 
@@ -33,7 +31,7 @@ use Rattle.sink_laws.proofs.Unread.{none_passes, same_true}
 among-append : (c : Place) (xs ys : List Place) → among c (xs ++ ys) ≡ (among c xs || among c ys)
 among-append c xs ys = list_any-append (same_place c) xs ys
 
--- the inputs that are put in place
+-- The inputs that are put in place.
 pub among_put : (c : Place) (e : ℕ) (es ins : List Place) → among (place e 0) ins ≡ true
     → among c es ≡ true → among c (spliced e es ins) ≡ true
 among_put c e es [] h i = absurd (false≢true h)
@@ -46,7 +44,7 @@ among_put c e es (d ∷ ins) h i = by (same_place (place e 0) d) h (λ k. among_
         ∙ or_left (among c es) (among c (spliced e es ins)) i
     by false k f = or_right (same_place c d) (among c (spliced e es ins)) (f k)
 
--- the inputs that stay
+-- The inputs that stay.
 pub among_stays : (c : Place) (e : ℕ) (es ins : List Place) → same_place c (place e 0) ≡ false
     → among c ins ≡ true → among c (spliced e es ins) ≡ true
 among_stays c e es [] h i = absurd (false≢true i)
@@ -70,7 +68,7 @@ among_stays c e es (d ∷ ins) h i =
         ∙ or_right (among c es) (among c (spliced e es ins)) (f l)
     by false s k f = piece (same_place c d) k f
 
--- nothing else is
+-- Nothing else is put in place.
 pub among_none : (c : Place) (e : ℕ) (es ins : List Place) → among c es ≡ false
     → among c ins ≡ false → among c (spliced e es ins) ≡ false
 among_none c e es [] h i = refl
@@ -155,13 +153,14 @@ node_merged g f ins e es q (Pdo c h) can at a = record {
 }
 node_merged g f ins e es q (Gbk c o l None) can at a = tt
 node_merged g f ins e es q (Gbk c o l (Some k)) can at a = lifted_merged g f ins e es q k can a
+node_merged g f ins e es q (Barrier cs o l i) can at a = tt
 
 pub NodesOk-merged : (g : Graph) (f : ℕ) (ins : List Place) (e : ℕ) (es : List Place)
     → Ascends g.nodes → CanMerge g f ins e es → NodesOk g → NodesOk (merged g f ins e es)
 NodesOk-merged g f ins e es ascends can a =
-    let at_f : (0 < length ins) × (length ins ≤ 4096) =
+    let at_f : (0 < length ins) × (length ins ≤ most_nodes) =
     all_found (λ e. IsNodeOk g e.number e.node) g.nodes f (Flatten ins) can.outer a in
-    let at_e : (0 < length es) × (length es ≤ 4096) =
+    let at_e : (0 < length es) × (length es ≤ most_nodes) =
     all_found (λ e. IsNodeOk g e.number e.node) g.nodes e (Flatten es) can.inner a in
     let differ = differ_ascends g.nodes ascends in
     all_set_others (λ d. IsNodeOk (merged g f ins e es) d.number d.node) g.nodes f

@@ -1,35 +1,35 @@
 -- After a Pdo has sunk, each node is as it must be.
-use Rattle.std.proofs.Common.{◌≡◌, ℕ, ◌+◌, ◌-◌, ◌<◌, ◌≤◌, Bool, true, false, cond, eqb, ◌||◌, List, [], ◌∷◌, ◌++◌, Option, Some, None, map, length, zero, suc, refl, sym, ap, ◌∙◌, subst, arith}
-use Rattle.std.proofs.lemmas.Bool.{eqb-true, eq-eqb, false≢true}
+use Rattle.std.proofs.Common.{◌≡◌, ℕ, ◌+◌, ◌-◌, ◌<◌, ◌≤◌, Bool, true, false, ◌||◌, List, [], ◌∷◌, ◌++◌, Option, Some, None, map, length, zero, suc, refl, sym, ap, ◌∙◌, subst, arith}
+use Rattle.std.proofs.lemmas.Bool.{false≢true}
 use Rattle.std.specs.List.{AllByRecursion}
 use Rattle.combine_table.specs.declared.comb.Comb.{Comb}
-use Rattle.flume_value.proofs.EachLemmas.{Each-append, Each-both, Each-weaker}
+use Rattle.flume_value.proofs.EachLemmas.{Each-append}
 use Rattle.exec_graph.specs.Forests.{Forest, numbered}
-use Rattle.exec_graph.specs.Meaning.{place, node_at, reads, has_out, IsThere}
-use Rattle.exec_graph.specs.Readers.{same_place, among, any_node, calls_on, collects, readers, uses, is_read}
-use Rattle.exec_graph.specs.Wellformed.{IsFounded, IsForestOk, IsLiftedOk, IsNodeOk, IsGraphOk, comb_at, root_comb}
+use Rattle.exec_graph.specs.Meaning.{place, node_at, has_out}
+use Rattle.exec_graph.specs.Readers.{same_place, among, any_node, calls_on, collects, uses, is_read}
+use Rattle.exec_graph.specs.Wellformed.{IsFounded, IsForestOk, IsLiftedOk, IsNodeOk, comb_at, most_nodes}
 use Rattle.exec_graph.specs.declared.graph.Place.{Place}
 use Rattle.exec_graph.specs.declared.graph.Node.{Node}
-use Rattle.exec_graph.specs.declared.graph.Node.TheVariants.{Source, Flatten, Pdo, Gbk}
+use Rattle.exec_graph.specs.declared.graph.Node.TheVariants.{Source, Flatten, Pdo, Gbk, Barrier}
 use Rattle.exec_graph.specs.declared.graph.Entry.{Entry}
 use Rattle.exec_graph.specs.declared.graph.Graph.{Graph}
-use Rattle.exec_graph.proofs.Bools.{or_false, or_left, or_right}
-use Rattle.exec_graph.proofs.Entries.{entry, all_found, all_map}
+use Rattle.exec_graph.proofs.Bools.{or_left, or_right}
+use Rattle.exec_graph.proofs.Entries.{all_found}
 use Rattle.exec_graph.proofs.Solving.{each_found}
 use Rattle.exec_graph.proofs.Soundness.{differ_ascends}
 use Rattle.graph_laws.specs.Joining.{reread, reread_entry}
 use Rattle.graph_laws.proofs.ReadPlaces.{same_self}
 use Rattle.graph_laws.proofs.Wellness.{differ_map}
-use Rattle.sink_laws.specs.Sinking.{copies, copied, flattens, outputs_of, flatten_number, first_flatten, instead, rerouted, sunk, CanSink}
+use Rattle.sink_laws.specs.Sinking.{copies, copied, flattens, outputs_of, flatten_number, first_flatten, rerouted, sunk, CanSink}
 use Rattle.sink_laws.proofs.Instead.{Maybe}
-use Rattle.sink_laws.proofs.Outs.{has_from, has_below}
+use Rattle.sink_laws.proofs.Outs.{has_below}
 use Rattle.sink_laws.proofs.Ranges.{length-copied}
 use Rattle.sink_laws.proofs.Readership.{all_instead_others, any_found, any_none, only_passes}
-use Rattle.sink_laws.proofs.Rerouting.{IsOutside, unlike, apart_input, among_rerouted, any_sunk, those_sunk, collects_skipped, calls_skipped, read_sunk}
+use Rattle.sink_laws.proofs.Rerouting.{IsOutside, apart_input, among_rerouted, any_sunk, those_sunk, collects_skipped, calls_skipped, read_sunk}
 use Rattle.sink_laws.proofs.SinkFounded.{kept_nodes, first_nodes, last_nodes, flatten_at, node_at-sunk_other}
 use Rattle.sink_laws.proofs.Unread.{none_passes}
 
--- what is found of a node by its number
+-- What is found of a node by its number.
 abbrev pub NodesOk : Graph → Type 0
 NodesOk g = AllByRecursion (λ e. IsNodeOk g e.number e.node) g.nodes
 
@@ -90,6 +90,7 @@ old_lifted g n p f ins q c o l m k ok can at apart below a =
     comb_reread r (Flatten ins) k h = h
     comb_reread r (Pdo c f) k h = h
     comb_reread r (Gbk c o l m) k h = h
+    comb_reread r (Barrier ins o l a) k h = h
 
     comb_kept : (g : Graph) (p q : ℕ) (f : Forest) (ins : List Place) (k : Comb) (o : Option Node)
         → node_at g.nodes q ≡ o → (q ≡ p → ⊥) → comb_at (node_at g.nodes q) ≡ Some k
@@ -121,6 +122,7 @@ old_ok g n p f ins q (Pdo c h) ok can at apart below a = record {
 old_ok g n p f ins q (Gbk c o l None) ok can at apart below a = tt
 old_ok g n p f ins q (Gbk c o l (Some k)) ok can at apart below a =
     old_lifted g n p f ins q c o l (Some k) k ok can at apart below a
+old_ok g n p f ins q (Barrier cs o l i) ok can at apart below a = tt
 
 -- ---- the copies and the Flattens
 
@@ -157,7 +159,7 @@ copies_ok h first m i f ins (c ∷ cs) e l order r = (
 )
 
 flattens_ok : (h : Graph) (m first : ℕ) (ins : List Place) (j r : ℕ) → 0 < length ins
-    → length ins ≤ 4096
+    → length ins ≤ most_nodes
     → AllByRecursion (λ e. IsNodeOk h e.number e.node) (flattens m first ins j r)
 flattens_ok h m first ins j zero a b = tt
 flattens_ok h m first ins j (suc r) a b = (
@@ -166,12 +168,12 @@ flattens_ok h m first ins j (suc r) a b = (
 )
 
 first_ok : (h : Graph) (p next : ℕ) (ins : List Place) (k : ℕ) → 0 < length ins
-    → length ins ≤ 4096 → Maybe (λ x. IsNodeOk h p x) (first_flatten next ins k)
+    → length ins ≤ most_nodes → Maybe (λ x. IsNodeOk h p x) (first_flatten next ins k)
 first_ok h p next ins zero a b = tt
 first_ok h p next ins (suc k) a b =
     let e = length-copied next 0 ins in (omega arith, omega arith)
 
--- an output of a copy is read by the Flatten of that output
+-- An output of a copy is read by the Flatten of that output.
 copy_read : (g : Graph) (n p : ℕ) (f : Forest) (ins : List Place) (j i : ℕ) → IsFounded g
     → numbered 0 f ≡ f → CanSink g n p f ins → has_out j f ≡ true → i < length ins
     → is_read (sunk g p f ins) (place (g.next + i) j) ≡ true
@@ -193,7 +195,7 @@ NodesOk-sunk g n p f ins ok nodes can =
     let P : Entry → Type 0 = λ e. IsNodeOk new e.number e.node in
     let at_p : IsForestOk g p f = all_found (λ e. IsNodeOk g e.number e.node) g.nodes p
     (Pdo (place n 0) f) can.pdo nodes in
-    let at_n : (0 < length ins) × (length ins ≤ 4096) =
+    let at_n : (0 < length ins) × (length ins ≤ most_nodes) =
     all_found (λ e. IsNodeOk g e.number e.node) g.nodes n (Flatten ins) can.flatten nodes in
     let differ = differ_ascends g.nodes ok.ascends in
     Each-append P (first_nodes g p f ins) (copies g.next f ins ++ last_nodes g f ins)

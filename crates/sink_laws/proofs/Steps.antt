@@ -1,14 +1,14 @@
 -- Whole merges and steps: a graph stays well-formed and keeps its meaning.
-use Rattle.std.proofs.Common.{◌≡◌, ℕ, ◌+◌, ◌-◌, ◌<◌, ◌≤◌, Bool, true, false, cond, eqb, ◌||◌, List, [], ◌∷◌, Option, Some, None, map, length, refl, sym, ap, ◌∙◌, subst, arith, inl, inr}
-use Rattle.std.proofs.lemmas.Bool.{eqb-true, eq-eqb, false≢true}
+use Rattle.std.proofs.Common.{◌≡◌, ℕ, ◌+◌, ◌<◌, ◌≤◌, Bool, true, false, cond, eqb, List, [], ◌∷◌, Some, map, length, refl, sym, ap, ◌∙◌, subst, arith, inl, inr}
+use Rattle.std.proofs.lemmas.Bool.{eqb-true, false≢true}
 use Rattle.std.specs.List.{AllByRecursion}
 use Rattle.exec_graph.specs.Forests.{Forest}
-use Rattle.exec_graph.specs.Meaning.{place, node_at, reads, IsRankedBy, KeepsMeaning}
-use Rattle.exec_graph.specs.Readers.{same_place, among, any_node, uses, is_read}
-use Rattle.exec_graph.specs.Wellformed.{IsForestOk, IsFounded, IsGraphOk, IsNodeOk, most, total_size}
+use Rattle.exec_graph.specs.Meaning.{place, node_at, IsRankedBy, KeepsMeaning}
+use Rattle.exec_graph.specs.Readers.{same_place, among, uses, is_read}
+use Rattle.exec_graph.specs.Wellformed.{HaveObjects, IsForestOk, IsFounded, IsGraphOk, IsNodeOk, most_nodes, total_size}
 use Rattle.exec_graph.specs.declared.graph.Place.{Place}
 use Rattle.exec_graph.specs.declared.graph.Node.{Node}
-use Rattle.exec_graph.specs.declared.graph.Node.TheVariants.{Source, Flatten, Pdo, Gbk}
+use Rattle.exec_graph.specs.declared.graph.Node.TheVariants.{Flatten, Pdo}
 use Rattle.exec_graph.specs.declared.graph.Entry.{Entry}
 use Rattle.exec_graph.specs.declared.graph.Graph.{Graph}
 use Rattle.exec_graph.proofs.Bools.{not_true, or_cases, or_left}
@@ -20,16 +20,17 @@ use Rattle.graph_laws.proofs.Changes.{node_at-without_other}
 use Rattle.graph_laws.proofs.Kids.{KeepsMeaning-then}
 use Rattle.graph_laws.proofs.Wellness.{node_at-set_same, node_at-set_other}
 use Rattle.sink_laws.specs.Kept.{IsGood}
-use Rattle.sink_laws.specs.Merging.{spliced, merged, dropped, tidied, merge_step, CanMerge}
-use Rattle.sink_laws.specs.Sinking.{copies, outputs_of, rerouted, sunk, sink_step, CanSink}
+use Rattle.sink_laws.specs.Merging.{spliced, merged, dropped, merge_step, CanMerge}
+use Rattle.sink_laws.specs.Sinking.{copies, rerouted, sunk, sink_step, CanSink}
 use Rattle.sink_laws.proofs.Dropping.{CanDrop, KeepsMeaning-dropped, IsFounded-dropped}
 use Rattle.sink_laws.proofs.DropNodes.{IsReplaced, NodesOk-dropped, size_without}
 use Rattle.sink_laws.proofs.MergeMeaning.{KeepsMeaning-merged, IsFounded-merged}
 use Rattle.sink_laws.proofs.MergeNodes.{NodesOk-merged, among_put, size-set}
 use Rattle.sink_laws.proofs.Ranges.{IsFoundIn}
 use Rattle.sink_laws.proofs.Readership.{any_found}
-use Rattle.sink_laws.proofs.SinkFounded.{IsFounded-sunk, copies_there, inputs_apart, node_at-sunk_other, p_below}
-use Rattle.sink_laws.proofs.SinkMeaning.{IsSinkable, KeepsMeaning-sunk}
+use Rattle.sink_laws.proofs.SinkFounded.{IsFounded-sunk, copies_there, inputs_apart, node_at-sunk_other}
+use Rattle.sink_laws.proofs.SinkMeaning.{KeepsMeaning-sunk}
+use Rattle.sink_laws.proofs.ObjectSteps.{HaveObjects-dropped, HaveObjects-merged, HaveObjects-sunk}
 use Rattle.sink_laws.proofs.SinkNodes.{NodesOk, NodesOk-sunk}
 use Rattle.sink_laws.proofs.Unread.{same_true}
 
@@ -46,7 +47,7 @@ map_apart p base (c ∷ cs) a =
     let e : eqb c.node p ≡ false = not_true (eqb c.node p) (λ h. a.0 (eqb-true c.node p h)) in
     rw (e, i) refl
 
--- a copy that reads the collection
+-- A copy that reads the collection.
 record IsCopyOf (all : List Entry) (m : ℕ) (f : Forest) (c : Place) : Type 0 where
   pub number : ℕ
   pub input : Place
@@ -84,7 +85,7 @@ replaced_sunk g n p f ins ok can c h =
 
 sink_by : (g : Graph) (n p : ℕ) (f : Forest) (ins : List Place) (b : Bool)
     → is_read (sunk g p f ins) (place n 0) ≡ b → IsGraphOk g → CanSink g n p f ins
-    → total_size (cond b (sunk g p f ins) (dropped (sunk g p f ins) n)).nodes ≤ most
+    → total_size (cond b (sunk g p f ins) (dropped (sunk g p f ins) n)).nodes ≤ most_nodes
     → IsGood g (cond b (sunk g p f ins) (dropped (sunk g p f ins) n))
 sink_by g n p f ins b i ok can room =
     let h : Graph = sunk g p f ins in
@@ -105,33 +106,37 @@ sink_by g n p f ins b i ok can room =
     (λ e. let d : r n ≡ r p = ap r e in omega arith) can.flatten
     ∙ ap (λ (l : List Place). Some (Flatten l)) (map_apart p (g.next + length ins) ins
     (inputs_apart g n p f ins r ok.founded.ranked.1 can)) in
-    by b i room founded nodes keeps at_n
+    let objects : HaveObjects h.nodes =
+    HaveObjects-sunk g n p f ins ok.founded at_p.order can ok.objects in
+    by b i room founded nodes objects keeps at_n
   where
     by : (b : Bool) → is_read (sunk g p f ins) (place n 0) ≡ b
-        → total_size (cond b (sunk g p f ins) (dropped (sunk g p f ins) n)).nodes ≤ most
-        → IsFounded (sunk g p f ins) → NodesOk (sunk g p f ins) → KeepsMeaning g (sunk g p f ins)
+        → total_size (cond b (sunk g p f ins) (dropped (sunk g p f ins) n)).nodes ≤ most_nodes
+        → IsFounded (sunk g p f ins) → NodesOk (sunk g p f ins)
+        → HaveObjects (sunk g p f ins).nodes → KeepsMeaning g (sunk g p f ins)
         → node_at (sunk g p f ins).nodes n ≡ Some (Flatten ins)
         → IsGood g (cond b (sunk g p f ins) (dropped (sunk g p f ins) n))
-    by true i few founded nodes keeps at = record {
-      ok = record { founded = founded; nodes = nodes; few = few };
+    by true i few founded nodes objects keeps at = record {
+      ok = record { founded = founded; nodes = nodes; objects = objects; few = few };
       keeps = keeps;
     }
-    by false i few founded nodes keeps at =
+    by false i few founded nodes objects keeps at =
         let h : Graph = sunk g p f ins in
         let drop : CanDrop h n ins = record { flatten = at; free = i } in
         record {
           ok = record {
             founded = IsFounded-dropped h n ins founded drop;
             nodes = NodesOk-dropped h n ins drop (replaced_sunk g n p f ins ok can) nodes;
+            objects = HaveObjects-dropped h n ins founded.ascends at objects;
             few = few;
           };
           keeps = KeepsMeaning-then g h (dropped h n) keeps
               (KeepsMeaning-dropped h n ins founded.there drop);
         }
 
--- the law of a step
+-- The law of a step.
 pub IsGood-sink_step : (g : Graph) (n p : ℕ) (f : Forest) (ins : List Place) → IsGraphOk g
-    → CanSink g n p f ins → total_size (sink_step g n p f ins).nodes ≤ most
+    → CanSink g n p f ins → total_size (sink_step g n p f ins).nodes ≤ most_nodes
     → IsGood g (sink_step g n p f ins)
 IsGood-sink_step g n p f ins ok can room =
     sink_by g n p f ins (is_read (sunk g p f ins) (place n 0)) refl ok can room
@@ -171,7 +176,8 @@ merge_by g f ins e es true i ok can = record {
   ok = record {
     founded = IsFounded-merged g f ins e es ok.founded can;
     nodes = NodesOk-merged g f ins e es ok.founded.ascends can ok.nodes;
-    few = subst (λ (k : ℕ). k ≤ most) (sym (size-set g.nodes f (Flatten (spliced e es ins))
+    objects = HaveObjects-merged g f ins e es can ok.objects;
+    few = subst (λ (k : ℕ). k ≤ most_nodes) (sym (size-set g.nodes f (Flatten (spliced e es ins))
         (Flatten ins) can.outer refl)) ok.few;
   };
   keeps = KeepsMeaning-merged g f ins e es can;
@@ -189,19 +195,21 @@ merge_by g f ins e es false i ok can =
     let size : total_size h.nodes ≡ total_size g.nodes =
     size-set g.nodes f (Flatten (spliced e es ins)) (Flatten ins) can.outer refl in
     let smaller = size_without h.nodes e in
-    let few : total_size g.nodes ≤ 4096 = ok.few in
+    let few : total_size g.nodes ≤ most_nodes = ok.few in
     record {
       ok = record {
         founded = IsFounded-dropped h e es founded drop;
         nodes = NodesOk-dropped h e es drop (replaced_merged g f ins e es apart can)
             (NodesOk-merged g f ins e es ok.founded.ascends can ok.nodes);
+        objects = HaveObjects-dropped h e es founded.ascends drop.flatten
+            (HaveObjects-merged g f ins e es can ok.objects);
         few = omega arith;
       };
       keeps = KeepsMeaning-then g h (dropped h e) (KeepsMeaning-merged g f ins e es can)
           (KeepsMeaning-dropped h e es founded.there drop);
     }
 
--- the law of a merge
+-- The law of a merge.
 pub IsGood-merge_step : (g : Graph) (f : ℕ) (ins : List Place) (e : ℕ) (es : List Place)
     → IsGraphOk g → CanMerge g f ins e es → IsGood g (merge_step g f ins e es)
 IsGood-merge_step g f ins e es ok can =

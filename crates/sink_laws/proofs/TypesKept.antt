@@ -1,4 +1,4 @@
--- Merges and steps keep types, and each Pdo its one step.
+-- Merges and steps keep types, and make no other steps.
 use Rattle.std.proofs.Common.{◌≡◌, ℕ, ◌+◌, ◌-◌, ◌<◌, ◌≤◌, Bool, true, false, cond, ltb, eqb, List, [], ◌∷◌, Option, Some, None, map, length, zero, suc, refl, sym, ap, ◌∙◌, subst, arith}
 use Rattle.std.proofs.lemmas.Bool.{eqb-true, lt-ltb, le-ltb}
 use Rattle.std.specs.List.{AllByRecursion}
@@ -7,16 +7,21 @@ use Rattle.flume_types.specs.declared.types.Ty.{Ty}
 use Rattle.exec_graph.specs.Forests.{Forest, Bare, Grow}
 use Rattle.exec_graph.specs.Meaning.{place, node_at, reads, IsThere}
 use Rattle.exec_graph.specs.Readers.{is_read}
-use Rattle.exec_graph.specs.Typing.{Signatures, OutTyped, ForestTyped, IsGrouped, NodeTyped, IsTypedBy, IsTyped}
+use Rattle.exec_graph.specs.Typing.{ActTyped, Signatures, OutTyped, ForestTyped, IsGrouped, NodeTyped, IsTyped}
 use Rattle.exec_graph.specs.declared.graph.Place.{Place}
 use Rattle.exec_graph.specs.declared.graph.Node.{Node}
-use Rattle.exec_graph.specs.declared.graph.Node.TheVariants.{Source, Flatten, Pdo, Gbk}
+use Rattle.exec_graph.specs.declared.graph.Node.TheVariants.{Source, Flatten, Pdo, Gbk, Barrier}
 use Rattle.exec_graph.specs.declared.graph.Entry.{Entry}
 use Rattle.exec_graph.specs.declared.graph.Graph.{Graph}
+use Rattle.exec_graph.specs.Wellformed.{IsGraphOk}
 use Rattle.exec_graph.proofs.Entries.{all_found, all_map}
+use Rattle.exec_graph.proofs.Solving.{each_found}
+use Rattle.exec_graph.proofs.Soundness.{differ_ascends}
 use Rattle.graph_laws.specs.Joining.{reread, reread_entry}
 use Rattle.graph_laws.specs.Single.{AllSteps, HasSteps}
+use Rattle.graph_laws.proofs.TypedGraphs.{types_reread}
 use Rattle.graph_laws.proofs.Changes.{all_set, all_without}
+use Rattle.sink_laws.specs.Kept.{IsOfPdo, KeepsSteps}
 use Rattle.sink_laws.specs.Merging.{spliced, merged, dropped, tidied, merge_step, CanMerge}
 use Rattle.sink_laws.specs.Sinking.{copies, copied, flattens, outputs_of, flatten_number, rerouted, sunk, sink_step, CanSink}
 use Rattle.sink_laws.proofs.MergeMeaning.{all_spliced}
@@ -95,6 +100,10 @@ node_reread s types more r n (Pdo c f) a o h =
 node_reread s types more r n (Gbk c i l k) a o h =
     subst (λ (t : Ty). IsGrouped t (more (place n 0))) (sym a.0)
     (subst (λ (u : Ty). IsGrouped (types c) u) (sym (o 0)) h)
+node_reread s types more r n (Barrier ins i l d) a o h =
+    subst (ActTyped s d (map more (map r ins))) (sym (o 0))
+    (subst (λ (ts : List Ty). ActTyped s d ts (types (place n 0)))
+    (sym (types_reread more types r ins a)) h)
 
 kept_typed : (s : Signatures) (types more : Place → Ty) (r : Place → Place) (es : List Entry)
     → AllByRecursion (λ e. AllByRecursion (λ c. more (r c) ≡ types c) (reads e.node)) es
@@ -227,6 +236,7 @@ module _ (P : Forest → Type 0) where
   steps_reread r (Flatten ins) h = tt
   steps_reread r (Pdo c f) h = h
   steps_reread r (Gbk c o l k) h = tt
+  steps_reread r (Barrier ins o l a) h = tt
 
   copies_steps : (n : ℕ) (f : Forest) (cs : List Place) → P f
       → AllByRecursion (λ e. HasSteps P e.node) (copies n f cs)
@@ -262,3 +272,32 @@ module _ (P : Forest → Type 0) where
   AllSteps-merge_step g f ins e es u =
       AllSteps-tidied (merged g f ins e es) e
       (all_set (λ e. HasSteps P e.node) g.nodes f (Flatten (spliced e es ins)) u tt)
+
+-- ---- the steps are those of former Pdos
+
+own_steps : (g : Graph) (n : ℕ) (x : Node) → node_at g.nodes n ≡ Some x → HasSteps (IsOfPdo g) x
+own_steps g n (Source r) at = tt
+own_steps g n (Flatten ins) at = tt
+own_steps g n (Pdo c f) at = record { number = n; input = c; at = at }
+own_steps g n (Gbk c o l k) at = tt
+own_steps g n (Barrier ins o l a) at = tt
+
+pub KeepsSteps-self : (g : Graph) → IsGraphOk g → KeepsSteps g g
+KeepsSteps-self g ok =
+    Each-weaker (λ (e : Entry). node_at g.nodes e.number ≡ Some e.node)
+    (λ e. HasSteps (IsOfPdo g) e.node) (λ e at. own_steps g e.number e.node at) g.nodes
+    (each_found g.nodes (differ_ascends g.nodes ok.founded.ascends))
+
+module _ (P : Forest → Type 0) where
+  node_steps : (g : Graph) (x : Node) → AllSteps P g → HasSteps (IsOfPdo g) x → HasSteps P x
+  node_steps g (Source r) a h = tt
+  node_steps g (Flatten ins) a h = tt
+  node_steps g (Pdo c f) a h =
+      all_found (λ e. HasSteps P e.node) g.nodes h.number (Pdo h.input f) h.at a
+  node_steps g (Gbk c o l k) a h = tt
+  node_steps g (Barrier ins o l d) a h = tt
+
+  pub AllSteps-kept : (g h : Graph) → KeepsSteps g h → AllSteps P g → AllSteps P h
+  AllSteps-kept g h k a =
+      Each-weaker (λ (e : Entry). HasSteps (IsOfPdo g) e.node) (λ e. HasSteps P e.node)
+      (λ e s. node_steps g e.node a s) h.nodes k

@@ -4,6 +4,7 @@ use Rattle.std.specs.List.{Contains}
 use Rattle.crew.specs.Hosts.{Account}
 use Rattle.exec_graph.specs.World.{World}
 use Rattle.exec_plan.specs.Meaning.{emitted_by, plan_collection, plan_traps}
+use Rattle.exec_plan.specs.ObjectFree.{IsPlanObjectFree}
 use Rattle.exec_plan.specs.Wellformed.{IsPlanOk}
 use Rattle.exec_plan.specs.declared.plan.Plan.{Plan}
 use Rattle.exec_plan.specs.declared.plan.PlanPlace.{PlanPlace}
@@ -30,8 +31,8 @@ use Rattle.stage_exec.specs.inner.Reads.{AgreeOn}
 -- ---- the beginning
 
 pub begins : (w : World) (takes : ℕ → Value → Type 0) (p : Plan) → IsPlanOk p
-    → IsTypedRun w takes p → CanGoOn w takes 1 p.stages (source_lists w)
-begins w takes p ok run = record {
+    → IsPlanObjectFree p → IsTypedRun w takes p → CanGoOn w takes 1 p.stages (source_lists w)
+begins w takes p ok free run = record {
   signatures = run.signatures;
   types = run.plan.0;
   sources = p.sources;
@@ -41,6 +42,7 @@ begins w takes p ok run = record {
   lists = begin_typed run.signatures w run.plan.0 run.world run.plan.1.sources;
   typed = run.plan.1.stages;
   ok = ok.stages;
+  free = free;
 }
 
 -- ---- the end

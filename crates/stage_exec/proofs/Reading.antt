@@ -3,11 +3,13 @@ use Rattle.std.proofs.Common.{◌≡◌, ◌/◌, ◌%◌, ◌==◌, ℕ, zero, 
 use Rattle.std.specs.List.{flat_map, slice_get}
 use Rattle.std.specs.Option.{option_map_or}
 use Rattle.flume_value.specs.declared.value.Value.{Value}
+use Rattle.flume_value.specs.Bag.{bag_of}
 use Rattle.flume_collection.specs.Calls.{or_none}
 use Rattle.bag_groups.specs.Groups.{grouped}
 use Rattle.outside.specs.declared.host.Phase.TheVariants.{Map, Reduce}
 use Rattle.shards.specs.Shards.{joined}
 use Rattle.shuffle_parts.specs.Partitions.{part_of}
+use Rattle.exec_graph.specs.Objects.{act_result}
 use Rattle.exec_graph.specs.World.{World}
 use Rattle.exec_plan.specs.Channels.{numbers}
 use Rattle.exec_plan.specs.declared.plan.PlanPlace.{PlanPlace}
@@ -18,9 +20,9 @@ use Rattle.exec_plan.specs.declared.plan.Mscr.{Mscr as Channels}
 use Rattle.exec_plan.specs.declared.plan.OutChannel.{OutChannel}
 use Rattle.exec_plan.specs.declared.plan.OutChannel.TheVariants.{Group, Pass}
 use Rattle.exec_plan.specs.declared.plan.Stage.{Stage}
-use Rattle.exec_plan.specs.declared.plan.Stage.TheVariants.{Mscr, Flatten}
+use Rattle.exec_plan.specs.declared.plan.Stage.TheVariants.{Mscr, Flatten, Operate}
 use Rattle.plan_phases.specs.Phases.{phases_from, reduce_phases, stage_phases, tasks_below}
-use Rattle.task_lists.specs.Lists.{given_lists, result_lists, run_lists, with_lists}
+use Rattle.task_lists.specs.Lists.{calm, given_lists, result_lists, run_lists, with_lists}
 use Rattle.task_lists.specs.Plans.{Says, stage_tasks, tasks_from}
 use Rattle.task_lists.specs.Tasks.{Lists, Split, Task, gathered, given_to, grouping_at, groupings, map_count, map_task, map_task_of, no_task, reduce_count, reduce_task, task_gives}
 use Rattle.stage_exec.specs.inner.Reads.{AgreeOn, later_reads, reads_of}
@@ -78,6 +80,7 @@ module _ (w : World) (n : Split) (t u : Lists) where
       ++ flat_map (λ g. joined (λ p. q.reduces g (reduce_same s.inputs agree j g p)) n.partitions)
       (groupings s.outputs)
   stage_tasks_same q (Flatten takes) agree = refl
+  stage_tasks_same q (Operate takes o l a) agree = refl
 
   reduce_phases_same : (k : ℕ) (s : Channels) → AgreeOn (map (λ c. c.reads) s.inputs) t u
       → (gs : List Grouping) → reduce_phases w k n t s gs ≡ reduce_phases w k n u s gs
@@ -99,6 +102,7 @@ module _ (w : World) (n : Split) (t u : Lists) where
         (λ r. tasks_same s.inputs agree j (r / n.shards) (r % n.shards)) (map_count n s);
   } ∷ reduce_phases_same k s agree (groupings s.outputs) j
   stage_phases_same k (Flatten takes) agree = refl
+  stage_phases_same k (Operate takes o l a) agree = refl
 
   -- ---- results
 
@@ -115,10 +119,19 @@ module _ (w : World) (n : Split) (t u : Lists) where
   flat_same (p ∷ places) agree = λ j.
       ap head_or agree j ++ flat_same places (ap tail_of agree) j
 
+  calm_same : (places : List PlanPlace) → AgreeOn places t u
+      → map (calm t) places ≡ map (calm u) places
+  calm_same [] agree = refl
+  calm_same (p ∷ places) agree = λ j.
+      record { bag = bag_of (ap head_or agree j); traps = [] }
+      ∷ calm_same places (ap tail_of agree) j
+
   pub results_same : (s : Stage) → AgreeOn (reads_of s) t u
       → result_lists w n t s ≡ result_lists w n u s
   results_same (Mscr s) agree = λ j. flat_map (λ c. given_same s.inputs agree c j) s.outputs
   results_same (Flatten takes) agree = λ j. flat_same takes agree j ∷ []
+  results_same (Operate takes o l a) agree = λ j.
+      (act_result w o a (calm_same takes agree j)).bag ∷ []
 
 -- ---- stage after stage
 

@@ -118,6 +118,7 @@ module _ (s : RunSettings) (called : ℕ → Value → Called) (takes : ℕ → 
           sources = r.sources;
           before = r.before;
           ok = r.ok.0;
+          free = r.free.0;
         })
 
     ready_next : CanGoOn World_ takes (suc (suc k)) (drop (suc k) stages) Next
@@ -132,9 +133,10 @@ module _ (s : RunSettings) (called : ℕ → Value → Called) (takes : ℕ → 
           calls = r.calls;
           lists =
               table_typed r.signatures World_ r.world r.types (split_of s) Found r.lists (suc k)
-              r.sources r.before stage r.typed.0 r.ok.0;
+              r.sources r.before stage r.free.0 r.typed.0 r.ok.0;
           typed = r.typed.1;
           ok = r.ok.1;
+          free = r.free.1;
         }
 
     -- what is left of all phases, of the counts
@@ -251,6 +253,7 @@ module _ (s : RunSettings) (called : ℕ → Value → Called) (takes : ℕ → 
           lists = λ q. typed (r.types q) q (r.lists q);
           typed = r.typed;
           ok = r.ok;
+          free = r.free;
         };
         lists = outputs_same World_ (split_of s) outputs (suc k) rest t u agree ∙ a.lists;
         counted = a.counted;

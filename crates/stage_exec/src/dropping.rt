@@ -40,7 +40,7 @@ pub(crate) fn drop_read(
                 outputs,
             );
         }
-        Stage::Flatten(takes) => {
+        Stage::Flatten(takes) | Stage::Operate(takes, _, _, _) => {
             for place in takes.as_slice() {
                 drop_unread(alloc, sources, results, *place, later, outputs);
             }
@@ -111,7 +111,9 @@ fn reads(stage: &Stage, place: PlanPlace) -> bool
 {
     match stage {
         Stage::Mscr(stage) => has_input(stage.inputs.as_slice(), place),
-        Stage::Flatten(takes) => is_among(takes.as_slice(), place),
+        Stage::Flatten(takes) | Stage::Operate(takes, _, _, _) => {
+            is_among(takes.as_slice(), place)
+        }
     }
 }
 

@@ -1,6 +1,7 @@
 ghost use Rattle.std.specs.Prelude.{◌≡◌, ◌<◌, ◌≤◌, IfErr, IfOk, length, map};
 ghost use Rattle.std.specs.List.{AllZip};
 ghost use Rattle.crew.specs.Hosts.{account, Grew};
+ghost use Rattle.exec_plan.specs.ObjectFree.{IsPlanObjectFree};
 ghost use Rattle.exec_plan.specs.Wellformed.{IsPlanOk};
 ghost use Rattle.forest_steps.specs.Fresh.{zeros};
 ghost use Rattle.map_shard.specs.Tables.{table};
@@ -23,8 +24,8 @@ use std::alloc::{AllocError, Global};
 use std::thread::Threads;
 use task_lists::tasks_law;
 
-/// Executes a plan over the rows of its sources, with a worker on each of the hosts. It counts for
-/// the first so many script nodes.
+/// Executes a plan without objects over the rows of its sources, with a worker on each of the
+/// hosts. It counts for the first so many script nodes.
 ///
 /// It stops at the first trap of the plan's tasks, by phases in order and by tasks in order within
 /// one; or, where no smaller task of that phase and none of an earlier one traps, at the least task
@@ -40,6 +41,7 @@ pub fn execute<R: Threads + Sync, F: Functions + Sync, H: Host + Send>(
     settings: &Settings,
 ) -> Result<Executed, RunFault>
     requires plan { IsPlanOk plan.now }
+    requires object_free { IsPlanObjectFree plan.now }
     requires typed { IsTypedRun (run_world (F.called functions.now) sources.now)
         (F.can_call functions.now) plan.now }
     requires some { 1 ≤ length hosts.old }

@@ -7,6 +7,9 @@
 //! bag of each script node has, and which attempt has won each task (`Executed`); or the first
 //! trap, or the task that was given up (`RunFault`).
 //!
+//! So far it runs plans without objects (`IsPlanObjectFree`): no stage operates on one, and no
+//! channel calls its steps beside one.
+//!
 //! Whatever the hosts do, and whoever wins, what is answered is the plan's meaning (`IsExecuted`,
 //! `IsRunFault`: specs/Executions.antt).
 #![tactic(auto)]

@@ -80,6 +80,7 @@ pub(crate) fn run_stage<R: Threads + Sync, F: Functions + Sync, H: Host + Send>(
             Ok(lists) => Ok(lists),
             Err(AllocError) => Err(RunFault::Memory),
         },
+        Stage::Operate(_, _, _, _) => unreachable!(),
     }
 }
 

@@ -9,6 +9,7 @@ use Rattle.exec_plan.specs.declared.plan.PlanPlace.{PlanPlace}
 use Rattle.exec_plan.specs.declared.plan.Mscr.{Mscr as Channels}
 use Rattle.exec_plan.specs.declared.plan.Stage.{Stage}
 use Rattle.exec_plan.specs.declared.plan.Stage.TheVariants.{Mscr}
+use Rattle.exec_plan.specs.ObjectFree.{IsStageFree}
 use Rattle.exec_plan.specs.Typing.{StageTyped}
 use Rattle.exec_plan.specs.Wellformed.{IsStageOk}
 use Rattle.shuffle_parts.specs.declared.out.MapOut.{MapOut}
@@ -37,6 +38,8 @@ pub record CanRunStage (w : World) (takes : ℕ → Value → Type 0) (k : ℕ) 
   pub sources : ℕ
   pub before : List Stage
   pub ok : IsStageOk sources before s
+  -- and it needs no object
+  pub free : IsStageFree s
 
 -- the outs of the map tasks of the stage are right, over some lists that it finds, and the stage
 -- can be run over them

@@ -12,7 +12,7 @@ use Rattle.exec_graph.specs.Calls.{emitted, is_own}
 use Rattle.exec_graph.specs.Forests.{Label, Forest, Bare, Grow}
 use Rattle.exec_plan.specs.declared.plan.Grouping.{Grouping}
 use Rattle.exec_plan.specs.declared.plan.Stage.{Stage}
-use Rattle.exec_plan.specs.declared.plan.Stage.TheVariants.{Mscr, Flatten}
+use Rattle.exec_plan.specs.declared.plan.Stage.TheVariants.{Mscr, Flatten, Operate}
 use Rattle.task_lists.specs.Runs.{visits, visits_of, step_lists, counts_of, labels_in, labels_of, own_count}
 use Rattle.task_lists.specs.Tasks.{Split, Lists, Task, map_task, reduce_task, map_phase, reduce_phase, groupings}
 use Rattle.task_lists.specs.Lists.{result_lists, with_lists}
@@ -129,6 +129,7 @@ module _ {Y : Type 0} (a : Says ℕ) (b : Says Y) (counts : Counts a b) (w : Wor
   stage_counted : (t : Lists) (s : Stage)
       → sum (stage_tasks a w n t s) ≡ length (stage_tasks b w n t s)
   stage_counted t (Flatten takes) = refl
+  stage_counted t (Operate takes o l d) = refl
   stage_counted t (Mscr s) =
       omega (
         arith,

@@ -1,6 +1,7 @@
 pub mod Elements
 pub mod Trapping
 pub mod Says
+pub mod Free
 pub mod Maps
 pub mod Reduces
 pub mod Results

@@ -19,10 +19,11 @@ use Rattle.exec_plan.specs.declared.plan.PlanPlace.{PlanPlace}
 use Rattle.exec_plan.specs.declared.plan.Take.{Take}
 use Rattle.exec_plan.specs.declared.plan.InChannel.{InChannel}
 use Rattle.exec_plan.specs.declared.plan.Mscr.{Mscr}
-use Rattle.exec_plan.specs.Channels.{Fed, fed, channel_out, taken}
+use Rattle.exec_plan.specs.Channels.{Fed, channel_out, taken}
 use Rattle.exec_plan.specs.Meaning.{total_of, in_sum}
 use Rattle.task_lists.specs.Runs.{output_at, visits_of, gives}
 use Rattle.task_lists.specs.Tasks.{Split, Lists, task_gives, no_task, map_task, map_task_of, given_to, gathered, map_phase}
+use Rattle.task_lists.proofs.Free.{alone}
 use Rattle.task_lists.proofs.Elements.{Agrees, each_step, none_agrees, visits_of_total, output_agrees}
 use Rattle.task_lists.proofs.Says.{Each, each_says, each_parts}
 
@@ -112,19 +113,19 @@ module _ (w : World) (n : Split) (some : 0 < n.shards) (t : Lists) where
   module _ (m : PlanPlace → Collection) (agree : (c : PlanPlace) → Agrees (t c) (m c)) where
     pub maps_alike : {Y : Type 0} (q : Each Y) (s : Mscr)
         → Alike (map_phase (each_says w q).maps n t s)
-        (flat_map (in_sum w (each_parts q)) (map (fed m) s.inputs))
+        (flat_map (in_sum w (each_parts q)) (map (alone m) s.inputs))
     maps_alike q s u =
         alike_each (λ c. joined (λ i. (each_says w q).maps (map_task n t c i)) n.shards)
         (λ c. total_of w (each_step q.steps) (m c.reads) c.does)
         (λ c v. ap (sum_by v) (says_whole q c)
         ∙ visits_of_total w q.steps c.does (t c.reads) (m c.reads) (agree c.reads).same v) s.inputs
         u
-        ∙ ap (sum_by u) (sym (flat_map-map (in_sum w (each_parts q)) (fed m) s.inputs))
+        ∙ ap (sum_by u) (sym (flat_map-map (in_sum w (each_parts q)) (alone m) s.inputs))
 
     channel_agrees : (o : Option InChannel) (j : ℕ)
         → ((c : InChannel) → o ≡ Some c → total_of w (each_step (trapped w)) (m c.reads) c.does
         ≡ [])
-        → Agrees (whole_out w t o j) (channel_out w (option_map (fed m) o) j)
+        → Agrees (whole_out w t o j) (channel_out w (option_map (alone m) o) j)
     channel_agrees None j calm = none_agrees
     channel_agrees (Some c) j calm =
         output_agrees w c.does j (t c.reads) (m c.reads) (agree c.reads) (calm c refl)
@@ -134,25 +135,25 @@ module _ (w : World) (n : Split) (some : 0 < n.shards) (t : Lists) where
         (calm : flat_map (λ c. total_of w (each_step (trapped w)) (m c.reads) c.does) ins ≡ [])
       where
         pub taken_agrees : (k : Take)
-            → Agrees (whole_out w t (slice_get ins k.channel) k.out) (taken w (map (fed m) ins) k)
+            → Agrees (whole_out w t (slice_get ins k.channel) k.out) (taken w (map (alone m) ins) k)
         taken_agrees k =
             subst (λ (o : Option Fed).
             Agrees (whole_out w t (slice_get ins k.channel) k.out) (channel_out w o k.out))
-            (sym (slice_get-map (fed m) ins k.channel))
+            (sym (slice_get-map (alone m) ins k.channel))
             (channel_agrees (slice_get ins k.channel) k.out
             (λ c e. flat_map-at (λ d. total_of w (each_step (trapped w)) (m d.reads) d.does) ins
             k.channel
             c calm e))
 
         taken_calm : (takes : List Take)
-            → flat_map (λ (c : Collection). c.traps) (map (taken w (map (fed m) ins)) takes) ≡ []
+            → flat_map (λ (c : Collection). c.traps) (map (taken w (map (alone m) ins)) takes) ≡ []
         taken_calm [] = refl
         taken_calm (k ∷ ks) = λ i. (taken_agrees k).calm i ++ taken_calm ks i
 
         pub gathered_agrees : (takes : List Take)
-            → Agrees (gathered w n t ins takes) (together (map (taken w (map (fed m) ins)) takes))
+            → Agrees (gathered w n t ins takes) (together (map (taken w (map (alone m) ins)) takes))
         gathered_agrees takes =
-            let given : Take → Collection = taken w (map (fed m) ins) in
+            let given : Take → Collection = taken w (map (alone m) ins) in
             let bags : List Value = flat_map (λ (c : Collection). c.bag) (map given takes) in
             record {
               same = λ u. gathered_whole ins takes u
@@ -167,7 +168,7 @@ module _ (w : World) (n : Split) (some : 0 < n.shards) (t : Lists) where
 
         -- what passes through alone
         pub passed_agrees : (k : Take)
-            → Agrees (gathered w n t ins (k ∷ [])) (taken w (map (fed m) ins) k)
+            → Agrees (gathered w n t ins (k ∷ [])) (taken w (map (alone m) ins) k)
         passed_agrees k = record {
           same = λ u. gathered_whole ins (k ∷ []) u
               ∙ ap (sum_by u) (append-nil (whole_out w t (slice_get ins k.channel) k.out))

@@ -25,11 +25,12 @@ use Rattle.exec_plan.specs.declared.plan.Grouping.{Grouping}
 use Rattle.exec_plan.specs.declared.plan.OutChannel.{OutChannel}
 use Rattle.exec_plan.specs.declared.plan.OutChannel.TheVariants.{Group, Pass}
 use Rattle.exec_plan.specs.declared.plan.Mscr.{Mscr}
-use Rattle.exec_plan.specs.Channels.{fed, taken, groups, output_of}
+use Rattle.exec_plan.specs.Channels.{taken, groups, output_of}
 use Rattle.exec_plan.specs.Meaning.{total_of, out_sum}
 use Rattle.task_lists.specs.Runs.{output_at, visits_of}
 use Rattle.task_lists.specs.Tasks.{Split, Lists, gathered, reduce_task, groupings, reduce_phase}
 use Rattle.task_lists.specs.Lists.{reduced}
+use Rattle.task_lists.proofs.Free.{alone}
 use Rattle.task_lists.proofs.Elements.{Agrees, each_step, visits_of_total, output_agrees}
 use Rattle.task_lists.proofs.Says.{Each, each_says, each_parts}
 use Rattle.task_lists.proofs.Maps.{gathered_agrees}
@@ -76,12 +77,12 @@ module _ (w : World) (n : Split) (some_shards : 0 < n.shards) (some : 0 < n.part
     gathers g = gathered w n t s.inputs g.takes
 
     abbrev group_of : Grouping → Collection
-    group_of g = groups w (map (fed m) s.inputs) g
+    group_of g = groups w (map (alone m) s.inputs) g
 
     -- the groups of the list are those of the collection
     pub groups_same : (g : Grouping) → grouped (gathers g) ≡ (group_of g).bag
     groups_same g =
-        let given : Collection = together (map (taken w (map (fed m) s.inputs)) g.takes) in
+        let given : Collection = together (map (taken w (map (alone m) s.inputs)) g.takes) in
         let agrees = gathered_agrees w n some_shards t m agree s.inputs calm g.takes in
         sym (grouped-bag_of (gathers g))
         ∙ ap grouped (bag_alike (gathers g) given.bag agrees.same)
@@ -125,7 +126,7 @@ module _ (w : World) (n : Split) (some_shards : 0 < n.shards) (some : 0 < n.part
     channel_alike : {Y : Type 0} (q : Each Y) (o : OutChannel)
         → Alike (by_channel (λ g. joined (λ p. (each_says w q).reduces g
         (reduce_task w n t s.inputs g p)) n.partitions) o)
-        (out_sum w (each_parts q) (map (fed m) s.inputs) o)
+        (out_sum w (each_parts q) (map (alone m) s.inputs) o)
     channel_alike q (Pass k number) = λ u. refl
     channel_alike q (Group g) =
         let gs : List Value = (group_of g).bag in
@@ -144,10 +145,10 @@ module _ (w : World) (n : Split) (some_shards : 0 < n.shards) (some : 0 < n.part
 
     pub reduces_alike : {Y : Type 0} (q : Each Y)
         → Alike (reduce_phase (each_says w q).reduces w n t s)
-        (flat_map (out_sum w (each_parts q) (map (fed m) s.inputs)) s.outputs)
+        (flat_map (out_sum w (each_parts q) (map (alone m) s.inputs)) s.outputs)
     reduces_alike q u =
         let says = λ (g : Grouping). joined (λ p. (each_says w q).reduces g
         (reduce_task w n t s.inputs g p)) n.partitions in
         ap (sum_by u) (groupings_each says s.outputs)
-        ∙ alike_each (by_channel says) (out_sum w (each_parts q) (map (fed m) s.inputs))
+        ∙ alike_each (by_channel says) (out_sum w (each_parts q) (map (alone m) s.inputs))
         (channel_alike q) s.outputs u

@@ -1,5 +1,5 @@
 -- The results of a stage, where the lists agree with the collections and no task traps.
-use Rattle.std.proofs.Common.{◌≡◌, ◌<◌, ℕ, zero, suc, true, false, cond, List, [], ◌∷◌, ◌++◌, map, refl, sym, ap, ◌∙◌}
+use Rattle.std.proofs.Common.{◌≡◌, ◌<◌, ℕ, zero, suc, true, false, cond, List, [], ◌∷◌, ◌++◌, map, refl, sym, ap, ◌∙◌, subst}
 use Rattle.std.specs.Prelude.{◌==◌}
 use Rattle.std.specs.List.{sum_by, flat_map, slice_get}
 use Rattle.std.proofs.lemmas.List.Folds.{flat_map-map}
@@ -20,13 +20,15 @@ use Rattle.exec_plan.specs.declared.plan.Grouping.{Grouping}
 use Rattle.exec_plan.specs.declared.plan.OutChannel.{OutChannel}
 use Rattle.exec_plan.specs.declared.plan.OutChannel.TheVariants.{Group, Pass}
 use Rattle.exec_plan.specs.declared.plan.Stage.{Stage}
-use Rattle.exec_plan.specs.declared.plan.Stage.TheVariants.{Mscr, Flatten}
+use Rattle.exec_plan.specs.declared.plan.Stage.TheVariants.{Mscr, Flatten, Operate}
 use Rattle.exec_plan.specs.declared.plan.Mscr.{Mscr as Channels}
-use Rattle.exec_plan.specs.Channels.{fed, given, groups, numbers, output_of}
-use Rattle.exec_plan.specs.Meaning.{total_of, in_sum, out_sum, stage_sum, results, with_results}
+use Rattle.exec_plan.specs.Channels.{Fed, given, groups, numbers, output_of}
+use Rattle.exec_plan.specs.Meaning.{channels_sum, total_of, in_sum, out_sum, stage_sum, results, with_results}
+use Rattle.exec_plan.specs.ObjectFree.{IsStageFree}
 use Rattle.task_lists.specs.Tasks.{Split, Lists, map_phase, reduce_phase}
 use Rattle.task_lists.specs.Lists.{reduced, given_lists, result_lists, with_lists}
 use Rattle.task_lists.specs.Plans.{stage_tasks}
+use Rattle.task_lists.proofs.Free.{alone, fed_alone}
 use Rattle.task_lists.proofs.Elements.{Agrees, each_step, none_agrees}
 use Rattle.task_lists.proofs.Says.{Each, each_says, each_parts, each_trap}
 use Rattle.task_lists.proofs.Maps.{maps_alike, passed_agrees}
@@ -66,16 +68,16 @@ module _ (w : World) (n : Split) (some_shards : 0 < n.shards) (some : 0 < n.part
       → traps_in s.inputs ≡ []
   inputs_calm s none =
       let sums = in_sum w (each_parts (each_trap w)) in
-      sym (flat_map-map sums (fed m) s.inputs)
+      sym (flat_map-map sums (alone m) s.inputs)
       ∙ alike_empty (map_phase (each_says w (each_trap w)).maps n t s)
-      (flat_map sums (map (fed m) s.inputs)) (maps_alike w n some_shards t m agree (each_trap w) s)
-      none
+      (flat_map sums (map (alone m) s.inputs))
+      (maps_alike w n some_shards t m agree (each_trap w) s) none
 
   module _ (s : Channels) (calm : traps_in s.inputs ≡ []) where
     numbered_agree : (g : Grouping)
-        → total_of w (each_step (trapped w)) (groups w (map (fed m) s.inputs) g) g.does ≡ []
+        → total_of w (each_step (trapped w)) (groups w (map (alone m) s.inputs) g) g.does ≡ []
         → (js : List ℕ) → AgreeAll (map (reduced w n t s.inputs g) js)
-        (map (output_of w (groups w (map (fed m) s.inputs) g) g.does) js)
+        (map (output_of w (groups w (map (alone m) s.inputs) g) g.does) js)
     numbered_agree g none [] = tt
     numbered_agree g none (j ∷ js) = (
       reduced_agrees w n some_shards some t m agree s calm g j none,
@@ -83,26 +85,26 @@ module _ (w : World) (n : Split) (some_shards : 0 < n.shards) (some : 0 < n.part
     )
 
     channel_agree : (o : OutChannel)
-        → out_sum w (each_parts (each_trap w)) (map (fed m) s.inputs) o ≡ []
-        → AgreeAll (given_lists w n t s.inputs o) (given w (map (fed m) s.inputs) o)
+        → out_sum w (each_parts (each_trap w)) (map (alone m) s.inputs) o ≡ []
+        → AgreeAll (given_lists w n t s.inputs o) (given w (map (alone m) s.inputs) o)
     channel_agree (Pass k number) none =
         (passed_agrees w n some_shards t m agree s.inputs calm k, tt)
     channel_agree (Group g) none =
-        let made = groups w (map (fed m) s.inputs) g in
+        let made = groups w (map (alone m) s.inputs) g in
         numbered_agree g
         (append_empty (flat_map (λ x. []) made.bag)
         (total_of w (each_step (trapped w)) made g.does) none).1 (numbers g.does)
 
     channels_agree : (outs : List OutChannel)
-        → flat_map (out_sum w (each_parts (each_trap w)) (map (fed m) s.inputs)) outs ≡ []
+        → flat_map (out_sum w (each_parts (each_trap w)) (map (alone m) s.inputs)) outs ≡ []
         → AgreeAll (flat_map (given_lists w n t s.inputs) outs)
-        (flat_map (given w (map (fed m) s.inputs)) outs)
+        (flat_map (given w (map (alone m) s.inputs)) outs)
     channels_agree [] none = tt
     channels_agree (o ∷ os) none =
-        let sums = out_sum w (each_parts (each_trap w)) (map (fed m) s.inputs) in
+        let sums = out_sum w (each_parts (each_trap w)) (map (alone m) s.inputs) in
         let each = append_empty (sums o) (flat_map sums os) none in
         agree_append (given_lists w n t s.inputs o) (flat_map (given_lists w n t s.inputs) os)
-        (given w (map (fed m) s.inputs) o) (flat_map (given w (map (fed m) s.inputs)) os)
+        (given w (map (alone m) s.inputs) o) (flat_map (given w (map (alone m) s.inputs)) os)
         (channel_agree o each.0) (channels_agree os each.1)
 
   -- ---- a Flatten stage
@@ -122,46 +124,54 @@ module _ (w : World) (n : Split) (some_shards : 0 < n.shards) (some : 0 < n.part
         settled = bag_of-twice bags;
       }
 
-  -- ---- any stage
+  -- ---- any stage that needs no object
 
-  pub stage_alike : {Y : Type 0} (q : Each Y) (s : Stage)
+  pub stage_alike : {Y : Type 0} (q : Each Y) (s : Stage) → IsStageFree s
       → stage_tasks (each_says w (each_trap w)) w n t s ≡ []
       → Alike (stage_tasks (each_says w q) w n t s) (stage_sum w (each_parts q) m s)
-  stage_alike q (Flatten takes) none = λ u. refl
-  stage_alike q (Mscr s) none =
+  stage_alike q (Flatten takes) free none = λ u. refl
+  stage_alike q (Operate takes o l a) free none = absurd free
+  stage_alike q (Mscr s) free none =
       let traps = each_says w (each_trap w) in
       let calm = inputs_calm s
       (append_empty (map_phase traps.maps n t s) (reduce_phase traps.reduces w n t s) none).0 in
-      alike_append (map_phase (each_says w q).maps n t s)
-      (flat_map (in_sum w (each_parts q)) (map (fed m) s.inputs))
+      subst (λ (cs : List Fed). Alike (stage_tasks (each_says w q) w n t (Mscr s))
+      (channels_sum w (each_parts q) cs s.outputs)) (sym (fed_alone m s.inputs free))
+      (alike_append (map_phase (each_says w q).maps n t s)
+      (flat_map (in_sum w (each_parts q)) (map (alone m) s.inputs))
       (reduce_phase (each_says w q).reduces w n t s)
-      (flat_map (out_sum w (each_parts q) (map (fed m) s.inputs)) s.outputs)
+      (flat_map (out_sum w (each_parts q) (map (alone m) s.inputs)) s.outputs)
       (maps_alike w n some_shards t m agree q s)
-      (reduces_alike w n some_shards some t m agree s calm q)
+      (reduces_alike w n some_shards some t m agree s calm q))
 
-  pub stage_results : (s : Stage) → stage_tasks (each_says w (each_trap w)) w n t s ≡ []
+  pub stage_results : (s : Stage) → IsStageFree s
+      → stage_tasks (each_says w (each_trap w)) w n t s ≡ []
       → AgreeAll (result_lists w n t s) (results w m s)
-  stage_results (Flatten takes) none = (flat_agrees takes, tt)
-  stage_results (Mscr s) none =
+  stage_results (Flatten takes) free none = (flat_agrees takes, tt)
+  stage_results (Operate takes o l a) free none = absurd free
+  stage_results (Mscr s) free none =
       let traps = each_says w (each_trap w) in
       let each =
       append_empty (map_phase traps.maps n t s) (reduce_phase traps.reduces w n t s) none in
       let calm = inputs_calm s each.0 in
-      channels_agree s calm s.outputs
+      subst (λ (cs : List Fed). AgreeAll (result_lists w n t (Mscr s))
+      (flat_map (given w cs) s.outputs)) (sym (fed_alone m s.inputs free))
+      (channels_agree s calm s.outputs
       (alike_empty (reduce_phase traps.reduces w n t s)
-      (flat_map (out_sum w (each_parts (each_trap w)) (map (fed m) s.inputs)) s.outputs)
-      (reduces_alike w n some_shards some t m agree s calm (each_trap w)) each.1)
+      (flat_map (out_sum w (each_parts (each_trap w)) (map (alone m) s.inputs)) s.outputs)
+      (reduces_alike w n some_shards some t m agree s calm (each_trap w)) each.1))
 
   -- the table with the results
-  pub table_agrees : (k : ℕ) (s : Stage) → stage_tasks (each_says w (each_trap w)) w n t s ≡ []
-      → (c : PlanPlace)
+  pub table_agrees : (k : ℕ) (s : Stage) → IsStageFree s
+      → stage_tasks (each_says w (each_trap w)) w n t s ≡ [] → (c : PlanPlace)
       → Agrees (with_lists k (result_lists w n t s) t c) (with_results k (results w m s) m c)
-  table_agrees k s none (at.Source r) = agree (at.Source r)
-  table_agrees k s none (at.Result stage number) =
+  table_agrees k s free none (at.Source r) = agree (at.Source r)
+  table_agrees k s free none (at.Result stage number) =
       elim (stage == k) as
       (λ b. Agrees (cond b (or_none (slice_get (result_lists w n t s) number))
       (t (at.Result stage number)))
       (cond b (or_nothing (slice_get (results w m s) number)) (m (at.Result stage number)))) [
-        | true ↦ agree_at (result_lists w n t s) (results w m s) number (stage_results s none)
+        | true ↦ agree_at (result_lists w n t s) (results w m s) number
+            (stage_results s free none)
         | false ↦ agree (at.Result stage number)
       ]

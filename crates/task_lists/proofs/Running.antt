@@ -1,20 +1,21 @@
 -- What the stages of a well-formed plan add up to over the table that each finds, and over the
--- whole
--- table.
-use Rattle.std.proofs.Common.{◌≡◌, ◌<◌, ◌-◌, ℕ, zero, suc, false, eqb, List, [], ◌∷◌, ◌++◌, length, length-append, map, None, refl, sym, ap, arith, ⊎_elim}
+-- whole table.
+use Rattle.std.proofs.Common.{◌≡◌, ◌<◌, ◌-◌, ℕ, zero, suc, false, eqb, List, [], ◌∷◌, ◌++◌, length, length-append, map, Option, None, Some, refl, sym, ap, arith, ⊎_elim}
+use Rattle.std.specs.Prelude.{option_map}
 use Rattle.std.specs.List.{AllByRecursion, flat_map, slice_get}
 use Rattle.std.proofs.lemmas.Bool.{cases_lt}
 use Rattle.std.proofs.lemmas.Option.{slice_get_past}
 use Rattle.flume_collection.specs.Collection.{Collection, together}
+use Rattle.exec_graph.specs.Objects.{act_result}
 use Rattle.exec_graph.specs.World.{World}
 use Rattle.exec_plan.specs.declared.plan.PlanPlace.{PlanPlace}
 use Rattle.exec_plan.specs.declared.plan.PlanPlace.TheVariants as at
 use Rattle.exec_plan.specs.declared.plan.InChannel.{InChannel}
 use Rattle.exec_plan.specs.declared.plan.Stage.{Stage}
-use Rattle.exec_plan.specs.declared.plan.Stage.TheVariants.{Mscr, Flatten}
+use Rattle.exec_plan.specs.declared.plan.Stage.TheVariants.{Mscr, Flatten, Operate}
 use Rattle.exec_plan.specs.declared.plan.Plan.{Plan}
 use Rattle.exec_plan.specs.Channels.{fed}
-use Rattle.exec_plan.specs.Meaning.{Parts, channels_sum, stage_sum, results, with_results, run, sources, plan_collection}
+use Rattle.exec_plan.specs.Meaning.{Parts, channels_sum, in_reads, stage_sum, with_object, results, with_results, run, sources, plan_collection}
 use Rattle.exec_plan.specs.Wellformed.{IsMade, IsStageOk, AreStages, IsPlanOk, results_at}
 use Rattle.exec_plan.proofs.Running.{IsBelow, run_below}
 
@@ -48,11 +49,20 @@ made_below n before k (at.Result stage number) e made =
 
 module _ (w : World) (n : ℕ) (before : List Stage) (t u : PlanPlace → Collection)
     (same : (c : PlanPlace) → IsMade n before c → t c ≡ u c) where
-  feds_same : (cs : List InChannel) → AllByRecursion (λ c. IsMade n before c.reads) cs
+  object_same : (o : Option PlanPlace) → AllByRecursion (IsMade n before) (with_object o)
+      → option_map t o ≡ option_map u o
+  object_same None ok = refl
+  object_same (Some c) ok = ap (λ (v : Collection). Some v) (same c ok.0)
+
+  feds_same : (cs : List InChannel)
+      → AllByRecursion (λ c. AllByRecursion (IsMade n before) (in_reads c)) cs
       → map (fed t) cs ≡ map (fed u) cs
   feds_same [] ok = refl
-  feds_same (c ∷ cs) ok = λ i. record { value = same c.reads ok.0 i; does = c.does }
-      ∷ feds_same cs ok.1 i
+  feds_same (c ∷ cs) ok = λ i. record {
+    value = same c.reads ok.0.0 i;
+    beside = object_same c.beside ok.0.1 i;
+    does = c.does;
+  } ∷ feds_same cs ok.1 i
 
   takes_same : (takes : List PlanPlace) → AllByRecursion (IsMade n before) takes
       → map t takes ≡ map u takes
@@ -63,6 +73,8 @@ module _ (w : World) (n : ℕ) (before : List Stage) (t u : PlanPlace → Collec
       → stage_sum w p t s ≡ stage_sum w p u s
   stage_same p (Mscr m) ok = ap (λ cs. channels_sum w p cs m.outputs) (feds_same m.inputs ok.reads)
   stage_same p (Flatten takes) ok = ap (λ cs. p.flat (together cs)) (takes_same takes ok)
+  stage_same p (Operate takes o l a) ok =
+      ap (λ cs. p.groups o l (act_result w o a cs)) (takes_same takes ok)
 
 -- ---- all stages
 

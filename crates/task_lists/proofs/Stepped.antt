@@ -1,5 +1,5 @@
 -- The traps of a stage: those of its own calls, and those behind what it reads.
-use Rattle.std.proofs.Common.{◌≡◌, List, [], ◌∷◌, ◌++◌, Option, Some, None, refl, subst}
+use Rattle.std.proofs.Common.{◌≡◌, List, [], ◌∷◌, ◌++◌, map, Option, Some, None, refl, subst}
 use Rattle.std.specs.List.{flat_map, Contains}
 use Rattle.std.proofs.lemmas.List.Elements.{Contains-append_right}
 use Rattle.flume_collection.specs.declared.trap.Trap.{Trap}
@@ -13,10 +13,13 @@ use Rattle.exec_graph.specs.Calls.{trapped}
 use Rattle.exec_graph.specs.Forests.{Label, Forest, Bare, Grow}
 use Rattle.exec_graph.specs.Meaning.{through, total, step_traps}
 use Rattle.exec_plan.specs.declared.plan.Grouping.{Grouping}
+use Rattle.exec_plan.specs.declared.plan.InChannel.{InChannel}
+use Rattle.exec_plan.specs.declared.plan.PlanPlace.{PlanPlace}
 use Rattle.exec_plan.specs.declared.plan.OutChannel.{OutChannel}
 use Rattle.exec_plan.specs.declared.plan.OutChannel.TheVariants.{Group, Pass}
 use Rattle.exec_plan.specs.Channels.{Fed, groups}
 use Rattle.exec_plan.specs.Meaning.{total_of, in_sum, out_sum, trap_parts}
+use Rattle.task_lists.proofs.Free.{alone}
 use Rattle.task_lists.proofs.Elements.{each_step}
 use Rattle.task_lists.proofs.Says.{each_parts, each_trap}
 use Rattle.task_lists.proofs.Trapping.{contains_both, contains_each}
@@ -50,12 +53,16 @@ module _ (w : World) where
   total_of_has e v None c = c
   total_of_has e v (Some f) c = total_has e v f c
 
-  pub inputs_have : (e : Trap) (cs : List Fed)
-      → Contains (flat_map (in_sum w (each_parts (each_trap w))) cs) e
-      → Contains (flat_map (in_sum w (trap_parts w)) cs) e
-  inputs_have e cs c =
-      contains_each e (in_sum w (each_parts (each_trap w))) (in_sum w (trap_parts w))
-      (λ x. total_of_has e x.value x.does) cs c
+  pub inputs_have : (e : Trap) (m : PlanPlace → Collection) (ins : List InChannel)
+      → Contains (flat_map (in_sum w (each_parts (each_trap w))) (map (alone m) ins)) e
+      → Contains (flat_map (in_sum w (trap_parts w)) (map (alone m) ins)) e
+  inputs_have e m [] c = c
+  inputs_have e m (x ∷ xs) c =
+      contains_both e (in_sum w (each_parts (each_trap w)) (alone m x))
+      (flat_map (in_sum w (each_parts (each_trap w))) (map (alone m) xs))
+      (in_sum w (trap_parts w) (alone m x))
+      (flat_map (in_sum w (trap_parts w)) (map (alone m) xs))
+      (total_of_has e (m x.reads) x.does) (inputs_have e m xs) c
 
   channel_has : (e : Trap) (cs : List Fed) (o : OutChannel)
       → Contains (out_sum w (each_parts (each_trap w)) cs o) e
@@ -93,15 +100,18 @@ module _ (w : World) where
   total_of_calm v None h none = refl
   total_of_calm v (Some f) h none = total_calm v f h none
 
-  pub inputs_quiet : (cs : List Fed) → flat_map (λ (c : Fed). c.value.traps) cs ≡ []
-      → flat_map (in_sum w (each_parts (each_trap w))) cs ≡ []
-      → flat_map (in_sum w (trap_parts w)) cs ≡ []
-  inputs_quiet [] h none = refl
-  inputs_quiet (c ∷ cs) h none =
-      let behind = append_empty c.value.traps (flat_map (λ (d : Fed). d.value.traps) cs) h in
-      let here = append_empty (total_of w calls c.value c.does)
-      (flat_map (in_sum w (each_parts (each_trap w))) cs) none in
-      λ i. total_of_calm c.value c.does behind.0 here.0 i ++ inputs_quiet cs behind.1 here.1 i
+  pub inputs_quiet : (m : PlanPlace → Collection) (ins : List InChannel)
+      → flat_map (λ (c : InChannel). (m c.reads).traps) ins ≡ []
+      → flat_map (in_sum w (each_parts (each_trap w))) (map (alone m) ins) ≡ []
+      → flat_map (in_sum w (trap_parts w)) (map (alone m) ins) ≡ []
+  inputs_quiet m [] h none = refl
+  inputs_quiet m (c ∷ cs) h none =
+      let behind = append_empty (m c.reads).traps
+      (flat_map (λ (d : InChannel). (m d.reads).traps) cs) h in
+      let here = append_empty (total_of w calls (m c.reads) c.does)
+      (flat_map (in_sum w (each_parts (each_trap w))) (map (alone m) cs)) none in
+      λ i. total_of_calm (m c.reads) c.does behind.0 here.0 i
+      ++ inputs_quiet m cs behind.1 here.1 i
 
   pub outputs_quiet : (cs : List Fed) (outs : List OutChannel)
       → ((g : Grouping) → (groups w cs g).traps ≡ [])

@@ -26,10 +26,11 @@ use Rattle.exec_plan.specs.declared.plan.Take.{Take}
 use Rattle.exec_plan.specs.declared.plan.InChannel.{InChannel}
 use Rattle.exec_plan.specs.declared.plan.Grouping.{Grouping}
 use Rattle.exec_plan.specs.Wellformed.{Exists, outs_at, outs as outs_count}
-use Rattle.exec_plan.specs.Typing.{ChannelTyped, InsTyped, take_type, types_from, GroupTyped}
+use Rattle.exec_plan.specs.Typing.{ChannelTyped, InTyped, InsTyped, take_type, types_from, GroupTyped}
 use Rattle.task_lists.specs.Runs.{out_at, gives}
 use Rattle.task_lists.specs.Tasks.{Split, Lists, task_gives, no_task, map_task, map_task_of, given_to, gathered, reduce_task}
 use Rattle.task_lists.specs.Lists.{reduced}
+use Rattle.task_lists.proofs.Free.{AreFree}
 use Rattle.task_lists.specs.Typing.{AreListsTyped, IsTaskTyped}
 
 -- ---- lists of a type
@@ -106,25 +107,30 @@ module _ (s : Signatures) (w : World) (world : IsWorldTyped s w) where
   -- ---- the map tasks of a stage
 
   module _ (types : PlanPlace → Ty) (n : Split) (t : Lists) (lists : AreListsTyped types t)
-      (ins : List InChannel) (outs : Place → Ty) (typed : InsTyped s types outs 0 ins) where
-    ins_at : (cs : List InChannel) (k m : ℕ) (c : InChannel) → InsTyped s types outs k cs
-        → slice_get cs m ≡ Some c → ChannelTyped s outs (k + m) (types c.reads) c.does
-    ins_at [] k m c a e = cc
-    ins_at (d ∷ cs) k zero c a e =
+      (ins : List InChannel) (outs : Place → Ty) (typed : InsTyped s types outs 0 ins)
+      (free : AreFree ins) where
+    ins_at : (cs : List InChannel) (k m : ℕ) (c : InChannel) → AreFree cs
+        → InsTyped s types outs k cs → slice_get cs m ≡ Some c
+        → ChannelTyped s outs (k + m) (types c.reads) c.does
+    ins_at [] k m c f a e = cc
+    ins_at (d ∷ cs) k zero c f a e =
         let same : d ≡ c = cc in
         let here : k + 0 ≡ k = omega arith in
+        let by : ChannelTyped s outs k (types d.reads) d.does =
+        subst (λ (o : Option PlanPlace). InTyped s types outs k (types d.reads) o d.does) f.0 a.0 in
         subst (λ (x : InChannel). ChannelTyped s outs (k + 0) (types x.reads) x.does) same
-        (subst (λ l. ChannelTyped s outs l (types d.reads) d.does) (sym here) a.0)
-    ins_at (d ∷ cs) k (suc m) c a e =
+        (subst (λ l. ChannelTyped s outs l (types d.reads) d.does) (sym here) by)
+    ins_at (d ∷ cs) k (suc m) c f a e =
         let there : suc k + m ≡ k + suc m = omega arith in
         subst (λ l. ChannelTyped s outs l (types c.reads) c.does) there
-        (ins_at cs (suc k) m c a.1 e)
+        (ins_at cs (suc k) m c f.1 a.1 e)
 
     channel_at : (m : ℕ) (c : InChannel) → slice_get ins m ≡ Some c
         → ChannelTyped s outs m (types c.reads) c.does
     channel_at m c e =
         let here : 0 + m ≡ m = omega arith in
-        subst (λ l. ChannelTyped s outs l (types c.reads) c.does) here (ins_at ins 0 m c typed e)
+        subst (λ l. ChannelTyped s outs l (types c.reads) c.does) here
+        (ins_at ins 0 m c free typed e)
 
     elements_typed : (c : InChannel) (i : ℕ)
         → AllByRecursion (Has (types c.reads)) (shard n.shards i (t c.reads))

@@ -19,14 +19,16 @@ use Rattle.exec_plan.specs.declared.plan.Grouping.{Grouping}
 use Rattle.exec_plan.specs.declared.plan.OutChannel.{OutChannel}
 use Rattle.exec_plan.specs.declared.plan.OutChannel.TheVariants.{Group, Pass}
 use Rattle.exec_plan.specs.declared.plan.Stage.{Stage}
-use Rattle.exec_plan.specs.declared.plan.Stage.TheVariants.{Mscr, Flatten}
+use Rattle.exec_plan.specs.declared.plan.Stage.TheVariants.{Mscr, Flatten, Operate}
 use Rattle.exec_plan.specs.Channels.{kept_out, outs_of, numbers}
+use Rattle.exec_plan.specs.ObjectFree.{IsStageFree}
 use Rattle.exec_plan.specs.Typing.{InsTyped, take_type, GroupTyped, OutTyped, StageTyped}
 use Rattle.exec_plan.specs.Wellformed.{AreOuts, Exists, IsNumbered, IsStageOk, is_pass, outs, width}
 use Rattle.exec_plan.proofs.Meeting.{map-length, outs_counted}
 use Rattle.task_lists.specs.Tasks.{Split, Lists, gathered}
 use Rattle.task_lists.specs.Lists.{reduced, given_lists, result_lists, source_lists, with_lists}
 use Rattle.task_lists.specs.Typing.{AreListsTyped}
+use Rattle.task_lists.proofs.Free.{AreFree}
 use Rattle.task_lists.proofs.Typed.{IsOutput, gathered_typed, reduced_typed}
 
 -- ---- the numbers of a forest's outputs
@@ -143,7 +145,8 @@ numbers_count (Some f) = outs_counted f
 
 module _ (s : Signatures) (w : World) (world : IsWorldTyped s w) (types : PlanPlace → Ty)
     (n : Split) (t : Lists) (lists : AreListsTyped types t) (k : ℕ) where
-  module _ (ins : List InChannel) (given : Place → Ty) (typed : InsTyped s types given 0 ins) where
+  module _ (ins : List InChannel) (given : Place → Ty) (typed : InsTyped s types given 0 ins)
+      (free : AreFree ins) where
     lists_count : (o : OutChannel) → length (given_lists w n t ins o) ≡ width o
     lists_count (Group g) =
         map-length (reduced w n t ins g) (numbers g.does) ∙ numbers_count g.does
@@ -157,7 +160,7 @@ module _ (s : Signatures) (w : World) (world : IsWorldTyped s w) (types : PlanPl
         let here : AllByRecursion (Has (types (at.Result k m))) (gathered w n t ins (i ∷ [])) =
         subst (λ r. AllByRecursion (Has r) (gathered w n t ins (i ∷ [])))
         (sym fit.0 ∙ ap (λ (j : ℕ). types (at.Result k j)) ok.0.0)
-        (gathered_typed s w world types n t lists ins given typed (take_type given i) (i ∷ [])
+        (gathered_typed s w world types n t lists ins given typed free (take_type given i) (i ∷ [])
         (ok.0.1, tt) (refl, tt)) in
         let next : m + 1 ≡ suc m = omega arith in (
           here,
@@ -186,7 +189,7 @@ module _ (s : Signatures) (w : World) (world : IsWorldTyped s w) (types : PlanPl
             (reduced w n t ins g j)) js
         all_reduced g gt there [] are = tt
         all_reduced g gt there (j ∷ js) are = (
-          reduced_typed s w world types n t lists ins given typed k g j gt there are.0,
+          reduced_typed s w world types n t lists ins given typed free k g j gt there are.0,
           all_reduced g gt there js are.1,
         )
 
@@ -199,17 +202,19 @@ module _ (s : Signatures) (w : World) (world : IsWorldTyped s w) (types : PlanPl
       (subst (λ r. AllByRecursion (Has r) (t c)) fit.0 (each_from (Has (types c)) (t c) (lists c)))
       (takes_typed cs fit.1)
 
-  results_typed : (sources : ℕ) (before : List Stage) (stage : Stage) → StageTyped s types k stage
-      → IsStageOk sources before stage → TypedFrom types k 0 (result_lists w n t stage)
-  results_typed sources before (Mscr m) fit ok =
-      outs_typed m.inputs fit.outs fit.inputs false 0 m.outputs ok.channels fit.outputs
-  results_typed sources before (Flatten takes) fit ok = (takes_typed takes fit, tt)
+  results_typed : (sources : ℕ) (before : List Stage) (stage : Stage) → IsStageFree stage
+      → StageTyped s types k stage → IsStageOk sources before stage
+      → TypedFrom types k 0 (result_lists w n t stage)
+  results_typed sources before (Mscr m) free fit ok =
+      outs_typed m.inputs fit.outs fit.inputs free false 0 m.outputs ok.channels fit.outputs
+  results_typed sources before (Flatten takes) free fit ok = (takes_typed takes fit, tt)
+  results_typed sources before (Operate takes o l a) free fit ok = absurd free
 
-  pub table_typed : (sources : ℕ) (before : List Stage) (stage : Stage)
+  pub table_typed : (sources : ℕ) (before : List Stage) (stage : Stage) → IsStageFree stage
       → StageTyped s types k stage → IsStageOk sources before stage
       → AreListsTyped types (with_lists k (result_lists w n t stage) t)
-  table_typed sources before stage fit ok (at.Source r) = lists (at.Source r)
-  table_typed sources before stage fit ok (at.Result j number) =
+  table_typed sources before stage free fit ok (at.Source r) = lists (at.Source r)
+  table_typed sources before stage free fit ok (at.Result j number) =
       elim (j == k) as
       (λ b. (j == k) ≡ b → AllHave (types (at.Result j number))
       (cond b (or_none (slice_get (result_lists w n t stage) number)) (t (at.Result j number)))) [
@@ -221,7 +226,7 @@ module _ (s : Signatures) (w : World) (world : IsWorldTyped s w) (types : PlanPl
             (subst (λ (l : ℕ). AllByRecursion (Has (types (at.Result l number))) xs) same
             (subst (λ (l : ℕ). AllByRecursion (Has (types (at.Result k l))) xs) here
             (typed_at types k 0 number (result_lists w n t stage)
-            (results_typed sources before stage fit ok))))
+            (results_typed sources before stage free fit ok))))
         | false ↦ λ e. lists (at.Result j number)
       ] refl
 

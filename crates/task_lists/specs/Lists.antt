@@ -3,17 +3,21 @@ use Rattle.std.specs.Prelude.{ℕ, cond, ◌==◌, List, [], ◌∷◌, map}
 use Rattle.std.proofs.Common.{suc}
 use Rattle.std.specs.List.{flat_map, slice_get}
 use Rattle.flume_value.specs.declared.value.Value.{Value}
+use Rattle.flume_value.specs.Bag.{bag_of}
 use Rattle.flume_collection.specs.Calls.{or_none}
+use Rattle.flume_collection.specs.Collection.{Collection}
 use Rattle.shards.specs.Shards.{joined}
+use Rattle.exec_graph.specs.Objects.{act_result}
 use Rattle.exec_graph.specs.World.{World}
 use Rattle.exec_plan.specs.Channels.{numbers}
+use Rattle.exec_plan.specs.declared.plan.PlanPlace.{PlanPlace}
 use Rattle.exec_plan.specs.declared.plan.PlanPlace.TheVariants as at
 use Rattle.exec_plan.specs.declared.plan.InChannel.{InChannel}
 use Rattle.exec_plan.specs.declared.plan.Grouping.{Grouping}
 use Rattle.exec_plan.specs.declared.plan.OutChannel.{OutChannel}
 use Rattle.exec_plan.specs.declared.plan.OutChannel.TheVariants.{Group, Pass}
 use Rattle.exec_plan.specs.declared.plan.Stage.{Stage}
-use Rattle.exec_plan.specs.declared.plan.Stage.TheVariants.{Mscr, Flatten}
+use Rattle.exec_plan.specs.declared.plan.Stage.TheVariants.{Mscr, Flatten, Operate}
 use Rattle.exec_plan.specs.declared.plan.Plan.{Plan}
 use Rattle.task_lists.specs.Tasks.{Split, Lists, task_gives, gathered, reduce_task}
 
@@ -26,10 +30,15 @@ abbrev pub given_lists : World → Split → Lists → List InChannel → OutCha
 given_lists w n t ins (Group g) = map (reduced w n t ins g) (numbers g.does)
 given_lists w n t ins (Pass k number) = gathered w n t ins (k ∷ []) ∷ []
 
+-- the collection of that list, behind which no trap is
+abbrev pub calm : Lists → PlanPlace → Collection
+calm t c = record { bag = bag_of (t c); traps = [] }
+
 -- the results of a stage, in order
 abbrev pub result_lists : World → Split → Lists → Stage → List (List Value)
 result_lists w n t (Mscr s) = flat_map (given_lists w n t s.inputs) s.outputs
 result_lists w n t (Flatten takes) = flat_map t takes ∷ []
+result_lists w n t (Operate takes o l a) = (act_result w o a (map (calm t) takes)).bag ∷ []
 
 -- the lists with those of the results of stage k
 abbrev pub with_lists : ℕ → List (List Value) → Lists → Lists

@@ -6,7 +6,7 @@ use Rattle.flume_collection.specs.declared.trap.Trap.{Trap}
 use Rattle.exec_graph.specs.World.{World}
 use Rattle.exec_plan.specs.declared.plan.Grouping.{Grouping}
 use Rattle.exec_plan.specs.declared.plan.Stage.{Stage}
-use Rattle.exec_plan.specs.declared.plan.Stage.TheVariants.{Mscr, Flatten}
+use Rattle.exec_plan.specs.declared.plan.Stage.TheVariants.{Mscr, Flatten, Operate}
 use Rattle.exec_plan.specs.declared.plan.Plan.{Plan}
 use Rattle.task_lists.specs.Runs.{traps_of, counts_of, labels_of, own_count}
 use Rattle.task_lists.specs.Tasks.{Split, Lists, Task, places, map_phase, reduce_phase}
@@ -17,11 +17,12 @@ pub record Says (Y : Type 0) : Type 0 where
   pub maps : Task → List Y
   pub reduces : Grouping → Task → List Y
 
--- of the tasks of a stage: first those of the map phase, then those of the reduce phase. A Flatten
--- stage has no tasks
+-- of the tasks of a stage: first those of the map phase, then those of the reduce phase. Other
+-- stages have no tasks
 abbrev pub stage_tasks : {Y : Type 0} → Says Y → World → Split → Lists → Stage → List Y
 stage_tasks q w n t (Mscr s) = map_phase q.maps n t s ++ reduce_phase q.reduces w n t s
 stage_tasks q w n t (Flatten takes) = []
+stage_tasks q w n t (Operate takes o l a) = []
 
 -- of the stages from number k on, each over the lists that it finds
 abbrev pub tasks_from : {Y : Type 0} → Says Y → World → Split → ℕ → List Stage → Lists → List Y

@@ -25,6 +25,7 @@ ghost use Rattle.exec_plan.specs.declared.plan.Stage.{Stage};
 ghost use Rattle.exec_plan.specs.declared.plan.Stage.TheVariants as stage;
 ghost use Rattle.exec_plan.specs.declared.plan.Take.{Take};
 ghost use Rattle.exec_plan.specs.Meaning.{plan_collection, emitted_by, plan_traps};
+ghost use Rattle.exec_plan.specs.ObjectFree.{IsPlanObjectFree, IsStageFree};
 ghost use Rattle.exec_plan.specs.Typing.{IsPlanTypedBy, MscrTyped, StageTyped};
 ghost use Rattle.exec_plan.specs.Wellformed.{Exists, IsLiftOk, IsPlanOk, IsStageOk};
 ghost use Rattle.task_lists.specs.Tasks.{Split, Lists, Task, given_to, map_task_of, gathered, reduce_task, map_phase, map_count, map_task_at, reduce_phase, reduce_count, reduce_task_at, grouping_at};
@@ -33,23 +34,25 @@ ghost use Rattle.task_lists.specs.Plans.{first_trap, size_of, stage_tasks, task_
 ghost use Rattle.task_lists.specs.Outs.{answers_of, AreMapOuts, IsCalm, IsFirstTrap};
 ghost use Rattle.task_lists.specs.Typing.{AreGroupable, AreListsTyped, IsTaskTyped};
 
-/// The tasks of a plan, for any number of shards and partitions. That the sizes and the traps are
-/// the plan's needs a well-formed plan, in which no stage reads what is made later.
+/// The tasks of a plan without objects, for any number of shards and partitions. That the sizes and
+/// the traps are the plan's needs a well-formed plan, in which no stage reads what is made later.
 pub fn tasks_law()
     // Where no task traps, the list of each collection has its bag.
     ensures lists { (w : World) (n : Split) (p : Plan) → 0 < n.shards → 0 < n.partitions →
-        first_trap w n p ≡ None → (c : PlanPlace) →
+        IsPlanObjectFree p → first_trap w n p ≡ None → (c : PlanPlace) →
         bag_of (lists w n p c) ≡ (plan_collection w p c).bag }
     // Then the tasks count the members of each script node's bag.
     ensures sizes { (w : World) (n : Split) (p : Plan) → 0 < n.shards → 0 < n.partitions →
-        IsPlanOk p → first_trap w n p ≡ None → (i : ℕ) →
+        IsPlanObjectFree p → IsPlanOk p → first_trap w n p ≡ None → (i : ℕ) →
         size_of w n p i ≡ length (emitted_by w p i) }
     // A task traps exactly where the plan has a trap.
     ensures through { (w : World) (n : Split) (p : Plan) → 0 < n.shards → 0 < n.partitions →
-        IsPlanOk p → (first_trap w n p ≡ None) ↔ (plan_traps w p ≡ []) }
+        IsPlanObjectFree p → IsPlanOk p →
+        (first_trap w n p ≡ None) ↔ (plan_traps w p ≡ []) }
     // The first trap of the tasks is one of the plan's.
     ensures trapped { (w : World) (n : Split) (p : Plan) (e : Trap) → 0 < n.shards →
-        0 < n.partitions → IsPlanOk p → first_trap w n p ≡ Some e → Contains (plan_traps w p) e }
+        0 < n.partitions → IsPlanObjectFree p → IsPlanOk p → first_trap w n p ≡ Some e →
+        Contains (plan_traps w p) e }
 {}
 
 /// What is said of the tasks of a phase, in order of tasks, is said of them by their numbers.
@@ -114,29 +117,33 @@ pub fn outs_law()
         ≡ map (called w (does.Combine c)) (reduce_task w n t s.inputs g p).elements }
 {}
 
-/// In a well-formed plan whose types fit, over a typed world, the lists have their collections'
-/// types. So each task's elements are of a type that its steps take, and what a grouping channel is
-/// given is what it takes.
+/// In a well-formed plan without objects whose types fit, over a typed world, the lists have their
+/// collections' types. So each task's elements are of a type that its steps take, and what a
+/// grouping channel is given is what it takes.
 pub fn typed_law()
     ensures sources { (g : Signatures) (w : World) (p : Plan) (types : PlanPlace → Ty) →
         IsWorldTyped g w → IsPlanTypedBy g p types → AreListsTyped types (source_lists w) }
     // After a stage as well as before it.
     ensures results { (g : Signatures) (w : World) (n : Split) (types : PlanPlace → Ty) (t : Lists)
         (k sources : ℕ) (before : List Stage) (s : Stage) → IsWorldTyped g w →
-        AreListsTyped types t → StageTyped g types k s → IsStageOk sources before s →
+        AreListsTyped types t → IsStageFree s → StageTyped g types k s →
+        IsStageOk sources before s →
         AreListsTyped types (with_lists k (result_lists w n t s) t) }
     ensures maps { (g : Signatures) (w : World) (n : Split) (types : PlanPlace → Ty) (t : Lists)
         (k m i : ℕ) (s : Mscr) → IsWorldTyped g w → AreListsTyped types t →
-        MscrTyped g types k s → IsTaskTyped g (map_task_of n t s.inputs m i) }
+        IsStageFree (stage.Mscr s) → MscrTyped g types k s →
+        IsTaskTyped g (map_task_of n t s.inputs m i) }
     ensures reduces { (g : Signatures) (w : World) (n : Split) (types : PlanPlace → Ty) (t : Lists)
         (k r p : ℕ) (s : Mscr) (c : Grouping) → IsWorldTyped g w → AreListsTyped types t →
-        MscrTyped g types k s → slice_get s.outputs r ≡ Some (Group c) →
+        IsStageFree (stage.Mscr s) → MscrTyped g types k s →
+        slice_get s.outputs r ≡ Some (Group c) →
         AllByRecursion (Exists s.inputs) c.takes →
         IsTaskTyped g (reduce_task w n t s.inputs c p) }
     // A grouping channel is given pairs, and a lifted one pairs that its combiner takes.
     ensures given { (g : Signatures) (w : World) (n : Split) (types : PlanPlace → Ty) (t : Lists)
         (k r m i : ℕ) (s : Mscr) (c : Grouping) → IsWorldTyped g w → AreListsTyped types t →
-        MscrTyped g types k s → slice_get s.outputs r ≡ Some (Group c) →
+        IsStageFree (stage.Mscr s) → MscrTyped g types k s →
+        slice_get s.outputs r ≡ Some (Group c) →
         AllByRecursion (Exists s.inputs) c.takes → IsLiftOk c.lifted c.does →
         AreGroupable c.lifted (given_to w (map_task_of n t s.inputs m i) m c.takes) }
 {}

@@ -39,11 +39,11 @@ sums =
 
 -- the first source, without steps
 abbrev pub plain_input : InChannel
-plain_input = record { reads = at.Source 0; does = None }
+plain_input = record { reads = at.Source 0; beside = None; does = None }
 
 -- the first source, with the two calls
 abbrev pub called_input : InChannel
-called_input = record { reads = at.Source 0; does = Some two_calls }
+called_input = record { reads = at.Source 0; beside = None; does = Some two_calls }
 
 -- the one output of the one input channel
 abbrev pub IsFirst : Take → Type 0

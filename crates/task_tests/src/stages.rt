@@ -5,6 +5,7 @@ ghost use Rattle.flume_collection.specs.Calls.{or_none};
 ghost use Rattle.bag_groups.specs.Pairs.{IsPair};
 ghost use Rattle.shuffle_parts.specs.Outs.{all_pairs};
 ghost use Rattle.exec_plan.specs.declared.plan.OutChannel.TheVariants.{Group, Pass};
+ghost use Rattle.exec_plan.specs.declared.plan.PlanPlace.TheVariants.{Source};
 ghost use Rattle.map_shard.specs.Work.{work_count};
 ghost use Rattle.reduce_part.specs.Reducing.{reducing_count};
 ghost use Rattle.task_tests.specs.Stages.{two_calls, sums as sums_is, plain_input, called_input, IsFirst, IsFitFor, first_take, called_groups as called_groups_is, lifted_sums as lifted_sums_is, HaveSums};
@@ -109,13 +110,23 @@ fn stage(alloc: Global, input: InChannel, output: OutChannel) -> Result<Mscr, Al
     Ok(Mscr { inputs, outputs })
 }
 
+// The first source, with these steps.
+fn first(does: Option<Roots>) -> InChannel
+    ensures { result ≡ record { reads = Source 0; beside = None; does = does } }
+{
+    InChannel {
+        reads: PlanPlace::Source(0),
+        beside: None,
+        does,
+    }
+}
+
 /// A stage that reads the first source without steps.
 pub fn plain(alloc: Global, output: OutChannel) -> Result<Mscr, AllocError>
     ensures inputs { IfOk result (λ stage. stage.inputs ≡ plain_input ∷ []) }
     ensures outputs { IfOk result (λ stage. stage.outputs ≡ output ∷ []) }
 {
-    let reads = PlanPlace::Source(0);
-    let stage = stage(alloc, InChannel { reads, does: None }, output)?;
+    let stage = stage(alloc, first(None), output)?;
     Ok(stage)
 }
 
@@ -124,9 +135,8 @@ pub fn calling(alloc: Global) -> Result<Mscr, AllocError>
     ensures inputs { IfOk result (λ stage. stage.inputs ≡ called_input ∷ []) }
     ensures outputs { IfOk result (λ stage. stage.outputs ≡ Pass first_take 0 ∷ []) }
 {
-    let reads = PlanPlace::Source(0);
     let does = Some(calls(alloc)?);
-    let stage = stage(alloc, InChannel { reads, does }, OutChannel::Pass(FIRST, 0))?;
+    let stage = stage(alloc, first(does), OutChannel::Pass(FIRST, 0))?;
     Ok(stage)
 }
 

@@ -12,6 +12,8 @@ mod keys;
 #[cfg(test)]
 mod samples;
 #[cfg(test)]
+mod texts;
+#[cfg(test)]
 mod threads;
 #[cfg(test)]
 mod types;

@@ -124,5 +124,6 @@ fn copies_orders_and_sorts_values(rt: HostRuntime) -> Result<(), Fail> {
 fn want_of_memory_is_no_trap(rt: HostRuntime) -> Result<(), Fail> {
     assert_eq!(rt; CallFault::from(AllocError), CallFault::Memory);
     assert!(rt; Kind::Overflow < Kind::BadNumber);
+    assert!(rt; Kind::BadNumber < Kind::NotOne);
     Ok(())
 }

@@ -1,12 +1,12 @@
 -- The tests of nodes, one for each kind.
-use Rattle.std.specs.Prelude.{◌≡◌, ℕ, ◌<◌, ◌^◌, ◌==◌, nat_lt, nat_eq, not, ◌&&◌, ◌||◌, Bool, true, false, cond, List, [], ◌∷◌, length, Option, Some, None}
+use Rattle.std.specs.Prelude.{◌≡◌, ℕ, ◌<◌, ◌^◌, ◌==◌, nat_lt, nat_eq, not, ◌&&◌, Bool, true, false, cond, List, [], ◌∷◌, length, Option, Some, None}
 use Rattle.std.specs.List.{list_all}
 use Rattle.std.specs.HashMap.{HashMap, get}
 use Rattle.combine_table.specs.declared.comb.Comb.{Comb}
 use Rattle.combine_table.specs.contracts.comb.CombPartialEq.TheImpl as combs
 use Rattle.exec_graph.specs.declared.graph.Place.{Place}
 use Rattle.exec_graph.specs.declared.graph.Node.{Node}
-use Rattle.exec_graph.specs.declared.graph.Node.TheVariants.{Source, Flatten, Pdo, Gbk}
+use Rattle.exec_graph.specs.declared.graph.Node.TheVariants.{Source, Flatten, Pdo, Gbk, Barrier}
 use Rattle.exec_graph.specs.declared.graph.Entry.{Entry}
 use Rattle.exec_graph.specs.declared.graph.Graph.{Graph}
 use Rattle.exec_graph.specs.declared.spots.Spot.{Spot}
@@ -15,16 +15,17 @@ use Rattle.exec_graph.specs.declared.callers.Callers.TheVariants.{One, Several}
 use Rattle.exec_graph.specs.Meaning.{place}
 use Rattle.exec_graph.specs.Forests.{after_out}
 use Rattle.exec_graph.specs.Readers.{calls_on, is_held, is_read}
-use Rattle.exec_graph.specs.Wellformed.{comb_at, most}
+use Rattle.exec_graph.specs.Wellformed.{comb_at, most_nodes}
 use Rattle.exec_graph.specs.Places.{code}
 use Rattle.exec_graph.specs.inner.Spots.{spots}
 
 -- ---- flattens
 abbrev pub flatten_ok : Node → Bool
 flatten_ok (Source r) = true
-flatten_ok (Flatten ins) = nat_lt 0 (length ins) && not (nat_lt most (length ins))
+flatten_ok (Flatten ins) = nat_lt 0 (length ins) && not (nat_lt most_nodes (length ins))
 flatten_ok (Pdo c f) = true
 flatten_ok (Gbk c o l k) = true
+flatten_ok (Barrier ins o l a) = true
 
 -- ---- forests
 abbrev pub is_next : ℕ → Option ℕ → Bool
@@ -49,6 +50,7 @@ forest_ok g n (Source r) = true
 forest_ok g n (Flatten ins) = true
 forest_ok g n (Pdo c f) = in_order 0 (spots f) && all_read g n (spots f)
 forest_ok g n (Gbk c o l k) = true
+forest_ok g n (Barrier ins o l a) = true
 
 -- ---- lifted groups
 
@@ -81,3 +83,4 @@ lifted_ok g n (Pdo c f) = true
 lifted_ok g n (Gbk c o l None) = true
 lifted_ok g n (Gbk c o l (Some k)) =
     not (is_held g (place n 0)) && called_by k (callers_from None g.nodes (place n 0))
+lifted_ok g n (Barrier ins o l a) = true

@@ -3,7 +3,7 @@ use Rattle.std.specs.Prelude.{ℕ, ◌==◌, nat_lt, ◌&&◌, Bool, true, List,
 use Rattle.std.specs.List.{list_any, list_all}
 use Rattle.exec_graph.specs.Meaning.{gives, is_out}
 use Rattle.exec_graph.specs.declared.graph.Node.{Node}
-use Rattle.exec_graph.specs.declared.graph.Node.TheVariants.{Source, Flatten, Pdo, Gbk}
+use Rattle.exec_graph.specs.declared.graph.Node.TheVariants.{Source, Flatten, Pdo, Gbk, Barrier}
 use Rattle.exec_graph.specs.declared.graph.Place.{Place}
 use Rattle.exec_graph.specs.declared.graph.Entry.{Entry}
 use Rattle.exec_graph.specs.declared.spots.Spot.{Spot}
@@ -26,6 +26,7 @@ reads_given es (Source r) = true
 reads_given es (Flatten ins) = list_all (is_given es) ins
 reads_given es (Pdo c f) = is_given es c
 reads_given es (Gbk c o l k) = is_given es c
+reads_given es (Barrier ins o l a) = list_all (is_given es) ins
 
 abbrev pub above : Option ℕ → ℕ → Bool
 above None n = true

@@ -1,17 +1,17 @@
--- The names of the outputs of joined nodes: each former Pdo and where its output is then.
-use Rattle.std.specs.Prelude.{◌≡◌, ℕ, ◌+◌, ◌<◌, ◌^◌, ◌==◌, true, cond, List, [], ◌∷◌, ◌++◌, length, Option, Some, None, nat_eq}
+-- The names of the outputs of joined nodes: the code of each former collection that is kept, and
+-- where it is then.
+use Rattle.std.specs.Prelude.{◌≡◌, ℕ, ◌+◌, ◌<◌, ◌^◌, ◌==◌, true, cond, List, [], ◌∷◌, ◌++◌, Option, Some, None, nat_eq}
 use Rattle.std.specs.List.{flat_map, AllByRecursion}
 use Rattle.std.specs.HashMap.{HashMap, get}
-use Rattle.exec_graph.specs.Forests.{Forest, Bare, Grow, Label, Branch, limb, after, after_out, new_label, numbered}
-use Rattle.exec_graph.specs.Meaning.{place}
-use Rattle.exec_graph.specs.Readers.{readers}
+use Rattle.exec_graph.specs.Forests.{Forest, Bare, Grow, after, after_out}
+use Rattle.exec_graph.specs.Meaning.{node_at, place}
+use Rattle.exec_graph.specs.Places.{code}
 use Rattle.exec_graph.specs.declared.graph.Place.{Place}
 use Rattle.exec_graph.specs.declared.graph.Node.{Node}
-use Rattle.exec_graph.specs.declared.graph.Node.TheVariants.{Source, Flatten, Pdo, Gbk}
+use Rattle.exec_graph.specs.declared.graph.Node.TheVariants.{Source, Flatten, Pdo, Gbk, Barrier}
 use Rattle.exec_graph.specs.declared.graph.Entry.{Entry}
-use Rattle.graph_laws.specs.Kids.{kept_by}
 use Rattle.pardo_fuse.specs.Readers.{Cut}
-use Rattle.pardo_fuse.specs.Fusing.{forest_of, keeps_output, kept_label, leads, step_at, trees, with_numbers}
+use Rattle.pardo_fuse.specs.Fusing.{forest_over, hanging, hung, kids_on, leads, step_in, with_numbers}
 use Rattle.pardo_fuse.specs.declared.names.Name.{Name}
 
 -- how many outputs of steps, whether they are kept or not
@@ -36,8 +36,9 @@ names_from h s (Grow l kids rest) =
 abbrev pub left_names : Cut → ℕ → Node → List Name
 left_names b n (Source r) = []
 left_names b n (Flatten ins) = []
-left_names b n (Pdo c f) = cond (leads b n c) (names_from n 0 (forest_of b c)) []
+left_names b n (Pdo c f) = cond (leads b n c) (names_from n 0 (forest_over b c)) []
 left_names b n (Gbk c o l k) = []
+left_names b n (Barrier ins o l a) = []
 
 abbrev pub all_names : Cut → List Name
 all_names b = flat_map (λ e. left_names b e.number e.node) b.graph.nodes
@@ -45,39 +46,38 @@ all_names b = flat_map (λ e. left_names b e.number e.node) b.graph.nodes
 -- where a former collection is by these names
 abbrev pub by_name : List Name → Place → Place
 by_name [] c = c
-by_name (x ∷ xs) c = cond (x.former == c.node) x.place (by_name xs c)
+by_name (x ∷ xs) c = cond (x.former == code c) x.place (by_name xs c)
 
 abbrev pub place_or : Option Place → Place → Place
 place_or None c = c
 place_or (Some p) c = p
 
 abbrev pub by_index : {S : Type 0} → HashMap ℕ Place S → Place → Place
-by_index m c = place_or (get nat_eq m c.node) c
+by_index m c = place_or (get nat_eq m (code c)) c
 
 -- ---- trees
 
-abbrev pub kept_trees : Cut → ℕ → List ℕ → Forest
-kept_trees b k ns = kept_by (keeps_output b) (trees b k ns)
+-- what stands over an output of Pdo n
+abbrev pub over_at : Cut → ℕ → ℕ → Option ℕ → Forest
+over_at b k n o = hanging b k (kids_on b n o)
 
--- the step of Pdo n with the output that it keeps
-abbrev pub kept_step : Cut → ℕ → Label
-kept_step b n = kept_label (keeps_output b) (step_at b n)
+-- outputs of Pdo n with what stands over them
+abbrev pub trees_at : Cut → ℕ → ℕ → Forest → Forest
+trees_at b k n f = hung b n (over_at b k n) f Bare
+
+abbrev pub steps_at : Cut → ℕ → Forest
+steps_at b n = step_in (node_at b.graph.nodes n)
 
 -- the outputs of a forest of node h have been named
 pub record IsNamed (h : ℕ) (f : Forest) (s t : ℕ) (old new : List Name) : Type 0 where
   pub next : t ≡ after s f
   pub names : new ≡ old ++ names_from h s f
 
--- and that of one step, with those of its kids
-pub record IsTreeNamed (h : ℕ) (l : Label) (kids : Forest) (s t : ℕ) (old new : List Name)
+-- and that of one output, with those of what stands over it
+pub record IsTreeNamed (h : ℕ) (o : Option ℕ) (kids : Forest) (s t : ℕ) (old new : List Name)
     : Type 0 where
-  pub next : t ≡ after (after_out s l.out) kids
-  pub names : new ≡ old ++ (out_names h s l.out ++ names_from h (after_out s l.out) kids)
-
-abbrev pub IsTree : ℕ → Label → Forest → Branch → Type 0
-IsTree s l kids t =
-    (rest : Forest)
-    → limb t rest ≡ Grow (new_label s l) (numbered (after_out s l.out) kids) rest
+  pub next : t ≡ after (after_out s o) kids
+  pub names : new ≡ old ++ (out_names h s o ++ names_from h (after_out s o) kids)
 
 -- ---- nodes that are left
 
@@ -90,8 +90,9 @@ LeadsShort b n (Source r) = Unit {0}
 LeadsShort b n (Flatten ins) = Unit {0}
 LeadsShort b n (Pdo c f) =
     leads b n c ≡ true
-    → labels (trees b (length b.graph.nodes) (readers b.graph.nodes c)) < 2 ^ 32
+    → labels (forest_over b c) < 2 ^ 32
 LeadsShort b n (Gbk c o l k) = Unit {0}
+LeadsShort b n (Barrier ins o l a) = Unit {0}
 
 abbrev pub AllShort : Cut → List Entry → Type 0
 AllShort b es = AllByRecursion (λ e. LeadsShort b e.number e.node) es

@@ -1,10 +1,11 @@
 -- How a run stands before one of its stages.
 use Rattle.std.specs.Prelude.{◌≡◌, ℕ, ◌+◌, List, ◌++◌, drop, length, sum}
 use Rattle.std.proofs.Common.{suc}
-use Rattle.std.specs.List.{AllZip}
+use Rattle.std.specs.List.{AllByRecursion, AllZip}
 use Rattle.crew.specs.Hosts.{Account, Grew}
 use Rattle.exec_graph.specs.Typing.{IsWorldTyped, Signatures}
 use Rattle.exec_graph.specs.World.{World}
+use Rattle.exec_plan.specs.ObjectFree.{IsStageFree}
 use Rattle.exec_plan.specs.Typing.{AreStagesTyped}
 use Rattle.exec_plan.specs.Wellformed.{AreStages}
 use Rattle.exec_plan.specs.declared.plan.PlanPlace.{PlanPlace}
@@ -37,6 +38,7 @@ pub record CanGoOn (w : World) (takes : ℕ → Value → Type 0) (k : ℕ) (sta
   pub lists : AreListsTyped types t
   pub typed : AreStagesTyped signatures types k stages
   pub ok : AreStages sources before stages
+  pub free : AllByRecursion IsStageFree stages
 
 module _ (s : RunSettings) (w : World) where
   -- the lists of all collections, when the stages from number k on have run over these

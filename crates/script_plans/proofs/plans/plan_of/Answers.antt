@@ -1,9 +1,11 @@
 use Rattle.std.proofs.Common.{subst, sym}
 use Rattle.exec_graph.specs.declared.graph.Graph.{Graph}
+use Rattle.exec_graph.specs.ObjectFree.{IsObjectFree}
 use Rattle.exec_graph.specs.Typing.{IsTyped, Signatures}
 use Rattle.exec_graph.specs.World.{World}
 use Rattle.exec_plan.specs.Typing.{IsPlanTyped}
-use Rattle.graph_laws.specs.Single.{HasSingleOutputs}
+use Rattle.graph_bounds.proofs.Bounding.{kinds_free}
+use Rattle.graph_laws.specs.Single.{HasNarrowSteps, IsUnfused}
 use Rattle.optimise.specs.Optimised.{source_count}
 use Rattle.plan_laws.specs.Operations.{SamePlan}
 use Rattle.plan_rules.specs.Fitting.{HasSourcesBelow}
@@ -13,10 +15,15 @@ use Rattle.script_plans.proofs.plans.plan_of.Goals as goal
 pub optimise-requires : goal.optimise-requires
 optimise-requires c = record {
   ok = c.requires.ok;
-  single = subst HasSingleOutputs (sym c.requires.built)
-      (c.one_step_law.ensures.single c.args.program.now.script);
+  unfused = subst IsUnfused (sym c.requires.built)
+      (c.one_step_law.ensures.unfused c.args.program.now.script);
+  narrow = subst HasNarrowSteps (sym c.requires.built)
+      (c.one_step_law.ensures.narrow c.args.program.now.script);
   sources = subst (λ (g : Graph). HasSourcesBelow (source_count g.nodes) g)
       (sym c.requires.built) (sources_below c.args.program.now.script);
+  kinds = kinds_free c.args.graph
+      (subst IsObjectFree (sym c.requires.built)
+      (c.object_free_law.ensures c.args.program.now.script));
 }
 
 pub returns-clause-same : goal.returns-clause-same
@@ -28,3 +35,9 @@ pub returns-clause-types : goal.returns-clause-types
 returns-clause-types c = λ s.
     subst (λ (g : Graph). IsTyped s g → IsPlanTyped s c.in_ok-plan.plan) c.requires.built
     (c.in_ok-plan.ensures.types s)
+
+pub returns-clause-object_free : goal.returns-clause-object_free
+returns-clause-object_free c =
+    c.in_ok-plan.ensures.object_free
+    (subst IsObjectFree (sym c.requires.built)
+    (c.object_free_law.ensures c.args.program.now.script))

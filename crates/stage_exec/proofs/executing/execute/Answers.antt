@@ -19,7 +19,7 @@ run_stages-requires-clause-ready g c κs within =
     rw c.as_slice-stages.ensures
     (begins (run_world (g.F.Functions.called c.args.functions.now) c.args.sources.now)
     (g.F.Functions.can_call c.args.functions.now) c.args.plan.now c.requires.plan
-    c.requires.typed)
+    c.requires.object_free c.requires.typed)
 
 pub returns-in_err-results-clause-fault : goal.returns-in_err-results-clause-fault
 returns-in_err-results-clause-fault g c =
@@ -33,7 +33,8 @@ returns-in_err-results-clause-fault g c =
     rw (e.1, e.2)
     (faulted s w p _ _ c.in_err-results.field-0.0
     (λ trap is. c.phases_law.ensures.first w (split_of s) p trap cut.0 cut.1 is)
-    (λ trap is. c.tasks_law.ensures.trapped w (split_of s) p trap cut.0 cut.1 c.requires.plan is)
+    (λ trap is. c.tasks_law.ensures.trapped w (split_of s) p trap cut.0 cut.1
+    c.requires.object_free c.requires.plan is)
     (rw (← c.as_slice-stages.ensures) c.in_err-results.ensures.stopped))
 
 pub returns-in_err-results-clause-complete : goal.returns-in_err-results-clause-complete
@@ -71,16 +72,19 @@ returns-clause-done g c =
     c.from_vec-2.ensures
     ∙ (ran.told ∙ ap (λ before. before ++ ran.winners) c.new-winners.ensures.items) in
     record {
-      calm = (c.tasks_law.ensures.through w (split_of s) p cut.0 cut.1 c.requires.plan).0 none;
+      calm = (c.tasks_law.ensures.through w (split_of s) p cut.0 cut.1 c.requires.object_free
+          c.requires.plan).0 none;
       outputs =
           ap (map bag_of)
           (rw c.as_slice-outputs.ensures at c.in_ok-outputs.ensures)
           ∙ bags_are s w p (table c.args.sources.now c.in_ok-results.results.items) p.outputs
-          lists (c.tasks_law.ensures.lists w (split_of s) p cut.0 cut.1 none);
+          lists (c.tasks_law.ensures.lists w (split_of s) p cut.0 cut.1
+          c.requires.object_free none);
       count = ap length counts ∙ (sizes.count ∙ zeros_many c.args.nodes);
       counts =
           rw counts
           (counts_are s w p c.args.nodes c.run_stages.new.sizes sizes
-          (c.tasks_law.ensures.sizes w (split_of s) p cut.0 cut.1 c.requires.plan none));
+          (c.tasks_law.ensures.sizes w (split_of s) p cut.0 cut.1 c.requires.object_free
+          c.requires.plan none));
       ran = rw told ran.won;
     }

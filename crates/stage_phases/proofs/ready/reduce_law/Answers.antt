@@ -29,7 +29,7 @@ returns g c sources results s outs k shards partitions some some_partitions few 
     let task = reduce_task w n t s.inputs group p in
     let ok = (out_ok i _ at).ok in
     let typed = c.typed_law.ensures.reduces ready.signatures w n ready.types t k i p s group
-    ready.world ready.lists ready.typed at ok.takes in
+    ready.world ready.lists ready.free ready.typed at ok.takes in
     c.taken_law.ensures ready.signatures w task.does task.elements refl ready.calls
     (c.safe_law.ensures ready.signatures w task ready.world typed))
     ready.ok.few_outputs few

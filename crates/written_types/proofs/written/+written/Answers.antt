@@ -51,7 +51,7 @@ fields-loop-i-preserved t c =
     ap
     (λ name. map (field_at ts) c.loop-i.fields
     ++ record { name = name; ty = type_at new c.in_ok-ty.ty } ∷ [])
-    c.in_ok-name.ensures in
+    c.in_ok-name.ensures.made in
     record {
       gives =
           ap

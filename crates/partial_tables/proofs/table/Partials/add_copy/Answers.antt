@@ -29,6 +29,21 @@ invariant_of-self-in-Err-copy-6 c =
     kept_none c.self.inside.comb c.clear-in-Err-copy.new.table.entries
     c.clear-in-Err-copy.ensures
 
+pub invariant_of-self-in-Err-copy-3 : goal.invariant_of-self-in-Err-copy-3
+invariant_of-self-in-Err-copy-3 c =
+    kept_none c.self.inside.comb c.clear-in-Err-copy.new.table.entries
+    c.clear-in-Err-copy.ensures
+
+pub invariant_of-self-in-Err-copy-4 : goal.invariant_of-self-in-Err-copy-4
+invariant_of-self-in-Err-copy-4 c =
+    kept_none c.self.inside.comb c.clear-in-Err-copy.new.table.entries
+    c.clear-in-Err-copy.ensures
+
+pub invariant_of-self-in-Err-copy-7 : goal.invariant_of-self-in-Err-copy-7
+invariant_of-self-in-Err-copy-7 c =
+    kept_none c.self.inside.comb c.clear-in-Err-copy.new.table.entries
+    c.clear-in-Err-copy.ensures
+
 pub returns-in-Ok-clause-added : goal.returns-in-Ok-clause-added
 returns-in-Ok-clause-added c =
     let i = c.self.inside in

@@ -1,0 +1,103 @@
+// Graphs with objects, and whether each is well-formed.
+use combine_table::Comb;
+use exec_graph::{Act, Does, Entry, Graph, Input, Node, Output, Place, Roots, Step, graph_ok};
+use flume_value::Pile;
+use std::alloc::{AllocError, Global};
+use std::test::Fail;
+
+fn first_of(node: u32) -> Place {
+    Place { node, out: 0 }
+}
+
+/// One step on the first output of a node, whose output is 0.
+fn pdo(alloc: Global, input: u32, origin: u32, does: Does) -> Result<Node, AllocError> {
+    let output = Output::new(Some(0), Vec::new(alloc));
+    let mut steps = Vec::new(alloc);
+    steps.push(Step::new(origin, false, does, output, Vec::new(alloc)))?;
+    Ok(Node::Pdo(first_of(input), Roots::new(steps)))
+}
+
+fn barrier(alloc: Global, inputs: &[u32], act: Act) -> Result<Node, AllocError> {
+    let mut places = Pile::new(alloc);
+    for input in inputs {
+        places.push(first_of(*input))?;
+    }
+    Ok(Node::Barrier(places, 3, true, act))
+}
+
+fn push(nodes: &mut Pile<Entry>, number: u32, node: Node) -> Result<(), AllocError> {
+    nodes.push(Entry { number, node })?;
+    Ok(())
+}
+
+/// The rows of an input, a function of each, the sum of all as an object (node 5), a source that is
+/// an object (node 6), and one node more, which is written out.
+fn graph(alloc: Global, inputs: &[u32], act: Act) -> Result<Graph, AllocError> {
+    let mut nodes = Pile::new(alloc);
+    let rows = Input {
+        number: 0,
+        is_object: false,
+    };
+    let saved = Input {
+        number: 1,
+        is_object: true,
+    };
+    push(&mut nodes, 0, Node::Source(rows))?;
+    push(&mut nodes, 1, pdo(alloc, 0, 1, Does::Call(0))?)?;
+    push(&mut nodes, 2, pdo(alloc, 1, 2, Does::Solo)?)?;
+    push(&mut nodes, 3, Node::Gbk(first_of(2), 2, false, None))?;
+    push(&mut nodes, 4, pdo(alloc, 3, 2, Does::Combine(Comb::Sum))?)?;
+    push(
+        &mut nodes,
+        5,
+        barrier(alloc, &[4], Act::Singleton(Comb::Sum))?,
+    )?;
+    push(&mut nodes, 6, Node::Source(saved))?;
+    push(&mut nodes, 7, barrier(alloc, inputs, act)?)?;
+    let mut outputs = Pile::new(alloc);
+    outputs.push(first_of(7))?;
+    outputs.push(first_of(1))?;
+    Ok(Graph {
+        nodes,
+        outputs,
+        next: 8,
+    })
+}
+
+/// What one node more reads, its act, and whether the graph is then well-formed.
+static TABLE: [(&[u32], Act, bool); 12] = [
+    (&[1, 5], Act::SideInput(1), true),
+    (&[1, 6], Act::SideInput(1), true),
+    (&[5, 5], Act::SideInput(1), true),
+    (&[1, 1], Act::SideInput(1), false),
+    (&[1], Act::SideInput(1), false),
+    (&[1, 5, 5], Act::SideInput(1), false),
+    (&[5], Act::Operate(1), true),
+    (&[5, 6, 5], Act::Operate(1), true),
+    (&[5, 4], Act::Operate(1), false),
+    (&[], Act::Operate(1), false),
+    (&[5], Act::Singleton(Comb::Min), false),
+    (&[4], Act::Singleton(Comb::Min), true),
+];
+
+fn is_ok(alloc: Global, inputs: &[u32], act: Act) -> Option<bool> {
+    let graph = graph(alloc, inputs, act).ok()?;
+    graph_ok(alloc, &graph).ok()
+}
+
+/// The place of the first graph of which something else is told.
+fn first_other(alloc: Global) -> Option<usize> {
+    for place in 0..TABLE.len() {
+        let (inputs, act, wanted) = TABLE[place];
+        if is_ok(alloc, inputs, act) != Some(wanted) {
+            return Some(place);
+        }
+    }
+    None
+}
+
+#[test]
+fn tells_graphs_whose_objects_are_such(rt: HostRuntime) -> Result<(), Fail> {
+    assert_eq!(rt; first_other(rt.alloc()), None);
+    Ok(())
+}

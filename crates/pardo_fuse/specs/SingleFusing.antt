@@ -1,0 +1,138 @@
+-- Fusing where each Pdo has one step with one output: a collection is then told by its Pdo's number
+-- alone, and an output that is kept has this number for a name.
+use Rattle.std.specs.Prelude.{◌≡◌, ℕ, Bool, true, false, cond, List, [], ◌∷◌, map, length, Option, Some, None}
+use Rattle.std.proofs.Common.{zero, suc}
+use Rattle.std.specs.List.{AllByRecursion, flat_map}
+use Rattle.exec_graph.specs.Forests.{Label, Forest, Bare, Grow, with_out}
+use Rattle.exec_graph.specs.declared.step.Does.TheVariants as does
+use Rattle.exec_graph.specs.Meaning.{IsSound, IsThere, place, node_at}
+use Rattle.graph_laws.specs.Kids.{kept_by, out_kept}
+use Rattle.exec_graph.specs.declared.graph.Place.{Place}
+use Rattle.exec_graph.specs.declared.graph.Node.{Node}
+use Rattle.exec_graph.specs.declared.graph.Node.TheVariants.{Source, Flatten, Pdo, Gbk, Barrier}
+use Rattle.exec_graph.specs.declared.graph.Entry.{Entry}
+use Rattle.exec_graph.specs.declared.graph.Blocked.{Blocked}
+use Rattle.pardo_fuse.specs.Readers.{Cut, readers, is_inner, is_kept, is_pdo}
+use Rattle.pardo_fuse.specs.Fusing.{finished, holds_out, leads, out_number}
+
+-- ---- what can be fused so
+
+-- a Pdo has one step, whose output is 0 where it has one
+abbrev pub IsFirst : Option ℕ → Type 0
+IsFirst None = Unit {0}
+IsFirst (Some j) = j ≡ 0
+
+abbrev pub IsSingle : Forest → Type 0
+IsSingle Bare = ⊥
+IsSingle (Grow l Bare Bare) = IsFirst l.out
+IsSingle (Grow l Bare (Grow m kids rest)) = ⊥
+IsSingle (Grow l (Grow m kids rest) others) = ⊥
+
+abbrev pub HasOneStep : Node → Type 0
+HasOneStep (Source r) = Unit {0}
+HasOneStep (Flatten ins) = Unit {0}
+HasOneStep (Pdo c f) = IsSingle f
+HasOneStep (Gbk c o l k) = Unit {0}
+HasOneStep (Barrier ins o l a) = Unit {0}
+
+-- the graph is ok, and each Pdo has one step with one output
+pub record CanFuse (b : Cut) : Type 0 where
+  pub ok : IsSound b.graph
+  pub single : AllByRecursion (λ e. HasOneStep e.node) b.graph.nodes
+  pub marked : AllByRecursion (IsThere b.graph.nodes) b.marks
+  pub pdos : (c : Place) → b.inner c ≡ true → is_pdo (node_at b.graph.nodes c.node) ≡ true
+
+-- ---- forests whose outputs have the numbers of the former Pdos
+
+abbrev pub named : ℕ → Label → Label
+named n l = with_out (Some n) l
+
+abbrev pub blank : Label
+blank = record { origin = 0; last = false; does = does.Pair; at = 0; out = None }
+
+-- the one step of a Pdo
+abbrev pub first_label : Forest → Label
+first_label Bare = blank
+first_label (Grow l kids rest) = l
+
+abbrev pub step_of : Option Node → Label
+step_of None = blank
+step_of (Some (Source r)) = blank
+step_of (Some (Flatten ins)) = blank
+step_of (Some (Pdo c f)) = first_label f
+step_of (Some (Gbk c o l k)) = blank
+step_of (Some (Barrier ins o l a)) = blank
+
+-- the step of the Pdo n, under the Pdo's number
+abbrev pub step_at : Cut → ℕ → Label
+step_at b n = named n (step_of (node_at b.graph.nodes n))
+
+-- the Pdos whose parent is the Pdo n
+abbrev pub kids_of : Cut → ℕ → List ℕ
+kids_of b n = cond (is_inner b (place n 0)) (readers b.graph.nodes (place n 0)) []
+
+-- the trees of the Pdos ns side by side: over each step the trees of its kids
+abbrev pub Grown : Cut → List ℕ → Forest → Type 0
+Grown b [] Bare = Unit {0}
+Grown b [] (Grow l kids rest) = ⊥
+Grown b (n ∷ ns) Bare = ⊥
+Grown b (n ∷ ns) (Grow l kids rest) = (l ≡ step_at b n) × Grown b (kids_of b n) kids × Grown b ns
+    rest
+
+-- the same as a function, down to a number of levels
+abbrev pub planted : (ℕ → Label) → (ℕ → Forest) → List ℕ → Forest
+planted l f [] = Bare
+planted l f (n ∷ ns) = Grow (l n) (f n) (planted l f ns)
+
+unfoldable pub trees : Cut → ℕ → List ℕ → Forest
+trees b zero ns = Bare
+trees b (suc k) ns = planted (step_at b) (λ n. trees b k (kids_of b n)) ns
+
+-- only some outputs are kept
+abbrev pub kept_label : (ℕ → Bool) → Label → Label
+kept_label keep l = with_out (out_kept keep l.out) l
+
+abbrev pub keeps_output : Cut → ℕ → Bool
+keeps_output b n = is_kept b (place n 0)
+
+-- all that is computed from c without a kept collection in between: as many levels as there are
+-- nodes are enough
+abbrev pub forest_of : Cut → Place → Forest
+forest_of b c = kept_by (keeps_output b) (trees b (length b.graph.nodes) (readers b.graph.nodes c))
+
+-- ---- the nodes that are left
+
+abbrev pub left_of : Cut → ℕ → Node → List Entry
+left_of b n (Source r) = record { number = n; node = Source r } ∷ []
+left_of b n (Flatten ins) = record { number = n; node = Flatten ins } ∷ []
+left_of b n (Pdo c f) = cond (leads b n c) (record {
+  number = n;
+  node = Pdo c (forest_of b c);
+} ∷ []) []
+left_of b n (Gbk c o l k) = record { number = n; node = Gbk c o l k } ∷ []
+left_of b n (Barrier ins o l a) = record { number = n; node = Barrier ins o l a } ∷ []
+
+abbrev pub joined_nodes : Cut → List Entry
+joined_nodes b = flat_map (λ e. left_of b e.number e.node) b.graph.nodes
+
+-- ---- outputs get the numbers from 0 in preorder, and what reads them reads these
+
+-- where a former collection is now
+abbrev pub new_place : List Entry → Place → Place
+new_place [] c = c
+new_place (h ∷ hs) c = cond (holds_out c.node h.node) (place h.number (out_number c.node h.node))
+    (new_place hs c)
+
+abbrev pub renamed : List Entry → Cut → Blocked
+renamed hs b =
+    record {
+      graph = record {
+        nodes = map (finished (new_place hs)) hs;
+        outputs = map (new_place hs) b.graph.outputs;
+        next = b.graph.next;
+      };
+      marks = map (new_place hs) b.marks;
+    }
+
+unfoldable pub fused_by : Cut → Blocked
+fused_by b = renamed (joined_nodes b) b

@@ -1,0 +1,406 @@
+-- In the plan of operations each stage reads objects where it is to read them.
+use Rattle.std.proofs.Common.{◌≡◌, ℕ, ◌+◌, ◌-◌, ◌<◌, ◌⊎◌, Bool, true, false, cond, eqb, ◌&&◌, List, [], ◌∷◌, ◌++◌, map, length, length-append, append_assoc, Option, Some, None, zero, suc, refl, sym, ap, ◌∙◌, subst, arith, inl, inr}
+use Rattle.std.specs.Prelude.{option_map}
+use Rattle.std.specs.List.{AllByRecursion as Each, flat_map, list_all, list_any, slice_get}
+use Rattle.std.proofs.lemmas.Bool.{eqb-true, eq-eqb, false≢true}
+use Rattle.flume_value.proofs.BoolLemmas.{and_both}
+use Rattle.flume_value.proofs.EachLemmas.{Each-weaker}
+use Rattle.exec_graph.specs.Meaning.{gives_at, node_at, place}
+use Rattle.exec_graph.specs.Readers.{same_place}
+use Rattle.exec_graph.specs.Objects.{gives_object, takes_such}
+use Rattle.exec_graph.specs.Wellformed.{HaveObjects, has_objects, is_object, is_object_at}
+use Rattle.exec_graph.specs.declared.graph.Act.{Act}
+use Rattle.exec_graph.specs.declared.graph.Act.TheVariants.{SideInput, Operate as Operates, Singleton}
+use Rattle.exec_graph.specs.declared.graph.Input.{Input}
+use Rattle.exec_graph.specs.declared.graph.Place.{Place}
+use Rattle.exec_graph.specs.declared.graph.Node.{Node}
+use Rattle.exec_graph.specs.declared.graph.Node.TheVariants.{Source, Flatten, Pdo, Gbk, Barrier}
+use Rattle.exec_graph.specs.declared.graph.Entry.{Entry}
+use Rattle.exec_graph.specs.declared.graph.Graph.{Graph}
+use Rattle.exec_graph.proofs.Entries.{all_found}
+use Rattle.exec_graph.proofs.Bools.{or_cases, or_left, or_right}
+use Rattle.exec_plan.specs.declared.plan.PlanPlace.{PlanPlace}
+use Rattle.exec_plan.specs.declared.plan.PlanPlace.TheVariants as at
+use Rattle.exec_plan.specs.declared.plan.InChannel.{InChannel}
+use Rattle.exec_plan.specs.declared.plan.Stage.{Stage}
+use Rattle.exec_plan.specs.declared.plan.Stage.TheVariants.{Mscr, Flatten as Joined, Operate}
+use Rattle.exec_plan.specs.Wellformed.{has_object, has_objects as stage_has, is_object as is_place, is_operate}
+use Rattle.plan_laws.specs.declared.operations.Key.{Key}
+use Rattle.plan_laws.specs.declared.operations.Key.TheVariants.{Mapper, Whole}
+use Rattle.plan_laws.specs.declared.operations.Grouped.{Grouped}
+use Rattle.plan_laws.specs.declared.operations.Operation.{Operation}
+use Rattle.plan_laws.specs.declared.operations.Operation.TheVariants.{Flat, Class}
+use Rattle.plan_laws.specs.Operations.{AreReady, DoAll, IsFlat, IsGroupedOk, IsHonest, IsIn, IsKeyOk, IsOperate, IsPdo, IsReducer, IsSide, Reading, Reads, TakesInputs, at_source, channel_of, channels_of, flat_inputs, flat_stage, gives_of, group_gives, named, object_source, outs_at, pdo_channel, placed, places_of, reading_reads, reads_of, reduced, side_channel, source_at, source_place, source_places, stage_of, stages_of, with_object}
+use Rattle.plan_laws.proofs.Running.{in_append, place_same}
+use Rattle.plan_rules.specs.Fitting.{IsFit, SourcesAgree}
+use Rattle.plan_rules.proofs.Made.{without_first}
+
+-- ---- what passes through is no object
+abbrev pub PassesCollections : List Entry → Operation → Type 0
+PassesCollections es (Flat n) = Unit {0}
+PassesCollections es (Class keys gs cs) = Each (λ c. is_object_at es c ≡ false) cs
+
+pub passes_fit : (es : List Entry) (o : Operation) → IsFit es o → PassesCollections es o
+passes_fit es (Flat n) f = tt
+passes_fit es (Class keys gs cs) f = f.collections
+
+-- ---- the results of a stage are objects where the collections are
+no_object_of : List Entry → List Place → Type 0
+no_object_of es cs = Each (λ c. is_object_at es c ≡ false) cs
+
+-- whether the operation gives objects
+abbrev gives_objects : List Entry → Operation → Bool
+gives_objects es (Flat n) = is_object (node_at es n)
+gives_objects es (Class keys gs cs) = false
+
+act_object : (a : Act) → IsOperate a → gives_object a ≡ true
+act_object (SideInput f) h = absurd h
+act_object (Operates f) h = refl
+act_object (Singleton k) h = refl
+
+flat_object : (o : Option Node) (takes : List PlanPlace) → IsFlat o
+    → is_operate (Some (flat_stage o takes)) ≡ is_object o
+flat_object None takes h = absurd h
+flat_object (Some (Source s)) takes h = absurd h
+flat_object (Some (Flatten ins)) takes h = refl
+flat_object (Some (Pdo c f)) takes h = absurd h
+flat_object (Some (Gbk c o l k)) takes h = absurd h
+flat_object (Some (Barrier ins o l a)) takes h = sym (act_object a h)
+
+stage_object : (es : List Entry) (f : Place → PlanPlace) (o : Operation) → IsHonest es o
+    → is_operate (Some (stage_of es f o)) ≡ gives_objects es o
+stage_object es f (Flat n) h = flat_object (node_at es n) (map f (flat_inputs (node_at es n))) h
+stage_object es f (Class keys gs cs) h = refl
+
+map_outs : (es : List Entry) (r : ℕ) (js : List ℕ) (b : Bool) → is_object (node_at es r) ≡ b
+    → Each (λ c. is_object_at es c ≡ b) (map (place r) js)
+map_outs es r [] b h = tt
+map_outs es r (j ∷ js) b h = (h, map_outs es r js b h)
+
+reads_object : (d : Place) (o : Option Node) → Reads d o → is_object o ≡ false
+reads_object d None h = absurd h
+reads_object d (Some (Source s)) h = absurd h
+reads_object d (Some (Flatten ins)) h = absurd h
+reads_object d (Some (Pdo c f)) h = refl
+reads_object d (Some (Gbk c o l k)) h = absurd h
+reads_object d (Some (Barrier ins o l a)) h = absurd h
+
+takes_object : (es : List Entry) (keys : List Key) (o : Option Node) → TakesInputs es keys o
+    → is_object o ≡ false
+takes_object es keys None h = absurd h
+takes_object es keys (Some (Source s)) h = absurd h
+takes_object es keys (Some (Flatten ins)) h = absurd h
+takes_object es keys (Some (Pdo c f)) h = absurd h
+takes_object es keys (Some (Gbk c o l k)) h = refl
+takes_object es keys (Some (Barrier ins o l a)) h = absurd h
+
+reduced_objects : (es : List Entry) (n : ℕ) (r : Option ℕ) → is_object (node_at es n) ≡ false
+    → IsReducer es n r → Each (λ c. is_object_at es c ≡ false) (reduced es n r)
+reduced_objects es n None g h = (g, tt)
+reduced_objects es n (Some r) g h =
+    map_outs es r (outs_at (node_at es r)) false (reads_object (place n 0) (node_at es r) h)
+
+append_each : {X : Type 0} (P : X → Type 0) (xs ys : List X) → Each P xs → Each P ys
+    → Each P (xs ++ ys)
+append_each P [] ys a b = b
+append_each P (x ∷ xs) ys a b = (a.0, append_each P xs ys a.1 b)
+
+groups_objects : (es : List Entry) (keys : List Key) (gs : List Grouped)
+    → Each (IsGroupedOk es keys) gs
+    → Each (λ c. is_object_at es c ≡ false) (flat_map (group_gives es) gs)
+groups_objects es keys [] h = tt
+groups_objects es keys (g ∷ gs) h =
+    append_each (λ c. is_object_at es c ≡ false) (group_gives es g) (flat_map (group_gives es) gs)
+    (reduced_objects es g.gbk g.reducer (takes_object es keys (node_at es g.gbk) h.0.0) h.0.1)
+    (groups_objects es keys gs h.1)
+
+given_objects : (es : List Entry) (o : Operation) → IsHonest es o → PassesCollections es o
+    → Each (λ c. is_object_at es c ≡ gives_objects es o) (gives_of es o)
+given_objects es (Flat n) h p = (refl, tt)
+given_objects es (Class keys gs cs) h p =
+    append_each (λ c. is_object_at es c ≡ false) (flat_map (group_gives es) gs) cs
+    (groups_objects es keys gs h.1) p
+
+-- ---- where collections are named
+abbrev ObjectsAt : List ℕ → List Stage → List Entry → (Place → PlanPlace) → List Place → Type 0
+ObjectsAt objects all es f made =
+    (c : Place) → IsIn c made → is_place objects all (f c) ≡ is_object_at es c
+
+result_by : (all : List Stage) (k : ℕ) (s : Stage) (b : Bool) → eqb k 0 ≡ b
+    → slice_get all (k - 1) ≡ Some s → (k ≡ 0 → ⊥)
+    → cond b false (is_operate (slice_get all (k - 1))) ≡ is_operate (Some s)
+result_by all k s true i h n = absurd (n (eqb-true k 0 i))
+result_by all k s false i h n = ap is_operate h
+
+placed_object : (objects : List ℕ) (all : List Stage) (es : List Entry) (f : Place → PlanPlace)
+    (k i : ℕ) (ds : List Place) (b : Bool) (c : Place)
+    → ((j : ℕ) → is_place objects all (at.Result k j) ≡ b)
+    → Each (λ d. is_object_at es d ≡ b) ds
+    → IsIn c ds ⊎ (is_place objects all (f c) ≡ is_object_at es c)
+    → is_place objects all (placed k i ds f c) ≡ is_object_at es c
+placed_object objects all es f k i [] b c r a (inl h) = absurd h
+placed_object objects all es f k i [] b c r a (inr h) = h
+placed_object objects all es f k i (d ∷ ds) b c r a h = by (same_place d c) refl
+    (λ e. placed_object objects all es f k (suc i) ds b c r a.1 (without_first d ds c e h))
+  where
+    by : (t : Bool) → same_place d c ≡ t
+        → (same_place d c ≡ false
+        → is_place objects all (placed k (suc i) ds f c) ≡ is_object_at es c)
+        → is_place objects all (cond t (at.Result k i) (placed k (suc i) ds f c))
+        ≡ is_object_at es c
+    by true e g = r i ∙ sym a.0 ∙ ap (is_object_at es) (place_same d c e)
+    by false e g = g e
+
+-- ---- what a stage reads
+flags_named : (objects : List ℕ) (all : List Stage) (es : List Entry) (f : Place → PlanPlace)
+    (cs : List Place) → Each (λ c. is_place objects all (f c) ≡ is_object_at es c) cs
+    → map (is_place objects all) (map f cs) ≡ map (is_object_at es) cs
+flags_named objects all es f [] a = refl
+flags_named objects all es f (c ∷ cs) a =
+    let i = flags_named objects all es f cs a.1 in
+    let j : is_place objects all (f c) ≡ is_object_at es c = a.0 in cc
+
+flat_has : (objects : List ℕ) (all : List Stage) (es : List Entry) (f : Place → PlanPlace)
+    (o : Option Node) → IsFlat o
+    → ((x : Node) → o ≡ Some x → has_objects es x ≡ true)
+    → Each (λ c. is_place objects all (f c) ≡ is_object_at es c) (flat_inputs o)
+    → stage_has objects all (flat_stage o (map f (flat_inputs o))) ≡ true
+flat_has objects all es f None h g a = absurd h
+flat_has objects all es f (Some (Source s)) h g a = absurd h
+flat_has objects all es f (Some (Flatten ins)) h g a = refl
+flat_has objects all es f (Some (Pdo c t)) h g a = absurd h
+flat_has objects all es f (Some (Gbk c o l k)) h g a = absurd h
+flat_has objects all es f (Some (Barrier ins o l d)) h g a =
+    and_both (gives_object d) (takes_such d (map (is_place objects all) (map f ins)))
+    (act_object d h)
+    (ap (takes_such d) (flags_named objects all es f ins a) ∙ g (Barrier ins o l d) refl)
+
+side_object : (objects : List ℕ) (all : List Stage) (es : List Entry) (f : Place → PlanPlace)
+    (n o : ℕ) (l : Bool) (a : Act) (ins : List Place) → IsSide a ins
+    → takes_such a (map (is_object_at es) ins) ≡ true
+    → Each (λ c. is_place objects all (f c) ≡ is_object_at es c)
+    (reading_reads (side_channel n o l a ins))
+    → has_object objects all (named f (side_channel n o l a ins)).beside ≡ true
+side_object objects all es f n o l (SideInput h) [] i g e = absurd i
+side_object objects all es f n o l (SideInput h) (c ∷ []) i g e = absurd i
+side_object objects all es f n o l (SideInput h) (c ∷ (d ∷ [])) i g e = e.1.0 ∙ g
+side_object objects all es f n o l (SideInput h) (c ∷ (d ∷ (x ∷ xs))) i g e = absurd i
+side_object objects all es f n o l (Operates h) ins i g e = absurd i
+side_object objects all es f n o l (Singleton k) ins i g e = absurd i
+
+pdo_object : (objects : List ℕ) (all : List Stage) (es : List Entry) (f : Place → PlanPlace)
+    (n : ℕ) (o : Option Node) → IsPdo o → ((x : Node) → o ≡ Some x → has_objects es x ≡ true)
+    → Each (λ c. is_place objects all (f c) ≡ is_object_at es c) (reading_reads (pdo_channel n o))
+    → has_object objects all (named f (pdo_channel n o)).beside ≡ true
+pdo_object objects all es f n None h g a = absurd h
+pdo_object objects all es f n (Some (Source s)) h g a = absurd h
+pdo_object objects all es f n (Some (Flatten ins)) h g a = absurd h
+pdo_object objects all es f n (Some (Pdo c t)) h g a = refl
+pdo_object objects all es f n (Some (Gbk c o l k)) h g a = absurd h
+pdo_object objects all es f n (Some (Barrier ins o l d)) h g a =
+    side_object objects all es f n o l d ins h (g (Barrier ins o l d) refl) a
+
+left_each : {X : Type 0} (P : X → Type 0) (xs ys : List X) → Each P (xs ++ ys) → Each P xs
+left_each P [] ys a = tt
+left_each P (x ∷ xs) ys a = (a.0, left_each P xs ys a.1)
+
+right_each : {X : Type 0} (P : X → Type 0) (xs ys : List X) → Each P (xs ++ ys) → Each P ys
+right_each P [] ys a = a
+right_each P (x ∷ xs) ys a = right_each P xs ys a.1
+
+channels_have : (objects : List ℕ) (all : List Stage) (es : List Entry) (f : Place → PlanPlace)
+    (ks : List Key) → Each (IsKeyOk es) ks
+    → ((n : ℕ) (x : Node) → node_at es n ≡ Some x → has_objects es x ≡ true)
+    → Each (λ c. is_place objects all (f c) ≡ is_object_at es c)
+    (flat_map reading_reads (channels_of es ks))
+    → list_all (λ (c : InChannel). has_object objects all c.beside)
+    (map (named f) (channels_of es ks)) ≡ true
+channels_have objects all es f [] ok g a = refl
+channels_have objects all es f (Whole c ∷ ks) ok g a =
+    channels_have objects all es f ks ok.1 g a.1
+channels_have objects all es f (Mapper n ∷ ks) ok g a =
+    let P : Place → Type 0 = λ c. is_place objects all (f c) ≡ is_object_at es c in
+    let r : Reading = pdo_channel n (node_at es n) in
+    let more : List Place = flat_map reading_reads (channels_of es ks) in
+    and_both (has_object objects all (named f r).beside)
+    (list_all (λ (c : InChannel). has_object objects all c.beside)
+    (map (named f) (channels_of es ks)))
+    (pdo_object objects all es f n (node_at es n) ok.0 (λ x e. g n x e)
+    (left_each P (reading_reads r) more a))
+    (channels_have objects all es f ks ok.1 g (right_each P (reading_reads r) more a))
+
+stage_reads_objects : (objects : List ℕ) (all : List Stage) (es : List Entry)
+    (f : Place → PlanPlace) (o : Operation) → IsHonest es o
+    → ((n : ℕ) (x : Node) → node_at es n ≡ Some x → has_objects es x ≡ true)
+    → Each (λ c. is_place objects all (f c) ≡ is_object_at es c) (reads_of es o)
+    → stage_has objects all (stage_of es f o) ≡ true
+stage_reads_objects objects all es f (Flat n) h g a =
+    flat_has objects all es f (node_at es n) h (λ x e. g n x e) a
+stage_reads_objects objects all es f (Class keys gs cs) h g a =
+    channels_have objects all es f keys h.0 g a
+
+-- ---- all stages
+here_stage : (before : List Stage) (s : Stage) (more : List Stage)
+    → slice_get (before ++ s ∷ more) (length before) ≡ Some s
+here_stage [] s more = refl
+here_stage (x ∷ xs) s more = here_stage xs s more
+
+all_have : (objects : List ℕ) (all : List Stage) (es : List Entry) (before : List Stage) (k : ℕ)
+    (f : Place → PlanPlace) (made : List Place) (os : List Operation)
+    → ((n : ℕ) (x : Node) → node_at es n ≡ Some x → has_objects es x ≡ true)
+    → k ≡ suc (length before) → all ≡ before ++ stages_of es k f os
+    → ObjectsAt objects all es f made → Each (IsHonest es) os → Each (PassesCollections es) os
+    → AreReady es made os
+    → Each (λ s. stage_has objects all s ≡ true) (stages_of es k f os)
+all_have objects all es before k f made [] g e same m h p r = tt
+all_have objects all es before k f made (o ∷ os) g e same m h p r =
+    let st : Stage = stage_of es f o in
+    let names : Place → PlanPlace = placed k 0 (gives_of es o) f in
+    let more : List Stage = stages_of es (suc k) names os in
+    let less : k - 1 ≡ length before = omega arith in
+    let found : slice_get all (k - 1) ≡ Some st =
+    ap (slice_get all) less ∙ ap (λ (l : List Stage). slice_get l (length before)) same
+    ∙ here_stage before st more in
+    let result : (j : ℕ) → is_place objects all (at.Result k j) ≡ gives_objects es o =
+    λ j. result_by all k st (eqb k 0) refl found (λ z. omega arith) ∙ stage_object es f o h.0 in
+    let next : ObjectsAt objects all es names (gives_of es o ++ made) =
+    λ c i. placed_object objects all es f k 0 (gives_of es o) (gives_objects es o) c result
+    (given_objects es o h.0 p.0)
+    (elim (in_append c (gives_of es o) made i) [ inl j ↦ inl j | inr j ↦ inr (m c j) ]) in
+    let long = length-append before (st ∷ []) in (
+      stage_reads_objects objects all es f o h.0 g
+          (Each-weaker (λ c. IsIn c made) (λ c. is_place objects all (f c) ≡ is_object_at es c)
+          m (reads_of es o) r.0),
+      all_have objects all es (before ++ st ∷ []) (suc k) names (gives_of es o ++ made) os g
+          (omega arith) (same ∙ sym (append_assoc before (st ∷ []) more)) next h.1 p.1 r.1,
+    )
+
+-- ---- sources
+-- a source of that number that is an object
+record FoundSource (all : List Entry) (n : ℕ) : Type 0 where
+  pub source : Input
+  pub node : ℕ
+  pub at : node_at all node ≡ Some (Source source)
+  pub number : source.number ≡ n
+  pub object : source.is_object ≡ true
+
+source_among : (p : ℕ → Bool) (x : Node) (more : List ℕ) → list_any p more ≡ true
+    → list_any p (object_source x ++ more) ≡ true
+source_among p (Source r) more h = by r.is_object
+  where
+    by : (b : Bool) → list_any p (cond b (r.number ∷ []) [] ++ more) ≡ true
+    by true = or_right (p r.number) (list_any p more) h
+    by false = h
+source_among p (Flatten ins) more h = h
+source_among p (Pdo c f) more h = h
+source_among p (Gbk c o l k) more h = h
+source_among p (Barrier ins o l a) more h = h
+
+source_first : (r : Input) (more : List ℕ) → r.is_object ≡ true
+    → list_any (λ k. eqb k r.number) (object_source (Source r) ++ more) ≡ true
+source_first r more h =
+    ap (λ (b : Bool). list_any (λ k. eqb k r.number) (cond b (r.number ∷ []) [] ++ more)) h
+    ∙ or_left (eqb r.number r.number) (list_any (λ k. eqb k r.number) more)
+    (eq-eqb r.number r.number refl)
+
+has_source : (es : List Entry) (m : ℕ) (r : Input) → node_at es m ≡ Some (Source r)
+    → r.is_object ≡ true
+    → list_any (λ k. eqb k r.number) (flat_map (λ (e : Entry). object_source e.node) es) ≡ true
+has_source [] m r h o = let bad : ⊥ = cc in absurd bad
+has_source (e ∷ es) m r h o = by (eqb e.number m) h (λ i. has_source es m r i o)
+  where
+    more : List ℕ
+    more = flat_map (λ (e : Entry). object_source e.node) es
+
+    by : (b : Bool) → cond b (Some e.node) (node_at es m) ≡ Some (Source r)
+        → (node_at es m ≡ Some (Source r) → list_any (λ k. eqb k r.number) more ≡ true)
+        → list_any (λ k. eqb k r.number) (object_source e.node ++ more) ≡ true
+    by true i f =
+        let same : e.node ≡ Source r = cc in
+        ap (λ (x : Node). list_any (λ k. eqb k r.number) (object_source x ++ more)) same
+        ∙ source_first r more o
+    by false i f = source_among (λ k. eqb k r.number) e.node more (f i)
+
+find_first : (all : List Entry) (n m : ℕ) (x : Node) (more : List ℕ) → node_at all m ≡ Some x
+    → list_any (λ k. eqb k n) (object_source x ++ more) ≡ true
+    → (list_any (λ k. eqb k n) more ≡ true → FoundSource all n) → FoundSource all n
+find_first all n m (Source r) more e h f = by r.is_object refl h
+  where
+    by : (b : Bool) → r.is_object ≡ b
+        → list_any (λ k. eqb k n) (cond b (r.number ∷ []) [] ++ more) ≡ true → FoundSource all n
+    by true i j =
+        elim (or_cases (eqb r.number n) (list_any (λ k. eqb k n) more) j) [
+          | inl q ↦ record {
+            source = r;
+            node = m;
+            at = e;
+            number = eqb-true r.number n q;
+            object = i;
+          }
+          | inr q ↦ f q
+        ]
+    by false i j = f j
+find_first all n m (Flatten ins) more e h f = f h
+find_first all n m (Pdo c t) more e h f = f h
+find_first all n m (Gbk c o l k) more e h f = f h
+find_first all n m (Barrier ins o l a) more e h f = f h
+
+find_source : (all es : List Entry) (n : ℕ) → Each (λ e. node_at all e.number ≡ Some e.node) es
+    → list_any (λ k. eqb k n) (flat_map (λ (e : Entry). object_source e.node) es) ≡ true
+    → FoundSource all n
+find_source all [] n a h = absurd (false≢true h)
+find_source all (e ∷ es) n a h =
+    find_first all n e.number e.node (flat_map (λ (d : Entry). object_source d.node) es) a.0 h
+    (λ i. find_source all es n a.1 i)
+
+not_any : (b c : Bool) → (b ≡ true → c ≡ true) → (c ≡ true → b ≡ true) → b ≡ c
+not_any true true f g = refl
+not_any true false f g = sym (f refl)
+not_any false true f g = g refl
+not_any false false f g = refl
+
+source_object : (all : List Entry) (i : ℕ) (x : Node) (c : Place)
+    → Each (λ e. node_at all e.number ≡ Some e.node) all → SourcesAgree all
+    → node_at all i ≡ Some x → IsIn c (source_place i x)
+    → list_any (λ k. eqb k (source_at (node_at all c.node)))
+    (flat_map (λ (e : Entry). object_source e.node) all) ≡ is_object_at all c
+source_object all i (Source r) c f agree h (inl e) =
+    let found : node_at all c.node ≡ Some (Source r) =
+    ap (λ (d : Place). node_at all d.node) (sym e) ∙ h in
+    let flags : List ℕ = flat_map (λ (e : Entry). object_source e.node) all in
+    ap (λ (o : Option Node). list_any (λ k. eqb k (source_at o)) flags) found
+    ∙ not_any (list_any (λ k. eqb k r.number) flags) r.is_object
+    (λ q. (let s = find_source all all r.number f q in
+    agree c.node s.node r s.source found s.at (sym s.number) ∙ s.object))
+    (λ q. has_source all c.node r found q)
+    ∙ sym (ap is_object found)
+source_object all i (Source r) c f agree h (inr e) = absurd e
+source_object all i (Flatten ins) c f agree h e = absurd e
+source_object all i (Pdo d t) c f agree h e = absurd e
+source_object all i (Gbk d o l k) c f agree h e = absurd e
+source_object all i (Barrier ins o l a) c f agree h e = absurd e
+
+sources_objects : (stages : List Stage) (all es : List Entry)
+    → Each (λ e. node_at all e.number ≡ Some e.node) all → SourcesAgree all
+    → Each (λ e. node_at all e.number ≡ Some e.node) es
+    → ObjectsAt (flat_map (λ (e : Entry). object_source e.node) all) stages all (at_source all)
+    (source_places es)
+sources_objects stages all [] f agree a c i = absurd i
+sources_objects stages all (e ∷ es) f agree a c i =
+    elim (in_append c (source_place e.number e.node) (source_places es) i) [
+      | inl j ↦ source_object all e.number e.node c f agree a.0 j
+      | inr j ↦ sources_objects stages all es f agree a.1 c j
+    ]
+
+pub plan_objects : (g : Graph) (os : List Operation)
+    → Each (λ e. node_at g.nodes e.number ≡ Some e.node) g.nodes → SourcesAgree g.nodes
+    → DoAll g os → HaveObjects g.nodes → Each (PassesCollections g.nodes) os
+    → Each (λ s. stage_has (flat_map (λ (e : Entry). object_source e.node) g.nodes)
+    (stages_of g.nodes 1 (at_source g.nodes) os) s ≡ true)
+    (stages_of g.nodes 1 (at_source g.nodes) os)
+plan_objects g os found agree d have p =
+    let all : List Stage = stages_of g.nodes 1 (at_source g.nodes) os in
+    all_have (flat_map (λ (e : Entry). object_source e.node) g.nodes) all g.nodes [] 1
+    (at_source g.nodes) (source_places g.nodes) os
+    (λ n x e. all_found (λ e. has_objects g.nodes e.node ≡ true) g.nodes n x e have) refl refl
+    (sources_objects all g.nodes g.nodes found agree found) d.sound p d.ready

@@ -1,0 +1,11 @@
+pub mod Weighing
+pub mod Roots
+pub mod Sums
+pub mod SinkReads
+pub mod Enough
+pub mod SinkPlaces
+pub mod SinkLighter
+pub mod MergeLighter
+pub mod Reading
+pub mod Singles
+pub mod Ending

@@ -1,0 +1,45 @@
+-- The outputs of a Pdo that have a reader, and the step of a Pdo with one output.
+use Rattle.std.specs.Prelude.{ℕ, ◌+◌, Bool, cond, List, [], ◌∷◌, ◌++◌, length, Option, Some, None}
+use Rattle.std.proofs.Common.{zero, suc}
+use Rattle.exec_graph.specs.Forests.{Forest, Bare, Grow}
+use Rattle.exec_graph.specs.Meaning.{place}
+use Rattle.exec_graph.specs.Readers.{is_read}
+use Rattle.exec_graph.specs.declared.graph.Place.{Place}
+use Rattle.exec_graph.specs.declared.graph.Node.TheVariants.{Flatten}
+use Rattle.exec_graph.specs.declared.graph.Graph.{Graph}
+use Rattle.graph_laws.specs.Joining.{set_node}
+use Rattle.sink_laws.specs.Sinking.{copies, copied}
+
+-- The number that an output has, where it has one.
+abbrev pub number_of : Option ℕ → List ℕ
+number_of None = []
+number_of (Some j) = j ∷ []
+
+-- The numbers of a forest's outputs, in preorder: an output that nothing reads has none.
+abbrev pub numbers : Forest → List ℕ
+numbers Bare = []
+numbers (Grow l kids rest) = number_of l.out ++ (numbers kids ++ numbers rest)
+
+-- The numbers that pass a test.
+abbrev pub passing : (ℕ → Bool) → List ℕ → List ℕ
+passing t [] = []
+passing t (j ∷ js) = cond (t j) (j ∷ passing t js) (passing t js)
+
+-- The outputs of Pdo p with forest f that have a reader, in order.
+abbrev pub read_outputs : Graph → ℕ → Forest → List ℕ
+read_outputs g p f = passing (λ j. is_read g (place p j)) (numbers f)
+
+-- So many numbers from n on.
+abbrev pub from : ℕ → ℕ → List ℕ
+from n zero = []
+from n (suc k) = n ∷ from (n + 1) k
+
+-- ---- one output
+
+-- A Pdo with one output becomes the Flatten of that output of its copies, and keeps its number.
+abbrev pub sunk_single : Graph → ℕ → Forest → List Place → Graph
+sunk_single g p f ins = record {
+  nodes = set_node g.nodes p (Flatten (copied g.next 0 ins)) ++ copies g.next f ins;
+  outputs = g.outputs;
+  next = g.next + length ins;
+}
