@@ -20,6 +20,8 @@ combiner_filled g.max_ p = (on p, _, g.max_)
 combiner_filled g.all p = (on p, _, g.all)
 combiner_filled g.any p = (on p, _, g.any)
 combiner_filled g.top p = (on (on p), _, g.top)
+combiner_filled g.mean p = (on p, _, g.mean)
+combiner_filled g.distinct p = (on p, _, g.distinct)
 
 names_filled : {ts us : List Token} {ns : List (List ℕ)} → g.AreNames ts us ns → (p : Plan)
     → FilledList (λ xs ys ms. g.AreNames xs ys ms) p ts us ns

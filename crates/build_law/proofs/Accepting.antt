@@ -19,6 +19,7 @@ use Rattle.written_types.specs.Answer.{unless, or_fault}
 use Rattle.written_types.specs.Named.{fresh}
 use Rattle.written_types.specs.Written.{shallow, whole_type}
 use Rattle.body_check.specs.Bodies.{body_of}
+use Rattle.script_program.specs.Limits.{most_collections}
 use Rattle.script_program.specs.declared.made.Made.{Made}
 use Rattle.script_program.specs.Script.{Callee, Node, Operand, Script, State, nothing, script_from, with_node}
 use Rattle.operation_check.specs.Operations as spec
@@ -144,7 +145,7 @@ module _ (line : ℕ) (s after : State) (fine : AllFine s) where
   input_fine : (name : List ℕ) (type : tree.Type) (file : List ℕ)
       → rules_.rule_input line name type file s ≡ Ok after → AllFine after
   input_fine name type file e =
-      let few = both (rules_.room line 256 s.nodes) _ after e in
+      let few = both (rules_.room line most_collections s.nodes) _ after e in
       let new = both (fresh line name s.nodes) _ after few.then in
       let t = both (whole_type line type s.types) _ after new.then in
       let columns = both (or_fault line NotFlat (input_columns_of t.part)) _ after t.then in
@@ -165,7 +166,7 @@ module _ (line : ℕ) (s after : State) (fine : AllFine s) where
   let_fine : (name : List ℕ) (by : Operation) → IsShortOperation by
       → rules_.rule_let line name by s ≡ Ok after → AllFine after
   let_fine name by short e =
-      let few = both (rules_.room line 256 s.nodes) _ after e in
+      let few = both (rules_.room line most_collections s.nodes) _ after e in
       let new = both (fresh line name s.nodes) _ after few.then in
       let node = both (spec.made_by line by s) _ after new.then in
       let low = both (shallow line node.part.type) _ after node.then in

@@ -5,19 +5,21 @@ use flume_syntax::ScriptKind;
 use std::alloc::{AllocError, Global};
 use std::test::Fail;
 
-/// So many statements that differ in a name: `before`, two letters of its own and `after` for each.
+/// So many statements that differ in a name: `before`, three letters of its own and `after` for
+/// each.
 fn named_apart(
     alloc: Global,
     head: &[u8],
     before: &[u8],
-    times: u8,
+    times: u16,
     after: &[u8],
 ) -> Result<Vec<u8>, AllocError> {
     let mut script = Vec::from_slice(alloc, head)?;
     for i in 0..times {
         script.extend_from_slice(before)?;
-        script.push(b'a' + i / 26)?;
-        script.push(b'a' + i % 26)?;
+        for letter in [i / 676 % 26, i / 26 % 26, i % 26] {
+            script.push(b'a' + letter as u8)?;
+        }
         script.extend_from_slice(after)?;
     }
     Ok(script)
@@ -30,7 +32,7 @@ const WRITTEN: &[u8] = b"input a: {n: int} from \"i\" output a to \"o\" ";
 const COUNTED: &[u8] = b"input a: {n: int} from \"i\" output a to \"o\" let o = count a ";
 
 static ONE_FUNCTION: [Faulty<'static>; 1] = [(
-    b"\nfn xaa(x: int) -> int { }",
+    b"\nfn xaaa(x: int) -> int { }",
     2,
     ScriptKind::TooMany,
 )];
@@ -44,7 +46,7 @@ fn one_more_function(rt: HostRuntime) -> Result<(), Fail> {
     Ok(())
 }
 
-static ONE_OUTPUT: [Faulty<'static>; 1] = [(b"\noutput nope to \"aa\"", 2, ScriptKind::TooMany)];
+static ONE_OUTPUT: [Faulty<'static>; 1] = [(b"\noutput nope to \"aaa\"", 2, ScriptKind::TooMany)];
 
 #[test]
 fn one_more_output(rt: HostRuntime) -> Result<(), Fail> {
@@ -56,14 +58,14 @@ fn one_more_output(rt: HostRuntime) -> Result<(), Fail> {
 }
 
 static ONE_COLLECTION: [Faulty<'static>; 2] = [
-    (b"\nlet xaa = group nope", 2, ScriptKind::TooMany),
-    (b"\ninput xaa: nope from \"x\"", 2, ScriptKind::TooMany),
+    (b"\nlet xaaa = group nope", 2, ScriptKind::TooMany),
+    (b"\ninput xaaa: nope from \"x\"", 2, ScriptKind::TooMany),
 ];
 
 #[test]
 fn one_more_collection(rt: HostRuntime) -> Result<(), Fail> {
     let alloc = rt.alloc();
-    let most = named_apart(alloc, COUNTED, b"let x", 254, b" = top 1 a ")?;
+    let most = named_apart(alloc, COUNTED, b"let x", 1022, b" = top 1 a ")?;
     assert_eq!(rt; told_of(alloc, &most, b""), Outcome::Accepted);
     assert_eq!(rt; first_other(alloc, &most, &ONE_COLLECTION), None);
     Ok(())

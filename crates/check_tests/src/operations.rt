@@ -10,7 +10,7 @@ const HEAD: &[u8] = b"input a: {n: int} from \"i\" input t: table<int, int> from
     output a to \"o\"\n";
 
 /// Operations with the first fault of each.
-static FAULTS: [Faulty<'static>; 24] = [
+static FAULTS: [Faulty<'static>; 26] = [
     (b"let c = do nope nope", 2, ScriptKind::Unknown),
     (b"let c = do a nope", 2, ScriptKind::Unknown),
     (b"let c = do f a", 2, ScriptKind::Unknown),
@@ -27,6 +27,12 @@ static FAULTS: [Faulty<'static>; 24] = [
         2,
         ScriptKind::Mistyped,
     ),
+    (
+        b"let g = group w let c = combine g by mean",
+        2,
+        ScriptKind::Mistyped,
+    ),
+    (b"let mean = count a", 2, ScriptKind::Syntax),
     (b"let c = combine t by sum", 2, ScriptKind::NotTable),
     (b"let c = combine a by sum", 2, ScriptKind::NotTable),
     (b"let c = combine nope by top 0", 2, ScriptKind::Unknown),
@@ -56,12 +62,15 @@ fn faults_of_operations(rt: HostRuntime) -> Result<(), Fail> {
 }
 
 /// Operations without a fault.
-static ACCEPTED: [&[u8]; 9] = [
+static ACCEPTED: [&[u8]; 12] = [
     b"let c = do a f output c to \"p\"",
     b"let g = group t let s = combine g by sum output s to \"p\"",
     b"let g = group w let s = combine g by top 3",
     b"let g = group w let s = combine g by min output s to \"p\"",
     b"let g = group w let s = combine g by count output s to \"p\"",
+    b"let g = group t let s = combine g by mean output s to \"p\"",
+    b"let g = group w let s = combine g by distinct",
+    b"let g = group t let s = combine g by distinct let d = group s",
     b"let c = flatten a, a output c to \"p\"",
     b"let c = count w let d = count c output c to \"p\"",
     b"let c = join t, t let d = join c, t",

@@ -7,10 +7,11 @@ use mathlib.Core.Option.{some}
 use lib.ListN.{get_elem?}
 use Rattle.std.specs.Prelude.{sum_by}
 use Rattle.claim_board.specs.Counts.{one_if, times, times_first}
-use Rattle.claim_board.specs.Protocol.{PassState, State, drawn, looked, winning, losing, of_task, IsOpen, IsGoodPass, IsGood, Event, Draw, Look, Win, Lose, Step}
+use Rattle.claim_board.specs.Protocol.{PassState, State, DrewNumber, SawWord, WonTask, LostTask, steps_of, drawn, looked, winning, losing, of_task, IsOpen, IsInOrder, IsGoodPass, IsGood, Event, Draw, Look, Win, Lose, Step}
 use Rattle.std.proofs.lemmas.List.Elements.{All-push}
 use Rattle.std.proofs.lemmas.List.Sums.{sum_by_push}
 use Rattle.claim_board.proofs.Totals.{total_up, all_set, all_at, all_map, at_test}
+use Rattle.claim_board.proofs.Placing.{order_more}
 
 -- a word that is not 0 stays
 abbrev pub Stay : List ℕ → List ℕ → Type 0
@@ -43,9 +44,9 @@ module _ (tasks tries : ℕ) where
     own = h.own;
   }
 
-  pub draw_pass : (words : List ℕ) (v : PassState) (d : ℕ) → v.ended ≡ false
-      → IsGoodPass tasks tries words v → IsGoodPass tasks tries words (drawn (tasks * tries) v d)
-  draw_pass words v d may h = record {
+  pub draw_pass : (words : List ℕ) (v : PassState) (n d : ℕ) → v.ended ≡ false
+      → IsGoodPass tasks tries words v → IsGoodPass tasks tries words (drawn (tasks * tries) v n d)
+  draw_pass words v n d may h = record {
     ends = (let p = sum_by_push (λ (x : ℕ). one_if (leb (tasks * tries) x)) v.draws d in
         let z : one_if v.ended ≡ 0 = ap one_if may in let e = h.ends in omega arith);
     won = h.won;
@@ -55,10 +56,10 @@ module _ (tasks tries : ℕ) where
         omega arith;
   }
 
-  pub look_pass : (words : List ℕ) (v : PassState) (t : ℕ) → t < tasks
+  pub look_pass : (words : List ℕ) (v : PassState) (n t : ℕ) → t < tasks
       → IsGoodPass tasks tries words v
-      → IsGoodPass tasks tries words (looked v t (get_or words t 0))
-  look_pass words v t small h = record {
+      → IsGoodPass tasks tries words (looked v n t (get_or words t 0))
+  look_pass words v n t small h = record {
     ends = h.ends;
     won = h.won;
     lost = h.lost;
@@ -67,10 +68,10 @@ module _ (tasks tries : ℕ) where
     own = h.own;
   }
 
-  pub win_pass : (words : List ℕ) (v : PassState) (d : ℕ) → IsOpen tasks tries v d
+  pub win_pass : (words : List ℕ) (v : PassState) (n d : ℕ) → IsOpen tasks tries v d
       → get_or words (d % tasks) 0 ≡ d / tasks + 1 → IsGoodPass tasks tries words v
-      → IsGoodPass tasks tries words (winning v d)
-  win_pass words v d may is h = record {
+      → IsGoodPass tasks tries words (winning v n d)
+  win_pass words v n d may is h = record {
     ends = h.ends;
     won = All-push (λ d. (d < tasks * tries) × (get_or words (d % tasks) 0 ≡ d / tasks + 1)) v.won d
         h.won (may.1, is);
@@ -84,10 +85,10 @@ module _ (tasks tries : ℕ) where
         (λ n. omega arith) in omega arith;
   }
 
-  pub lose_pass : (words : List ℕ) (v : PassState) (d : ℕ) → IsOpen tasks tries v d
+  pub lose_pass : (words : List ℕ) (v : PassState) (n d : ℕ) → IsOpen tasks tries v d
       → get_or words (d % tasks) 0 ≢ 0 → IsGoodPass tasks tries words v
-      → IsGoodPass tasks tries words (losing v d (get_or words (d % tasks) 0))
-  lose_pass words v d may full h = record {
+      → IsGoodPass tasks tries words (losing v n d (get_or words (d % tasks) 0))
+  lose_pass words v n d may full h = record {
     ends = h.ends;
     won = h.won;
     lost = All-push (λ (x : ℕ × ℕ). (x.0 < tasks * tries) × (get_or words (x.0 % tasks) 0 ≡ x.1)
@@ -108,39 +109,44 @@ module _ (tasks tries : ℕ) where
         next = s.next + 1;
         words = s.words;
         passes =
-            set s.passes p (drawn (tasks * tries) v s.next);
+            set s.passes p (drawn (tasks * tries) v (steps_of s.passes) s.next);
       }
-  draw_good s p v h at may = let w = drawn (tasks * tries) v s.next in record {
-    sized = h.sized;
-    each_once = λ d. let f : PassState → ℕ = λ u. times d u.draws in
-        let up = total_up f s.passes p (one_if (eqb s.next d)) v w at
-        (sum_by_push (λ (x : ℕ). one_if (eqb x d)) v.draws s.next) in
-        let before = h.each_once d in
-        let F : ℕ → Type 0 = λ n. (d < s.next + 1 → sum_by f s.passes + n ≡ 1)
-        × (s.next + 1 ≤ d → sum_by f s.passes + n ≡ 0) in
-        let q : F (one_if (eqb s.next d)) = at_test s.next d F
-        (λ e. ((λ _. let z = before.1 (omega arith) in omega arith), λ l. absurd (omega arith)))
-        (λ n. (
-          (λ l. let z = before.0 (omega arith) in omega arith),
-          λ l. let z =
-              before.1 (omega arith) in omega arith,
-        )) in
-        ((λ l. up ∙ q.0 l), λ l. up ∙ q.1 l);
-    one_winner = λ t small. let same =
-        total_up (λ (u : PassState). of_task tasks t u.won) s.passes p 0 v w at (omega arith) in
-        let o = h.one_winner t small in
-        ((λ z. let r = o.0 z in omega arith), λ n. let r = o.1 n in omega arith);
-    passes = all_set (IsGoodPass tasks tries s.words) s.passes p w h.passes
-        (draw_pass s.words v s.next may
-        (all_at (IsGoodPass tasks tries s.words) s.passes p v h.passes at));
-  }
+  draw_good s p v h at may =
+      let w = drawn (tasks * tries) v (steps_of s.passes) s.next in record {
+        sized = h.sized;
+        each_once = λ d. let f : PassState → ℕ = λ u. times d u.draws in
+            let up = total_up f s.passes p (one_if (eqb s.next d)) v w at
+            (sum_by_push (λ (x : ℕ). one_if (eqb x d)) v.draws s.next) in
+            let before = h.each_once d in
+            let F : ℕ → Type 0 = λ n. (d < s.next + 1 → sum_by f s.passes + n ≡ 1)
+            × (s.next + 1 ≤ d → sum_by f s.passes + n ≡ 0) in
+            let q : F (one_if (eqb s.next d)) = at_test s.next d F
+            (λ e. ((λ _. let z = before.1 (omega arith) in omega arith), λ l. absurd (omega arith)))
+            (λ n. (
+              (λ l. let z = before.0 (omega arith) in omega arith),
+              λ l. let z =
+                  before.1 (omega arith) in omega arith,
+            )) in
+            ((λ l. up ∙ q.0 l), λ l. up ∙ q.1 l);
+        one_winner = λ t small. let same =
+            total_up (λ (u : PassState). of_task tasks t u.won) s.passes p 0 v w at (omega arith) in
+            let o = h.one_winner t small in
+            ((λ z. let r = o.0 z in omega arith), λ n. let r = o.1 n in omega arith);
+        passes = all_set (IsGoodPass tasks tries s.words) s.passes p w h.passes
+            (draw_pass s.words v (steps_of s.passes) s.next may
+            (all_at (IsGoodPass tasks tries s.words) s.passes p v h.passes at));
+        order = order_more tasks tries s p v w (DrewNumber s.next) (s.next + 1) s.words h.order at
+            refl
+            (refl, refl, refl);
+      }
 
   -- a step that changes neither the draws nor the won ones, nor a word
   pub still_good : (s : State) (p : ℕ) (v w : PassState) → IsGood tasks tries s
       → get_elem? s.passes p ≡ some v → w.draws ≡ v.draws → w.won ≡ v.won
       → IsGoodPass tasks tries s.words w
+      → IsInOrder tasks tries record { next = s.next; words = s.words; passes = set s.passes p w }
       → IsGood tasks tries record { next = s.next; words = s.words; passes = set s.passes p w }
-  still_good s p v w h at draws won good = record {
+  still_good s p v w h at draws won good order = record {
     sized = h.sized;
     each_once = λ d. let same = total_up (λ (u : PassState). times d u.draws) s.passes p 0 v w at
         (let e : times d w.draws ≡ times d v.draws = ap (times d) draws in omega arith) in let o =
@@ -153,6 +159,7 @@ module _ (tasks tries : ℕ) where
         h.one_winner t small in
         ((λ z. let r = o.0 z in omega arith), λ n. let r = o.1 n in omega arith);
     passes = all_set (IsGoodPass tasks tries s.words) s.passes p w h.passes good;
+    order = order;
   }
 
   pub win_good : (s : State) (p : ℕ) (v : PassState) (d : ℕ) → 0 < tasks → IsGood tasks tries s
@@ -161,10 +168,11 @@ module _ (tasks tries : ℕ) where
         next = s.next;
         words =
             set s.words (d % tasks) (d / tasks + 1);
-        passes = set s.passes p (winning v d);
+        passes = set s.passes p (winning v (steps_of s.passes) d);
       }
   win_good s p v d some_task h at may empty =
-      let w = winning v d in let t : ℕ = d % tasks in let a : ℕ = d / tasks + 1 in
+      let w = winning v (steps_of s.passes) d in
+      let t : ℕ = d % tasks in let a : ℕ = d / tasks + 1 in
       let new : List ℕ = set s.words t a in
       let size = h.sized in
       let inside : t < length s.words = omega arith in
@@ -195,8 +203,10 @@ module _ (tasks tries : ℕ) where
         passes = all_set (IsGoodPass tasks tries new) s.passes p w
             (all_map (IsGoodPass tasks tries s.words) (IsGoodPass tasks tries new) s.passes
             (λ u g. pass_stays s.words new u stay g) h.passes)
-            (win_pass new v d may is (pass_stays s.words new v stay
+            (win_pass new v (steps_of s.passes) d may is (pass_stays s.words new v stay
             (all_at (IsGoodPass tasks tries s.words) s.passes p v h.passes at)));
+        order = order_more tasks tries s p v w (WonTask d) s.next new h.order at refl
+            (empty, refl, refl);
       }
 
   pub step_keeps : (old new : State) (e : Event) → 0 < tasks → Step tasks tries old e new
@@ -206,12 +216,19 @@ module _ (tasks tries : ℕ) where
   step_keeps old new (Look p t) some_task s h =
       subst (IsGood tasks tries) (sym s.3)
       (still_good old p s.0 _ h s.1 refl refl
-      (look_pass old.words s.0 t s.2
-      (all_at (IsGoodPass tasks tries old.words) old.passes p s.0 h.passes s.1)))
+      (look_pass old.words s.0 (steps_of old.passes) t s.2
+      (all_at (IsGoodPass tasks tries old.words) old.passes p s.0 h.passes s.1))
+      (order_more tasks tries old p s.0
+      (looked s.0 (steps_of old.passes) t (get_or old.words t 0))
+      (SawWord t (get_or old.words t 0)) old.next old.words h.order s.1 refl (refl, refl, refl)))
   step_keeps old new (Win p d) some_task s h =
       subst (IsGood tasks tries) (sym s.4) (win_good old p s.0 d some_task h s.1 s.2 s.3)
   step_keeps old new (Lose p d) some_task s h =
       subst (IsGood tasks tries) (sym s.4)
       (still_good old p s.0 _ h s.1 refl refl
-      (lose_pass old.words s.0 d s.2 s.3
-      (all_at (IsGoodPass tasks tries old.words) old.passes p s.0 h.passes s.1)))
+      (lose_pass old.words s.0 (steps_of old.passes) d s.2 s.3
+      (all_at (IsGoodPass tasks tries old.words) old.passes p s.0 h.passes s.1))
+      (order_more tasks tries old p s.0
+      (losing s.0 (steps_of old.passes) d (get_or old.words (d % tasks) 0))
+      (LostTask d (get_or old.words (d % tasks) 0)) old.next old.words h.order s.1 refl
+      (refl, s.3, refl, refl)))

@@ -1,4 +1,5 @@
 pub mod Totals
+pub mod Placing
 pub mod Keeps
 pub mod Whole
 pub mod Ruling

@@ -14,10 +14,12 @@ use Rattle.atomic_table.specs.Table.{step, keeps, stepped, Allows}
 use Rattle.claim_board.specs.declared.size.Size.{Size}
 use Rattle.std.specs.Prelude.{sum_by, All}
 use Rattle.claim_board.specs.Counts.{one_if, times}
-use Rattle.claim_board.specs.Protocol.{PassState, State, drawn, looked, winning, losing, of_task, IsOpen, IsGoodPass, IsGood, Draw, Look, Win, Lose}
+use Rattle.claim_board.specs.Protocol.{PassState, State, steps_of, drawn, looked, winning, losing, of_task, IsOpen, IsGoodPass, IsGood, Draw, Look, Win, Lose}
 use Rattle.claim_board.specs.Seats.{View, limit_at, pass_view, all_passes, task_words, Rule}
 use Rattle.claim_board.specs.inner.Seats.{pass_in, Drawing, Looking, Claiming, Seated, Steps, draw_tells, look_tells, commit_tells}
+use Rattle.claim_board.specs.Boards.{HasWon, HasLost}
 use Rattle.claim_board.specs.Told.{draw_of}
+use Rattle.claim_board.proofs.Placing.{before_next}
 use Rattle.std.proofs.lemmas.List.Sums.{sum_by_push, sum_by-cons}
 use Rattle.claim_board.proofs.Totals.{times-cons, total_at, all_at, all_map, one_if_eq}
 use Rattle.claim_board.proofs.Ruling.{place, total_all, total_ones, total_least, total_same, next_set, rest_set_next, next_set_rest, rest_set, rest_at, pass_step}
@@ -74,7 +76,8 @@ module _ (k : Size) (p : PassState) (slots id : ℕ) where
       (λ n. (n + 1) % 2 ^ 64) (λ n w. Steps (pass_view k p, []) w (λ k p q. Drawing k p n q))
   draws going s h _ at _ =
       let n : ℕ = get_or s.words 0 0 in
-      let q : PassState = drawn (limit_at k) p n in
+      let m : ℕ = steps_of (all_passes s.views) in
+      let q : PassState = drawn (limit_at k) p m n in
       let not_yet : one_if p.ended ≡ 0 = ap one_if going in
       let wide = h.wide in
       let room = h.room in
@@ -125,7 +128,7 @@ module _ (k : Size) (p : PassState) (slots id : ℕ) where
         (
           refl,
           (
-            refl,
+            (m, before_next k.tasks k.tries _ pl.0 p good.order pl.1, refl),
             (λ l. (
               (let one = one_if_eq n n refl in let push =
                   sum_by_push (λ (x : ℕ). one_if (eqb x n)) p.draws n in omega arith),
@@ -157,7 +160,11 @@ module _ (k : Size) (p : PassState) (slots id : ℕ) where
       (λ n w. Steps (pass_view k p, []) w (λ k p q. Looking k p t n q))
   looks t small s h _ at _ =
       let n : ℕ = get_or s.words (t + 1) 0 in
-      let q : PassState = looked p t n in
+      let m : ℕ = steps_of (all_passes s.views) in
+      let q : PassState = looked p m t n in
+      let pl = place s.views id (pass_view k p) p at refl in
+      let good = h.good in
+      let later = before_next k.tasks k.tries _ pl.0 p good.order pl.1 in
       let back = sym (rest_at s.words t) in
       let same : set s.words (t + 1) n ≡ s.words = set-get_or s.words (t + 1) 0 in (
         pass_view k q,
@@ -174,14 +181,14 @@ module _ (k : Size) (p : PassState) (slots id : ℕ) where
                 next = get_or s.words 0 0;
                 words = task_words s.words;
                 passes =
-                    set (all_passes s.views) j (looked p t (back i));
+                    set (all_passes s.views) j (looked p m t (back i));
               },
             ))
             (λ x y before change. omega arith)),
         (
           refl,
           (
-            refl,
+            record { place = m; later = later; gained = refl },
             subst (λ (z : ℕ). z ≤ k.tries) (rest_at s.words t)
                 (word_low k.tasks k.tries _ t small h.good),
           ),
@@ -199,8 +206,12 @@ module _ (k : Size) (p : PassState) (slots id : ℕ) where
       let low : n ≤ k.tries = subst (λ (z : ℕ). z ≤ k.tries) (rest_at s.words t)
       (word_low k.tasks k.tries _ t small h.good) in
       let a : ℕ = d / k.tasks + 1 in
+      let m : ℕ = steps_of (all_passes s.views) in
+      let pl = place s.views id (pass_view k p) p at refl in
+      let good = h.good in
+      let later = before_next k.tasks k.tries _ pl.0 p good.order pl.1 in
       dite (ℕ_discrete n 0)
-      (λ hit. let q : PassState = winning p d in
+      (λ hit. let q : PassState = winning p m d in
       let yes : eqb n 0 ≡ true = eq-eqb n 0 hit in
       let ws : List ℕ = set s.words (t + 1) a in
       let next = next_set_rest s.words t a in
@@ -228,13 +239,13 @@ module _ (k : Size) (p : PassState) (slots id : ℕ) where
         (
           refl,
           (
-            subst (λ (b : Bool). MatchBool b (q ≡ winning p d) (q ≡ losing p d n)) (sym yes)
-                refl,
+            subst (λ (b : Bool). MatchBool b (HasWon p q d) (HasLost p q d n)) (sym yes)
+                record { place = m; later = later; gained = refl },
             low,
           ),
         ),
       ))
-      (λ miss. let q : PassState = losing p d n in
+      (λ miss. let q : PassState = losing p m d n in
       let no : eqb n 0 ≡ false = ne_eqb n 0 miss in
       let back = sym (rest_at s.words t) in (
         pass_view k q,
@@ -255,15 +266,15 @@ module _ (k : Size) (p : PassState) (slots id : ℕ) where
                 next = get_or s.words 0 0;
                 words = task_words s.words;
                 passes =
-                    set (all_passes s.views) j (losing p d (back i));
+                    set (all_passes s.views) j (losing p m d (back i));
               },
             ))
             (λ x y before change. omega arith))),
         (
           refl,
           (
-            subst (λ (b : Bool). MatchBool b (q ≡ winning p d) (q ≡ losing p d n)) (sym no)
-                refl,
+            subst (λ (b : Bool). MatchBool b (HasWon p q d) (HasLost p q d n)) (sym no)
+                record { place = m; later = later; gained = refl },
             low,
           ),
         ),

@@ -8,7 +8,7 @@ use Rattle.atomic_table.proofs.Lists.{at_set, at_snoc}
 use Rattle.claim_board.specs.declared.size.Size.{Size}
 use Rattle.std.specs.Prelude.{sum_by, All}
 use Rattle.claim_board.specs.Counts.{one_if, times}
-use Rattle.claim_board.specs.Protocol.{PassState, State, fresh, of_task, IsGoodPass, IsGood}
+use Rattle.claim_board.specs.Protocol.{Deed, PassState, State, times_placed, fresh, of_task, IsGoodPass, IsGood}
 use Rattle.claim_board.specs.Seats.{View, IsSize, maker_view, pass_view, all_passes, task_words, state_of, Rule, spent_view}
 use Rattle.claim_board.specs.inner.Seats.{make_left, make_right, take_over}
 use Rattle.std.proofs.lemmas.List.Elements.{All-push, All-nil, All-cons, All-head}
@@ -54,6 +54,19 @@ fresh_good tasks tries s m h = record {
       ((λ l. let a = o.0 l in omega arith), λ l. let a = o.1 l in omega arith);
   passes = All-push (IsGoodPass tasks tries s.words) s.passes (fresh m) h.passes
       (fresh_pass tasks tries s.words m);
+  order = let o = h.order in record {
+    deeds = o.deeds;
+    lead = o.lead;
+    count = let p = sum_by_push (λ (v : PassState). length v.deeds) s.passes (fresh m) in
+        let c = o.count in omega arith;
+    placed = All-push (λ (v : PassState). All (λ x. get_elem? o.deeds x.0 ≡ some x.1) v.deeds)
+        s.passes (fresh m) o.placed
+        (All-nil (λ (x : ℕ × Deed). get_elem? o.deeds x.0 ≡ some x.1));
+    each_once = λ n. let p =
+        sum_by_push (λ (v : PassState). times_placed n v.deeds) s.passes (fresh m) in
+        let e = o.each_once n in
+        ((λ l. let a = e.0 l in omega arith), λ l. let a = e.1 l in omega arith);
+  };
 }
 
 pub makes : (k : Size) (n : ℕ) (ps : List PassState) → n < k.crew
@@ -131,6 +144,14 @@ regroup tasks tries next ws ps qs same each h = record {
   one_winner = λ t small. let e = same (λ (v : PassState). of_task tasks t v.won) in let o =
       h.one_winner t small in ((λ l. e ∙ o.0 l), λ l. e ∙ o.1 l);
   passes = each (IsGoodPass tasks tries ws) h.passes;
+  order = let o = h.order in record {
+    deeds = o.deeds;
+    lead = o.lead;
+    count = o.count ∙ sym (same (λ (v : PassState). length v.deeds));
+    placed = each (λ v. All (λ x. get_elem? o.deeds x.0 ≡ some x.1) v.deeds) o.placed;
+    each_once = λ n. let e = same (λ (v : PassState). times_placed n v.deeds) in
+        let a = o.each_once n in ((λ l. e ∙ a.0 l), λ l. e ∙ a.1 l);
+  };
 }
 
 pub joins : (k : Size) (n : ℕ) (ps : List PassState) (other : ℕ) (p : PassState)

@@ -6,7 +6,7 @@ use Rattle.claim_board.specs.declared.size.Size.{Size}
 use Rattle.claim_board.specs.Counts.{one_if}
 use Rattle.claim_board.specs.Protocol.{PassState, drawn, looked, winning, losing, Event, Draw, Look, Win, Lose, Step}
 use Rattle.claim_board.specs.Seats.{limit_at, pass_view, all_passes, task_words, state_of, Rule}
-use Rattle.claim_board.specs.Steps.{Leads, DrawSteps, LookSteps, WinSteps, LoseSteps, MakeSteps, JoinSteps}
+use Rattle.claim_board.specs.Steps.{next_place, Leads, DrawSteps, LookSteps, WinSteps, LoseSteps, MakeSteps, JoinSteps}
 use Rattle.claim_board.proofs.Ruling.{Tab, place, next_set, rest_set_next, next_set_rest, rest_set, rest_at, pass_step}
 use Rattle.claim_board.proofs.Moves.{room_after}
 use Rattle.claim_board.proofs.Seating.{makes, joins}
@@ -35,7 +35,7 @@ leads k s id p q ws e h at number size goes room =
 
 pub draw_steps : DrawSteps
 draw_steps k s id p h at going =
-    let n : ℕ = get_or s.words 0 0 in let q : PassState = drawn (limit_at k) p n in
+    let n : ℕ = get_or s.words 0 0 in let q : PassState = drawn (limit_at k) p (next_place s) n in
     let ws : List ℕ = set s.words 0 (n + 1) in
     let wide = h.wide in
     let next = next_set s.words (n + 1) (omega arith) in let rest = rest_set_next s.words (n + 1) in
@@ -55,7 +55,8 @@ draw_steps k s id p h at going =
 pub look_steps : LookSteps
 look_steps t k s id p h at small =
     let back = sym (rest_at s.words t) in
-    leads k s id p (looked p t (get_or s.words (t + 1) 0)) s.words (λ j. Look j t) h at refl refl
+    leads k s id p (looked p (next_place s) t (get_or s.words (t + 1) 0)) s.words (λ j. Look j t) h
+    at refl refl
     (λ j e. (
       p,
       e,
@@ -64,7 +65,7 @@ look_steps t k s id p h at small =
         next = get_or s.words 0 0;
         words = task_words s.words;
         passes =
-            set (all_passes s.views) j (looked p t (back i));
+            set (all_passes s.views) j (looked p (next_place s) t (back i));
       },
     ))
     (λ x y before change. omega arith)
@@ -74,7 +75,8 @@ win_steps d k s id p h at may =
     let t : ℕ = d % k.tasks in let a : ℕ = d / k.tasks + 1 in let ws : List ℕ =
     set s.words (t + 1) a in
     let next = next_set_rest s.words t a in let rest = rest_set s.words t a in
-    leads k s id p (winning p d) ws (λ j. Win j d) h at refl (length-set s.words (t + 1) a)
+    leads k s id p (winning p (next_place s) d) ws (λ j. Win j d) h at refl
+    (length-set s.words (t + 1) a)
     (λ j e. (
       p,
       e,
@@ -85,7 +87,7 @@ win_steps d k s id p h at may =
         next = next i;
         words = rest i;
         passes =
-            set (all_passes s.views) j (winning p d);
+            set (all_passes s.views) j (winning p (next_place s) d);
       },
     ))
     (λ x y before change. subst (λ (z : ℕ). z ≤ limit_at k + y) (sym next) (omega arith))
@@ -94,7 +96,7 @@ pub lose_steps : LoseSteps
 lose_steps d k s id p h at may =
     let t : ℕ = d % k.tasks in let n : ℕ = get_or s.words (t + 1) 0 in
     let back = sym (rest_at s.words t) in
-    leads k s id p (losing p d n) s.words (λ j. Lose j d) h at refl refl
+    leads k s id p (losing p (next_place s) d n) s.words (λ j. Lose j d) h at refl refl
     (λ j e. (
       p,
       e,
@@ -104,7 +106,7 @@ lose_steps d k s id p h at may =
         next = get_or s.words 0 0;
         words = task_words s.words;
         passes =
-            set (all_passes s.views) j (losing p d (back i));
+            set (all_passes s.views) j (losing p (next_place s) d (back i));
       },
     ))
     (λ x y before change. omega arith)

@@ -9,9 +9,11 @@ use Rattle.std.proofs.Math.Nat.{mul-le-mul_right, le_trans, lt_of_lt_of_le, lt_o
 use native.Mathlib.Decide.{ℕ_discrete}
 use Rattle.std.proofs.lemmas.Bool.Decides.{leb_tells}
 use mathlib.Core.Logic.{dite}
+use mathlib.Core.Option.{some}
+use lib.ListN.{get_elem?}
 use Rattle.std.specs.Prelude.{sum_by, All}
 use Rattle.claim_board.specs.Counts.{one_if, times, times_first, from_on}
-use Rattle.claim_board.specs.Protocol.{PassState, State, word, fresh, fresh_from, start, of_task, IsGoodPass, IsGood, Event, Draw, Look, Win, Lose, Step, Runs}
+use Rattle.claim_board.specs.Protocol.{Deed, PassState, State, times_placed, word, fresh, fresh_from, start, of_task, IsGoodPass, IsGood, Event, Draw, Look, Win, Lose, Step, Runs}
 use Rattle.claim_board.specs.Laws.{EveryStateIsGood, WordsStay, EachTaskIsWonOnce, UndecidedWereDrawn, EndedMeansUsedUp, wins}
 use Rattle.claim_board.proofs.Totals.{times-cons, total_at, total_none, all_at, all_map, one_if_eq, at_test, times_none, times_first_none}
 use Rattle.claim_board.proofs.Keeps.{Stay, stay_set, step_keeps}
@@ -53,6 +55,17 @@ start_good tasks tries crew = record {
   );
   passes = each_fresh (IsGoodPass tasks tries (replicate tasks 0))
       (λ k. fresh_pass tasks tries (replicate tasks 0) k) 0 crew;
+  order = record {
+    deeds = [];
+    lead = (refl, refl);
+    count = sym (total_fresh (λ (v : PassState). length v.deeds) (λ k. refl) 0 crew);
+    placed = each_fresh (λ v. All (λ x. get_elem? [] x.0 ≡ some x.1) v.deeds)
+        (λ k. All-nil (λ (x : ℕ × Deed). get_elem? [] x.0 ≡ some x.1)) 0 crew;
+    each_once = λ n. (
+      (λ l. absurd (omega arith)),
+      λ _. total_fresh (λ (v : PassState). times_placed n v.deeds) (λ k. refl) 0 crew,
+    );
+  };
 }
 
 pub runs_keep : (tasks tries : ℕ) (old : State) (events : List Event) (new : State) → 0 < tasks

@@ -1,6 +1,6 @@
 -- What callers see of a board, of its passes, of a draw and of a tally.
 use Rattle.std.specs.Prelude.{◌≡◌, ◌≢◌, ℕ, zero, suc, ◌<◌, ◌≤◌, List, [], ◌∷◌, ◌++◌, map, All}
-use Rattle.claim_board.specs.Protocol.{PassState, fresh, drawn, limit, task_of, attempt_of, IsOpen}
+use Rattle.claim_board.specs.Protocol.{PassState, fresh, drawn, looked, winning, losing, limit, task_of, attempt_of, IsOpen}
 
 -- a board: a name, by which its passes know it, and its size
 pub record Board : Type 0 where
@@ -57,9 +57,15 @@ pub record IsOpenDraw (b : Board) (p : PassState) (d : Drawn) : Type 0 where
   pub task : d.task ≡ task_of b.tasks d.number
   pub attempt : d.attempt ≡ attempt_of b.tasks d.number
 
+-- each deed of the pass stands before the place n
+abbrev pub AreBefore : ℕ → PassState → Type 0
+AreBefore n p = All (λ x. x.0 < n) p.deeds
+
 -- the pass has gained the draw, which may claim its task; all its earlier draws are lower
 pub record Drew (b : Board) (old new : PassState) (d : Drawn) : Type 0 where
-  pub gained : new ≡ drawn (limit_of b) old d.number
+  pub place : ℕ
+  pub later : AreBefore place old
+  pub gained : new ≡ drawn (limit_of b) old place d.number
   pub claimable : IsOpenDraw b new d
   pub latest : All (λ x. x < d.number) old.draws
 
@@ -67,7 +73,26 @@ pub record Drew (b : Board) (old new : PassState) (d : Drawn) : Type 0 where
 pub record DrewNone (b : Board) (old new : PassState) : Type 0 where
   pub number : ℕ
   pub past : limit_of b ≤ number
-  pub gained : new ≡ drawn (limit_of b) old number
+  pub place : ℕ
+  pub later : AreBefore place old
+  pub gained : new ≡ drawn (limit_of b) old place number
+
+-- the pass has looked at the task and seen the word, behind all that it did before
+pub record Saw (old new : PassState) (t x : ℕ) : Type 0 where
+  pub place : ℕ
+  pub later : AreBefore place old
+  pub gained : new ≡ looked old place t x
+
+-- the pass has won the task of the draw, or lost it to the attempt x
+pub record HasWon (old new : PassState) (d : ℕ) : Type 0 where
+  pub place : ℕ
+  pub later : AreBefore place old
+  pub gained : new ≡ winning old place d
+
+pub record HasLost (old new : PassState) (d x : ℕ) : Type 0 where
+  pub place : ℕ
+  pub later : AreBefore place old
+  pub gained : new ≡ losing old place d x
 
 -- each draw that the pass might claim, it still may
 abbrev pub KeepsClaims : Board → PassState → PassState → Type 0

@@ -7,14 +7,24 @@ use mathlib.Core.Option.{some}
 use lib.ListN.{get_elem?}
 use Rattle.claim_board.specs.Counts.{one_if, times, times_first, from_on}
 
+-- what a pass does in one step, and what it finds: it draws a number, looks at a task and sees a
+-- word, wins the task of a draw, or loses it to a word
+pub data Deed : Type 0 where
+  DrewNumber : ℕ → Deed
+  SawWord : ℕ → ℕ → Deed
+  WonTask : ℕ → Deed
+  LostTask : ℕ → ℕ → Deed
+
 -- what one pass has done: its draws in order, each task that it looked at with the word that it
--- saw, the draws that won their tasks, and each draw that lost with the word that stood there
+-- saw, the draws that won their tasks, and each draw that lost with the word that stood there; and
+-- all of it in order, each deed with its place in the one order of the steps of all passes
 pub record PassState : Type 0 where
   pub number : ℕ
   pub draws : List ℕ
   pub seen : List (ℕ × ℕ)
   pub won : List ℕ
   pub lost : List (ℕ × ℕ)
+  pub deeds : List (ℕ × Deed)
   pub ended : Bool
 
 -- the number of the next draw, the word of each task, and the passes
@@ -38,27 +48,56 @@ attempt_of tasks d = d / tasks + 1
 abbrev pub limit : ℕ → ℕ → ℕ
 limit tasks tries = tasks * tries
 
+-- how often a deed stands at the place n
+abbrev pub times_placed : ℕ → List (ℕ × Deed) → ℕ
+times_placed n deeds = count_by (λ x. eqb x.0 n) deeds
+
 -- how many draws of the task t are in the list
 abbrev pub of_task : ℕ → ℕ → List ℕ → ℕ
 of_task tasks t xs = count_by (λ d. eqb (task_of tasks d) t) xs
 
 -- a pass that has done nothing
 abbrev pub fresh : ℕ → PassState
-fresh number = record { number = number; draws = []; seen = []; won = []; lost = []; ended = false }
+fresh number = record {
+  number = number;
+  draws = [];
+  seen = [];
+  won = [];
+  lost = [];
+  deeds = [];
+  ended = false;
+}
 
--- what each event leaves in the pass that makes it: after a draw of the limit or more the pass
--- has ended
-abbrev pub drawn : ℕ → PassState → ℕ → PassState
-drawn most p d = record p { draws = p.draws ++ d ∷ []; ended = leb most d }
+-- how many steps the passes have made
+abbrev pub steps_of : List PassState → ℕ
+steps_of ps = sum_by (λ p. length p.deeds) ps
 
-abbrev pub looked : PassState → ℕ → ℕ → PassState
-looked p t x = record p { seen = p.seen ++ (t, x) ∷ [] }
+-- what each event, at the place n, leaves in the pass that makes it: after a draw of the limit or
+-- more the pass has ended
+abbrev pub drawn : ℕ → PassState → ℕ → ℕ → PassState
+drawn most p n d = record p {
+  draws = p.draws ++ d ∷ [];
+  deeds = p.deeds ++ (n, DrewNumber d) ∷ [];
+  ended = leb most d;
+}
 
-abbrev pub winning : PassState → ℕ → PassState
-winning p d = record p { won = p.won ++ d ∷ [] }
+abbrev pub looked : PassState → ℕ → ℕ → ℕ → PassState
+looked p n t x = record p {
+  seen = p.seen ++ (t, x) ∷ [];
+  deeds = p.deeds ++ (n, SawWord t x) ∷ [];
+}
 
-abbrev pub losing : PassState → ℕ → ℕ → PassState
-losing p d x = record p { lost = p.lost ++ (d, x) ∷ [] }
+abbrev pub winning : PassState → ℕ → ℕ → PassState
+winning p n d = record p {
+  won = p.won ++ d ∷ [];
+  deeds = p.deeds ++ (n, WonTask d) ∷ [];
+}
+
+abbrev pub losing : PassState → ℕ → ℕ → ℕ → PassState
+losing p n d x = record p {
+  lost = p.lost ++ (d, x) ∷ [];
+  deeds = p.deeds ++ (n, LostTask d x) ∷ [];
+}
 
 -- what the i-th pass does: it draws, looks at a task, or claims the task of a draw and wins or
 -- loses it
@@ -89,29 +128,61 @@ module _ (tasks tries : ℕ) where
       (p : PassState) × (get_elem? old.passes i ≡ some p) × (p.ended ≡ false)
       × (new ≡ record old {
         next = old.next + 1;
-        passes = slice_set old.passes i (drawn (limit tasks tries) p old.next);
+        passes =
+            slice_set old.passes i (drawn (limit tasks tries) p (steps_of old.passes) old.next);
       })
   Step old (Look i t) new =
       (p : PassState) × (get_elem? old.passes i ≡ some p) × (t < tasks)
-      × (new ≡ record old { passes = slice_set old.passes i (looked p t (word old t)) })
+      × (new ≡ record old {
+        passes = slice_set old.passes i (looked p (steps_of old.passes) t (word old t));
+      })
   Step old (Win i d) new =
       (p : PassState) × (get_elem? old.passes i ≡ some p) × IsOpen p d
       × (word old (task_of tasks d) ≡ 0)
       × (new ≡ record old {
         words = slice_set old.words (task_of tasks d) (attempt_of tasks d);
-        passes = slice_set old.passes i (winning p d);
+        passes = slice_set old.passes i (winning p (steps_of old.passes) d);
       })
   Step old (Lose i d) new =
       (p : PassState) × (get_elem? old.passes i ≡ some p) × IsOpen p d
       × (word old (task_of tasks d) ≢ 0)
       × (new ≡ record old {
-        passes = slice_set old.passes i (losing p d (word old (task_of tasks d)));
+        passes =
+            slice_set old.passes i
+            (losing p (steps_of old.passes) d (word old (task_of tasks d)));
       })
 
   -- the events lead from the old state to the new one
   abbrev pub Runs : State → List Event → State → Type 0
   Runs old [] new = new ≡ old
   Runs old (e ∷ es) new = (mid : State) × Step old e mid × Runs mid es new
+
+  -- with the deed the next number and the words become m and ws, and it tells what stood there
+  abbrev pub Does : ℕ → List ℕ → Deed → ℕ → List ℕ → Type 0
+  Does next words (DrewNumber d) m ws = (d ≡ next) × (m ≡ next + 1) × (ws ≡ words)
+  Does next words (SawWord t x) m ws = (x ≡ slice_index words t) × (m ≡ next) × (ws ≡ words)
+  Does next words (WonTask d) m ws =
+      (slice_index words (task_of tasks d) ≡ 0) × (m ≡ next)
+      × (ws ≡ slice_set words (task_of tasks d) (attempt_of tasks d))
+  Does next words (LostTask d x) m ws =
+      (x ≡ slice_index words (task_of tasks d)) × (x ≢ 0) × (m ≡ next) × (ws ≡ words)
+
+  -- the deeds, one after the other, lead from there to there
+  abbrev pub Lead : ℕ → List ℕ → List Deed → ℕ → List ℕ → Type 0
+  Lead next words [] m ws = (m ≡ next) × (ws ≡ words)
+  Lead next words (e ∷ es) m ws =
+      (mid : ℕ) × (vs : List ℕ) × Does next words e mid vs × Lead mid vs es m ws
+
+  -- the deeds of all passes, each in its place, are one list, which leads from the start to what
+  -- stands
+  pub record IsInOrder (s : State) : Type 0 where
+    pub deeds : List Deed
+    pub lead : Lead 0 (replicate tasks 0) deeds s.next s.words
+    pub count : length deeds ≡ steps_of s.passes
+    pub placed : All (λ p. All (λ x. get_elem? deeds x.0 ≡ some x.1) p.deeds) s.passes
+    pub each_once : (n : ℕ) →
+        (n < length deeds → sum_by (λ p. times_placed n p.deeds) s.passes ≡ 1)
+        × (length deeds ≤ n → sum_by (λ p. times_placed n p.deeds) s.passes ≡ 0)
 
   -- what is good of one pass
   pub record IsGoodPass (words : List ℕ) (p : PassState) : Type 0 where
@@ -140,3 +211,5 @@ module _ (tasks tries : ℕ) where
         (word s t ≡ 0 → sum_by (λ p. of_task tasks t p.won) s.passes ≡ 0)
         × (word s t ≢ 0 → sum_by (λ p. of_task tasks t p.won) s.passes ≡ 1)
     pub passes : All (IsGoodPass s.words) s.passes
+    -- in the one order of their steps, what each pass has found is what stood there
+    pub order : IsInOrder s

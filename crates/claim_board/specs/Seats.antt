@@ -5,7 +5,7 @@ use mathlib.Core.Option.{some}
 use lib.ListN.{get_elem?}
 use Rattle.atomic_table.specs.Table.{State as TableState}
 use Rattle.claim_board.specs.declared.size.Size.{Size}
-use Rattle.claim_board.specs.Protocol.{PassState, State, fresh, limit, IsGood}
+use Rattle.claim_board.specs.Protocol.{PassState, State, limit, IsGood}
 
 -- what a seat knows: the board's size, how many passes it has made, and the passes that it stands
 -- for. The seat of a pass stands for that pass, the seat that makes the passes for those that it

@@ -5,12 +5,16 @@ use mathlib.Core.Option.{some}
 use lib.ListN.{get_elem?}
 use Rattle.atomic_table.specs.Table.{Splits, Joins, State as TableState}
 use Rattle.claim_board.specs.declared.size.Size.{Size}
-use Rattle.claim_board.specs.Protocol.{PassState, fresh, drawn, looked, winning, losing, task_of, attempt_of, IsOpen, Event, Draw, Look, Win, Lose, Step}
+use Rattle.claim_board.specs.Protocol.{PassState, fresh, steps_of, drawn, looked, winning, losing, task_of, attempt_of, IsOpen, Event, Draw, Look, Win, Lose, Step}
 use Rattle.claim_board.specs.Seats.{View, limit_at, maker_view, pass_view, spent_view, all_passes, state_of, Rule}
 
 -- a state of the table
 abbrev pub BoardState : Type 0
 BoardState = TableState (Unit {0}) View
+
+-- the place of the next step
+abbrev pub next_place : BoardState → ℕ
+next_place s = steps_of (all_passes s.views)
 
 -- the seat `id`, of the pass p, steps: the words become ws, and p becomes q. That keeps the rule,
 -- and is the protocol's step
@@ -35,7 +39,7 @@ abbrev pub DrawSteps : Type 0
 DrawSteps =
     Moves (λ k s p. p.ended ≡ false)
     (λ k s p. slice_set s.words 0 (slice_index s.words 0 + 1))
-    (λ k s p. drawn (limit_at k) p (slice_index s.words 0))
+    (λ k s p. drawn (limit_at k) p (next_place s) (slice_index s.words 0))
     (λ j. Draw j)
 
 -- the word of a task is read
@@ -43,7 +47,7 @@ abbrev pub LookSteps : Type 0
 LookSteps =
     (t : ℕ) → Moves (λ k s p. t < k.tasks)
     (λ k s p. s.words)
-    (λ k s p. looked p t (slice_index s.words (t + 1)))
+    (λ k s p. looked p (next_place s) t (slice_index s.words (t + 1)))
     (λ j. Look j t)
 
 -- the word of a draw's task, which is 0, becomes the draw's attempt
@@ -52,7 +56,7 @@ WinSteps =
     (d : ℕ) → Moves
     (λ k s p. IsOpen k.tasks k.tries p d × (slice_index s.words (task_of k.tasks d + 1) ≡ 0))
     (λ k s p. slice_set s.words (task_of k.tasks d + 1) (attempt_of k.tasks d))
-    (λ k s p. winning p d)
+    (λ k s p. winning p (next_place s) d)
     (λ j. Win j d)
 
 -- the word of a draw's task is not 0, and stays
@@ -61,7 +65,7 @@ LoseSteps =
     (d : ℕ) → Moves
     (λ k s p. IsOpen k.tasks k.tries p d × (slice_index s.words (task_of k.tasks d + 1) ≢ 0))
     (λ k s p. s.words)
-    (λ k s p. losing p d (slice_index s.words (task_of k.tasks d + 1)))
+    (λ k s p. losing p (next_place s) d (slice_index s.words (task_of k.tasks d + 1)))
     (λ j. Lose j d)
 
 -- a pass is made with the number of those made before, and has done nothing

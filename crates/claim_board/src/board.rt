@@ -1,7 +1,7 @@
 // A board, which its workers share.
 ghost use Rattle.std.specs.Prelude.{◌≡◌, ◌≢◌, ◌*◌, ◌^◌, ◌<◌, ◌≤◌, true, false, length, IfOk, IfErr, IfSome, IfNone, IsNone};
-ghost use Rattle.claim_board.specs.Protocol.{IsGood, looked, winning, losing};
-ghost use Rattle.claim_board.specs.Boards.{new_passes, AreOf, IsOpenDraw, Drew, DrewNone, KeepsClaims, KeepsOtherClaims};
+ghost use Rattle.claim_board.specs.Protocol.{IsGood};
+ghost use Rattle.claim_board.specs.Boards.{new_passes, AreOf, IsOpenDraw, Drew, DrewNone, Saw, HasWon, HasLost, KeepsClaims, KeepsOtherClaims};
 ghost use Rattle.claim_board.specs.Told.{closing_state, DrawnOnce, WonOnce, SawWinners, LostToWinners, EndedPastLimit};
 
 use crate::draw::{Draw, Lost, Won};
@@ -106,15 +106,16 @@ impl Board {
     }
 
     /// The attempt that has won the task, if one has. One step, which the pass keeps in mind as
-    /// seen.
+    /// seen, with its place in the one order of the steps of all passes: what it saw stood there
+    /// then.
     pub fn look(&self, pass: &mut Pass, task: u32) -> Option<u32>
         requires board { pass.old.board ≡ self.now }
         requires task { task < self.now.tasks }
         ensures same { pass.new.board ≡ pass.old.board }
         ensures claims { KeepsClaims self.now pass.old.state pass.new.state }
-        ensures none { IfNone result (pass.new.state ≡ looked pass.old.state task 0) }
+        ensures none { IfNone result (Saw pass.old.state pass.new.state task 0) }
         ensures some { IfSome result (λ a. (a ≢ 0) × (a ≤ self.now.tries)
-            × (pass.new.state ≡ looked pass.old.state task a)) }
+            × Saw pass.old.state pass.new.state task a) }
     {
         let word = task as usize + 1;
         let attempt = self.table.shared.load::<Looks>(&mut pass.seat, word);
@@ -131,9 +132,9 @@ impl Board {
         requires claimable { IsOpenDraw self.now pass.old.state draw }
         ensures same { pass.new.board ≡ pass.old.board }
         ensures claims { KeepsOtherClaims self.now pass.old.state pass.new.state draw.number }
-        ensures won { IfOk result (λ _. pass.new.state ≡ winning pass.old.state draw.number) }
+        ensures won { IfOk result (λ _. HasWon pass.old.state pass.new.state draw.number) }
         ensures lost { IfErr result (λ a. (a ≢ 0) × (a ≤ self.now.tries)
-            × (pass.new.state ≡ losing pass.old.state draw.number a)) }
+            × HasLost pass.old.state pass.new.state draw.number a) }
     {
         let shared = &self.table.shared;
         let word = draw.task as usize + 1;

@@ -86,11 +86,28 @@ fn keeps_the_greatest(rt: HostRuntime) -> Result<(), Fail> {
 }
 
 #[test]
+fn means_and_distinct_values(rt: HostRuntime) -> Result<(), Fail> {
+    let alloc = rt.alloc();
+    let bag = list(alloc, 0, -3)?;
+    assert_eq!(rt; combine(alloc, Comb::Mean, &bag), Ok(Value::Int(-2)));
+    let twice = list(alloc, 3, 3)?;
+    let mut once = Vec::new(alloc);
+    once.push(Value::Int(3))?;
+    let once = Value::List(Pile::from_vec(once));
+    assert_eq!(rt; combine(alloc, Comb::Distinct, &twice), Ok(once));
+    Ok(())
+}
+
+#[test]
 fn combines_none(rt: HostRuntime) -> Result<(), Fail> {
     let alloc = rt.alloc();
     let none: Items = Pile::new(alloc);
     assert_eq!(rt;
         combine(alloc, Comb::Min, &none),
+        Err(CallFault::Trap(Kind::BadIndex))
+    );
+    assert_eq!(rt;
+        combine(alloc, Comb::Mean, &none),
         Err(CallFault::Trap(Kind::BadIndex))
     );
     assert_eq!(rt; combine(alloc, Comb::Sum, &none), Ok(Value::Int(0)));

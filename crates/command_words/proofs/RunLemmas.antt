@@ -12,7 +12,7 @@ use Rattle.clap.proofs.OnLiterals.{clap_on_literals}
 use Rattle.clap.proofs.FaultLemmas.{stopped_fault}
 use Rattle.clap.proofs.WalkLemmas.{walk_stopped}
 use Rattle.run_settings.specs.Settings.{RunSettings, standard}
-use Rattle.run_settings.specs.declared.limits.TheConstants.{MOST_PARTITIONS, MOST_SHARDS, MOST_TRIES, MOST_WORKERS}
+use Rattle.run_settings.specs.Limits.{most_partitions, most_shards, most_tries, most_workers}
 use Rattle.drill_text.specs.Drills.{◌>>=◌}
 use Rattle.drill_text.proofs.DrillLemmas.{neither}
 use Rattle.command_words.specs.Options.{drill_given, number_given, settings_given}
@@ -103,10 +103,10 @@ abbrev settings_by : Option Text → Option Text → Option Text → Option Text
     → Option RunSettings
 settings_by fail workers shards partitions tries = do
   drill ← drill_given fail
-  w ← number_given standard.workers MOST_WORKERS workers
-  s ← number_given standard.shards MOST_SHARDS shards
-  p ← number_given standard.partitions MOST_PARTITIONS partitions
-  t ← number_given standard.tries MOST_TRIES tries
+  w ← number_given standard.workers most_workers workers
+  s ← number_given standard.shards most_shards shards
+  p ← number_given standard.partitions most_partitions partitions
+  t ← number_given standard.tries most_tries tries
   Some (record { workers = w; shards = s; partitions = p; tries = t; drill = drill })
 
 settings_are : (parts : List Part) (script : Text) (settings : RunSettings)

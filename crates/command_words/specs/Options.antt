@@ -4,7 +4,7 @@ use Rattle.std.specs.Option.{option_map_or}
 use Rattle.clap.specs.Words.{Row, Text, first_of}
 use Rattle.crew.specs.declared.drill.Entry.{Entry}
 use Rattle.run_settings.specs.Settings.{RunSettings, standard}
-use Rattle.run_settings.specs.declared.limits.TheConstants.{MOST_PARTITIONS, MOST_SHARDS, MOST_TRIES, MOST_WORKERS}
+use Rattle.run_settings.specs.Limits.{most_partitions, most_shards, most_tries, most_workers}
 use Rattle.drill_text.specs.Drills.{◌>>=◌, drill_in}
 use Rattle.drill_text.specs.Numbers.{number_up_to}
 
@@ -20,11 +20,11 @@ drill_given option = option_map_or drill_in option (Some [])
 -- the settings with this drill
 abbrev pub settings_with : List Entry → List Row → Option RunSettings
 settings_with drill rows = do
-  workers ← number_given standard.workers MOST_WORKERS (first_of (codes "workers") rows)
-  shards ← number_given standard.shards MOST_SHARDS (first_of (codes "shards") rows)
+  workers ← number_given standard.workers most_workers (first_of (codes "workers") rows)
+  shards ← number_given standard.shards most_shards (first_of (codes "shards") rows)
   partitions ←
-      number_given standard.partitions MOST_PARTITIONS (first_of (codes "partitions") rows)
-  tries ← number_given standard.tries MOST_TRIES (first_of (codes "tries") rows)
+      number_given standard.partitions most_partitions (first_of (codes "partitions") rows)
+  tries ← number_given standard.tries most_tries (first_of (codes "tries") rows)
   Some (record {
     workers = workers;
     shards = shards;

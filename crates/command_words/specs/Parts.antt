@@ -4,7 +4,7 @@ use Rattle.std.specs.List.{AllPairs}
 use Rattle.std.specs.Str.{bytes_eq}
 use Rattle.clap.specs.Words.{Text}
 use Rattle.run_settings.specs.Settings.{RunSettings, standard}
-use Rattle.run_settings.specs.declared.limits.TheConstants.{MOST_PARTITIONS, MOST_SHARDS, MOST_TRIES, MOST_WORKERS}
+use Rattle.run_settings.specs.Limits.{most_partitions, most_shards, most_tries, most_workers}
 use Rattle.command_words.specs.Options.{drill_given, number_given}
 use Rattle.command_words.specs.Words.{dash}
 
@@ -49,12 +49,12 @@ value_of name parts =
 pub record AskForRun (parts : List Part) (script : Text) (settings : RunSettings) : Type 0 where
   pub apart : AllPairs (λ one other. one.name ≢ other.name) parts
   pub for_script : value_of Script parts ≡ Some script
-  pub for_workers : number_given standard.workers MOST_WORKERS (value_of Workers parts)
+  pub for_workers : number_given standard.workers most_workers (value_of Workers parts)
       ≡ Some settings.workers
-  pub for_shards : number_given standard.shards MOST_SHARDS (value_of Shards parts)
+  pub for_shards : number_given standard.shards most_shards (value_of Shards parts)
       ≡ Some settings.shards
-  pub for_partitions : number_given standard.partitions MOST_PARTITIONS (value_of Partitions parts)
+  pub for_partitions : number_given standard.partitions most_partitions (value_of Partitions parts)
       ≡ Some settings.partitions
-  pub for_tries : number_given standard.tries MOST_TRIES (value_of Tries parts)
+  pub for_tries : number_given standard.tries most_tries (value_of Tries parts)
       ≡ Some settings.tries
   pub for_drill : drill_given (value_of Fail parts) ≡ Some settings.drill

@@ -25,7 +25,7 @@ lt_false a b l =
     ⊎_elim (λ (t : (leb a b ≡ true) × (a ≤ b)). let m = t.1 in absurd (omega arith))
     (λ (t : (leb a b ≡ false) × (b < a)). t.0) (leb_tells a b)
 
-and_false : (b : Bool) → one_if (b && false) ≡ 0
+pub and_false : (b : Bool) → one_if (b && false) ≡ 0
 and_false true = refl
 and_false false = refl
 
@@ -65,7 +65,7 @@ tests_step true true a n = numbers_step a n
 tests_step true false a n = omega arith
 tests_step false c a n = omega arith
 
-one_if_low : (b : Bool) → one_if b ≤ 1
+pub one_if_low : (b : Bool) → one_if b ≤ 1
 one_if_low true = omega arith
 one_if_low false = omega arith
 

@@ -1,6 +1,6 @@
 -- What a phase has when its board is closed.
-use Rattle.std.proofs.Common.{◌≡◌, ◌≢◌, ℕ, zero, suc, ◌+◌, ◌-◌, ◌*◌, ◌/◌, ◌%◌, ◌^◌, ◌<◌, ◌≤◌, Bool, true, false, eqb, ltb, ◌&&◌, cond, ◌⊎◌, inl, inr, ⊎_elim, List, [], ◌∷◌, ◌++◌, get_or, map, length, refl, sym, ap, ◌∙◌, subst, arith, mul_comm, true≢false}
-use Rattle.std.specs.Prelude.{All, Contains, sum_by, count_by}
+use Rattle.std.proofs.Common.{◌≡◌, ◌≢◌, ℕ, zero, suc, ◌+◌, ◌-◌, ◌*◌, ◌/◌, ◌%◌, ◌^◌, ◌<◌, ◌≤◌, Bool, true, false, eqb, ltb, ◌&&◌, cond, ◌⊎◌, inl, inr, ⊎_elim, List, [], ◌∷◌, get_or, map, length, refl, sym, ap, ◌∙◌, subst, arith, mul_comm, true≢false}
+use Rattle.std.specs.Prelude.{All, Contains, sum_by}
 use Rattle.std.specs.List.{filter}
 use Rattle.std.specs.List.Sorted.{IsPermutation, IsNonDecreasingBy}
 use Rattle.std.proofs.lemmas.Nat.{div-mul-add, mod-mul-add}
@@ -16,17 +16,19 @@ use Rattle.claim_board.specs.Counts.{one_if, times, times_first}
 use Rattle.claim_board.specs.Protocol.{PassState, limit, fresh, of_task, IsGood, IsGoodPass}
 use Rattle.claim_board.specs.Boards.{Board, Pass, Tally, states_of, AreOf, fresh_passes}
 use Rattle.claim_board.specs.Laws.{UndecidedWereDrawn}
-use Rattle.claim_board.specs.Told.{closing_state, draw_of}
+use Rattle.claim_board.specs.Told.{closing_state}
 use Rattle.crew.specs.declared.kept.KeptOut.{KeptOut}
 use Rattle.crew.specs.declared.drill.Entry.{Entry}
 use Rattle.crew.specs.Hosts.{Account, HaveRisen, Refused, SomeHost}
 use Rattle.crew.specs.Drills.{Settings, attempt_in, names, is_drilled, same_phase, drilled_tries}
 use Rattle.crew.specs.Outs.{IsOut, RanOn, draw_by}
-use Rattle.crew.specs.Work.{Cause, drawn_attempt}
-use Rattle.crew.specs.Work.Cause.{Won, Lost, Taken, Drilled, WentDown}
+use Rattle.crew.specs.Work.{drawn_attempt}
 use Rattle.crew.specs.Phases.{IsClosed, IsLostTask, CanFinish, AreOuts, Settled, Unsettled}
-use Rattle.crew.specs.inner.Halves.{CanStart, Phased, wons}
+use Rattle.crew.specs.Workers.{IsFresh, CanStart, Phased, wons}
+use Rattle.crew.specs.inner.Fates.{Fate, Fated}
+use Rattle.crew.specs.inner.Fates.Fate.{Won, Lost, Taken, Drilled, WentDown}
 use Rattle.crew.proofs.Lists.{part, all_times, all_both, all_zero, all_of_map, one_if_ne}
+use Rattle.crew.proofs.Fates.{fated}
 use Rattle.crew.proofs.InOrder.{outs_of, outs_of-cons, indexed}
 use Rattle.crew.proofs.Counting.{just, first_length, all_accounted, any_counts}
 
@@ -39,12 +41,13 @@ fresh_are_of b (suc n) =
     (All-cons Q _ [] refl (All-nil Q))
 
 pub fresh_done_nothing : (b : Board) (n : ℕ)
-    → All (λ p. (p.state.won ≡ []) × (p.state.draws ≡ [])) (fresh_passes b n)
-fresh_done_nothing b zero = All-nil (λ (p : Pass). (p.state.won ≡ []) × (p.state.draws ≡ []))
+    → All (λ p. IsFresh p.state) (fresh_passes b n)
+fresh_done_nothing b zero = All-nil (λ (p : Pass). IsFresh p.state)
 fresh_done_nothing b (suc n) =
-    let Q : Pass → Type 0 = λ p. (p.state.won ≡ []) × (p.state.draws ≡ []) in
+    let Q : Pass → Type 0 = λ p. IsFresh p.state in
     All-append Q (fresh_passes b n) (record { board = b; state = fresh n } ∷ [])
-    (fresh_done_nothing b n) (All-cons Q _ [] (refl, refl) (All-nil Q))
+    (fresh_done_nothing b n)
+    (All-cons Q _ [] (record { won = refl; draws = refl; seen = refl }) (All-nil Q))
 
 pub length_fresh : (b : Board) (n : ℕ) → length (fresh_passes b n) ≡ n
 length_fresh b zero = refl
@@ -58,7 +61,7 @@ pub can_start : (b : Board) (count tries hosts : ℕ) (ps : List Pass) → ps �
 can_start b count tries hosts ps is tasks try crew some_task some_host =
     let len : length ps ≡ b.crew = ap length is ∙ length_fresh b b.crew in record {
       board = subst (AreOf b) (sym is) (fresh_are_of b b.crew);
-      fresh = subst (All (λ (p : Pass). (p.state.won ≡ []) × (p.state.draws ≡ []))) (sym is)
+      fresh = subst (All (λ (p : Pass). IsFresh p.state)) (sym is)
           (fresh_done_nothing b b.crew);
       passes = (omega arith, omega arith);
       tasks = (tasks, some_task);
@@ -210,23 +213,27 @@ module _ (tasks : ℕ) (s : Settings) {O : Type 0} (is_value : ℕ → O → Typ
       outs = are_outs tasks ks ls facts
           (All-weaker (IsOut is_value tasks s) (λ k. k.task < tasks) (λ k t. t.task) ks outs)
           (λ t small. one_out t small (all t small)) moved rise;
+      worked = h.worked;
     }
 
     module _ (law : UndecidedWereDrawn) (task : ℕ) (small : task < tasks)
         (none : get_or r.winners task 0 ≡ 0) (some_pass : 0 < length ps) where
+      of_draws : Fated tasks s (states_of ps) us vs
+      of_draws = fated tasks s places (states_of ps) us vs h.worked
+
       -- why the attempt k + 1 of the task was not won
       abbrev Why : ℕ → Type 0
       Why k =
           (is_drilled s.drill (attempt_in s task (k + 1)) ≡ true)
-          ⊎ (0 < times (k * tasks + task) h.downs)
+          ⊎ (0 < times (k * tasks + task) of_draws.downs)
 
-      -- a cause that no winner and no loss has
-      cause_left_over : (k : ℕ) (q : PassState) → times (k * tasks + task) q.won ≡ 0
+      -- a fate that no winner and no loss has
+      fate_left_over : (k : ℕ) (q : PassState) → times (k * tasks + task) q.won ≡ 0
           → times_first (k * tasks + task) q.lost ≡ 0 → IsGoodPass tasks s.tries r.winners q
-          → Cause tasks s h.downs q (k * tasks + task) → Why k
-      cause_left_over k q no_win no_loss g (Won x) = absurd (omega arith)
-      cause_left_over k q no_win no_loss g (Lost x) = absurd (omega arith)
-      cause_left_over k q no_win no_loss g (Taken a full x) =
+          → Fate tasks s of_draws.downs q (k * tasks + task) → Why k
+      fate_left_over k q no_win no_loss g (Won x) = absurd (omega arith)
+      fate_left_over k q no_win no_loss g (Lost x) = absurd (omega arith)
+      fate_left_over k q no_win no_loss g (Taken a full x) =
           let turn : (k * tasks + task) % tasks ≡ task = mod-mul-add k tasks task small in
           let seen = All-contains
           (λ (y : ℕ × ℕ). (y.0 < tasks) × ((y.1 ≡ 0) ⊎ (get_or r.winners y.0 0 ≡ y.1)))
@@ -234,35 +241,35 @@ module _ (tasks : ℕ) (s : Settings) {O : Type 0} (is_value : ℕ → O → Typ
           absurd (full (⊎_elim (λ (z : a ≡ 0). z)
           (λ (z : get_or r.winners ((k * tasks + task) % tasks) 0 ≡ a).
           sym z ∙ (ap (λ (u : ℕ). get_or r.winners u 0) turn ∙ none)) seen.1))
-      cause_left_over k q no_win no_loss g (Drilled x) =
+      fate_left_over k q no_win no_loss g (Drilled x) =
           inl (subst (λ (y : ℕ × ℕ). is_drilled s.drill (attempt_in s y.0 (y.1 + 1)) ≡ true)
           (λ i. (mod-mul-add k tasks task small i, div-mul-add k tasks task small i)) x)
-      cause_left_over k q no_win no_loss g (WentDown x) = inr x
+      fate_left_over k q no_win no_loss g (WentDown x) = inr x
 
-      attempt_cause : (k : ℕ) → k < s.tries → Why k
-      attempt_cause k few =
+      attempt_fate : (k : ℕ) → k < s.tries → Why k
+      attempt_fate k few =
           let d : ℕ = k * tasks + task in
           let states = states_of ps in
           let drawn = law tasks s.tries (closing_state r ps) 0 (first_state ps) task k good
           (first_at ps some_pass) (first_ended ps h.ended some_pass) small none few in
           let C : PassState → Type 0 =
-          λ q. All (λ x. x < limit tasks s.tries → Cause tasks s h.downs q x) q.draws in
+          λ q. All (λ x. x < limit tasks s.tries → Fate tasks s of_draws.downs q x) q.draws in
           let G : PassState → Type 0 = λ q. IsGoodPass tasks s.tries r.winners q in
           let W : PassState → Type 0 = λ q. times d q.won ≡ 0 in
           let L : PassState → Type 0 = λ q. times_first d q.lost ≡ 0 in
           let some_one : 0 < sum_by (λ (q : PassState). times d q.draws) states =
           (let e = drawn.0 in omega arith) in
           let all = all_both (λ q. C q × G q) (λ q. W q × L q) states
-          (all_both C G states (All-map C (λ (p : Pass). p.state) ps h.causes) good.passes)
+          (all_both C G states of_draws.fates good.passes)
           (all_both W L states
           (all_zero (λ (q : PassState). times d q.won) states drawn.1)
           (all_zero (λ (q : PassState). times_first d q.lost) states drawn.2)) in
           let q = part (λ q. (C q × G q) × (W q × L q)) (λ (q : PassState). times d q.draws) states
           all some_one in
           let low = inside_limit tasks s.tries task k small few in
-          let why = all_times (λ x. x < limit tasks s.tries → Cause tasks s h.downs q.0 x) d
+          let why = all_times (λ x. x < limit tasks s.tries → Fate tasks s of_draws.downs q.0 x) d
           q.0.draws q.1.0.0 q.2 low in
-          cause_left_over k q.0 q.1.1.0 q.1.1.1 q.1.0.1 why
+          fate_left_over k q.0 q.1.1.0 q.1.1.1 q.1.0.1 why
         where
           first_state : (qs : List Pass) → PassState
           first_state [] = fresh 0
@@ -313,7 +320,7 @@ module _ (tasks : ℕ) (s : Settings) {O : Type 0} (is_value : ℕ → O → Typ
           let more = down_counts k ds (omega arith) in omega arith)
           (eqb_tells d named)
 
-      accounted : s.tries ≤ drilled_tries s task + length h.downs
+      accounted : s.tries ≤ drilled_tries s task + length of_draws.downs
       accounted =
           let p : Entry → Bool = λ e. eqb e.stage s.stage && same_phase e.phase s.phase in
           let q : Entry → Bool = λ e. eqb e.task task in
@@ -325,15 +332,16 @@ module _ (tasks : ℕ) (s : Settings) {O : Type 0} (is_value : ℕ → O → Typ
           ⊎_elim
           (λ (x : is_drilled s.drill (attempt_in s task (k + 1)) ≡ true).
           inl (any_counts (names (attempt_in s task (k + 1))) s.drill x))
-          (λ (x : 0 < times (k * tasks + task) h.downs). inr (down_counts k h.downs x))
-          (attempt_cause k few) in
-          let le = all_accounted p q a p' q' a' s.drill h.downs s.tries each in
-          let few = first_length p' q' a' s.tries h.downs in omega arith
+          (λ (x : 0 < times (k * tasks + task) of_draws.downs).
+          inr (down_counts k of_draws.downs x))
+          (attempt_fate k few) in
+          let le = all_accounted p q a p' q' a' s.drill of_draws.downs s.tries each in
+          let few = first_length p' q' a' s.tries of_draws.downs in omega arith
 
       lost : IsLostTask tasks s us vs task
       lost = record {
-        losses = length h.downs;
-        risen = h.risen;
+        losses = length of_draws.downs;
+        risen = of_draws.risen;
         counted = accounted;
         told = λ attempt some_attempt few.
             let k = attempt - 1 in
@@ -343,14 +351,14 @@ module _ (tasks : ℕ) (s : Settings) {O : Type 0} (is_value : ℕ → O → Typ
             ⊎ SomeHost (λ a b. Refused a b (attempt_in s task n)) us vs in
             subst Told is
             (⊎_elim (λ (x : is_drilled s.drill (attempt_in s task (k + 1)) ≡ true). inl x)
-            (λ (x : 0 < times (k * tasks + task) h.downs).
+            (λ (x : 0 < times (k * tasks + task) of_draws.downs).
             inr (subst
             (λ (y : ℕ × ℕ).
             SomeHost (λ a b. Refused a b (attempt_in s y.0 (y.1 + 1))) us vs)
             (λ i. (mod-mul-add k tasks task small i, div-mul-add k tasks task small i))
             (all_times (λ d. SomeHost (λ a b. Refused a b (drawn_attempt tasks s d)) us vs)
-            (k * tasks + task) h.downs h.told x)))
-            (attempt_cause k (omega arith)));
+            (k * tasks + task) of_draws.downs of_draws.told x)))
+            (attempt_fate k (omega arith)));
       }
 
       pub unsettled : ((t : ℕ) → t < task → get_or r.winners t 0 ≢ 0) → (ls : List (KeptOut O))
@@ -369,6 +377,7 @@ module _ (tasks : ℕ) (s : Settings) {O : Type 0} (is_value : ℕ → O → Typ
                 (λ k t. (Decides-ltb k.task task).0 t) (filter test ks) (filter_passes test ks))
                 (λ t l. outs_of_filter t task l ks ∙ one_out t (omega arith) (smaller t l)) moved
                 rise;
+            worked = h.worked;
           }
 
 -- a phase that gives up on a task has lost each of its tries

@@ -2,7 +2,9 @@ pub mod Accounts
 pub mod Lists
 pub mod Turning
 pub mod Working
+pub mod Fates
 pub mod Joining
 pub mod InOrder
 pub mod Counting
 pub mod Ending
+pub mod Asking

@@ -1,22 +1,21 @@
--- What comes of one draw, by the way it ends.
-use Rattle.std.proofs.Common.{◌≡◌, ◌≢◌, ℕ, ◌+◌, ◌-◌, ◌*◌, ◌/◌, ◌%◌, ◌<◌, ◌≤◌, true, false, List, [], ◌∷◌, ◌++◌, append-nil, refl, sym, ap, ◌∙◌, subst, arith, mul_comm, div-add-mod'}
-use Rattle.std.specs.Prelude.{All, Contains}
-use Rattle.std.proofs.lemmas.List.Elements.{All-nil, All-cons, Contains-push}
+-- What comes of one turn, by the way it ends.
+use Rattle.std.proofs.Common.{◌≡◌, ◌≢◌, ℕ, ◌+◌, ◌-◌, ◌*◌, ◌/◌, ◌%◌, ◌<◌, ◌≤◌, true, false, List, [], ◌∷◌, ◌++◌, append-nil, inl, inr, refl, sym, ap, ◌∙◌, subst, arith, mul_comm, div-add-mod'}
+use Rattle.std.specs.Prelude.{All}
+use Rattle.std.proofs.lemmas.List.Elements.{All-nil, All-cons}
 use Rattle.std.proofs.Math.Nat.{div-lt_iff_lt-mul}
-use Rattle.outside.specs.Cause.{RoseBy}
-use Rattle.claim_board.specs.Counts.{times, times_first}
-use Rattle.claim_board.specs.Protocol.{PassState, looked, winning, losing, limit, task_of, attempt_of}
+use Rattle.claim_board.specs.Protocol.{PassState, looked, winning, losing}
 use Rattle.claim_board.specs.Boards.{Board, Drawn, IsOpenDraw}
 use Rattle.claim_board.specs.Told.{draw_of}
 use Rattle.crew.specs.declared.kept.KeptOut.{KeptOut}
 use Rattle.crew.specs.declared.drill.Entry.{Entry}
-use Rattle.crew.specs.Hosts.{Account, Gains, Refused, at_place, places_below}
+use Rattle.crew.specs.Hosts.{Account, Gains, at_place, places_below}
 use Rattle.crew.specs.Drills.{Settings, attempt_in, is_drilled}
 use Rattle.crew.specs.Attempts.{Ran, StoppedDown, StoppedEarly}
-use Rattle.crew.specs.Outs.{IsOut, RanOn, draw_by}
-use Rattle.crew.specs.Work.{Cause, drawn_attempt}
+use Rattle.crew.specs.Outs.{IsOut, RanOn}
+use Rattle.crew.specs.Work.{Turn, IsMade, drawn_attempt}
 use Rattle.crew.specs.Work.Cause.{Won, Lost, Taken, Drilled, WentDown}
-use Rattle.crew.specs.inner.Turns.{Turned}
+use Rattle.crew.specs.inner.Turns.{TookTurn, TookOne, Turned}
+use Rattle.crew.proofs.Accounts.{gains_nothing}
 use Rattle.crew.proofs.Lists.{times_one, times_right, times_first_one, times_first_right}
 
 -- what a draw of a board names, where the board is for so many tasks and tries
@@ -45,79 +44,167 @@ named_draw tasks d task attempt at by =
     ap (λ (x : ℕ). (attempt - 1) * tasks + x) at
     ∙ (ap (λ (x : ℕ). x * tasks + d % tasks) low ∙ div-add-mod' d tasks)
 
+module _ (tasks : ℕ) (s : Settings) (places : ℕ → ℕ) where
+  -- the attempt that a draw names
+  same_attempt : (d task attempt : ℕ) → Names tasks s.tries d task attempt
+      → attempt_in s task attempt ≡ drawn_attempt tasks s d
+  same_attempt d task attempt n =
+      λ i. record { stage = s.stage; phase = s.phase; task = n.at i; attempt = n.by i }
+
+  -- the turn of an attempt that was made
+  abbrev made_turn : ℕ → Turn
+  made_turn d = record {
+    draw = d;
+    word = 0;
+    passed = places_below (drawn_attempt tasks s d) (places (d % tasks) + 1);
+    downs = [];
+  }
+
+  made : (d : ℕ) → IsMade tasks s places (made_turn d)
+  made d = record { free = refl; passed = refl; downs = refl }
+
+  took_made : (d task attempt : ℕ) (old new : PassState) (a b : Account)
+      → Names tasks s.tries d task attempt → (new.draws ≡ old.draws) × (new.ended ≡ old.ended)
+      → new.seen ≡ old.seen ++ (task, 0) ∷ []
+      → Ran (attempt_in s task attempt) (places task) a b
+      → TookTurn tasks s places d old new a b (made_turn d)
+  took_made d task attempt old new a b n draws seen ran = record {
+    draw = refl;
+    draws = draws;
+    seen = seen ∙ ap (λ (t : ℕ). old.seen ++ (t, 0) ∷ []) n.at;
+    gains = subst (λ (x : Entry × ℕ). Gains a b (places_below x.0 (places x.1 + 1)) [])
+        (λ i. (same_attempt d task attempt n i, n.at i)) ran;
+    lost = let up = ran.later in omega arith;
+    asked = record {
+      through = places (d % tasks) + 1;
+      passed = refl;
+      downs = inl refl;
+      within = omega arith;
+      taken = λ full. absurd (full refl);
+    };
+  }
+
+  -- want of memory ended the attempt
+  pub took_early : (m d task attempt : ℕ) (old : PassState) (a b : Account)
+      → Names tasks s.tries d task attempt
+      → StoppedEarly (attempt_in s task attempt) (places task) a b
+      → TookOne tasks s places d old (looked old m task 0) a b
+  took_early m d task attempt old a b n h =
+      let e = drawn_attempt tasks s d in
+      let within = subst (λ (t : ℕ). h.place ≤ places t + 1) n.at h.within in (
+        record { draw = d; word = 0; passed = places_below e h.place; downs = [] },
+        record {
+          draw = refl;
+          draws = (refl, refl);
+          seen = ap (λ (t : ℕ). old.seen ++ (t, 0) ∷ []) n.at;
+          gains = subst (λ (x : Entry). Gains a b (places_below x h.place) [])
+              (same_attempt d task attempt n) h.gains;
+          lost = let up = h.gains.later in omega arith;
+          asked = record {
+            through = h.place;
+            passed = refl;
+            downs = inl refl;
+            within = omega arith;
+            taken = λ full. absurd (full refl);
+          };
+        },
+      )
+
 module _ (tasks : ℕ) (s : Settings) {O : Type 0} (is_value : ℕ → O → Type 0) (places : ℕ → ℕ) where
   no_outs : (a b : Account)
       → All (λ (k : KeptOut O). IsOut is_value tasks s k × RanOn places s a b k) []
   no_outs a b = All-nil (λ (k : KeptOut O). IsOut is_value tasks s k × RanOn places s a b k)
 
-  no_downs : (a b : Account) → All (λ x. Refused a b (drawn_attempt tasks s x)) []
-  no_downs a b = All-nil (λ x. Refused a b (drawn_attempt tasks s x))
-
   -- it found a winner
-  pub turned_seen : (d task attempt x : ℕ) (old : PassState) (a : Account)
+  pub turned_seen : (m d task attempt x : ℕ) (old : PassState) (a : Account)
       → Names tasks s.tries d task attempt → x ≢ 0
-      → Turned tasks s is_value places d old (looked old task x) a a []
-  turned_seen d task attempt x old a n full = record {
-    draws = (refl, refl);
+      → Turned tasks s is_value places d old (looked old m task x) a a []
+  turned_seen m d task attempt x old a n full = record {
+    turn = record { draw = d; word = x; passed = []; downs = [] };
+    took = record {
+      draw = refl;
+      draws = (refl, refl);
+      seen = ap (λ (t : ℕ). old.seen ++ (t, x) ∷ []) n.at;
+      gains = gains_nothing a;
+      lost = omega arith;
+      asked = record {
+        through = 0;
+        passed = refl;
+        downs = inl refl;
+        within = omega arith;
+        taken = λ _. (refl, refl);
+      };
+    };
+    cause = Taken full refl refl;
     won = sym (append-nil old.won);
     lost = ([], sym (append-nil old.lost));
-    seen = ((task, x) ∷ [], refl);
     kept = no_outs a a;
-    downs = [];
-    cause = Taken x full (subst (λ (t : ℕ). Contains (old.seen ++ (task, x) ∷ []) (t, x)) n.at
-        (Contains-push old.seen (task, x)));
-    risen = omega arith;
-    told = no_downs a a;
   }
 
   -- its host was down
-  pub turned_down : (d task attempt : ℕ) (old : PassState) (a b : Account)
+  pub turned_down : (m d task attempt : ℕ) (old : PassState) (a b : Account)
       → Names tasks s.tries d task attempt
       → StoppedDown (attempt_in s task attempt) (places task) a b
-      → Turned tasks s is_value places d old (looked old task 0) a b []
-  turned_down d task attempt old a b n h =
-      let e = attempt_in s task attempt in
-      let named : e ≡ drawn_attempt tasks s d =
-      λ i. record { stage = s.stage; phase = s.phase; task = n.at i; attempt = n.by i } in
-      let refused : Refused a b e = λ t. ([], [], h.place, (h.gains.told t).2) in record {
-        draws = (refl, refl);
+      → Turned tasks s is_value places d old (looked old m task 0) a b []
+  turned_down m d task attempt old a b n h =
+      let e = drawn_attempt tasks s d in
+      let within = subst (λ (t : ℕ). h.place ≤ places t) n.at h.within in
+      let here = at_place e h.place ∷ [] in record {
+        turn = record { draw = d; word = 0; passed = places_below e h.place; downs = here };
+        took = record {
+          draw = refl;
+          draws = (refl, refl);
+          seen = ap (λ (t : ℕ). old.seen ++ (t, 0) ∷ []) n.at;
+          gains = subst
+              (λ (x : Entry). Gains a b (places_below x h.place) (at_place x h.place ∷ []))
+              (same_attempt tasks s places d task attempt n) h.gains;
+          lost = h.lost;
+          asked = record {
+            through = h.place;
+            passed = refl;
+            downs = inr refl;
+            within = omega arith;
+            taken = λ full. absurd (full refl);
+          };
+        };
+        cause = WentDown record {
+          free = refl;
+          place = h.place;
+          within = within;
+          passed = refl;
+          downs = refl;
+        };
         won = sym (append-nil old.won);
         lost = ([], sym (append-nil old.lost));
-        seen = ((task, 0) ∷ [], refl);
         kept = no_outs a b;
-        downs = d ∷ [];
-        cause = WentDown (times_one d);
-        risen = h.lost;
-        told = All-cons (λ x. Refused a b (drawn_attempt tasks s x)) d []
-            (subst (Refused a b) named refused) (no_downs a b);
       }
 
   -- the drill names it
-  pub turned_drilled : (d task attempt : ℕ) (old : PassState) (a b : Account)
-      → Names tasks s.tries d task attempt → a.losses ≤ b.losses
+  pub turned_drilled : (m d task attempt : ℕ) (old : PassState) (a b : Account)
+      → Names tasks s.tries d task attempt
+      → Ran (attempt_in s task attempt) (places task) a b
       → is_drilled s.drill (attempt_in s task attempt) ≡ true
-      → Turned tasks s is_value places d old (looked old task 0) a b []
-  turned_drilled d task attempt old a b n up drilled = record {
-    draws = (refl, refl);
+      → Turned tasks s is_value places d old (looked old m task 0) a b []
+  turned_drilled m d task attempt old a b n ran drilled = record {
+    turn = made_turn tasks s places d;
+    took = took_made tasks s places d task attempt old (looked old m task 0) a b n (refl, refl)
+        refl ran;
+    cause = Drilled (made tasks s places d)
+        (subst (λ (x : Entry). is_drilled s.drill x ≡ true)
+        (same_attempt tasks s places d task attempt n) drilled);
     won = sym (append-nil old.won);
     lost = ([], sym (append-nil old.lost));
-    seen = ((task, 0) ∷ [], refl);
     kept = no_outs a b;
-    downs = [];
-    cause = Drilled (subst (λ (x : ℕ × ℕ). is_drilled s.drill (attempt_in s x.0 x.1) ≡ true)
-        (λ i. (n.at i, n.by i)) drilled);
-    risen = omega arith;
-    told = no_downs a b;
   }
 
   -- it won
-  pub turned_won : (d task attempt : ℕ) (out : O) (old : PassState) (a b : Account)
+  pub turned_won : (m l d task attempt : ℕ) (out : O) (old : PassState) (a b : Account)
       → Names tasks s.tries d task attempt
       → Ran (attempt_in s task attempt) (places task) a b
       → is_drilled s.drill (attempt_in s task attempt) ≡ false → is_value task out
-      → Turned tasks s is_value places d old (winning (looked old task 0) d) a b
+      → Turned tasks s is_value places d old (winning (looked old m task 0) l d) a b
       (record { task = task; attempt = attempt; out = out } ∷ [])
-  turned_won d task attempt out old a b n ran undrilled value =
+  turned_won m l d task attempt out old a b n ran undrilled value =
       let k : KeptOut O = record { task = task; attempt = attempt; out = out } in
       let low = n.low in
       let some_task = n.some_task in
@@ -132,10 +219,12 @@ module _ (tasks : ℕ) (s : Settings) {O : Type 0} (is_value : ℕ → O → Typ
         (ran.told t).1
             ∙ ap (λ (l : List _). a.passed ++ l) (sym (append-nil _)),
       ) in record {
-        draws = (refl, refl);
+        turn = made_turn tasks s places d;
+        took = took_made tasks s places d task attempt old (winning (looked old m task 0) l d) a b
+            n (refl, refl) refl ran;
+        cause = Won (made tasks s places d) (times_right d old.won (d ∷ []) (times_one d));
         won = ap (λ (x : ℕ). old.won ++ x ∷ []) (sym (named_draw tasks d task attempt n.at n.by));
         lost = ([], sym (append-nil old.lost));
-        seen = ((task, 0) ∷ [], refl);
         kept = All-cons (λ (j : KeptOut O). IsOut is_value tasks s j × RanOn places s a b j) k [] (
           record {
             task = omega arith;
@@ -145,23 +234,20 @@ module _ (tasks : ℕ) (s : Settings) {O : Type 0} (is_value : ℕ → O → Typ
           },
           through,
         ) (no_outs a b);
-        downs = [];
-        cause = Won (times_right d old.won (d ∷ []) (times_one d));
-        risen = let up = ran.later in omega arith;
-        told = no_downs a b;
       }
 
   -- it lost
-  pub turned_lost : (d task x : ℕ) (old : PassState) (a b : Account) → a.losses ≤ b.losses
-      → Turned tasks s is_value places d old (losing (looked old task 0) d x) a b []
-  turned_lost d task x old a b up = record {
-    draws = (refl, refl);
+  pub turned_lost : (m l d task attempt x : ℕ) (old : PassState) (a b : Account)
+      → Names tasks s.tries d task attempt
+      → Ran (attempt_in s task attempt) (places task) a b
+      → Turned tasks s is_value places d old (losing (looked old m task 0) l d x) a b []
+  turned_lost m l d task attempt x old a b n ran = record {
+    turn = made_turn tasks s places d;
+    took = took_made tasks s places d task attempt old (losing (looked old m task 0) l d x) a b n
+        (refl, refl) refl ran;
+    cause = Lost (made tasks s places d)
+        (times_first_right d old.lost ((d, x) ∷ []) (times_first_one d x));
     won = sym (append-nil old.won);
     lost = ((d, x) ∷ [], refl);
-    seen = ((task, 0) ∷ [], refl);
     kept = no_outs a b;
-    downs = [];
-    cause = Lost (times_first_right d old.lost ((d, x) ∷ []) (times_first_one d x));
-    risen = omega arith;
-    told = no_downs a b;
   }

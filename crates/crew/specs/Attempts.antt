@@ -1,5 +1,5 @@
 -- What an attempt on a host comes to.
-use Rattle.std.specs.Prelude.{ℕ, ◌+◌, ◌≤◌, List, [], ◌∷◌, ⊤}
+use Rattle.std.specs.Prelude.{ℕ, ◌+◌, ◌≤◌, [], ◌∷◌, ⊤}
 use Rattle.outside.specs.Cause.{RoseBy}
 use Rattle.crew.specs.declared.drill.Entry.{Entry}
 use Rattle.crew.specs.declared.attempts.Attempt.{Attempt}

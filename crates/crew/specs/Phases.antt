@@ -1,12 +1,42 @@
--- What a phase gives, and why it gives up.
-use Rattle.std.specs.Prelude.{◌≡◌, ◌≢◌, ℕ, ◌+◌, ◌-◌, ◌<◌, ◌≤◌, true, ◌⊎◌, List, length, slice_index_or, All, ⊤}
+-- What a phase gives, why it gives up, and what it asks of its hosts.
+use Rattle.std.specs.Prelude.{◌≡◌, ◌≢◌, ℕ, ◌+◌, ◌-◌, ◌<◌, ◌≤◌, true, eqb, ◌&&◌, ◌⊎◌, List, [], ◌∷◌, ◌++◌, length, slice_index_or, All, count_by, ⊤}
+use Rattle.outside.specs.declared.host.At.{At}
+use Rattle.outside.specs.Notes.{Notes}
 use Rattle.claim_board.specs.Protocol.{State, IsGood, word}
+use Rattle.crew.specs.declared.drill.Entry.{Entry}
 use Rattle.crew.specs.declared.kept.KeptOut.{KeptOut}
 use Rattle.crew.specs.declared.phase.PhaseFault.{PhaseFault}
 use Rattle.crew.specs.declared.phase.PhaseFault.TheVariants.{GaveUp, Memory}
-use Rattle.crew.specs.Hosts.{Account, HaveRisen, Refused, SomeHost}
-use Rattle.crew.specs.Drills.{Settings, attempt_in, is_drilled, drilled_tries}
+use Rattle.crew.specs.Hosts.{Account, Gains, HaveRisen, Refused, SomeHost}
+use Rattle.crew.specs.Drills.{Settings, attempt_in, names, is_drilled, drilled_tries}
 use Rattle.crew.specs.Outs.{IsOut, RanOn}
+use Rattle.crew.specs.Work.{HaveWorked}
+
+-- what each host has let through and refused since, one list of places after the other
+abbrev pub HaveGained : List Account → List Account → List Notes → Type 0
+HaveGained [] [] [] = ⊤
+HaveGained [] [] (n ∷ gained) = ⊥
+HaveGained [] (b ∷ news) gained = ⊥
+HaveGained (a ∷ olds) [] gained = ⊥
+HaveGained (a ∷ olds) (b ∷ news) [] = ⊥
+HaveGained (a ∷ olds) (b ∷ news) (n ∷ gained) =
+    Gains a b n.passed n.downs × HaveGained olds news gained
+
+-- all places of which hosts were asked
+abbrev pub all_places : List Notes → List At
+all_places [] = []
+all_places (n ∷ gained) = n.passed ++ (n.downs ++ all_places gained)
+
+-- the attempt of a place
+abbrev pub attempt_of_place : At → Entry
+attempt_of_place x =
+    record { stage = x.stage; phase = x.phase; task = x.task; attempt = x.attempt }
+
+-- how often the place is in the list
+abbrev pub times_asked : At → List At → ℕ
+times_asked x places =
+    count_by
+    (λ y. names (attempt_of_place x) (attempt_of_place y) && eqb x.place y.place) places
 
 module _ (tasks : ℕ) (s : Settings) where
   -- the board at the end of a phase: a good state of the claim protocol in which each worker's pass
@@ -31,6 +61,21 @@ module _ (tasks : ℕ) (s : Settings) where
   CanFinish olds news =
       (task : ℕ) → task < tasks → HaveRisen (s.tries - drilled_tries s task) olds news → ⊥
 
+  -- a place of an attempt of a task of the phase
+  pub record IsPlaceOf (places : ℕ → ℕ) (x : At) : Type 0 where
+    pub stage : x.stage ≡ s.stage
+    pub phase : x.phase ≡ s.phase
+    pub task : x.task < tasks
+    pub attempt : (0 < x.attempt) × (x.attempt ≤ s.tries)
+    pub place : x.place ≤ places x.task
+
+  -- all hosts together were asked for places of the phase alone, and for each of them at most once
+  pub record AreAskedOnce (places : ℕ → ℕ) (olds news : List Account) : Type 0 where
+    pub gained : List Notes
+    pub gains : HaveGained olds news gained
+    pub ours : All (IsPlaceOf places) (all_places gained)
+    pub once : (x : At) → times_asked x (all_places gained) ≤ 1
+
   module _ {O : Type 0} (is_value : ℕ → O → Type 0) (places : ℕ → ℕ) where
     -- the outs of the first n tasks, in order: each was made by the attempt that the board names as
     -- the winner, all of whose places some host has let through
@@ -42,11 +87,12 @@ module _ (tasks : ℕ) (s : Settings) where
       pub winners : All (λ k. word board k.task ≡ k.attempt) ks
       pub ran : All (λ k. SomeHost (λ a b. RanOn places s a b k) olds news) ks
 
-    -- each task has an out
+    -- each task has an out, and the board's passes are those of workers that ran
     pub record Settled (olds news : List Account) (ks : List (KeptOut O)) : Type 0 where
       pub board : State
       pub closed : IsClosed (length olds) board
       pub outs : AreOuts olds news board tasks ks
+      pub worked : HaveWorked tasks s places board.passes olds news
 
     -- the task is the least without a winner; each smaller one has an out
     pub record Unsettled (olds news : List Account) (task : ℕ) (ks : List (KeptOut O))
@@ -58,6 +104,7 @@ module _ (tasks : ℕ) (s : Settings) where
       pub least : (t : ℕ) → t < task → word board t ≢ 0
       pub lost : IsLostTask olds news task
       pub below : AreOuts olds news board task ks
+      pub worked : HaveWorked tasks s places board.passes olds news
 
     abbrev pub IsPhaseFault : List Account → List Account → PhaseFault O → Type 0
     IsPhaseFault olds news (GaveUp task below) = Unsettled olds news task below

@@ -1,28 +1,115 @@
--- What a worker does with its pass and its host.
-use Rattle.std.specs.Prelude.{◌≡◌, ◌≢◌, ℕ, ◌<◌, true, List, ◌++◌, length, map, All, Contains}
+-- What workers do, each with its pass and its host.
+use Rattle.std.specs.Prelude.{◌≡◌, ◌≢◌, ℕ, ◌+◌, ◌<◌, ◌≤◌, ltb, true, ◌⊎◌, List, [], ◌∷◌, ◌++◌, length, map, All}
+use Rattle.std.specs.List.{filter}
 use Rattle.outside.specs.Cause.{RoseBy}
+use Rattle.outside.specs.declared.host.At.{At}
 use Rattle.claim_board.specs.Counts.{times, times_first}
-use Rattle.claim_board.specs.Protocol.{PassState, task_of, attempt_of, limit}
+use Rattle.claim_board.specs.Protocol.{PassState, fresh, task_of, attempt_of, limit}
 use Rattle.crew.specs.declared.kept.KeptOut.{KeptOut}
 use Rattle.crew.specs.declared.drill.Entry.{Entry}
-use Rattle.crew.specs.Hosts.{Account, Refused}
+use Rattle.crew.specs.Hosts.{Account, Gains, at_place, places_below}
 use Rattle.crew.specs.Drills.{Settings, attempt_in, is_drilled}
 use Rattle.crew.specs.Outs.{IsOut, RanOn, draw_by}
+
+-- a worker's turn with a draw that names an attempt: the word that its look at the draw's task
+-- showed, and the places that its host then let through and refused
+pub record Turn : Type 0 where
+  pub draw : ℕ
+  pub word : ℕ
+  pub passed : List At
+  pub downs : List At
+
+-- the places of all turns, turn behind turn
+abbrev pub all_passed : List Turn → List At
+all_passed [] = []
+all_passed (t ∷ ts) = t.passed ++ all_passed ts
+
+abbrev pub all_downs : List Turn → List At
+all_downs [] = []
+all_downs (t ∷ ts) = t.downs ++ all_downs ts
+
+-- a worker of a phase: its pass, its host before and after, and its turns
+pub record Worker : Type 0 where
+  pub pass : PassState
+  pub before : Account
+  pub after : Account
+  pub turns : List Turn
+
+-- what the look of a turn adds to what the pass has seen
+abbrev pub look_of : ℕ → Turn → ℕ × ℕ
+look_of tasks t = (task_of tasks t.draw, t.word)
 
 module _ (tasks : ℕ) (s : Settings) where
   -- the attempt that a draw names
   abbrev pub drawn_attempt : ℕ → Entry
   drawn_attempt d = attempt_in s (task_of tasks d) (attempt_of tasks d)
 
-  -- what came of a draw: it was won or lost, its task had a winner, the drill names it, or its host
-  -- was down
-  pub data Cause (downs : List ℕ) (p : PassState) (d : ℕ) : Type 0 where
-    Won : 0 < times d p.won → Cause downs p d
-    Lost : 0 < times_first d p.lost → Cause downs p d
-    Taken : (attempt : ℕ) → attempt ≢ 0 → Contains p.seen (task_of tasks d, attempt)
-        → Cause downs p d
-    Drilled : is_drilled s.drill (drawn_attempt d) ≡ true → Cause downs p d
-    WentDown : 0 < times d downs → Cause downs p d
+  module _ (places : ℕ → ℕ) where
+    -- the host is asked for the first places of the attempt, in order, until it refuses one, and
+    -- for nothing where the look showed a winner
+    pub record IsAsked (t : Turn) : Type 0 where
+      pub through : ℕ
+      pub passed : t.passed ≡ places_below (drawn_attempt t.draw) through
+      pub downs : (t.downs ≡ []) ⊎ (t.downs ≡ at_place (drawn_attempt t.draw) through ∷ [])
+      pub within : through + length t.downs ≤ places (task_of tasks t.draw) + 1
+      pub taken : t.word ≢ 0 → (t.passed ≡ []) × (t.downs ≡ [])
+
+    -- the attempt was made: the look showed no winner, and the host let all its places through
+    pub record IsMade (t : Turn) : Type 0 where
+      pub free : t.word ≡ 0
+      pub passed :
+          t.passed ≡ places_below (drawn_attempt t.draw) (places (task_of tasks t.draw) + 1)
+      pub downs : t.downs ≡ []
+
+    -- the host was down: the look showed no winner, and the host refused a place of the attempt
+    pub record IsDown (t : Turn) : Type 0 where
+      pub free : t.word ≡ 0
+      pub place : ℕ
+      pub within : place ≤ places (task_of tasks t.draw)
+      pub passed : t.passed ≡ places_below (drawn_attempt t.draw) place
+      pub downs : t.downs ≡ at_place (drawn_attempt t.draw) place ∷ []
+
+    -- what came of a turn: the task had a winner, and the host was asked for nothing; the attempt
+    -- was made, and it won, or lost, or the drill names it; or the host was down
+    pub data Cause (p : PassState) (t : Turn) : Type 0 where
+      Taken : t.word ≢ 0 → t.passed ≡ [] → t.downs ≡ [] → Cause p t
+      Won : IsMade t → 0 < times t.draw p.won → Cause p t
+      Lost : IsMade t → 0 < times_first t.draw p.lost → Cause p t
+      Drilled : IsMade t → is_drilled s.drill (drawn_attempt t.draw) ≡ true → Cause p t
+      WentDown : IsDown t → Cause p t
+
+    -- from the state `old` of its pass to `new`, and with its host from a to b, a worker took these
+    -- turns
+    pub record TookTurns (old new : PassState) (a b : Account) (ts : List Turn) : Type 0 where
+      -- a turn with each draw that it gained and that names an attempt, in order
+      pub gained : List ℕ
+      pub draws : new.draws ≡ old.draws ++ gained
+      pub each : map (λ t. t.draw) ts ≡ filter (λ d. ltb d (limit tasks s.tries)) gained
+      -- one look in each turn
+      pub seen : new.seen ≡ old.seen ++ map (look_of tasks) ts
+      -- its host was asked in these turns alone, and lost what it refused
+      pub gains : Gains a b (all_passed ts) (all_downs ts)
+      pub lost : RoseBy (length (all_downs ts)) a.losses b.losses
+      pub asked : All IsAsked ts
+
+    -- whatever came of its turns
+    abbrev pub Took : PassState → PassState → Account → Account → Type 0
+    Took old new a b = (ts : List Turn) × TookTurns old new a b ts
+
+    -- the workers of these passes, which were fresh, and of these hosts
+    pub record AreWorkers (ps : List PassState) (olds news : List Account) (ws : List Worker)
+        : Type 0 where
+      pub passes : map (λ w. w.pass) ws ≡ ps
+      pub before : map (λ w. w.before) ws ≡ olds
+      pub after : map (λ w. w.after) ws ≡ news
+      pub took :
+          All (λ w. TookTurns (fresh w.pass.number) w.pass w.before w.after w.turns) ws
+
+    -- the same, where each turn came to something
+    pub record HaveWorked (ps : List PassState) (olds news : List Account) : Type 0 where
+      pub workers : List Worker
+      pub are : AreWorkers ps olds news workers
+      pub causes : All (λ w. All (Cause w.pass) w.turns) workers
 
   module _ {O : Type 0} (is_value : ℕ → O → Type 0) (places : ℕ → ℕ) where
     -- from the state `old` of its pass to `new`, and with its host from a to b
@@ -30,11 +117,7 @@ module _ (tasks : ℕ) (s : Settings) where
       -- it kept the outs of just the draws that its pass has won
       pub won : new.won ≡ old.won ++ map (draw_by tasks) ks
       pub kept : All (λ k. IsOut is_value tasks s k × RanOn places s a b k) ks
-      -- each of the draws that its pass has gained came to something
-      pub gained : List ℕ
-      pub draws : new.draws ≡ old.draws ++ gained
-      pub downs : List ℕ
-      pub causes : All (λ d. d < limit tasks s.tries → Cause downs new d) gained
-      -- for each draw whose host was down it counted a loss, and where it tells refused a place
-      pub lost : RoseBy (length downs) a.losses b.losses
-      pub told : All (λ d. Refused a b (drawn_attempt d)) downs
+      -- each of its turns came to something
+      pub turns : List Turn
+      pub took : TookTurns places old new a b turns
+      pub causes : All (Cause places new) turns

@@ -4,7 +4,7 @@ ghost use Rattle.std.specs.List.{AllZip};
 ghost use Rattle.std.specs.Thread.{IsSync, IsSend};
 ghost use Rattle.claim_board.specs.Boards.{AreOf};
 ghost use Rattle.crew.specs.Hosts.{account, Grew};
-ghost use Rattle.crew.specs.inner.Halves.{CanStart, Phased};
+ghost use Rattle.crew.specs.Workers.{CanStart, AllTook, Phased};
 
 use crate::kept::Kept;
 use crate::settings::PhaseSettings;
@@ -15,10 +15,14 @@ use outside::Host;
 use std::alloc::{AllocError, Global};
 use std::thread::{Threads, join_mut};
 
-// Each host works with the pass at its place. Halves of the hosts run side by side: where no thread
-// can be started `join_mut` runs both here.
+/// Works on a board with all its passes: each host with the pass at its place, side by side, until
+/// no pass has a draw left.
+///
+/// It keeps the outs of the draws that won. The winners are the board's: whoever made it closes it,
+/// with these passes.
+// Halves of the hosts run side by side: where no thread can be started `join_mut` runs both here.
 #[cycle(halves)]
-pub(crate) fn work_all<R: Threads + Sync, T: Tasks, H: Host + Send>(
+pub fn work_all<R: Threads + Sync, T: Tasks, H: Host + Send>(
     rt: &R,
     alloc: &Global,
     board: &Board,
@@ -31,6 +35,8 @@ pub(crate) fn work_all<R: Threads + Sync, T: Tasks, H: Host + Send>(
         (length hosts.old) passes.old }
     ensures same { AreOf board.now passes.new }
     ensures grew { AllZip Grew
+        (map (account H.notes H.losses) hosts.old) (map (account H.notes H.losses) hosts.new) }
+    ensures asked { AllTook (T.count_of tasks.now) phase.now (T.places tasks.now) passes.new
         (map (account H.notes H.losses) hosts.old) (map (account H.notes H.losses) hosts.new) }
     ensures phased { IfOk result (Phased (T.count_of tasks.now) phase.now
         (T.is_value tasks.now) (T.places tasks.now) passes.new
@@ -76,6 +82,12 @@ fn both_halves<R: Threads + Sync, T: Tasks, H: Host + Send>(
         (map (account H.notes H.losses) first_hosts.new) }
     ensures last { AllZip Grew (map (account H.notes H.losses) last_hosts.old)
         (map (account H.notes H.losses) last_hosts.new) }
+    ensures first_asked { AllTook (T.count_of tasks.now) phase.now (T.places tasks.now)
+        first_passes.new (map (account H.notes H.losses) first_hosts.old)
+        (map (account H.notes H.losses) first_hosts.new) }
+    ensures last_asked { AllTook (T.count_of tasks.now) phase.now (T.places tasks.now)
+        last_passes.new (map (account H.notes H.losses) last_hosts.old)
+        (map (account H.notes H.losses) last_hosts.new) }
     ensures phased { IfOk result (Phased (T.count_of tasks.now) phase.now
         (T.is_value tasks.now) (T.places tasks.now) (first_passes.new ++ last_passes.new)
         (map (account H.notes H.losses) first_hosts.old
@@ -90,6 +102,9 @@ fn both_halves<R: Threads + Sync, T: Tasks, H: Host + Send>(
         ensures { AreOf board.entry.now first_passes.exit.now
             × AllZip Grew (map (account H.notes H.losses) first_hosts.entry.now)
             (map (account H.notes H.losses) first_hosts.exit.now)
+            × AllTook (T.count_of tasks.entry.now) phase.entry.now (T.places tasks.entry.now)
+            first_passes.exit.now (map (account H.notes H.losses) first_hosts.entry.now)
+            (map (account H.notes H.losses) first_hosts.exit.now)
             × IfOk result (Phased (T.count_of tasks.entry.now) phase.entry.now
             (T.is_value tasks.entry.now) (T.places tasks.entry.now) first_passes.exit.now
             (map (account H.notes H.losses) first_hosts.entry.now)
@@ -101,6 +116,9 @@ fn both_halves<R: Threads + Sync, T: Tasks, H: Host + Send>(
             (length last_hosts.now) last_passes.now }
         ensures { AreOf board.entry.now last_passes.exit.now
             × AllZip Grew (map (account H.notes H.losses) last_hosts.entry.now)
+            (map (account H.notes H.losses) last_hosts.exit.now)
+            × AllTook (T.count_of tasks.entry.now) phase.entry.now (T.places tasks.entry.now)
+            last_passes.exit.now (map (account H.notes H.losses) last_hosts.entry.now)
             (map (account H.notes H.losses) last_hosts.exit.now)
             × IfOk result (Phased (T.count_of tasks.entry.now) phase.entry.now
             (T.is_value tasks.entry.now) (T.places tasks.entry.now) last_passes.exit.now
@@ -128,6 +146,8 @@ fn work_alone<T: Tasks, H: Host>(
     requires one { length passes.old ≡ 1 }
     ensures same { AreOf board.now passes.new }
     ensures grew { AllZip Grew
+        (map (account H.notes H.losses) hosts.old) (map (account H.notes H.losses) hosts.new) }
+    ensures asked { AllTook (T.count_of tasks.now) phase.now (T.places tasks.now) passes.new
         (map (account H.notes H.losses) hosts.old) (map (account H.notes H.losses) hosts.new) }
     ensures phased { IfOk result (Phased (T.count_of tasks.now) phase.now
         (T.is_value tasks.now) (T.places tasks.now) passes.new

@@ -4,13 +4,15 @@
 //! A phase is some tasks (`Tasks`), each of which is attempted up to `tries` times until one
 //! attempt of it has won. `work` is one worker: it draws attempts from the board, makes each on its
 //! host, and keeps what it wins. An attempt is lost where its host is down, or where the drill
-//! names it. `run_phase` makes one board and forks and joins one worker per host, over halves of
-//! the list of hosts: no lock, no channel, no call that waits. It answers an out for each task, or
-//! the least task that no attempt has won, with the outs of the smaller ones.
+//! names it. `work_all` forks and joins one worker for each pass of a board and each host, over
+//! halves of the list of hosts: no lock, no channel, no call that waits. `run_phase` makes one
+//! board, lends its passes to the workers and closes it. It answers an out for each task, or the
+//! least task that no attempt has won, with the outs of the smaller ones.
 //!
 //! `specs/Hosts.antt` says what hosts tell, `specs/Attempts.antt` what an attempt comes to,
-//! `specs/Work.antt` what a worker does, and `specs/Phases.antt` what a phase gives and why it
-//! gives up.
+//! `specs/Work.antt` what a worker does in its turns, `specs/Workers.antt` what all workers do with
+//! a board, and `specs/Phases.antt` what a phase gives, why it gives up, and what it asks of its
+//! hosts.
 #![tactic(auto)]
 
 mod attempts;
@@ -24,6 +26,7 @@ mod worker;
 
 pub use attempts::{Attempt, Spot};
 pub use drill::{Drill, Entry};
+pub use halves::work_all;
 pub use kept::{Kept, KeptOut, Outs};
 pub use phase::{PhaseFault, run_phase};
 pub use settings::PhaseSettings;

@@ -2,7 +2,7 @@
 ghost use Rattle.std.specs.Prelude.{◌≡◌, ◌≢◌, ℕ, ◌*◌, ◌^◌, ◌<◌, ◌≤◌, length, map, slice_index, IfOk, IfErr, IfSome, IfNone};
 ghost use Rattle.std.specs.List.{AllZip};
 ghost use Rattle.crew.specs.Hosts.{account, Grew};
-ghost use Rattle.crew.specs.Phases.{CanFinish, Settled, IsPhaseFault, IsMemory};
+ghost use Rattle.crew.specs.Phases.{AreAskedOnce, CanFinish, Settled, IsPhaseFault, IsMemory};
 
 use crate::halves::work_all;
 use crate::kept::{Kept, Outs};
@@ -39,7 +39,8 @@ impl<O> From<AllocError> for PhaseFault<O> {
     }
 }
 
-/// Runs all tasks of a phase, each host with a worker of its own, side by side.
+/// Runs all tasks of a phase, each host with a worker of its own, side by side: `work_all` over a
+/// board that is closed behind it.
 ///
 /// It gives the out of each task, in order, or names the least task that no attempt has won. The
 /// workers wait for one another's end alone.
@@ -56,6 +57,8 @@ pub fn run_phase<R: Threads + Sync, T: Tasks, H: Host + Send>(
     requires limit { T.count_of tasks.now * phase.now.tries < 2 ^ 31 }
     ensures grew { AllZip Grew
         (map (account H.notes H.losses) hosts.old) (map (account H.notes H.losses) hosts.new) }
+    ensures asked { AreAskedOnce (T.count_of tasks.now) phase.now (T.places tasks.now)
+        (map (account H.notes H.losses) hosts.old) (map (account H.notes H.losses) hosts.new) }
     ensures settled { IfOk result (Settled (T.count_of tasks.now) phase.now
         (T.is_value tasks.now) (T.places tasks.now)
         (map (account H.notes H.losses) hosts.old) (map (account H.notes H.losses) hosts.new)) }
@@ -68,7 +71,7 @@ pub fn run_phase<R: Threads + Sync, T: Tasks, H: Host + Send>(
 {
     let count = tasks.count();
     let (board, mut passes) = Board::new(alloc, count, phase.tries(), hosts.len() as u32)?;
-    let kept = work_all(
+    let worked = work_all(
         rt,
         &alloc,
         &board,
@@ -76,9 +79,10 @@ pub fn run_phase<R: Threads + Sync, T: Tasks, H: Host + Send>(
         phase,
         hosts,
         passes.as_mut_slice(),
-    )?;
+    );
     let tally = board.close(passes);
     protocol_laws();
+    let kept = worked?;
     match first_without_winner(&tally, count) {
         Some(task) => Err(PhaseFault::GaveUp {
             task,

@@ -3,8 +3,8 @@ ghost use Rattle.std.specs.Prelude.{◌≡◌, ◌<◌, true, IfOk, OnOk};
 ghost use Rattle.std.specs.Option.{option_to_list};
 ghost use Rattle.claim_board.specs.Boards.{IsOpenDraw};
 ghost use Rattle.crew.specs.Hosts.{account, Grew};
-ghost use Rattle.crew.specs.Work.{Worked};
-ghost use Rattle.crew.specs.inner.Turns.{Turned};
+ghost use Rattle.crew.specs.Work.{Took, Worked};
+ghost use Rattle.crew.specs.inner.Turns.{TookOne, Turned};
 
 use crate::attempts::Attempt;
 use crate::kept::{Kept, KeptOut};
@@ -32,6 +32,9 @@ pub fn work<T: Tasks, H: Host>(
     requires some { 0 < board.now.tasks }
     ensures same { pass.new.board ≡ pass.old.board }
     ensures grew { Grew
+        (account H.notes H.losses host.old) (account H.notes H.losses host.new) }
+    ensures asked { Took (T.count_of tasks.now) phase.now (T.places tasks.now)
+        pass.old.state pass.new.state
         (account H.notes H.losses host.old) (account H.notes H.losses host.new) }
     ensures worked { IfOk result (Worked (T.count_of tasks.now) phase.now
         (T.is_value tasks.now) (T.places tasks.now) pass.old.state pass.new.state
@@ -67,6 +70,9 @@ fn turn<T: Tasks, H: Host>(
     requires open { IsOpenDraw board.now pass.old.state draw }
     ensures same { pass.new.board ≡ pass.old.board }
     ensures grew { Grew
+        (account H.notes H.losses host.old) (account H.notes H.losses host.new) }
+    ensures asked { TookOne (T.count_of tasks.now) phase.now (T.places tasks.now) draw.number
+        pass.old.state pass.new.state
         (account H.notes H.losses host.old) (account H.notes H.losses host.new) }
     ensures turned { IfOk result (λ won. Turned (T.count_of tasks.now) phase.now
         (T.is_value tasks.now) (T.places tasks.now) draw.number pass.old.state pass.new.state

@@ -27,6 +27,21 @@ pub quotes : records_of (codes "\"a,\"\"b\"\"\n\",c\r\n")
 unfolding csv_on_literals
 quotes = refl
 
+-- a CR by itself ends a record
+pub lone_cr : records_of (codes "k\r1\r") ≡ (codes "k" ∷ []) ∷ (codes "1" ∷ []) ∷ []
+unfolding csv_on_literals
+lone_cr = refl
+
+-- a quote inside an unquoted field
+pub inner_quote : records_of (codes "a\"b,c") ≡ (codes "a\"b" ∷ codes "c" ∷ []) ∷ []
+unfolding csv_on_literals
+inner_quote = refl
+
+-- bytes behind a closing quote
+pub behind_quote : records_of (codes "\"a\"b,c") ≡ (codes "ab" ∷ codes "c" ∷ []) ∷ []
+unfolding csv_on_literals
+behind_quote = refl
+
 -- a row that is one empty field
 pub one_empty : row_text plain_writer ([] ∷ []) ≡ codes "\"\"\n"
 unfolding is_blank fields_text

@@ -26,6 +26,13 @@ pub fn csv_law()
     // quotes, doubled quotes, and line ends inside quotes
     ensures quotes { records_of (codes "\"a,\"\"b\"\"\n\",c\r\n") ≡
         (codes "a,\"b\"\n" ∷ codes "c" ∷ []) ∷ [] }
+    // a CR by itself ends a record, as LF and CRLF do
+    ensures lone_cr { records_of (codes "k\r1\r") ≡
+        (codes "k" ∷ []) ∷ (codes "1" ∷ []) ∷ [] }
+    // a quote inside an unquoted field is a byte like any other
+    ensures inner_quote { records_of (codes "a\"b,c") ≡ (codes "a\"b" ∷ codes "c" ∷ []) ∷ [] }
+    // what stands behind a closing quote belongs to the field as it is
+    ensures behind_quote { records_of (codes "\"a\"b,c") ≡ (codes "ab" ∷ codes "c" ∷ []) ∷ [] }
     // a row that is one empty field
     ensures one_empty { row_text plain_writer ([] ∷ []) ≡ codes "\"\"\n" }
 {}

@@ -73,7 +73,7 @@ fn back(alloc: Global, bytes: &[u8]) -> Result<Vec<u8>, RowFault> {
 #[test]
 fn reads_rows(rt: HostRuntime) -> Result<(), Fail> {
     let a = rt.alloc();
-    let files: [(&[u8], &[u8]); 4] = [
+    let files: [(&[u8], &[u8]); 5] = [
         (b"n,b,t", b"n,b,t\n"),
         // blank lines and a byte-order mark, as csv takes them
         (b"\xef\xbb\xbf\n\nn,b,t\n\n1,true,\n", b"n,b,t\n1,true,\n"),
@@ -81,6 +81,12 @@ fn reads_rows(rt: HostRuntime) -> Result<(), Fail> {
         (
             b"n,b,\"t\"\r\n-0,true,\"a,\"\"b\r\n\"\"\"\r\n007,false,-",
             b"n,b,t\n0,true,\"a,\"\"b\r\n\"\"\"\n7,false,-\n",
+        ),
+        // a lone CR ends a record, a quote inside an unquoted field is a byte like any other, and
+        // so is what stands behind a closing quote
+        (
+            b"n,b,t\r1,true,a\"b\r2,true,\"a\"b\r",
+            b"n,b,t\n1,true,\"a\"\"b\"\n2,true,ab\n",
         ),
         // in order of values, equal ones repeated
         (

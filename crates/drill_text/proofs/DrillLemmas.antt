@@ -9,8 +9,7 @@ use Rattle.outside.specs.declared.host.Phase.{Phase}
 use Rattle.outside.specs.declared.host.Phase.TheVariants.{Map, Reduce}
 use Rattle.crew.specs.declared.drill.Entry.{Entry}
 use Rattle.crew.specs.Drills.{names, same_phase}
-use Rattle.run_settings.specs.Limits.{IsDrill}
-use Rattle.run_settings.specs.declared.limits.TheConstants.{MOST_ENTRIES}
+use Rattle.run_settings.specs.Limits.{IsDrill, most_entries}
 use Rattle.drill_text.specs.Drills.{are_apart, is_drill}
 use Rattle.drill_text.proofs.NumberLemmas.{at_most, both}
 
@@ -100,5 +99,5 @@ drill_may es is =
 
 pub may_drill : (es : List Entry) → IsDrill es → is_drill es ≡ true
 may_drill es may =
-    let few : nat_le (length es) MOST_ENTRIES ≡ true = grind (arith, nat_tests, may.few) in
+    let few : nat_le (length es) most_entries ≡ true = grind (arith, nat_tests, may.few) in
     rw few (distinct_apart es (IsDistinct-from_AllPairs names_decide es may.differ))

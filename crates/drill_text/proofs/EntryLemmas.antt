@@ -5,10 +5,9 @@ use Rattle.std.proofs.lemmas.List.{drop_all}
 use Rattle.outside.specs.declared.host.Phase.{Phase}
 use Rattle.outside.specs.declared.host.Phase.TheVariants.{Map, Reduce}
 use Rattle.crew.specs.declared.drill.Entry.{Entry}
-use Rattle.run_settings.specs.declared.limits.TheConstants.{MOST_TRIES}
-use Rattle.drill_text.specs.declared.number.TheConstants.{MOST_NUMBER}
+use Rattle.run_settings.specs.Limits.{most_tries}
+use Rattle.drill_text.specs.Numbers.{most_number, number_in, number_up_to}
 use Rattle.drill_text.specs.Drills.{◌>>=◌, before, behind, dot, entries_in, entry_in, entry_of, letter_of}
-use Rattle.drill_text.specs.Numbers.{number_in, number_up_to}
 
 -- behind a sign that a text lacks there is nothing
 pub nothing_behind : (sign : ℕ) (text : List ℕ)
@@ -25,12 +24,12 @@ no_attempt None task make = refl
 pub no_dot : (phase : Phase) (text rest : List ℕ) → rest ≡ behind (letter_of phase) text
     → position_or_len (λ byte. byte == dot) rest ≡ length rest → entry_of phase text ≡ None
 no_dot phase text rest is lacks =
-    let stage = number_up_to MOST_NUMBER (before (letter_of phase) text) in
+    let stage = number_up_to most_number (before (letter_of phase) text) in
     let task = number_in (before dot (behind (letter_of phase) text)) in
     let make : ℕ → ℕ → ℕ → Option Entry =
     λ s t a. Some (record { stage = s; phase = phase; task = t; attempt = a }) in
     ap (λ (attempt : List ℕ). stage >>= (λ s. task >>= (λ t.
-    number_up_to MOST_TRIES attempt >>= make s t)))
+    number_up_to most_tries attempt >>= make s t)))
     (ap (behind dot) (sym is) ∙ nothing_behind dot rest lacks)
     ∙ no_attempt stage task make
 

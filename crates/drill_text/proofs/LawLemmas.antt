@@ -12,11 +12,10 @@ use Rattle.std.proofs.lemmas.List.Splits.{join_with_byte-slice_split, length-sli
 use Rattle.outside.specs.declared.host.Phase.{Phase}
 use Rattle.outside.specs.declared.host.Phase.TheVariants.{Map, Reduce}
 use Rattle.crew.specs.declared.drill.Entry.{Entry}
-use Rattle.run_settings.specs.declared.limits.TheConstants.{MOST_TRIES}
+use Rattle.run_settings.specs.Limits.{most_tries}
 use Rattle.int_text.proofs.IntFacts.{own}
-use Rattle.drill_text.specs.declared.number.TheConstants.{MOST_NUMBER}
+use Rattle.drill_text.specs.Numbers.{most_number, number_in, number_up_to}
 use Rattle.drill_text.specs.Drills.{◌>>=◌, before, behind, comma, dot, drill_in, entries_in, entry_in, entry_of, is_drill, letter_of, parts}
-use Rattle.drill_text.specs.Numbers.{number_in, number_up_to}
 use Rattle.drill_text.specs.Spelled.{IsNamed, Spells, drill_text, entry_text}
 use Rattle.drill_text.proofs.CutLemmas.{around_sign, before_sign, behind_sign, no_digit}
 use Rattle.drill_text.proofs.DrillLemmas.{drill_may, may_drill}
@@ -29,7 +28,7 @@ binds : {A B : Type 0} (m : Option A) (f : A → Option B) (y : B) → (m >>= f)
 binds (Some x) f y is = (x, refl, is)
 binds None f y is = cc is
 
-digits : (n : ℕ) → n < 10 ^ 6 → all_ascii_digits (decimal n) ≡ true
+digits : (n : ℕ) → n < 10 ^ 9 → all_ascii_digits (decimal n) ≡ true
 digits n small = digits_decimal own n (omega arith)
 
 letter_no_digit : (phase : Phase) → is_ascii_digit (letter_of phase) ≡ false
@@ -43,14 +42,14 @@ made phase s t a = record { stage = s; phase = phase; task = t; attempt = a }
 
 abbrev with_attempt : Phase → List ℕ → ℕ → ℕ → Option Entry
 with_attempt phase attempt s t =
-    number_up_to MOST_TRIES attempt >>= (λ a. Some (made phase s t a))
+    number_up_to most_tries attempt >>= (λ a. Some (made phase s t a))
 
 abbrev with_task : Phase → List ℕ → List ℕ → ℕ → Option Entry
 with_task phase task attempt s = number_in task >>= with_attempt phase attempt s
 
 abbrev entry_from : Phase → List ℕ → List ℕ → List ℕ → Option Entry
 entry_from phase stage task attempt =
-    number_up_to MOST_NUMBER stage >>= with_task phase task attempt
+    number_up_to most_number stage >>= with_task phase task attempt
 
 -- the numbers that the parts spell
 record IsFrom (phase : Phase) (stage task attempt : List ℕ) (e : Entry) : Type 0 where
@@ -67,12 +66,12 @@ some_number text n is none = cc (ap number_in none, is)
 from_parts : (phase : Phase) (stage task attempt : List ℕ) (e : Entry)
     → entry_from phase stage task attempt ≡ Some e → IsFrom phase stage task attempt e
 from_parts phase stage task attempt e is =
-    let s = binds (number_up_to MOST_NUMBER stage) (with_task phase task attempt) e is in
+    let s = binds (number_up_to most_number stage) (with_task phase task attempt) e is in
     let t = binds (number_in task) (with_attempt phase attempt s.0) e s.2 in
-    let a = binds (number_up_to MOST_TRIES attempt) (λ a. Some (made phase s.0 t.0 a)) e t.2 in
+    let a = binds (number_up_to most_tries attempt) (λ a. Some (made phase s.0 t.0 a)) e t.2 in
     let whole : made phase s.0 t.0 a.0 ≡ e = cc a.2 in
-    let of_stage = spelled_up_to MOST_NUMBER stage s.0 s.1 in
-    let of_attempt = spelled_up_to MOST_TRIES attempt a.0 a.1 in
+    let of_stage = spelled_up_to most_number stage s.0 s.1 in
+    let of_attempt = spelled_up_to most_tries attempt a.0 a.1 in
     let of_task = spelled_number task t.0 t.1 in
     subst (IsFrom phase stage task attempt) whole (record {
       named = record {
@@ -91,9 +90,9 @@ to_parts : (e : Entry) → IsNamed e
     → entry_from e.phase (decimal e.stage) (decimal e.task) (decimal e.attempt) ≡ Some e
 to_parts e named =
     rw (
-      up_to_spelled MOST_NUMBER e.stage named.stage (omega (arith, named.stage.1)),
+      up_to_spelled most_number e.stage named.stage (omega (arith, named.stage.1)),
       number_spelled e.task (omega (arith, named.task)),
-      up_to_spelled MOST_TRIES e.attempt named.attempt (omega (arith, named.attempt.1)),
+      up_to_spelled most_tries e.attempt named.attempt (omega (arith, named.attempt.1)),
     ) refl
 
 -- ---- a sign that a text lacks

@@ -42,7 +42,7 @@ at_most m n h = grind (arith, nat_tests)
 pub record IsShort (bs : List ℕ) : Type 0 where
   pub digits : all_ascii_digits bs ≡ true
   pub some : 0 < length bs
-  pub few : length bs ≤ 6
+  pub few : length bs ≤ 9
 
 pub short_number : (bs : List ℕ) → is_number bs ≡ true → IsShort bs
 short_number bs is =
@@ -50,9 +50,9 @@ short_number bs is =
     let digits = numeral_digits bs (both _ _ parts.0).0 in
     record { digits = digits.0; some = digits.1; few = at_most _ _ parts.1 }
 
-pub number_small : (bs : List ℕ) → is_number bs ≡ true → number_of bs < 10 ^ 6
+pub number_small : (bs : List ℕ) → is_number bs ≡ true → number_of bs < 10 ^ 9
 number_small bs is =
-    let short = short_number bs is in digits_value_short own bs 6 short.digits short.few
+    let short = short_number bs is in digits_value_short own bs 9 short.digits short.few
 
 -- what `parse` makes of such a text
 pub number_parsed : {E : Type 0} (bs : List ℕ) (r : Result ℕ E) → ParsesUnsigned 32 10 bs r
@@ -84,7 +84,7 @@ no_zero_first [] above = refl
 no_zero_first (b ∷ []) above = refl
 no_zero_first (b ∷ next ∷ bs) above = grind (arith, nat_tests)
 
-no_zero_written : (n : ℕ) → n < 10 ^ 6 → has_leading_zero (decimal n) ≡ false
+no_zero_written : (n : ℕ) → n < 10 ^ 9 → has_leading_zero (decimal n) ≡ false
 no_zero_written n small = elim (cases_Bool (n == 0)) [
   | inl zero ↦ rw ((Decides-eqb n 0).0 zero) (rw (decimal_digit 0 (lit< tt)) refl)
   | inr other ↦
@@ -92,13 +92,13 @@ no_zero_written n small = elim (cases_Bool (n == 0)) [
       no_zero_first (decimal n) (first_decimal n some (omega arith))
 ]
 
-number_written : (n : ℕ) → n < 10 ^ 6 → is_number (decimal n) ≡ true
+number_written : (n : ℕ) → n < 10 ^ 9 → is_number (decimal n) ≡ true
 number_written n small =
     let digits : is_numeral (decimal n) ≡ true =
     numeral-to (decimal n) (digits_decimal own n (omega arith))
     (decimal_nonempty n (omega arith)) in
-    let few : nat_le (length (decimal n)) 6 ≡ true =
-    le-to _ _ (length-decimal-le 6 n (omega arith) small (omega arith)) in
+    let few : nat_le (length (decimal n)) 9 ≡ true =
+    le-to _ _ (length-decimal-le 9 n (omega arith) small (omega arith)) in
     rw (digits, no_zero_written n small, few) refl
 
 -- a test, and what there is where it holds
@@ -108,12 +108,12 @@ chosen true x y is = (refl, cc is)
 chosen false x y is = cc is
 
 pub spelled_number : (bs : List ℕ) (n : ℕ) → number_in bs ≡ Some n
-    → (bs ≡ decimal n) × (n < 10 ^ 6)
+    → (bs ≡ decimal n) × (n < 10 ^ 9)
 spelled_number bs n is =
     let by = chosen _ _ _ is in
-    (written bs by.0 ∙ ap decimal by.1, subst (λ (m : ℕ). m < 10 ^ 6) by.1 (number_small bs by.0))
+    (written bs by.0 ∙ ap decimal by.1, subst (λ (m : ℕ). m < 10 ^ 9) by.1 (number_small bs by.0))
 
-pub number_spelled : (n : ℕ) → n < 10 ^ 6 → number_in (decimal n) ≡ Some n
+pub number_spelled : (n : ℕ) → n < 10 ^ 9 → number_in (decimal n) ≡ Some n
 number_spelled n small =
     rw (number_written n small) (ap Some (digits_value-decimal own n (omega arith)))
 
@@ -136,6 +136,6 @@ pub spelled_up_to : (limit : ℕ) (bs : List ℕ) (n : ℕ) → number_up_to lim
     → (number_in bs ≡ Some n) × IsUpTo limit n
 spelled_up_to limit bs n is = within_limit limit (number_in bs) n is
 
-pub up_to_spelled : (limit n : ℕ) → IsUpTo limit n → n < 10 ^ 6
+pub up_to_spelled : (limit n : ℕ) → IsUpTo limit n → n < 10 ^ 9
     → number_up_to limit (decimal n) ≡ Some n
 up_to_spelled limit n within small = rw (number_spelled n small) (rw (is_up limit n within) refl)

@@ -6,9 +6,8 @@ use Rattle.outside.specs.declared.host.Phase.{Phase}
 use Rattle.outside.specs.declared.host.Phase.TheVariants.{Map, Reduce}
 use Rattle.crew.specs.declared.drill.Entry.{Entry}
 use Rattle.crew.specs.Drills.{is_drilled}
-use Rattle.run_settings.specs.declared.limits.TheConstants.{MOST_ENTRIES, MOST_TRIES}
-use Rattle.drill_text.specs.declared.number.TheConstants.{MOST_NUMBER}
-use Rattle.drill_text.specs.Numbers.{number_in, number_up_to}
+use Rattle.run_settings.specs.Limits.{most_entries, most_tries}
+use Rattle.drill_text.specs.Numbers.{most_number, number_in, number_up_to}
 
 -- what there is, and what is made of it
 infixl 10 ◌>>=◌
@@ -39,9 +38,9 @@ behind sign text = after_first (λ byte. byte == sign) text
 -- behind it the task, a dot and the attempt
 abbrev pub entry_of : Phase → List ℕ → Option Entry
 entry_of phase text = do
-  stage ← number_up_to MOST_NUMBER (before (letter_of phase) text)
+  stage ← number_up_to most_number (before (letter_of phase) text)
   task ← number_in (before dot (behind (letter_of phase) text))
-  attempt ← number_up_to MOST_TRIES (behind dot (behind (letter_of phase) text))
+  attempt ← number_up_to most_tries (behind dot (behind (letter_of phase) text))
   Some (record { stage = stage; phase = phase; task = task; attempt = attempt })
 
 -- the attempt that a text names, of a map task or of a reduce task
@@ -67,7 +66,7 @@ are_apart (entry ∷ entries) = not (is_drilled entries entry) && are_apart entr
 
 -- a drill may have them: not too many, and none of them twice
 abbrev pub is_drill : List Entry → Bool
-is_drill entries = nat_le (length entries) MOST_ENTRIES && are_apart entries
+is_drill entries = nat_le (length entries) most_entries && are_apart entries
 
 -- the drill that a text spells
 abbrev pub drill_in : List ℕ → Option (List Entry)

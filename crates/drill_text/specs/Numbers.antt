@@ -12,9 +12,18 @@ has_leading_zero [] = false
 has_leading_zero (first ∷ []) = false
 has_leading_zero (first ∷ next ∷ rest) = first == zero_digit
 
--- one to six decimal digits, without leading zeros
+-- the most digits of a number
+abbrev pub most_digits : ℕ
+most_digits = 9
+
+-- the greatest number of so many digits
+abbrev pub most_number : ℕ
+most_number = 999999999
+
+-- decimal digits, at least one and not too many, without leading zeros
 abbrev pub is_number : List ℕ → Bool
-is_number text = (is_numeral text && not (has_leading_zero text)) && nat_le (length text) 6
+is_number text =
+    (is_numeral text && not (has_leading_zero text)) && nat_le (length text) most_digits
 
 -- the number that a text spells
 abbrev pub number_in : List ℕ → Option ℕ

@@ -2,9 +2,8 @@
 use Rattle.std.specs.Prelude.{◌≡◌, ◌≤◌, ℕ, List, ◌∷◌, ◌++◌, decimal, length, map}
 use Rattle.std.specs.List.{All, join_with_byte}
 use Rattle.crew.specs.declared.drill.Entry.{Entry}
-use Rattle.run_settings.specs.Limits.{IsDrill, IsUpTo}
-use Rattle.run_settings.specs.declared.limits.TheConstants.{MOST_TRIES}
-use Rattle.drill_text.specs.declared.number.TheConstants.{MOST_NUMBER}
+use Rattle.run_settings.specs.Limits.{IsDrill, IsUpTo, most_tries}
+use Rattle.drill_text.specs.Numbers.{most_number}
 use Rattle.drill_text.specs.Drills.{comma, dot, letter_of}
 
 -- the text of an attempt: STAGE(m|r)TASK.ATTEMPT
@@ -18,9 +17,9 @@ drill_text entries = join_with_byte comma (map entry_text entries)
 
 -- an attempt that texts can name
 pub record IsNamed (e : Entry) : Type 0 where
-  pub stage : IsUpTo MOST_NUMBER e.stage
-  pub task : e.task ≤ MOST_NUMBER
-  pub attempt : IsUpTo MOST_TRIES e.attempt
+  pub stage : IsUpTo most_number e.stage
+  pub task : e.task ≤ most_number
+  pub attempt : IsUpTo most_tries e.attempt
 
 -- a text spells a drill: it is the drill's text, and the drill has an attempt, and none that it
 -- may not have

@@ -3,10 +3,13 @@ ghost use Rattle.int_text.specs.Ints.{is_numeral};
 ghost use Rattle.run_settings.specs.Limits.{IsUpTo};
 ghost use Rattle.drill_text.specs.Numbers as spec;
 
-/// The greatest number of six digits.
-pub(crate) const MOST_NUMBER: u32 = 999_999;
+/// The most digits of a number in an entry.
+const MOST_DIGITS: usize = 9;
 
-/// The number that a text spells: one to six decimal digits, without leading zeros.
+/// The greatest number of so many digits.
+pub(crate) const MOST_NUMBER: u32 = 999_999_999;
+
+/// The number that a text spells: one to nine decimal digits, without leading zeros.
 pub fn number_in(text: &str) -> Option<u32>
     ensures { result ≡ spec.number_in text.now }
 {
@@ -25,11 +28,11 @@ pub fn number_up_to(limit: u32, text: &str) -> Option<u32>
     number_in(text).filter(|number| (1..=limit).contains(number))
 }
 
-// Whether a text is one to six digits, without leading zeros.
+// Whether a text is one to nine digits, without leading zeros.
 fn is_number(text: &[u8]) -> bool
     ensures { result ≡ spec.is_number text.now }
 {
-    is_numeral(text) && !has_leading_zero(text) && text.len() <= 6
+    is_numeral(text) && !has_leading_zero(text) && text.len() <= MOST_DIGITS
 }
 
 // Whether a text is digits alone, at least one.

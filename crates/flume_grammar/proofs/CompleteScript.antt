@@ -35,6 +35,8 @@ module _ (limits : Limits) (fair : IsFair limits) where
   complete_combiner g.all = refl
   complete_combiner g.any = refl
   complete_combiner g.top = refl
+  complete_combiner g.mean = refl
+  complete_combiner g.distinct = refl
 
   complete_names : {ts us : List Token} {xs : List (List ℕ)} → AreNames ts us xs
       → length xs ≤ limits.inputs → (x : List ℕ) × (vs : List Token) × (one name_at ts ≡ Ok (x, vs))
@@ -162,6 +164,8 @@ module _ (limits : Limits) (fair : IsFair limits) where
   shorter_combiner g.all = omega arith
   shorter_combiner g.any = omega arith
   shorter_combiner g.top = omega arith
+  shorter_combiner g.mean = omega arith
+  shorter_combiner g.distinct = omega arith
 
   shorter_operation : {ts us : List Token} {o : Operation} → IsOperation limits ts us o
       → length us < length ts

@@ -38,6 +38,8 @@ rest_combiner g.max_ h = h.1
 rest_combiner g.all h = h.1
 rest_combiner g.any h = h.1
 rest_combiner g.top h = h.1.1
+rest_combiner g.mean h = h.1
+rest_combiner g.distinct h = h.1
 
 rest_names : {ts us : List Token} {xs : List (List ℕ)} → g.AreNames ts us xs → Texts ts → Texts us
 rest_names g.one h = h.1

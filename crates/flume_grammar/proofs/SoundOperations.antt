@@ -68,6 +68,8 @@ module _ (limits : Limits) (fair : IsFair limits) where
   combiner_key (combining.Whole combiner.All) = keyword.All
   combiner_key (combining.Whole combiner.Any) = keyword.Any
   combiner_key (combining.Whole (combiner.Top n)) = keyword.Top
+  combiner_key (combining.Whole combiner.Mean) = keyword.Mean
+  combiner_key (combining.Whole combiner.Distinct) = keyword.Distinct
   combiner_key combining.Top = keyword.Top
 
   is_combiner_key : (k : Keyword) (z : CombinerStart) → s.keyword_combiner k ≡ Some z
@@ -85,6 +87,10 @@ module _ (limits : Limits) (fair : IsFair limits) where
   is_combiner_key keyword.Any z q = let e : combining.Whole combiner.Any ≡ z = cc in
       ap combiner_key e
   is_combiner_key keyword.Top z q = let e : combining.Top ≡ z = cc in ap combiner_key e
+  is_combiner_key keyword.Mean z q = let e : combining.Whole combiner.Mean ≡ z = cc in
+      ap combiner_key e
+  is_combiner_key keyword.Distinct z q = let e : combining.Whole combiner.Distinct ≡ z = cc in
+      ap combiner_key e
   is_combiner_key _ z q = cc
 
   abbrev operation_key : OperationStart → Keyword
@@ -128,6 +134,10 @@ module _ (limits : Limits) (fair : IsFair limits) where
       moved_by IsCombiner _ ts us us combiner.All c e refl w g.all
   s_whole keyword.Any n c ts us q e = let w : combiner.Any ≡ c = cc in
       moved_by IsCombiner _ ts us us combiner.Any c e refl w g.any
+  s_whole keyword.Mean n c ts us q e = let w : combiner.Mean ≡ c = cc in
+      moved_by IsCombiner _ ts us us combiner.Mean c e refl w g.mean
+  s_whole keyword.Distinct n c ts us q e = let w : combiner.Distinct ≡ c = cc in
+      moved_by IsCombiner _ ts us us combiner.Distinct c e refl w g.distinct
   s_whole _ n c ts us q e = cc
 
   s_combiner : (ts : List Token) (x : Combiner) (us : List Token) → s.combiner_at ts ≡ Ok (x, us)

@@ -40,7 +40,7 @@ side_of keyword.Left = Some side.Left
 side_of keyword.Right = Some side.Right
 side_of _ = None
 
--- comb = "sum" | "count" | "min" | "max" | "all" | "any" | "top" num
+-- comb = "sum" | "count" | "min" | "max" | "all" | "any" | "top" num | "mean" | "distinct"
 pub data IsCombiner : List Token → List Token → Combiner → Type 0 where
   sum : {n : ℕ} {ts : List Token} → IsCombiner (key keyword.Sum n ∷ ts) ts combiner.Sum
   count : {n : ℕ} {ts : List Token} → IsCombiner (key keyword.Count n ∷ ts) ts combiner.Count
@@ -50,6 +50,9 @@ pub data IsCombiner : List Token → List Token → Combiner → Type 0 where
   any : {n : ℕ} {ts : List Token} → IsCombiner (key keyword.Any n ∷ ts) ts combiner.Any
   top : {digits : List ℕ} {n m : ℕ} {ts : List Token}
       → IsCombiner (key keyword.Top n ∷ number digits m ∷ ts) ts (combiner.Top digits)
+  mean : {n : ℕ} {ts : List Token} → IsCombiner (key keyword.Mean n ∷ ts) ts combiner.Mean
+  distinct : {n : ℕ} {ts : List Token}
+      → IsCombiner (key keyword.Distinct n ∷ ts) ts combiner.Distinct
 
 -- name { "," name }
 pub data AreNames : List Token → List Token → List (List ℕ) → Type 0 where

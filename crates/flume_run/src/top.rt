@@ -43,10 +43,10 @@ pub fn flume<X: Threads + Sync, R: Source, H: Host + Send, K: Shelf, P: Screen>(
 ) -> Status
     requires { length hosts.old ≡ 16 }
     ensures promises { Promises (map string_bytes words.now)
-        (world (seen R.files R.faults source.old)
+        (world (seen R.files R.faults source.old) (R.asked source.old)
         (seen_shelf K.files K.begun K.left K.faults shelf.old) (seen P.text P.faults screen.old)
         (map (account H.notes H.losses) hosts.old))
-        (world (seen R.files R.faults source.new)
+        (world (seen R.files R.faults source.new) (R.asked source.new)
         (seen_shelf K.files K.begun K.left K.faults shelf.new) (seen P.text P.faults screen.new)
         (map (account H.notes H.losses) hosts.new))
         result }

@@ -27,6 +27,8 @@ spelling keyword.Min = codes "min"
 spelling keyword.Max = codes "max"
 spelling keyword.All = codes "all"
 spelling keyword.Any = codes "any"
+spelling keyword.Mean = codes "mean"
+spelling keyword.Distinct = codes "distinct"
 spelling keyword.Int = codes "int"
 spelling keyword.Bool = codes "bool"
 spelling keyword.Text = codes "text"
@@ -57,11 +59,12 @@ abbrev pub keywords : List Keyword
 keywords = keyword.Type ∷ keyword.Input ∷ keyword.Fn ∷ keyword.Let ∷ keyword.Output ∷ keyword.From ∷
     keyword.To ∷ keyword.Scale ∷ keyword.Do ∷ keyword.Group ∷ keyword.Combine ∷ keyword.By ∷
     keyword.Flatten ∷ keyword.Count ∷ keyword.Join ∷ keyword.Top ∷ keyword.Sum ∷ keyword.Min ∷
-    keyword.Max ∷ keyword.All ∷ keyword.Any ∷ keyword.Int ∷ keyword.Bool ∷ keyword.Text ∷
-    keyword.List ∷ keyword.Either ∷ keyword.Table ∷ keyword.If ∷ keyword.Else ∷ keyword.For ∷
-    keyword.In ∷ keyword.Emit ∷ keyword.Case ∷ keyword.Left ∷ keyword.Right ∷ keyword.True ∷
-    keyword.False ∷ keyword.And ∷ keyword.Or ∷ keyword.Not ∷ keyword.Len ∷ keyword.Words ∷
-    keyword.Concat ∷ keyword.Number ∷ keyword.Pick ∷ keyword.Empty ∷ []
+    keyword.Max ∷ keyword.All ∷ keyword.Any ∷ keyword.Mean ∷ keyword.Distinct ∷ keyword.Int ∷
+    keyword.Bool ∷ keyword.Text ∷ keyword.List ∷ keyword.Either ∷ keyword.Table ∷ keyword.If ∷
+    keyword.Else ∷ keyword.For ∷ keyword.In ∷ keyword.Emit ∷ keyword.Case ∷ keyword.Left ∷
+    keyword.Right ∷ keyword.True ∷ keyword.False ∷ keyword.And ∷ keyword.Or ∷ keyword.Not ∷
+    keyword.Len ∷ keyword.Words ∷ keyword.Concat ∷ keyword.Number ∷ keyword.Pick ∷
+    keyword.Empty ∷ []
 
 -- the keyword that a word is
 unfoldable pub keyword_of : List ℕ → Option Keyword

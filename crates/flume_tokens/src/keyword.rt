@@ -26,6 +26,8 @@ pub enum Keyword {
     Max,
     All,
     Any,
+    Mean,
+    Distinct,
     Int,
     Bool,
     Text,
@@ -53,7 +55,7 @@ pub enum Keyword {
     Empty,
 }
 
-const KEYWORDS: [Keyword; 46] = [
+const KEYWORDS: [Keyword; 48] = [
     Keyword::Type,
     Keyword::Input,
     Keyword::Fn,
@@ -75,6 +77,8 @@ const KEYWORDS: [Keyword; 46] = [
     Keyword::Max,
     Keyword::All,
     Keyword::Any,
+    Keyword::Mean,
+    Keyword::Distinct,
     Keyword::Int,
     Keyword::Bool,
     Keyword::Text,
@@ -129,6 +133,8 @@ impl Keyword {
             Keyword::Max => b"max",
             Keyword::All => b"all",
             Keyword::Any => b"any",
+            Keyword::Mean => b"mean",
+            Keyword::Distinct => b"distinct",
             Keyword::Int => b"int",
             Keyword::Bool => b"bool",
             Keyword::Text => b"text",

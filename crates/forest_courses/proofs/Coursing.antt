@@ -11,7 +11,7 @@ use Rattle.exec_graph.specs.World.{World}
 use Rattle.task_lists.specs.Runs.{visits}
 use Rattle.forest_steps.specs.Fresh.{none_given}
 use Rattle.forest_steps.specs.Places.{outputs_in, sizes_in}
-use Rattle.forest_steps.specs.Running.{Given, run, run_each}
+use Rattle.forest_steps.specs.Running.{Given, Run, run, run_each}
 use Rattle.forest_courses.specs.Courses.{IsCourse}
 use Rattle.forest_courses.proofs.Counting.{all_counted}
 use Rattle.forest_courses.proofs.Trapping.{Traps, all_traps}
@@ -37,6 +37,17 @@ module _ (w : World) where
             ∙ poured_whole w f xs (from_numbered 0 f is);
         counts = all_counted w (sizes_in f) f xs start given refl few refl e;
       }
+
+  -- whichever way the steps on the elements end
+  pub either_course : (f : Forest) (xs : List Value) (sizes : List ℕ) (start : Given)
+      (end : Run) → numbered 0 f ≡ f → outputs_in f < 2 ^ 64 → sizes ≡ sizes_in f
+      → start ≡ none_given (after 0 f) (outputs_in f)
+      → run_each (run w sizes 0 f) xs start ≡ end → IsCourse w (Some f) xs end
+  either_course f xs sizes start (Ok given) is few sized fresh e =
+      made_course f xs given is few
+      (sym (λ i. run_each (run w (sized i) 0 f) xs (fresh i)) ∙ e)
+  either_course f xs sizes start (Err trap) is few sized fresh e =
+      trapped_course sizes f xs start trap e
 
   pub whole_course : (xs : List Value) (given : Given) → given.lists ≡ xs ∷ []
       → given.counts ≡ [] → IsCourse w None xs (Ok given)

@@ -1,3 +1,4 @@
+// What the steps give of a task's elements is what the task's meaning says of it.
 ghost use Rattle.std.specs.Prelude.{◌≡◌, ◌<◌, ◌^◌, ◌∷◌, [], ℕ, List, Option, Some, None, Ok, Err};
 ghost use Rattle.flume_value.specs.declared.value.Value.{Value};
 ghost use Rattle.flume_collection.specs.declared.trap.Trap.{Trap};

@@ -3,7 +3,7 @@ use Rattle.std.proofs.Common.{◌+◌, ℕ, [], ◌∷◌, sym, subst, add-one}
 use Rattle.crew.specs.declared.drill.Entry.{Entry}
 use Rattle.crew.specs.Hosts.{Account, Gains, at_place, places_below}
 use Rattle.crew.proofs.Accounts.{gains_on, gains_nothing}
-use Rattle.forest_run.specs.Asking.{LetThrough}
+use Rattle.forest_run.specs.inner.Asking.{LetThrough}
 
 pub let_none : (e : Entry) (a : Account) → LetThrough e 0 a a
 let_none e a = gains_nothing a

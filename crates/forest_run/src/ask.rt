@@ -3,13 +3,13 @@ ghost use Rattle.std.specs.Prelude.{◌≡◌, ℕ, ◌+◌, ◌≤◌, OnOk, On
 ghost use Rattle.crew.specs.Hosts.{account, Account};
 ghost use Rattle.crew.specs.Drills.{attempt_at};
 ghost use Rattle.crew.specs.Attempts.{StoppedDown};
-ghost use Rattle.forest_run.specs.Asking.{LetThrough};
+ghost use Rattle.forest_run.specs.inner.Asking.{LetThrough};
 
 use crew::Spot;
 use outside::{Down, Host};
 
 /// Asks the host for the places from `from` on below `to`, in order.
-pub fn ask_all<H: Host>(
+pub(crate) fn ask_all<H: Host>(
     host: &mut H,
     spot: &Spot,
     task: u32,

@@ -11,9 +11,10 @@ use Rattle.exec_graph.specs.World.{World}
 use Rattle.exec_graph.specs.declared.step.Output.{Output}
 use Rattle.forest_steps.specs.Safety.{Safe}
 use Rattle.forest_steps.specs.Running.{Given, Run, and_then, below, behind, behind_all, counted, kept, run, run_each, run_out, run_twigs, IsRunFault, SafeTwigs}
+use Rattle.forest_steps.specs.Turns.{Turn, first_turn, in_turn}
 use Rattle.forest_steps.specs.declared.fault.StepFault.{StepFault}
 use Rattle.forest_steps.specs.declared.fault.StepFault.TheVariants as fault
-use Rattle.forest_steps.proofs.Twigging.{grown_run}
+use Rattle.forest_steps.proofs.Twigging.{grown_run, then_alike}
 
 pub drop_at : {A : Type 0} (xs : List A) (i : ℕ) (x : A) → i < length xs → x ≡ get_or xs i x
     → drop i xs ≡ x ∷ drop (i + 1) xs
@@ -40,6 +41,36 @@ ends_by : (r whole : Run) (f : Given → Run) (t : StepFault) → and_then r f �
     → IsRunFault r t → IsRunFault whole t
 ends_by r whole f fault.Memory e h = tt
 ends_by r whole f (fault.Trap trap) e h = sym e ∙ ap (λ q. and_then q f) h
+
+-- ---- elements, one after another, each with its turn
+pub turn_on : (turns left : List Turn) (g more : Given) (whole : Run) → in_turn turns g ≡ whole
+    → left ≡ drop 1 turns → first_turn turns g ≡ Ok more → in_turn left more ≡ whole
+turn_on [] left g more whole goes is e = ap (λ l. in_turn l more) is ∙ sym e ∙ goes
+turn_on (t ∷ turns) left g more whole goes is e =
+    ap (λ l. in_turn l more) is ∙ goes_on (t g) whole (in_turn turns) more goes e
+
+pub turn_ends : (turns : List Turn) (g : Given) (whole : Run) (t : StepFault)
+    → in_turn turns g ≡ whole → IsRunFault (first_turn turns g) t → IsRunFault whole t
+turn_ends [] g whole fault.Memory goes h = tt
+turn_ends [] g whole (fault.Trap trap) goes h = cc h
+turn_ends (turn ∷ turns) g whole t goes h = ends_by (turn g) whole (in_turn turns) t goes h
+
+pub turns_done : (turns : List Turn) (g : Given) (whole : Run) → in_turn turns g ≡ whole
+    → length turns ≡ 0 → whole ≡ Ok g
+turns_done [] g whole goes h = sym goes
+turns_done (t ∷ turns) g whole goes h = absurd (omega (arith, h))
+
+-- as many are left as there were, but one
+pub turns_left : (turns left : List Turn) → 0 < length turns → left ≡ drop 1 turns
+    → length left + 1 ≡ length turns
+turns_left [] left h is = absurd (omega arith)
+turns_left (t ∷ turns) left h is = let same = ap length is in omega arith
+
+pub in_turn_each : {X : Type 0} (f : X → Given → Run) (xs : List X) (g : Given)
+    → in_turn (map f xs) g ≡ run_each f xs g
+in_turn_each f [] g = refl
+in_turn_each f (x ∷ xs) g =
+    then_alike (f x g) (in_turn (map f xs)) (run_each f xs) (in_turn_each f xs)
 
 -- ---- emissions
 pub each_on : (F : Value → Given → Run) (xs : List Value) (i : ℕ) (x : Value) (g more : Given)

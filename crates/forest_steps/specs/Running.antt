@@ -73,8 +73,8 @@ abbrev pub and_then : Run → (Given → Run) → Run
 and_then (Ok g) f = f g
 and_then (Err trap) f = Err trap
 
--- steps on each value, in order
-abbrev pub run_each : (Value → Given → Run) → List Value → Given → Run
+-- steps on each, in order
+abbrev pub run_each : {X : Type 0} → (X → Given → Run) → List X → Given → Run
 run_each f [] g = Ok g
 run_each f (x ∷ xs) g = and_then (f x g) (run_each f xs)
 

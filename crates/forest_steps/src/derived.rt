@@ -73,6 +73,15 @@ pub(crate) fn spread(alloc: Global, x: Value) -> Result<Vec<Items>, AllocError>
     }
 }
 
+/// One emission to the one output.
+pub(crate) fn one(alloc: Global, value: Value) -> Result<Vec<Items>, AllocError>
+    ensures { IfOk result (λ lists. lists.items ≡ (value ∷ []) ∷ []) }
+{
+    let mut values = Vec::with_capacity(alloc, 1)?;
+    values.push(value)?;
+    only(alloc, Pile::from_vec(values))
+}
+
 /// The lefts of eithers and their rights, each in order.
 #[derive(Drop)]
 struct Sides {
@@ -114,15 +123,6 @@ fn push(value: Value, values: &mut Vec<Value>) -> Result<(), AllocError>
 {
     values.push(value)?;
     Ok(())
-}
-
-/// One emission to the one output.
-pub(crate) fn one(alloc: Global, value: Value) -> Result<Vec<Items>, AllocError>
-    ensures { IfOk result (λ lists. lists.items ≡ (value ∷ []) ∷ []) }
-{
-    let mut values = Vec::with_capacity(alloc, 1)?;
-    values.push(value)?;
-    only(alloc, Pile::from_vec(values))
 }
 
 /// These emissions to the one output.

@@ -1,3 +1,4 @@
+// Why steps end before their end.
 use flume_collection::Trap;
 use std::alloc::{AllocError, AllocFailed};
 

@@ -1,4 +1,4 @@
-//! The steps of a forest on one element.
+//! The steps of a forest on one element, and on one after another.
 //!
 //! What the functions of a script answer is told by `Functions`, which whoever has the script
 //! implements; derived functions and combinations are made here. A step is called on an element.
@@ -8,16 +8,21 @@
 //! `run` (specs/Running.antt) says what steps give, and `visit_steps` gives it; `visit_outputs`
 //! goes on with what one step has answered. Counts stand by the places of outputs in preorder, for
 //! which `sizes_of` makes a table once a task.
+//!
+//! `Elements` is what a walk goes over: elements in their order, each with its steps. They stay
+//! where they are (`Borrowed`) or are handed over to their steps (`Owned`).
 #![tactic(auto)]
 
 mod answer;
 mod derived;
+mod elements;
 mod fault;
 mod functions;
 mod outputs;
 mod sizes;
 mod visit;
 
+pub use elements::{Borrowed, Elements, Owned};
 pub use fault::StepFault;
 pub use functions::Functions;
 pub use outputs::Outputs;

@@ -71,6 +71,10 @@ impl Outputs {
 fn append(list: &mut Items, more: Items) -> Result<(), AllocError>
     ensures { OnOk result (list.new ≡ list.old ++ more) }
 {
+    if list.is_empty() {
+        *list = more;
+        return Ok(());
+    }
     for value in more.into_vec() {
         list.push(value)?;
     }

@@ -40,25 +40,27 @@ pub fn visit_steps<F: Functions>(
     Ok(())
 }
 
-#[cycle(visit)]
-fn visit_step<F: Functions>(
+/// The steps on an element that is handed over, each in order. Where there is but one, it takes the
+/// element.
+pub fn move_to_steps<F: Functions>(
     alloc: Global,
     functions: &F,
     sizes: &[usize],
-    step: &Step,
+    steps: &[Step],
     at: usize,
-    x: &Value,
+    x: Value,
     outputs: &mut Outputs,
-) -> Result<usize, StepFault>
+) -> Result<(), StepFault>
     requires { Safe (world_of (F.called functions.now)) (F.can_call functions.now)
-        (limb step.now Bare) x.now }
-    ensures ran { IsRun (run (world_of (F.called functions.now)) sizes.now at (limb step.now Bare)
-        x.now outputs.old) outputs.new result }
-    ensures place { IfOk result (λ next.
-        next ≡ behind_all sizes.now at (step.now.first ∷ step.now.more)) }
+        (grown steps.now) x }
+    ensures { IsRun (run (world_of (F.called functions.now)) sizes.now at (grown steps.now) x
+        outputs.old) outputs.new result }
 {
-    let answers = answer(alloc, functions, step.origin, step.does, x)?;
-    visit_outputs(alloc, functions, sizes, step, at, answers, outputs)
+    if steps.len() != 1 {
+        return visit_steps(alloc, functions, sizes, steps, at, &x, outputs);
+    }
+    visit_moved(alloc, functions, sizes, &steps[0], at, x, outputs)?;
+    Ok(())
 }
 
 /// What a step answered, to each of its outputs in order. It gives the place behind them.
@@ -89,6 +91,27 @@ pub fn visit_outputs<F: Functions>(
         next = behind(sizes, next);
     }
     Ok(next)
+}
+
+#[cycle(visit)]
+fn visit_step<F: Functions>(
+    alloc: Global,
+    functions: &F,
+    sizes: &[usize],
+    step: &Step,
+    at: usize,
+    x: &Value,
+    outputs: &mut Outputs,
+) -> Result<usize, StepFault>
+    requires { Safe (world_of (F.called functions.now)) (F.can_call functions.now)
+        (limb step.now Bare) x.now }
+    ensures ran { IsRun (run (world_of (F.called functions.now)) sizes.now at (limb step.now Bare)
+        x.now outputs.old) outputs.new result }
+    ensures place { IfOk result (λ next.
+        next ≡ behind_all sizes.now at (step.now.first ∷ step.now.more)) }
+{
+    let answers = answer(alloc, functions, step.origin, step.does, x)?;
+    visit_outputs(alloc, functions, sizes, step, at, answers, outputs)
 }
 
 #[cycle(visit)]

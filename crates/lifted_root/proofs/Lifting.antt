@@ -14,7 +14,7 @@ use Rattle.exec_graph.specs.World.{World}
 use Rattle.forest_steps.specs.Running.{Given, and_then, below, behind, run, run_answer, run_each}
 use Rattle.forest_steps.specs.Safety.{Safe}
 use Rattle.forest_steps.proofs.Twigging.{limb_run, limb_safe, then_alike}
-use Rattle.lifted_root.specs.Lifted.{partial_answer, run_called, run_partial, run_all, SafeCalled}
+use Rattle.lifted_root.specs.Lifted.{partial_answer, run_called, run_partial, SafeCalled}
 
 -- ---- the one root of a lifted reducer
 
@@ -61,16 +61,16 @@ module _ (w : World) (sizes : List ℕ) (b : Branch) where
 
   pub all_run : (c : Comb) (ps : List (Value × Value)) (xs : List Value) (g : Given)
       → map (partial_answer c) ps ≡ map (called w b.does) xs
-      → run_all (run_partial w sizes b c) ps g ≡ run_each (run w sizes 0 (limb b Bare)) xs g
+      → run_each (run_partial w sizes b c) ps g ≡ run_each (run w sizes 0 (limb b Bare)) xs g
   all_run c [] [] g e = refl
   all_run c [] (x ∷ xs) g e = cc
   all_run c (p ∷ ps) [] g e = cc
   all_run c (p ∷ ps) (x ∷ xs) g e =
       let here : partial_answer c p ≡ called w b.does x = cc in
       let rest : map (partial_answer c) ps ≡ map (called w b.does) xs = cc in
-      ap (λ r. and_then r (run_all (run_partial w sizes b c) ps))
+      ap (λ r. and_then r (run_each (run_partial w sizes b c) ps))
       (sym (called_run (partial_answer c p) x g (sym here)))
-      ∙ then_alike (run w sizes 0 (limb b Bare) x g) (run_all (run_partial w sizes b c) ps)
+      ∙ then_alike (run w sizes 0 (limb b Bare) x g) (run_each (run_partial w sizes b c) ps)
       (run_each (run w sizes 0 (limb b Bare)) xs) (λ more. all_run c ps xs more rest)
 
 -- ---- what may be called

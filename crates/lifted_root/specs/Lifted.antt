@@ -1,13 +1,14 @@
 -- The steps of a lifted reducer on the accumulators of keys.
-use Rattle.std.specs.Prelude.{ℕ, List, [], ◌∷◌, Ok, Err}
+use Rattle.std.specs.Prelude.{ℕ, List, ◌∷◌, Ok, Err}
 use Rattle.flume_value.specs.declared.value.Value.{Value}
 use Rattle.flume_collection.specs.Calls.{Called, trap_named}
 use Rattle.combine_table.specs.declared.comb.Comb.{Comb}
 use Rattle.combine_table.specs.Accumulators.{finished}
+use Rattle.partial_tables.specs.Tables.{IsPartialOf}
 use Rattle.exec_graph.specs.Calls.{of_combine}
 use Rattle.exec_graph.specs.Forests.{Branch}
 use Rattle.exec_graph.specs.World.{World}
-use Rattle.forest_steps.specs.Running.{Given, Run, and_then, run_twigs, SafeTwigs}
+use Rattle.forest_steps.specs.Running.{Given, Run, run_twigs, SafeTwigs}
 
 -- what the root answers of a key with its accumulator
 abbrev pub partial_answer : Comb → Value × Value → Called
@@ -21,12 +22,11 @@ run_called w sizes b (Err trap) g = Err (trap_named b.origin trap)
 abbrev pub run_partial : World → List ℕ → Branch → Comb → Value × Value → Given → Run
 run_partial w sizes b c p g = run_called w sizes b (partial_answer c p) g
 
--- steps on each, in order
-abbrev pub run_all : {X : Type 0} → (X → Given → Run) → List X → Given → Run
-run_all f [] g = Ok g
-run_all f (x ∷ xs) g = and_then (f x g) (run_all f xs)
-
 -- the steps on the outputs of a step may be called on what it answered
 abbrev pub SafeCalled : World → (ℕ → Value → Type 0) → Branch → Called → Type 0
 SafeCalled w takes b (Ok answers) = SafeTwigs w takes answers (b.first ∷ b.more)
 SafeCalled w takes b (Err trap) = Unit {0}
+
+-- a key's accumulator is of the combiner, and the steps may be called on what the root answers of it
+abbrev pub SafePartial : World → (ℕ → Value → Type 0) → Branch → Comb → Value × Value → Type 0
+SafePartial w takes b c p = IsPartialOf c p × SafeCalled w takes b (partial_answer c p)

@@ -1,4 +1,5 @@
-// What takes get of the lists that a task gave: each list is moved to the last take of it.
+// The lists that a task's outputs were given go to the takes that read them: each is moved to the
+// last of its takes, and copied for those before it.
 ghost use Rattle.std.specs.Prelude.{◌≡◌, ◌++◌, ℕ, [], IfOk, OnOk, map, slice_get};
 ghost use Rattle.std.specs.List.{flat_map, list_any};
 ghost use Rattle.flume_collection.specs.Calls.{or_none};
@@ -9,6 +10,23 @@ use exec_plan::{OutChannel, Take};
 use flume_value::{Items, Pile, copy_all};
 use std::alloc::{AllocError, Global};
 use std::mem;
+
+/// Takes the list of that number away, and leaves an empty one. The others stay.
+pub fn take_list(alloc: Global, lists: &mut Pile<Items>, number: usize) -> Items
+    ensures list { result ≡ or_none (slice_get lists.old number) }
+    ensures none { or_none (slice_get lists.new number) ≡ [] }
+    ensures others { (n : ℕ) → (n ≡ number → ⊥) →
+        or_none (slice_get lists.new n) ≡ or_none (slice_get lists.old n) }
+{
+    let mut members = mem::replace(lists, Pile::new(alloc)).into_vec();
+    let list = if number < members.len() {
+        mem::replace(&mut members[number], Pile::new(alloc))
+    } else {
+        Pile::new(alloc)
+    };
+    *lists = Pile::from_vec(members);
+    list
+}
 
 /// What the channels take, one after another.
 pub(crate) fn all_takes(alloc: Global, channels: &[OutChannel]) -> Result<Vec<Take>, AllocError>
@@ -74,21 +92,4 @@ fn is_among(takes: &[Take], take: Take) -> bool
     ensures { result ≡ list_any (λ other. is_same other take) takes.now }
 {
     takes.iter().any(|other| other.channel == take.channel && other.out == take.out)
-}
-
-/// Takes the list of that number away, and leaves an empty one. The others stay.
-pub fn take_list(alloc: Global, lists: &mut Pile<Items>, number: usize) -> Items
-    ensures list { result ≡ or_none (slice_get lists.old number) }
-    ensures none { or_none (slice_get lists.new number) ≡ [] }
-    ensures others { (n : ℕ) → (n ≡ number → ⊥) →
-        or_none (slice_get lists.new n) ≡ or_none (slice_get lists.old n) }
-{
-    let mut members = mem::replace(lists, Pile::new(alloc)).into_vec();
-    let list = if number < members.len() {
-        mem::replace(&mut members[number], Pile::new(alloc))
-    } else {
-        Pile::new(alloc)
-    };
-    *lists = Pile::from_vec(members);
-    list
 }

@@ -1,9 +1,10 @@
 // The map tasks of a stage.
-ghost use Rattle.std.specs.Prelude.{◌≡◌, ◌<◌, IfOk, Ok, OnErr};
-ghost use Rattle.crew.specs.Attempts.{IsMadeOf, MatchAttempt, Ran, StoppedDown, StoppedEarly};
+ghost use Rattle.std.specs.Prelude.{◌≡◌, ◌<◌, IfOk, Ok};
+ghost use Rattle.crew.specs.Attempts.{IsMadeOf};
 ghost use Rattle.crew.specs.Drills.{attempt_at};
 ghost use Rattle.crew.specs.Hosts.{account};
 ghost use Rattle.forest_courses.specs.Courses.{IsCourse};
+ghost use Rattle.forest_run.specs.Asked.{Asked};
 ghost use Rattle.forest_steps.specs.Functions.{world_of};
 ghost use Rattle.map_shard.specs.Work.{CanWork, IsWorkValue, Work, task_at, work_count, work_places};
 
@@ -13,7 +14,7 @@ use crew::{Attempt, Spot, Tasks};
 use exec_plan::Mscr;
 use flume_collection::Trap;
 use flume_value::{Items, Pile};
-use forest_run::{Course, run_task};
+use forest_run::{Course, run_borrowed};
 use forest_steps::{Functions, Outputs};
 use outside::Host;
 use shards::shard_of;
@@ -111,19 +112,13 @@ impl<'a, F: Functions> MapTasks<'a, F> {
         ensures value { IfOk result (IsMadeOf (IsCourse
             (world_of (F.called self.now.functions))
             (task_at self.now task).does (task_at self.now task).elements)) }
-        ensures ran { IfOk result (λ r. MatchAttempt r
-            (Ran (attempt_at at.now task) (work_places self.now task)
-            (account H.notes H.losses host.old) (account H.notes H.losses host.new))
-            (StoppedDown (attempt_at at.now task) (work_places self.now task)
-            (account H.notes H.losses host.old) (account H.notes H.losses host.new))) }
-        ensures early { OnErr result
-            (StoppedEarly (attempt_at at.now task) (work_places self.now task)
-            (account H.notes H.losses host.old) (account H.notes H.losses host.new)) }
+        ensures asked { Asked (attempt_at at.now task) (work_places self.now task)
+            (account H.notes H.losses host.old) (account H.notes H.losses host.new) result }
     {
         let channel = &self.stage.inputs.as_slice()[(task / self.shards) as usize];
         let list = list_of(self.sources, self.results, channel.reads);
         let elements = shard_of(list, self.shards, task % self.shards);
-        run_task(
+        run_borrowed(
             alloc,
             self.functions,
             &channel.does,

@@ -111,6 +111,8 @@ module _ (line : ℕ) where
   comb_of (combiner.Top digits) = do
     number ← top_number digits
     Ok (comb.Top number)
+  comb_of combiner.Mean = Ok comb.Mean
+  comb_of combiner.Distinct = Ok comb.Distinct
 
   -- ---- what operands are
 

@@ -25,6 +25,8 @@ pub fn comb_of(line: u32, combiner: &Combiner) -> Result<Comb, ScriptFault>
             let number = top_number(line, digits)?;
             Ok(Comb::Top(number))
         }
+        Combiner::Mean => Ok(Comb::Mean),
+        Combiner::Distinct => Ok(Comb::Distinct),
     }
 }
 

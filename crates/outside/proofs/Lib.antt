@@ -1,3 +1,4 @@
+pub mod AskLemmas
 pub mod FileLemmas
 pub mod OutputLemmas
 pub mod Places

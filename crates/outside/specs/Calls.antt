@@ -1,8 +1,10 @@
 -- The calls of a form in memory, and which of them are to fail.
-use Rattle.std.specs.Prelude.{ℕ, List, Bool, ◌==◌, ◌&&◌, ◌-◌, Result, is_ok, if◌then◌else◌}
+use Rattle.std.specs.Prelude.{ℕ, List, Bool, ◌==◌, ◌&&◌, ◌-◌, Result, Ok, Err, is_ok, if◌then◌else◌}
 use Rattle.std.specs.List.{list_any}
 use Rattle.outside.specs.Cause.{raised}
 use Rattle.outside.specs.declared.memory.calls.Fail.{Fail}
+use Rattle.outside.specs.declared.source.BeginFault.{BeginFault}
+use Rattle.outside.specs.declared.source.BeginFault.TheVariants.{Missing, Failed}
 
 -- those that are to fail, how many begins there were, and how many calls since the last one
 pub record CallList : Type 0 where
@@ -41,3 +43,10 @@ is_numbered fails call = list_any (λ fail. fail == call) fails
 -- the count after a call: one more where it was refused
 abbrev pub counted : {T E : Type 0} → Result T E → ℕ → ℕ
 counted result count = if is_ok result then count else raised count
+
+-- the count after a begin of a source: one more where it failed, and no more where there is no such
+-- file
+abbrev pub counted_begin : {T : Type 0} → Result T BeginFault → ℕ → ℕ
+counted_begin (Ok x) count = count
+counted_begin (Err Missing) count = count
+counted_begin (Err Failed) count = raised count

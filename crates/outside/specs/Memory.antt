@@ -3,9 +3,11 @@ use Rattle.std.specs.Prelude.{ℕ, List, Option}
 use Rattle.outside.specs.Calls.{CallList}
 use Rattle.outside.specs.declared.file.File.{File}
 
--- a source: its files, what is left to read of the begun file, its calls, and how many failed
+-- a source: its files, the names that it was asked for, while it tells them, what is left to read of
+-- the begun file, its calls, and how many failed
 pub record SourceInMemory : Type 0 where
   pub files : List File
+  pub asked : Option (List (List ℕ))
   pub rest : Option (List ℕ)
   pub calls : CallList
   pub faults : ℕ

@@ -1,7 +1,10 @@
-ghost use Rattle.std.specs.Prelude.{◌≡◌, ◌≤◌, ◌<◌, ◌+◌, ◌↔◌, ◌++◌, ◌∷◌, [], None, ℕ, Some, length, IsTrue, IfOk, OnOk, OnErr, IfSome, IsErrOf, IsSomeAnd};
+ghost use Rattle.std.specs.Prelude.{◌≡◌, ◌≤◌, ◌<◌, ◌+◌, ◌↔◌, ◌++◌, ◌∷◌, [], None, ℕ, Some, drop, length, IsTrue, IfOk, OnOk, OnErr, IfSome, IsErrOf, IsSomeAnd};
+ghost use Rattle.outside.specs.Asked.{Asks};
 ghost use Rattle.outside.specs.Cause.{Rose, RoseBy};
 ghost use Rattle.outside.specs.Files.{bytes_of};
 ghost use Rattle.outside.specs.Load.{fault_of};
+ghost use Rattle.outside.specs.Seen.{seen};
+ghost use Rattle.outside.specs.Told.{WhileTold};
 ghost use Rattle.outside.specs.declared.loads.LoadFault.TheVariants.{Missing, Failed as LoadFailed, Memory};
 
 use crate::{BeginFault, Failed, Source};
@@ -53,7 +56,7 @@ impl From<AllocError> for LoadFault {
 /// Loads a file, at most `tries` times: again where the source failed.
 ///
 /// Missing and TooLong come as from `load`, and Failed only where the source's count rose by
-/// `tries` at least.
+/// `tries` at least. The source is asked for the file once, and again only where it failed.
 pub fn load_tried<S: Source>(
     alloc: Global,
     source: &mut S,
@@ -63,6 +66,8 @@ pub fn load_tried<S: Source>(
 ) -> Result<Vec<u8>, LoadFault>
     requires tries { 0 < tries }
     ensures files { S.files source.new ≡ S.files source.old }
+    ensures asked { Asks tries (name.now ∷ []) (seen S.asked S.faults source.old)
+        (seen S.asked S.faults source.new) }
     ensures within { IfOk result (λ bytes. length bytes.items ≤ limit) }
     ensures bytes { IfSome (S.files source.old) (λ files.
         IfOk result (λ bytes. bytes_of files name.now ≡ Some bytes.items)) }
@@ -71,6 +76,9 @@ pub fn load_tried<S: Source>(
     ensures too_long { IfSome (S.files source.old) (λ files.
         IsErrOf result LoadFault.TooLong →
         IsSomeAnd (bytes_of files name.now) (λ bytes. limit < length bytes)) }
+    ensures left { IfSome (S.files source.old) (λ files.
+        IsErrOf result LoadFault.TooLong → IfSome (bytes_of files name.now)
+        (λ bytes. S.rest source.new ≡ drop (limit + 1) bytes)) }
     ensures later { S.faults source.old ≤ S.faults source.new }
     ensures failed { IsErrOf result LoadFault.Failed →
         RoseBy tries (S.faults source.old) (S.faults source.new) }
@@ -88,7 +96,8 @@ pub fn load_tried<S: Source>(
 ///
 /// Where files are told, a load that goes through gives the bytes of the file of that name. Missing
 /// comes exactly where there is none, and TooLong where it has more bytes than the limit, which no
-/// load of it gives then. Failed comes only where the source's count rose.
+/// load of it gives then; what is left to read begins behind these bytes and one more. Failed comes
+/// only where the source's count rose. The source is asked for the file once.
 pub fn load<S: Source>(
     alloc: Global,
     source: &mut S,
@@ -96,6 +105,8 @@ pub fn load<S: Source>(
     limit: u64,
 ) -> Result<Vec<u8>, LoadFault>
     ensures files { S.files source.new ≡ S.files source.old }
+    ensures asked { WhileTold (S.asked source.old) (S.asked source.new)
+        (λ old new. new ≡ old ++ name.now ∷ []) }
     ensures within { IfOk result (λ bytes. length bytes.items ≤ limit) }
     ensures bytes { IfSome (S.files source.old) (λ files.
         IfOk result (λ bytes. bytes_of files name.now ≡ Some bytes.items)) }
@@ -104,6 +115,9 @@ pub fn load<S: Source>(
     ensures too_long { IfSome (S.files source.old) (λ files.
         IsErrOf result LoadFault.TooLong →
         IsSomeAnd (bytes_of files name.now) (λ bytes. limit < length bytes)) }
+    ensures left { IfSome (S.files source.old) (λ files.
+        IsErrOf result LoadFault.TooLong → IfSome (bytes_of files name.now)
+        (λ bytes. S.rest source.new ≡ drop (limit + 1) bytes)) }
     ensures later { S.faults source.old ≤ S.faults source.new }
     ensures failed { IsErrOf result LoadFault.Failed →
         Rose (S.faults source.old) (S.faults source.new) }
@@ -134,6 +148,7 @@ fn read_piece<S: Source>(
     requires begun { IsTrue (S.begun source.old) }
     requires room { 0 < length buf.old }
     ensures files { S.files source.new ≡ S.files source.old }
+    ensures asked { S.asked source.new ≡ S.asked source.old }
     ensures begun { IsTrue (S.begun source.new) }
     ensures bound { IfOk result (λ n. n ≤ length buf.old) }
     ensures more { IfOk result (λ n. length bytes.new.items ≡ length bytes.old.items + n) }

@@ -1,6 +1,7 @@
-ghost use Rattle.std.specs.Prelude.{◌≡◌, ◌≤◌, ◌<◌, ◌↔◌, ◌++◌, List, [], None, Some, ℕ, Bool, Option, length, take, is_ok, IsTrue, IfOk, OnOk, IfSome, IsErrOf};
+ghost use Rattle.std.specs.Prelude.{◌≡◌, ◌≤◌, ◌<◌, ◌↔◌, ◌++◌, List, [], ◌∷◌, None, Some, ℕ, Bool, Option, length, take, is_ok, IsTrue, IfOk, OnOk, IfSome, IsErrOf};
 ghost use Rattle.outside.specs.Cause.{HasCause, HasBeginCause};
 ghost use Rattle.outside.specs.Files.{bytes_of};
+ghost use Rattle.outside.specs.Told.{WhileTold};
 ghost use Rattle.outside.specs.declared.file.File.{File};
 
 /// Why a source did not begin a file.
@@ -24,6 +25,9 @@ pub trait Source {
     /// The files, where the source tells them.
     ghost files: { Self → Option (List File) };
 
+    /// The names of all begins so far, in their order, where the source tells them.
+    ghost asked: { Self → Option (List (List ℕ)) };
+
     /// Whether a file is begun: exactly where the last `begin` went through.
     ghost begun: { Self → Bool };
 
@@ -36,9 +40,12 @@ pub trait Source {
     /// Begins a file at its first byte. It may be called at any time, and ends the file that was
     /// begun before.
     ///
-    /// Missing comes exactly where told files lack the name, and Failed only where the count rose.
+    /// Missing comes exactly where told files lack the name, and Failed only where the count rose. A
+    /// source that tells its begins after the call told them before, and has this one behind them.
     fn begin(&mut self, name: &str) -> Result<(), BeginFault>
         ensures files { files self.new ≡ files self.old }
+        ensures asked { WhileTold (asked self.old) (asked self.new)
+            (λ old new. new ≡ old ++ name.now ∷ []) }
         ensures begun { begun self.new ≡ is_ok result }
         ensures missing { IfSome (files self.old) (λ files.
             IsErrOf result BeginFault.Missing ↔ (bytes_of files name.now ≡ None)) }
@@ -54,6 +61,7 @@ pub trait Source {
         requires begun { IsTrue (begun self.old) }
         requires room { 0 < length buf.old }
         ensures files { files self.new ≡ files self.old }
+        ensures asked { asked self.new ≡ asked self.old }
         ensures begun { IsTrue (begun self.new) }
         ensures bound { IfOk result (λ n. n ≤ length buf.new) }
         ensures end { IfSome (files self.old) (λ _.

@@ -31,17 +31,24 @@ fn fail_list(alloc: Global, fails: Fails) -> Result<Pile<Fail>, AllocError> {
 }
 
 // A load of a name within a limit, which calls fail, the fault that comes of it, if any does, and
-// how often the source fails.
-type Load = (&'static str, u64, Fails, Option<LoadFault>, u64);
+// how often the source fails, and how often it is asked for the file.
+type Load = (&'static str, u64, Fails, Option<LoadFault>, u64, usize);
 
 // Loads from a source that has "in.csv", of five bytes, at most twice.
 static LOADS: [Load; 6] = [
-    ("in.csv", 5, &[], None, 0),
-    ("in.csv", 5, &[(0, 0)], None, 1),
-    ("in.csv", 5, &[(0, 2)], None, 1),
-    ("in.csv", 4, &[], Some(LoadFault::TooLong), 0),
-    ("no.csv", 5, &[(0, 0)], Some(LoadFault::Missing), 0),
-    ("in.csv", 5, &[(0, 1), (1, 0)], Some(LoadFault::Failed), 2),
+    ("in.csv", 5, &[], None, 0, 1),
+    ("in.csv", 5, &[(0, 0)], None, 1, 2),
+    ("in.csv", 5, &[(0, 2)], None, 1, 2),
+    ("in.csv", 4, &[], Some(LoadFault::TooLong), 0, 1),
+    ("no.csv", 5, &[(0, 0)], Some(LoadFault::Missing), 0, 1),
+    (
+        "in.csv",
+        5,
+        &[(0, 1), (1, 0)],
+        Some(LoadFault::Failed),
+        2,
+        2,
+    ),
 ];
 
 fn one_file(alloc: Global) -> Result<Pile<File>, AllocError> {
@@ -52,21 +59,35 @@ fn one_file(alloc: Global) -> Result<Pile<File>, AllocError> {
 
 fn source_of(alloc: Global, fails: Fails) -> Result<MemSource, AllocError> {
     let files = one_file(alloc)?;
-    MemSource::new(files, fail_list(alloc, fails)?)
+    MemSource::new(alloc, files, fail_list(alloc, fails)?)
 }
 
 // The fault of a load, if it has one; or whether it gives the whole file.
 fn is_loaded(alloc: Global, source: &mut MemSource, it: Load) -> bool {
-    let (name, limit, _, wanted, _) = it;
+    let (name, limit, _, wanted, _, _) = it;
     match load_tried(alloc, source, name, limit, 2) {
         Ok(bytes) => wanted.is_none() && bytes.as_slice() == b"hello".as_slice(),
         Err(fault) => wanted == Some(fault),
     }
 }
 
+// Whether the source was asked for that name alone, so often.
+fn was_asked(source: &MemSource, name: &str, times: usize) -> bool {
+    match source.asked() {
+        Some(names) => {
+            names.len() == times && names.iter().all(|it| it.as_bytes() == name.as_bytes())
+        }
+        None => false,
+    }
+}
+
 fn comes_out(alloc: Global, it: Load) -> Result<bool, AllocError> {
     let mut source = source_of(alloc, it.2)?;
-    Ok(is_loaded(alloc, &mut source, it) && source.faults() == it.4)
+    Ok(
+        is_loaded(alloc, &mut source, it)
+            && source.faults() == it.4
+            && was_asked(&source, it.0, it.5),
+    )
 }
 
 fn first_other_load(alloc: Global, table: &[Load]) -> Option<usize> {

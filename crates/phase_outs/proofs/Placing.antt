@@ -15,7 +15,7 @@ use Rattle.phase_outs.specs.declared.made.PhaseOuts.{PhaseOuts}
 use Rattle.phase_outs.specs.declared.stop.PhaseStop.{PhaseStop}
 use Rattle.phase_outs.specs.declared.stop.PhaseStop.TheVariants as stop
 use Rattle.phase_outs.specs.inner.Made.{AreMadeOf, IsFirstTrap, IsTrapped, outs_in}
-use Rattle.phase_outs.specs.Outs.{AreMade, AreMadeBelow, HasRun, IsStop}
+use Rattle.phase_outs.specs.Outs.{AreMade, AreMadeBelow, HasMade, HasRun, IsStop}
 
 -- what f gives of an element is that of some element
 from_map : {A B : Type 0} (f : A → B) (o : Option A) (b : B) → option_map f o ≡ Some b
@@ -76,10 +76,19 @@ module _ (tasks : ℕ) (s : Settings) {O : Type 0} (is_value : ℕ → Result O 
       subst (λ i. HasRun s olds news i (places i) k.attempt) (task_at t k e)
       (record { tries = out.attempt; drill = out.drill; ran = ran })
 
+  made_at : (t : ℕ) (k : KeptOut (Result O Trap)) (out : Result O Trap)
+      → slice_get ks t ≡ Some k → k.out ≡ out
+      → HasMade tasks s is_value places olds news t out
+  made_at t k out at same = record {
+    value = subst (is_value t) same (value_at t k at);
+    attempt = k.attempt;
+    ran = run_at t k at;
+  }
+
   -- the first outs are no traps
   made_below : (before behind : List (KeptOut (Result O Trap))) (made : List O)
       → before ++ behind ≡ ks → outs_in before ≡ map Ok made
-      → AreMadeBelow tasks s is_value (length before)
+      → AreMadeBelow tasks s is_value places olds news (length before)
   made_below before behind made whole e k below =
       let here = some_at before k below in
       let at_made : slice_get (map Ok made) k ≡ Some here.0.out =
@@ -87,9 +96,9 @@ module _ (tasks : ℕ) (s : Settings) {O : Type 0} (is_value : ℕ → Result O 
       ∙ ap (option_map (λ x. x.out)) here.1 in
       let out = at_map Ok made k here.0.out at_made in (
         out.0,
-        subst (is_value k) (sym out.2)
-            (value_at k here.0 (ap (λ l. slice_get l k) (sym whole)
-            ∙ at_first before behind k here.0 here.1)),
+        made_at k here.0 (Ok out.0)
+            (ap (λ l. slice_get l k) (sym whole) ∙ at_first before behind k here.0 here.1)
+            (sym out.2),
       )
 
   pub all_made : (made : PhaseOuts O) → tasks ≡ n → AreMadeOf ks made
@@ -112,7 +121,7 @@ module _ (tasks : ℕ) (s : Settings) {O : Type 0} (is_value : ℕ → Result O 
   }
 
   pub trapped : (task : ℕ) (trap : Trap) → n ≤ tasks → IsFirstTrap ks task trap
-      → (task < tasks) × is_value task (Err trap) × AreMadeBelow tasks s is_value task
+      → IsStop tasks s is_value places olds news (stop.Trap task trap)
   trapped task trap few t =
       let at : slice_get ks (length t.before) ≡ Some t.here =
       ap (λ l. slice_get l (length t.before)) (sym t.whole) ∙ at_seam t.before t.here t.behind in
@@ -120,16 +129,16 @@ module _ (tasks : ℕ) (s : Settings) {O : Type 0} (is_value : ℕ → Result O 
       let within = slice_get_within ks (length t.before) t.here at in
       let count = a.count in (
         omega arith,
-        subst (λ i. is_value i (Err trap)) is
-            (subst (is_value (length t.before)) t.named.1 (value_at (length t.before) t.here at)),
-        subst (AreMadeBelow tasks s is_value) is
+        subst (λ i. HasMade tasks s is_value places olds news i (Err trap)) is
+            (made_at (length t.before) t.here (Err trap) at t.named.1),
+        subst (AreMadeBelow tasks s is_value places olds news) is
             (made_below t.before (t.here ∷ t.behind) t.made t.whole t.outs),
       )
 
   pub made_all_below : (made : PhaseOuts O) → AreMadeOf ks made
-      → AreMadeBelow tasks s is_value n
+      → AreMadeBelow tasks s is_value places olds news n
   made_all_below made m =
-      subst (AreMadeBelow tasks s is_value) a.count
+      subst (AreMadeBelow tasks s is_value places olds news) a.count
       (made_below ks [] made.outs.items (append-nil ks) m.outs)
 
 module _ (tasks : ℕ) (s : Settings) {O : Type 0} (is_value : ℕ → Result O Trap → Type 0)
@@ -142,7 +151,7 @@ module _ (tasks : ℕ) (s : Settings) {O : Type 0} (is_value : ℕ → Result O 
 
   pub settled_stop : (ks : List (KeptOut (Result O Trap))) (w : PhaseStop)
       → Settled tasks s is_value places olds news ks → IsTrapped ks w
-      → IsStop tasks s is_value olds news w
+      → IsStop tasks s is_value places olds news w
   settled_stop ks (stop.Trap task trap) h t =
       trapped tasks s is_value places olds news h.board tasks ks h.outs task trap (omega arith) t
   settled_stop ks (stop.GaveUp task) h t = absurd t
@@ -150,7 +159,7 @@ module _ (tasks : ℕ) (s : Settings) {O : Type 0} (is_value : ℕ → Result O 
 
   pub unsettled_stop : (task : ℕ) (ks : List (KeptOut (Result O Trap))) (w : PhaseStop)
       → Unsettled tasks s is_value places olds news task ks → IsTrapped ks w
-      → IsStop tasks s is_value olds news w
+      → IsStop tasks s is_value places olds news w
   unsettled_stop task ks (stop.Trap t trap) h is =
       let small = h.is_task in
       trapped tasks s is_value places olds news h.board task ks h.below t trap (omega arith) is
@@ -159,7 +168,7 @@ module _ (tasks : ℕ) (s : Settings) {O : Type 0} (is_value : ℕ → Result O 
 
   pub given_up : (task : ℕ) (ks : List (KeptOut (Result O Trap))) (made : PhaseOuts O)
       → Unsettled tasks s is_value places olds news task ks → AreMadeOf ks made
-      → IsStop tasks s is_value olds news (stop.GaveUp task)
+      → IsStop tasks s is_value places olds news (stop.GaveUp task)
   given_up task ks made h m = (
     h.is_task,
     h.lost,

@@ -17,24 +17,30 @@ pub record HasRun (s : Settings) (olds news : List Account) (task places attempt
   pub ran : SomeHost (λ a b. Passed a b (places_below (attempt_in s task attempt) (places + 1)))
       olds news
 
-module _ (tasks : ℕ) (s : Settings) {O : Type 0} (is_value : ℕ → Result O Trap → Type 0) where
+module _ (tasks : ℕ) (s : Settings) {O : Type 0} (is_value : ℕ → Result O Trap → Type 0)
+    (places : ℕ → ℕ) (olds news : List Account) where
   -- each task has made its out, and the attempt that is named has run
-  pub record AreMade (places : ℕ → ℕ) (olds news : List Account) (made : PhaseOuts O)
-      : Type 0 where
+  pub record AreMade (made : PhaseOuts O) : Type 0 where
     pub count : (length made.outs.items ≡ tasks) × (length made.attempts.items ≡ tasks)
     pub values : (task : ℕ) (out : O) → slice_get made.outs.items task ≡ Some out →
         is_value task (Ok out)
     pub attempts : (task attempt : ℕ) → slice_get made.attempts.items task ≡ Some attempt →
         HasRun s olds news task (places task) attempt
 
+  -- the task has made this out or has trapped so, and some attempt of it has run
+  pub record HasMade (task : ℕ) (out : Result O Trap) : Type 0 where
+    pub value : is_value task out
+    pub attempt : ℕ
+    pub ran : HasRun s olds news task (places task) attempt
+
   -- each smaller task has made an out
   abbrev pub AreMadeBelow : ℕ → Type 0
-  AreMadeBelow task = (k : ℕ) → k < task → (out : O) × is_value k (Ok out)
+  AreMadeBelow task = (k : ℕ) → k < task → (out : O) × HasMade k (Ok out)
 
-  -- the task is the least that trapped, or the least that no attempt has won
-  abbrev pub IsStop : List Account → List Account → PhaseStop → Type 0
-  IsStop olds news (stop.Trap task trap) =
-      (task < tasks) × is_value task (Err trap) × AreMadeBelow task
-  IsStop olds news (stop.GaveUp task) =
+  -- each smaller task has made an out, and this one has trapped, or no attempt has won it
+  abbrev pub IsStop : PhaseStop → Type 0
+  IsStop (stop.Trap task trap) =
+      (task < tasks) × HasMade task (Err trap) × AreMadeBelow task
+  IsStop (stop.GaveUp task) =
       (task < tasks) × IsLostTask tasks s olds news task × AreMadeBelow task
-  IsStop olds news stop.Memory = ⊤
+  IsStop stop.Memory = ⊤

@@ -3,8 +3,7 @@
 //! The crew gives each task's out, in order, or names a task that no attempt has won. An out may be
 //! a trap. `run_to_end` sorts that out: either all tasks have made their outs, with the attempts
 //! that made them (`PhaseOuts`), or the phase stops at a task (`PhaseStop`): the least that has
-//! trapped, or one that no attempt has won. No smaller task has trapped, also where a task is given
-//! up.
+//! trapped, or the least that no attempt has won. Each smaller task has run and made its out.
 //!
 //! `AreMade` and `IsStop` (specs/Outs.antt) say so by the numbers of tasks.
 #![tactic(auto)]

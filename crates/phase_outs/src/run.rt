@@ -34,7 +34,8 @@ pub fn run_to_end<
     ensures made { IfOk result (AreMade (T.count_of tasks.now) phase.now
         (T.is_value tasks.now) (T.places tasks.now)
         (map (account H.notes H.losses) hosts.old) (map (account H.notes H.losses) hosts.new)) }
-    ensures stop { IfErr result (IsStop (T.count_of tasks.now) phase.now (T.is_value tasks.now)
+    ensures stop { IfErr result (IsStop (T.count_of tasks.now) phase.now
+        (T.is_value tasks.now) (T.places tasks.now)
         (map (account H.notes H.losses) hosts.old) (map (account H.notes H.losses) hosts.new)) }
 {
     match run_phase(rt, alloc, tasks, hosts, phase) {

@@ -9,7 +9,7 @@ use Rattle.plan_phases.specs.declared.fault.RunFault.{RunFault}
 use Rattle.plan_phases.specs.declared.fault.RunFault.TheVariants as fault
 use Rattle.plan_phases.specs.declared.winners.PhaseWinners.{PhaseWinners}
 use Rattle.plan_phases.specs.Phases.{PhaseTasks}
-use Rattle.plan_phases.specs.Told.{AreWinners, HaveRun, IsCalmPhase, IsStopped, settings_of}
+use Rattle.plan_phases.specs.Told.{AreWinners, HaveRun, IsCalmPhase, IsReached, IsStopped, RanThrough, first_tasks, settings_of}
 use Rattle.plan_phases.proofs.Lasting.{lost_before, run_before, run_later}
 
 zip_weaker : {A B : Type 0} (P Q : A → B → Type 0) → ((a : A) (b : B) → P a b → Q a b)
@@ -47,85 +47,128 @@ module _ (tries : ℕ) (drill : List Entry) where
         (h.ran k attempt task at won) g;
   }
 
+  won_later : (us vs ws : List Account) → AllZip Grew vs ws → (ps : List PhaseTasks)
+      (xs : List PhaseWinners) → AllZip (AreWinners tries drill us vs) ps xs
+      → AllZip (AreWinners tries drill us ws) ps xs
+  won_later us vs ws g ps xs h =
+      zip_weaker (AreWinners tries drill us vs) (AreWinners tries drill us ws)
+      (winners_later us vs ws g) ps xs h
+
+  won_before : (us vs ws : List Account) → AllZip Grew us vs → AllZip Grew vs ws
+      → (ps : List PhaseTasks) (xs : List PhaseWinners)
+      → AllZip (AreWinners tries drill vs ws) ps xs → AllZip (AreWinners tries drill us ws) ps xs
+  won_before us vs ws f g ps xs h =
+      zip_weaker (AreWinners tries drill vs ws) (AreWinners tries drill us ws)
+      (winners_before us vs ws f g) ps xs h
+
   module _ (w : World) where
+    -- ---- phases that have run through
+
+    through_before : (ps : List PhaseTasks) (us vs ws : List Account) → AllZip Grew us vs
+        → AllZip Grew vs ws → RanThrough tries drill w ps vs ws → RanThrough tries drill w ps us ws
+    through_before ps us vs ws f g h = record {
+      calm = h.calm;
+      winners = h.winners;
+      won = won_before us vs ws f g ps h.winners h.won;
+    }
+
+    through_then : (ps qs : List PhaseTasks) (us vs ws : List Account)
+        → RanThrough tries drill w ps us vs → RanThrough tries drill w qs vs ws
+        → AllZip Grew us vs → AllZip Grew vs ws → RanThrough tries drill w (ps ++ qs) us ws
+    through_then ps qs us vs ws h k f g = record {
+      calm = Each-append (IsCalmPhase w) ps qs h.calm k.calm;
+      winners = h.winners ++ k.winners;
+      won = zip_append (AreWinners tries drill us ws) ps h.winners qs k.winners
+          (won_later us vs ws g ps h.winners h.won) (won_before us vs ws f g qs k.winners k.won);
+    }
+
+    -- ---- runs
+
     pub none_run : (us vs : List Account) (before : List PhaseWinners)
         → HaveRun tries drill w [] us vs before before
-    none_run us vs before =
-        record { calm = tt; winners = []; told = sym (append-nil before); won = tt }
+    none_run us vs before = record {
+      through = record { calm = tt; winners = []; won = tt };
+      told = sym (append-nil before);
+    }
 
     -- phases that ran, and then others
     pub run_then : (ps qs : List PhaseTasks) (us vs ws : List Account)
         (first next last : List PhaseWinners) → HaveRun tries drill w ps us vs first next
         → HaveRun tries drill w qs vs ws next last → AllZip Grew us vs → AllZip Grew vs ws
         → HaveRun tries drill w (ps ++ qs) us ws first last
+    unfolding through_then
     run_then ps qs us vs ws first next last h k f g = record {
-      calm = Each-append (IsCalmPhase w) ps qs h.calm k.calm;
-      winners = h.winners ++ k.winners;
-      told = k.told ∙ ap (λ l. l ++ k.winners) h.told ∙ append_assoc first h.winners k.winners;
-      won = zip_append (AreWinners tries drill us ws) ps h.winners qs k.winners
-          (zip_weaker (AreWinners tries drill us vs) (AreWinners tries drill us ws)
-          (winners_later us vs ws g) ps h.winners h.won)
-          (zip_weaker (AreWinners tries drill vs ws) (AreWinners tries drill us ws)
-          (winners_before us vs ws f g) qs k.winners k.won);
+      through = through_then ps qs us vs ws h.through k.through f g;
+      told = k.told ∙ ap (λ l. l ++ k.through.winners) h.told
+          ∙ append_assoc first h.through.winners k.through.winners;
+    }
+
+    -- ---- where a run stops
+
+    reached_before : (ps qs : List PhaseTasks) (us vs : List Account) (here : PhaseTasks)
+        (task : ℕ) → IsReached tries drill w ps us vs here task
+        → IsReached tries drill w (ps ++ qs) us vs here task
+    reached_before ps qs us vs here task h = record {
+      before = h.before;
+      behind = h.behind ++ qs;
+      whole = sym (append_assoc h.before (here ∷ h.behind) qs) ∙ ap (λ l. l ++ qs) h.whole;
+      is_task = h.is_task;
+      earlier = h.earlier;
+      smaller = h.smaller;
+    }
+
+    reached_behind : (ps qs : List PhaseTasks) (us vs ws : List Account) (here : PhaseTasks)
+        (task : ℕ) → RanThrough tries drill w ps us vs
+        → IsReached tries drill w qs vs ws here task → AllZip Grew us vs → AllZip Grew vs ws
+        → IsReached tries drill w (ps ++ qs) us ws here task
+    reached_behind ps qs us vs ws here task ran h f g = record {
+      before = ps ++ h.before;
+      behind = h.behind;
+      whole = append_assoc ps h.before (here ∷ h.behind) ∙ ap (λ l. ps ++ l) h.whole;
+      is_task = h.is_task;
+      earlier = through_then ps h.before us vs ws ran h.earlier f g;
+      smaller = through_before (first_tasks task here ∷ []) us vs ws f g h.smaller;
     }
 
     -- where others come after
     pub stopped_before : (ps qs : List PhaseTasks) (us vs : List Account) (e : RunFault)
         → IsStopped tries drill w ps us vs e → IsStopped tries drill w (ps ++ qs) us vs e
     stopped_before ps qs us vs (fault.Trap trap) h = record {
-      before = h.before;
       here = h.here;
-      behind = h.behind ++ qs;
-      whole =
-          sym (append_assoc h.before (h.here ∷ h.behind) qs) ∙ ap (λ l. l ++ qs) h.whole;
-      calm = h.calm;
-      smaller = h.smaller;
+      number = h.number;
+      reached = reached_before ps qs us vs h.here h.number h.reached;
       task = h.task;
-      greater = h.greater;
-      tasks = h.tasks;
-      small = h.small;
+      at = h.at;
       is = h.is;
+      attempt = h.attempt;
+      ran = h.ran;
     }
     stopped_before ps qs us vs (fault.GaveUp stage phase task) h = record {
-      before = h.before;
       here = h.here;
-      behind = h.behind ++ qs;
-      whole =
-          sym (append_assoc h.before (h.here ∷ h.behind) qs) ∙ ap (λ l. l ++ qs) h.whole;
-      calm = h.calm;
       named = h.named;
-      is_task = h.is_task;
-      small = h.small;
+      reached = reached_before ps qs us vs h.here task h.reached;
       lost = h.lost;
     }
     stopped_before ps qs us vs fault.Memory h = tt
 
-    -- where others have run before
+    -- where others have run through before
     pub stopped_behind : (ps qs : List PhaseTasks) (us vs ws : List Account) (e : RunFault)
-        → Each (IsCalmPhase w) ps → IsStopped tries drill w qs vs ws e → AllZip Grew us vs
-        → AllZip Grew vs ws → IsStopped tries drill w (ps ++ qs) us ws e
-    stopped_behind ps qs us vs ws (fault.Trap trap) calm h f g = record {
-      before = ps ++ h.before;
+        → RanThrough tries drill w ps us vs → IsStopped tries drill w qs vs ws e
+        → AllZip Grew us vs → AllZip Grew vs ws → IsStopped tries drill w (ps ++ qs) us ws e
+    stopped_behind ps qs us vs ws (fault.Trap trap) through h f g = record {
       here = h.here;
-      behind = h.behind;
-      whole = append_assoc ps h.before (h.here ∷ h.behind) ∙ ap (λ l. ps ++ l) h.whole;
-      calm = Each-append (IsCalmPhase w) ps h.before calm h.calm;
-      smaller = h.smaller;
+      number = h.number;
+      reached = reached_behind ps qs us vs ws h.here h.number through h.reached f g;
       task = h.task;
-      greater = h.greater;
-      tasks = h.tasks;
-      small = h.small;
+      at = h.at;
       is = h.is;
+      attempt = h.attempt;
+      ran = run_before (settings_of tries drill h.here) us vs ws h.number _ h.attempt f h.ran g;
     }
-    stopped_behind ps qs us vs ws (fault.GaveUp stage phase task) calm h f g = record {
-      before = ps ++ h.before;
+    stopped_behind ps qs us vs ws (fault.GaveUp stage phase task) through h f g = record {
       here = h.here;
-      behind = h.behind;
-      whole = append_assoc ps h.before (h.here ∷ h.behind) ∙ ap (λ l. ps ++ l) h.whole;
-      calm = Each-append (IsCalmPhase w) ps h.before calm h.calm;
       named = h.named;
-      is_task = h.is_task;
-      small = h.small;
+      reached = reached_behind ps qs us vs ws h.here task through h.reached f g;
       lost = lost_before _ (settings_of tries drill h.here) us vs ws task f h.lost g;
     }
-    stopped_behind ps qs us vs ws fault.Memory calm h f g = tt
+    stopped_behind ps qs us vs ws fault.Memory through h f g = tt

@@ -1,3 +1,4 @@
 pub mod Trapping
 pub mod Lasting
 pub mod Joining
+pub mod Stopping

@@ -1,5 +1,5 @@
 -- What a run tells of its phases.
-use Rattle.std.specs.Prelude.{◌≡◌, ℕ, ◌<◌, List, ◌∷◌, ◌++◌, length, slice_get, take, Some, ⊤}
+use Rattle.std.specs.Prelude.{◌≡◌, ℕ, ◌<◌, List, [], ◌∷◌, ◌++◌, length, slice_get, take, Some, ⊤}
 use Rattle.std.specs.List.{AllByRecursion, AllZip}
 use Rattle.outside.specs.declared.host.Phase.{Phase}
 use Rattle.flume_collection.specs.declared.trap.Trap.{Trap}
@@ -38,6 +38,10 @@ pub record IsFirstOf (w : World) (phases : List PhaseTasks) (trap : Trap) : Type
 
 -- ---- winners and lost tasks
 
+-- the phase with its tasks below this number alone
+abbrev pub first_tasks : ℕ → PhaseTasks → PhaseTasks
+first_tasks n ph = record { stage = ph.stage; phase = ph.phase; tasks = take n ph.tasks }
+
 -- how often each task of a run is tried, and the attempts that are lost on purpose
 module _ (tries : ℕ) (drill : List Entry) where
   -- how a phase of the run is run
@@ -54,32 +58,55 @@ module _ (tries : ℕ) (drill : List Entry) where
         slice_get winners.attempts k ≡ Some attempt →
         HasRun (settings_of ph) olds news k (places task) attempt
 
-  -- the phases have run since, one after another: no task of them traps, and their winners were
-  -- told behind the others
-  pub record HaveRun (w : World) (phases : List PhaseTasks) (olds news : List Account)
-      (before after : List PhaseWinners) : Type 0 where
+  -- the phases have run through since: no task of them traps, and of each there are winners
+  pub record RanThrough (w : World) (phases : List PhaseTasks) (olds news : List Account)
+      : Type 0 where
     pub calm : AllByRecursion (IsCalmPhase w) phases
     pub winners : List PhaseWinners
-    pub told : after ≡ before ++ winners
     pub won : AllZip (AreWinners olds news) phases winners
 
-  -- a task of one of the phases was given up: no phase before it traps, and no smaller task of it;
-  -- the drill and the losses of the hosts since account for each of its tries
-  pub record IsGivenUp (w : World) (phases : List PhaseTasks) (olds news : List Account)
-      (stage : ℕ) (phase : Phase) (task : ℕ) : Type 0 where
+  -- the phases have run through since, and their winners were told behind the others
+  pub record HaveRun (w : World) (phases : List PhaseTasks) (olds news : List Account)
+      (before after : List PhaseWinners) : Type 0 where
+    pub through : RanThrough w phases olds news
+    pub told : after ≡ before ++ through.winners
+
+  -- the run has come to this task of one of the phases: the phases before it have run through, and
+  -- so have the smaller tasks of its own
+  pub record IsReached (w : World) (phases : List PhaseTasks) (olds news : List Account)
+      (here : PhaseTasks) (task : ℕ) : Type 0 where
     pub before : List PhaseTasks
-    pub here : PhaseTasks
     pub behind : List PhaseTasks
     pub whole : before ++ here ∷ behind ≡ phases
-    pub calm : AllByRecursion (IsCalmPhase w) before
-    pub named : (here.stage ≡ stage) × (here.phase ≡ phase)
     pub is_task : task < length here.tasks
-    pub small : AllByRecursion (IsCalm w) (take task here.tasks)
+    pub earlier : RanThrough w before olds news
+    pub smaller : RanThrough w (first_tasks task here ∷ []) olds news
+
+  -- a task of one of the phases has trapped: the run has come to it, some attempt of it has run,
+  -- and this is its first trap
+  pub record HasTrapped (w : World) (phases : List PhaseTasks) (olds news : List Account)
+      (trap : Trap) : Type 0 where
+    pub here : PhaseTasks
+    pub number : ℕ
+    pub reached : IsReached w phases olds news here number
+    pub task : Task
+    pub at : slice_get here.tasks number ≡ Some task
+    pub is : IsFirstTrap w task trap
+    pub attempt : ℕ
+    pub ran : HasRun (settings_of here) olds news number (places task) attempt
+
+  -- a task of one of the phases was given up: the run has come to it, and the drill and the losses
+  -- of the hosts since account for each of its tries
+  pub record IsGivenUp (w : World) (phases : List PhaseTasks) (olds news : List Account)
+      (stage : ℕ) (phase : Phase) (task : ℕ) : Type 0 where
+    pub here : PhaseTasks
+    pub named : (here.stage ≡ stage) × (here.phase ≡ phase)
+    pub reached : IsReached w phases olds news here task
     pub lost : IsLostTask (length here.tasks) (settings_of here) olds news task
 
   -- the run of the phases has stopped
   abbrev pub IsStopped : World → List PhaseTasks → List Account → List Account → RunFault → Type 0
-  IsStopped w phases olds news (fault.Trap trap) = IsFirstOf w phases trap
+  IsStopped w phases olds news (fault.Trap trap) = HasTrapped w phases olds news trap
   IsStopped w phases olds news (fault.GaveUp stage phase task) =
       IsGivenUp w phases olds news stage phase task
   IsStopped w phases olds news fault.Memory = ⊤

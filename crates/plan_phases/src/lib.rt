@@ -7,7 +7,7 @@
 //!
 //! Phases that have run tell of each task which attempt has won it (`HaveRun`, `PhaseWinners`), and
 //! where a run stops it names the first trap or the task that was given up (`IsStopped`,
-//! `RunFault`): specs/Told.antt.
+//! `RunFault`): all phases and tasks before have run without a trap (`IsReached`, specs/Told.antt).
 #![tactic(auto)]
 
 mod fault;

@@ -8,7 +8,7 @@ use std::marker::Model;
 use std::rt::Files;
 use std::{fs, io};
 
-/// The files of the system, to read. It tells nothing of what they hold.
+/// The files of the system, to read. It tells nothing of what they hold, nor for what it is asked.
 #[derive(Drop)]
 pub struct FileSource<'a, R: Files> {
     system: &'a R,
@@ -56,6 +56,8 @@ fn is_missing(kind: ErrorKind) -> bool {
 
 impl<R: Files> Source for FileSource<'_, R> {
     ghost files = { λ _. None };
+
+    ghost asked = { λ _. None };
 
     ghost begun = { λ source. source.begun };
 

@@ -2,9 +2,8 @@
 use Rattle.std.proofs.Common.{◌≡◌, ◌<◌, ◌^◌, ℕ, List, [], ◌∷◌, get_or, map, Some, sym, ap, ◌∙◌, subst}
 use Rattle.std.specs.Prelude.{All, IfOk, Result, Ok, Err}
 use Rattle.std.specs.List.{AllByRecursion}
-use Rattle.std.proofs.lemmas.List.Elements.{All-from_recursion}
+use Rattle.std.proofs.lemmas.List.Elements.{All-from_recursion, recursion_from_All}
 use Rattle.flume_value.specs.declared.value.Value.{Value}
-use Rattle.flume_collection.specs.declared.trap.Trap.{Trap}
 use Rattle.bag_groups.specs.Groups.{keys_of}
 use Rattle.combine_table.specs.declared.comb.Comb.{Comb}
 use Rattle.partial_tables.specs.Tables.{IsPartialOf, Pairs}
@@ -20,12 +19,14 @@ use Rattle.exec_graph.specs.World.{World}
 use Rattle.exec_graph.specs.declared.step.Does.{Does}
 use Rattle.exec_graph.specs.declared.step.Does.TheVariants as does
 use Rattle.forest_courses.specs.Courses.{IsCourse}
-use Rattle.forest_courses.proofs.Coursing.{made_course, trapped_course}
+use Rattle.forest_courses.proofs.Coursing.{either_course}
 use Rattle.forest_steps.specs.Fresh.{none_given}
 use Rattle.forest_steps.specs.Places.{outputs_in, sizes_in}
-use Rattle.forest_steps.specs.Running.{Given, run, run_each}
+use Rattle.forest_steps.specs.Running.{Given, Run, run, run_each}
 use Rattle.forest_steps.specs.Safety.{Safe}
-use Rattle.lifted_root.specs.Lifted.{partial_answer, run_all, run_partial, SafeCalled}
+use Rattle.forest_steps.specs.Turns.{in_turn}
+use Rattle.forest_steps.proofs.Visiting.{in_turn_each}
+use Rattle.lifted_root.specs.Lifted.{partial_answer, run_partial, SafeCalled, SafePartial}
 use Rattle.lifted_root.proofs.Lifting.{all_run, all_safe, one_root}
 use Rattle.reduce_part.specs.inner.Merged.{AnswerFor, CanRun}
 
@@ -40,6 +41,11 @@ pub merged_shape : (c : Comb) (partials : Pairs) → All (IsPartialOf c) (merged
 merged_shape c partials =
     All-from_recursion (IsPartialOf c) (merged_by_key c partials)
     (shape_each c partials (keys_of partials))
+
+both_each : {X : Type 0} (P Q : X → Type 0) (xs : List X) → AllByRecursion P xs
+    → AllByRecursion Q xs → AllByRecursion (λ x. P x × Q x) xs
+both_each P Q [] p q = tt
+both_each P Q (x ∷ xs) p q = ((p.0, q.0), both_each P Q xs p.1 q.1)
 
 -- ---- the one root of a lifted reducer
 pub record IsRoot (c : Comb) (f : Forest) (b : Branch) : Type 0 where
@@ -63,33 +69,34 @@ module _ (w : World) (c : Comb) (f : Forest) (b : Branch) (root : IsRoot c f b) 
         answers ∙ ap (λ (d : Does). map (called w d) groups) (sym root.does)
 
     pub safe_merged : (takes : ℕ → Value → Type 0) → CanRun w takes c f merged
-        → AllByRecursion (λ p. SafeCalled w takes b (partial_answer c p)) merged
-    safe_merged takes can =
-        all_safe w takes b c merged can.groups (answers_of_root can.groups can.answers)
-        (subst (λ (g : Forest). AllByRecursion (Safe w takes g) can.groups) root.whole can.safe)
+        → All (IsPartialOf c) merged → AllByRecursion (SafePartial w takes b c) merged
+    safe_merged takes can shape =
+        both_each (IsPartialOf c) (λ p. SafeCalled w takes b (partial_answer c p)) merged
+        (recursion_from_All (IsPartialOf c) merged shape)
+        (all_safe w takes b c merged can.groups (answers_of_root can.groups can.answers)
+        (subst (λ (g : Forest). AllByRecursion (Safe w takes g) can.groups) root.whole can.safe))
 
     -- what the accumulators come to is what the groups come to
     module _ (sizes : List ℕ) (start : Given) (sized : sizes ≡ sizes_in f)
         (fresh : start ≡ none_given (after 0 f) (outputs_in f)) (few : outputs_in f < 2 ^ 64)
         (is : numbered 0 f ≡ f) where
       same_run : (groups : List Value) → AnswerFor w c merged groups
-          → run_all (run_partial w sizes b c) merged start
-          ≡ run_each (run w (sizes_in f) 0 f) groups (none_given (after 0 f) (outputs_in f))
+          → in_turn (map (run_partial w sizes b c) merged) start
+          ≡ run_each (run w sizes 0 f) groups start
       same_run groups answers =
-          all_run w sizes b c merged groups start (answers_of_root groups answers)
-          ∙ (λ i. run_each (run w (sized i) 0 (sym root.whole i)) groups (fresh i))
+          in_turn_each (run_partial w sizes b c) merged start
+          ∙ all_run w sizes b c merged groups start (answers_of_root groups answers)
+          ∙ ap (λ (g : Forest). run_each (run w sizes 0 g) groups start) (sym root.whole)
 
-      course_merged : (end : Result Given Trap)
-          → run_all (run_partial w sizes b c) merged start ≡ end → (groups : List Value)
+      course_merged : (end : Run)
+          → in_turn (map (run_partial w sizes b c) merged) start ≡ end → (groups : List Value)
           → AnswerFor w c merged groups → IsCourse w (Some f) groups end
-      course_merged (Ok given) e groups answers =
-          made_course w f groups given is few (sym (same_run groups answers) ∙ e)
-      course_merged (Err trap) e groups answers =
-          trapped_course w (sizes_in f) f groups (none_given (after 0 f) (outputs_in f)) trap
+      course_merged end e groups answers =
+          either_course w f groups sizes start end is few sized fresh
           (sym (same_run groups answers) ∙ e)
 
-      pub courses_merged : {E : Type 0} (r : Result (Attempt (Result Given Trap)) E)
-          → IfOk r (IsMadeOf (λ end. run_all (run_partial w sizes b c) merged start ≡ end))
+      pub courses_merged : {E : Type 0} (r : Result (Attempt Run) E)
+          → IfOk r (IsMadeOf (λ end. in_turn (map (run_partial w sizes b c) merged) start ≡ end))
           → IfOk r (IsMadeOf (λ end. (groups : List Value) → AnswerFor w c merged groups
           → IsCourse w (Some f) groups end))
       courses_merged (Ok (Made end)) e = course_merged end e

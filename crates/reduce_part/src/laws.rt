@@ -1,3 +1,4 @@
+// What the reduce tasks of a stage of a well-formed plan may rely on.
 ghost use Rattle.std.specs.Prelude.{◌≡◌, ℕ, List, Option, length};
 ghost use Rattle.flume_value.specs.declared.value.Value.{Value};
 ghost use Rattle.bag_groups.specs.Groups.{grouped};

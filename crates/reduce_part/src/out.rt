@@ -1,3 +1,4 @@
+// What a reduce task comes to.
 use flume_collection::Trap;
 use flume_value::{Items, Pile};
 

@@ -1,5 +1,5 @@
 // A partition of a grouping channel.
-ghost use Rattle.std.specs.Prelude.{◌≡◌, ℕ, ◌+◌, List, All, IfOk, OnErr, Option, length};
+ghost use Rattle.std.specs.Prelude.{◌≡◌, ℕ, List, All, IfOk, Option, length};
 ghost use Rattle.std.specs.List.{AllByRecursion};
 ghost use Rattle.flume_value.specs.declared.value.Value.{Value as GhostValue};
 ghost use Rattle.bag_groups.specs.Groups.{grouped};
@@ -7,11 +7,12 @@ ghost use Rattle.bag_groups.specs.Pairs.{IsPair};
 ghost use Rattle.shuffle_parts.specs.Outs.{all_pairs};
 ghost use Rattle.crew.specs.Hosts.{account};
 ghost use Rattle.crew.specs.Drills.{attempt_at};
-ghost use Rattle.crew.specs.Attempts.{IsMadeOf, MatchAttempt, Ran, StoppedDown, StoppedEarly};
+ghost use Rattle.crew.specs.Attempts.{IsMadeOf};
 ghost use Rattle.exec_graph.specs.Forests.{Forest};
 ghost use Rattle.exec_graph.specs.World.{World};
 ghost use Rattle.exec_plan.specs.Wellformed.{IsNumbered};
 ghost use Rattle.forest_courses.specs.Courses.{IsCourse};
+ghost use Rattle.forest_run.specs.Asked.{Asked};
 ghost use Rattle.forest_steps.specs.Functions.{world_of};
 ghost use Rattle.forest_steps.specs.Safety.{SafeOf};
 ghost use Rattle.reduce_part.specs.Reducing.{IsReducedFrom, IsReduceValue, IsReducible, group_count};
@@ -24,7 +25,7 @@ use crew::{Attempt, Spot};
 use exec_graph::Roots;
 use exec_plan::Grouping;
 use flume_value::{Pile, Value};
-use forest_run::{Course, run_task};
+use forest_run::{Course, run_owned};
 use forest_steps::Functions;
 use outside::Host;
 use shuffle_parts::{MapOut, gather_pairs};
@@ -47,17 +48,9 @@ pub(crate) fn reduce_partition<F: Functions, H: Host>(
         outs.now channel partition grouping.now }
     ensures value { IfOk result (IsMadeOf (IsReducedFrom (F.called functions.now) outs.now channel
         partition grouping.now)) }
-    ensures ran { IfOk result (λ r. MatchAttempt r
-        (Ran (attempt_at spot.now task)
+    ensures asked { Asked (attempt_at spot.now task)
         (group_count grouping.now.lifted outs.now channel partition)
-        (account H.notes H.losses host.old) (account H.notes H.losses host.new))
-        (StoppedDown (attempt_at spot.now task)
-        (group_count grouping.now.lifted outs.now channel partition)
-        (account H.notes H.losses host.old) (account H.notes H.losses host.new))) }
-    ensures early { OnErr result
-        (StoppedEarly (attempt_at spot.now task)
-        (group_count grouping.now.lifted outs.now channel partition)
-        (account H.notes H.losses host.old) (account H.notes H.losses host.new)) }
+        (account H.notes H.losses host.old) (account H.notes H.losses host.new) result }
 {
     match (grouping.lifted, &grouping.does) {
         (None, does) => {
@@ -88,7 +81,7 @@ fn group_gathered(
     Ok(groups)
 }
 
-// The steps on the groups.
+// The steps on the groups, which are handed over.
 fn reduce_groups<F: Functions, H: Host>(
     alloc: Global,
     functions: &F,
@@ -103,17 +96,12 @@ fn reduce_groups<F: Functions, H: Host>(
         (F.can_call functions.now) does.now) groups.items }
     ensures value { IfOk result (IsMadeOf (IsValueOf (F.called functions.now) does.now
         groups.items)) }
-    ensures ran { IfOk result (λ r. MatchAttempt r
-        (Ran (attempt_at spot.now task) (length groups.items)
-        (account H.notes H.losses host.old) (account H.notes H.losses host.new))
-        (StoppedDown (attempt_at spot.now task) (length groups.items)
-        (account H.notes H.losses host.old) (account H.notes H.losses host.new))) }
-    ensures early { OnErr result
-        (StoppedEarly (attempt_at spot.now task) (length groups.items)
-        (account H.notes H.losses host.old) (account H.notes H.losses host.new)) }
+    ensures asked { Asked (attempt_at spot.now task) (length groups.items)
+        (account H.notes H.losses host.old) (account H.notes H.losses host.new) result }
 {
-    match run_task(alloc, functions, does, &groups, host, spot, task)? {
-        Attempt::Made(course) => Ok(Attempt::Made(reduced(course, groups.len()))),
+    let count = groups.len();
+    match run_owned(alloc, functions, does, groups, host, spot, task)? {
+        Attempt::Made(course) => Ok(Attempt::Made(reduced(course, count))),
         Attempt::Down => Ok(Attempt::Down),
     }
 }

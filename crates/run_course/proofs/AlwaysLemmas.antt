@@ -62,20 +62,20 @@ written_read words told olds news files text it =
     written_rows words told olds news files text it.0 it.1 it.2 it.3
 
 trap_rows : (words : Words) (told : Told) (command : Command) (script : Script)
-    (rows : List (List Value)) (table : Table) (trap : TrapOf) → Reads words told command script
-    → IsMeant told script rows table → MayTell command script rows (traps_of table) trap
-    → HasRead words told
-trap_rows words told Check script rows table trap reads meant tells = absurd tells
-trap_rows words told (Plan form) script rows table trap reads meant tells = absurd tells
-trap_rows words told Direct script rows table trap reads meant tells =
+    (rows : List (List Value)) (table : Table) (olds news : List Account) (trap : TrapOf)
+    → Reads words told command script → IsMeant told script rows table
+    → MayTell command script rows olds news (traps_of table) trap → HasRead words told
+trap_rows words told Check script rows table olds news trap reads meant tells = absurd tells
+trap_rows words told (Plan form) script rows table olds news trap reads meant tells = absurd tells
+trap_rows words told Direct script rows table olds news trap reads meant tells =
     read_of words told Direct script rows reads meant.inputs
-trap_rows words told (Run s) script rows table trap reads meant tells =
+trap_rows words told (Run s) script rows table olds news trap reads meant tells =
     read_of words told (Run s) script rows reads meant.inputs
 
 trap_read : (words : Words) (before after : World) (origin : ℕ) (kind : Kind) (element : Value)
     → IsTrap origin kind element words before after → HasRead words before.source.told
 trap_read words before after origin kind element it =
-    trap_rows words before.source.told it.0 it.1 it.2 it.3
+    trap_rows words before.source.told it.0 it.1 it.2 it.3 before.hosts after.hosts
     (record { origin = origin; element = element; kind = kind }) it.5 it.6 it.7
 
 given_read : (words : Words) (told : Told) (olds news : List Account) (stage : ℕ) (phase : Phase)

@@ -184,7 +184,7 @@ module _ (words : Words) (before middle after : SeenSource) (olds news : List Ac
       → IsStopped words before after olds news why
   command_stop (stop.Refused status) stops = command_cause status stops
   command_stop (stop.Trapped trap) stops =
-      let trapped = subst (λ (t : Told). IsTrapped command t script trap) told stops in (
+      let trapped = subst (λ (t : Told). IsTrapped command olds news t script trap) told stops in (
         command,
         script,
         trapped.0,
@@ -263,7 +263,7 @@ refusal words before after (Trap origin kind element) cause left = absurd cause
 
 -- what a call answers whose script has this trap
 pub trapped : (words : Words) (before after : World) (trap : Trapped)
-    → HasTrap words before.source.told trap → after.shelf ≡ before.shelf
+    → HasTrap words before.source.told before.hosts after.hosts trap → after.shelf ≡ before.shelf
     → HasLine (trap_line trap.name trap.trap.kind trap.trap.element) before.screen after.screen
     → Answers words before after (Trap trap.trap.origin trap.trap.kind trap.trap.element)
 trapped words before after trap has shelf line =

@@ -69,14 +69,15 @@ trapped_end : (traps : List TrapOf) (origin : ℕ) (kind : Kind) (element : Valu
 trapped_end [] origin kind element trap among = let below = among.1 in absurd (omega arith)
 trapped_end (first ∷ traps) origin kind element trap among = tt
 
-told_end : (command : Command) (script : Script) (rows : List (List Value)) (traps : List TrapOf)
-    (origin : ℕ) (kind : Kind) (element : Value) (trap : TrapOf)
-    → MayTell command script rows traps trap → EndsWith traps (Trap origin kind element)
-told_end Check script rows traps origin kind element trap tells = absurd tells
-told_end (Plan form) script rows traps origin kind element trap tells = absurd tells
-told_end Direct script rows traps origin kind element trap tells =
+told_end : (command : Command) (script : Script) (rows : List (List Value))
+    (olds news : List Account) (traps : List TrapOf) (origin : ℕ) (kind : Kind) (element : Value)
+    (trap : TrapOf) → MayTell command script rows olds news traps trap
+    → EndsWith traps (Trap origin kind element)
+told_end Check script rows olds news traps origin kind element trap tells = absurd tells
+told_end (Plan form) script rows olds news traps origin kind element trap tells = absurd tells
+told_end Direct script rows olds news traps origin kind element trap tells =
     trapped_end traps origin kind element trap tells.0
-told_end (Run s) script rows traps origin kind element trap tells =
+told_end (Run s) script rows olds news traps origin kind element trap tells =
     trapped_end traps origin kind element trap tells.0
 
 trapped_meaning : (words : Words) (before after : World) (c : Command) (p : Script)
@@ -88,7 +89,7 @@ trapped_meaning : (words : Words) (before after : World) (c : Command) (p : Scri
 trapped_meaning words before after c p rows origin kind element tells reads inputs it = (
   it.3,
   same_meaning words before.source.told c it.0 p it.1 rows it.2 it.3 tells reads it.5 inputs it.6,
-  told_end it.0 it.1 it.2 (traps_of it.3) origin kind element
+  told_end it.0 it.1 it.2 before.hosts after.hosts (traps_of it.3) origin kind element
       (record { origin = origin; element = element; kind = kind }) it.7,
 )
 
@@ -96,12 +97,12 @@ trapped_meaning words before after c p rows origin kind element tells reads inpu
 told_by : (words : Words) (before after : World) (c : Command) (p : Script) (origin : ℕ)
     (kind : Kind) (element : Value) → Reads words before.source.told c p
     → (it : IsTrap origin kind element words before after)
-    → MayTell c it.1 it.2 (traps_of it.3)
+    → MayTell c it.1 it.2 before.hosts after.hosts (traps_of it.3)
     (record { origin = origin; element = element; kind = kind })
 told_by words before after command p origin kind element reads it =
     let same : it.0 ≡ command
     = same_command words before.source.told it.0 command it.1 p it.5 reads in
-    subst (λ (c : Command). MayTell c it.1 it.2 (traps_of it.3) (record {
+    subst (λ (c : Command). MayTell c it.1 it.2 before.hosts after.hosts (traps_of it.3) (record {
       origin = origin;
       element = element;
       kind = kind;

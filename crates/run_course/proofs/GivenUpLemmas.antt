@@ -29,13 +29,14 @@ module _ (tries : ℕ) (drill : List Entry) (w : World) (phases : List PhaseTask
       → CanFinishAll tries drill phases olds news → ⊥
   not_given_up given all =
       let here = given.here in
+      let reached = given.reached in
       let s = settings_of tries drill here in
       let Ends : PhaseTasks → Type 0
       = λ ph. CanFinish (length ph.tasks) (settings_of tries drill ph) olds news in
       let can : Ends here
-      = each_at Ends given.before here given.behind
-      (subst (λ (l : List PhaseTasks). AllByRecursion Ends l) (sym given.whole) all) in
+      = each_at Ends reached.before here reached.behind
+      (subst (λ (l : List PhaseTasks). AllByRecursion Ends l) (sym reached.whole) all) in
       let counted : tries ≤ drilled_tries s task + given.lost.losses = given.lost.counted in
       let less : tries - drilled_tries s task ≤ given.lost.losses = omega arith in
-      can task given.is_task
+      can task reached.is_task
       (risen_less (tries - drilled_tries s task) given.lost.losses olds news less given.lost.risen)

@@ -6,6 +6,7 @@ pub mod GivenUpLemmas
 pub mod CompleteLemmas
 pub mod LeftLemmas
 pub mod CauseLemmas
+pub mod AskLemmas
 pub mod PromiseLemmas
 pub mod FileLemmas
 pub mod OriginLemmas

@@ -4,8 +4,9 @@ use Rattle.run_texts.specs.declared.status.Place.TheVariants.{File, Screen}
 use Rattle.run_texts.specs.declared.status.Status.{Status}
 use Rattle.run_texts.specs.declared.status.Status.TheVariants.{Done, GaveUp, Usage, ScriptRefused, InputRefused, Trap, ReadFault, WriteFault, TooLong, NoFile}
 use Rattle.run_course.specs.Answers.{Answers}
+use Rattle.run_course.specs.Asks.{AsksFor}
 use Rattle.run_course.specs.Promises.{Promises}
-use Rattle.run_course.specs.World.{Keeps, World}
+use Rattle.run_course.specs.World.{Keeps, World, asks}
 use Rattle.run_course.proofs.AlwaysLemmas.{always, always_usage}
 use Rattle.run_course.proofs.CompleteLemmas.{complete}
 use Rattle.run_course.proofs.LeftLemmas.{ended, left, refused_part}
@@ -14,8 +15,9 @@ use Rattle.run_course.proofs.StopLemmas.{input_stops, script_stops, too_long_sto
 
 pub promises : (words : Words) (before after : World) (status : Status)
     → Answers words before after status → Keeps before after
+    → AsksFor words before.source.told (asks before) (asks after) status
     → Promises words before after status
-promises words before after status answers kept =
+promises words before after status answers kept asked =
     let when : (other : Status) → status ≡ other → Answers words before after other
     = λ other is. subst (λ (s : Status). Answers words before after s) is answers in
     record {
@@ -25,6 +27,7 @@ promises words before after status answers kept =
       no_file = λ name is. (when (NoFile name) is).0;
       read_fault = λ name is. (when (ReadFault name) is).0;
       too_long = λ name limit is. (when (TooLong name limit) is).0;
+      asked = asked;
       script_refused = λ line kind is. (when (ScriptRefused line kind) is).0;
       input_refused = λ name row column kind is. (when (InputRefused name row column kind) is).0;
       gave_up = λ stage phase task is. (when (GaveUp stage phase task) is).0;

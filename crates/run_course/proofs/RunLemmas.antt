@@ -1,9 +1,8 @@
 -- What the run of a script's plan comes to.
 use Rattle.std.proofs.Common.{◌≡◌, ℕ, suc, zero, ◌+◌, ◌<◌, List, [], ◌∷◌, ◌++◌, drop, length, Some, None, slice_get, ap, sym, ◌∙◌, refl, subst, arith, append_assoc, append-nil, ◌≤◌}
 use Rattle.std.specs.Prelude.{codes, IfOk, IsSomeAnd, Option, Result, Ok, Err}
-use Rattle.std.specs.List.{AllZip}
+use Rattle.std.specs.List.{AllZip, Contains}
 use Rattle.std.proofs.lemmas.List.{drop_all}
-use Rattle.command_words.specs.declared.words.Command.TheVariants.{Run}
 use Rattle.command_words.specs.declared.words.PlanForm.TheVariants.{Text}
 use Rattle.crew.specs.Hosts.{Account}
 use Rattle.direct_meaning.specs.Direct.{made_at, sizes_of, traps_of}
@@ -20,7 +19,7 @@ use Rattle.script_plans.specs.Plans.{IsScriptPlan}
 use Rattle.script_run.specs.Comes.{AreMembers}
 use Rattle.script_run.specs.Runs.{IsFirstOf, IsRan}
 use Rattle.script_run.specs.declared.run.Ran.{Ran}
-use Rattle.run_course.specs.Answers.{MayTell, name_at}
+use Rattle.run_course.specs.Answers.{IsFirstOfTasks, name_at}
 use Rattle.script_loading.specs.Loads.{AllHaveRows}
 use Rattle.run_course.specs.Lent.{lent}
 use Rattle.run_course.specs.Written.{AllTasksRan, Table, WritesRun, file_of, files_of, shown_as}
@@ -145,20 +144,21 @@ module _ (s : RunSettings) (script : Script) (rows : List (List Value)) (plan : 
     },
   )
 
-  pub within : (trap : Trap) → IsFirstOf s script rows plan trap
+  pub within : (trap : Trap) → IsFirstOf s script rows plan olds news trap
       → trap.origin < length script.nodes
   within trap it = origins script rows it.made it.means trap it.among
 
   pub trap_stops : (trap : Trap) (why : Stop) → IsScriptPlan script plan
-      → IsFirstOf s script rows plan trap → IsTrapOf script trap why
+      → IsFirstOf s script rows plan olds news trap → IsTrapOf script trap why
       → IsRunStop s script rows plan olds news why
   trap_stops trap (stop.Refused status) is it own = absurd own
   trap_stops trap (stop.Trapped trapped) is it own = (
     it.made,
     record {
       means = it.means;
-      told = subst (λ (t : Trap). MayTell (Run s) script rows (traps_of it.made) t) (sym own.0)
-          (it.among, (plan, is, it.first));
+      told = subst
+          (λ (t : Trap). Contains (traps_of it.made) t × IsFirstOfTasks s script rows olds news t)
+          (sym own.0) (it.among, (plan, is, it.first, it.ran));
       named = ap (λ (t : Trap). name_at script t.origin) own.0 ∙ own.1;
     },
   )

@@ -21,7 +21,7 @@ use Rattle.outside.specs.Seen.{Seen, SeenShelf}
 use Rattle.outside.specs.Told.{WhereTold}
 use Rattle.outside.specs.declared.file.File.{File as NamedBytes}
 use Rattle.outside.specs.declared.host.Phase.{Phase}
-use Rattle.plan_phases.specs.Told.{IsGivenUp}
+use Rattle.plan_phases.specs.Told.{HasTrapped, IsGivenUp}
 use Rattle.run_settings.specs.Settings.{RunSettings}
 use Rattle.run_texts.specs.Lines.{line_of, trap_line}
 use Rattle.run_texts.specs.declared.status.Place.{Place}
@@ -95,19 +95,25 @@ IsWriteFault Screen words before after = IsScreenFault words before after
 
 -- ---- what is not
 
--- it is the first trap of the tasks of the script's plan, as the settings split it
-abbrev pub IsFirstOfTasks : RunSettings → Script → List (List Value) → TrapOf → Type 0
-IsFirstOfTasks s script rows trap =
+-- It is the first trap of the tasks of the script's plan, as the settings split it: its task has
+-- run, and all phases and tasks before have run without a trap.
+abbrev pub IsFirstOfTasks : RunSettings → Script → List (List Value) → List Account → List Account
+    → TrapOf → Type 0
+IsFirstOfTasks s script rows olds news trap =
     (plan : Plan) × IsScriptPlan script plan
     × (first_trap (world_of script rows) (split_of s) plan ≡ Some trap)
+    × HasTrapped s.tries s.drill (world_of script rows) (phases_of s script rows plan) olds news
+    trap
 
 -- the trap that a command may tell of, among those of the script over these rows: `direct` tells of
--- the least, `run` of the first of its tasks, and `check` and `plan` of none
-abbrev pub MayTell : Command → Script → List (List Value) → List TrapOf → TrapOf → Type 0
-MayTell Check script rows traps trap = ⊥
-MayTell (Show form) script rows traps trap = ⊥
-MayTell Direct script rows traps trap = IsLeast traps trap
-MayTell (Run s) script rows traps trap = Contains traps trap × IsFirstOfTasks s script rows trap
+-- the least, `run` of the first of its tasks on the lent hosts, and `check` and `plan` of none
+abbrev pub MayTell : Command → Script → List (List Value) → List Account → List Account
+    → List TrapOf → TrapOf → Type 0
+MayTell Check script rows olds news traps trap = ⊥
+MayTell (Show form) script rows olds news traps trap = ⊥
+MayTell Direct script rows olds news traps trap = IsLeast traps trap
+MayTell (Run s) script rows olds news traps trap =
+    Contains traps trap × IsFirstOfTasks s script rows (lent s olds) (lent s news) trap
 
 -- the name of the collection of a number, where there is one
 abbrev pub name_at : Script → ℕ → Option (List ℕ)
@@ -121,7 +127,7 @@ IsTrap origin kind element words before after =
     × (name : List ℕ)
     × Reads words before.source.told command script
     × IsMeant before.source.told script rows table
-    × MayTell command script rows (traps_of table)
+    × MayTell command script rows before.hosts after.hosts (traps_of table)
     (record { origin = origin; element = element; kind = kind })
     × (name_at script origin ≡ Some name)
     × (after.shelf ≡ before.shelf)
@@ -168,8 +174,8 @@ IsInputRefused name row column kind words source =
     × (rows_of bytes wanted.type ≡ Some (Err (Bad row column kind)))
 
 -- All inputs of the script have rows, and of this task of a phase of its plan over them no attempt
--- has won: the drill and the losses of the lent hosts account for each of its tries. No phase
--- before it traps, and no smaller task of it
+-- has won: the drill and the losses of the lent hosts account for each of its tries. All phases
+-- before it, and all smaller tasks of it, have run without a trap
 abbrev pub GivesUp : RunSettings → Option (List NamedBytes) → List Account → List Account → Script
     → ℕ → Phase → ℕ → Type 0
 GivesUp s told olds news script stage phase task =

@@ -1,5 +1,6 @@
 pub mod Answers
 pub mod Asked
+pub mod Asks
 pub mod Lent
 pub mod Promises
 pub mod World

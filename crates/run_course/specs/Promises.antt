@@ -13,9 +13,10 @@ use Rattle.outside.specs.declared.host.Phase.{Phase}
 use Rattle.plan_phases.specs.Told.{CanFinishAll}
 use Rattle.run_course.specs.Answers.{IsDone, IsFileFault, IsGaveUp, IsInputRefused, IsNoFile, IsReadFault, IsRefused, IsScreenFault, IsScriptRefused, IsTooLong, IsTrap, IsUsage}
 use Rattle.script_loading.specs.Loads.{AllHaveRows}
+use Rattle.run_course.specs.Asks.{AsksFor}
 use Rattle.run_course.specs.Asked.{Reads, inputs_read, tries_of}
 use Rattle.run_course.specs.Lent.{lent}
-use Rattle.run_course.specs.World.{Keeps, World}
+use Rattle.run_course.specs.World.{Keeps, World, asks}
 use Rattle.run_course.specs.Written.{Table}
 use Rattle.command_words.specs.declared.words.Command.{Command}
 use Rattle.command_words.specs.declared.words.Command.TheVariants.{Check, Plan as Show, Direct, Run}
@@ -122,6 +123,9 @@ pub record Promises (words : List (List ℕ)) (before after : World) (status : S
       IsReadFault name words before.source after.source
   pub too_long : (name : List ℕ) (limit : ℕ) → status ≡ TooLong name limit →
       IsTooLong name limit words before.source
+  -- what the source was asked for: the script's file and then those of the inputs that the command
+  -- reads, in order, each once, and again only where the source failed, as often as is tried
+  pub asked : AsksFor words before.source.told (asks before) (asks after) status
   pub script_refused : (line : ℕ) (kind : ScriptKind) → status ≡ ScriptRefused line kind →
       IsScriptRefused line kind words before.source
   pub input_refused : (name : List ℕ) (row column : ℕ) (kind : RowKind) →

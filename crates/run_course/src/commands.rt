@@ -1,18 +1,21 @@
 // What each command writes of a script, or why it writes nothing.
 ghost use Rattle.std.specs.Prelude.{◌≡◌, ◌≤◌, ◌<◌, [], IfErr, IfOk, codes, drop, length, map};
 ghost use Rattle.std.specs.List.{AllZip};
-ghost use Rattle.command_words.specs.declared.words.Command.TheVariants.{Run};
+ghost use Rattle.command_words.specs.declared.words.Command.TheVariants.{Direct, Run};
 ghost use Rattle.crew.specs.Hosts.{Grew, account};
+ghost use Rattle.direct_meaning.specs.Inputs.{inputs_of};
 ghost use Rattle.exec_graph.specs.Wellformed.{IsGraphOk};
 ghost use Rattle.graph_build.specs.Graphs.{graph_of};
 ghost use Rattle.outside.specs.Saves.{output_file};
 ghost use Rattle.outside.specs.Seen.{seen};
 ghost use Rattle.script_laws.specs.WellFormed.{IsWellFormed};
 ghost use Rattle.run_course.specs.Asked as spec;
+ghost use Rattle.run_course.specs.Asked.{inputs_read};
 ghost use Rattle.run_course.specs.Lent.{lends};
 ghost use Rattle.run_course.specs.Written.{ShowsPlan, Writes, WritesMeaning, WritesRun};
+ghost use Rattle.script_loading.specs.Loads.{file_names};
 ghost use Rattle.script_loading.specs.Ready.{IsReady};
-ghost use Rattle.run_course.specs.inner.Course.{IsCommandStop, IsMeaningStop};
+ghost use Rattle.run_course.specs.inner.Course.{AsksUntil, IsCommandStop, IsMeaningStop};
 
 use crate::evaluation::written_meaning;
 use crate::files::Written;
@@ -58,6 +61,9 @@ pub fn carried_out<X: Threads + Sync, R: Source, H: Host + Send>(
     ensures stop { IfErr result (IsCommandStop command.now (seen R.files R.faults source.old)
         (seen R.files R.faults source.new) (map (account H.notes H.losses) hosts.old)
         (map (account H.notes H.losses) hosts.new) program.now.script) }
+    ensures asked { AsksUntil (spec.tries_of command.now)
+        (file_names (inputs_read command.now program.now.script))
+        (seen R.asked R.faults source.old) (seen R.asked R.faults source.new) result }
     ensures files { R.files source.new ≡ R.files source.old }
     ensures later { R.faults source.old ≤ R.faults source.new }
     ensures grew { AllZip Grew (map (account H.notes H.losses) hosts.old)
@@ -106,6 +112,8 @@ fn meant<R: Source>(alloc: Global, program: &Program, source: &mut R) -> Result<
         [] (map output_file it.outputs.items) it.screen.items) }
     ensures stop { IfErr result (IsMeaningStop (seen R.files R.faults source.old)
         (seen R.files R.faults source.new) program.now.script) }
+    ensures asked { AsksUntil (spec.tries_of Direct) (file_names (inputs_of program.now.script))
+        (seen R.asked R.faults source.old) (seen R.asked R.faults source.new) result }
     ensures files { R.files source.new ≡ R.files source.old }
     ensures later { R.faults source.old ≤ R.faults source.new }
 {
@@ -133,6 +141,8 @@ fn run_on<X: Threads + Sync, R: Source, H: Host + Send>(
         (seen R.files R.faults source.old) (seen R.files R.faults source.new)
         (map (account H.notes H.losses) hosts.old) (map (account H.notes H.losses) hosts.new)
         program.now.script) }
+    ensures asked { AsksUntil settings.now.tries (file_names (inputs_of program.now.script))
+        (seen R.asked R.faults source.old) (seen R.asked R.faults source.new) result }
     ensures files { R.files source.new ≡ R.files source.old }
     ensures later { R.faults source.old ≤ R.faults source.new }
     ensures grew { AllZip Grew (map (account H.notes H.losses) hosts.old)

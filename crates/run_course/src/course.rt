@@ -6,11 +6,12 @@ ghost use Rattle.crew.specs.Hosts.{Grew, account};
 ghost use Rattle.outside.specs.Saves.{output_file};
 ghost use Rattle.outside.specs.Seen.{seen, seen_shelf};
 ghost use Rattle.run_course.specs.Answers.{Answers};
+ghost use Rattle.run_course.specs.Asks.{AsksFor};
 ghost use Rattle.run_course.specs.Lent.{lent_to};
 ghost use Rattle.run_course.specs.Promises.{Promises};
 ghost use Rattle.run_course.specs.World.{Keeps, world};
 ghost use Rattle.run_course.specs.Written.{IsWritten};
-ghost use Rattle.run_course.specs.inner.Course.{Delivers, IsStopped};
+ghost use Rattle.run_course.specs.inner.Course.{AsksInCall, Delivers, IsStopped};
 
 use crate::commands::{carried_out, tries_of};
 use crate::files::Written;
@@ -36,10 +37,10 @@ pub fn run<X: Threads + Sync, R: Source, H: Host + Send, K: Shelf, P: Screen>(
 ) -> Status
     requires { length hosts.old ≡ 16 }
     ensures promises { Promises (map string_bytes words.now)
-        (world (seen R.files R.faults source.old)
+        (world (seen R.files R.faults source.old) (R.asked source.old)
         (seen_shelf K.files K.begun K.left K.faults shelf.old) (seen P.text P.faults screen.old)
         (map (account H.notes H.losses) hosts.old))
-        (world (seen R.files R.faults source.new)
+        (world (seen R.files R.faults source.new) (R.asked source.new)
         (seen_shelf K.files K.begun K.left K.faults shelf.new) (seen P.text P.faults screen.new)
         (map (account H.notes H.losses) hosts.new))
         result }
@@ -61,20 +62,22 @@ fn answer<X: Threads + Sync, R: Source, H: Host + Send, K: Shelf, P: Screen>(
 ) -> Status
     requires { length hosts.old ≡ 16 }
     ensures answers { Answers (map string_bytes words.now)
-        (world (seen R.files R.faults source.old)
+        (world (seen R.files R.faults source.old) (R.asked source.old)
         (seen_shelf K.files K.begun K.left K.faults shelf.old) (seen P.text P.faults screen.old)
         (map (account H.notes H.losses) hosts.old))
-        (world (seen R.files R.faults source.new)
+        (world (seen R.files R.faults source.new) (R.asked source.new)
         (seen_shelf K.files K.begun K.left K.faults shelf.new) (seen P.text P.faults screen.new)
         (map (account H.notes H.losses) hosts.new))
         result }
     ensures kept { Keeps
-        (world (seen R.files R.faults source.old)
+        (world (seen R.files R.faults source.old) (R.asked source.old)
         (seen_shelf K.files K.begun K.left K.faults shelf.old) (seen P.text P.faults screen.old)
         (map (account H.notes H.losses) hosts.old))
-        (world (seen R.files R.faults source.new)
+        (world (seen R.files R.faults source.new) (R.asked source.new)
         (seen_shelf K.files K.begun K.left K.faults shelf.new) (seen P.text P.faults screen.new)
         (map (account H.notes H.losses) hosts.new)) }
+    ensures asked { AsksFor (map string_bytes words.now) (R.files source.old)
+        (seen R.asked R.faults source.old) (seen R.asked R.faults source.new) result }
     ensures hosts { drop (lent_to (map string_bytes words.now)) hosts.new
         ≡ drop (lent_to (map string_bytes words.now)) hosts.old }
 {
@@ -112,6 +115,8 @@ fn prepare<X: Threads + Sync, R: Source, H: Host + Send>(
     ensures err { IfErr result (IsStopped (map string_bytes words.now)
         (seen R.files R.faults source.old) (seen R.files R.faults source.new)
         (map (account H.notes H.losses) hosts.old) (map (account H.notes H.losses) hosts.new)) }
+    ensures asked { AsksInCall (map string_bytes words.now) (R.files source.old)
+        (seen R.asked R.faults source.old) (seen R.asked R.faults source.new) result }
     ensures files { R.files source.new ≡ R.files source.old }
     ensures later { R.faults source.old ≤ R.faults source.new }
     ensures grew { AllZip Grew (map (account H.notes H.losses) hosts.old)

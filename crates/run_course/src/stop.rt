@@ -1,3 +1,4 @@
+// Why a call stops before it writes.
 use flume_collection::Trap;
 use flume_value::Str;
 use run_texts::Status;

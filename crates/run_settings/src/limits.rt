@@ -2,7 +2,7 @@
 pub const MOST_WORKERS: u32 = 16;
 
 /// The most shards into which an input may be cut.
-pub const MOST_SHARDS: u32 = 64;
+pub const MOST_SHARDS: u32 = 1024;
 
 /// The most partitions into which groups may be cut.
 pub const MOST_PARTITIONS: u32 = 64;

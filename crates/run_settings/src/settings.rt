@@ -38,9 +38,8 @@ impl Model for Settings {
 }
 
 impl Settings {
-    ghost use Rattle.run_settings.specs.Limits.{IsDrill, IsUpTo};
+    ghost use Rattle.run_settings.specs.Limits.{IsDrill, IsUpTo, most_partitions, most_shards, most_tries, most_workers};
     ghost use Rattle.run_settings.specs.Settings.{AreWithinLimits, standard};
-    ghost use Rattle.run_settings.specs.declared.limits.TheConstants.{MOST_PARTITIONS, MOST_SHARDS, MOST_TRIES, MOST_WORKERS};
 
     /// A run by so many workers, in so many shards and partitions, with so many tries for each task
     /// and with these attempts lost on purpose.
@@ -80,7 +79,7 @@ impl Settings {
     /// How many workers there are.
     pub fn workers(&self) -> u32
         ensures value { result ≡ self.now.workers }
-        ensures within { IsUpTo MOST_WORKERS result }
+        ensures within { IsUpTo most_workers result }
     {
         self.workers
     }
@@ -88,7 +87,7 @@ impl Settings {
     /// Into how many shards an input is cut.
     pub fn shards(&self) -> u32
         ensures value { result ≡ self.now.shards }
-        ensures within { IsUpTo MOST_SHARDS result }
+        ensures within { IsUpTo most_shards result }
     {
         self.shards
     }
@@ -96,7 +95,7 @@ impl Settings {
     /// Into how many partitions groups are cut.
     pub fn partitions(&self) -> u32
         ensures value { result ≡ self.now.partitions }
-        ensures within { IsUpTo MOST_PARTITIONS result }
+        ensures within { IsUpTo most_partitions result }
     {
         self.partitions
     }
@@ -104,7 +103,7 @@ impl Settings {
     /// How often a task is tried at most.
     pub fn tries(&self) -> u32
         ensures value { result ≡ self.now.tries }
-        ensures within { IsUpTo MOST_TRIES result }
+        ensures within { IsUpTo most_tries result }
     {
         self.tries
     }

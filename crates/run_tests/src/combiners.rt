@@ -61,11 +61,12 @@ fn combinations_by_key(rt: HostRuntime) -> Result<(), Fail> {
     let texts: &[u8] = b"k,v\nb,one two\na,\"y,z\"\nb,one\nb,\n";
     let sizes: &[u8] = b"size a 4\nsize p 4\nsize g 2\nsize s 2\ndone\n";
     let more: &[u8] = b"size a 4\nsize p 4\nsize g 3\nsize s 3\ndone\n";
-    let table: [(&[u8], &str, &[u8], &[u8], &[u8]); 12] = [
+    let table: [(&[u8], &str, &[u8], &[u8], &[u8]); 13] = [
         (INTS, "sum", ints, b"key,value\n-2,7\n1,4\n", sizes),
         (INTS, "count", ints, b"key,value\n-2,1\n1,3\n", sizes),
         (INTS, "min", ints, b"key,value\n-2,7\n1,-6\n", sizes),
         (INTS, "max", ints, b"key,value\n-2,7\n1,5\n", sizes),
+        (INTS, "mean", ints, b"key,value\n-2,7\n1,1\n", sizes),
         (
             BOOLS,
             "all",
@@ -140,11 +141,78 @@ fn records_are_combined(rt: HostRuntime) -> Result<(), Fail> {
     Ok(())
 }
 
+// A mean is rounded down, below zero too, and the sum of two great ints is no int but their mean is.
+#[test]
+fn means_are_rounded_down(rt: HostRuntime) -> Result<(), Fail> {
+    let alloc = rt.alloc();
+    let sizes: &[u8] = b"size a 2\nsize p 2\nsize g 1\nsize s 1\ndone\n";
+    let screen = shown(alloc, "mean", sizes)?;
+    let table: [(&[u8], &[u8]); 3] = [
+        (b"k,v\n1,-3\n1,0\n", b"key,value\n1,-2\n"),
+        (b"k,v\n1,3\n1,0\n", b"key,value\n1,1\n"),
+        (
+            b"k,v\n1,9223372036854775807\n1,9223372036854775807\n",
+            b"key,value\n1,9223372036854775807\n",
+        ),
+    ];
+    for (input, out) in table {
+        let left = Left {
+            code: 0,
+            file: Some(out),
+            screen: &screen,
+        };
+        check_run(&rt, alloc, &script(alloc, INTS, "mean")?, input, left)?;
+    }
+    Ok(())
+}
+
+/// How many values each key has, apart from one another.
+const DISTINCT: &[u8] = b"type r = {k: int, v: int}
+input a: r from \"in.csv\"
+fn pair(x: r) -> table<int, int> { emit {key: x.k, value: x.v} }
+let p = do a pair
+let g = group p
+let s = combine g by distinct
+fn size(x: {key: int, value: list<int>}) -> int { emit len(x.value) }
+let n = do s size
+output n to \"out.csv\"
+";
+
+#[test]
+fn distinct_values_are_counted(rt: HostRuntime) -> Result<(), Fail> {
+    let screen: &[u8] = b"graph
+0 source a
+1 do 0 p:pair
+2 group 1 g
+3 do 2 s:%distinct
+4 do 3 n:size
+output n reads 4 to \"out.csv\"
+plan
+stage 1 mscr
+in 0 reads s0 does p:pair>0
+group 0 g lift distinct takes 0.0 does s:%distinct(n:size>0) gives 1.0
+output n reads 1.0 to \"out.csv\"
+size a 3
+size p 3
+size g 1
+size s 1
+size n 1
+done
+";
+    let left = Left {
+        code: 0,
+        file: Some(b"value\n2\n"),
+        screen,
+    };
+    check_run(&rt, rt.alloc(), DISTINCT, b"k,v\n1,3\n1,1\n1,3\n", left)
+}
+
 #[test]
 fn nothing_is_combined(rt: HostRuntime) -> Result<(), Fail> {
     let alloc = rt.alloc();
     let sizes: &[u8] = b"size a 0\nsize p 0\nsize g 0\nsize s 0\ndone\n";
-    let table: [(&[u8], &str); 6] = [
+    let table: [(&[u8], &str); 7] = [
+        (INTS, "mean"),
         (INTS, "sum"),
         (INTS, "count"),
         (INTS, "min"),
@@ -168,8 +236,10 @@ fn nothing_is_combined(rt: HostRuntime) -> Result<(), Fail> {
 #[test]
 fn scripts_that_are_refused(rt: HostRuntime) -> Result<(), Fail> {
     let alloc = rt.alloc();
-    let table: [(&[u8], &str, &[u8]); 4] = [
+    let table: [(&[u8], &str, &[u8]); 6] = [
         (INTS, "top 3", b"7: NotFlat\n"),
+        (INTS, "distinct", b"7: NotFlat\n"),
+        (TEXTS, "mean", b"6: Mistyped\n"),
         (INTS, "all", b"6: Mistyped\n"),
         (BOOLS, "sum", b"6: Mistyped\n"),
         (TEXTS, "any", b"6: Mistyped\n"),

@@ -55,7 +55,7 @@ fn gives_up<X: Threads + Sync + Abort>(
 #[test]
 fn any_settings(rt: HostRuntime) -> Result<(), TestFail> {
     let alloc = rt.alloc();
-    let table: [&[&str]; 6] = [
+    let table: [&[&str]; 7] = [
         &[
             "run",
             "s",
@@ -68,6 +68,7 @@ fn any_settings(rt: HostRuntime) -> Result<(), TestFail> {
         ],
         &["run", "--shards", "3", "s"],
         &["run", "s", "--shards", "64", "--partitions", "64"],
+        &["run", "s", "--shards", "1024"],
         &["run", "s", "--workers", "1", "--partitions", "1"],
         &["run", "s", "--tries", "2", "--fail", "1m0.1"],
         &[

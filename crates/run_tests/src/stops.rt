@@ -32,10 +32,19 @@ let s = combine b by min
 output s to \"out.csv\"
 ";
 
+/// The mean of an empty list, by key.
+const MEAN: &[u8] = b"type r = {x: int}
+input a: r from \"in.csv\"
+fn f(y: r) -> table<int, list<int>> { emit {key: y.x, value: empty<int>} }
+let b = do a f
+let s = combine b by mean
+output s to \"out.csv\"
+";
+
 #[test]
 fn traps_and_refusals(rt: HostRuntime) -> Result<(), Fail> {
     let alloc = rt.alloc();
-    let table: [(&[u8], &[u8], u8, &[u8]); 7] = [
+    let table: [(&[u8], &[u8], u8, &[u8]); 8] = [
         (
             SUMS.script,
             b"k,v\n1,9223372036854775807\n1,1\n",
@@ -50,6 +59,7 @@ fn traps_and_refusals(rt: HostRuntime) -> Result<(), Fail> {
             b"trap at b: Overflow on (-9223372036854775808)\n",
         ),
         (LEAST, b"x\n1\n", 5, b"trap at s: BadIndex on 1\n"),
+        (MEAN, b"x\n1\n", 5, b"trap at s: BadIndex on 1\n"),
         (
             SUMS.script,
             b"k,v\n12x,1\n",

@@ -81,7 +81,7 @@ pub fn called<X: Threads + Sync>(
     requires { length hosts.old ≡ 16 }
 {
     let fails = listed(alloc, failing.source, failing.again)?;
-    let mut source = MemSource::new(files(alloc, given)?, fails)?;
+    let mut source = MemSource::new(alloc, files(alloc, given)?, fails)?;
     let fails = listed(alloc, failing.shelf, None)?;
     let mut shelf = MemShelf::new(alloc, Pile::new(alloc), fails, 4, MOST)?;
     let mut screen = MemScreen::new(alloc, listed(alloc, failing.screen, None)?, MOST)?;

@@ -14,11 +14,10 @@ use Rattle.written_types.specs.Answer.{Checked, ◌>>=◌, unless, or_fault}
 use Rattle.written_types.specs.Named.{Named, fresh}
 use Rattle.written_types.specs.Written.{shallow, whole_type}
 use Rattle.body_check.specs.Bodies.{body_of}
+use Rattle.script_program.specs.Limits.{most_collections, most_files, most_functions}
 use Rattle.script_program.specs.declared.made.Made.TheVariants as made
 use Rattle.operation_check.specs.Numbers.{number_within}
-use Rattle.script_program.specs.Script.{Signature, Script, State, nothing, function_from}
-use Rattle.script_program.specs.Script.{script_from, with_type, with_function, with_node}
-use Rattle.script_program.specs.Script.{with_output}
+use Rattle.script_program.specs.Script.{Script, Signature, State, function_from, nothing, script_from, with_function, with_node, with_output, with_type}
 use Rattle.operation_check.specs.Operations.{collection, made_by}
 
 -- each fault is told on this line
@@ -40,7 +39,7 @@ module _ (line : ℕ) where
 
   abbrev pub rule_input : List ℕ → tree.Type → List ℕ → State → Checked State
   rule_input name type file s = do
-    few ← room 256 s.nodes
+    few ← room most_collections s.nodes
     new ← fresh line name s.nodes
     t ← whole_type line type s.types
     columns ← or_fault line NotFlat (input_columns_of t)
@@ -49,7 +48,7 @@ module _ (line : ℕ) where
   -- what a function that may be defined here takes and gives
   abbrev pub signature_of : Written → State → Checked Signature
   signature_of function s = do
-    few ← room 128 s.functions
+    few ← room most_functions s.functions
     new ← fresh line function.name s.functions
     takes ← whole_type line function.takes s.types
     gives ← whole_type line function.gives s.types
@@ -64,7 +63,7 @@ module _ (line : ℕ) where
 
   abbrev pub rule_let : List ℕ → Operation → State → Checked State
   rule_let name by s = do
-    few ← room 256 s.nodes
+    few ← room most_collections s.nodes
     new ← fresh line name s.nodes
     node ← made_by line by s
     low ← shallow line node.type
@@ -72,7 +71,7 @@ module _ (line : ℕ) where
 
   abbrev pub rule_output : List ℕ → List ℕ → State → Checked State
   rule_output name file s = do
-    few ← room 64 s.outputs
+    few ← room most_files s.outputs
     one ← collection line name s
     columns ← or_fault line NotFlat (columns_of one.type)
     new ← fresh line file s.outputs

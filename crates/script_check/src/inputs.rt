@@ -10,7 +10,7 @@ use crate::fresh::{fresh, room};
 use flume_grammar::{ScriptFault, ScriptKind, Type};
 use flume_types::{ColumnFault, Columns};
 use flume_value::Str;
-use script_program::{Made, Node, State};
+use script_program::{MOST_COLLECTIONS, Made, Node, State};
 use std::alloc::Global;
 use type_table::{TypeId, input_columns};
 use written_types::refused;
@@ -39,7 +39,7 @@ pub fn rows_for(
     ensures within { IfOk result (λ rows. rows.ty < length state.new.types) }
     ensures state { state.new.state ≡ state.old.state }
 {
-    room(line, state.node_count(), 256)?;
+    room(line, state.node_count(), MOST_COLLECTIONS)?;
     fresh(line, state.has_node(name))?;
     let ty = state.whole_type(alloc, line, ty)?;
     let columns = row_columns(alloc, line, ty, state)?;

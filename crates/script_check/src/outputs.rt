@@ -11,7 +11,7 @@ use flume_grammar::{ScriptFault, ScriptKind};
 use flume_types::{ColumnFault, Columns};
 use flume_value::Str;
 use operation_check::collection;
-use script_program::{Output, State};
+use script_program::{MOST_FILES, Output, State};
 use std::alloc::Global;
 use type_table::{TypeId, columns};
 use written_types::refused;
@@ -28,7 +28,7 @@ pub fn output_for(
         (spec.rule_output line name.now file.now state.now.state) }
     ensures new { OnOk result (is_some (find file.now state.now.state.outputs) ≡ false) }
 {
-    room(line, state.output_count(), 64)?;
+    room(line, state.output_count(), MOST_FILES)?;
     let source = collection(line, name, state)?;
     let columns = flat_columns(alloc, line, source.ty, state)?;
     fresh(line, state.has_output(file))?;

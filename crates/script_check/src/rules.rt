@@ -13,7 +13,7 @@ use crate::signatures::checked;
 use flume_grammar::{Form, Function as Written, Operation, ScriptFault, Statement, Type};
 use flume_value::Str;
 use operation_check::made_by;
-use script_program::{Node, State};
+use script_program::{MOST_COLLECTIONS, Node, State};
 use std::alloc::Global;
 use type_table::TypeId;
 use written_types::shallow;
@@ -127,7 +127,7 @@ fn node_for(
     ensures within { IfOk result (λ node. node.ty < length state.new.types) }
     ensures state { state.new.state ≡ state.old.state }
 {
-    room(line, state.node_count(), 256)?;
+    room(line, state.node_count(), MOST_COLLECTIONS)?;
     fresh(line, state.has_node(name))?;
     let node = made_by(alloc, line, by, state)?;
     shallow(line, node.ty, state.types())?;

@@ -10,7 +10,7 @@ use crate::scales::scale;
 use dofn_eval::Fun;
 use flume_grammar::{Function as Written, ScriptFault};
 use flume_value::Pile;
-use script_program::{Signature, State};
+use script_program::{MOST_FUNCTIONS, Signature, State};
 use std::alloc::{AllocError, Global};
 use type_table::TypeId;
 
@@ -51,7 +51,7 @@ fn signature_of(
     ensures one { IfOk result (λ signature. length signature.gives ≡ 1) }
     ensures state { state.new.state ≡ state.old.state }
 {
-    room(line, state.function_count(), 128)?;
+    room(line, state.function_count(), MOST_FUNCTIONS)?;
     fresh(line, state.has_function(&function.name))?;
     let takes = state.whole_type(alloc, line, &function.takes)?;
     let gives = state.whole_type(alloc, line, &function.gives)?;

@@ -15,6 +15,7 @@ use Rattle.written_types.specs.Answer.{unless, or_fault}
 use Rattle.written_types.specs.Named.{fresh}
 use Rattle.written_types.specs.Written.{shallow, whole_type}
 use Rattle.body_check.specs.Bodies.{body_of}
+use Rattle.script_program.specs.Limits.{most_collections}
 use Rattle.script_program.specs.declared.made.Output.{Output}
 use Rattle.script_program.specs.Script.{Function, Script, Node, State, nothing, script_from, with_node}
 use Rattle.operation_check.specs.Operations.{collection, made_by}
@@ -29,14 +30,14 @@ record IsGood (s : State) : Type 0 where
   pub functions : All (λ (entry : List ℕ × Function). IsWellTyped entry.1) s.functions
   pub nodes : AllFit s.functions [] s.nodes
   pub outputs : All (λ (entry : List ℕ × Output). HasColumns s.nodes entry.1) s.outputs
-  pub few : length s.nodes ≤ 256
+  pub few : length s.nodes ≤ most_collections
 
 -- a node more, where there is room for it
 node-more : (line : ℕ) (u : Unit {0}) (s : State) (name : List ℕ) (node : Node) → IsGood s
-    → spec.room line 256 s.nodes ≡ Ok u → Fits s.functions s.nodes node.made node.type
+    → spec.room line most_collections s.nodes ≡ Ok u → Fits s.functions s.nodes node.made node.type
     → IsGood (with_node name node s)
 node-more line u s name node good room fits =
-    let below = (Decides-ltb (length s.nodes) 256).0 (holds line TooMany _ u room) in record {
+    let below = (Decides-ltb (length s.nodes) most_collections).0 (holds line TooMany _ u room) in record {
       functions = good.functions;
       nodes = fit-push s.functions [] s.nodes (name, node) good.nodes fits;
       outputs = outputs-kept s.nodes ((name, node) ∷ []) s.outputs good.outputs;
@@ -59,7 +60,7 @@ module _ (line : ℕ) (s after : State) (good : IsGood s) where
   input-good : (name : List ℕ) (type : tree.Type) (file : List ℕ)
       → spec.rule_input line name type file s ≡ Ok after → IsGood after
   input-good name type file e =
-      let few = both (spec.room line 256 s.nodes) _ after e in
+      let few = both (spec.room line most_collections s.nodes) _ after e in
       let new = both (fresh line name s.nodes) _ after few.then in
       let t = both (whole_type line type s.types) _ after new.then in
       let columns = both (or_fault line NotFlat (input_columns_of t.part)) _ after t.then in
@@ -88,7 +89,7 @@ module _ (line : ℕ) (s after : State) (good : IsGood s) where
   let-good : (name : List ℕ) (by : Operation) → spec.rule_let line name by s ≡ Ok after
       → IsGood after
   let-good name by e =
-      let few = both (spec.room line 256 s.nodes) _ after e in
+      let few = both (spec.room line most_collections s.nodes) _ after e in
       let new = both (fresh line name s.nodes) _ after few.then in
       let node = both (made_by line by s) _ after new.then in
       let low = both (shallow line node.part.type) _ after node.then in

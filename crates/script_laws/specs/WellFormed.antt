@@ -12,6 +12,7 @@ use Rattle.flume_types.specs.Tables.{table_of}
 use Rattle.combine_table.specs.declared.comb.Comb.{Comb}
 use Rattle.written_types.specs.Named.{Named}
 use Rattle.body_check.specs.Bodies.{body_of}
+use Rattle.script_program.specs.Limits.{most_collections}
 use Rattle.script_program.specs.declared.made.Made.{Made}
 use Rattle.script_program.specs.declared.made.Made.TheVariants as made
 use Rattle.script_program.specs.declared.made.Output.{Output}
@@ -117,4 +118,4 @@ pub record IsWellFormed (script : Script) : Type 0 where
   pub nodes : AllFit script.functions [] script.nodes
   pub outputs : All (λ entry. HasColumns script.nodes entry.1) script.outputs
   pub some : 0 < length script.outputs
-  pub few : length script.nodes ≤ 256
+  pub few : length script.nodes ≤ most_collections

@@ -27,11 +27,11 @@ use Rattle.script_loading.specs.Ready.{IsNamedMade, IsReady}
 abbrev Told : Type 0
 Told = Option (List NamedBytes)
 
-abbrev Entry : Type 0
+abbrev pub Entry : Type 0
 Entry = List ℕ × Node
 
 -- the input that a node is
-abbrev wanted : Entry → List Wanted
+abbrev pub wanted : Entry → List Wanted
 wanted entry = wanted_by entry.1.made entry.1.type
 
 dropped : {A : Type 0} (xs : List A) (k : ℕ) (x : A) → slice_get xs k ≡ Some x
@@ -42,7 +42,7 @@ dropped (y ∷ xs) (suc k) x is = dropped xs k x is
 
 -- ---- one node
 
-abbrev inputs_here : (needed : Bool) (own rest : List Wanted) → List Wanted
+abbrev pub inputs_here : (needed : Bool) (own rest : List Wanted) → List Wanted
 inputs_here true own rest = own ++ rest
 inputs_here false own rest = rest
 
@@ -54,7 +54,7 @@ numbered_inputs script number entry nodes true is = rw is refl
 numbered_inputs script number entry nodes false is = rw is refl
 
 -- the inputs from a node on, where that is the one of this number
-from_node : (script : Script) (number : ℕ) (entry : Entry) (needed : Bool)
+pub from_node : (script : Script) (number : ℕ) (entry : Entry) (needed : Bool)
     → slice_get script.nodes number ≡ Some entry → is_needed script number ≡ needed
     → inputs_from script number (drop number script.nodes)
     ≡ inputs_here needed (wanted entry)
@@ -91,7 +91,7 @@ none_read told script = ([], refl, tt, tt)
 nothing_behind : (script : Script) (number : ℕ) → inputs_from script number [] ≡ []
 nothing_behind script number = refl
 
-all_done : (script : Script) (done : List Wanted)
+pub all_done : (script : Script) (done : List Wanted)
     → inputs_of script
     ≡ done ++ inputs_from script (length script.nodes) (drop (length script.nodes) script.nodes)
     → inputs_of script ≡ done

@@ -1,4 +1,5 @@
 pub mod AcceptedLemmas
+pub mod AskLemmas
 pub mod InputLemmas
 pub mod NameLemmas
 pub mod ProgramLemmas

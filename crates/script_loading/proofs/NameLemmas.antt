@@ -18,6 +18,7 @@ use Rattle.written_types.specs.Answer.{or_fault, unless}
 use Rattle.written_types.specs.Named.{fresh}
 use Rattle.written_types.specs.Written.{shallow, whole_type}
 use Rattle.body_check.specs.Bodies.{body_of}
+use Rattle.script_program.specs.Limits.{most_collections}
 use Rattle.script_program.specs.declared.made.Output.{Output}
 use Rattle.script_program.specs.Script.{Node, Script, State, nothing, script_from}
 use Rattle.operation_check.specs.Operations as op
@@ -88,7 +89,7 @@ module _ (line : ℕ) (s after : State) (named : AreNamed s) where
   input-named : (name : List ℕ) (type : tree.Type) (file : List ℕ) → IsUtf8 file
       → spec.rule_input line name type file s ≡ Ok after → AreNamed after
   input-named name type file utf8 e =
-      let few = both (spec.room line 256 s.nodes) _ after e in
+      let few = both (spec.room line most_collections s.nodes) _ after e in
       let new = both (fresh line name s.nodes) _ after few.then in
       let t = both (whole_type line type s.types) _ after new.then in
       let columns = both (or_fault line NotFlat (input_columns_of t.part)) _ after t.then in
@@ -111,7 +112,7 @@ module _ (line : ℕ) (s after : State) (named : AreNamed s) where
   let-named : (name : List ℕ) (by : Operation) → spec.rule_let line name by s ≡ Ok after
       → AreNamed after
   let-named name by e =
-      let few = both (spec.room line 256 s.nodes) _ after e in
+      let few = both (spec.room line most_collections s.nodes) _ after e in
       let new = both (fresh line name s.nodes) _ after few.then in
       let node = both (op.made_by line by s) _ after new.then in
       let low = both (shallow line node.part.type) _ after node.then in

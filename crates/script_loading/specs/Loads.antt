@@ -1,5 +1,5 @@
 -- What a load gives of a file, and the rows of inputs.
-use Rattle.std.specs.Prelude.{◌≡◌, ◌<◌, ◌≤◌, ℕ, List, [], ◌∷◌, length, Option, Some, None, Ok, IfSome, IsSomeAnd, ⊤}
+use Rattle.std.specs.Prelude.{◌≡◌, ◌<◌, ◌≤◌, ℕ, List, [], ◌∷◌, length, map, Option, Some, None, Ok, IfSome, IsSomeAnd, ⊤}
 use Rattle.csv_rows.specs.Rows.{rows_of}
 use Rattle.direct_meaning.specs.Inputs.{Wanted}
 use Rattle.flume_value.specs.declared.value.Value.{Value}
@@ -20,6 +20,10 @@ IsAbove told name limit =
 -- the source has no file of that name, where files are told
 abbrev pub IsMissing : Option (List File) → List ℕ → Type 0
 IsMissing told name = IfSome told (λ files. bytes_of files name ≡ None)
+
+-- the names of the files of inputs, in order
+abbrev pub file_names : List Wanted → List (List ℕ)
+file_names inputs = map (λ wanted. wanted.file) inputs
 
 -- the file of an input has these rows
 abbrev pub HasRows : Option (List File) → Wanted → List Value → Type 0

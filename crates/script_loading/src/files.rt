@@ -1,5 +1,6 @@
 // A file, as it is loaded.
-ghost use Rattle.std.specs.Prelude.{◌≡◌, ◌≤◌, ◌<◌, ◌⊎◌, IfErr, IfOk};
+ghost use Rattle.std.specs.Prelude.{◌≡◌, ◌≤◌, ◌<◌, ◌⊎◌, ◌∷◌, [], IfErr, IfOk};
+ghost use Rattle.outside.specs.Asked.{Asks};
 ghost use Rattle.outside.specs.Seen.{seen};
 ghost use Rattle.script_loading.specs.Causes.{IsLoadCause};
 ghost use Rattle.script_loading.specs.Loads.{Loads};
@@ -10,7 +11,7 @@ use outside::{LoadFault, Source, load_tried};
 use run_texts::Status;
 use std::alloc::Global;
 
-/// Loads a file; where the source fails, again, in so many tries.
+/// Loads a file; where the source fails, again, in so many tries. It is asked for no more.
 pub fn loaded<R: Source>(
     alloc: Global,
     source: &mut R,
@@ -24,6 +25,8 @@ pub fn loaded<R: Source>(
     ensures err { IfErr result (IsLoadCause tries (seen R.files R.faults source.old)
         (seen R.files R.faults source.new) name.now limit) }
     ensures later { R.faults source.old ≤ R.faults source.new }
+    ensures asked { Asks tries (name.now ∷ []) (seen R.asked R.faults source.old)
+        (seen R.asked R.faults source.new) }
 {
     match load_tried(alloc, source, name, limit, tries) {
         Ok(bytes) => Ok(bytes),

@@ -1,15 +1,16 @@
 // The rows of a script's inputs, as their files are loaded and decoded.
-ghost use Rattle.std.specs.Prelude.{◌≡◌, ◌≤◌, ◌<◌, ◌⊎◌, ◌+◌, IfErr, IfOk, IsUtf8, OnOk, Some, length};
+ghost use Rattle.std.specs.Prelude.{◌≡◌, ◌≤◌, ◌<◌, ◌⊎◌, ◌+◌, ◌∷◌, [], IfErr, IfOk, IsUtf8, OnErr, OnOk, Some, length};
 ghost use Rattle.direct_meaning.specs.Inputs.{AreInputs, Wanted, inputs_of};
 ghost use Rattle.flume_types.specs.Columns.{input_columns_of};
 ghost use Rattle.flume_types.specs.Typing.{AllHave};
 ghost use Rattle.flume_types.specs.declared.types.Ty.{Ty};
+ghost use Rattle.outside.specs.Asked.{Asks, AsksFront};
 ghost use Rattle.outside.specs.Seen.{seen};
 ghost use Rattle.script_laws.specs.WellFormed.{IsWellFormed};
 ghost use Rattle.script_loading.specs.Causes.{IsInputCause, IsInputsCause};
-ghost use Rattle.script_loading.specs.Loads.{AllHaveRows, HasRows};
+ghost use Rattle.script_loading.specs.Loads.{AllHaveRows, HasRows, file_names};
 ghost use Rattle.script_loading.specs.Ready.{IsReady};
-ghost use Rattle.script_loading.specs.inner.Reading.{HasRead, fault_status};
+ghost use Rattle.script_loading.specs.inner.Reading.{HasRead, fault_status, inputs_at};
 
 use crate::files::loaded;
 use crate::limits::INPUT_LIMIT;
@@ -22,7 +23,8 @@ use script_program::{Made, Program};
 use std::alloc::Global;
 use std::str;
 
-/// Loads and decodes the inputs that a script needs, in its order, each in so many tries.
+/// Loads and decodes the inputs that a script needs, in its order, each in so many tries. No other
+/// file is asked for.
 pub fn rows_of_inputs<R: Source>(
     alloc: Global,
     program: &Program,
@@ -39,6 +41,11 @@ pub fn rows_of_inputs<R: Source>(
     ensures err { IfErr result (IsInputsCause tries (seen R.files R.faults source.old)
         (seen R.files R.faults source.new) (inputs_of program.now.script)) }
     ensures later { R.faults source.old ≤ R.faults source.new }
+    ensures asked { OnOk result (Asks tries (file_names (inputs_of program.now.script))
+        (seen R.asked R.faults source.old) (seen R.asked R.faults source.new)) }
+    ensures asked_front { OnErr result
+        (AsksFront tries (file_names (inputs_of program.now.script))
+        (seen R.asked R.faults source.old) (seen R.asked R.faults source.new)) }
 {
     let mut rows = Pile::new(alloc);
     for number in 0..program.node_count() {
@@ -67,6 +74,8 @@ fn add_rows<R: Source>(
     ensures err { IfErr result (IsInputsCause tries (seen R.files R.faults source.old)
         (seen R.files R.faults source.new) (inputs_of program.now.script)) }
     ensures later { R.faults source.old ≤ R.faults source.new }
+    ensures asked { Asks tries (file_names (inputs_at program.now.script number))
+        (seen R.asked R.faults source.old) (seen R.asked R.faults source.new) }
 {
     if !program.is_needed(number) {
         return Ok(());
@@ -103,6 +112,8 @@ fn rows_of_file<R: Source>(
         IsInputCause tries (seen R.files R.faults source.old) (seen R.files R.faults source.new)
         (record { file = file.now; type = type }) status) }
     ensures later { R.faults source.old ≤ R.faults source.new }
+    ensures asked { Asks tries (file.now ∷ []) (seen R.asked R.faults source.old)
+        (seen R.asked R.faults source.new) }
 {
     let Ok(name) = str::from_utf8(file.as_bytes()) else {
         unreachable!();

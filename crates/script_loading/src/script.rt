@@ -1,5 +1,6 @@
 // The script, as it is loaded, parsed and checked.
-ghost use Rattle.std.specs.Prelude.{◌≡◌, ◌≤◌, ◌<◌, IfErr, IfOk};
+ghost use Rattle.std.specs.Prelude.{◌≡◌, ◌≤◌, ◌<◌, ◌∷◌, [], IfErr, IfOk};
+ghost use Rattle.outside.specs.Asked.{Asks};
 ghost use Rattle.outside.specs.Seen.{seen};
 ghost use Rattle.script_laws.specs.WellFormed.{IsWellFormed};
 ghost use Rattle.script_loading.specs.Accepted.{Accepted};
@@ -17,7 +18,7 @@ use script_check::check;
 use script_program::Program;
 use std::alloc::Global;
 
-/// Loads and checks the script of that name, in so many tries.
+/// Loads and checks the script of that name, in so many tries. No other file is asked for.
 pub fn script_of<R: Source>(
     alloc: Global,
     name: &str,
@@ -33,6 +34,8 @@ pub fn script_of<R: Source>(
     ensures err { IfErr result (IsScriptCause tries (seen R.files R.faults source.old)
         (seen R.files R.faults source.new) name.now) }
     ensures later { R.faults source.old ≤ R.faults source.new }
+    ensures asked { Asks tries (name.now ∷ []) (seen R.asked R.faults source.old)
+        (seen R.asked R.faults source.new) }
 {
     let bytes = loaded(alloc, source, name, SCRIPT_LIMIT, tries)?;
     match program_of(alloc, &bytes) {

@@ -10,12 +10,14 @@
 //! what a function, a collection or an operand in memory is of these.
 #![tactic(auto)]
 
+mod limits;
 mod made;
 mod needed;
 mod operand;
 mod program;
 mod state;
 
+pub use limits::{MOST_COLLECTIONS, MOST_FILES, MOST_FUNCTIONS};
 pub use made::{Function, Made, Node, Output, Signature};
 pub use operand::{Callee, Operand};
 pub use program::Program;

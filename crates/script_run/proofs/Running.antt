@@ -68,6 +68,7 @@ module _ (script : Script) (inputs : List (List Value)) where
       means = means;
       among = among trap h.1;
       first = h.0;
+      ran = h.2;
     }
     faulted_here made means among (fault.GaveUp stage phase task) h = h
     faulted_here made means among fault.Memory h = tt

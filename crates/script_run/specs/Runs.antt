@@ -16,7 +16,7 @@ use Rattle.flume_value.specs.declared.value.Value.{Value}
 use Rattle.graph_build.specs.Graphs.{graph_of}
 use Rattle.plan_laws.specs.Operations.{SamePlan}
 use Rattle.plan_phases.specs.Phases.{PhaseTasks, phases}
-use Rattle.plan_phases.specs.Told.{AreWinners, IsGivenUp}
+use Rattle.plan_phases.specs.Told.{AreWinners, HasTrapped, IsGivenUp}
 use Rattle.plan_phases.specs.declared.fault.RunFault.{RunFault}
 use Rattle.plan_phases.specs.declared.fault.RunFault.TheVariants as fault
 use Rattle.plan_phases.specs.declared.winners.PhaseWinners.{PhaseWinners}
@@ -63,18 +63,22 @@ pub record IsRan (s : RunSettings) (script : Script) (inputs : List (List Value)
   pub sizes : it.sizes.items ≡ sizes_of script made
   pub ran : WereRun s (phases_of s script inputs plan) olds news it.winners.items
 
--- a trap of the script's meaning, the first of the tasks of the plan
+-- a trap of the script's meaning, the first of the tasks of the plan; its task has run, and all
+-- tasks before have run without a trap
 pub record IsFirstOf (s : RunSettings) (script : Script) (inputs : List (List Value)) (plan : Plan)
-    (trap : Trap) : Type 0 where
+    (olds news : List Account) (trap : Trap) : Type 0 where
   pub made : List (Option Collection)
   pub means : meaning script inputs ≡ Some made
   pub among : Contains (traps_of made) trap
   pub first : first_trap (world_of script inputs) (split_of s) plan ≡ Some trap
+  pub ran : HasTrapped s.tries s.drill (world_of script inputs) (phases_of s script inputs plan)
+      olds news trap
 
 -- why a run of the plan came to no end: a trap, a task that was given up, or want of memory
 abbrev pub IsRunFault : RunSettings → Script → List (List Value) → Plan → List Account
     → List Account → RunFault → Type 0
-IsRunFault s script inputs plan olds news (fault.Trap trap) = IsFirstOf s script inputs plan trap
+IsRunFault s script inputs plan olds news (fault.Trap trap) =
+    IsFirstOf s script inputs plan olds news trap
 IsRunFault s script inputs plan olds news (fault.GaveUp stage phase task) =
     IsGivenUp s.tries s.drill (world_of script inputs) (phases_of s script inputs plan) olds news
     stage phase task

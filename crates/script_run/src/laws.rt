@@ -1,3 +1,4 @@
+// The law that leads from a plan to what its script means.
 ghost use Rattle.std.specs.Prelude.{◌≡◌, ◌<◌, ℕ, [], List, Option, Some, length, map, slice_get};
 ghost use Rattle.std.specs.List.{AllZip, Contains};
 ghost use Rattle.build_law.specs.Means.{IsMeaning};

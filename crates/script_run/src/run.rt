@@ -1,3 +1,4 @@
+// The run of a script by its plan.
 ghost use Rattle.std.specs.Prelude.{◌≡◌, ◌≤◌, IfErr, IfOk, length, map};
 ghost use Rattle.std.specs.List.{AllZip};
 ghost use Rattle.build_law.specs.Limits.{HasFirstOutputs, HasShortFlattens};

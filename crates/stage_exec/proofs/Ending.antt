@@ -13,6 +13,7 @@ use Rattle.flume_value.specs.Bag.{bag_of}
 use Rattle.flume_value.specs.declared.value.Value.{Value}
 use Rattle.forest_steps.specs.Fresh.{zeros}
 use Rattle.plan_phases.specs.Phases.{phases}
+use Rattle.plan_phases.proofs.Stopping.{trapped_first}
 use Rattle.plan_phases.specs.Told.{IsFirstOf, IsStopped}
 use Rattle.plan_phases.specs.declared.fault.RunFault.{RunFault}
 use Rattle.plan_phases.specs.declared.fault.RunFault.TheVariants as fault
@@ -85,7 +86,9 @@ module _ (s : RunSettings) (w : World) (p : Plan) where
       → IsStopped s.tries s.drill w (phases w (split_of s) p) olds news e
       → IsRunFault s w p olds news e
   faulted olds news (fault.Trap trap) first trapped stopped =
-      (first trap stopped, trapped trap (first trap stopped))
+      let is = first trap
+      (trapped_first s.tries s.drill w (phases w (split_of s) p) olds news trap stopped) in
+      (is, trapped trap is, stopped)
   faulted olds news (fault.GaveUp stage phase task) first trapped stopped = stopped
   faulted olds news fault.Memory first trapped stopped = tt
 

@@ -23,7 +23,8 @@ finishes tries drill w phases olds news (fault.Trap trap) can h = tt
 finishes tries drill w phases olds news (fault.GaveUp stage phase task) can h =
     let Finishes : PhaseTasks → Type 0
     = λ ph. CanFinish (length ph.tasks) (settings_of tries drill ph) olds news in
-    cannot_finish (length h.here.tasks) (settings_of tries drill h.here) olds news task h.is_task
+    let r = h.reached in
+    cannot_finish (length h.here.tasks) (settings_of tries drill h.here) olds news task r.is_task
     h.lost
-    (each_at Finishes h.before h.here h.behind (subst (Each Finishes) (sym h.whole) can))
+    (each_at Finishes r.before h.here r.behind (subst (Each Finishes) (sym r.whole) can))
 finishes tries drill w phases olds news fault.Memory can h = tt

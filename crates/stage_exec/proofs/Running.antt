@@ -220,7 +220,7 @@ module _ (s : RunSettings) (called : ℕ → Value → Called) (takes : ℕ → 
         subst (λ ps. IsStopped s.tries s.drill World_ ps us ws e)
         (append_assoc a.ran here rest ∙ phases_left)
         (stopped_before s.tries s.drill World_ (a.ran ++ here) rest us ws e
-        (stopped_behind s.tries s.drill World_ a.ran here us vs ws e a.have_run.calm stopped
+        (stopped_behind s.tries s.drill World_ a.ran here us vs ws e a.have_run.through stopped
         a.grew grew))
 
   -- what is read no more may be dropped

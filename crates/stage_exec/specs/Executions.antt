@@ -10,7 +10,7 @@ use Rattle.exec_plan.specs.declared.plan.Plan.{Plan}
 use Rattle.flume_value.specs.Bag.{bag_of}
 use Rattle.flume_value.specs.declared.value.Value.{Value}
 use Rattle.plan_phases.specs.Phases.{phases}
-use Rattle.plan_phases.specs.Told.{AreWinners, IsGivenUp}
+use Rattle.plan_phases.specs.Told.{AreWinners, HasTrapped, IsGivenUp}
 use Rattle.plan_phases.specs.declared.fault.RunFault.{RunFault}
 use Rattle.plan_phases.specs.declared.fault.RunFault.TheVariants as fault
 use Rattle.run_settings.specs.Settings.{RunSettings}
@@ -46,12 +46,14 @@ pub record IsExecuted (s : RunSettings) (w : World) (p : Plan) (nodes : ℕ)
   pub ran : AllZip (AreWinners s.tries s.drill olds news) (phases w (split_of s) p)
       it.winners
 
--- why a plan's execution stopped: by the first trap of its tasks, which is one of the plan's; or at
--- a task that was given up; want of memory comes at any time
+-- why a plan's execution stopped: by the first trap of its tasks, which is one of the plan's, at a
+-- task that has run; or at a task that was given up; all phases and tasks before have run without a
+-- trap. Want of memory comes at any time
 abbrev pub IsRunFault : RunSettings → World → Plan → List Account → List Account → RunFault
     → Type 0
 IsRunFault s w p olds news (fault.Trap trap) =
     (first_trap w (split_of s) p ≡ Some trap) × Contains (plan_traps w p) trap
+    × HasTrapped s.tries s.drill w (phases w (split_of s) p) olds news trap
 IsRunFault s w p olds news (fault.GaveUp stage phase task) =
     IsGivenUp s.tries s.drill w (phases w (split_of s) p) olds news stage phase task
 IsRunFault s w p olds news fault.Memory = ⊤

@@ -1,3 +1,4 @@
+// A plan, executed stage by stage.
 ghost use Rattle.std.specs.Prelude.{◌≡◌, ◌<◌, ◌≤◌, IfErr, IfOk, length, map};
 ghost use Rattle.std.specs.List.{AllZip};
 ghost use Rattle.crew.specs.Hosts.{account, Grew};

@@ -47,8 +47,8 @@ same_given_to v w same task m takes =
     λ i. flat_map
     (λ k. cond (k.channel == m) (same_gives v w same task.does task.elements k.out i) []) takes
 
-pub few_tasks : (channels parts : ℕ) → channels ≤ 2 ^ 17 → parts ≤ 64
-    → channels * parts ≤ 2 ^ 23
+pub few_tasks : (channels parts : ℕ) → channels ≤ 2 ^ 17 → parts ≤ 1024
+    → channels * parts ≤ 2 ^ 27
 few_tasks channels parts h k =
     let a = mul-le-mul_right parts h in
     let b = mul-le-mul_left (2 ^ 17) k in omega arith
@@ -85,7 +85,7 @@ module _ {F : Type 0} (functions : F) (called : ℕ → Value → Called) (takes
         each_placed (IsFit s.inputs (given_to (world_of called) (task_of m i) m)) s.outputs
         (λ r c at. fit_at m i r c at (out_at s.inputs false 0 s.outputs ready.ok.channels r c at))
 
-    pub can_work : 0 < shards → shards ≤ 64 → 0 < partitions
+    pub can_work : 0 < shards → shards ≤ 1024 → 0 < partitions
         → ((m i : ℕ) → Each (SafeOf (world_of called) takes (task_of m i).does)
         (task_of m i).elements)
         → (let work : Work F = record {

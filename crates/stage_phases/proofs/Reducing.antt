@@ -77,11 +77,11 @@ reducing_of functions stage outs settings = record {
 pub count_within : {F : Type 0} (r made : Reducing F) → made ≡ r → 0 < r.partitions
     → r.partitions ≤ 64 → 0 < length (groupings r.stage.outputs)
     → length r.stage.outputs ≤ 2 ^ 17
-    → (0 < reducing_count made) × (reducing_count made ≤ 2 ^ 23)
+    → (0 < reducing_count made) × (reducing_count made ≤ 2 ^ 27)
 count_within r made is some few groups channels =
     let count = length (groupings r.stage.outputs) in
     let less = few_groupings r.stage.outputs in
-    let most = few_tasks count r.partitions (omega arith) few in
+    let most = few_tasks count r.partitions (omega arith) (omega (arith, few)) in
     let least = le-mul_of_pos_right count some in
     rw is (omega arith, omega arith)
 
@@ -120,7 +120,7 @@ module _ {F : Type 0} (r : Reducing F) (w : World) (shards : ℕ) (t : Lists)
       few =
           let channels = few_groupings r.stage.outputs in
           let most = few_tasks (length (groupings r.stage.outputs)) r.partitions (omega arith)
-          small in omega arith;
+          (omega (arith, small)) in omega arith;
       first = first;
       ready = λ i p g at below.
           let place = first i g at in

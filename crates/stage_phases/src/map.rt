@@ -86,7 +86,7 @@ fn map_tasks<'a, F: Functions>(
       shards = inputs.now.settings.now.shards;
       partitions = inputs.now.settings.now.partitions;
     } }
-    ensures count { (0 < work_count result) × (work_count result ≤ 2 ^ 23) }
+    ensures count { (0 < work_count result) × (work_count result ≤ 2 ^ 27) }
 {
     map_law(inputs.functions);
     MapTasks::new(

@@ -1,3 +1,4 @@
+// The tasks of a stage can be made.
 ghost use Rattle.std.specs.Prelude.{◌<◌, ◌≤◌, ℕ, List};
 ghost use Rattle.flume_value.specs.declared.value.Value.{Value};
 ghost use Rattle.exec_plan.specs.declared.plan.Mscr.{Mscr};
@@ -18,7 +19,7 @@ use task_safety::{safe_law, taken_law};
 /// The map tasks of a stage that can be run can be made.
 pub(crate) fn map_law<F: Functions>(functions: &F)
     ensures { (sources : List (List Value)) (results : List (List (List Value))) (s : Mscr)
-        (k shards partitions : ℕ) → 0 < shards → shards ≤ 64 → 0 < partitions →
+        (k shards partitions : ℕ) → 0 < shards → shards ≤ 1024 → 0 < partitions →
         CanRunStage (run_world (F.called functions.now) sources) (F.can_call functions.now) k
         (table sources results) (stage.Mscr s) →
         CanWork (world_of (F.called functions.now)) (F.can_call functions.now) (record {

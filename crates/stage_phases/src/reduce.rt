@@ -113,7 +113,7 @@ fn reduce_tasks<'a, F: Functions>(
       outs = maps.now;
       partitions = inputs.now.settings.now.partitions;
     } }
-    ensures count { (0 < reducing_count result) × (reducing_count result ≤ 2 ^ 23) }
+    ensures count { (0 < reducing_count result) × (reducing_count result ≤ 2 ^ 27) }
 {
     reduce_law(inputs.functions);
     ReduceTasks::new(inputs.functions, stage, maps, inputs.settings.partitions())

@@ -25,6 +25,8 @@ pub enum Operated {
     Any,
     /// of this number
     Tops(&'static [u8]),
+    Mean,
+    Distinct,
 }
 
 /// Whether the operation is the wanted one.
@@ -57,5 +59,7 @@ fn is_combiner(combiner: &Combiner, wanted: Operated) -> bool {
         Combiner::All => matches!(wanted, Operated::All),
         Combiner::Any => matches!(wanted, Operated::Any),
         Combiner::Top(number) => matches!(wanted, Operated::Tops(digits) if number.is(digits)),
+        Combiner::Mean => matches!(wanted, Operated::Mean),
+        Combiner::Distinct => matches!(wanted, Operated::Distinct),
     }
 }

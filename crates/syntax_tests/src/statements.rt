@@ -35,7 +35,7 @@ enum Wanted {
     Output,
 }
 
-static STATEMENTS: [(&[u8], Wanted); 24] = [
+static STATEMENTS: [(&[u8], Wanted); 26] = [
     (b"type t = int", Wanted::Type(Written::Leaf(Leaf::Int))),
     (b"type t = bool", Wanted::Type(Written::Leaf(Leaf::Bool))),
     (b"type t = text", Wanted::Type(Written::Leaf(Leaf::Text))),
@@ -63,6 +63,11 @@ static STATEMENTS: [(&[u8], Wanted); 24] = [
     (b"let l = combine c by max", Wanted::Let(Operated::Max)),
     (b"let l = combine c by all", Wanted::Let(Operated::All)),
     (b"let l = combine c by any", Wanted::Let(Operated::Any)),
+    (b"let l = combine c by mean", Wanted::Let(Operated::Mean)),
+    (
+        b"let l = combine c by distinct",
+        Wanted::Let(Operated::Distinct),
+    ),
     (
         b"let l = combine c by top 3",
         Wanted::Let(Operated::Tops(b"3")),

@@ -43,7 +43,11 @@ fn asks_for_a_run_with_settings(rt: HostRuntime) -> Result<(), Fail> {
             &[],
         ),
         (&["flume", "run", "s", "--workers", "1"], [1, 2, 2, 2], &[]),
-        (&["flume", "run", "s", "--shards", "64"], [2, 64, 2, 2], &[]),
+        (
+            &["flume", "run", "s", "--shards", "1024"],
+            [2, 1024, 2, 2],
+            &[],
+        ),
         (
             &["flume", "run", "--partitions", "64", "s"],
             [2, 2, 64, 2],
@@ -56,9 +60,9 @@ fn asks_for_a_run_with_settings(rt: HostRuntime) -> Result<(), Fail> {
             &[(1, Phase::Map, 0, 1), (2, Phase::Reduce, 3, 2)],
         ),
         (
-            &["flume", "run", "--fail", "999999r999999.8", "s"],
+            &["flume", "run", "--fail", "999999999r999999999.8", "s"],
             [2, 2, 2, 2],
-            &[(999_999, Phase::Reduce, 999_999, 8)],
+            &[(999_999_999, Phase::Reduce, 999_999_999, 8)],
         ),
         (
             &[

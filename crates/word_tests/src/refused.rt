@@ -18,7 +18,7 @@ fn refuses_other_options(rt: HostRuntime) -> Result<(), Fail> {
         &["--workers", ""],
         &["--workers", "4294967298"],
         &["--workers="],
-        &["--shards", "65"],
+        &["--shards", "1025"],
         &["--shards", "0"],
         &["--partitions", "65"],
         &["--partitions", "064"],
@@ -39,7 +39,7 @@ fn refuses_other_options(rt: HostRuntime) -> Result<(), Fail> {
         &["--fail", "1.1"],
         &["--fail", "m0.1"],
         &["--fail", "1m00.1"],
-        &["--fail", "1000000m0.1"],
+        &["--fail", "1000000000m0.1"],
         // an option twice, without its value, and one that there is not
         &["--tries", "2", "--tries", "2"],
         &["--fail", "1m0.1", "--fail", "1m0.2"],

@@ -4,8 +4,8 @@ use Rattle.std.specs.Bool.{MatchBool}
 use Rattle.atomic_table.specs.Table.{Me, Step}
 use Rattle.atomic_table.specs.Seated.{TableId}
 use Rattle.claim_board.specs.declared.size.Size.{Size}
-use Rattle.claim_board.specs.Protocol.{PassState, fresh, drawn, looked, winning, losing, IsOpen}
-use Rattle.claim_board.specs.Boards.{Board, Pass, Passes}
+use Rattle.claim_board.specs.Protocol.{PassState, fresh, drawn, IsOpen}
+use Rattle.claim_board.specs.Boards.{Board, Pass, Passes, AreBefore, Saw, HasWon, HasLost}
 use Rattle.claim_board.specs.Told.{draw_of}
 use Rattle.claim_board.specs.Seats.{View, limit_at, maker_view, pass_view}
 
@@ -20,14 +20,14 @@ pass_in v = first_pass v.passes
 -- what a step tells the pass that makes it: n is the number found, q what the pass has done then
 abbrev pub Drawing : Size → PassState → ℕ → PassState → Type 0
 Drawing k p n q =
-    (q ≡ drawn (limit_at k) p n) × (n < limit_at k → IsOpen k.tasks k.tries q n)
-    × All (λ x. x < n) p.draws
+    ((m : ℕ) × AreBefore m p × (q ≡ drawn (limit_at k) p m n))
+    × (n < limit_at k → IsOpen k.tasks k.tries q n) × All (λ x. x < n) p.draws
 
 abbrev pub Looking : Size → PassState → ℕ → ℕ → PassState → Type 0
-Looking k p t n q = (q ≡ looked p t n) × (n ≤ k.tries)
+Looking k p t n q = Saw p q t n × (n ≤ k.tries)
 
 abbrev pub Claiming : Size → PassState → ℕ → ℕ → PassState → Type 0
-Claiming k p d n q = MatchBool (eqb n 0) (q ≡ winning p d) (q ≡ losing p d n) × (n ≤ k.tries)
+Claiming k p d n q = MatchBool (eqb n 0) (HasWon p q d) (HasLost p q d n) × (n ≤ k.tries)
 
 -- a seat's view, and the slots that it holds, which are none
 abbrev pub Seated : Type 0

@@ -55,6 +55,8 @@ keyword_combiner keyword.Max = Some (combining.Whole combiner.Max)
 keyword_combiner keyword.All = Some (combining.Whole combiner.All)
 keyword_combiner keyword.Any = Some (combining.Whole combiner.Any)
 keyword_combiner keyword.Top = Some combining.Top
+keyword_combiner keyword.Mean = Some (combining.Whole combiner.Mean)
+keyword_combiner keyword.Distinct = Some (combining.Whole combiner.Distinct)
 keyword_combiner _ = None
 
 abbrev pub combiner_start : Token → Result CombinerStart Stop

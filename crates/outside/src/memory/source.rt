@@ -1,20 +1,25 @@
-ghost use Rattle.std.specs.Prelude.{Some, None, Ok, true, ◌≡◌, ◌≢◌, ◌≤◌, ◌<◌, ◌↔◌, ◌++◌, [], is_ok, is_some, unwrap_or, IsTrue, IsErr, IsErrOf, IfOk, OnOk, take, length, MatchOption};
-ghost use Rattle.outside.specs.Calls.{counted, fails_begin, fails_call, no_calls, with_begin, with_call};
-ghost use Rattle.outside.specs.Cause.{HasCause, HasBeginCause, raised};
+ghost use Rattle.std.specs.Prelude.{Some, None, Ok, true, ◌≡◌, ◌≢◌, ◌≤◌, ◌<◌, ◌↔◌, ◌++◌, ◌∷◌, [], is_ok, is_some, unwrap_or, IsTrue, IsErr, IsErrOf, IfOk, OnOk, take, length, MatchOption};
+ghost use Rattle.std.specs.Option.{option_map};
+ghost use Rattle.outside.specs.Calls.{counted, counted_begin, fails_begin, fails_call, no_calls, with_begin, with_call};
+ghost use Rattle.outside.specs.Cause.{HasCause, HasBeginCause};
 ghost use Rattle.outside.specs.Files.{bytes_of};
+ghost use Rattle.outside.specs.Told.{WhileTold};
 ghost use Rattle.outside.specs.inner.Slots.{bytes_at};
 
 use super::calls::{Calls, failed};
 use crate::{BeginFault, Fail, Failed, File, Source};
-use flume_value::Pile;
-use std::alloc::AllocError;
+use flume_value::{Pile, Str};
+use std::alloc::{AllocError, Global};
 use std::marker::Model;
 
 /// Files in memory, to read. Its calls fail exactly where its list names them, but for the `begin`
-/// of a name that it lacks, which is missing.
+/// of a name that it lacks, which is missing. It notes the name of each `begin`; where no memory is
+/// found for one, it tells them no more.
 #[derive(Debug, Drop)]
 pub struct MemSource {
     files: Vec<File>,
+    asked: Option<Vec<Str>>,
+    alloc: Global,
     calls: Calls,
     begun: Option<usize>,
     at: usize,
@@ -22,6 +27,7 @@ pub struct MemSource {
 }
 
 impl Model for MemSource {
+    ghost use Rattle.std.specs.Option.{option_map};
     ghost use Rattle.outside.specs.Memory.{SourceInMemory};
     ghost use Rattle.outside.specs.inner.Slots.{rest_of};
 
@@ -29,6 +35,7 @@ impl Model for MemSource {
 
     ghost view = { λ s. record {
       files = s.files.items;
+      asked = option_map (λ names. names.items) s.asked;
       rest = rest_of s.files.items s.begun s.at;
       calls = s.calls;
       faults = s.faults;
@@ -37,9 +44,10 @@ impl Model for MemSource {
 
 impl MemSource {
     /// A source of these files, whose named calls are to fail. It takes no memory.
-    pub fn new(files: Pile<File>, fails: Pile<Fail>) -> Result<Self, AllocError>
+    pub fn new(alloc: Global, files: Pile<File>, fails: Pile<Fail>) -> Result<Self, AllocError>
         ensures { result ≡ Ok (record {
           files = files;
+          asked = Some [];
           rest = None;
           calls = no_calls fails;
           faults = 0;
@@ -47,6 +55,8 @@ impl MemSource {
     {
         Ok(MemSource {
             files: files.into_vec(),
+            asked: Some(Vec::new(alloc)),
+            alloc,
             calls: Calls::new(fails),
             begun: None,
             at: 0,
@@ -61,6 +71,17 @@ impl MemSource {
         &self.files
     }
 
+    /// The names of all begins so far, in their order, while it tells them.
+    pub fn asked(&self) -> Option<&[Str]>
+        ensures { MatchOption result (self.now.asked ≡ None)
+            (λ names. self.now.asked ≡ Some names.now) }
+    {
+        match &self.asked {
+            Some(names) => Some(names.as_slice()),
+            None => None,
+        }
+    }
+
     /// How many calls have failed.
     pub fn faults(&self) -> u64
         ensures { result ≡ self.now.faults }
@@ -72,6 +93,8 @@ impl MemSource {
 impl Source for MemSource {
     ghost files = { λ s. Some s.files };
 
+    ghost asked = { λ s. s.asked };
+
     ghost begun = { λ s. is_some s.rest };
 
     ghost rest = { λ s. unwrap_or s.rest [] };
@@ -80,6 +103,8 @@ impl Source for MemSource {
 
     fn begin(&mut self, name: &str) -> Result<(), BeginFault>
         ensures files { Some self.new.files ≡ Some self.old.files }
+        ensures asked { WhileTold self.old.asked self.new.asked
+            (λ old new. new ≡ old ++ name.now ∷ []) }
         ensures begun { is_some self.new.rest ≡ is_ok result }
         ensures missing { IsErrOf result BeginFault.Missing ↔
             (bytes_of self.old.files name.now ≡ None) }
@@ -90,11 +115,11 @@ impl Source for MemSource {
         // It fails exactly where its list names the call and the file is there.
         ensures fails { IsErrOf result BeginFault.Failed ↔
             (IsTrue (fails_begin self.old.calls) × (bytes_of self.old.files name.now ≢ None)) }
-        ensures raised { IsErrOf result BeginFault.Failed →
-            self.new.faults ≡ raised self.old.faults }
+        ensures counted { self.new.faults ≡ counted_begin result self.old.faults }
         ensures calls { self.new.calls ≡ with_begin self.old.calls }
     {
         let fails = self.calls.begin();
+        self.asked = noted(self.alloc, self.asked.take(), name.as_bytes());
         self.begun = None;
         self.at = 0;
         let Some(place) = file_place(&self.files, name.as_bytes()) else {
@@ -112,6 +137,7 @@ impl Source for MemSource {
         requires begun { IsTrue (is_some self.old.rest) }
         requires room { 0 < length buf.old }
         ensures files { Some self.new.files ≡ Some self.old.files }
+        ensures asked { self.new.asked ≡ self.old.asked }
         ensures begun { IsTrue (is_some self.new.rest) }
         ensures bound { IfOk result (λ n. n ≤ length buf.new) }
         ensures end { IfOk result (λ n. (n ≡ 0) ↔ (unwrap_or self.old.rest [] ≡ [])) }
@@ -141,6 +167,24 @@ impl Source for MemSource {
         self.at += n;
         Ok(n)
     }
+}
+
+// The names with one more, where they are told and memory is found for it.
+fn noted(alloc: Global, names: Option<Vec<Str>>, name: &[u8]) -> Option<Vec<Str>>
+    ensures { WhileTold (option_map (λ it. it.items) names) (option_map (λ it. it.items) result)
+        (λ old new. new ≡ old ++ name.now ∷ []) }
+{
+    match names {
+        Some(names) => with_name(alloc, names, name).ok(),
+        None => None,
+    }
+}
+
+fn with_name(alloc: Global, mut names: Vec<Str>, name: &[u8]) -> Result<Vec<Str>, AllocError>
+    ensures { IfOk result (λ it. it.items ≡ names.items ++ name.now ∷ []) }
+{
+    names.push(Str::from_slice(alloc, name)?)?;
+    Ok(names)
 }
 
 // The place of the first file of that name.

@@ -1,6 +1,6 @@
 -- The parts of the course of a call.
-use Rattle.std.specs.Prelude.{◌≡◌, ◌⊎◌, ℕ, List, [], ◌∷◌, ◌++◌, codes, Option, Some, IsSome}
-use Rattle.std.specs.List.{All, AllZip}
+use Rattle.std.specs.Prelude.{◌≡◌, ◌⊎◌, ℕ, List, [], ◌∷◌, ◌++◌, codes, Option, Some, IsSome, Result, Ok, Err}
+use Rattle.std.specs.List.{All, AllZip, Contains}
 use Rattle.build_law.specs.Worlds.{world_of}
 use Rattle.command_words.specs.declared.words.Command.{Command}
 use Rattle.command_words.specs.declared.words.Command.TheVariants.{Direct, Run}
@@ -10,8 +10,10 @@ use Rattle.direct_meaning.specs.Direct.{meaning, sizes_of, traps_of}
 use Rattle.direct_meaning.specs.Evaluated.{bag_at}
 use Rattle.direct_meaning.specs.Inputs.{inputs_of}
 use Rattle.exec_plan.specs.declared.plan.Plan.{Plan}
+use Rattle.flume_collection.specs.Traps.{IsLeast}
 use Rattle.flume_collection.specs.declared.trap.Trap.{Trap}
 use Rattle.flume_value.specs.declared.value.Value.{Value}
+use Rattle.outside.specs.Asked.{Asks, AsksFront}
 use Rattle.outside.specs.Saves.{HasFiles}
 use Rattle.outside.specs.Says.{HasLine}
 use Rattle.outside.specs.Seen.{Seen, SeenShelf}
@@ -23,13 +25,14 @@ use Rattle.run_texts.specs.Lines.{line_of}
 use Rattle.run_texts.specs.Texts.{size_lines}
 use Rattle.run_texts.specs.declared.status.Place.TheVariants.{File, Screen}
 use Rattle.run_texts.specs.declared.status.Status.{Status}
-use Rattle.run_texts.specs.declared.status.Status.TheVariants.{Done, GaveUp, WriteFault, WantOfMemory}
+use Rattle.run_texts.specs.declared.status.Status.TheVariants.{Done, GaveUp, WriteFault, WantOfMemory, InputRefused, NoFile, ReadFault, TooLong}
 use Rattle.script_program.specs.declared.made.Output.{Output}
 use Rattle.script_program.specs.Script.{Script}
 use Rattle.script_run.specs.Runs.{phases_of}
 use Rattle.script_loading.specs.Causes.{IsInputsCause}
-use Rattle.run_course.specs.Answers.{FailsAtFile, GivesUp, HasText, IsCause, IsCutOff, MayTell, name_at}
+use Rattle.run_course.specs.Answers.{FailsAtFile, GivesUp, HasText, IsCause, IsCutOff, IsFirstOfTasks, MayTell, name_at}
 use Rattle.run_course.specs.Asked.{Reads, inputs_read, tries_of}
+use Rattle.run_course.specs.Asks.{AsksAll, AsksFor}
 use Rattle.run_course.specs.Written.{IsMeant, Table, files_of}
 use Rattle.run_course.specs.declared.limits.TheConstants.{TRIES}
 use Rattle.run_course.specs.declared.stop.Stop.{Stop}
@@ -51,12 +54,11 @@ abbrev pub Gives : Script → List (List Value) → List ℕ → List NamedBytes
 Gives script rows front files text =
     (table : Table) × Comes script rows front files text table
 
--- over these rows the script has this trap, of which the command may tell, at a collection of this
--- name
-pub record TrapsAt (command : Command) (script : Script) (rows : List (List Value))
-    (trap : Trapped) (table : Table) : Type 0 where
+-- over these rows the script has this trap, of which may be told, at a collection of this name
+pub record TrapsAt (may_tell : List Trap → Trap → Type 0) (script : Script)
+    (rows : List (List Value)) (trap : Trapped) (table : Table) : Type 0 where
   pub means : meaning script rows ≡ Some table
-  pub told : MayTell command script rows (traps_of table) trap.trap
+  pub told : may_tell (traps_of table) trap.trap
   pub named : name_at script trap.trap.origin ≡ Some trap.name
 
 -- each output reads members that are there
@@ -93,7 +95,7 @@ IsTrapOf script trap (stop.Trapped it) =
 -- why the meaning of a script over these rows writes nothing: no memory was found, or a call traps
 abbrev pub IsStop : Script → List (List Value) → Stop → Type 0
 IsStop script rows (stop.Refused status) = status ≡ WantOfMemory
-IsStop script rows (stop.Trapped trap) = (table : Table) × TrapsAt Direct script rows trap table
+IsStop script rows (stop.Trapped trap) = (table : Table) × TrapsAt IsLeast script rows trap table
 
 -- the answer is that the run of this plan over these rows gave a task up
 abbrev pub IsGivingUp : RunSettings → Script → List (List Value) → Plan → List Account
@@ -103,27 +105,32 @@ IsGivingUp s script rows plan olds news status =
     × IsGivenUp s.tries s.drill (world_of script rows) (phases_of s script rows plan) olds news
     stage phase task
 
--- why the run of this plan over these rows writes nothing: no memory was found, a task was given
--- up, or a call traps
+-- why the run of this plan over these rows on the lent hosts writes nothing: no memory was found, a
+-- task was given up, or a call traps
 abbrev pub IsRunStop : RunSettings → Script → List (List Value) → Plan → List Account
     → List Account → Stop → Type 0
 IsRunStop s script rows plan olds news (stop.Refused status) =
     (status ≡ WantOfMemory) ⊎ IsGivingUp s script rows plan olds news status
 IsRunStop s script rows plan olds news (stop.Trapped trap) =
-    (table : Table) × TrapsAt (Run s) script rows trap table
+    (table : Table)
+    × TrapsAt (λ traps it. Contains traps it × IsFirstOfTasks s script rows olds news it) script
+    rows trap table
 
--- over the rows of its inputs the script has this trap, of which the command may tell
-abbrev pub IsTrapped : Command → Option (List NamedBytes) → Script → Trapped → Type 0
-IsTrapped command told script trap =
+-- over the rows of its inputs the script has this trap, of which the command may tell, where hosts
+-- have gained so much
+abbrev pub IsTrapped : Command → List Account → List Account → Option (List NamedBytes) → Script
+    → Trapped → Type 0
+IsTrapped command olds news told script trap =
     (rows : List (List Value)) × (table : Table) × IsMeant told script rows table
-    × MayTell command script rows (traps_of table) trap.trap
+    × MayTell command script rows olds news (traps_of table) trap.trap
     × (name_at script trap.trap.origin ≡ Some trap.name)
 
--- why the meaning of a script writes nothing
+-- why the meaning of a script writes nothing; no host has a part in it
 abbrev pub IsMeaningStop : Seen (List NamedBytes) → Seen (List NamedBytes) → Script → Stop → Type 0
 IsMeaningStop before after script (stop.Refused status) =
     (status ≡ WantOfMemory) ⊎ IsInputsCause TRIES before after (inputs_of script) status
-IsMeaningStop before after script (stop.Trapped trap) = IsTrapped Direct before.told script trap
+IsMeaningStop before after script (stop.Trapped trap) =
+    IsTrapped Direct [] [] before.told script trap
 
 -- the command is a run of a script which gave a task up, and the answer is that
 abbrev pub HasGivenUp : Command → Option (List NamedBytes) → List Account → List Account → Script
@@ -140,14 +147,15 @@ IsCommandStop command before after olds news script (stop.Refused status) =
     ⊎ (IsInputsCause (tries_of command) before after (inputs_read command script) status
     ⊎ HasGivenUp command before.told olds news script status)
 IsCommandStop command before after olds news script (stop.Trapped trap) =
-    IsTrapped command before.told script trap
+    IsTrapped command olds news before.told script trap
 
 -- the words ask for a script's meaning with this trap, of which the command may tell
-abbrev pub HasTrap : List (List ℕ) → Option (List NamedBytes) → Trapped → Type 0
-HasTrap words told trap =
+abbrev pub HasTrap : List (List ℕ) → Option (List NamedBytes) → List Account → List Account
+    → Trapped → Type 0
+HasTrap words told olds news trap =
     (command : Command) × (script : Script) × (rows : List (List Value)) × (table : Table)
     × Reads words told command script × IsMeant told script rows table
-    × MayTell command script rows (traps_of table) trap.trap
+    × MayTell command script rows olds news (traps_of table) trap.trap
     × (name_at script trap.trap.origin ≡ Some trap.name)
 
 -- why nothing is written
@@ -155,7 +163,38 @@ abbrev pub IsStopped : List (List ℕ) → Seen (List NamedBytes) → Seen (List
     → List Account → List Account → Stop → Type 0
 IsStopped words before after olds news (stop.Refused status) =
     IsCause words before after olds news status
-IsStopped words before after olds news (stop.Trapped trap) = HasTrap words before.told trap
+IsStopped words before after olds news (stop.Trapped trap) =
+    HasTrap words before.told olds news trap
+
+-- ---- what is asked for
+
+-- what was asked for of these files, by the answer to a command: all, or a front where the inputs
+-- were not all read
+module _ (tries : ℕ) (names : List (List ℕ)) (before after : Seen (List (List ℕ))) where
+  abbrev pub AsksWith : Status → Type 0
+  AsksWith (GaveUp stage phase task) = Asks tries names before after
+  AsksWith WantOfMemory = AsksFront tries names before after
+  AsksWith (NoFile name) = AsksFront tries names before after
+  AsksWith (TooLong name limit) = AsksFront tries names before after
+  AsksWith (ReadFault name) = AsksFront tries names before after
+  AsksWith (InputRefused name row column kind) = AsksFront tries names before after
+  AsksWith status = ⊥
+
+  -- the same, by what comes of a command
+  abbrev pub AsksUntil : {T : Type 0} → Result T Stop → Type 0
+  AsksUntil (Ok it) = Asks tries names before after
+  AsksUntil (Err (stop.Trapped trap)) = Asks tries names before after
+  AsksUntil (Err (stop.Refused status)) = AsksWith status
+
+-- what was asked for in a call with these words, by what comes of it
+module _ (words : List (List ℕ)) (told : Option (List NamedBytes))
+    (before after : Seen (List (List ℕ))) where
+  abbrev pub AsksInCall : {T : Type 0} → Result T Stop → Type 0
+  AsksInCall (Ok it) = AsksAll words told before after
+  AsksInCall (Err (stop.Trapped trap)) = AsksAll words told before after
+  AsksInCall (Err (stop.Refused status)) = AsksFor words told before after status
+
+-- ---- what is left
 
 -- what is left where a call came to the writing of these files and this text
 abbrev pub Delivers : List NamedBytes → List ℕ → SeenShelf → SeenShelf → Seen (List ℕ) →

@@ -1,6 +1,7 @@
 -- What is read up to a node, and what a refusal is answered with.
-use Rattle.std.specs.Prelude.{◌≡◌, ℕ, List, ◌++◌, drop, Option, ⊤}
+use Rattle.std.specs.Prelude.{◌≡◌, ℕ, List, [], ◌++◌, drop, if◌then◌else◌, Option, slice_get, ⊤}
 use Rattle.std.specs.List.{filter, flat_map}
+use Rattle.std.specs.Option.{option_map_or}
 use Rattle.csv_rows.specs.declared.fault.RowFault.{RowFault}
 use Rattle.csv_rows.specs.declared.fault.RowFault.TheVariants.{Bad}
 use Rattle.csv_rows.specs.declared.fault.RowFault.TheVariants as row_fault
@@ -8,6 +9,8 @@ use Rattle.direct_meaning.specs.Inputs.{HaveRows, Wanted, inputs_of, wanted_by}
 use Rattle.flume_grammar.specs.declared.fault.ScriptFault.{ScriptFault}
 use Rattle.flume_grammar.specs.declared.fault.ScriptFault.TheVariants as script_fault
 use Rattle.flume_value.specs.declared.value.Value.{Value}
+use Rattle.outside.specs.Asked.{Asks}
+use Rattle.outside.specs.Seen.{Seen}
 use Rattle.outside.specs.declared.file.File.{File as NamedBytes}
 use Rattle.outside.specs.declared.loads.LoadFault.{LoadFault}
 use Rattle.outside.specs.declared.loads.LoadFault.TheVariants as load
@@ -17,7 +20,7 @@ use Rattle.script_program.specs.Needed.{is_needed, numbered}
 use Rattle.script_program.specs.Script.{Node, Script}
 use Rattle.written_types.specs.Named.{Named}
 use Rattle.script_loading.specs.Accepted.{Refused}
-use Rattle.script_loading.specs.Loads.{AllHaveRows}
+use Rattle.script_loading.specs.Loads.{AllHaveRows, file_names}
 
 -- why a program was not made of the bytes
 abbrev pub IsScriptFault : List ℕ → ScriptFault → Type 0
@@ -48,3 +51,17 @@ HasRead told script number rows =
     (done : List Wanted)
     × (inputs_of script ≡ done ++ inputs_from script number (drop number script.nodes))
     × AllHaveRows told done rows × HaveRows done rows
+
+-- the input that the node of that number is, where it is needed
+abbrev pub inputs_at : Script → ℕ → List Wanted
+inputs_at script number =
+    if is_needed script number
+    then option_map_or (λ it. wanted_by it.1.made it.1.type) (slice_get script.nodes number) []
+    else []
+
+-- the source was asked for the files of the inputs of the nodes below a number
+abbrev pub HasAsked : ℕ → Script → ℕ → Seen (List (List ℕ)) → Seen (List (List ℕ)) → Type 0
+HasAsked tries script number before after =
+    (done : List Wanted)
+    × (inputs_of script ≡ done ++ inputs_from script number (drop number script.nodes))
+    × Asks tries (file_names done) before after

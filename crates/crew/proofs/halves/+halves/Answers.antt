@@ -3,9 +3,9 @@ use Rattle.std.specs.Prelude.{IfOk}
 use Rattle.std.specs.List.{AllZip}
 use Rattle.std.proofs.lemmas.List.{map-append}
 use Rattle.crew.specs.Hosts.{Account, account, Grew}
-use Rattle.crew.specs.inner.Halves.{Phased}
+use Rattle.crew.specs.Workers.{Phased}
 use Rattle.crew.proofs.Accounts.{all_grew-append}
-use Rattle.crew.proofs.Joining.{phased_both}
+use Rattle.crew.proofs.Joining.{phased_both, took_both}
 use Rattle.crew.proofs.halves.+halves.Goals as goal
 
 pub both_halves-returns-clause-phased : goal.both_halves-returns-clause-phased
@@ -38,3 +38,16 @@ work_all-returns-clause-grew g t c =
       map-append f cut.result.0.now cut.result.1.now,
       map-append f first last,
     ) (all_grew-append _ _ _ _ c.both_halves.ensures.first c.both_halves.ensures.last)
+
+pub work_all-returns-clause-asked : goal.work_all-returns-clause-asked
+work_all-returns-clause-asked g t c =
+    let f : g.row.H.Denot → Account = account g.H.Host.notes g.H.Host.losses in
+    let cut = c.split_at_mut-first_hosts in
+    let first = c.both_halves.new.first_hosts in
+    let last = c.both_halves.new.last_hosts in
+    rw (
+      cut.ensures.value,
+      map-append f cut.result.0.now cut.result.1.now,
+      map-append f first last,
+    ) (took_both _ _ _ _ _ _ _ _ _ c.both_halves.ensures.first_asked
+    c.both_halves.ensures.last_asked)

@@ -8,14 +8,15 @@ use Rattle.crew.specs.Hosts.{Account, account}
 use Rattle.crew.specs.declared.kept.KeptOut.{KeptOut}
 use Rattle.crew.proofs.Accounts.{all_grew_not}
 use Rattle.crew.proofs.Lists.{lent_back}
+use Rattle.crew.proofs.Asking.{asked_not, asked_once}
 use Rattle.crew.proofs.Ending.{can_start, length_fresh, settled, unsettled, cannot_finish}
 use Rattle.crew.proofs.phase.run_phase.Goals as goal
 
 pub returns-in_err-board-clause-grew : goal.returns-in_err-board-clause-grew
 returns-in_err-board-clause-grew g c = all_grew_not _
 
-pub work_all-requires-clause-start : goal.work_all-requires-clause-start
-work_all-requires-clause-start g c κs within =
+pub work_all-worked-requires-clause-start : goal.work_all-worked-requires-clause-start
+work_all-worked-requires-clause-start g c κs within =
     let b = c.in_ok-board.board in
     let size = c.in_ok-board.ensures.size in
     let members = c.as_mut_slice.ensures.value
@@ -27,24 +28,24 @@ pub close-tally-requires-clause-members : goal.close-tally-requires-clause-membe
 close-tally-requires-clause-members g c =
     let b = c.in_ok-board.board in
     let old : List Pass = c.in_ok-board.passes.members in
-    let new : List Pass = c.work_all.new.passes in
+    let new : List Pass = c.work_all-worked.new.passes in
     let value : length c.as_mut_slice.result.now ≡ length old =
     ap length c.as_mut_slice.ensures.value in
-    let same = c.work_all.auto.passes in
+    let same = c.work_all-worked.auto.passes in
     let len : length old ≡ b.crew =
     ap (λ (p : Passes). length p.members) c.in_ok-board.ensures.passes ∙ length_fresh b b.crew in
     let back = lent_back (length old) old new (omega arith) in
-    (subst (AreOf b) (sym back) c.work_all.ensures.same, ap length back ∙ omega arith)
+    (subst (AreOf b) (sym back) c.work_all-worked.ensures.same, ap length back ∙ omega arith)
 
 pub returns-clause-settled : goal.returns-clause-settled
 returns-clause-settled g c =
     let f : g.row.H.Denot → Account = account g.H.Host.notes g.H.Host.losses in
     let b = c.in_ok-board.board in
     let old : List Pass = c.in_ok-board.passes.members in
-    let new : List Pass = c.work_all.new.passes in
+    let new : List Pass = c.work_all-worked.new.passes in
     let value : length c.as_mut_slice.result.now ≡ length old =
     ap length c.as_mut_slice.ensures.value in
-    let same = c.work_all.auto.passes in
+    let same = c.work_all-worked.auto.passes in
     let size = c.in_ok-board.ensures.size in
     let len : length old ≡ b.crew =
     ap (λ (p : Passes). length p.members) c.in_ok-board.ensures.passes ∙ length_fresh b b.crew in
@@ -63,7 +64,8 @@ returns-clause-settled g c =
     (λ (n : ℕ). (t : ℕ) → t < n → get_or told.winners t 0 ≢ 0)
     c.count-count.ensures c.in-None.ensures.none in
     rw c.of.ensures
-    (settled _ _ _ _ told new _ _ c.in_ok-kept.kept good c.in_ok-kept.ensures.phased
+    (settled _ _ _ _ told new _ _ c.in_ok-kept.kept good
+    (rw c.in_ok-kept.was at c.work_all-worked.ensures.phased)
     c.requires.tasks as_many all _ c.in_order-in-None.ensures.moved c.in_order-in-None.ensures.rise)
 
 pub returns-in-Some-clause-fault : goal.returns-in-Some-clause-fault
@@ -71,10 +73,10 @@ returns-in-Some-clause-fault g c =
     let f : g.row.H.Denot → Account = account g.H.Host.notes g.H.Host.losses in
     let b = c.in_ok-board.board in
     let old : List Pass = c.in_ok-board.passes.members in
-    let new : List Pass = c.work_all.new.passes in
+    let new : List Pass = c.work_all-worked.new.passes in
     let value : length c.as_mut_slice.result.now ≡ length old =
     ap length c.as_mut_slice.ensures.value in
-    let same = c.work_all.auto.passes in
+    let same = c.work_all-worked.auto.passes in
     let size = c.in_ok-board.ensures.size in
     let len : length old ≡ b.crew =
     ap (λ (p : Passes). length p.members) c.in_ok-board.ensures.passes ∙ length_fresh b b.crew in
@@ -94,7 +96,8 @@ returns-in-Some-clause-fault g c =
     let some_host = c.requires.hosts.0 in
     let moved = subst (λ (l : List (KeptOut g.row.T-Out.Denot)). IsPermutation l c.in_order.result)
     c.below.ensures c.in_order.ensures.moved in
-    unsettled _ _ _ _ told new _ _ c.in_ok-kept.kept good c.in_ok-kept.ensures.phased
+    unsettled _ _ _ _ told new _ _ c.in_ok-kept.kept good
+    (rw c.in_ok-kept.was at c.work_all-worked.ensures.phased)
     c.requires.tasks as_many c.protocol_laws.ensures.undecided c.in-Some.task small found.1
     (omega arith) found.2 _ moved c.in_order.ensures.rise
 
@@ -102,3 +105,69 @@ pub returns-in-Some-clause-complete : goal.returns-in-Some-clause-complete
 returns-in-Some-clause-complete g c can =
     let gave_up = returns-in-Some-clause-fault g c in
     cannot_finish _ _ _ _ c.in-Some.task gave_up.is_task gave_up.lost can
+
+pub returns-in_err-board-clause-asked : goal.returns-in_err-board-clause-asked
+returns-in_err-board-clause-asked g c = asked_not _ _ _ _
+
+pub returns-clause-asked : goal.returns-clause-asked
+returns-clause-asked g c =
+    let b = c.in_ok-board.board in
+    let old : List Pass = c.in_ok-board.passes.members in
+    let new : List Pass = c.work_all-worked.new.passes in
+    let value : length c.as_mut_slice.result.now ≡ length old =
+    ap length c.as_mut_slice.ensures.value in
+    let same = c.work_all-worked.auto.passes in
+    let size = c.in_ok-board.ensures.size in
+    let len : length old ≡ b.crew =
+    ap (λ (p : Passes). length p.members) c.in_ok-board.ensures.passes ∙ length_fresh b b.crew in
+    let back = lent_back (length old) old new (omega arith) in
+    let tasks = size.0 ∙ c.count-count.ensures in
+    let tries = size.1 ∙ c.tries.ensures in
+    let told : Tally = c.close-tally.result in
+    let good = subst
+    (λ (x : ℕ × ℕ × List Pass). IsGood x.0 x.1 (closing_state told x.2))
+    (λ i. (tasks i, tries i, back i)) c.close-tally.ensures.good in
+    let asked = c.work_all-worked.ensures.asked in
+    asked_once _ _ _ c.requires.tasks (closing_state told new) _ _ asked.0 good asked.1
+
+pub returns-in-Some-clause-asked : goal.returns-in-Some-clause-asked
+returns-in-Some-clause-asked g c =
+    let b = c.in_ok-board.board in
+    let old : List Pass = c.in_ok-board.passes.members in
+    let new : List Pass = c.work_all-worked.new.passes in
+    let value : length c.as_mut_slice.result.now ≡ length old =
+    ap length c.as_mut_slice.ensures.value in
+    let same = c.work_all-worked.auto.passes in
+    let size = c.in_ok-board.ensures.size in
+    let len : length old ≡ b.crew =
+    ap (λ (p : Passes). length p.members) c.in_ok-board.ensures.passes ∙ length_fresh b b.crew in
+    let back = lent_back (length old) old new (omega arith) in
+    let tasks = size.0 ∙ c.count-count.ensures in
+    let tries = size.1 ∙ c.tries.ensures in
+    let told : Tally = c.close-tally.result in
+    let good = subst
+    (λ (x : ℕ × ℕ × List Pass). IsGood x.0 x.1 (closing_state told x.2))
+    (λ i. (tasks i, tries i, back i)) c.close-tally.ensures.good in
+    let asked = c.work_all-worked.ensures.asked in
+    asked_once _ _ _ c.requires.tasks (closing_state told new) _ _ asked.0 good asked.1
+
+pub returns-in_err-kept-clause-asked : goal.returns-in_err-kept-clause-asked
+returns-in_err-kept-clause-asked g c =
+    let b = c.in_ok-board.board in
+    let old : List Pass = c.in_ok-board.passes.members in
+    let new : List Pass = c.work_all-worked.new.passes in
+    let value : length c.as_mut_slice.result.now ≡ length old =
+    ap length c.as_mut_slice.ensures.value in
+    let same = c.work_all-worked.auto.passes in
+    let size = c.in_ok-board.ensures.size in
+    let len : length old ≡ b.crew =
+    ap (λ (p : Passes). length p.members) c.in_ok-board.ensures.passes ∙ length_fresh b b.crew in
+    let back = lent_back (length old) old new (omega arith) in
+    let tasks = size.0 ∙ c.count-count.ensures in
+    let tries = size.1 ∙ c.tries.ensures in
+    let told : Tally = c.close-tally.result in
+    let good = subst
+    (λ (x : ℕ × ℕ × List Pass). IsGood x.0 x.1 (closing_state told x.2))
+    (λ i. (tasks i, tries i, back i)) c.close-tally.ensures.good in
+    let asked = c.work_all-worked.ensures.asked in
+    asked_once _ _ _ c.requires.tasks (closing_state told new) _ _ asked.0 good asked.1

@@ -1,7 +1,7 @@
 use Rattle.std.proofs.Common.{sym, ap, ◌∙◌}
 use Rattle.claim_board.specs.Protocol.{PassState, winning, losing}
 use Rattle.crew.proofs.Accounts.{grew_not}
-use Rattle.crew.proofs.Turning.{names_of, turned_seen, turned_down, turned_won, turned_lost}
+use Rattle.crew.proofs.Turning.{names_of, took_early, turned_seen, turned_down, turned_drilled, turned_won, turned_lost}
 use Rattle.crew.proofs.worker.turn.Goals as goal
 
 pub returns-in-Some-clause-grew : goal.returns-in-Some-clause-grew
@@ -13,7 +13,7 @@ returns-in-Some-clause-turned g c =
     let n = names_of _ _ c.args.draw _ _ _ _ r.count r.tries r.some r.open c.task-task.ensures
     c.attempt-attempt.ensures in
     let s = c.in-Some.ensures.some in
-    rw s.2 (turned_seen _ _ _ _ _ _ _ _ _ _ n s.0)
+    rw s.2.gained (turned_seen _ _ _ _ s.2.place _ _ _ _ _ _ n s.0)
 
 pub returns-in-Down-clause-turned : goal.returns-in-Down-clause-turned
 returns-in-Down-clause-turned g c =
@@ -22,7 +22,8 @@ returns-in-Down-clause-turned g c =
     c.attempt-attempt.ensures in
     let ran = rw c.in-Down.is at c.in_ok-attempt-in-None.ensures.ran in
     let down = rw (c.spot.ensures c.task-task.result) at ran in
-    rw c.in-None.ensures.none (turned_down _ _ _ _ _ _ _ _ _ _ n down)
+    rw c.in-None.ensures.none.gained
+    (turned_down _ _ _ _ c.in-None.ensures.none.place _ _ _ _ _ _ n down)
 
 pub returns-in-Ok-clause-turned : goal.returns-in-Ok-clause-turned
 returns-in-Ok-clause-turned g c =
@@ -34,15 +35,63 @@ returns-in-Ok-clause-turned g c =
     let through = rw (c.spot.ensures c.task-task.result) at ran in
     let value = rw c.in-Made.is at c.in_ok-attempt-in-None.ensures.value in
     let undrilled = sym c.is_drilled.ensures ∙ c.if-is_drilled.false in
-    let won = c.in-Ok.ensures.won ∙ ap (λ (p : PassState). winning p d) c.in-None.ensures.none in
+    let saw = c.in-None.ensures.none in
+    let wins = c.in-Ok.ensures.won in
+    let won = wins.gained ∙ ap (λ (p : PassState). winning p wins.place d) saw.gained in
     rw (won, c.new.ensures)
-    (turned_won _ _ _ _ _ _ _ c.in-Made.out _ _ _ n through undrilled value)
+    (turned_won _ _ _ _ saw.place wins.place _ _ _ c.in-Made.out _ _ _ n through undrilled value)
 
 pub returns-in-Err-clause-turned : goal.returns-in-Err-clause-turned
 returns-in-Err-clause-turned g c =
+    let r = c.requires in
     let d = c.args.draw.number in
+    let n = names_of _ _ c.args.draw _ _ _ _ r.count r.tries r.some r.open c.task-task.ensures
+    c.attempt-attempt.ensures in
     let ran = rw c.in-Made.is at c.in_ok-attempt-in-None.ensures.ran in
-    let lost = c.in-Err.ensures.lost.2
-    ∙ ap (λ (p : PassState). losing p d c.in-Err.field-0) c.in-None.ensures.none in
-    rw lost (turned_lost _ _ _ _ d c.task-task.result c.in-Err.field-0 c.args.pass.now.state _ _
-    ran.later)
+    let through = rw (c.spot.ensures c.task-task.result) at ran in
+    let saw = c.in-None.ensures.none in
+    let loses = c.in-Err.ensures.lost.2 in
+    let lost = loses.gained
+    ∙ ap (λ (p : PassState). losing p loses.place d c.in-Err.field-0) saw.gained in
+    rw lost (turned_lost _ _ _ _ saw.place loses.place d c.task-task.result
+    c.attempt-attempt.result c.in-Err.field-0 c.args.pass.now.state _ _ n through)
+
+pub returns-in-Some-clause-asked : goal.returns-in-Some-clause-asked
+returns-in-Some-clause-asked g c =
+    let t = returns-in-Some-clause-turned g c in (t.turn, t.took)
+
+pub returns-in-Down-clause-asked : goal.returns-in-Down-clause-asked
+returns-in-Down-clause-asked g c =
+    let t = returns-in-Down-clause-turned g c in (t.turn, t.took)
+
+pub returns-in-Ok-clause-asked : goal.returns-in-Ok-clause-asked
+returns-in-Ok-clause-asked g c =
+    let t = returns-in-Ok-clause-turned g c in (t.turn, t.took)
+
+pub returns-in-Err-clause-asked : goal.returns-in-Err-clause-asked
+returns-in-Err-clause-asked g c =
+    let t = returns-in-Err-clause-turned g c in (t.turn, t.took)
+
+pub returns-then-is_drilled-clause-turned : goal.returns-then-is_drilled-clause-turned
+returns-then-is_drilled-clause-turned g c =
+    let r = c.requires in
+    let n = names_of _ _ c.args.draw _ _ _ _ r.count r.tries r.some r.open c.task-task.ensures
+    c.attempt-attempt.ensures in
+    let ran = rw c.in-Made.is at c.in_ok-attempt-in-None.ensures.ran in
+    let through = rw (c.spot.ensures c.task-task.result) at ran in
+    let drilled = sym c.is_drilled.ensures ∙ c.if-is_drilled.true in
+    let saw = c.in-None.ensures.none in
+    rw saw.gained (turned_drilled _ _ _ _ saw.place _ _ _ _ _ _ n through drilled)
+
+pub returns-then-is_drilled-clause-asked : goal.returns-then-is_drilled-clause-asked
+returns-then-is_drilled-clause-asked g c =
+    let t = returns-then-is_drilled-clause-turned g c in (t.turn, t.took)
+
+pub returns-in_err-attempt-in-None-clause-asked : goal.returns-in_err-attempt-in-None-clause-asked
+returns-in_err-attempt-in-None-clause-asked g c =
+    let r = c.requires in
+    let n = names_of _ _ c.args.draw _ _ _ _ r.count r.tries r.some r.open c.task-task.ensures
+    c.attempt-attempt.ensures in
+    let early = rw (c.spot.ensures c.task-task.result) at c.in_err-attempt-in-None.ensures.early in
+    let saw = c.in-None.ensures.none in
+    rw saw.gained (took_early _ _ _ saw.place _ _ _ _ _ _ n early)

@@ -1,8 +1,8 @@
-use Rattle.std.proofs.Common.{◌≡◌, ◌<◌, ◌*◌, ℕ, ◌≤◌, refl, sym, ap, ◌∙◌, subst}
+use Rattle.std.proofs.Common.{◌≡◌, ◌<◌, ◌*◌, ℕ, ◌≤◌, refl, ap, ◌∙◌, subst}
 use Rattle.claim_board.specs.Protocol.{PassState, limit, drawn}
 use Rattle.claim_board.specs.Boards.{Pass}
 use Rattle.crew.proofs.Accounts.{grew_not, grew_on}
-use Rattle.crew.proofs.Working.{falls, worked_not, worked_more, worked_end}
+use Rattle.crew.proofs.Working.{falls, worked_not, worked_more, worked_end, took_then}
 use Rattle.crew.proofs.worker.work.Goals as goal
 
 pub draws-init : goal.draws-init
@@ -17,7 +17,7 @@ draws-smaller g c =
     let d = c.in-Some.ensures.some.1 in
     falls (limit c.args.board.now.tasks c.args.board.now.tries) c.in-Some.draw.number _ _ d.latest
     d.claimable.claimable.1
-    (c.in_ok-won-in-Some.ensures.turned.draws.0 ∙ ap (λ (p : PassState). p.draws) d.gained)
+    (c.in_ok-won-in-Some.ensures.turned.took.draws.0 ∙ ap (λ (p : PassState). p.draws) d.gained)
 
 pub draws-preserved : goal.draws-preserved
 draws-preserved g c =
@@ -27,12 +27,13 @@ draws-preserved g c =
     let same : c.args.board.now.tasks * c.args.board.now.tries
     ≡ g.T.Tasks.count_of c.args.tasks.now * c.args.phase.now.tries =
     λ i. c.requires.count i * c.requires.tries i in
-    let drew = d.gained ∙ ap (λ (n : ℕ). drawn n c.draws.pass.state number) same in record {
+    let drew = d.gained ∙ ap (λ (n : ℕ). drawn n c.draws.pass.state d.place number) same in record {
       same = c.turn.ensures.same ∙ (c.draw.ensures.same ∙ i.same);
       grew = grew_on _ _ _ i.grew c.turn.ensures.grew;
       worked = rw c.in_ok-add-in-Some.ensures
           (worked_more _ _ _ _ c.args.pass.now.state c.draws.pass.state c.draw.new.pass.state
-          c.turn.new.pass.state _ _ _ c.draws.kept _ number i.worked i.grew drew
+          c.turn.new.pass.state _ _ _ c.draws.kept _ d.place number i.worked i.grew
+          (subst (λ (n : ℕ). number < n) same d.claimable.claimable.1) drew
           c.in_ok-won-in-Some.ensures.turned c.turn.ensures.grew);
     }
 
@@ -45,9 +46,10 @@ returns-in-None-clause-worked g c =
     c.draws.kept c.draws.invariant.worked
     (λ e. ap (λ (p : Pass). p.state) (c.in-None.ensures.again e).1)
     (λ e. let d = c.in-None.ensures.none e in (
+      d.place,
       d.number,
       subst (λ (n : ℕ). n ≤ d.number) same d.past,
-      d.gained ∙ ap (λ (n : ℕ). drawn n c.draws.pass.state d.number) same,
+      d.gained ∙ ap (λ (n : ℕ). drawn n c.draws.pass.state d.place d.number) same,
     ))
 
 pub returns-in_err-won-in-Some-clause-grew : goal.returns-in_err-won-in-Some-clause-grew
@@ -57,3 +59,31 @@ returns-in_err-won-in-Some-clause-grew g c =
 pub returns-in_err-add-in-Some-clause-grew : goal.returns-in_err-add-in-Some-clause-grew
 returns-in_err-add-in-Some-clause-grew g c =
     grew_on _ _ _ c.draws.invariant.grew c.turn.ensures.grew
+
+pub returns-in_err-won-in-Some-clause-asked : goal.returns-in_err-won-in-Some-clause-asked
+returns-in_err-won-in-Some-clause-asked g c =
+    let d = c.in-Some.ensures.some.1 in
+    let number = c.in-Some.draw.number in
+    let same : c.args.board.now.tasks * c.args.board.now.tries
+    ≡ g.T.Tasks.count_of c.args.tasks.now * c.args.phase.now.tries =
+    λ i. c.requires.count i * c.requires.tries i in
+    took_then _ _ _ _ c.args.pass.now.state c.draws.pass.state c.draw.new.pass.state
+    c.turn.new.pass.state _ _ _ c.draws.kept d.place number c.draws.invariant.worked
+    (subst (λ (n : ℕ). number < n) same d.claimable.claimable.1)
+    (d.gained ∙ ap (λ (n : ℕ). drawn n c.draws.pass.state d.place number) same) c.turn.ensures.asked
+
+pub returns-in_err-add-in-Some-clause-asked : goal.returns-in_err-add-in-Some-clause-asked
+returns-in_err-add-in-Some-clause-asked g c =
+    let d = c.in-Some.ensures.some.1 in
+    let number = c.in-Some.draw.number in
+    let same : c.args.board.now.tasks * c.args.board.now.tries
+    ≡ g.T.Tasks.count_of c.args.tasks.now * c.args.phase.now.tries =
+    λ i. c.requires.count i * c.requires.tries i in
+    took_then _ _ _ _ c.args.pass.now.state c.draws.pass.state c.draw.new.pass.state
+    c.turn.new.pass.state _ _ _ c.draws.kept d.place number c.draws.invariant.worked
+    (subst (λ (n : ℕ). number < n) same d.claimable.claimable.1)
+    (d.gained ∙ ap (λ (n : ℕ). drawn n c.draws.pass.state d.place number) same) c.turn.ensures.asked
+
+pub returns-in-None-clause-asked : goal.returns-in-None-clause-asked
+returns-in-None-clause-asked g c =
+    let w = returns-in-None-clause-worked g c in (w.turns, w.took)

@@ -1,6 +1,6 @@
 use Rattle.crew.specs.Hosts.{Account, account}
 use Rattle.crew.specs.Drills.{attempt_at}
-use Rattle.forest_run.specs.Asking.{LetThrough}
+use Rattle.forest_run.specs.inner.Asking.{LetThrough}
 use Rattle.forest_run.proofs.ask.ask_all.Given as goal
 
 abbrev pub invariant-loop-place : goal.invariant-loop-place

@@ -1,37 +1,55 @@
-use Rattle.std.proofs.Common.{◌≡◌, length, ap, ◌∙◌, arith}
-use Rattle.forest_steps.specs.Fresh.{none_given}
+use Rattle.std.proofs.Common.{◌≡◌, ℕ, length, map, sym, ap, ◌∙◌, subst}
+use borrow.Author.Rules.{rules}
+use Rattle.std.specs.Prelude.{IfOk}
+use Rattle.std.specs.List.{AllByRecursion}
+use Rattle.std.proofs.lemmas.List.{length-map}
+use Rattle.partial_tables.specs.Tables.{Pairs}
+use Rattle.crew.specs.Attempts.{IsMadeOf}
+use Rattle.crew.specs.Drills.{attempt_at}
+use Rattle.crew.specs.Hosts.{account}
 use Rattle.forest_steps.specs.Functions.{world_of}
-use Rattle.forest_steps.specs.Places.{outputs_in}
-use Rattle.forest_steps.proofs.Sizing.{sizes_length}
+use Rattle.forest_steps.specs.Turns.{in_turn}
+use Rattle.forest_run.specs.Asked.{Asked}
+use Rattle.lifted_root.specs.Lifted.{run_partial, SafePartial}
 use Rattle.reduce_part.proofs.Merging.{courses_merged, root_is, safe_merged}
 use Rattle.reduce_part.proofs.lifted.run_merged.Goals as goal
 
-pub run_each_key-requires-clause-safe : goal.run_each_key-requires-clause-safe
-run_each_key-requires-clause-safe g c =
-    let root = root_is c.args.comb c.args.roots.now c.steps.result.now c.index-steps-0.result
-    c.requires.root c.steps.ensures c.index-steps-0.is in
-    safe_merged (world_of (g.F.Functions.called c.args.functions.now)) c.args.comb
-    c.args.roots.now c.index-steps-0.result root c.args.merged.items
-    (g.F.Functions.can_call c.args.functions.now) c.requires.ready
+pub walk-requires : goal.walk-requires
+walk-requires g c =
+    let w = world_of (g.F.Functions.called c.args.functions.now) in
+    let takes = g.F.Functions.can_call c.args.functions.now in
+    let b = c.index-steps-0.result in
+    let root = root_is c.args.comb c.args.roots.now c.steps.result.now b c.requires.root
+    c.steps.ensures c.index-steps-0.is in
+    let all : c.into_iter.result.rest.items ≡ c.args.merged.items = search rules in
+    subst (λ (l : Pairs). AllByRecursion (SafePartial w takes b c.args.comb) l) (sym all)
+    (safe_merged w c.args.comb c.args.roots.now b root c.args.merged.items takes
+    c.requires.ready c.requires.shape)
 
 pub returns-clause-value : goal.returns-clause-value
 returns-clause-value g c =
-    let f = c.args.roots.now in
-    let root = root_is c.args.comb f c.steps.result.now c.index-steps-0.result c.requires.root
+    let w = world_of (g.F.Functions.called c.args.functions.now) in
+    let b = c.index-steps-0.result in
+    let sizes = c.deref.result.now in
+    let begun = c.in_ok-sizes in
+    let root = root_is c.args.comb c.args.roots.now c.steps.result.now b c.requires.root
     c.steps.ensures c.index-steps-0.is in
-    let sized = ap length c.in_ok-sizes.ensures in
-    let count : c.len.result ≡ outputs_in f =
-    omega (arith, c.len.ensures, c.in_ok-sizes.sizes.ok.0, sized, sizes_length f) in
-    courses_merged (world_of (g.F.Functions.called c.args.functions.now)) c.args.comb f
-    c.index-steps-0.result root c.args.merged.items c.deref.result.now c.in_ok-outputs.outputs
-    (c.deref.ensures.value ∙ c.in_ok-sizes.ensures)
-    (c.in_ok-outputs.ensures
-    ∙ (λ i. none_given (c.in_ok-count_outputs.ensures i) (count i)))
-    (omega (
-      arith,
-      c.in_ok-sizes.sizes.ok.0,
-      c.in_ok-sizes.sizes.small,
-      sized,
-      sizes_length f,
-    ))
-    c.requires.numbered c.run_each_key.result c.run_each_key.ensures.value
+    let all : c.into_iter.result.rest.items ≡ c.args.merged.items = search rules in
+    courses_merged w c.args.comb c.args.roots.now b root c.args.merged.items sizes begun.outputs
+    (c.deref.ensures.value ∙ begun.ensures.sizes) begun.ensures.fresh begun.ensures.few
+    c.requires.numbered c.walk.result
+    (subst (λ (l : Pairs). IfOk c.walk.result (IsMadeOf (λ end.
+    in_turn (map (run_partial w sizes b c.args.comb) l) begun.outputs ≡ end))) all
+    c.walk.ensures.value)
+
+pub returns-clause-asked : goal.returns-clause-asked
+returns-clause-asked g c =
+    let w = world_of (g.F.Functions.called c.args.functions.now) in
+    let e = attempt_at c.args.spot.now c.args.task in
+    let a = account g.H.Host.notes g.H.Host.losses c.args.host.now in
+    let b = account g.H.Host.notes g.H.Host.losses c.walk.new.host in
+    let all : c.into_iter.result.rest.items ≡ c.args.merged.items = search rules in
+    subst (λ (n : ℕ). Asked e n a b c.walk.result)
+    (length-map c.into_iter.result.rest.items
+    (run_partial w c.deref.result.now c.index-steps-0.result c.args.comb) ∙ ap length all)
+    c.walk.ensures.asked

@@ -6,6 +6,10 @@ use Rattle.direct_meaning.specs.Inputs.{inputs_of}
 use Rattle.outside.specs.Saves.{output_file}
 use Rattle.outside.specs.Seen.{seen}
 use Rattle.script_loading.specs.Causes.{IsInputsCause}
+use Rattle.outside.specs.Asked.{Asks, AsksFront}
+use Rattle.script_loading.specs.Loads.{file_names}
+use Rattle.run_course.specs.Lent.{lent}
+use Rattle.run_course.proofs.AskLemmas.{inputs_with, none_with, run_until}
 use Rattle.run_course.proofs.CauseLemmas.{run_stop}
 use Rattle.run_course.proofs.RunLemmas.{both_ok, writes_run}
 use Rattle.run_course.proofs.commands.run_on.Goals as goal
@@ -49,3 +53,42 @@ returns-clause-written g c =
     c.args.program.now.script c.in_ok-inputs.inputs c.in_ok-shown.shown.plan
     c.in_ok-shown.shown.text.items it.screen.items (map output_file it.outputs.items)
     c.in_ok-inputs.ensures.ok c.in_ok-shown.ensures.optimised c.in_ok-shown.ensures.text gives ran)
+
+pub returns-in_err-shown-clause-asked : goal.returns-in_err-shown-clause-asked
+returns-in_err-shown-clause-asked g c =
+    let end = c.from_residual in
+    let p = err_from_is_err_and end.result end.ensures.1 in
+    rw (p.1, p.2)
+    (none_with c.args.settings.now.tries (file_names (inputs_of c.args.program.now.script))
+    (seen g.R.Source.asked g.R.Source.faults c.args.source.now))
+
+pub returns-in_err-inputs-clause-asked : goal.returns-in_err-inputs-clause-asked
+returns-in_err-inputs-clause-asked g c =
+    let end = c.from_residual-in_err-inputs in
+    let p = err_from_is_err_and end.result end.ensures.1 in
+    rw (p.1, p.2)
+    (inputs_with c.args.settings.now.tries (file_names (inputs_of c.args.program.now.script))
+    (seen g.R.Source.asked g.R.Source.faults c.args.source.now)
+    (seen g.R.Source.asked g.R.Source.faults c.rows_of_inputs.new.source) c.tries.result
+    (seen g.R.Source.files g.R.Source.faults c.args.source.now)
+    (seen g.R.Source.files g.R.Source.faults c.rows_of_inputs.new.source)
+    (inputs_of c.args.program.now.script) c.in_err-inputs.field-0.0 c.in_err-inputs.ensures.err
+    (subst (λ (n : ℕ). AsksFront n (file_names (inputs_of c.args.program.now.script))
+    (seen g.R.Source.asked g.R.Source.faults c.args.source.now)
+    (seen g.R.Source.asked g.R.Source.faults c.rows_of_inputs.new.source))
+    c.tries.ensures.value c.in_err-inputs.ensures.asked_front))
+
+pub returns-clause-asked : goal.returns-clause-asked
+returns-clause-asked g c =
+    run_until c.args.settings.now.tries (file_names (inputs_of c.args.program.now.script))
+    (seen g.R.Source.asked g.R.Source.faults c.args.source.now)
+    (seen g.R.Source.asked g.R.Source.faults c.rows_of_inputs.new.source) c.args.settings.now
+    c.args.program.now.script c.in_ok-inputs.inputs c.in_ok-shown.shown.plan
+    (lent c.args.settings.now (map (account g.H.Host.notes g.H.Host.losses) c.args.hosts.now))
+    (lent c.args.settings.now
+    (map (account g.H.Host.notes g.H.Host.losses) c.written_run.new.hosts)) c.written_run.result
+    c.written_run.ensures.stop
+    (subst (λ (n : ℕ). Asks n (file_names (inputs_of c.args.program.now.script))
+    (seen g.R.Source.asked g.R.Source.faults c.args.source.now)
+    (seen g.R.Source.asked g.R.Source.faults c.rows_of_inputs.new.source))
+    c.tries.ensures.value c.in_ok-inputs.ensures.asked)

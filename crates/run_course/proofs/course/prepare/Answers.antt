@@ -1,4 +1,4 @@
-use Rattle.std.proofs.Common.{ℕ, List, Option, map, string_bytes, subst, sym, ap, ◌∙◌}
+use Rattle.std.proofs.Common.{ℕ, inl, List, [], ◌∷◌, Option, map, string_bytes, subst, sym, ap, ◌∙◌}
 use Rattle.std.specs.Option.{option_map}
 use Rattle.command_words.specs.Held.{asked_in}
 use Rattle.crew.specs.Hosts.{account}
@@ -10,6 +10,9 @@ use Rattle.run_course.specs.Written.{Writes}
 use Rattle.script_loading.specs.Causes.{IsScriptCause}
 use Rattle.crew.proofs.Accounts.{all_grew_not}
 use Rattle.run_course.proofs.GraphLemmas.{accepted_graph}
+use Rattle.outside.specs.Asked.{Asks}
+use Rattle.outside.proofs.AskLemmas.{asks_none}
+use Rattle.run_course.proofs.AskLemmas.{command_for, script_for}
 use Rattle.run_course.proofs.CauseLemmas.{command_stop, script_cause, written}
 use Rattle.run_course.proofs.course.prepare.Goals as goal
 
@@ -79,3 +82,48 @@ returns-in_default-clause-grew g c =
 pub returns-in_err-program-clause-grew : goal.returns-in_err-program-clause-grew
 returns-in_err-program-clause-grew g c =
     all_grew_not (map (account g.H.Host.notes g.H.Host.losses) c.args.hosts.now)
+
+pub returns-in_err-asked-clause-asked : goal.returns-in_err-asked-clause-asked
+returns-in_err-asked-clause-asked g c =
+    let p = err_from_is_err_and c.from_residual.result c.from_residual.ensures.1 in
+    rw (p.1, p.2) (inl (asks_none 0 (seen g.R.Source.asked g.R.Source.faults c.args.source.now)))
+
+pub returns-in_default-clause-asked : goal.returns-in_default-clause-asked
+returns-in_default-clause-asked g c =
+    asks_none 0 (seen g.R.Source.asked g.R.Source.faults c.args.source.now)
+
+pub returns-in_err-program-clause-asked : goal.returns-in_err-program-clause-asked
+returns-in_err-program-clause-asked g c =
+    let p = err_from_is_err_and c.from_residual-in_err-program.result
+    c.from_residual-in_err-program.ensures.1 in
+    rw (p.1, p.2)
+    (script_for (map string_bytes c.args.words.now) (g.R.Source.files c.args.source.now)
+    c.in-Some.asked.command c.in-Some.asked.script.now
+    (seen g.R.Source.files g.R.Source.faults c.args.source.now)
+    (seen g.R.Source.files g.R.Source.faults c.script_of.new.source)
+    (seen g.R.Source.asked g.R.Source.faults c.args.source.now)
+    (seen g.R.Source.asked g.R.Source.faults c.script_of.new.source) _
+    (sym c.in_ok-asked.ensures ∙ ap (option_map asked_in) c.in-Some.is)
+    (subst (λ (n : ℕ). IsScriptCause n
+    (seen g.R.Source.files g.R.Source.faults c.args.source.now)
+    (seen g.R.Source.files g.R.Source.faults c.script_of.new.source)
+    c.in-Some.asked.script.now c.in_err-program.field-0.0) c.tries_of.ensures.value
+    c.in_err-program.ensures.err)
+    (subst (λ (n : ℕ). Asks n (c.in-Some.asked.script.now ∷ [])
+    (seen g.R.Source.asked g.R.Source.faults c.args.source.now)
+    (seen g.R.Source.asked g.R.Source.faults c.script_of.new.source))
+    c.tries_of.ensures.value c.in_err-program.ensures.asked))
+
+pub returns-clause-asked : goal.returns-clause-asked
+returns-clause-asked g c =
+    command_for (map string_bytes c.args.words.now) (g.R.Source.files c.args.source.now)
+    c.in-Some.asked.command c.in-Some.asked.script.now c.in_ok-program.program.script
+    (seen g.R.Source.asked g.R.Source.faults c.args.source.now)
+    (seen g.R.Source.asked g.R.Source.faults c.script_of.new.source)
+    (seen g.R.Source.asked g.R.Source.faults c.carried_out.new.source)
+    (sym c.in_ok-asked.ensures ∙ ap (option_map asked_in) c.in-Some.is) c.in_ok-program.ensures.ok
+    (subst (λ (n : ℕ). Asks n (c.in-Some.asked.script.now ∷ [])
+    (seen g.R.Source.asked g.R.Source.faults c.args.source.now)
+    (seen g.R.Source.asked g.R.Source.faults c.script_of.new.source))
+    c.tries_of.ensures.value c.in_ok-program.ensures.asked)
+    c.carried_out.result c.carried_out.ensures.asked

@@ -3,6 +3,7 @@ use Rattle.std.proofs.lemmas.Result.{err_from_is_err_and}
 use Rattle.script_program.specs.Needed.{is_needed}
 use Rattle.outside.specs.Seen.{seen}
 use Rattle.run_texts.specs.declared.status.Status.TheVariants.{WantOfMemory}
+use Rattle.script_loading.proofs.AskLemmas.{asks_input, asks_other, asks_unneeded}
 use Rattle.script_loading.proofs.InputLemmas.{at_place, behind_input, behind_other, behind_unneeded, input_at, its_columns, its_file, its_wanted, other_wants, stops_at, there, wants}
 use Rattle.script_loading.proofs.inputs.add_rows.Goals as goal
 
@@ -13,6 +14,13 @@ returns-then-not-is_needed-clause-read g c =
     let at = there script.nodes c.args.number c.requires.within in
     behind_unneeded (g.R.Source.files c.args.source.now) script c.args.number c.args.rows.now at.0
     at.1 unneeded c.requires.read
+
+pub returns-then-not-is_needed-clause-asked : goal.returns-then-not-is_needed-clause-asked
+returns-then-not-is_needed-clause-asked g c =
+    let script = c.args.program.now.script in
+    let unneeded : is_needed script c.args.number ≡ false = search rules in
+    asks_unneeded c.args.tries script c.args.number
+    (seen g.R.Source.asked g.R.Source.faults c.args.source.now) unneeded
 
 pub rows_of_file-requires : goal.rows_of_file-requires
 rows_of_file-requires g c =
@@ -42,6 +50,45 @@ returns-in_err-own-in-Input-clause-err g c =
     c.args.rows.now at.entry (its_wanted script c.args.number file columns at) _ at.found needed
     (wants script c.args.number file columns at) c.requires.read
     (c.in_err-own-in-Input.ensures.err at.entry.1.type fits))
+
+pub returns-in_err-own-in-Input-clause-asked : goal.returns-in_err-own-in-Input-clause-asked
+returns-in_err-own-in-Input-clause-asked g c =
+    let script = c.args.program.now.script in
+    let needed : is_needed script c.args.number ≡ true = search rules in
+    let file = c.in-Input.file in
+    let columns = c.in-Input.columns in
+    let at = input_at script c.args.number _ file columns c.node.ensures.is c.in-Input.is in
+    asks_input c.args.tries script c.args.number
+    (seen g.R.Source.asked g.R.Source.faults c.args.source.now)
+    (seen g.R.Source.asked g.R.Source.faults c.rows_of_file.new.source) at.entry
+    (its_wanted script c.args.number file columns at) at.found needed
+    (wants script c.args.number file columns at) c.in_err-own-in-Input.ensures.asked
+
+pub returns-in-Ok-clause-asked : goal.returns-in-Ok-clause-asked
+returns-in-Ok-clause-asked g c =
+    let script = c.args.program.now.script in
+    let needed : is_needed script c.args.number ≡ true = search rules in
+    let file = c.in-Input.file in
+    let columns = c.in-Input.columns in
+    let at = input_at script c.args.number _ file columns c.node.ensures.is c.in-Input.is in
+    asks_input c.args.tries script c.args.number
+    (seen g.R.Source.asked g.R.Source.faults c.args.source.now)
+    (seen g.R.Source.asked g.R.Source.faults c.rows_of_file.new.source) at.entry
+    (its_wanted script c.args.number file columns at) at.found needed
+    (wants script c.args.number file columns at) c.in_ok-own-in-Input.ensures.asked
+
+pub returns-in-Err-clause-asked : goal.returns-in-Err-clause-asked
+returns-in-Err-clause-asked g c =
+    let script = c.args.program.now.script in
+    let needed : is_needed script c.args.number ≡ true = search rules in
+    let file = c.in-Input.file in
+    let columns = c.in-Input.columns in
+    let at = input_at script c.args.number _ file columns c.node.ensures.is c.in-Input.is in
+    asks_input c.args.tries script c.args.number
+    (seen g.R.Source.asked g.R.Source.faults c.args.source.now)
+    (seen g.R.Source.asked g.R.Source.faults c.rows_of_file.new.source) at.entry
+    (its_wanted script c.args.number file columns at) at.found needed
+    (wants script c.args.number file columns at) c.in_ok-own-in-Input.ensures.asked
 
 pub returns-in-Ok-clause-read : goal.returns-in-Ok-clause-read
 returns-in-Ok-clause-read g c =
@@ -79,4 +126,6 @@ returns-in_default g c =
     let other = other_wants at.0 _ at.2 c.in_default.not-Input in
     let read = behind_other (g.R.Source.files c.args.source.now) script c.args.number
     c.args.rows.now at.0 at.1 needed other c.requires.read in
-    record { files = refl; read = read; err = tt; later = omega arith }
+    let asked = asks_other c.args.tries script c.args.number
+    (seen g.R.Source.asked g.R.Source.faults c.args.source.now) at.0 at.1 needed other in
+    record { files = refl; read = read; err = tt; later = omega arith; asked = asked }

@@ -1,6 +1,8 @@
+use Rattle.std.proofs.Common.{◌+◌, ◌∙◌, arith}
 use Rattle.std.proofs.lemmas.Result.{err_from_is_err_and}
 use Rattle.outside.specs.Seen.{seen}
 use Rattle.direct_meaning.specs.Inputs.{inputs_of}
+use Rattle.script_loading.proofs.AskLemmas.{front_asked, more_asked}
 use Rattle.script_loading.proofs.SinceLemmas.{inputs_since}
 use Rattle.script_loading.proofs.inputs.rows_of_inputs.Goals as goal
 
@@ -14,3 +16,30 @@ returns-in_err-add_rows-clause-err g c =
     (seen g.R.Source.files g.R.Source.faults c.add_rows.new.source)
     (inputs_of c.args.program.now.script) _ c.loop-number.invariant.0 c.loop-number.invariant.1
     c.in_err-add_rows.ensures.err)
+
+pub returns-in_err-add_rows-clause-asked_front : goal.returns-in_err-add_rows-clause-asked_front
+returns-in_err-add_rows-clause-asked_front g c =
+    let script = c.args.program.now.script in
+    let before = seen g.R.Source.asked g.R.Source.faults c.args.source.now in
+    let middle = seen g.R.Source.asked g.R.Source.faults c.loop-number.source in
+    let after = seen g.R.Source.asked g.R.Source.faults c.add_rows.new.source in
+    let within = rw c.node_count-number-end.ensures at c.loop-number-test.true in
+    let p = err_from_is_err_and c.from_residual.result c.from_residual.ensures.1 in
+    rw p.1
+    (front_asked c.args.tries script (c.loop-number.number + 1) before after
+    (more_asked c.args.tries script c.loop-number.number before middle after within
+    c.loop-number.invariant.3 c.in_err-add_rows.ensures.asked))
+
+pub loop-number-preserved : goal.loop-number-preserved
+loop-number-preserved g c =
+    let script = c.args.program.now.script in
+    let before = seen g.R.Source.asked g.R.Source.faults c.args.source.now in
+    let middle = seen g.R.Source.asked g.R.Source.faults c.loop-number.source in
+    let after = seen g.R.Source.asked g.R.Source.faults c.add_rows.new.source in
+    let within = rw c.node_count-number-end.ensures at c.loop-number-test.true in (
+      c.in_ok-add_rows.ensures.files ∙ c.loop-number.invariant.0,
+      omega (arith, c.in_ok-add_rows.ensures.later, c.loop-number.invariant.1),
+      rw c.loop-number.invariant.0 at c.in_ok-add_rows.ensures.read,
+      more_asked c.args.tries script c.loop-number.number before middle after within
+          c.loop-number.invariant.3 c.in_ok-add_rows.ensures.asked,
+    )

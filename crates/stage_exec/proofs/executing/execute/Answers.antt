@@ -60,7 +60,7 @@ returns-clause-done g c =
     let ran = rw c.as_slice-stages.ensures at c.in_ok-results.ensures.ran in
     let lists =
     rw (c.as_slice-stages.ensures, c.as_slice-outputs.ensures) at c.in_ok-results.ensures.lists in
-    let none = c.phases_law.ensures.calm w (split_of s) p cut.0 cut.1 ran.calm in
+    let none = c.phases_law.ensures.calm w (split_of s) p cut.0 cut.1 ran.through.calm in
     let lent = ap length c.as_mut_slice-counted.ensures.value in
     let grown = rw c.as_slice-stages.ensures at c.in_ok-results.ensures.sizes in
     let sizes = rw (c.as_mut_slice-counted.ensures.value, c.in_ok-sizes.ensures) at grown in
@@ -70,7 +70,7 @@ returns-clause-done g c =
     (grown.count ∙ lent) (sym c.as_mut_slice-counted.ensures.len ∙ lent) in
     let told =
     c.from_vec-2.ensures
-    ∙ (ran.told ∙ ap (λ before. before ++ ran.winners) c.new-winners.ensures.items) in
+    ∙ (ran.told ∙ ap (λ before. before ++ ran.through.winners) c.new-winners.ensures.items) in
     record {
       calm = (c.tasks_law.ensures.through w (split_of s) p cut.0 cut.1 c.requires.object_free
           c.requires.plan).0 none;
@@ -86,5 +86,5 @@ returns-clause-done g c =
           (counts_are s w p c.args.nodes c.run_stages.new.sizes sizes
           (c.tasks_law.ensures.sizes w (split_of s) p cut.0 cut.1 c.requires.object_free
           c.requires.plan none));
-      ran = rw told ran.won;
+      ran = rw told ran.through.won;
     }

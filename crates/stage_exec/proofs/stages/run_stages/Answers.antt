@@ -2,7 +2,7 @@ use Rattle.std.proofs.Common.{◌+◌, arith, map}
 use Rattle.std.proofs.lemmas.Result.{err_from_is_err_and}
 use Rattle.crew.specs.Hosts.{account}
 use Rattle.plan_phases.proofs.Lasting.{all_grew_on}
-use Rattle.stage_exec.proofs.Running.{along_fewer, along_more, along_none, end_lists, run_stops, stage_ready}
+use Rattle.stage_exec.proofs.Running.{along_fewer, along_more, along_none, end_lists, end_run, run_stops, stage_ready}
 use Rattle.stage_exec.proofs.stages.run_stages.Goals as goal
 
 pub loop-k-init : goal.loop-k-init
@@ -72,6 +72,15 @@ pub returns-clause-lists : goal.returns-clause-lists
 returns-clause-lists g c =
     let inputs = c.args.inputs.now in
     end_lists inputs.settings.now (g.F.Functions.called inputs.functions.now)
+    (g.F.Functions.can_call inputs.functions.now) inputs.sources.now c.args.stages.now
+    c.args.outputs.now c.loop-k.k
+    c.loop-k.results.items c.args.sizes.now c.loop-k.sizes _ _ c.args.winners.now.items
+    c.loop-k.winners.items c.loop-k.invariant c.loop-k-test.false
+
+pub returns-clause-ran : goal.returns-clause-ran
+returns-clause-ran g c =
+    let inputs = c.args.inputs.now in
+    end_run inputs.settings.now (g.F.Functions.called inputs.functions.now)
     (g.F.Functions.can_call inputs.functions.now) inputs.sources.now c.args.stages.now
     c.args.outputs.now c.loop-k.k
     c.loop-k.results.items c.args.sizes.now c.loop-k.sizes _ _ c.args.winners.now.items

@@ -1,7 +1,9 @@
-use Rattle.std.proofs.Common.{IfOk, OnErr, subst}
-use Rattle.crew.specs.Attempts.{MatchAttempt, Ran, StoppedDown, StoppedEarly}
+use Rattle.std.proofs.Common.{subst}
 use Rattle.crew.specs.Drills.{attempt_at}
 use Rattle.crew.specs.Hosts.{account}
+use Rattle.forest_run.specs.Asked.{Asked}
+use Rattle.forest_run.proofs.Ending.{asked_early, asked_ran}
+use Rattle.reduce_part.specs.Reducing.{reducing_places}
 use Rattle.reduce_part.proofs.Channels.{channel_within, no_pass, places_are, task_ready, values_by}
 use Rattle.reduce_part.proofs.tasks.ReduceTasksTasks.attempt.Goals as goal
 
@@ -41,8 +43,8 @@ returns-clause-ran g c =
     let e = attempt_at c.args.at.now c.args.task in
     let a = account g.H.Host.notes g.H.Host.losses c.args.host.now in
     let b = account g.H.Host.notes g.H.Host.losses c.reduce_partition.new.host in
-    subst (λ n. IfOk c.reduce_partition.result (λ r. MatchAttempt r (Ran e n a b)
-    (StoppedDown e n a b))) places c.reduce_partition.ensures.ran
+    asked_ran e (reducing_places c.args.self.now c.args.task) a b c.reduce_partition.result
+    (subst (λ n. Asked e n a b c.reduce_partition.result) places c.reduce_partition.ensures.asked)
 
 pub returns-clause-early : goal.returns-clause-early
 returns-clause-early g c =
@@ -53,5 +55,5 @@ returns-clause-early g c =
     let e = attempt_at c.args.at.now c.args.task in
     let a = account g.H.Host.notes g.H.Host.losses c.args.host.now in
     let b = account g.H.Host.notes g.H.Host.losses c.reduce_partition.new.host in
-    subst (λ n. OnErr c.reduce_partition.result (StoppedEarly e n a b)) places
-    c.reduce_partition.ensures.early
+    asked_early e (reducing_places c.args.self.now c.args.task) a b c.reduce_partition.result
+    (subst (λ n. Asked e n a b c.reduce_partition.result) places c.reduce_partition.ensures.asked)

@@ -6,7 +6,7 @@ use Rattle.crew.specs.declared.attempts.Attempt.{Attempt}
 use Rattle.crew.specs.declared.attempts.Attempt.TheVariants.{Made, Down}
 use Rattle.crew.specs.Attempts.{StoppedDown}
 use Rattle.crew.specs.Hosts.{Account}
-use Rattle.forest_run.specs.Asking.{LetThrough}
+use Rattle.forest_run.specs.inner.Asking.{LetThrough}
 use Rattle.forest_steps.specs.Running.{Given}
 
 -- after a trap the host has let the places through that were left, or was down

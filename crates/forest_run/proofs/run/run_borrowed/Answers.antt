@@ -1,0 +1,55 @@
+use Rattle.std.proofs.Common.{ℕ, List, Option, None, sym, ◌∙◌, subst}
+use Rattle.std.specs.Prelude.{IfOk}
+use Rattle.std.specs.List.{AllByRecursion}
+use Rattle.std.proofs.lemmas.List.{length-map}
+use Rattle.flume_value.specs.declared.value.Value.{Value}
+use Rattle.crew.specs.Attempts.{IsMadeOf}
+use Rattle.crew.specs.Drills.{attempt_at}
+use Rattle.crew.specs.Hosts.{account}
+use Rattle.exec_graph.specs.Forests.{Forest, grown}
+use Rattle.exec_plan.specs.Wellformed.{IsNumbered}
+use Rattle.forest_courses.specs.Courses.{IsCourse}
+use Rattle.forest_steps.specs.Functions.{world_of}
+use Rattle.forest_steps.specs.Running.{run}
+use Rattle.forest_steps.specs.Safety.{Safe, SafeOf}
+use Rattle.forest_run.specs.Asked.{Asked}
+use Rattle.forest_run.proofs.Ending.{walked_courses}
+use Rattle.forest_run.proofs.run.run_borrowed.Goals as goal
+
+pub returns-in_ok-copy_all-in-None-clause-value :
+    goal.returns-in_ok-copy_all-in-None-clause-value
+returns-in_ok-copy_all-in-None-clause-value g c =
+    let w = world_of (g.F.Functions.called c.args.functions.now) in
+    subst (λ (d : Option Forest). IfOk c.run_whole.result (IsMadeOf (IsCourse w d
+    c.args.elements.now))) (sym c.in-None.is)
+    (subst (λ (l : List Value). IfOk c.run_whole.result (IsMadeOf (IsCourse w None l)))
+    (c.into_vec.ensures ∙ c.in_ok-copy_all-in-None.ensures) (c.run_whole.ensures.value w))
+
+pub walk-requires : goal.walk-requires
+walk-requires g c =
+    let w = world_of (g.F.Functions.called c.args.functions.now) in
+    let takes = g.F.Functions.can_call c.args.functions.now in
+    let safe = subst (λ (d : Option Forest). AllByRecursion (SafeOf w takes d) c.args.elements.now)
+    c.in-Some.is c.requires.safe in
+    subst (λ (f : Forest). AllByRecursion (Safe w takes f) c.args.elements.now) (sym c.steps.ensures) safe
+
+pub returns-in_ok-sizes-in-Some-clause-value : goal.returns-in_ok-sizes-in-Some-clause-value
+returns-in_ok-sizes-in-Some-clause-value g c =
+    let w = world_of (g.F.Functions.called c.args.functions.now) in
+    let begun = c.in_ok-sizes-in-Some in
+    let numbered = subst IsNumbered c.in-Some.is c.requires.numbered in
+    subst (λ (d : Option Forest). IfOk c.walk.result (IsMadeOf (IsCourse w d c.args.elements.now)))
+    (sym c.in-Some.is)
+    (walked_courses w c.in-Some.roots c.steps.result.now c.deref.result.now begun.outputs
+    c.steps.ensures numbered begun.ensures.few (c.deref.ensures.value ∙ begun.ensures.sizes)
+    begun.ensures.fresh c.args.elements.now c.walk.result c.walk.ensures.value)
+
+pub returns-in_ok-sizes-in-Some-clause-asked : goal.returns-in_ok-sizes-in-Some-clause-asked
+returns-in_ok-sizes-in-Some-clause-asked g c =
+    let w = world_of (g.F.Functions.called c.args.functions.now) in
+    let e = attempt_at c.args.spot.now c.args.task in
+    let a = account g.H.Host.notes g.H.Host.losses c.args.host.now in
+    let b = account g.H.Host.notes g.H.Host.losses c.walk.new.host in
+    subst (λ (n : ℕ). Asked e n a b c.walk.result)
+    (length-map c.args.elements.now (run w c.deref.result.now 0 (grown c.steps.result.now)))
+    c.walk.ensures.asked

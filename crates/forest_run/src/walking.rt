@@ -1,0 +1,74 @@
+// One walk over the elements of a task, on a host.
+ghost use Rattle.std.specs.Prelude.{◌≡◌, ◌+◌, ◌≤◌, IfOk, length};
+ghost use Rattle.crew.specs.Attempts.{IsMadeOf};
+ghost use Rattle.crew.specs.Drills.{attempt_at};
+ghost use Rattle.crew.specs.Hosts.{account};
+ghost use Rattle.forest_steps.specs.Turns.{in_turn};
+ghost use Rattle.forest_run.specs.Asked.{Asked};
+ghost use Rattle.forest_run.specs.inner.Ends.{IsRest};
+
+use crate::ask::ask_all;
+use crew::{Attempt, Spot};
+use flume_collection::Trap;
+use forest_steps::{Elements, Outputs, StepFault};
+use outside::{Down, Host};
+use std::alloc::{AllocError, Global};
+
+/// What a task's elements come to: what the outputs of the steps are given, or the first trap.
+pub type Course = Result<Outputs, Trap>;
+
+/// Takes elements through their steps, one after another, on a host, which is asked at the start
+/// and before each element, and also where an earlier element traps.
+pub fn walk<E: Elements + Drop, H: Host>(
+    alloc: Global,
+    mut elements: E,
+    mut outputs: Outputs,
+    host: &mut H,
+    spot: &Spot,
+    task: u32,
+) -> Result<Attempt<Course>, AllocError>
+    requires { E.are_safe elements }
+    ensures value { IfOk result (IsMadeOf (λ end. in_turn (E.turns elements) outputs ≡ end)) }
+    ensures asked { Asked (attempt_at spot.now task) (length (E.turns elements))
+        (account H.notes H.losses host.old) (account H.notes H.losses host.new) result }
+{
+    match ask_all(host, spot, task, 0, 1) {
+        Ok(()) => {}
+        Err(Down) => return Ok(Attempt::Down),
+    }
+    let end = elements.count() as u64 + 1;
+    for place in 1..end {
+        match ask_all(host, spot, task, place, place + 1) {
+            Ok(()) => {}
+            Err(Down) => return Ok(Attempt::Down),
+        }
+        match elements.step(alloc, &mut outputs) {
+            Ok(()) => {}
+            Err(StepFault::Trap(trap)) => {
+                return Ok(trapped(host, spot, task, place + 1, end, trap));
+            }
+            Err(StepFault::Memory) => return Err(AllocError),
+        }
+    }
+    Ok(Attempt::Made(Ok(outputs)))
+}
+
+// The end of a task after its first trap: the host is asked for the places that are left, from
+// `from` on below `to`, one by one, and the task ends by the trap, or with a host that was down.
+fn trapped<H: Host>(
+    host: &mut H,
+    spot: &Spot,
+    task: u32,
+    from: u64,
+    to: u64,
+    trap: Trap,
+) -> Attempt<Course>
+    requires { from ≤ to }
+    ensures { IsRest (attempt_at spot.now task) trap from to
+        (account H.notes H.losses host.old) (account H.notes H.losses host.new) result }
+{
+    match ask_all(host, spot, task, from, to) {
+        Ok(()) => Attempt::Made(Err(trap)),
+        Err(Down) => Attempt::Down,
+    }
+}

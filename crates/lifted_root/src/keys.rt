@@ -1,0 +1,78 @@
+// Accumulators in place of groups: the root of a lifted reducer finishes each, and the steps on the
+// root's outputs go on with what comes of it.
+ghost use Rattle.forest_steps.specs.Functions.{world_of};
+ghost use Rattle.forest_steps.specs.Running.{IsRun};
+ghost use Rattle.lifted_root.specs.Lifted.{run_partial, SafePartial};
+
+use crate::finish::finish_root;
+use combine_table::Comb;
+use exec_graph::Step;
+use forest_steps::{Elements, Functions, Outputs, StepFault, visit_outputs};
+use partial_tables::Partial;
+use std::alloc::Global;
+use std::vec::IntoIter;
+
+/// Keys with their accumulators, and the steps of the reducer of their channel, which has this
+/// root.
+#[derive(Drop)]
+pub struct Keys<'a, F: Functions> {
+    pub functions: &'a F,
+    pub sizes: &'a [usize],
+    pub root: &'a Step,
+    pub comb: Comb,
+    pub partials: IntoIter<Partial>,
+}
+
+impl<'a, F: Functions> Elements for Keys<'a, F> {
+    ghost use Rattle.std.specs.Prelude.{map};
+    ghost use Rattle.std.specs.List.{AllByRecursion};
+    ghost use Rattle.forest_steps.specs.Functions.{world_of};
+    ghost use Rattle.lifted_root.specs.Lifted.{run_partial, SafePartial};
+
+    ghost turns = { λ k. map
+        (run_partial (world_of (F.called k.functions.now)) k.sizes.now k.root.now k.comb)
+        k.partials.rest.items };
+
+    ghost are_safe = { λ k. AllByRecursion
+        (SafePartial (world_of (F.called k.functions.now)) (F.can_call k.functions.now)
+        k.root.now k.comb) k.partials.rest.items };
+
+    fn count(&self) -> usize {
+        self.partials.len()
+    }
+
+    fn step(&mut self, alloc: Global, outputs: &mut Outputs) -> Result<(), StepFault> {
+        match self.partials.next() {
+            None => Ok(()),
+            Some(partial) => run_root(
+                alloc,
+                self.functions,
+                self.sizes,
+                self.root,
+                self.comb,
+                partial,
+                outputs,
+            ),
+        }
+    }
+}
+
+// What the root answers of a key, by its accumulator, goes to the steps on its outputs.
+fn run_root<F: Functions>(
+    alloc: Global,
+    functions: &F,
+    sizes: &[usize],
+    root: &Step,
+    comb: Comb,
+    partial: Partial,
+    outputs: &mut Outputs,
+) -> Result<(), StepFault>
+    requires { SafePartial (world_of (F.called functions.now)) (F.can_call functions.now)
+        root.now comb partial }
+    ensures { IsRun (run_partial (world_of (F.called functions.now)) sizes.now root.now comb partial
+        outputs.old) outputs.new result }
+{
+    let answers = finish_root(alloc, root.origin, comb, partial)?;
+    visit_outputs(alloc, functions, sizes, root, 0, answers, outputs)?;
+    Ok(())
+}

@@ -1,0 +1,184 @@
+-- What a call asks its source for, by what comes of it.
+use Rattle.std.proofs.Common.{◌≡◌, ℕ, inl, inr, List, [], ◌∷◌, Option, Result, Ok, Err, IfErr, ap, sym, refl, subst, append-nil}
+use Rattle.command_words.specs.declared.words.Command.{Command}
+use Rattle.crew.specs.Hosts.{Account}
+use Rattle.direct_meaning.specs.Inputs.{Wanted}
+use Rattle.exec_plan.specs.declared.plan.Plan.{Plan}
+use Rattle.flume_value.specs.declared.value.Value.{Value}
+use Rattle.outside.specs.Asked.{Asks, AsksFront}
+use Rattle.outside.specs.Seen.{Seen, SeenShelf}
+use Rattle.outside.specs.declared.file.File.{File as NamedBytes}
+use Rattle.outside.proofs.AskLemmas.{SeenAsks, asks_both, asks_front, asks_none}
+use Rattle.run_settings.specs.Settings.{RunSettings}
+use Rattle.run_texts.specs.declared.status.Status.{Status}
+use Rattle.run_texts.specs.declared.status.Status.TheVariants.{Done, GaveUp, Usage, ScriptRefused, InputRefused, Trap, ReadFault, WriteFault, WantOfMemory, TooLong, NoFile}
+use Rattle.script_program.specs.Script.{Script}
+use Rattle.script_loading.specs.Causes.{IsInputsCause, IsLoaded, IsScriptCause}
+use Rattle.script_loading.specs.Loads.{file_names}
+use Rattle.run_course.specs.Asked.{AskFor, inputs_read, tries_of}
+use Rattle.run_course.specs.Asks.{AsksAll, AsksFor}
+use Rattle.run_course.specs.declared.stop.Stop.{Stop}
+use Rattle.run_course.specs.declared.stop.Stop.TheVariants as stop
+use Rattle.run_course.specs.inner.Course.{AsksInCall, AsksUntil, AsksWith, Delivers, IsRunStop, IsStop}
+use Rattle.run_course.proofs.ReadLemmas.{Told, Words}
+
+abbrev Names : Type 0
+Names = List (List ℕ)
+
+-- ---- a command
+
+module _ (tries : ℕ) (names : Names) (before after : SeenAsks) where
+  whole_front : Asks tries names before after → AsksFront tries names before after
+  whole_front asks =
+      asks_front tries names names [] before after (sym (append-nil names)) asks
+
+  -- not all inputs have rows
+  pub inputs_with : (most : ℕ) (source source' : Seen (List NamedBytes)) (inputs : List Wanted)
+      (status : Status) → IsInputsCause most source source' inputs status
+      → AsksFront tries names before after → AsksWith tries names before after status
+  inputs_with most source source' inputs (InputRefused name row column kind) cause front = front
+  inputs_with most source source' inputs (NoFile name) cause front = front
+  inputs_with most source source' inputs (ReadFault name) cause front = front
+  inputs_with most source source' inputs (TooLong name limit) cause front = front
+  inputs_with most source source' inputs WantOfMemory cause front = front
+  inputs_with most source source' inputs Usage cause front = absurd cause.6
+  inputs_with most source source' inputs Done cause front = absurd cause.6
+  inputs_with most source source' inputs (ScriptRefused line kind) cause front = absurd cause.6
+  inputs_with most source source' inputs (WriteFault place) cause front = absurd cause.6
+  inputs_with most source source' inputs (GaveUp stage phase task) cause front = absurd cause.6
+  inputs_with most source source' inputs (Trap origin kind element) cause front = absurd cause.6
+
+  -- all inputs have rows, and their meaning was worked out
+  pub meant_until : {T : Type 0} (script : Script) (rows : List (List Value)) (r : Result T Stop)
+      → IfErr r (IsStop script rows) → Asks tries names before after
+      → AsksUntil tries names before after r
+  meant_until script rows (Ok it) stops asks = asks
+  meant_until script rows (Err (stop.Trapped trap)) stops asks = asks
+  meant_until script rows (Err (stop.Refused status)) stops asks =
+      subst (λ (s : Status). AsksWith tries names before after s) (sym stops) (whole_front asks)
+
+  -- or run
+  pub run_until : {T : Type 0} (s : RunSettings) (script : Script) (rows : List (List Value))
+      (plan : Plan) (olds news : List Account) (r : Result T Stop)
+      → IfErr r (IsRunStop s script rows plan olds news) → Asks tries names before after
+      → AsksUntil tries names before after r
+  run_until s script rows plan olds news (Ok it) stops asks = asks
+  run_until s script rows plan olds news (Err (stop.Trapped trap)) stops asks = asks
+  run_until s script rows plan olds news (Err (stop.Refused status)) (inl memory) asks =
+      subst (λ (s : Status). AsksWith tries names before after s) (sym memory) (whole_front asks)
+  run_until s script rows plan olds news (Err (stop.Refused status)) (inr up) asks =
+      subst (λ (s : Status). AsksWith tries names before after s) (sym up.3) asks
+
+-- nothing is read
+pub none_with : (tries : ℕ) (names : Names) (it : SeenAsks)
+    → AsksWith tries names it it WantOfMemory
+none_with tries names it = asks_front tries names [] names it it refl (asks_none tries it)
+
+-- ---- a call
+
+module _ (words : Words) (told : Told) (command : Command) (name : List ℕ) where
+  -- no script is read
+  pub script_for : (source source' : Seen (List NamedBytes)) (before after : SeenAsks)
+      (status : Status) → AskFor words command name
+      → IsScriptCause (tries_of command) source source' name status
+      → Asks (tries_of command) (name ∷ []) before after
+      → AsksFor words told before after status
+  script_for source source' before after (ScriptRefused line kind) asked cause asks =
+      inr (inl (command, name, asked, asks))
+  script_for source source' before after (NoFile other) asked cause asks =
+      inr (inl (command, name, asked, asks))
+  script_for source source' before after (ReadFault other) asked cause asks =
+      inr (inl (command, name, asked, asks))
+  script_for source source' before after (TooLong other limit) asked cause asks =
+      inr (inl (command, name, asked, asks))
+  script_for source source' before after WantOfMemory asked cause asks =
+      inr (inl (command, name, asked, asks))
+  script_for source source' before after Usage asked cause asks = absurd cause
+  script_for source source' before after Done asked cause asks = absurd cause
+  script_for source source' before after (InputRefused other row column kind) asked cause asks =
+      absurd cause
+  script_for source source' before after (WriteFault place) asked cause asks = absurd cause
+  script_for source source' before after (GaveUp stage phase task) asked cause asks =
+      absurd cause
+  script_for source source' before after (Trap origin kind element) asked cause asks =
+      absurd cause
+
+  module _ (script : Script) (before middle after : SeenAsks) (asked : AskFor words command name)
+      (loaded : IsLoaded told name script)
+      (first : Asks (tries_of command) (name ∷ []) before middle) where
+    abbrev inputs : Names
+    inputs = file_names (inputs_read command script)
+
+    all_for : Asks (tries_of command) inputs middle after → AsksAll words told before after
+    all_for asks = (
+      command,
+      name,
+      script,
+      asked,
+      loaded,
+      asks_both (tries_of command) (name ∷ []) inputs before middle after first asks,
+    )
+
+    front_for : AsksFront (tries_of command) inputs middle after
+        → AsksFront (tries_of command) (name ∷ inputs) before after
+    front_for front = (
+      name ∷ front.0,
+      front.1,
+      ap (λ l. name ∷ l) front.2,
+      asks_both (tries_of command) (name ∷ []) front.0 before middle after first front.3,
+    )
+
+    status_for : (status : Status) → AsksWith (tries_of command) inputs middle after status
+        → AsksFor words told before after status
+    status_for (GaveUp stage phase task) asks = all_for asks
+    status_for WantOfMemory front =
+        inr (inr (command, name, script, asked, loaded, front_for front))
+    status_for (NoFile other) front =
+        inr (inr (command, name, script, asked, loaded, front_for front))
+    status_for (TooLong other limit) front =
+        inr (inr (command, name, script, asked, loaded, front_for front))
+    status_for (ReadFault other) front =
+        inr (inr (command, name, script, asked, loaded, front_for front))
+    status_for (InputRefused other row column kind) front =
+        inr (inr (command, name, script, asked, loaded, front_for front))
+    status_for Usage asks = absurd asks
+    status_for Done asks = absurd asks
+    status_for (ScriptRefused line kind) asks = absurd asks
+    status_for (WriteFault place) asks = absurd asks
+    status_for (Trap origin kind element) asks = absurd asks
+
+    -- the script is read, and the command carried out
+    pub command_for : {T : Type 0} (r : Result T Stop)
+        → AsksUntil (tries_of command) inputs middle after r
+        → AsksInCall words told before after r
+    command_for (Ok it) asks = all_for asks
+    command_for (Err (stop.Trapped trap)) asks = all_for asks
+    command_for (Err (stop.Refused status)) asks = status_for status asks
+
+-- what was to be written was written, or that failed
+pub delivered_for : (words : Words) (told : Told) (before after : SeenAsks)
+    (files : List NamedBytes) (text : List ℕ) (shelf shelf' : SeenShelf)
+    (screen screen' : Seen (List ℕ)) (status : Status)
+    → Delivers files text shelf shelf' screen screen' status
+    → AsksAll words told before after → AsksFor words told before after status
+delivered_for words told before after files text shelf shelf' screen screen' Done is all = all
+delivered_for words told before after files text shelf shelf' screen screen' (WriteFault place) is all =
+    all
+delivered_for words told before after files text shelf shelf' screen screen' Usage is all =
+    absurd is
+delivered_for words told before after files text shelf shelf' screen screen'
+    (ScriptRefused line kind) is all = absurd is
+delivered_for words told before after files text shelf shelf' screen screen'
+    (InputRefused name row column kind) is all = absurd is
+delivered_for words told before after files text shelf shelf' screen screen'
+    (Trap origin kind element) is all = all
+delivered_for words told before after files text shelf shelf' screen screen' (ReadFault name) is
+    all = absurd is
+delivered_for words told before after files text shelf shelf' screen screen'
+    (GaveUp stage phase task) is all = all
+delivered_for words told before after files text shelf shelf' screen screen' WantOfMemory is all =
+    absurd is
+delivered_for words told before after files text shelf shelf' screen screen' (TooLong name limit) is
+    all = absurd is
+delivered_for words told before after files text shelf shelf' screen screen' (NoFile name) is all =
+    absurd is

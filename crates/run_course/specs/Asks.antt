@@ -1,0 +1,54 @@
+-- What a call asks its source for.
+use Rattle.std.specs.Prelude.{◌⊎◌, ℕ, List, [], ◌∷◌, Option}
+use Rattle.command_words.specs.declared.words.Command.{Command}
+use Rattle.outside.specs.Asked.{Asks, AsksFront}
+use Rattle.outside.specs.Seen.{Seen}
+use Rattle.outside.specs.declared.file.File.{File}
+use Rattle.run_texts.specs.declared.status.Status.{Status}
+use Rattle.run_texts.specs.declared.status.Status.TheVariants.{Done, GaveUp, Usage, Trap, WriteFault}
+use Rattle.script_loading.specs.Causes.{IsLoaded}
+use Rattle.script_loading.specs.Loads.{file_names}
+use Rattle.script_program.specs.Script.{Script}
+use Rattle.run_course.specs.Asked.{AskFor, inputs_read, tries_of}
+
+-- the files that a command reads, in order: its script's, which has this name, and its inputs'
+abbrev pub files_read : Command → List ℕ → Script → List (List ℕ)
+files_read command name script = name ∷ file_names (inputs_read command script)
+
+-- of a call with these words, where the source tells these files, and what it was asked for so far
+-- before the call and after it
+module _ (words : List (List ℕ)) (told : Option (List File))
+    (before after : Seen (List (List ℕ))) where
+  -- the words ask for a command on an accepted script, and all files that it reads were asked for
+  abbrev pub AsksAll : Type 0
+  AsksAll =
+      (command : Command) × (name : List ℕ) × (script : Script) × AskFor words command name
+      × IsLoaded told name script
+      × Asks (tries_of command) (files_read command name script) before after
+
+  -- the same, but only a front of the files was asked for
+  abbrev pub AsksSome : Type 0
+  AsksSome =
+      (command : Command) × (name : List ℕ) × (script : Script) × AskFor words command name
+      × IsLoaded told name script
+      × AsksFront (tries_of command) (files_read command name script) before after
+
+  -- the words ask for a command on the script of that name, and that file alone was asked for
+  abbrev pub AsksScript : Type 0
+  AsksScript =
+      (command : Command) × (name : List ℕ) × AskFor words command name
+      × Asks (tries_of command) (name ∷ []) before after
+
+  -- no file was asked for
+  abbrev pub AsksNone : Type 0
+  AsksNone = Asks 0 [] before after
+
+  -- What was asked for, by the answer: no file where the words ask for nothing; all that the
+  -- command reads where the call came to its end; and else as many as it came to.
+  abbrev pub AsksFor : Status → Type 0
+  AsksFor Usage = AsksNone
+  AsksFor Done = AsksAll
+  AsksFor (Trap origin kind element) = AsksAll
+  AsksFor (GaveUp stage phase task) = AsksAll
+  AsksFor (WriteFault place) = AsksAll
+  AsksFor status = AsksNone ⊎ (AsksScript ⊎ AsksSome)

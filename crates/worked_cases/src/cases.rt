@@ -1,0 +1,89 @@
+// A case: the calls that are made, over what world.
+use outside::{At, Fail};
+use std::alloc::Global;
+
+/// A case.
+#[derive(Drop)]
+pub struct Case {
+    /// Its name.
+    pub name: Vec<u8>,
+    /// The command lines that are called, in order.
+    pub commands: Vec<Command>,
+    /// The files of the source.
+    pub files: Vec<TextFile>,
+    /// The files that the shelf has before each call.
+    pub before: Vec<TextFile>,
+    /// The room of the shelf.
+    pub room: Room,
+    /// What fails in each call.
+    pub always: Vec<Fault>,
+    /// What fails in further calls of each command.
+    pub whens: Vec<When>,
+    /// Whether each two of those are also met together.
+    pub has_pairs: bool,
+    /// Whether the losses of the hosts are told.
+    pub tells_losses: bool,
+}
+
+/// A command line: as it is written, and its words, with the program's name first.
+#[derive(Drop)]
+pub struct Command {
+    pub line: Vec<u8>,
+    pub words: Vec<String>,
+}
+
+/// A file: its name and its bytes.
+#[derive(Drop)]
+pub struct TextFile {
+    pub name: Vec<u8>,
+    pub bytes: Vec<u8>,
+}
+
+/// For how many files, and how many bytes in all, their names included, a shelf has room.
+#[derive(Clone, Copy)]
+pub struct Room {
+    pub files: u32,
+    pub bytes: u64,
+}
+
+/// What fails in one more call: as it is written, and each part.
+#[derive(Drop)]
+pub struct When {
+    pub line: Vec<u8>,
+    pub faults: Vec<Fault>,
+}
+
+/// A call of the outside that fails.
+#[derive(Clone, Copy)]
+pub enum Fault {
+    /// A call of the source.
+    Source(Fail),
+    /// A call of the shelf.
+    Shelf(Fail),
+    /// A call of the screen, by its number from 0.
+    Screen(u32),
+    /// The host of this number is down at this place; with no number, each host is.
+    Host { number: Option<u32>, at: At },
+}
+
+const ROOM: Room = Room {
+    files: 4,
+    bytes: 100_000,
+};
+
+impl Case {
+    /// A case of this name with nothing in it.
+    pub fn new(alloc: Global, name: Vec<u8>) -> Case {
+        Case {
+            name,
+            commands: Vec::new(alloc),
+            files: Vec::new(alloc),
+            before: Vec::new(alloc),
+            room: ROOM,
+            always: Vec::new(alloc),
+            whens: Vec::new(alloc),
+            has_pairs: false,
+            tells_losses: false,
+        }
+    }
+}

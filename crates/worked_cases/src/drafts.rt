@@ -1,0 +1,177 @@
+// A case that is being read, line by line.
+use crate::cases::{Case, Room, TextFile};
+use crate::commands::command_of;
+use crate::faults::{push_faults, when_of};
+use crate::lines::{Line, Word, line_of};
+use crate::mistakes::{Mistake, Unread};
+use crate::numbers::{first_word, number_of, push_unescaped};
+use crate::pieces::{named, push_piece};
+use std::alloc::{AllocError, Global};
+use std::str;
+
+/// A case so far, and where a text that comes next belongs.
+#[derive(Drop)]
+pub struct Draft {
+    case: Case,
+    place: Place,
+}
+
+/// Where a text belongs.
+#[derive(Clone, Copy)]
+enum Place {
+    Nowhere,
+    File,
+    Before,
+}
+
+impl Draft {
+    /// A case of this name with no line read.
+    pub fn new(alloc: Global, name: &[u8]) -> Result<Draft, AllocError> {
+        Ok(Draft {
+            case: Case::new(alloc, Vec::from_slice(alloc, name)?),
+            place: Place::Nowhere,
+        })
+    }
+
+    /// Reads a line.
+    pub fn add(&mut self, alloc: Global, line: &[u8], texts: &[TextFile]) -> Result<(), Unread> {
+        match line_of(line)? {
+            Line::Blank => Ok(()),
+            Line::Piece(piece) => self.add_piece(alloc, piece, texts),
+            Line::Said { word, rest } => self.add_said(alloc, word, rest, texts),
+        }
+    }
+
+    /// The case, which has a name and a call.
+    pub fn whole(self) -> Result<Case, Mistake> {
+        let Draft { case, place: _ } = self;
+        if case.name.is_empty() {
+            return Err(Mistake::NoName);
+        }
+        if case.commands.is_empty() {
+            return Err(Mistake::NoCall);
+        }
+        if !fits(&case.before, case.room) {
+            return Err(Mistake::NoRoom);
+        }
+        Ok(case)
+    }
+
+    // A piece of the last file.
+    fn add_piece(&mut self, alloc: Global, piece: &[u8], texts: &[TextFile]) -> Result<(), Unread> {
+        match self.place {
+            Place::Nowhere => Err(Unread::Wrong(Mistake::NoFile)),
+            Place::File => push_to_last(alloc, &mut self.case.files, piece, texts),
+            Place::Before => push_to_last(alloc, &mut self.case.before, piece, texts),
+        }
+    }
+
+    fn add_said(
+        &mut self,
+        alloc: Global,
+        word: Word,
+        rest: &[u8],
+        texts: &[TextFile],
+    ) -> Result<(), Unread> {
+        match word {
+            Word::Script | Word::File | Word::Before => self.add_file(alloc, word, rest),
+            Word::Pairs | Word::Losses => self.add_wish(word, rest),
+            Word::Flume => {
+                self.case.commands.push(command_of(alloc, rest)?)?;
+                Ok(())
+            }
+            Word::Calls => self.add_calls(alloc, named(texts, rest)?),
+            Word::When => {
+                self.case.whens.push(when_of(alloc, rest)?)?;
+                Ok(())
+            }
+            Word::Fails => push_faults(&mut self.case.always, rest),
+            Word::Room => self.set_room(rest),
+        }
+    }
+
+    // A command line for each line of a text.
+    fn add_calls(&mut self, alloc: Global, lines: &[u8]) -> Result<(), Unread> {
+        for line in lines.split(|b| *b == b'\n') {
+            if !line.is_empty() {
+                self.case.commands.push(command_of(alloc, line)?)?;
+            }
+        }
+        Ok(())
+    }
+
+    // An empty file, to which the pieces behind are added.
+    fn add_file(&mut self, alloc: Global, word: Word, rest: &[u8]) -> Result<(), Unread> {
+        let name = match word {
+            Word::Script if rest.is_empty() => name_of(alloc, b"s")?,
+            Word::Script => return Err(Unread::Wrong(Mistake::TooMuch)),
+            _ => name_of(alloc, rest)?,
+        };
+        let bytes = Vec::new(alloc);
+        let file = TextFile { name, bytes };
+        if word == Word::Before {
+            self.case.before.push(file)?;
+            self.place = Place::Before;
+        } else {
+            self.case.files.push(file)?;
+            self.place = Place::File;
+        }
+        Ok(())
+    }
+
+    fn add_wish(&mut self, word: Word, rest: &[u8]) -> Result<(), Unread> {
+        if !rest.is_empty() {
+            return Err(Unread::Wrong(Mistake::TooMuch));
+        }
+        if word == Word::Pairs {
+            self.case.has_pairs = true;
+        } else {
+            self.case.tells_losses = true;
+        }
+        Ok(())
+    }
+
+    fn set_room(&mut self, rest: &[u8]) -> Result<(), Unread> {
+        let (files, bytes) = first_word(rest);
+        let bytes = u64::from(number_of(bytes)?);
+        let files = number_of(files)?;
+        self.case.room = Room { files, bytes };
+        Ok(())
+    }
+}
+
+// Whether these files, with their names, fit this room.
+fn fits(files: &[TextFile], room: Room) -> bool {
+    let mut bytes = 0usize;
+    for file in files {
+        bytes = bytes.saturating_add(file.name.len());
+        bytes = bytes.saturating_add(file.bytes.len());
+    }
+    files.len() as u64 <= u64::from(room.files) && bytes as u64 <= room.bytes
+}
+
+// Adds a piece to the last of these files.
+fn push_to_last(
+    alloc: Global,
+    files: &mut Vec<TextFile>,
+    piece: &[u8],
+    texts: &[TextFile],
+) -> Result<(), Unread> {
+    match files.last_mut() {
+        Some(file) => push_piece(alloc, &mut file.bytes, piece, texts),
+        None => Err(Unread::Wrong(Mistake::NoFile)),
+    }
+}
+
+// The name that is written so: one byte at least, and UTF-8.
+fn name_of(alloc: Global, text: &[u8]) -> Result<Vec<u8>, Unread> {
+    let mut name = Vec::new(alloc);
+    push_unescaped(&mut name, text)?;
+    if name.is_empty() {
+        return Err(Unread::Wrong(Mistake::NoName));
+    }
+    match str::from_utf8(&name) {
+        Ok(_) => Ok(name),
+        Err(_) => Err(Unread::Wrong(Mistake::Utf8)),
+    }
+}
