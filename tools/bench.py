@@ -3,9 +3,9 @@
 
     tools/bench.py [--mib N] [--words N] [--check]
 
-The file has N MiB (64 by default, just within the program's limit of an input) of lines of ten words,
-drawn evenly from N different ones (50,000 by default). The same numbers always make the same file.
---check compares the output with what Python sorts.
+The file has N MiB (64 by default, just within the program's limit of an input) of lines of ten
+words, drawn evenly from N different ones (50,000 by default). The same numbers always make the
+same file. --check compares the output with what Python sorts.
 """
 import argparse
 import os
@@ -64,7 +64,9 @@ def timed(folder):
     screen = os.path.join(folder, "screen")
     with open(screen, "wb") as to:
         began = time.monotonic()
-        child = subprocess.Popen([FLUME, "run", "words.flume"], cwd=folder, stdin=subprocess.DEVNULL, stdout=to)
+        child = subprocess.Popen(
+            [FLUME, "run", "words.flume"], cwd=folder, stdin=subprocess.DEVNULL, stdout=to
+        )
         _, status, usage = os.wait4(child.pid, 0)
         seconds = time.monotonic() - began
     with open(screen, encoding="utf-8") as file:
@@ -86,7 +88,9 @@ def main():
         size = min(int(asked.mib * 1024 * 1024), LIMIT)
         lines, words = make_input(os.path.join(folder, "in.csv"), size, asked.words)
         status, seconds, peak, said = timed(folder)
-        print(f"{size} bytes, {lines} lines, {words} words: exit status {status}, {' | '.join(said)}")
+        print(
+            f"{size} bytes, {lines} lines, {words} words: exit status {status}, {' | '.join(said)}"
+        )
         print(f"{seconds:.2f} seconds, {peak:.0f} MiB at most")
         if asked.check and status == 0:
             if not is_sorted_output(folder):

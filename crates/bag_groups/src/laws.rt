@@ -1,3 +1,4 @@
+// What holds of groups, and of combining the list of each.
 ghost use Rattle.std.specs.Prelude.{◌≡◌, ◌++◌, List, Result};
 ghost use Rattle.std.specs.List.Sorted.{IsSorted};
 ghost use Rattle.flume_value.specs.declared.fault.Kind.{Kind};

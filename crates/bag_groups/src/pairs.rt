@@ -1,3 +1,4 @@
+// A pair of a key and a value, and its parts.
 ghost use Rattle.std.specs.Prelude.{◌≡◌, Some, IfOk};
 ghost use Rattle.bag_groups.specs.Pairs.{IsPair, key_of, value_of, pair as pair_of};
 

@@ -1,3 +1,4 @@
+// Laws of the steps over whole bags: each comes from groups, a combiner and single members.
 ghost use Rattle.std.specs.Prelude.{◌≡◌, ℕ, List, [], ◌++◌, Result, map};
 ghost use Rattle.std.specs.List.{flat_map};
 ghost use Rattle.flume_value.specs.declared.fault.Kind.{Kind};

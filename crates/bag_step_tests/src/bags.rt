@@ -1,3 +1,4 @@
+// Bags of ints, words and pairs for the rows of tests.
 ghost use Rattle.std.specs.Prelude.{All, IfOk};
 ghost use Rattle.std.specs.List.Sorted.{IsSorted};
 ghost use Rattle.flume_value.specs.Order.{value_cmp};

@@ -1,3 +1,4 @@
+// Rows of counting members, and of keeping the greatest.
 use crate::bags::{ints, word, words};
 use bag_groups::pair;
 use bag_steps::{count, greatest};

@@ -1,3 +1,4 @@
+// Rows of grouping by key, and of joining two tables.
 use crate::bags::{list, table};
 use bag_groups::pair;
 use bag_steps::{group, join};

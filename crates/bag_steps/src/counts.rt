@@ -1,3 +1,4 @@
+// How often each value is in a bag.
 ghost use Rattle.std.specs.Prelude.{◌≡◌, [], IfOk};
 ghost use Rattle.std.specs.List.Sorted.{IsSorted};
 ghost use Rattle.flume_value.specs.Order.{value_cmp};

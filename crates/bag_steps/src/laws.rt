@@ -1,3 +1,4 @@
+// What holds of the counts, the joins and the greatest members of all bags.
 ghost use Rattle.std.specs.Prelude.{◌≡◌, ℕ, List};
 ghost use Rattle.std.specs.List.Sorted.{IsSorted};
 ghost use Rattle.flume_value.specs.declared.value.Value.{Value};

@@ -1,3 +1,4 @@
+// Runs of one value or of one key, in ascending order.
 ghost use Rattle.std.specs.Prelude.{◌≡◌, All, IfOk, Some};
 ghost use Rattle.bag_groups.specs.Pairs.{IsPair, key_of};
 ghost use Rattle.bag_steps.specs.inner.Runs.{IsRun, held_by};

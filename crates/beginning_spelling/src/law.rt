@@ -1,3 +1,4 @@
+// The law that a beginning of a script in tokens is one that bytes have.
 ghost use Rattle.std.specs.Prelude.{◌≡◌, ◌++◌, ℕ, List, Ok};
 ghost use Rattle.flume_tokens.specs.declared.token.Token.{Token};
 ghost use Rattle.flume_tokens.specs.declared.token.TokenList.{TokenList as Cut};

@@ -1,3 +1,4 @@
+// The check of a whole body, which gives a function with slots in place of names.
 ghost use Rattle.std.specs.Prelude.{◌≡◌, ℕ, ◌≤◌, ◌<◌, [], ◌∷◌, length, map, IfOk};
 ghost use Rattle.flume_value.specs.declared.value.Value.{Value as Value_};
 ghost use Rattle.dofn_eval.specs.Run.{means as slots_mean};

@@ -1,3 +1,4 @@
+// What is in sight of a statement, and what its function emits.
 #![tactic(auto, using(crate::proofs::FrameLemmas::frame_rules))]
 
 ghost use Rattle.std.specs.Prelude.{◌≡◌, ◌<◌, ◌-◌, None, length, map, drop, slice_get};

@@ -1,3 +1,4 @@
+// What holds of calls of checked functions, and of each form of statement.
 ghost use Rattle.std.specs.Prelude.{◌≡◌, ℕ, List, length, Ok};
 ghost use Rattle.flume_value.specs.declared.value.Value.{Value as Value_};
 ghost use Rattle.flume_types.specs.declared.types.Ty.{Ty as Ty_};

@@ -1,3 +1,4 @@
+// The check of statements, form by form, with slots in place of names.
 ghost use Rattle.std.specs.Prelude.{◌≡◌, ◌<◌, [], None, length, slice_get, IfOk, OnOk};
 ghost use Rattle.flume_grammar.specs.declared.fault.ScriptKind.TheVariants.{BadNumber as Bad};
 ghost use Rattle.flume_types.specs.declared.types.Ty.{out-Ty};

@@ -1,3 +1,4 @@
+// Rows of bodies that are well-typed, and accepted.
 use crate::answers::{Answer, answer_of};
 use std::test::Fail;
 

@@ -1,3 +1,4 @@
+// What comes of a script's function with a given body: it is accepted, or its first fault.
 use body_check::check_body;
 use flume_grammar::{Ast, Form, Function, ScriptFault, ScriptKind, Type};
 use flume_syntax::parse;

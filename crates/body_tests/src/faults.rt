@@ -1,3 +1,4 @@
+// Rows of bodies with faults, and the kind and the line of the first of each.
 use crate::answers::{Answer, answer_of};
 use flume_grammar::ScriptKind::{self, BadNumber, Mistyped, TooDeep, Twice, Unknown};
 use std::test::Fail;

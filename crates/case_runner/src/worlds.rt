@@ -48,7 +48,22 @@ fn files_of(alloc: Global, texts: &[TextFile]) -> Result<Pile<File>, AllocError>
 
 fn source_of(alloc: Global, texts: &[TextFile], faults: &[Fault]) -> Result<MemSource, AllocError> {
     let files = files_of(alloc, texts)?;
-    MemSource::new(alloc, files, source_fails(alloc, faults)?)
+    let fails = source_fails(alloc, faults)?;
+    match step_of(faults) {
+        Some(step) => MemSource::with_step(alloc, files, fails, step.max(1)),
+        None => MemSource::new(alloc, files, fails),
+    }
+}
+
+// The most bytes of a read, where a step is among the faults; the last one counts.
+fn step_of(faults: &[Fault]) -> Option<u32> {
+    let mut found = None;
+    for fault in faults {
+        if let Fault::Step(step) = fault {
+            found = Some(*step);
+        }
+    }
+    found
 }
 
 fn source_fails(alloc: Global, faults: &[Fault]) -> Result<Pile<Fail>, AllocError> {

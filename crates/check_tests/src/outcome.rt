@@ -1,3 +1,4 @@
+// What comes of checking a script, and the first row of a table that comes out otherwise.
 use flume_syntax::{ScriptFault, ScriptKind, parse};
 use script_check::{Program, check};
 use std::alloc::Global;

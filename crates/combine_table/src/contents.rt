@@ -1,3 +1,4 @@
+// What values that combiners take and keep have in them: numbers, truths, sums and lists.
 ghost use Rattle.std.specs.Prelude.{◌≡◌, ◌+ℤ◌, IfOk};
 ghost use Rattle.flume_value.specs.Parts.{members_or_none};
 ghost use Rattle.combine_table.specs.Contents.{IsInt, IsBool, IsList, int_or_zero, truth_of, wide_or_zero, sum_in as sum_of, count_in as count_of};

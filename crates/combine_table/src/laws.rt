@@ -1,3 +1,4 @@
+// Laws of combining in parts, of merging, and of rounded quotients.
 ghost use Rattle.std.specs.Prelude.{◌≡◌, ◌↔◌, ◌<◌, ◌-◌, ◌^◌, ℕ, ℤ, pos, neg_ℤ, List, [], ◌∷◌, ◌++◌, Ok, Err};
 ghost use Rattle.flume_value.specs.declared.value.Value.{Value};
 ghost use Rattle.flume_value.specs.declared.value.Value.TheVariants as value;

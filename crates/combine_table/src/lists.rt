@@ -1,3 +1,4 @@
+// Lists that accumulators keep, two made one: least, greatest and distinct members.
 ghost use Rattle.std.specs.Prelude.{◌≡◌, ◌≤◌, if◌then◌else◌, ◌++◌, [], ◌∷◌, length, reverse, IfOk, OnOk, IfNone};
 ghost use Rattle.std.specs.Option.{option_to_list};
 ghost use Rattle.std.specs.List.Sorted.{IsSorted};

@@ -1,3 +1,4 @@
+// What a combination comes to at its end: an int, a member or a mean, or a trap.
 ghost use Rattle.std.specs.Prelude.{◌≡◌, ◌≤◌, length};
 ghost use Rattle.combine_table.specs.Combinations.{answer, int_or_overflow as int_or_overflow_of, first_or_bad_index as first_or_bad_index_of, mean as mean_of};
 

@@ -1,3 +1,4 @@
+// Accumulators: that of no value, that of one, the merge of two, and what one comes to.
 ghost use Rattle.std.specs.Prelude.{◌≡◌, ◌∷◌, [], IfOk};
 ghost use Rattle.combine_table.specs.declared.comb.Comb.TheVariants as by;
 ghost use Rattle.combine_table.specs.Combinations.{Suits, answer};

@@ -1,3 +1,4 @@
+// Combining a whole bag at once, with no accumulator.
 ghost use Rattle.std.specs.Prelude.{◌≡◌, ℤ, pos, map, length, All, IfOk, IfErr, Ok};
 ghost use Rattle.std.specs.List.{list_all, list_any};
 ghost use Rattle.std.specs.Option.{option_copied, option_to_list};

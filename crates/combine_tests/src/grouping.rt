@@ -1,43 +1,68 @@
-ghost use Rattle.std.specs.Prelude.{IfOk};
+// The groups of a few pairs, and the parts of a pair.
 ghost use Rattle.bag_groups.specs.Pairs.{IsPair};
 
-use bag_groups::{group, key, pair, value};
-use flume_value::{Pile, Value};
+use crate::tables::{ints, table};
+use crate::wanted::{is_int, is_list};
+use bag_groups::{group, key, value};
+use flume_value::Value;
 use std::alloc::{AllocError, Global};
 use std::test::Fail;
 
-fn ints(alloc: Global, key: i64, value: i64) -> Result<Value, AllocError>
-    ensures { IfOk result IsPair }
-{
-    pair(alloc, Value::Int(key), Value::Int(value))
+/// A key with its values.
+type Group = (i64, &'static [i64]);
+
+// Whether it is the pair of this key and the list of these ints.
+fn is_group(group: &Value, key: i64, values: &[i64]) -> bool {
+    match group {
+        Value::Rec(fields) => match fields.as_slice() {
+            [first, second] => is_int(first, key) && is_list(second, values),
+            _ => false,
+        },
+        _ => false,
+    }
 }
 
-/// A key with the list of these ints.
-fn listed(alloc: Global, key: i64, values: &[i64]) -> Result<Value, AllocError> {
-    let mut list = Pile::new(alloc);
-    for value in values {
-        list.push(Value::Int(*value))?;
+fn are_groups(groups: &[Value], wanted: &[Group]) -> bool {
+    if groups.len() != wanted.len() {
+        return false;
     }
-    pair(alloc, Value::Int(key), Value::List(list))
+    for (group, (key, values)) in groups.iter().zip(wanted.iter()) {
+        if !is_group(group, *key, *values) {
+            return false;
+        }
+    }
+    true
 }
+
+// Whether these are the groups of the pairs.
+fn are_grouped(alloc: Global, pairs: &[(i64, i64)], wanted: &[Group]) -> Result<bool, AllocError> {
+    let groups = group(alloc, table(alloc, pairs)?)?;
+    Ok(are_groups(&groups, wanted))
+}
+
+static GROUPS: [Group; 2] = [(1, &[5, 6]), (2, &[7])];
 
 #[test]
 fn groups_values_by_key(rt: HostRuntime) -> Result<(), Fail> {
-    let alloc = rt.alloc();
-    let mut pairs = Vec::new(alloc);
-    pairs.push(ints(alloc, 2, 7)?)?;
-    pairs.push(ints(alloc, 1, 6)?)?;
-    pairs.push(ints(alloc, 1, 5)?)?;
-    let mut wanted = Vec::new(alloc);
-    wanted.push(listed(alloc, 1, &[5, 6])?)?;
-    wanted.push(listed(alloc, 2, &[7])?)?;
-    assert_eq!(rt; group(alloc, pairs)?, wanted);
+    let pairs = [(2, 7), (1, 6), (1, 5)];
+    assert!(rt; are_grouped(rt.alloc(), &pairs, &GROUPS)?);
     Ok(())
+}
+
+fn has_parts(pair: &Value, first: i64, second: i64) -> bool
+    requires { IsPair pair.now }
+{
+    is_int(key(pair), first) && is_int(value(pair), second)
+}
+
+// Whether the parts of a pair are read as it was made.
+fn is_read(alloc: Global, first: i64, second: i64) -> Result<bool, AllocError> {
+    let pair = ints(alloc, first, second)?;
+    Ok(has_parts(&pair, first, second))
 }
 
 #[test]
 fn reads_the_parts_of_a_pair(rt: HostRuntime) -> Result<(), Fail> {
-    let pair = ints(rt.alloc(), 2, 7)?;
-    assert!(rt; *key(&pair) == Value::Int(2) && *value(&pair) == Value::Int(7));
+    assert!(rt; is_read(rt.alloc(), 2, 7)?);
     Ok(())
 }

@@ -1,10 +1,13 @@
+// Tables that are grouped and then combined, with their traps.
 ghost use Rattle.std.specs.Prelude.{IfOk};
 ghost use Rattle.flume_types.specs.declared.types.Ty.TheVariants as ty;
 ghost use Rattle.flume_types.specs.Tables.{table_of};
-ghost use Rattle.flume_types.specs.Typing.{AllHave, Has};
+ghost use Rattle.flume_types.specs.Typing.{AllHave};
 ghost use Rattle.keyed_steps.specs.Keyed.{IsGroup};
 ghost use Rattle.keyed_steps.specs.Types.{TakesType};
 
+use crate::tables::table;
+use crate::wanted::is_int;
 use bag_groups::{group, pair};
 use combine_table::Comb;
 use flume_value::{Kind, Pile, Value};
@@ -12,20 +15,48 @@ use keyed_steps::{KeyFault, combine_each};
 use std::alloc::{AllocError, Global};
 use std::test::Fail;
 
-fn ints(alloc: Global, key: i64, value: i64) -> Result<Value, AllocError>
-    ensures { IfOk result (Has (table_of ty.Int ty.Int)) }
-{
-    pair(alloc, Value::Int(key), Value::Int(value))
+/// What is to come of a table: pairs of keys and values, or a trap at a key.
+#[derive(Clone, Copy)]
+enum Combined {
+    Pairs(&'static [(i64, i64)]),
+    Traps(Kind, i64),
 }
 
-fn table(alloc: Global, pairs: &[(i64, i64)]) -> Result<Vec<Value>, AllocError>
-    ensures { IfOk result (λ table. AllHave (table_of ty.Int ty.Int) table.items) }
-{
-    let mut table = Vec::new(alloc);
-    for pair in pairs {
-        table.push(ints(alloc, pair.0, pair.1)?)?;
+fn is_pair(pair: &Value, key: i64, value: i64) -> bool {
+    match pair {
+        Value::Rec(fields) => match fields.as_slice() {
+            [first, second] => is_int(first, key) && is_int(second, value),
+            _ => false,
+        },
+        _ => false,
     }
-    Ok(table)
+}
+
+fn are_pairs(pairs: &[Value], wanted: &[(i64, i64)]) -> bool {
+    if pairs.len() != wanted.len() {
+        return false;
+    }
+    for (pair, (key, value)) in pairs.iter().zip(wanted.iter()) {
+        if !is_pair(pair, *key, *value) {
+            return false;
+        }
+    }
+    true
+}
+
+// Whether that is what was made.
+fn is_combined(made: &Result<Vec<Value>, KeyFault>, wanted: Combined) -> bool {
+    match made {
+        Ok(pairs) => match wanted {
+            Combined::Pairs(all) => are_pairs(pairs, all),
+            Combined::Traps(_, _) => false,
+        },
+        Err(KeyFault::Trap { kind, key }) => match wanted {
+            Combined::Pairs(_) => false,
+            Combined::Traps(other, n) => *kind == other && is_int(key, n),
+        },
+        Err(KeyFault::Memory) => false,
+    }
 }
 
 /// The table grouped, and then combined.
@@ -37,6 +68,37 @@ fn steps(alloc: Global, comb: Comb, pairs: Vec<Value>) -> Result<Vec<Value>, Key
     combine_each(alloc, comb, &groups)
 }
 
+// Whether that comes of the table of these pairs.
+fn gives(
+    alloc: Global,
+    comb: Comb,
+    pairs: &[(i64, i64)],
+    wanted: Combined,
+) -> Result<bool, AllocError>
+    requires { TakesType comb ty.Int }
+{
+    let pairs = table(alloc, pairs)?;
+    Ok(is_combined(&steps(alloc, comb, pairs), wanted))
+}
+
+static SUMS: [(i64, i64); 4] = [(2, 5), (1, i64::MAX), (1, 1), (1, -1)];
+
+static LARGE: [(i64, i64); 5] = [(3, i64::MAX), (3, 1), (2, i64::MAX), (2, 1), (1, 0)];
+
+static SUMMED: Combined = Combined::Pairs(&[(1, i64::MAX), (2, 5)]);
+
+static COUNTED: Combined = Combined::Pairs(&[(1, 3), (2, 1)]);
+
+#[test]
+fn combines_groups_of_a_table(rt: HostRuntime) -> Result<(), Fail> {
+    let alloc = rt.alloc();
+    assert!(rt; gives(alloc, Comb::Sum, &SUMS, SUMMED)?);
+    assert!(rt; gives(alloc, Comb::Count, &SUMS, COUNTED)?);
+    let trap = Combined::Traps(Kind::Overflow, 2);
+    assert!(rt; gives(alloc, Comb::Sum, &LARGE, trap)?);
+    Ok(())
+}
+
 fn key_of_none(alloc: Global, key: i64) -> Result<Value, AllocError>
     ensures sum { IfOk result (IsGroup Comb.Sum) }
     ensures least { IfOk result (IsGroup Comb.Min) }
@@ -44,41 +106,20 @@ fn key_of_none(alloc: Global, key: i64) -> Result<Value, AllocError>
     pair(alloc, Value::Int(key), Value::List(Pile::new(alloc)))
 }
 
-#[test]
-fn combines_groups_of_a_table(rt: HostRuntime) -> Result<(), Fail> {
-    let alloc = rt.alloc();
-    let big = i64::MAX;
-    let sums = [(2, 5), (1, big), (1, 1), (1, -1)];
-    assert_eq!(rt;
-        steps(alloc, Comb::Sum, table(alloc, &sums)?),
-        Ok(table(alloc, &[(1, big), (2, 5)])?)
-    );
-    assert_eq!(rt;
-        steps(alloc, Comb::Count, table(alloc, &sums)?),
-        Ok(table(alloc, &[(1, 3), (2, 1)])?)
-    );
-    let large = [(3, big), (3, 1), (2, big), (2, 1), (1, 0)];
-    let trap = KeyFault::Trap {
-        kind: Kind::Overflow,
-        key: Value::Int(2),
-    };
-    assert_eq!(rt; steps(alloc, Comb::Sum, table(alloc, &large)?), Err(trap));
-    Ok(())
+// Whether the sum and the least of no values, at the key 7, are so.
+fn none_gives(alloc: Global, sum: Combined, least: Combined) -> Result<bool, AllocError> {
+    let mut groups = Vec::new(alloc);
+    groups.push(key_of_none(alloc, 7)?)?;
+    let is_sum = is_combined(&combine_each(alloc, Comb::Sum, &groups), sum);
+    let is_least = is_combined(&combine_each(alloc, Comb::Min, &groups), least);
+    Ok(is_sum && is_least)
 }
+
+static SUM_OF_NONE: Combined = Combined::Pairs(&[(7, 0)]);
 
 #[test]
 fn combines_empty_lists(rt: HostRuntime) -> Result<(), Fail> {
-    let alloc = rt.alloc();
-    let mut groups = Vec::new(alloc);
-    groups.push(key_of_none(alloc, 7)?)?;
-    assert_eq!(rt;
-        combine_each(alloc, Comb::Sum, &groups),
-        Ok(table(alloc, &[(7, 0)])?)
-    );
-    let trap = KeyFault::Trap {
-        kind: Kind::BadIndex,
-        key: Value::Int(7),
-    };
-    assert_eq!(rt; combine_each(alloc, Comb::Min, &groups), Err(trap));
+    let trap = Combined::Traps(Kind::BadIndex, 7);
+    assert!(rt; none_gives(rt.alloc(), SUM_OF_NONE, trap)?);
     Ok(())
 }

@@ -1,3 +1,4 @@
+// The words of a command line, and the command and the script that they ask for.
 ghost use Rattle.std.specs.Prelude.{◌≡◌, IfOk, IsErr, None, map, string_bytes};
 ghost use Rattle.std.specs.Option.{option_map};
 ghost use Rattle.clap.specs.Words.{found_of, rows_of, subcommand_rows_of};

@@ -2,16 +2,25 @@
 
 ghost use Rattle.std.specs.Prelude.{◌≡◌, ◌+◌, ◌∷◌, [], List, Ok, Some, codes, length, ℕ};
 ghost use Rattle.csv.specs.Writing.{row_text};
+ghost use Rattle.flume_types.specs.Columns.{input_columns_of};
+ghost use Rattle.flume_types.specs.Typing.{AllHave};
+ghost use Rattle.flume_types.specs.declared.column.Column.{Column};
 ghost use Rattle.flume_types.specs.declared.types.Ty.{Ty};
 ghost use Rattle.flume_value.specs.declared.value.Value.{Value};
 ghost use Rattle.csv_rows.specs.Records.{records_of};
-ghost use Rattle.csv_rows.specs.Rows.{rows_of};
+ghost use Rattle.csv_rows.specs.Rows.{rows_of, rows_under};
 ghost use Rattle.csv_rows.specs.Text.{plain_writer};
 
-/// A file has one row for each record after its header.
+/// A file has one row for each record after its header, and each row has the type that is read; so
+/// has each row under the columns of a type.
 pub fn rows_law()
-    ensures { (bytes : List ℕ) (ty : Ty) (rows : List Value) →
+    ensures count { (bytes : List ℕ) (ty : Ty) (rows : List Value) →
         rows_of bytes ty ≡ Some (Ok rows) → length (records_of bytes) ≡ length rows + 1 }
+    ensures typed { (bytes : List ℕ) (ty : Ty) (rows : List Value) →
+        rows_of bytes ty ≡ Some (Ok rows) → AllHave ty rows }
+    ensures under { (columns : List Column) (ty : Ty) (records : List (List (List ℕ)))
+        (rows : List Value) → input_columns_of ty ≡ Some columns →
+        rows_under columns records ≡ Ok rows → AllHave ty rows }
 {}
 
 /// What `csv` makes of texts of which the rule of rows says nothing itself.

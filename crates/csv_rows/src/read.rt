@@ -61,7 +61,7 @@ pub fn rows_under_columns(
 }
 
 /// The rows of all that a source gives. A source that fails has no rows, as where memory runs out.
-fn read_rows<R: Read + Drop>(
+pub(crate) fn read_rows<R: Read + Drop>(
     alloc: Global,
     source: R,
     columns: &[Column],

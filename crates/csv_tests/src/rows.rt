@@ -1,3 +1,4 @@
+// Rows of files that are read, of their first faults, and of values written as sorted text.
 ghost use Rattle.std.specs.Prelude.{◌↔◌, IsTrue};
 ghost use Rattle.std.specs.List.{All};
 ghost use Rattle.flume_types.specs.Typing.{has_type as has};

@@ -1,3 +1,4 @@
+// The law that a well-formed script has a meaning over rows of its inputs.
 ghost use Rattle.std.specs.Prelude.{◌≡◌, List, Ok, Option, Some};
 ghost use Rattle.flume_value.specs.declared.value.Value.{Value};
 ghost use Rattle.flume_grammar.specs.declared.tree.Statement.{Statement};

@@ -1,3 +1,4 @@
+// A call of a function: what it emits to each output, or its trap.
 ghost use Rattle.std.specs.Prelude.{◌≡◌, List, IfOk, IfErr};
 ghost use Rattle.flume_types.specs.declared.types.Ty.{Ty as Ty_};
 ghost use Rattle.flume_types.specs.Typing.{Has};

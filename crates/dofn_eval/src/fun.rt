@@ -1,3 +1,4 @@
+// A well-typed function: the number of its outputs, and its body.
 ghost use Rattle.std.specs.Prelude.{◌≡◌, ◌≤◌};
 ghost use Rattle.dofn_eval.specs.Function.{IsFun};
 

@@ -1,3 +1,4 @@
+// A value that an operation takes, borrowed or owned.
 ghost use Rattle.std.specs.Prelude.{◌≡◌, IfOk};
 ghost use Rattle.dofn_eval.specs.inner.Operands.{content};
 

@@ -1,3 +1,4 @@
+// Loops that emit each member as it is, which may pass on a whole list at once.
 ghost use Rattle.std.specs.Prelude.{◌≡◌, [], ◌∷◌, Some, IfSome, IsTrue};
 ghost use Rattle.flume_value.specs.Parts.{members_of};
 ghost use Rattle.dofn_eval.specs.declared.expr.Expr.TheVariants as expr;

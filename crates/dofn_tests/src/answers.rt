@@ -1,3 +1,4 @@
+// What the function of a script answers on a number, beside what it is to answer.
 ghost use Rattle.flume_value.specs.declared.value.Value.TheVariants as variant;
 ghost use Rattle.dofn_eval.specs.Function.{Accepts};
 

@@ -1,3 +1,4 @@
+// The numbers that texts spell, of one to nine digits.
 ghost use Rattle.std.specs.Prelude.{◌≡◌, IfSome};
 ghost use Rattle.int_text.specs.Ints.{is_numeral};
 ghost use Rattle.run_settings.specs.Limits.{IsUpTo};

@@ -1,3 +1,4 @@
+// From an expression with names to one with slots and its type, or its first fault.
 ghost use Rattle.std.specs.Prelude.{◌≡◌, ◌<◌, [], length, IfOk};
 ghost use Rattle.type_table.specs.Table.{Extends};
 ghost use Rattle.written_types.specs.Answer.{Gives};

@@ -1,3 +1,4 @@
+// Slots have the type of their expression and give what it gives; the equations of both.
 ghost use Rattle.std.specs.Prelude.{◌≡◌, ℕ};
 ghost use Rattle.flume_types.specs.declared.types.Ty.{Ty as Ty_};
 ghost use Rattle.flume_grammar.specs.declared.tree.Expr.{Expr as Expr_, out-Expr};

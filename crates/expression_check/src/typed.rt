@@ -1,3 +1,4 @@
+// Slots with their types: an expression, an operand, a pair and parts in order.
 ghost use Rattle.std.specs.Prelude.{◌≡◌, IfOk};
 
 use dofn_eval::Expr as Slots;

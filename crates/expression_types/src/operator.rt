@@ -1,3 +1,4 @@
+// The operation that each written operator stands for.
 ghost use Rattle.std.specs.Prelude.{◌≡◌};
 ghost use Rattle.expression_types.specs.Operators as spec;
 

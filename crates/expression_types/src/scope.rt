@@ -1,3 +1,4 @@
+// The names in sight of an expression, of types and of values.
 ghost use Rattle.std.specs.Prelude.{◌≡◌, ◌<◌, ◌-◌, [], None, length, drop, is_some, IfOk, IfSome, OnOk};
 ghost use Rattle.type_table.specs.Table.{type_at, tree_of, IsWithin, Extends};
 ghost use Rattle.written_types.specs.Answer.{Gives};

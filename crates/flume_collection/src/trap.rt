@@ -1,3 +1,4 @@
+// Traps of calls, and the set of some traps.
 ghost use Rattle.std.specs.Prelude.{◌≡◌, IfOk};
 ghost use Rattle.flume_collection.specs.Traps.{trap_set};
 

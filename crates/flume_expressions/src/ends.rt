@@ -1,3 +1,4 @@
+// The ends of an expression's parts: the sign that follows what was read.
 ghost use Rattle.std.specs.Prelude.{◌≡◌, ◌<◌, ◌+◌, ◌^◌};
 ghost use Rattle.flume_grammar.specs.inner.Reads.{Reads, ReadsSuch};
 ghost use Rattle.flume_expressions.specs.inner.Pieces as pieces;

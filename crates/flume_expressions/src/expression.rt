@@ -1,3 +1,4 @@
+// Expressions: an operand, and the fields, members and operators that go on with it.
 ghost use Rattle.std.specs.Prelude.{◌≡◌, ◌<◌, ◌≤◌, ◌+◌, ◌^◌, option_copied};
 ghost use Rattle.flume_grammar.specs.Limits.{the_limits};
 ghost use Rattle.flume_grammar.specs.inner.Out.{one};

@@ -1,3 +1,4 @@
+// Operands: in parentheses or bare, with the records and lists among them.
 ghost use Rattle.std.specs.Prelude.{◌≡◌, ◌<◌, ◌≤◌, ◌++◌, length, max, [], ◌∷◌, IfOk, IfErr, OnOk};
 ghost use Rattle.flume_grammar.specs.Limits.{the_limits};
 ghost use Rattle.flume_grammar.specs.Parts.{with_part};

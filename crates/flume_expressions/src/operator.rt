@@ -1,3 +1,4 @@
+// The operators between operands, and how tight they bind.
 ghost use Rattle.std.specs.Prelude.{◌≡◌, ◌≤◌};
 ghost use Rattle.flume_grammar.specs.Operators as spec;
 

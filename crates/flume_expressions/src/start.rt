@@ -1,3 +1,4 @@
+// What an operand begins with, by its first token.
 ghost use Rattle.std.specs.Prelude.{◌≡◌, IfOk, Some};
 ghost use Rattle.flume_tokens.specs.declared.token.Token.{Token};
 ghost use Rattle.flume_grammar.specs.inner.Expressions as spec;

@@ -1,3 +1,4 @@
+// Why a script is refused, and where the parser stops.
 ghost use Rattle.std.specs.Prelude.{◌≡◌};
 
 use flume_tokens::{Refusal, TokenFault};

@@ -1,3 +1,4 @@
+// What holds of the grammar: each script has one tree or one first fault.
 ghost use Rattle.std.specs.Prelude.{◌≡◌, ◌⊎◌, ℕ, List};
 ghost use Rattle.std.specs.List.{All};
 ghost use Rattle.flume_tokens.specs.declared.token.Token.{Token};

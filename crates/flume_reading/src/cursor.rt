@@ -1,3 +1,4 @@
+// The tokens of a script that are left.
 ghost use Rattle.std.specs.Prelude.{◌≡◌, ◌∷◌, [], length, is_some, false, option_copied, IfOk, IfErr, None};
 ghost use Rattle.flume_grammar.specs.inner.Out.{next};
 ghost use Rattle.flume_grammar.specs.inner.Reading as spec;

@@ -1,3 +1,4 @@
+// How one token is read: a sign, a keyword, a name, a number, a text or a comma.
 ghost use Rattle.std.specs.Prelude.{◌≡◌, Some};
 ghost use Rattle.flume_grammar.specs.inner.Out.{one};
 ghost use Rattle.flume_grammar.specs.inner.Reads.{Reads};

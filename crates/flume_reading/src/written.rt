@@ -1,3 +1,4 @@
+// How a type is read, level after level within the depth that is allowed.
 ghost use Rattle.std.specs.Prelude.{◌≡◌, ◌<◌, ◌≤◌, IfOk};
 ghost use Rattle.flume_tokens.specs.declared.token.Token.{Token};
 ghost use Rattle.flume_grammar.specs.Limits.{the_limits};

@@ -1,3 +1,4 @@
+// From the bytes of a script to its tree, or to its first fault.
 ghost use Rattle.std.specs.Prelude.{◌≡◌, ◌≢◌, ℕ, IfOk, IfErr};
 ghost use Rattle.flume_grammar.specs.declared.fault.ScriptKind.{ScriptKind as Kind};
 ghost use Rattle.flume_grammar.specs.declared.tree.Ast.{Ast};

@@ -1,3 +1,4 @@
+// The cutting of a script into its tokens, each with its line.
 ghost use Rattle.std.specs.Prelude.{◌≡◌, ◌≢◌, ◌+◌, ◌-◌, ◌<◌, ◌≤◌, drop, ◌++◌, ◌∷◌, [], ◌==◌, length, count_by, IfOk, IfErr, OnOk};
 ghost use Rattle.flume_tokens.specs.Pieces.{piece_of as piece_of_bytes, IsWithin};
 ghost use Rattle.flume_tokens.specs.Tokens as spec;

@@ -1,3 +1,4 @@
+// Why a script has no tokens, and on which line.
 use std::alloc::AllocError;
 use thiserror::Error;
 

@@ -1,3 +1,4 @@
+// The reserved words and how they are spelled.
 ghost use Rattle.std.specs.Prelude.{◌≡◌, Some};
 ghost use Rattle.flume_tokens.specs.declared.keyword.Keyword.{Keyword};
 ghost use Rattle.flume_tokens.specs.Keywords as spec;

@@ -1,3 +1,4 @@
+// What holds of the texts of every script.
 ghost use Rattle.std.specs.Prelude.{◌≡◌, ℕ, List, Ok};
 ghost use Rattle.std.specs.List.{All};
 ghost use Rattle.flume_tokens.specs.declared.token.TokenList.{TokenList as Cut};

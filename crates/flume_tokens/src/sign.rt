@@ -1,3 +1,4 @@
+// The signs and how they are spelled.
 ghost use Rattle.std.specs.Prelude.{◌≡◌, ◌≤◌, length, IfSome};
 ghost use Rattle.flume_tokens.specs.Signs as spec;
 

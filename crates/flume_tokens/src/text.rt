@@ -1,3 +1,4 @@
+// The content of a text between quotes, its escapes replaced.
 ghost use Rattle.std.specs.Prelude.{◌≡◌, ◌<◌, ◌≤◌, length, drop, false, IfOk, IfSome};
 ghost use Rattle.flume_tokens.specs.Texts as spec;
 

@@ -1,3 +1,4 @@
+// A token with its line, and the tokens of a script.
 ghost use Rattle.std.specs.Prelude.{◌≡◌, ◌↔◌, IsTrue};
 
 use crate::keyword::Keyword;

@@ -1,3 +1,4 @@
+// The columns of rows, and why a type has none.
 use flume_value::{Pile, Str};
 use std::alloc::{AllocError, AllocFailed};
 use thiserror::Error;

@@ -1,3 +1,4 @@
+// Copies of types.
 ghost use Rattle.std.specs.Prelude.{◌≡◌, IfOk};
 
 use crate::types::{Field, Fields, Ty};

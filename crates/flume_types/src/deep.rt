@@ -1,3 +1,4 @@
+// How deep a type is.
 ghost use Rattle.std.specs.Prelude.{◌≡◌, ◌+◌, ◌-◌, ◌^◌, min};
 ghost use Rattle.flume_types.specs.Depth.{depth_of, layer_depth, deepest as deepest_of};
 ghost use Rattle.flume_types.specs.declared.types.Ty.{Ty as Ty_, out-Ty};

@@ -1,3 +1,4 @@
+// The columns of a flat type, which the cells of its values fill.
 ghost use Rattle.std.specs.Prelude.{◌≡◌, ◌≢◌, ◌++◌, IsTrue, List, Some, None, IfOk, IfErr, OnOk, codes};
 ghost use Rattle.flume_types.specs.Columns.{joined, columns_of, input_columns_of, cell_kind as kind_of, cell_column, cells_under, field_columns, record_columns};
 ghost use Rattle.flume_value.specs.declared.value.Value.{Value as Value_};

@@ -1,3 +1,4 @@
+// Whether two types are one.
 #![tactic(auto, using(crate::proofs::SameLemmas::same_rules))]
 
 ghost use Rattle.std.specs.Prelude.{◌≡◌, ◌↔◌, IsTrue};

@@ -1,3 +1,4 @@
+// The type of a table's elements.
 ghost use Rattle.std.specs.Prelude.{◌≡◌, IfOk};
 ghost use Rattle.flume_types.specs.Tables.{table_of};
 

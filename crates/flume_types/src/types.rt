@@ -1,3 +1,4 @@
+// The types of values, and the fields of record types.
 use flume_value::{Held, Pile, Str};
 
 /// A type of values.

@@ -1,3 +1,4 @@
+// Whether a value has a type.
 ghost use Rattle.std.specs.Prelude.{◌≡◌};
 ghost use Rattle.std.specs.List.{list_all};
 ghost use Rattle.flume_value.specs.declared.value.Value.{Value as Value_, out-Value};

@@ -6,30 +6,31 @@ ghost use Rattle.exec_graph.specs.World.{World};
 ghost use Rattle.exec_graph.specs.declared.step.Does.TheVariants as does;
 ghost use Rattle.forest_steps.specs.Functions.{IsTrapOf, world_of};
 ghost use Rattle.forest_steps.specs.Safety.{CanCall};
+ghost use Rattle.forest_steps.specs.inner.Answers.{lists_of};
 ghost use Rattle.forest_steps.specs.inner.Deriving.{IsDerived};
 
-use crate::derived::{left_tagged, one, right_tagged, split, spread, under_zero, with_one};
+use crate::derived::{left_tagged, right_tagged, split, spread, under_zero, with_one};
+use crate::emissions::Answer;
 use crate::fault::StepFault;
 use crate::functions::Functions;
 use combine_table::Comb;
 use exec_graph::Does;
 use flume_collection::Trap;
-use flume_value::{CallFault, Items, Value};
+use flume_value::{CallFault, Value};
 use keyed_steps::{KeyFault, combine_group};
 use std::alloc::{AllocError, Global};
 
-/// What a step of a script node answers of an element: one list of emissions for each of its
-/// outputs, or its trap.
+/// What a step of a script node answers of an element, or its trap.
 pub(crate) fn answer<F: Functions>(
     alloc: Global,
     functions: &F,
     origin: u32,
     does: Does,
     x: &Value,
-) -> Result<Vec<Items>, StepFault>
+) -> Result<Answer, StepFault>
     requires { CanCall (F.can_call functions.now) does x.now }
-    ensures given { IfOk result (λ lists.
-        called (world_of (F.called functions.now)) does x.now ≡ Ok lists.items) }
+    ensures given { IfOk result (λ answer.
+        called (world_of (F.called functions.now)) does x.now ≡ Ok (lists_of answer)) }
     ensures trap { IfErr result
         (IsTrapOf origin (called (world_of (F.called functions.now)) does x.now)) }
 {
@@ -47,10 +48,10 @@ pub(crate) fn answer_moved<F: Functions>(
     origin: u32,
     does: Does,
     x: Value,
-) -> Result<Vec<Items>, StepFault>
+) -> Result<Answer, StepFault>
     requires { CanCall (F.can_call functions.now) does x }
-    ensures given { IfOk result (λ lists.
-        called (world_of (F.called functions.now)) does x ≡ Ok lists.items) }
+    ensures given { IfOk result (λ answer.
+        called (world_of (F.called functions.now)) does x ≡ Ok (lists_of answer)) }
     ensures trap { IfErr result
         (IsTrapOf origin (called (world_of (F.called functions.now)) does x)) }
 {
@@ -66,15 +67,16 @@ fn call_function<F: Functions>(
     origin: u32,
     number: u32,
     x: &Value,
-) -> Result<Vec<Items>, StepFault>
+) -> Result<Answer, StepFault>
     requires { F.can_call functions.now number x.now }
-    ensures given { IfOk result (λ lists.
-        called (world_of (F.called functions.now)) (does.Call number) x.now ≡ Ok lists.items) }
+    ensures given { IfOk result (λ answer.
+        called (world_of (F.called functions.now)) (does.Call number) x.now
+        ≡ Ok (lists_of answer)) }
     ensures trap { IfErr result
         (IsTrapOf origin (called (world_of (F.called functions.now)) (does.Call number) x.now)) }
 {
     match functions.call(alloc, number, x) {
-        Ok(lists) => Ok(lists),
+        Ok(lists) => Ok(Answer::Lists(lists)),
         Err(CallFault::Trap(kind)) => Err(StepFault::Trap(Trap {
             origin,
             element: x.copy(alloc)?,
@@ -84,15 +86,15 @@ fn call_function<F: Functions>(
     }
 }
 
-fn combine(alloc: Global, origin: u32, comb: Comb, x: &Value) -> Result<Vec<Items>, StepFault>
+fn combine(alloc: Global, origin: u32, comb: Comb, x: &Value) -> Result<Answer, StepFault>
     requires { IsGroup comb x.now }
     ensures given { (w : World) →
-        IfOk result (λ lists. called w (does.Combine comb) x.now ≡ Ok lists.items) }
+        IfOk result (λ answer. called w (does.Combine comb) x.now ≡ Ok (lists_of answer)) }
     ensures trap { (w : World) →
         IfErr result (IsTrapOf origin (called w (does.Combine comb) x.now)) }
 {
     match combine_group(alloc, comb, x) {
-        Ok(pair) => Ok(one(alloc, pair)?),
+        Ok(pair) => Ok(Answer::One(pair)),
         Err(KeyFault::Trap { kind, key }) => Err(StepFault::Trap(Trap {
             origin,
             element: key,
@@ -103,9 +105,9 @@ fn combine(alloc: Global, origin: u32, comb: Comb, x: &Value) -> Result<Vec<Item
 }
 
 /// What a derived function answers.
-fn derive(alloc: Global, does: Does, x: Value) -> Result<Vec<Items>, AllocError>
+fn derive(alloc: Global, does: Does, x: Value) -> Result<Answer, AllocError>
     requires { IsDerived does }
-    ensures { (w : World) → IfOk result (λ lists. called w does x ≡ Ok lists.items) }
+    ensures { (w : World) → IfOk result (λ answer. called w does x ≡ Ok (lists_of answer)) }
 {
     match does {
         Does::Pair => with_one(alloc, x),

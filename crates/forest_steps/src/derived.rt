@@ -5,81 +5,74 @@ ghost use Rattle.flume_value.specs.Parts.{left_of, right_of};
 ghost use Rattle.bag_groups.specs.Pairs.{parts_of};
 ghost use Rattle.bag_groups.specs.Combining.{group_of};
 ghost use Rattle.exec_graph.specs.Derived.{with_one, under_zero, left_tagged, right_tagged, sides_of, split, spread};
+ghost use Rattle.forest_steps.specs.inner.Answers.{lists_of};
 
+use crate::emissions::{Answer, only};
 use bag_groups::pair;
 use flume_value::{Held, Items, Pile, Value};
 use std::alloc::{AllocError, Global};
 
 /// The element with the number 1.
-pub(crate) fn with_one(alloc: Global, x: Value) -> Result<Vec<Items>, AllocError>
-    ensures { IfOk result (λ lists. lists.items ≡ with_one x ∷ []) }
+pub(crate) fn with_one(alloc: Global, x: Value) -> Result<Answer, AllocError>
+    ensures { IfOk result (λ answer. lists_of answer ≡ with_one x ∷ []) }
 {
-    one(alloc, pair(alloc, x, Value::Int(1))?)
+    Ok(Answer::One(pair(alloc, x, Value::Int(1))?))
 }
 
 /// The number 0 with the element.
-pub(crate) fn under_zero(alloc: Global, x: Value) -> Result<Vec<Items>, AllocError>
-    ensures { IfOk result (λ lists. lists.items ≡ under_zero x ∷ []) }
+pub(crate) fn under_zero(alloc: Global, x: Value) -> Result<Answer, AllocError>
+    ensures { IfOk result (λ answer. lists_of answer ≡ under_zero x ∷ []) }
 {
-    one(alloc, pair(alloc, Value::Int(0), x)?)
+    Ok(Answer::One(pair(alloc, Value::Int(0), x)?))
 }
 
 /// A pair with its value made a left side.
-pub(crate) fn left_tagged(alloc: Global, x: Value) -> Result<Vec<Items>, AllocError>
-    ensures { IfOk result (λ lists. lists.items ≡ left_tagged x ∷ []) }
+pub(crate) fn left_tagged(alloc: Global, x: Value) -> Result<Answer, AllocError>
+    ensures { IfOk result (λ answer. lists_of answer ≡ left_tagged x ∷ []) }
 {
     match into_parts(x) {
         Some((key, value)) => {
             let side = Value::Left(Held::new(alloc, value)?);
-            one(alloc, pair(alloc, key, side)?)
+            Ok(Answer::One(pair(alloc, key, side)?))
         }
         None => only(alloc, Pile::new(alloc)),
     }
 }
 
 /// A pair with its value made a right side.
-pub(crate) fn right_tagged(alloc: Global, x: Value) -> Result<Vec<Items>, AllocError>
-    ensures { IfOk result (λ lists. lists.items ≡ right_tagged x ∷ []) }
+pub(crate) fn right_tagged(alloc: Global, x: Value) -> Result<Answer, AllocError>
+    ensures { IfOk result (λ answer. lists_of answer ≡ right_tagged x ∷ []) }
 {
     match into_parts(x) {
         Some((key, value)) => {
             let side = Value::Right(Held::new(alloc, value)?);
-            one(alloc, pair(alloc, key, side)?)
+            Ok(Answer::One(pair(alloc, key, side)?))
         }
         None => only(alloc, Pile::new(alloc)),
     }
 }
 
 /// A key and a list of eithers with the sides of the list apart.
-pub(crate) fn split(alloc: Global, x: Value) -> Result<Vec<Items>, AllocError>
-    ensures { IfOk result (λ lists. lists.items ≡ split x ∷ []) }
+pub(crate) fn split(alloc: Global, x: Value) -> Result<Answer, AllocError>
+    ensures { IfOk result (λ answer. lists_of answer ≡ split x ∷ []) }
 {
     match into_group(x) {
         Some((key, eithers)) => {
             let sides = sides_of(alloc, eithers)?;
-            one(alloc, pair(alloc, key, sides)?)
+            Ok(Answer::One(pair(alloc, key, sides)?))
         }
         None => only(alloc, Pile::new(alloc)),
     }
 }
 
 /// The members of the list of a key.
-pub(crate) fn spread(alloc: Global, x: Value) -> Result<Vec<Items>, AllocError>
-    ensures { IfOk result (λ lists. lists.items ≡ spread x ∷ []) }
+pub(crate) fn spread(alloc: Global, x: Value) -> Result<Answer, AllocError>
+    ensures { IfOk result (λ answer. lists_of answer ≡ spread x ∷ []) }
 {
     match into_group(x) {
         Some((_key, members)) => only(alloc, members),
         None => only(alloc, Pile::new(alloc)),
     }
-}
-
-/// One emission to the one output.
-pub(crate) fn one(alloc: Global, value: Value) -> Result<Vec<Items>, AllocError>
-    ensures { IfOk result (λ lists. lists.items ≡ (value ∷ []) ∷ []) }
-{
-    let mut values = Vec::with_capacity(alloc, 1)?;
-    values.push(value)?;
-    only(alloc, Pile::from_vec(values))
 }
 
 /// The lefts of eithers and their rights, each in order.
@@ -123,15 +116,6 @@ fn push(value: Value, values: &mut Vec<Value>) -> Result<(), AllocError>
 {
     values.push(value)?;
     Ok(())
-}
-
-/// These emissions to the one output.
-fn only(alloc: Global, values: Items) -> Result<Vec<Items>, AllocError>
-    ensures { IfOk result (λ lists. lists.items ≡ values ∷ []) }
-{
-    let mut lists = Vec::with_capacity(alloc, 1)?;
-    lists.push(values)?;
-    Ok(lists)
 }
 
 /// The key and the value of a pair.

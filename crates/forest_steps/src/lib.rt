@@ -5,9 +5,10 @@
 //! What it emits to an output is counted, goes, each emission in order, to the steps on that
 //! output, and then into the output's list, where it is kept. The first trap ends it.
 //!
-//! `run` (specs/Running.antt) says what steps give, and `visit_steps` gives it; `visit_outputs`
-//! goes on with what one step has answered. Counts stand by the places of outputs in preorder, for
-//! which `sizes_of` makes a table once a task.
+//! `run` (specs/Running.antt) says what steps give, and `visit_steps` gives it; `visit_one` goes on
+//! with one emission that a step has answered. No list is made for one emission: it goes on as it
+//! is. Counts stand by the places of outputs in preorder, for which `sizes_of` makes a table once a
+//! task.
 //!
 //! `Elements` is what a walk goes over: elements in their order, each with its steps. They stay
 //! where they are (`Borrowed`) or are handed over to their steps (`Owned`).
@@ -16,6 +17,7 @@
 mod answer;
 mod derived;
 mod elements;
+mod emissions;
 mod fault;
 mod functions;
 mod outputs;
@@ -27,4 +29,4 @@ pub use fault::StepFault;
 pub use functions::Functions;
 pub use outputs::Outputs;
 pub use sizes::sizes_of;
-pub use visit::{visit_outputs, visit_steps};
+pub use visit::{visit_one, visit_steps};

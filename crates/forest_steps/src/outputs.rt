@@ -1,9 +1,9 @@
 // What the outputs of steps are given.
-ghost use Rattle.std.specs.Prelude.{◌≡◌, ◌++◌, IfOk, OnOk};
+ghost use Rattle.std.specs.Prelude.{◌≡◌, ◌∷◌, ◌++◌, [], IfOk, OnOk};
 ghost use Rattle.forest_steps.specs.Running.{counted, kept};
 ghost use Rattle.forest_steps.specs.Fresh.{empties, zeros};
 
-use flume_value::{Items, Pile};
+use flume_value::{Items, Pile, Value};
 use std::alloc::{AllocError, Global};
 use std::marker::Model;
 
@@ -62,6 +62,19 @@ impl Outputs {
             let at = number as usize;
             if at < self.lists.len() {
                 append(&mut self.lists[at], emitted)?;
+            }
+        }
+        Ok(())
+    }
+
+    /// Puts one emission behind the list of the output, where it is kept.
+    pub(crate) fn keep_one(&mut self, number: Option<u32>, value: Value) -> Result<(), AllocError>
+        ensures { OnOk result (self.new ≡ kept number (value ∷ []) self.old) }
+    {
+        if let Some(number) = number {
+            let at = number as usize;
+            if at < self.lists.len() {
+                self.lists[at].push(value)?;
             }
         }
         Ok(())

@@ -1,13 +1,15 @@
 // The steps of a forest on one element.
-ghost use Rattle.std.specs.Prelude.{◌≡◌, ◌∷◌, IfOk, length, slice_get, drop};
+ghost use Rattle.std.specs.Prelude.{◌≡◌, ◌∷◌, [], IfOk, length, slice_get, drop};
 ghost use Rattle.std.specs.List.{AllByRecursion};
 ghost use Rattle.flume_collection.specs.Calls.{or_none};
 ghost use Rattle.exec_graph.specs.Forests.{Bare, grown, limb};
 ghost use Rattle.forest_steps.specs.Functions.{world_of};
 ghost use Rattle.forest_steps.specs.Safety.{Safe};
 ghost use Rattle.forest_steps.specs.Running.{run, run_each, run_out, run_twigs, below, behind, behind_all, IsRun, SafeTwigs};
+ghost use Rattle.forest_steps.specs.inner.Answers.{lists_of};
 
 use crate::answer::{answer, answer_moved};
+use crate::emissions::{Answer, one_in_lists};
 use crate::fault::StepFault;
 use crate::functions::Functions;
 use crate::outputs::Outputs;
@@ -63,9 +65,36 @@ pub fn move_to_steps<F: Functions>(
     Ok(())
 }
 
+/// One emission that a step has answered, to its first output. It gives the place behind the step's
+/// outputs.
+#[cycle(visit)]
+pub fn visit_one<F: Functions>(
+    alloc: Global,
+    functions: &F,
+    sizes: &[usize],
+    step: &Step,
+    at: usize,
+    value: Value,
+    outputs: &mut Outputs,
+) -> Result<usize, StepFault>
+    requires { SafeTwigs (world_of (F.called functions.now)) (F.can_call functions.now)
+        ((value ∷ []) ∷ []) (step.now.first ∷ step.now.more) }
+    ensures ran { IsRun (run_twigs (world_of (F.called functions.now)) sizes.now at
+        ((value ∷ []) ∷ []) (step.now.first ∷ step.now.more) outputs.old) outputs.new result }
+    ensures place { IfOk result (λ next.
+        next ≡ behind_all sizes.now at (step.now.first ∷ step.now.more)) }
+{
+    if step.more.is_empty() {
+        visit_emission(alloc, functions, sizes, &step.first, at, value, outputs)?;
+        return Ok(behind(sizes, at));
+    }
+    let lists = one_in_lists(alloc, value)?;
+    visit_outputs(alloc, functions, sizes, step, at, lists, outputs)
+}
+
 /// What a step answered, to each of its outputs in order. It gives the place behind them.
 #[cycle(visit)]
-pub fn visit_outputs<F: Functions>(
+fn visit_outputs<F: Functions>(
     alloc: Global,
     functions: &F,
     sizes: &[usize],
@@ -110,8 +139,32 @@ fn visit_step<F: Functions>(
     ensures place { IfOk result (λ next.
         next ≡ behind_all sizes.now at (step.now.first ∷ step.now.more)) }
 {
-    let answers = answer(alloc, functions, step.origin, step.does, x)?;
-    visit_outputs(alloc, functions, sizes, step, at, answers, outputs)
+    let answered = answer(alloc, functions, step.origin, step.does, x)?;
+    visit_answer(alloc, functions, sizes, step, at, answered, outputs)
+}
+
+/// What a step answered, to its outputs. It gives the place behind them.
+#[cycle(visit)]
+fn visit_answer<F: Functions>(
+    alloc: Global,
+    functions: &F,
+    sizes: &[usize],
+    step: &Step,
+    at: usize,
+    answered: Answer,
+    outputs: &mut Outputs,
+) -> Result<usize, StepFault>
+    requires { SafeTwigs (world_of (F.called functions.now)) (F.can_call functions.now)
+        (lists_of answered) (step.now.first ∷ step.now.more) }
+    ensures ran { IsRun (run_twigs (world_of (F.called functions.now)) sizes.now at
+        (lists_of answered) (step.now.first ∷ step.now.more) outputs.old) outputs.new result }
+    ensures place { IfOk result (λ next.
+        next ≡ behind_all sizes.now at (step.now.first ∷ step.now.more)) }
+{
+    match answered {
+        Answer::One(value) => visit_one(alloc, functions, sizes, step, at, value, outputs),
+        Answer::Lists(lists) => visit_outputs(alloc, functions, sizes, step, at, lists, outputs),
+    }
 }
 
 #[cycle(visit)]
@@ -139,6 +192,43 @@ fn visit_output<F: Functions>(
         visit_kids(alloc, functions, sizes, output, first, y, outputs)?;
     }
     outputs.keep(output.number, emitted)?;
+    Ok(())
+}
+
+/// One emission to an output, and it alone. Where one step reads it and it is not kept, that takes
+/// it.
+#[cycle(visit)]
+fn visit_emission<F: Functions>(
+    alloc: Global,
+    functions: &F,
+    sizes: &[usize],
+    output: &Output,
+    at: usize,
+    value: Value,
+    outputs: &mut Outputs,
+) -> Result<(), StepFault>
+    requires { Safe (world_of (F.called functions.now)) (F.can_call functions.now)
+        (grown output.now.kids.items) value }
+    ensures { IsRun (run_out output.now.number at (run (world_of (F.called functions.now))
+        sizes.now (below at) (grown output.now.kids.items)) (value ∷ []) outputs.old)
+        outputs.new result }
+{
+    outputs.count(at, 1);
+    let first = below(at);
+    if output.number.is_none() && output.kids.len() == 1 {
+        visit_moved(
+            alloc,
+            functions,
+            sizes,
+            &output.kids[0],
+            first,
+            value,
+            outputs,
+        )?;
+        return Ok(());
+    }
+    visit_kids(alloc, functions, sizes, output, first, &value, outputs)?;
+    outputs.keep_one(output.number, value)?;
     Ok(())
 }
 
@@ -182,8 +272,8 @@ fn visit_moved<F: Functions>(
     ensures { IsRun (run (world_of (F.called functions.now)) sizes.now at (limb step.now Bare)
         x outputs.old) outputs.new result }
 {
-    let answers = answer_moved(alloc, functions, step.origin, step.does, x)?;
-    visit_outputs(alloc, functions, sizes, step, at, answers, outputs)
+    let answered = answer_moved(alloc, functions, step.origin, step.does, x)?;
+    visit_answer(alloc, functions, sizes, step, at, answered, outputs)
 }
 
 /// The steps on an output, on one emission to it.

@@ -107,7 +107,10 @@ left_good b n k (Pdo c f) a h =
     elim (leads b k c) as (λ s. AllByRecursion (λ (e : Entry). IsLeft n e.node) (cond s (record {
       number = k;
       node = Pdo c (forest_over b c);
-    } ∷ []) [])) [ true ↦ (trees_few b (length b.graph.nodes) (readers b.graph.nodes c) 0 a, tt) | false ↦ tt ]
+    } ∷ []) [])) [
+      | true ↦ (trees_few b (length b.graph.nodes) (readers b.graph.nodes c) 0 a, tt)
+      | false ↦ tt
+    ]
 
 all_left : (b : Cut) (n : Input ⊎ Act → Type 0) (es : List Entry) → AreFew b.graph.nodes
     → AllByRecursion (λ e. BringsSuch n e.node) es

@@ -1,3 +1,4 @@
+// The int that a text shows.
 ghost use Rattle.std.specs.Prelude.{◌≡◌};
 ghost use Rattle.int_text.specs.Ints.{int_of_text as int_shown};
 

@@ -1,3 +1,4 @@
+// Why the lists of groups were not combined.
 use flume_value::{Kind, Value};
 use std::alloc::{AllocError, AllocFailed};
 

@@ -1,3 +1,4 @@
+// What the types of tables and groups say: members are pairs, and lists suit the combiner.
 ghost use Rattle.std.specs.Prelude.{All, List};
 ghost use Rattle.flume_value.specs.declared.value.Value.{Value};
 ghost use Rattle.flume_types.specs.declared.types.Ty.{Ty};

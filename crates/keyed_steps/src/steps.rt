@@ -1,3 +1,4 @@
+// Groups combined, each list to one value under its key.
 ghost use Rattle.std.specs.Prelude.{◌≡◌, ◌∷◌, [], All, IfOk, IfErr, length, map};
 ghost use Rattle.flume_value.specs.Bag.{bag_of};
 ghost use Rattle.flume_types.specs.declared.types.Ty.{Ty};

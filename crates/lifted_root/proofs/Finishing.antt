@@ -16,11 +16,13 @@ use Rattle.forest_steps.specs.declared.fault.StepFault.{StepFault}
 use Rattle.forest_steps.specs.declared.fault.StepFault.TheVariants as fault
 use Rattle.lifted_root.specs.Lifted.{run_called, SafeCalled}
 
-pub gives : (key v : Value) (r : Result Value Kind) (lists : List (List Value))
-    → Ok v ≡ answer r → lists ≡ (pair key v ∷ []) ∷ [] → of_combine key r ≡ Ok lists
-gives key v (Ok x) lists e is =
-    let same : v ≡ x = cc in ap (λ y. Ok ((pair key y ∷ []) ∷ [])) (sym same) ∙ ap Ok (sym is)
-gives key v (Err kind) lists e is = cc e
+pub gives : (key v emitted : Value) (r : Result Value Kind) → Ok v ≡ answer r
+    → emitted ≡ pair key v → of_combine key r ≡ Ok ((emitted ∷ []) ∷ [])
+gives key v emitted (Ok x) e is =
+    let same : v ≡ x = cc in
+    ap (λ y. Ok ((pair key y ∷ []) ∷ [])) (sym same)
+    ∙ ap (λ p. Ok ((p ∷ []) ∷ [])) (sym is)
+gives key v emitted (Err kind) e is = cc e
 
 pub traps : (origin : ℕ) (key : Value) (kind : Kind) (r : Result Value Kind)
     → Err (call.Trap kind) ≡ answer r

@@ -27,6 +27,7 @@ abbrev pub SafeCalled : World → (ℕ → Value → Type 0) → Branch → Call
 SafeCalled w takes b (Ok answers) = SafeTwigs w takes answers (b.first ∷ b.more)
 SafeCalled w takes b (Err trap) = Unit {0}
 
--- a key's accumulator is of the combiner, and the steps may be called on what the root answers of it
+-- a key's accumulator is of the combiner, and the steps may be called on what the root answers of
+-- it
 abbrev pub SafePartial : World → (ℕ → Value → Type 0) → Branch → Comb → Value × Value → Type 0
 SafePartial w takes b c p = IsPartialOf c p × SafeCalled w takes b (partial_answer c p)

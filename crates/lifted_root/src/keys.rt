@@ -7,7 +7,7 @@ ghost use Rattle.lifted_root.specs.Lifted.{run_partial, SafePartial};
 use crate::finish::finish_root;
 use combine_table::Comb;
 use exec_graph::Step;
-use forest_steps::{Elements, Functions, Outputs, StepFault, visit_outputs};
+use forest_steps::{Elements, Functions, Outputs, StepFault, visit_one};
 use partial_tables::Partial;
 use std::alloc::Global;
 use std::vec::IntoIter;
@@ -72,7 +72,7 @@ fn run_root<F: Functions>(
     ensures { IsRun (run_partial (world_of (F.called functions.now)) sizes.now root.now comb partial
         outputs.old) outputs.new result }
 {
-    let answers = finish_root(alloc, root.origin, comb, partial)?;
-    visit_outputs(alloc, functions, sizes, root, 0, answers, outputs)?;
+    let emitted = finish_root(alloc, root.origin, comb, partial)?;
+    visit_one(alloc, functions, sizes, root, 0, emitted, outputs)?;
     Ok(())
 }

@@ -4,3 +4,4 @@ pub mod Handing
 pub mod Sending
 pub mod Working
 pub mod CrossLemmas
+pub mod Fitting

@@ -39,7 +39,7 @@ found P (x ∷ xs) zero all h = (x, refl, all.0)
 found P (x ∷ xs) (suc i) all h = found P xs i all.1 (omega arith)
 
 -- ---- the same in worlds in which functions answer alike
-same_given_to : (v w : World) → v.called ≡ w.called → (task : Task) (m : ℕ)
+pub same_given_to : (v w : World) → v.called ≡ w.called → (task : Task) (m : ℕ)
     → given_to v task m ≡ given_to w task m
 same_given_to v w same task m =
     λ i takes. flat_map

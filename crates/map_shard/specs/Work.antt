@@ -51,6 +51,17 @@ work_code {F} code =
     })
     (λ _. refl)
 
+abbrev pub work_of : {F : Type 0} → F → List (List Value) → List (List (List Value)) → Mscr → ℕ
+    → ℕ → Work F
+work_of functions sources results stage shards partitions = record {
+  functions = functions;
+  sources = sources;
+  results = results;
+  stage = stage;
+  shards = shards;
+  partitions = partitions;
+}
+
 module _ {F : Type 0} where
   abbrev pub split_of : Work F → Split
   split_of w = split w.shards w.partitions

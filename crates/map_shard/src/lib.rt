@@ -7,15 +7,18 @@
 //!
 //! `MapTasks` is the map tasks of a stage, as a crew takes them. Contracts see it as a `Work`
 //! (specs/Work.antt): all that the tasks read, with what it asks (`CanWork`) and what is right for
-//! a task to give (`IsWorkValue`). `list_of` borrows the list of a collection, and `take_list`
-//! takes one of several lists away.
+//! a task to give (`IsWorkValue`). In a typed run of a plan the tasks of each stage can be made
+//! (`map_tasks_law`, behind `stage_law` of `task_safety`). `list_of` borrows the list of a
+//! collection, and `take_list` takes one of several lists away.
 #![tactic(auto)]
 
+mod laws;
 mod lists;
 mod moving;
 mod send;
 mod tasks;
 
+pub use laws::map_tasks_law;
 pub use lists::list_of;
 pub use moving::take_list;
 pub use tasks::MapTasks;

@@ -1,3 +1,4 @@
+// The check of a flatten: its sources are collections of one type.
 ghost use Rattle.std.specs.Prelude.{◌≡◌, ◌<◌, List, [], length, map, IfOk};
 ghost use Rattle.std.specs.List.{All};
 ghost use Rattle.flume_types.specs.declared.types.Ty.{Ty};

@@ -1,3 +1,4 @@
+// Numbers that a script writes in digits, within their limits.
 ghost use Rattle.std.specs.Prelude.{◌≡◌};
 ghost use Rattle.written_types.specs.Answer.{Gives};
 ghost use Rattle.operation_check.specs.Numbers as spec;

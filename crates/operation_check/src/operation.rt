@@ -1,3 +1,4 @@
+// The check of each operation: the collection that it makes, or its first fault.
 ghost use Rattle.std.specs.Prelude.{◌≡◌, ℕ, ◌<◌, List, length, map, IfOk};
 ghost use Rattle.flume_types.specs.declared.types.Ty.{Ty};
 ghost use Rattle.type_table.specs.Table.{type_at, Extends};

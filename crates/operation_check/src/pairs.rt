@@ -1,3 +1,4 @@
+// The types of a table's key and value, and of a list's members.
 ghost use Rattle.std.specs.Prelude.{◌≡◌, ◌<◌, ℕ, List, length, map, IfOk};
 ghost use Rattle.flume_types.specs.declared.types.Ty.{Ty, out-Ty};
 ghost use Rattle.type_table.specs.Table.{type_at, field_at, AreWithin};

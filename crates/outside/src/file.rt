@@ -1,3 +1,4 @@
+// A named file, as sources and shelves tell it.
 use flume_value::Str;
 
 /// A file that a source or a shelf tells: its name and its bytes.

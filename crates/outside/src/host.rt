@@ -1,3 +1,4 @@
+// What is asked of a worker's machine, and the real one, which is never down.
 ghost use Rattle.std.specs.Prelude.{None, ◌≡◌, ℕ, Option, is_ok, IfSome, IsSomeAnd};
 ghost use Rattle.outside.specs.Cause.{HasCause};
 ghost use Rattle.outside.specs.Notes.{Notes, noted};

@@ -8,16 +8,18 @@
 //! tell all that they hold and fail exactly where a list says, for tests; `CalmHost` is the real
 //! host.
 //!
-//! Above the traits stand whole transfers: `load` and `load_tried` read a file within a limit,
-//! `save` and `save_all` write files and end each of them, `say` and `say_all` print a text without
-//! taking memory.
+//! Above the traits stand whole transfers: `load` and `load_tried` read a file within a limit, as
+//! `Pieces` that a reader lets go one by one; `save` and `save_all` write files and end each of
+//! them; `say` and `say_all` print a text without taking memory.
 #![tactic(auto)]
 
 mod file;
+mod fronts;
 mod host;
 mod loads;
 mod memory;
 mod names;
+mod pieces;
 mod saves;
 mod says;
 mod screen;
@@ -29,6 +31,7 @@ pub use host::{At, CalmHost, Down, Host, Phase};
 pub use loads::{LoadFault, load, load_tried};
 pub use memory::{Fail, MemHost, MemScreen, MemShelf, MemSource};
 pub use names::FileName;
+pub use pieces::{PieceReader, Pieces};
 pub use saves::{Output, save, save_all};
 pub use says::{say, say_all};
 pub use screen::Screen;

@@ -1,3 +1,4 @@
+// Loading a whole file from a source, up to a limit, again where the source failed.
 ghost use Rattle.std.specs.Prelude.{◌≡◌, ◌≤◌, ◌<◌, ◌+◌, ◌↔◌, ◌++◌, ◌∷◌, [], None, ℕ, Some, drop, length, IsTrue, IfOk, OnOk, OnErr, IfSome, IsErrOf, IsSomeAnd};
 ghost use Rattle.outside.specs.Asked.{Asks};
 ghost use Rattle.outside.specs.Cause.{Rose, RoseBy};
@@ -7,11 +8,9 @@ ghost use Rattle.outside.specs.Seen.{seen};
 ghost use Rattle.outside.specs.Told.{WhileTold};
 ghost use Rattle.outside.specs.declared.loads.LoadFault.TheVariants.{Missing, Failed as LoadFailed, Memory};
 
+use crate::pieces::{PIECE, Pieces};
 use crate::{BeginFault, Failed, Source};
 use std::alloc::{AllocError, Global};
-
-// Bytes that are asked for at once.
-const PIECE: u64 = 4096;
 
 /// Why a load gave no bytes.
 #[derive(Clone, Copy, Debug, PartialEq, Eq)]
@@ -63,14 +62,14 @@ pub fn load_tried<S: Source>(
     name: &str,
     limit: u64,
     tries: u32,
-) -> Result<Vec<u8>, LoadFault>
+) -> Result<Pieces, LoadFault>
     requires tries { 0 < tries }
     ensures files { S.files source.new ≡ S.files source.old }
     ensures asked { Asks tries (name.now ∷ []) (seen S.asked S.faults source.old)
         (seen S.asked S.faults source.new) }
-    ensures within { IfOk result (λ bytes. length bytes.items ≤ limit) }
+    ensures within { IfOk result (λ bytes. length bytes ≤ limit) }
     ensures bytes { IfSome (S.files source.old) (λ files.
-        IfOk result (λ bytes. bytes_of files name.now ≡ Some bytes.items)) }
+        IfOk result (λ bytes. bytes_of files name.now ≡ Some bytes)) }
     ensures missing { IfSome (S.files source.old) (λ files.
         IsErrOf result LoadFault.Missing ↔ (bytes_of files name.now ≡ None)) }
     ensures too_long { IfSome (S.files source.old) (λ files.
@@ -103,13 +102,13 @@ pub fn load<S: Source>(
     source: &mut S,
     name: &str,
     limit: u64,
-) -> Result<Vec<u8>, LoadFault>
+) -> Result<Pieces, LoadFault>
     ensures files { S.files source.new ≡ S.files source.old }
     ensures asked { WhileTold (S.asked source.old) (S.asked source.new)
         (λ old new. new ≡ old ++ name.now ∷ []) }
-    ensures within { IfOk result (λ bytes. length bytes.items ≤ limit) }
+    ensures within { IfOk result (λ bytes. length bytes ≤ limit) }
     ensures bytes { IfSome (S.files source.old) (λ files.
-        IfOk result (λ bytes. bytes_of files name.now ≡ Some bytes.items)) }
+        IfOk result (λ bytes. bytes_of files name.now ≡ Some bytes)) }
     ensures missing { IfSome (S.files source.old) (λ files.
         IsErrOf result LoadFault.Missing ↔ (bytes_of files name.now ≡ None)) }
     ensures too_long { IfSome (S.files source.old) (λ files.
@@ -123,39 +122,54 @@ pub fn load<S: Source>(
         Rose (S.faults source.old) (S.faults source.new) }
 {
     source.begin(name)?;
-    let mut buf = [0u8; PIECE as usize];
-    let mut bytes = Vec::new(alloc);
-    while bytes.len() as u64 <= limit {
-        let left = limit - bytes.len() as u64;
-        let room = if left < PIECE {
-            left as usize + 1
-        } else {
-            PIECE as usize
-        };
-        if read_piece(source, &mut buf[..room], &mut bytes)? == 0 {
+    let mut buf = [0u8; PIECE];
+    let mut bytes = Pieces::new(alloc);
+    let mut left = limit;
+    'pieces: loop {
+        let read = read_piece(alloc, source, &mut buf[..room(left)], &mut bytes)? as u64;
+        if read == 0 {
             return Ok(bytes);
         }
+        if read > left {
+            return Err(LoadFault::TooLong);
+        }
+        left -= read;
     }
-    Err(LoadFault::TooLong)
+}
+
+// How many bytes are asked for at once, where so many are left: one more than these, if a piece
+// has room for them.
+fn room(left: u64) -> usize
+    ensures some { 0 < result }
+    ensures piece { result ≤ 65536 }
+    ensures most { result ≤ left + 1 }
+{
+    if left < PIECE as u64 {
+        left as usize + 1
+    } else {
+        PIECE
+    }
 }
 
 // Reads a piece into the buffer, and adds it to the bytes.
 fn read_piece<S: Source>(
+    alloc: Global,
     source: &mut S,
     buf: &mut [u8],
-    bytes: &mut Vec<u8>,
+    bytes: &mut Pieces,
 ) -> Result<usize, LoadFault>
     requires begun { IsTrue (S.begun source.old) }
     requires room { 0 < length buf.old }
+    requires piece { length buf.old ≤ 65536 }
     ensures files { S.files source.new ≡ S.files source.old }
     ensures asked { S.asked source.new ≡ S.asked source.old }
     ensures begun { IsTrue (S.begun source.new) }
     ensures bound { IfOk result (λ n. n ≤ length buf.old) }
-    ensures more { IfOk result (λ n. length bytes.new.items ≡ length bytes.old.items + n) }
+    ensures more { IfOk result (λ n. length bytes.new ≡ length bytes.old + n) }
     ensures end { IfSome (S.files source.old) (λ _.
         IfOk result (λ n. n ≡ 0 → S.rest source.old ≡ [])) }
     ensures bytes { IfSome (S.files source.old) (λ _. OnOk result
-        (bytes.old.items ++ S.rest source.old ≡ bytes.new.items ++ S.rest source.new)) }
+        (bytes.old ++ S.rest source.old ≡ bytes.new ++ S.rest source.new)) }
     ensures later { S.faults source.old ≤ S.faults source.new }
     ensures failed { IsErrOf result LoadFault.Failed →
         Rose (S.faults source.old) (S.faults source.new) }
@@ -163,6 +177,6 @@ fn read_piece<S: Source>(
     ensures not_long { IsErrOf result LoadFault.TooLong → ⊥ }
 {
     let n = source.read(buf)?;
-    bytes.extend_from_slice(&buf[..n])?;
+    bytes.push(alloc, &buf[..n])?;
     Ok(n)
 }

@@ -1,3 +1,4 @@
+// The outside in memory: hosts, screens, shelves and sources that fail where a list says so.
 mod calls;
 mod host;
 mod screen;

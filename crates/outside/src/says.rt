@@ -1,3 +1,4 @@
+// Saying whole texts on a screen, by as many writes as it takes.
 ghost use Rattle.std.specs.List.{flat_map};
 ghost use Rattle.outside.specs.Says.{Says};
 ghost use Rattle.outside.specs.Seen.{seen};

@@ -1,3 +1,4 @@
+// What is asked of files to write, one at a time.
 ghost use Rattle.std.specs.Prelude.{◌≡◌, ◌≤◌, ◌<◌, List, [], ℕ, Bool, false, Option, length, take, is_ok, if◌then◌else◌, IsTrue, IfSome, OnOk, OnErr, IfOk};
 ghost use Rattle.std.specs.Option.{option_map};
 ghost use Rattle.outside.specs.Begun.{left_at_begin};

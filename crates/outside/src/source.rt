@@ -1,3 +1,4 @@
+// What is asked of files to read, one at a time, and how it fails.
 ghost use Rattle.std.specs.Prelude.{◌≡◌, ◌≤◌, ◌<◌, ◌↔◌, ◌++◌, List, [], ◌∷◌, None, Some, ℕ, Bool, Option, length, take, is_ok, IsTrue, IfOk, OnOk, IfSome, IsErrOf};
 ghost use Rattle.outside.specs.Cause.{HasCause, HasBeginCause};
 ghost use Rattle.outside.specs.Files.{bytes_of};
@@ -40,8 +41,9 @@ pub trait Source {
     /// Begins a file at its first byte. It may be called at any time, and ends the file that was
     /// begun before.
     ///
-    /// Missing comes exactly where told files lack the name, and Failed only where the count rose. A
-    /// source that tells its begins after the call told them before, and has this one behind them.
+    /// Missing comes exactly where told files lack the name, and Failed only where the count rose.
+    /// A source that tells its begins after the call told them before, and has this one behind
+    /// them.
     fn begin(&mut self, name: &str) -> Result<(), BeginFault>
         ensures files { files self.new ≡ files self.old }
         ensures asked { WhileTold (asked self.old) (asked self.new)

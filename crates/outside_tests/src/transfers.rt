@@ -2,7 +2,7 @@
 use flume_value::{Pile, Str};
 use outside::{
     At, CalmHost, Fail, File, FileName, Host, LoadFault, MemHost, MemScreen, MemShelf, MemSource,
-    Output, Phase, load_tried, save_all, say_all,
+    Output, Phase, Pieces, load_tried, save_all, say_all,
 };
 use std::alloc::{AllocError, Global};
 use std::test::Fail as TestFail;
@@ -62,11 +62,18 @@ fn source_of(alloc: Global, fails: Fails) -> Result<MemSource, AllocError> {
     MemSource::new(alloc, files, fail_list(alloc, fails)?)
 }
 
+fn is_hello(alloc: Global, file: Pieces) -> bool {
+    match file.into_vec(alloc) {
+        Ok(bytes) => bytes.as_slice() == b"hello".as_slice(),
+        Err(_) => false,
+    }
+}
+
 // The fault of a load, if it has one; or whether it gives the whole file.
 fn is_loaded(alloc: Global, source: &mut MemSource, it: Load) -> bool {
     let (name, limit, _, wanted, _, _) = it;
     match load_tried(alloc, source, name, limit, 2) {
-        Ok(bytes) => wanted.is_none() && bytes.as_slice() == b"hello".as_slice(),
+        Ok(file) => wanted.is_none() && is_hello(alloc, file),
         Err(fault) => wanted == Some(fault),
     }
 }

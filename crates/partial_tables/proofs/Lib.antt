@@ -1,5 +1,6 @@
 pub mod Adding
 pub mod Borrowed
+pub mod Cutting
 pub mod Equals
 pub mod Finishing
 pub mod Keys

@@ -1,3 +1,4 @@
+pub mod Cuts
 pub mod Merges
 pub mod Tables
 pub mod inner

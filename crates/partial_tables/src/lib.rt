@@ -7,7 +7,8 @@
 //! given where it is.
 //!
 //! `StandFor` says what accumulators stand for. What stands for parts of the pairs stands together
-//! for all of them, and is merged to the accumulators of the keys' values (`partials_law`).
+//! for all of them, and is merged to the accumulators of the keys' values (`partials_law`). What
+//! accumulators come to depends neither on the cut nor on the order of merging (`cuts_law`).
 #![tactic(auto)]
 
 mod laws;
@@ -15,7 +16,7 @@ mod lift;
 mod merge;
 mod table;
 
-pub use laws::partials_law;
+pub use laws::{cuts_law, partials_law};
 pub use lift::lift_borrowed;
 pub use merge::merge_borrowed;
 pub use table::{AddFault, Partial, Partials};

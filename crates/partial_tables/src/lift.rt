@@ -1,3 +1,4 @@
+// Accumulators of pairs, made in a table of bounded room that is emptied when it is full.
 ghost use Rattle.std.specs.Prelude.{◌≡◌, ◌≤◌, ◌++◌, ◌∷◌, [], All, Some, IfOk, OnOk, map};
 ghost use Rattle.bag_groups.specs.Pairs.{IsPair, pairs_of, parts_of};
 ghost use Rattle.combine_table.specs.Accumulators.{HasShape};

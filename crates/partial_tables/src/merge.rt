@@ -1,3 +1,4 @@
+// Accumulators merged by key, keys ascending.
 ghost use Rattle.std.specs.Prelude.{◌≡◌, ◌<◌, All, IfOk, OnOk, length, map};
 ghost use Rattle.partial_tables.specs.Tables.{IsPartialOf, added, holding};
 ghost use Rattle.partial_tables.specs.Merges.{merged_by_key};

@@ -1,3 +1,4 @@
+// The table of one combiner's accumulators by key, with bounded room.
 ghost use Rattle.std.specs.Prelude.{◌≡◌, ◌<◌, ◌++◌, ◌∷◌, [], map, length, IsFalse, IfOk, IfErr, OnOk};
 ghost use Rattle.std.specs.List.Sorted.{IsPermutation, IsSorted};
 ghost use Rattle.flume_value.specs.Order.{value_cmp};

@@ -20,8 +20,8 @@ pub(crate) fn fused(alloc: Global, scales: &[u32], graph: Graph) -> Option<Block
 /// An output: its node, and its number there.
 pub(crate) type Spot = (u32, u32);
 
-/// What is to be seen of a graph with marks: the steps of its Pdos, what Flattens, Barriers and Gbks
-/// read, what is written out, and what is marked.
+/// What is to be seen of a graph with marks: the steps of its Pdos, what Flattens, Barriers and
+/// Gbks read, what is written out, and what is marked.
 #[derive(Clone, Copy)]
 pub(crate) struct Shape {
     pub(crate) calls: &'static [Call],

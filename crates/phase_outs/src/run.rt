@@ -2,6 +2,7 @@
 ghost use Rattle.std.specs.Prelude.{◌≡◌, ◌*◌, ◌^◌, ◌<◌, ◌≤◌, length, map, IfOk, IfErr};
 ghost use Rattle.std.specs.List.{AllZip};
 ghost use Rattle.crew.specs.Hosts.{account, Grew};
+ghost use Rattle.crew.specs.Phases.{AreAskedOnce};
 ghost use Rattle.phase_outs.specs.Outs.{AreMade, IsStop};
 
 use crate::made::{PhaseOuts, made_outs};
@@ -30,6 +31,8 @@ pub fn run_to_end<
     requires hosts { (0 < length hosts.old) × (length hosts.old ≤ 16) }
     requires limit { T.count_of tasks.now * phase.now.tries < 2 ^ 31 }
     ensures grew { AllZip Grew
+        (map (account H.notes H.losses) hosts.old) (map (account H.notes H.losses) hosts.new) }
+    ensures asked { AreAskedOnce (T.count_of tasks.now) phase.now (T.places tasks.now)
         (map (account H.notes H.losses) hosts.old) (map (account H.notes H.losses) hosts.new) }
     ensures made { IfOk result (AreMade (T.count_of tasks.now) phase.now
         (T.is_value tasks.now) (T.places tasks.now)

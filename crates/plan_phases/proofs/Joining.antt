@@ -1,5 +1,5 @@
 -- Phases that run after others.
-use Rattle.std.proofs.Common.{ℕ, List, [], ◌∷◌, ◌++◌, append-nil, append_assoc, sym, ap, ◌∙◌}
+use Rattle.std.proofs.Common.{ℕ, List, [], ◌∷◌, ◌++◌, append-nil, append_assoc, refl, sym, ap, ◌∙◌, subst}
 use Rattle.std.specs.List.{AllByRecursion as Each, AllZip}
 use Rattle.flume_value.proofs.EachLemmas.{Each-append}
 use Rattle.crew.specs.declared.drill.Entry.{Entry}
@@ -9,7 +9,8 @@ use Rattle.plan_phases.specs.declared.fault.RunFault.{RunFault}
 use Rattle.plan_phases.specs.declared.fault.RunFault.TheVariants as fault
 use Rattle.plan_phases.specs.declared.winners.PhaseWinners.{PhaseWinners}
 use Rattle.plan_phases.specs.Phases.{PhaseTasks}
-use Rattle.plan_phases.specs.Told.{AreWinners, HaveRun, IsCalmPhase, IsReached, IsStopped, RanThrough, first_tasks, settings_of}
+use Rattle.plan_phases.specs.Told.{AreWinners, AskedFront, AskedInTurn, HaveRun, IsCalmPhase, IsReached, IsStopped, RanThrough, first_tasks, settings_of}
+use Rattle.plan_phases.proofs.Asking.{asked_then, front_before, front_behind, front_to}
 use Rattle.plan_phases.proofs.Lasting.{lost_before, run_before, run_later}
 
 zip_weaker : {A B : Type 0} (P Q : A → B → Type 0) → ((a : A) (b : B) → P a b → Q a b)
@@ -84,11 +85,12 @@ module _ (tries : ℕ) (drill : List Entry) where
 
     -- ---- runs
 
-    pub none_run : (us vs : List Account) (before : List PhaseWinners)
-        → HaveRun tries drill w [] us vs before before
-    none_run us vs before = record {
+    pub none_run : (us : List Account) (before : List PhaseWinners)
+        → HaveRun tries drill w [] us us before before
+    none_run us before = record {
       through = record { calm = tt; winners = []; won = tt };
       told = sym (append-nil before);
+      asked = refl;
     }
 
     -- phases that ran, and then others
@@ -101,6 +103,7 @@ module _ (tries : ℕ) (drill : List Entry) where
       through = through_then ps qs us vs ws h.through k.through f g;
       told = k.told ∙ ap (λ l. l ++ k.through.winners) h.told
           ∙ append_assoc first h.through.winners k.through.winners;
+      asked = asked_then tries drill ps qs us vs ws h.asked k.asked;
     }
 
     -- ---- where a run stops
@@ -115,19 +118,23 @@ module _ (tries : ℕ) (drill : List Entry) where
       is_task = h.is_task;
       earlier = h.earlier;
       smaller = h.smaller;
+      asked = h.asked;
     }
 
     reached_behind : (ps qs : List PhaseTasks) (us vs ws : List Account) (here : PhaseTasks)
-        (task : ℕ) → RanThrough tries drill w ps us vs
+        (task : ℕ) → RanThrough tries drill w ps us vs → AskedInTurn tries drill ps us vs
         → IsReached tries drill w qs vs ws here task → AllZip Grew us vs → AllZip Grew vs ws
         → IsReached tries drill w (ps ++ qs) us ws here task
-    reached_behind ps qs us vs ws here task ran h f g = record {
+    reached_behind ps qs us vs ws here task ran asked h f g = record {
       before = ps ++ h.before;
       behind = h.behind;
       whole = append_assoc ps h.before (here ∷ h.behind) ∙ ap (λ l. ps ++ l) h.whole;
       is_task = h.is_task;
       earlier = through_then ps h.before us vs ws ran h.earlier f g;
       smaller = through_before (first_tasks task here ∷ []) us vs ws f g h.smaller;
+      asked = subst (λ (l : List PhaseTasks). AskedInTurn tries drill l us ws)
+          (sym (append_assoc ps h.before (here ∷ [])))
+          (asked_then tries drill ps (h.before ++ here ∷ []) us vs ws asked h.asked);
     }
 
     -- where others come after
@@ -149,26 +156,39 @@ module _ (tries : ℕ) (drill : List Entry) where
       reached = reached_before ps qs us vs h.here task h.reached;
       lost = h.lost;
     }
-    stopped_before ps qs us vs fault.Memory h = tt
+    stopped_before ps qs us vs fault.Memory h = front_before tries drill ps qs us vs h
 
     -- where others have run through before
     pub stopped_behind : (ps qs : List PhaseTasks) (us vs ws : List Account) (e : RunFault)
-        → RanThrough tries drill w ps us vs → IsStopped tries drill w qs vs ws e
+        → RanThrough tries drill w ps us vs → AskedInTurn tries drill ps us vs
+        → IsStopped tries drill w qs vs ws e
         → AllZip Grew us vs → AllZip Grew vs ws → IsStopped tries drill w (ps ++ qs) us ws e
-    stopped_behind ps qs us vs ws (fault.Trap trap) through h f g = record {
+    stopped_behind ps qs us vs ws (fault.Trap trap) through asked h f g = record {
       here = h.here;
       number = h.number;
-      reached = reached_behind ps qs us vs ws h.here h.number through h.reached f g;
+      reached = reached_behind ps qs us vs ws h.here h.number through asked h.reached f g;
       task = h.task;
       at = h.at;
       is = h.is;
       attempt = h.attempt;
       ran = run_before (settings_of tries drill h.here) us vs ws h.number _ h.attempt f h.ran g;
     }
-    stopped_behind ps qs us vs ws (fault.GaveUp stage phase task) through h f g = record {
+    stopped_behind ps qs us vs ws (fault.GaveUp stage phase task) through asked h f g = record {
       here = h.here;
       named = h.named;
-      reached = reached_behind ps qs us vs ws h.here task through h.reached f g;
+      reached = reached_behind ps qs us vs ws h.here task through asked h.reached f g;
       lost = lost_before _ (settings_of tries drill h.here) us vs ws task f h.lost g;
     }
-    stopped_behind ps qs us vs ws fault.Memory through h f g = tt
+    stopped_behind ps qs us vs ws fault.Memory through asked h f g =
+        front_behind tries drill ps qs us vs ws asked h
+
+    -- where a run stopped, the hosts were asked for a front of its phases
+    pub front_stopped : (ps : List PhaseTasks) (us vs : List Account) (e : RunFault)
+        → IsStopped tries drill w ps us vs e → AskedFront tries drill ps us vs
+    front_stopped ps us vs (fault.Trap trap) h =
+        let r = h.reached in
+        front_to tries drill r.before r.behind ps h.here us vs r.whole r.asked
+    front_stopped ps us vs (fault.GaveUp stage phase task) h =
+        let r = h.reached in
+        front_to tries drill r.before r.behind ps h.here us vs r.whole r.asked
+    front_stopped ps us vs fault.Memory h = h

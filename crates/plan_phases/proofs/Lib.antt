@@ -1,4 +1,5 @@
 pub mod Trapping
 pub mod Lasting
+pub mod Asking
 pub mod Joining
 pub mod Stopping

@@ -6,7 +6,7 @@ use Rattle.flume_collection.specs.declared.trap.Trap.{Trap}
 use Rattle.crew.specs.declared.drill.Entry.{Entry}
 use Rattle.crew.specs.Drills.{Settings}
 use Rattle.crew.specs.Hosts.{Account}
-use Rattle.crew.specs.Phases.{CanFinish, IsLostTask}
+use Rattle.crew.specs.Phases.{AreAskedOnce, CanFinish, IsLostTask}
 use Rattle.phase_outs.specs.Outs.{HasRun}
 use Rattle.exec_graph.specs.World.{World}
 use Rattle.task_lists.specs.Tasks.{Task, places}
@@ -48,6 +48,26 @@ module _ (tries : ℕ) (drill : List Entry) where
   abbrev pub settings_of : PhaseTasks → Settings
   settings_of ph = record { stage = ph.stage; phase = ph.phase; tries = tries; drill = drill }
 
+  -- the hosts were asked for places of the phase alone, each task with as many as it has, and for
+  -- each of them at most once
+  pub record AreAsked (ph : PhaseTasks) (olds news : List Account) : Type 0 where
+    pub asks : ℕ → ℕ
+    pub each : (k : ℕ) (task : Task) → slice_get ph.tasks k ≡ Some task → asks k ≡ places task
+    pub once : AreAskedOnce (length ph.tasks) (settings_of ph) asks olds news
+
+  -- the hosts were asked for these phases alone, one behind the other, and for each of them once
+  abbrev pub AskedInTurn : List PhaseTasks → List Account → List Account → Type 0
+  AskedInTurn [] olds news = olds ≡ news
+  AskedInTurn (ph ∷ phases) olds news =
+      (mids : List Account) × AreAsked ph olds mids × AskedInTurn phases mids news
+
+  -- the same of a front of these phases, and the hosts were asked for none behind it
+  pub record AskedFront (phases : List PhaseTasks) (olds news : List Account) : Type 0 where
+    pub before : List PhaseTasks
+    pub behind : List PhaseTasks
+    pub whole : before ++ behind ≡ phases
+    pub asked : AskedInTurn before olds news
+
   -- the winners are those of the phase: an attempt of each task, all of whose places some host has
   -- let through since
   pub record AreWinners (olds news : List Account) (ph : PhaseTasks) (winners : PhaseWinners)
@@ -65,14 +85,16 @@ module _ (tries : ℕ) (drill : List Entry) where
     pub winners : List PhaseWinners
     pub won : AllZip (AreWinners olds news) phases winners
 
-  -- the phases have run through since, and their winners were told behind the others
+  -- the phases have run through since, and their winners were told behind the others; the hosts
+  -- were asked for these phases alone, in turn
   pub record HaveRun (w : World) (phases : List PhaseTasks) (olds news : List Account)
       (before after : List PhaseWinners) : Type 0 where
     pub through : RanThrough w phases olds news
     pub told : after ≡ before ++ through.winners
+    pub asked : AskedInTurn phases olds news
 
   -- the run has come to this task of one of the phases: the phases before it have run through, and
-  -- so have the smaller tasks of its own
+  -- so have the smaller tasks of its own; the hosts were asked for no phase behind it
   pub record IsReached (w : World) (phases : List PhaseTasks) (olds news : List Account)
       (here : PhaseTasks) (task : ℕ) : Type 0 where
     pub before : List PhaseTasks
@@ -81,6 +103,7 @@ module _ (tries : ℕ) (drill : List Entry) where
     pub is_task : task < length here.tasks
     pub earlier : RanThrough w before olds news
     pub smaller : RanThrough w (first_tasks task here ∷ []) olds news
+    pub asked : AskedInTurn (before ++ here ∷ []) olds news
 
   -- a task of one of the phases has trapped: the run has come to it, some attempt of it has run,
   -- and this is its first trap
@@ -104,12 +127,12 @@ module _ (tries : ℕ) (drill : List Entry) where
     pub reached : IsReached w phases olds news here task
     pub lost : IsLostTask (length here.tasks) (settings_of here) olds news task
 
-  -- the run of the phases has stopped
+  -- the run of the phases has stopped: where no memory was found, behind some front of them
   abbrev pub IsStopped : World → List PhaseTasks → List Account → List Account → RunFault → Type 0
   IsStopped w phases olds news (fault.Trap trap) = HasTrapped w phases olds news trap
   IsStopped w phases olds news (fault.GaveUp stage phase task) =
       IsGivenUp w phases olds news stage phase task
-  IsStopped w phases olds news fault.Memory = ⊤
+  IsStopped w phases olds news fault.Memory = AskedFront phases olds news
 
   -- for each task of each phase some try is neither in the drill nor accounted for by the losses of
   -- the hosts

@@ -1,3 +1,4 @@
+// What holds of a plan's phases: their traps are those of its tasks.
 ghost use Rattle.std.specs.Prelude.{◌≡◌, ◌<◌, Some, None};
 ghost use Rattle.std.specs.List.{AllByRecursion, flat_map};
 ghost use Rattle.flume_collection.specs.declared.trap.Trap.{Trap};

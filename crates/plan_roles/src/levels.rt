@@ -144,7 +144,8 @@ fn greatest_level(
 
 fn risen_by(act: Act, inputs: &[Place], read: u32) -> u32
     requires { read + 1 < 2 ^ 32 }
-    ensures { (origin : ℕ) (last : Bool) → result ≡ one_gbk (Barrier inputs.now origin last act) + read }
+    ensures { (origin : ℕ) (last : Bool) →
+        result ≡ one_gbk (Barrier inputs.now origin last act) + read }
 {
     if inputs.is_empty() {
         return read;

@@ -1,6 +1,6 @@
--- What an operation reads as it is, is of no node that it carries out, or that is carried out later:
--- it is made before, and no node is carried out twice. And what passes through is of no node that
--- its groups carry out.
+-- What an operation reads as it is, is of no node that it carries out, or that is carried out
+-- later: it is made before, and no node is carried out twice. And what passes through is of no node
+-- that its groups carry out.
 use Rattle.std.proofs.Common.{◌≡◌, ℕ, ◌⊎◌, Bool, true, false, List, [], ◌∷◌, ◌++◌, map, Option, Some, None, refl, sym, ap, ◌∙◌, subst, inl, inr}
 use Rattle.std.proofs.lemmas.Bool.{eqb-true, false≢true}
 use Rattle.std.specs.List.{AllByRecursion, flat_map}

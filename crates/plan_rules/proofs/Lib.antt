@@ -3,6 +3,7 @@ pub mod Widths
 pub mod Taking
 pub mod Staging
 pub mod PlanObjects
+pub mod PlanSources
 pub mod Planning
 pub mod Members
 pub mod Collections

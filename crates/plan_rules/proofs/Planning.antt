@@ -17,7 +17,8 @@ use Rattle.plan_laws.proofs.Running.{in_append}
 use Rattle.plan_rules.specs.Fitting.{IsSourceBelow, SourcesAgree}
 use Rattle.plan_rules.proofs.Made.{made_more, placed_made, results_here}
 use Rattle.exec_graph.specs.Wellformed.{HaveObjects}
-use Rattle.plan_rules.proofs.PlanObjects.{PassesCollections, plan_objects}
+use Rattle.plan_rules.proofs.PlanObjects.{PassesCollections}
+use Rattle.plan_rules.proofs.PlanSources.{plan_objects}
 use Rattle.plan_rules.proofs.Staging.{IsShort, places_made, stage_ok}
 use Rattle.plan_rules.proofs.Taking.{AreNumbered}
 use Rattle.plan_rules.proofs.Widths.{operation_width}

@@ -1,8 +1,12 @@
-ghost use Rattle.std.specs.Prelude.{◌≡◌, ◌≤◌, ◌<◌, length, IfSome};
-ghost use Rattle.outside.specs.Cause.{Rose};
+// How often the outside has failed, and which answer of the system is a failure.
+ghost use Rattle.std.specs.Prelude.{◌≡◌, ◌≤◌, ◌<◌, ◌↔◌, length, Ok, IfOk, IfErr, IfSome, IsOk, OnOk, OnErr};
+ghost use Rattle.std.specs.IoError.{error_kind};
+ghost use Rattle.outside.specs.Cause.{HasBeginCause, HasStrictCause, Rose};
+ghost use Rattle.real_outside.specs.Errors as spec;
 
-use outside::Failed;
-use std::io::Write;
+use outside::{BeginFault, Failed};
+use std::io;
+use std::io::{ErrorKind, Write};
 
 /// How often something has failed. It stands still at the last number of 64 bits.
 #[derive(Clone, Copy, Debug)]
@@ -25,6 +29,50 @@ impl FaultCount {
     {
         self.count = self.count.saturating_add(1);
         Failed
+    }
+
+    /// What the system has answered; an error is counted as a failure.
+    pub fn told<T: Drop>(&mut self, answer: io::Result<T>) -> Result<T, Failed>
+        ensures same { IfOk result (λ x. answer ≡ Ok x) }
+        ensures ok { IsOk result ↔ IsOk answer }
+        ensures cause { HasStrictCause self.old.count self.new.count result }
+    {
+        match answer {
+            Ok(x) => Ok(x),
+            Err(_) => Err(self.raise()),
+        }
+    }
+
+    /// What the system has answered to the opening of a file. That no file is there is no failure,
+    /// and any other error is.
+    pub fn opened<T: Drop>(&mut self, answer: io::Result<T>) -> Result<T, BeginFault>
+        ensures same { IfOk result (λ x. answer ≡ Ok x) }
+        ensures ok { IsOk result ↔ IsOk answer }
+        ensures fault { IfErr result (λ fault.
+            IfErr answer (λ e. fault ≡ spec.fault_of (error_kind e))) }
+        ensures cause { HasBeginCause self.old.count self.new.count result }
+    {
+        match answer {
+            Ok(x) => Ok(x),
+            Err(error) => match fault_of(error.kind()) {
+                BeginFault::Missing => Err(BeginFault::Missing),
+                BeginFault::Failed => {
+                    self.raise();
+                    Err(BeginFault::Failed)
+                }
+            },
+        }
+    }
+}
+
+/// Which answer an error is: no file is there where the last part of the path, or a folder on the
+/// way to it, is missing or no folder; any other error is a failure.
+fn fault_of(kind: ErrorKind) -> BeginFault
+    ensures { result ≡ spec.fault_of kind }
+{
+    match kind {
+        ErrorKind::NotFound | ErrorKind::NotADirectory => BeginFault::Missing,
+        _ => BeginFault::Failed,
     }
 }
 

@@ -1,3 +1,4 @@
+// A screen over a writer of the system.
 ghost use Rattle.std.specs.Prelude.{◌≡◌, None};
 
 use crate::faults::{FaultCount, write_some};
@@ -41,9 +42,8 @@ impl<W: Write + Drop> Screen for OutputScreen<W> {
     /// Writes a piece and flushes it, so that nothing is kept back when the program ends.
     fn write(&mut self, piece: &[u8]) -> Result<usize, Failed> {
         if let Some(count) = write_some(&mut self.out, piece) {
-            if self.out.flush().is_ok() {
-                return Ok(count);
-            }
+            self.faults.told(self.out.flush())?;
+            return Ok(count);
         }
         Err(self.faults.raise())
     }

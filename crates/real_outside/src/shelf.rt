@@ -1,3 +1,4 @@
+// A shelf over the files of the system, to write.
 ghost use Rattle.std.specs.Prelude.{◌≡◌, None, [], false};
 
 use crate::faults::{FaultCount, write_some};
@@ -56,13 +57,9 @@ impl<R: Files> Shelf for FileShelf<'_, R> {
         if self.begun.take().is_some() {
             self.left = self.left.saturating_add(1);
         }
-        match fs::create(self.system, name) {
-            Ok(file) => {
-                self.begun = Some(file);
-                Ok(())
-            }
-            Err(_) => Err(self.faults.raise()),
-        }
+        let file = self.faults.told(fs::create(self.system, name))?;
+        self.begun = Some(file);
+        Ok(())
     }
 
     fn write(&mut self, piece: &[u8]) -> Result<usize, Failed> {
@@ -77,11 +74,9 @@ impl<R: Files> Shelf for FileShelf<'_, R> {
     /// Closes the file. The system keeps no part of it back in this program, so what a close itself
     /// would tell is not asked for.
     fn end(&mut self) -> Result<(), Failed> {
-        if let Some(mut file) = self.begun.take() {
-            if file.flush().is_ok() {
-                return Ok(());
-            }
+        match self.begun.take() {
+            Some(mut file) => self.faults.told(file.flush()),
+            None => Err(self.faults.raise()),
         }
-        Err(self.faults.raise())
     }
 }

@@ -1,4 +1,5 @@
-ghost use Rattle.std.specs.Prelude.{◌≡◌, None, [], false};
+// A source over the files of the system, to read.
+ghost use Rattle.std.specs.Prelude.{◌≡◌, ◌↔◌, None, [], false, IfOk, IsErr, IsTrue};
 
 use crate::faults::FaultCount;
 use outside::{BeginFault, Failed, Source};
@@ -42,16 +43,19 @@ impl<'a, R: Files> FileSource<'a, R> {
 // Opens a file that has bytes. The system opens a folder too, and refuses only to read it.
 fn open<R: Files>(system: &R, name: &str) -> io::Result<R::File> {
     let file = fs::open(system, name)?;
-    if file.metadata()?.is_dir() {
-        return Err(io::Error::from(ErrorKind::IsADirectory));
-    }
-    Ok(file)
+    let is_folder = file.metadata()?.is_dir();
+    unless_folder(file, is_folder)
 }
 
-// No file is there: the last part of the path, or a folder on the way to it, is missing or no
-// folder.
-fn is_missing(kind: ErrorKind) -> bool {
-    matches!(kind, ErrorKind::NotFound | ErrorKind::NotADirectory)
+// What was opened, where it is no folder.
+fn unless_folder<T: Drop>(opened: T, is_folder: bool) -> io::Result<T>
+    ensures same { IfOk result (λ file. file ≡ opened) }
+    ensures folder { IsErr result ↔ IsTrue is_folder }
+{
+    if is_folder {
+        return Err(io::Error::from(ErrorKind::IsADirectory));
+    }
+    Ok(opened)
 }
 
 impl<R: Files> Source for FileSource<'_, R> {
@@ -69,25 +73,15 @@ impl<R: Files> Source for FileSource<'_, R> {
     /// is Failed.
     fn begin(&mut self, name: &str) -> Result<(), BeginFault> {
         self.begun = None;
-        match open(self.system, name) {
-            Ok(file) => {
-                self.begun = Some(file);
-                Ok(())
-            }
-            Err(error) if is_missing(error.kind()) => Err(BeginFault::Missing),
-            Err(_) => {
-                self.faults.raise();
-                Err(BeginFault::Failed)
-            }
-        }
+        let file = self.faults.opened(open(self.system, name))?;
+        self.begun = Some(file);
+        Ok(())
     }
 
     fn read(&mut self, buf: &mut [u8]) -> Result<usize, Failed> {
-        if let Some(file) = &mut self.begun {
-            if let Ok(count) = file.read(buf) {
-                return Ok(count);
-            }
+        match &mut self.begun {
+            Some(file) => self.faults.told(file.read(buf)),
+            None => Err(self.faults.raise()),
         }
-        Err(self.faults.raise())
     }
 }

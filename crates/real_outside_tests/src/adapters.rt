@@ -1,7 +1,30 @@
+// Rows of what the real source, shelf and screen read and write, and where they fail.
 use outside::{Failed, LoadFault, load, save, say};
 use real_outside::{FileShelf, FileSource, OutputScreen};
-use std::fs;
+use std::io::{ErrorKind, Write};
 use std::test::Fail;
+use std::{fs, io};
+
+// A writer that takes all that is written, and fails to flush it.
+#[derive(Drop)]
+struct Unflushed;
+
+impl Write for Unflushed {
+    fn write(&mut self, piece: &[u8]) -> io::Result<usize> {
+        Ok(piece.len())
+    }
+
+    fn flush(&mut self) -> io::Result<()> {
+        Err(io::Error::from(ErrorKind::BrokenPipe))
+    }
+}
+
+#[test]
+fn a_piece_that_is_not_flushed_has_failed(rt: HostRuntime) -> Result<(), Fail> {
+    let mut screen = OutputScreen::new(Unflushed);
+    assert_eq!(&rt; say(&mut screen, b"done\n"), Err(Failed));
+    Ok(())
+}
 
 #[test]
 fn source_reads_what_is_there(rt: HostRuntime) -> Result<(), Fail> {
@@ -11,7 +34,7 @@ fn source_reads_what_is_there(rt: HostRuntime) -> Result<(), Fail> {
     fs::write(&rt, "source_test/a.csv", b"line\na b\n".as_slice())?;
     let mut source = FileSource::new(&rt);
     match load(alloc, &mut source, "source_test/a.csv", 9) {
-        Ok(bytes) => assert_eq!(&rt; bytes.as_slice(), b"line\na b\n".as_slice()),
+        Ok(file) => { assert_eq!(&rt; file.into_vec(alloc)?.as_slice(), b"line\na b\n".as_slice()) }
         Err(_) => assert!(&rt; false),
     }
     for (name, limit, fault) in [

@@ -1,12 +1,12 @@
 -- The grouping channels of a stage.
 use Rattle.std.proofs.Common.{◌≡◌, ◌<◌, ◌+◌, ◌/◌, ◌%◌, ℕ, zero, suc, true, false, List, [], ◌∷◌, length, get_or, Some, refl, sym, ap, ◌∙◌, subst, arith}
 use Rattle.std.specs.Prelude.{IfOk, Result, Ok, Err, slice_get}
-use Rattle.std.specs.Option.{option_map_or}
 use Rattle.std.proofs.lemmas.Nat.{div_below, mod_below}
 use Rattle.std.proofs.lemmas.Option.{get_or_from_slice_get, slice_get_within}
 use Rattle.flume_value.specs.declared.value.Value.{Value}
 use Rattle.flume_collection.specs.declared.trap.Trap.{Trap}
 use Rattle.flume_collection.specs.Calls.{Called}
+use Rattle.bag_groups.specs.Groups.{grouped}
 use Rattle.crew.specs.declared.attempts.Attempt.{Attempt}
 use Rattle.crew.specs.declared.attempts.Attempt.TheVariants.{Made, Down}
 use Rattle.crew.specs.Attempts.{IsMadeOf}
@@ -18,8 +18,9 @@ use Rattle.exec_plan.specs.declared.plan.OutChannel.{OutChannel}
 use Rattle.exec_plan.specs.declared.plan.OutChannel.TheVariants.{Group, Pass}
 use Rattle.exec_plan.specs.declared.plan.Take.{Take}
 use Rattle.task_lists.specs.Tasks.{groupings}
-use Rattle.reduce_part.specs.Reducing.{AreGroupsFirst, CanReduce, IsReducedFrom, IsReducible, IsReducingValue, Reducing, channel_at, group_count, reducing_count, reducing_places}
+use Rattle.reduce_part.specs.Reducing.{AreGroupsFirst, CanReduce, IsReducedFrom, IsReducible, IsReducingValue, Reducing, channel_at, reducing_count, reducing_places}
 use Rattle.reduce_part.specs.declared.out.ReduceOut.{ReduceOut}
+use Rattle.reduce_part.proofs.Gathering.{places_gathered}
 
 -- behind a pass-through channel none groups
 none_behind : (ins : List InChannel) (n : ℕ) (channels : List OutChannel)
@@ -85,12 +86,11 @@ module _ {F : Type 0} {r : Reducing F} {w : World} {takes : ℕ → Value → Ty
         (mod_below k r.partitions can.partitions)
 
     module _ (g : Grouping) (e : o ≡ Group g) {x : Reducing F} (view : r ≡ x) where
-      pub places_are : group_count g.lifted r.outs (k / r.partitions) (k % r.partitions)
-          ≡ reducing_places x k
+      -- it has as many places as the pairs that are gathered there have groups
+      pub places_are : length (grouped (task_ready g e).pairs) ≡ reducing_places x k
       places_are =
-          sym (ap (λ c. option_map_or
-          (λ h. group_count h.lifted r.outs (k / r.partitions) (k % r.partitions)) c 0)
-          (groups_by g e))
+          sym (places_gathered r k g (task_ready g e).pairs (groups_by g e)
+          (task_ready g e).gathered)
           ∙ ap (λ y. reducing_places y k) view
 
       value_is : (called : ℕ → Value → Called) (out : Result ReduceOut Trap)

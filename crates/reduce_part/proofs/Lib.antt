@@ -3,3 +3,4 @@ pub mod Channels
 pub mod Values
 pub mod Merging
 pub mod CrossLemmas
+pub mod Shuffled

@@ -1,8 +1,7 @@
 -- The reduce tasks of a stage: what they read, when they can be made, and what is right for them to
 -- give.
-use Rattle.std.specs.Prelude.{◌≡◌, ℕ, ◌<◌, ◌*◌, ◌/◌, ◌%◌, ◌^◌, All, List, length, slice_get, Option, Some, None, Result, Ok, Err, refl}
+use Rattle.std.specs.Prelude.{◌≡◌, ℕ, ◌<◌, ◌*◌, ◌/◌, ◌%◌, ◌^◌, All, List, length, slice_get, IsSomeAnd, Option, Some, None, Result, Ok, Err, option_and_then, option_map, unwrap_or, refl}
 use Rattle.std.specs.List.{AllByRecursion}
-use Rattle.std.specs.Option.{option_map_or}
 use Rattle.std.specs.Coded.{Coded, code_by, coded×, coded_ℕ, coded_list}
 use Rattle.flume_value.specs.declared.value.Value.{Value}
 use Rattle.flume_collection.specs.declared.trap.Trap.{Trap}
@@ -48,18 +47,28 @@ reducing_code {F} code =
     })
     (λ _. refl)
 
--- ---- what is gathered of partition p of the output channel r
+abbrev pub reducing_of : {F : Type 0} → F → Mscr → List MapOut → ℕ → Reducing F
+reducing_of functions stage outs partitions = record {
+  functions = functions;
+  stage = stage;
+  outs = outs;
+  partitions = partitions;
+}
+
+-- ---- what is gathered of partition p of the output channel r, which each out has
 
 -- these are the pairs; or, where the channel is lifted, accumulators were gathered that stand for
 -- these
 abbrev pub IsGathered : Option Comb → List MapOut → ℕ → ℕ → List Value → Type 0
-IsGathered None outs r p pairs = (pairs ≡ all_pairs outs r p) × All IsPair pairs
-IsGathered (Some c) outs r p pairs = StandFor c (all_partials outs r p) (pairs_of pairs)
+IsGathered None outs r p pairs = (all_pairs outs r p ≡ Some pairs) × All IsPair pairs
+IsGathered (Some c) outs r p pairs =
+    IsSomeAnd (all_partials outs r p) (λ partials. StandFor c partials (pairs_of pairs))
 
 -- how many groups are gathered
-abbrev pub group_count : Option Comb → List MapOut → ℕ → ℕ → ℕ
-group_count None outs r p = length (grouped (all_pairs outs r p))
-group_count (Some c) outs r p = length (merged_by_key c (all_partials outs r p))
+abbrev pub group_count : Option Comb → List MapOut → ℕ → ℕ → Option ℕ
+group_count None outs r p = option_map (λ pairs. length (grouped pairs)) (all_pairs outs r p)
+group_count (Some c) outs r p =
+    option_map (λ partials. length (merged_by_key c partials)) (all_partials outs r p)
 
 -- ---- the tasks of a stage
 
@@ -71,11 +80,13 @@ module _ {F : Type 0} where
   abbrev pub channel_at : Reducing F → ℕ → Option Grouping
   channel_at r k = slice_get (groupings r.stage.outputs) (k / r.partitions)
 
+  -- it has a place for each group that is gathered; a number that is no task's has none
   abbrev pub reducing_places : Reducing F → ℕ → ℕ
   reducing_places r k =
-      option_map_or
+      unwrap_or
+      (option_and_then
       (λ g. group_count g.lifted r.outs (k / r.partitions) (k % r.partitions))
-      (channel_at r k) 0
+      (channel_at r k)) 0
 
 -- ---- when the tasks can be made
 
@@ -95,8 +106,12 @@ pub record IsReducible (w : World) (takes : ℕ → Value → Type 0) (outs : Li
   pub gathered : IsGathered g.lifted outs r p pairs
   pub safe : AllByRecursion (SafeOf w takes g.does) (grouped pairs)
 
+-- the outs are those of the stage's map tasks: of each shard of each input channel there is one
 pub record CanReduce {F : Type 0} (w : World) (takes : ℕ → Value → Type 0) (r : Reducing F)
     : Type 0 where
+  pub shards : ℕ
+  pub some : 0 < shards
+  pub outs : length r.outs ≡ length r.stage.inputs * shards
   pub partitions : 0 < r.partitions
   pub few : reducing_count r < 2 ^ 32
   pub first : AreGroupsFirst r.stage.outputs

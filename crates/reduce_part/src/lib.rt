@@ -8,7 +8,8 @@
 //! is ever made.
 //!
 //! `Reducing` (specs/Reducing.antt) is all that the tasks of a stage read, with what it asks
-//! (`CanReduce`) and what is right for a task to give (`IsReducingValue`).
+//! (`CanReduce`) and what is right for a task to give (`IsReducingValue`). Over the outs of its map
+//! tasks a stage's reduce tasks can be made (`reduce_tasks_law`).
 #![tactic(auto)]
 
 mod laws;
@@ -17,6 +18,6 @@ mod out;
 mod reduce;
 mod tasks;
 
-pub use laws::reducing_law;
+pub use laws::{reduce_tasks_law, reducing_law};
 pub use out::{ReduceOut, Reduced};
 pub use tasks::ReduceTasks;

@@ -1,8 +1,8 @@
 // A partition of a lifted channel, key by key.
-ghost use Rattle.std.specs.Prelude.{◌≡◌, All, IfOk, List, Some, length};
+ghost use Rattle.std.specs.Prelude.{◌≡◌, All, IfOk, IsSomeAnd, List, Some, length};
 ghost use Rattle.flume_value.specs.declared.value.Value.{Value as GhostValue};
 ghost use Rattle.partial_tables.specs.Merges.{merged_by_key};
-ghost use Rattle.partial_tables.specs.Tables.{IsPartialOf};
+ghost use Rattle.partial_tables.specs.Tables.{IsPartialOf, Pairs};
 ghost use Rattle.shuffle_parts.specs.Outs.{all_partials};
 ghost use Rattle.crew.specs.Attempts.{IsMadeOf};
 ghost use Rattle.crew.specs.Drills.{attempt_at};
@@ -64,9 +64,10 @@ pub(crate) fn merge_gathered(
     channel: usize,
     partition: usize,
 ) -> Result<Vec<Partial>, AllocError>
-    requires { All (IsPartialOf comb) (all_partials outs.now channel partition) }
-    ensures { IfOk result (λ merged.
-        merged.items ≡ merged_by_key comb (all_partials outs.now channel partition)) }
+    requires { IsSomeAnd (all_partials outs.now channel partition) (All (IsPartialOf comb)) }
+    ensures { IfOk result (λ merged. (partials : Pairs) →
+        all_partials outs.now channel partition ≡ Some partials →
+        merged.items ≡ merged_by_key comb partials) }
 {
     let partials = gather_partials(alloc, outs, channel, partition)?;
     let merged = merge_borrowed(alloc, comb, partials)?;

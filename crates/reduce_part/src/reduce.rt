@@ -1,5 +1,5 @@
 // A partition of a grouping channel.
-ghost use Rattle.std.specs.Prelude.{◌≡◌, ℕ, List, All, IfOk, Option, length};
+ghost use Rattle.std.specs.Prelude.{◌≡◌, ℕ, List, All, IfOk, IsSomeAnd, Option, Some, length};
 ghost use Rattle.std.specs.List.{AllByRecursion};
 ghost use Rattle.flume_value.specs.declared.value.Value.{Value as GhostValue};
 ghost use Rattle.bag_groups.specs.Groups.{grouped};
@@ -15,18 +15,18 @@ ghost use Rattle.forest_courses.specs.Courses.{IsCourse};
 ghost use Rattle.forest_run.specs.Asked.{Asked};
 ghost use Rattle.forest_steps.specs.Functions.{world_of};
 ghost use Rattle.forest_steps.specs.Safety.{SafeOf};
-ghost use Rattle.reduce_part.specs.Reducing.{IsReducedFrom, IsReduceValue, IsReducible, group_count};
+ghost use Rattle.reduce_part.specs.Reducing.{IsGathered, IsReducedFrom, IsReduceValue, IsReducible};
 ghost use Rattle.reduce_part.specs.inner.Merged.{IsValueOf};
 
 use crate::lifted::{merge_gathered, reduce_merged};
 use crate::out::{ReduceOut, Reduced};
-use bag_groups::group_borrowed;
 use crew::{Attempt, Spot};
 use exec_graph::Roots;
 use exec_plan::Grouping;
 use flume_value::{Pile, Value};
 use forest_run::{Course, run_owned};
 use forest_steps::Functions;
+use key_order::group_numbered;
 use outside::Host;
 use shuffle_parts::{MapOut, gather_pairs};
 use std::alloc::{AllocError, Global};
@@ -48,8 +48,9 @@ pub(crate) fn reduce_partition<F: Functions, H: Host>(
         outs.now channel partition grouping.now }
     ensures value { IfOk result (IsMadeOf (IsReducedFrom (F.called functions.now) outs.now channel
         partition grouping.now)) }
-    ensures asked { Asked (attempt_at spot.now task)
-        (group_count grouping.now.lifted outs.now channel partition)
+    ensures asked { (pairs : List GhostValue) →
+        IsGathered grouping.now.lifted outs.now channel partition pairs →
+        Asked (attempt_at spot.now task) (length (grouped pairs))
         (account H.notes H.losses host.old) (account H.notes H.losses host.new) result }
 {
     match (grouping.lifted, &grouping.does) {
@@ -72,12 +73,12 @@ fn group_gathered(
     channel: usize,
     partition: usize,
 ) -> Result<Vec<Value>, AllocError>
-    requires { All IsPair (all_pairs outs.now channel partition) }
-    ensures { IfOk result (λ groups.
-        groups.items ≡ grouped (all_pairs outs.now channel partition)) }
+    requires { IsSomeAnd (all_pairs outs.now channel partition) (All IsPair) }
+    ensures { IfOk result (λ groups. (pairs : List GhostValue) →
+        all_pairs outs.now channel partition ≡ Some pairs → groups.items ≡ grouped pairs) }
 {
     let pairs = gather_pairs(alloc, outs, channel, partition)?;
-    let groups = group_borrowed(alloc, pairs)?;
+    let groups = group_numbered(alloc, pairs)?;
     Ok(groups)
 }
 

@@ -81,7 +81,7 @@ trap_read words before after origin kind element it =
 given_read : (words : Words) (told : Told) (olds news : List Account) (stage : ℕ) (phase : Phase)
     (task : ℕ) → IsGaveUp stage phase task words told olds news → HasRead words told
 given_read words told olds news stage phase task it =
-    read_of words told (Run it.0) it.1 it.3.0 it.2 it.3.2
+    read_of words told (Run it.0) it.1 it.3.0 it.2 it.3.3.inputs
 
 -- ---- it comes
 

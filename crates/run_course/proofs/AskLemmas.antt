@@ -162,8 +162,8 @@ pub delivered_for : (words : Words) (told : Told) (before after : SeenAsks)
     → Delivers files text shelf shelf' screen screen' status
     → AsksAll words told before after → AsksFor words told before after status
 delivered_for words told before after files text shelf shelf' screen screen' Done is all = all
-delivered_for words told before after files text shelf shelf' screen screen' (WriteFault place) is all =
-    all
+delivered_for words told before after files text shelf shelf' screen screen' (WriteFault place) is
+    all = all
 delivered_for words told before after files text shelf shelf' screen screen' Usage is all =
     absurd is
 delivered_for words told before after files text shelf shelf' screen screen'

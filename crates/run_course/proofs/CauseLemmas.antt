@@ -21,8 +21,8 @@ use Rattle.script_loading.specs.Loads.{AllHaveRows, IsAbove, IsMissing}
 use Rattle.run_course.specs.Asked.{AskFor, IsAskedFor, IsTurnOf, Reads, inputs_read, tries_of}
 use Rattle.run_course.specs.Lent.{lent}
 use Rattle.run_course.specs.World.{World}
-use Rattle.run_course.specs.Written.{IsWritten, Writes}
-use Rattle.script_loading.specs.declared.limits.TheConstants.{SCRIPT_LIMIT, INPUT_LIMIT}
+use Rattle.run_course.specs.Written.{IsMeant, IsWritten, Writes}
+use Rattle.script_loading.specs.Limits.{script_limit, input_limit}
 use Rattle.run_course.specs.declared.stop.Stop.{Stop}
 use Rattle.run_course.specs.declared.stop.Stop.TheVariants as stop
 use Rattle.run_course.specs.declared.stop.Trapped.{Trapped}
@@ -49,7 +49,7 @@ above_as told name other limit most same equal above =
 
 -- the script's turn, under another name of the same file
 script_asked_for : (words : Words) (told : Told) (command : Command) (name other : List ℕ)
-    (limit : ℕ) → AskFor words command name → other ≡ name → limit ≡ SCRIPT_LIMIT
+    (limit : ℕ) → AskFor words command name → other ≡ name → limit ≡ script_limit
     → IsAskedFor words told command other limit
 script_asked_for words told command name other limit asked same equal =
     inl (subst (λ (n : List ℕ). AskFor words command n) (sym same) asked, equal)
@@ -63,20 +63,20 @@ module _ (words : Words) (before after : SeenSource) (olds news : List Account)
       (command, name, cause.0, asked, cause.1, cause.2)
   script_cause name (NoFile other) asked cause = (
     command,
-    SCRIPT_LIMIT,
-    script_asked_for words before.told command name other SCRIPT_LIMIT asked cause.0 refl,
+    script_limit,
+    script_asked_for words before.told command name other script_limit asked cause.0 refl,
     missing_as before.told name other cause.0 cause.1,
   )
   script_cause name (ReadFault other) asked cause = (
     command,
-    SCRIPT_LIMIT,
-    script_asked_for words before.told command name other SCRIPT_LIMIT asked cause.0 refl,
+    script_limit,
+    script_asked_for words before.told command name other script_limit asked cause.0 refl,
     cause.1,
   )
   script_cause name (TooLong other most) asked cause = (
     command,
     script_asked_for words before.told command name other most asked cause.0 cause.1,
-    above_as before.told name other SCRIPT_LIMIT most cause.0 cause.1 cause.2,
+    above_as before.told name other script_limit most cause.0 cause.1 cause.2,
   )
   script_cause name WantOfMemory asked cause = tt
   script_cause name Usage asked cause = absurd cause
@@ -90,7 +90,7 @@ module _ (words : Words) (before after : SeenSource) (olds news : List Account)
 
 input_asked_for : (words : Words) (told : Told) (command : Command) (wanted : Wanted)
     (other : List ℕ) (limit : ℕ) → IsTurnOf words told command wanted → other ≡ wanted.file
-    → limit ≡ INPUT_LIMIT → IsAskedFor words told command other limit
+    → limit ≡ input_limit → IsAskedFor words told command other limit
 input_asked_for words told command wanted other limit its same equal =
     inr (wanted, its, same, equal)
 
@@ -103,20 +103,20 @@ module _ (words : Words) (before after : SeenSource) (olds news : List Account)
       (command, wanted, cause.1, its, cause.0, cause.2, cause.3)
   input_cause wanted (NoFile other) its cause = (
     command,
-    INPUT_LIMIT,
-    input_asked_for words before.told command wanted other INPUT_LIMIT its cause.0 refl,
+    input_limit,
+    input_asked_for words before.told command wanted other input_limit its cause.0 refl,
     missing_as before.told wanted.file other cause.0 cause.1,
   )
   input_cause wanted (ReadFault other) its cause = (
     command,
-    INPUT_LIMIT,
-    input_asked_for words before.told command wanted other INPUT_LIMIT its cause.0 refl,
+    input_limit,
+    input_asked_for words before.told command wanted other input_limit its cause.0 refl,
     cause.1,
   )
   input_cause wanted (TooLong other most) its cause = (
     command,
     input_asked_for words before.told command wanted other most its cause.0 cause.1,
-    above_as before.told wanted.file other INPUT_LIMIT most cause.0 cause.1 cause.2,
+    above_as before.told wanted.file other input_limit most cause.0 cause.1 cause.2,
   )
   input_cause wanted WantOfMemory its cause = tt
   input_cause wanted Usage its cause = absurd cause
@@ -139,7 +139,7 @@ module _ (words : Words) (before after : SeenSource) (olds news : List Account)
 abbrev pub IsAt : Words → Told → Command → List ℕ → Script → Type 0
 IsAt words told command name script = AskFor words command name × IsLoaded told name script
 
-reads : (words : Words) (told : Told) (command : Command) (name : List ℕ) (script : Script)
+pub reads : (words : Words) (told : Told) (command : Command) (name : List ℕ) (script : Script)
     → IsAt words told command name script → Reads words told command script
 reads words told command name script at = (name, at.1.0, at.0, at.1.1, at.1.2)
 
@@ -174,9 +174,10 @@ module _ (words : Words) (before middle after : SeenSource) (olds news : List Ac
         (
           up.0,
           up.1,
-          subst (λ (t : Told). AllHaveRows t (inputs_of script) up.0) told up.2,
-          up.3,
+          up.2,
+          subst (λ (t : Told). IsMeant t script up.0 up.2) told up.3,
           up.4,
+          up.5,
         ),
       )
 
@@ -212,7 +213,17 @@ pub run_stop : (s : RunSettings) (before after : SeenSource) (olds news : List A
 run_stop s before after olds news script rows plan (stop.Refused status) have is (inl memory) =
     inl memory
 run_stop s before after olds news script rows plan (stop.Refused status) have is (inr it) =
-    inr (inr (s, it.0, it.1, it.2, refl, it.3, (rows, plan, have, is, it.4)))
+    let meant : IsMeant before.told script rows it.4.made
+    = record { inputs = have; means = it.4.means } in
+    inr (inr (
+      s,
+      it.0,
+      it.1,
+      it.2,
+      refl,
+      it.3,
+      (rows, plan, it.4.made, meant, is, it.4.given_up),
+    ))
 run_stop s before after olds news script rows plan (stop.Trapped trap) have is trapped = (
   rows,
   trapped.0,

@@ -186,13 +186,14 @@ given_up words before after c script rows stage phase task can it =
     let has : AllHaveRows told (inputs_of it.1) rows
     = subst (λ (p : Script). AllHaveRows told (inputs_of p) rows) same
     (subst (λ (d : Command). AllHaveRows told (inputs_read d script) rows) own can.inputs) in
-    let all : rows ≡ up.0 = same_rows told (inputs_of it.1) rows up.0 can.told has up.2 in
+    let all : rows ≡ up.0
+    = same_rows told (inputs_of it.1) rows up.0 can.told has up.3.inputs in
     let ends : CanEnd (Run s) it.1 up.0 before.hosts after.hosts
     = subst (λ (r : List (List Value)). CanEnd (Run s) it.1 r before.hosts after.hosts) all
     (subst (λ (p : Script). CanEnd (Run s) p rows before.hosts after.hosts) same
     (subst (λ (d : Command). CanEnd d script rows before.hosts after.hosts) own can.hosts)) in
     absurd (not_given_up s.tries s.drill _ (phases_of s it.1 up.0 up.1) (lent s before.hosts)
-    (lent s after.hosts) stage phase task up.4 (ends up.1 up.3))
+    (lent s after.hosts) stage phase task up.5 (ends up.1 up.2 up.4 up.3.means))
 
 -- ---- it comes to its end
 

@@ -7,6 +7,7 @@ pub mod CompleteLemmas
 pub mod LeftLemmas
 pub mod CauseLemmas
 pub mod AskLemmas
+pub mod HostLemmas
 pub mod PromiseLemmas
 pub mod FileLemmas
 pub mod OriginLemmas

@@ -5,6 +5,7 @@ use Rattle.run_texts.specs.declared.status.Status.{Status}
 use Rattle.run_texts.specs.declared.status.Status.TheVariants.{Done, GaveUp, Usage, ScriptRefused, InputRefused, Trap, ReadFault, WriteFault, TooLong, NoFile}
 use Rattle.run_course.specs.Answers.{Answers}
 use Rattle.run_course.specs.Asks.{AsksFor}
+use Rattle.run_course.specs.Hosts.{AsksHosts}
 use Rattle.run_course.specs.Promises.{Promises}
 use Rattle.run_course.specs.World.{Keeps, World, asks}
 use Rattle.run_course.proofs.AlwaysLemmas.{always, always_usage}
@@ -16,8 +17,9 @@ use Rattle.run_course.proofs.StopLemmas.{input_stops, script_stops, too_long_sto
 pub promises : (words : Words) (before after : World) (status : Status)
     → Answers words before after status → Keeps before after
     → AsksFor words before.source.told (asks before) (asks after) status
+    → AsksHosts words before.source.told before.hosts after.hosts status
     → Promises words before after status
-promises words before after status answers kept asked =
+promises words before after status answers kept asked hosts =
     let when : (other : Status) → status ≡ other → Answers words before after other
     = λ other is. subst (λ (s : Status). Answers words before after s) is answers in
     record {
@@ -28,6 +30,7 @@ promises words before after status answers kept asked =
       read_fault = λ name is. (when (ReadFault name) is).0;
       too_long = λ name limit is. (when (TooLong name limit) is).0;
       asked = asked;
+      asked_hosts = hosts;
       script_refused = λ line kind is. (when (ScriptRefused line kind) is).0;
       input_refused = λ name row column kind is. (when (InputRefused name row column kind) is).0;
       gave_up = λ stage phase task is. (when (GaveUp stage phase task) is).0;

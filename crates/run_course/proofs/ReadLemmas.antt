@@ -13,7 +13,7 @@ use Rattle.script_loading.specs.Loads.{AllHaveRows, HasRows, IsAbove, IsMissing,
 use Rattle.run_course.specs.Asked.{AskFor, Reads}
 use Rattle.command_words.specs.Words.{Asked, asked_for}
 use Rattle.run_course.specs.Written.{IsMeant, Table}
-use Rattle.script_loading.specs.declared.limits.TheConstants.{SCRIPT_LIMIT}
+use Rattle.script_loading.specs.Limits.{script_limit}
 use Rattle.command_words.specs.declared.words.Command.{Command}
 use Rattle.script_loading.proofs.AcceptedLemmas.{accepted_once}
 
@@ -78,7 +78,7 @@ same_script words told c d p q tells first second =
     let name : first.0 ≡ second.0 = (same_asked words c d first.0 second.0 first.2 second.2).1 in
     let bytes : first.1 ≡ second.1
     = same_bytes told second.0 first.1 second.1 _ _ tells
-    (subst (λ (n : List ℕ). Loads told n SCRIPT_LIMIT first.1) name first.3) second.3 in
+    (subst (λ (n : List ℕ). Loads told n script_limit first.1) name first.3) second.3 in
     accepted_once second.1 p q (subst (λ (b : List ℕ). Accepted b p) bytes first.4) second.4
 
 one_rows : (told : Told) (wanted : Wanted) (rows other : List Value) → IsSome told

@@ -19,7 +19,7 @@ use Rattle.run_course.specs.Answers.{IsInputRefused, IsNoFile, IsScriptRefused, 
 use Rattle.script_loading.specs.Loads.{AllHaveRows, HasRows, IsAbove, IsMissing, Loads}
 use Rattle.run_course.specs.Asked.{AskFor, IsAskedFor, IsTurnOf, Reads, inputs_read}
 use Rattle.command_words.specs.Words.{asked_for}
-use Rattle.script_loading.specs.declared.limits.TheConstants.{SCRIPT_LIMIT, INPUT_LIMIT}
+use Rattle.script_loading.specs.Limits.{script_limit, input_limit}
 use Rattle.command_words.specs.declared.words.Command.{Command}
 use Rattle.script_loading.proofs.AcceptedLemmas.{not_both, one_reason}
 use Rattle.run_course.proofs.ReadLemmas.{Told, Words, not_above, not_gone_and_long, not_missing, same_asked, same_bytes, same_command, same_script}
@@ -29,10 +29,10 @@ use Rattle.run_course.proofs.ReadLemmas.{Told, Words, not_above, not_gone_and_lo
 -- the script's file stops the command so
 pub data BadScript (told : Told) (name : List ℕ) (status : Status) : Type 0 where
   missing : IsMissing told name → status ≡ NoFile name → BadScript told name status
-  above : IsAbove told name SCRIPT_LIMIT → status ≡ TooLong name SCRIPT_LIMIT
+  above : IsAbove told name script_limit → status ≡ TooLong name script_limit
       → BadScript told name status
   refused : (bytes : List ℕ) (line : ℕ) (kind : ScriptKind)
-      → Loads told name SCRIPT_LIMIT bytes
+      → Loads told name script_limit bytes
       → Refused bytes line kind → status ≡ ScriptRefused line kind
       → BadScript told name status
 
@@ -40,10 +40,10 @@ pub data BadScript (told : Told) (name : List ℕ) (status : Status) : Type 0 wh
 pub data BadInput (told : Told) (wanted : Wanted) (status : Status) : Type 0 where
   no_input : IsMissing told wanted.file → status ≡ NoFile wanted.file
       → BadInput told wanted status
-  long_input : IsAbove told wanted.file INPUT_LIMIT → status ≡ TooLong wanted.file INPUT_LIMIT
+  long_input : IsAbove told wanted.file input_limit → status ≡ TooLong wanted.file input_limit
       → BadInput told wanted status
   bad_rows : (bytes : List ℕ) (row column : ℕ) (kind : RowKind)
-      → Loads told wanted.file INPUT_LIMIT bytes
+      → Loads told wanted.file input_limit bytes
       → rows_of bytes wanted.type ≡ Some (Err (Bad row column kind)) → status
       ≡ InputRefused wanted.file row column kind → BadInput told wanted status
 
@@ -61,26 +61,26 @@ unread : (words : Words) (told : Told) (command other : Command) (name : List �
     → Reads words told other script → ⊥
 unread words told command other name status script tells asked (missing gone is) read =
     let same = (same_asked words other command read.0 name read.2 asked).1 in
-    not_missing told name read.1 SCRIPT_LIMIT tells (subst (λ (n : List ℕ). Loads told n
-    SCRIPT_LIMIT read.1) same read.3) gone
+    not_missing told name read.1 script_limit tells (subst (λ (n : List ℕ). Loads told n
+    script_limit read.1) same read.3) gone
 unread words told command other name status script tells asked (above longer is) read =
     let same = (same_asked words other command read.0 name read.2 asked).1 in
-    not_above told name read.1 SCRIPT_LIMIT tells (subst (λ (n : List ℕ). Loads told n
-    SCRIPT_LIMIT read.1) same read.3) longer
+    not_above told name read.1 script_limit tells (subst (λ (n : List ℕ). Loads told n
+    script_limit read.1) same read.3) longer
 unread words told command other name status script tells asked (refused bytes line kind loads why
     is) read =
     let both = same_asked words other command read.0 name read.2 asked in
     let equal : read.1 ≡ bytes
     = same_bytes told name read.1 bytes _ _ tells (subst (λ (n : List ℕ). Loads told n
-    SCRIPT_LIMIT read.1) both.1 read.3) loads in
+    script_limit read.1) both.1 read.3) loads in
     not_both bytes script line kind (subst (λ (b : List ℕ). Accepted b script) equal read.4) why
 
 no_rows : (told : Told) (wanted : Wanted) (status : Status) → IsSome told
     → BadInput told wanted status → (rows : List Value) → HasRows told wanted rows → ⊥
 no_rows told wanted status tells (no_input gone is) rows has = not_missing told wanted.file has.0
-    INPUT_LIMIT tells has.1 gone
+    input_limit tells has.1 gone
 no_rows told wanted status tells (long_input longer is) rows has = not_above told wanted.file has.0
-    INPUT_LIMIT tells has.1 longer
+    input_limit tells has.1 longer
 no_rows told wanted status tells (bad_rows bytes row column kind loads bad is) rows has =
     let equal : has.0 ≡ bytes = same_bytes told wanted.file has.0 bytes _ _ tells has.1 loads in
     let wrong : ◌≡◌ {A = Option (Result (List Value) RowFault)} (Some (Ok rows)) (Some (Err
@@ -92,18 +92,18 @@ one_bad_script : (told : Told) (name : List ℕ) (a b : Status) → IsSome told
     → BadScript told name a → BadScript told name b → a ≡ b
 one_bad_script told name a b tells (missing gone is) (missing gone' is') = is ∙ sym is'
 one_bad_script told name a b tells (missing gone is) (above longer is') = absurd
-    (not_gone_and_long told name SCRIPT_LIMIT tells gone longer)
+    (not_gone_and_long told name script_limit tells gone longer)
 one_bad_script told name a b tells (missing gone is) (refused bytes' line' kind' loads'
-    why' is') = absurd (not_missing told name bytes' SCRIPT_LIMIT tells loads' gone)
+    why' is') = absurd (not_missing told name bytes' script_limit tells loads' gone)
 one_bad_script told name a b tells (above longer is) (missing gone is') = absurd
-    (not_gone_and_long told name SCRIPT_LIMIT tells gone longer)
+    (not_gone_and_long told name script_limit tells gone longer)
 one_bad_script told name a b tells (above longer is) (above longer' is') = is ∙ sym is'
 one_bad_script told name a b tells (above longer is) (refused bytes' line' kind' loads'
-    why' is') = absurd (not_above told name bytes' SCRIPT_LIMIT tells loads' longer)
+    why' is') = absurd (not_above told name bytes' script_limit tells loads' longer)
 one_bad_script told name a b tells (refused bytes line kind loads why is) (missing gone
-    is') = absurd (not_missing told name bytes SCRIPT_LIMIT tells loads gone)
+    is') = absurd (not_missing told name bytes script_limit tells loads gone)
 one_bad_script told name a b tells (refused bytes line kind loads why is) (above longer
-    is') = absurd (not_above told name bytes SCRIPT_LIMIT tells loads longer)
+    is') = absurd (not_above told name bytes script_limit tells loads longer)
 one_bad_script told name a b tells (refused bytes line kind loads why is) (refused bytes'
     line' kind' loads' why' is') =
     let equal : bytes ≡ bytes' = same_bytes told name bytes bytes' _ _ tells loads loads' in
@@ -115,18 +115,18 @@ one_bad_input : (told : Told) (wanted : Wanted) (a b : Status) → IsSome told
     → BadInput told wanted a → BadInput told wanted b → a ≡ b
 one_bad_input told wanted a b tells (no_input gone is) (no_input gone' is') = is ∙ sym is'
 one_bad_input told wanted a b tells (no_input gone is) (long_input longer is') = absurd
-    (not_gone_and_long told wanted.file INPUT_LIMIT tells gone longer)
+    (not_gone_and_long told wanted.file input_limit tells gone longer)
 one_bad_input told wanted a b tells (no_input gone is) (bad_rows bytes row column kind loads bad
-    is') = absurd (not_missing told wanted.file bytes INPUT_LIMIT tells loads gone)
+    is') = absurd (not_missing told wanted.file bytes input_limit tells loads gone)
 one_bad_input told wanted a b tells (long_input longer is) (no_input gone is') = absurd
-    (not_gone_and_long told wanted.file INPUT_LIMIT tells gone longer)
+    (not_gone_and_long told wanted.file input_limit tells gone longer)
 one_bad_input told wanted a b tells (long_input longer is) (long_input longer' is') = is ∙ sym is'
 one_bad_input told wanted a b tells (long_input longer is) (bad_rows bytes row column kind loads
-    bad is') = absurd (not_above told wanted.file bytes INPUT_LIMIT tells loads longer)
+    bad is') = absurd (not_above told wanted.file bytes input_limit tells loads longer)
 one_bad_input told wanted a b tells (bad_rows bytes row column kind loads bad is) (no_input gone
-    is') = absurd (not_missing told wanted.file bytes INPUT_LIMIT tells loads gone)
+    is') = absurd (not_missing told wanted.file bytes input_limit tells loads gone)
 one_bad_input told wanted a b tells (bad_rows bytes row column kind loads bad is) (long_input
-    longer is') = absurd (not_above told wanted.file bytes INPUT_LIMIT tells loads longer)
+    longer is') = absurd (not_above told wanted.file bytes input_limit tells loads longer)
 one_bad_input told wanted a b tells (bad_rows bytes row column kind loads bad is) (bad_rows bytes'
     row' column' kind' loads' bad' is') =
     let equal : bytes ≡ bytes' = same_bytes told wanted.file bytes bytes' _ _ tells loads loads'
@@ -284,7 +284,7 @@ above_stops words told command name limit (inr asked) longer =
       command,
       asked.0,
       asked.1,
-      long_input (subst (λ (n : List ℕ). IsAbove told n INPUT_LIMIT) asked.2 (subst (λ (m :
+      long_input (subst (λ (n : List ℕ). IsAbove told n input_limit) asked.2 (subst (λ (m :
           ℕ). IsAbove told name m) asked.3 longer))
           (λ i. TooLong (asked.2 i) (asked.3 i)),
     )

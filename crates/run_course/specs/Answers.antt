@@ -8,7 +8,7 @@ use Rattle.csv_rows.specs.Rows.{rows_of}
 use Rattle.csv_rows.specs.declared.fault.RowFault.TheVariants.{Bad}
 use Rattle.csv_rows.specs.declared.fault.RowKind.{RowKind}
 use Rattle.direct_meaning.specs.Direct.{traps_of}
-use Rattle.direct_meaning.specs.Inputs.{Wanted, inputs_of}
+use Rattle.direct_meaning.specs.Inputs.{Wanted}
 use Rattle.exec_plan.specs.declared.plan.Plan.{Plan}
 use Rattle.flume_collection.specs.Traps.{IsLeast}
 use Rattle.flume_collection.specs.declared.trap.Trap.{Trap as TrapOf}
@@ -34,13 +34,13 @@ use Rattle.script_plans.specs.Plans.{IsScriptPlan}
 use Rattle.script_run.specs.Runs.{phases_of, split_of}
 use Rattle.task_lists.specs.Plans.{first_trap}
 use Rattle.script_loading.specs.Accepted.{Refused}
-use Rattle.script_loading.specs.Loads.{AllHaveRows, IsAbove, IsMissing, Loads}
+use Rattle.script_loading.specs.Loads.{IsAbove, IsMissing, Loads}
 use Rattle.run_course.specs.Asked.{AskFor, IsAskedFor, IsTurnOf, Reads, tries_of}
 use Rattle.command_words.specs.Words.{asked_for}
 use Rattle.run_course.specs.Lent.{lent}
 use Rattle.run_course.specs.World.{World}
 use Rattle.run_course.specs.Written.{IsMeant, IsWritten, Table}
-use Rattle.script_loading.specs.declared.limits.TheConstants.{SCRIPT_LIMIT, INPUT_LIMIT}
+use Rattle.script_loading.specs.Limits.{script_limit, input_limit}
 use Rattle.command_words.specs.declared.words.Command.{Command}
 use Rattle.command_words.specs.declared.words.Command.TheVariants.{Check, Plan as Show, Direct, Run}
 
@@ -161,7 +161,7 @@ IsReadFault name words before after =
 abbrev pub IsScriptRefused : ℕ → ScriptKind → List (List ℕ) → Seen (List NamedBytes) → Type 0
 IsScriptRefused line kind words source =
     (command : Command) × (name : List ℕ) × (bytes : List ℕ) × AskFor words command name
-    × Loads source.told name SCRIPT_LIMIT bytes × Refused bytes line kind
+    × Loads source.told name script_limit bytes × Refused bytes line kind
 
 -- InputRefused: it is the input's turn, its file was loaded, and this is the first fault of its
 -- rows
@@ -170,17 +170,17 @@ abbrev pub IsInputRefused : List ℕ → ℕ → ℕ → RowKind → List (List 
 IsInputRefused name row column kind words source =
     (command : Command) × (wanted : Wanted) × (bytes : List ℕ)
     × IsTurnOf words source.told command wanted × (name ≡ wanted.file)
-    × Loads source.told wanted.file INPUT_LIMIT bytes
+    × Loads source.told wanted.file input_limit bytes
     × (rows_of bytes wanted.type ≡ Some (Err (Bad row column kind)))
 
--- All inputs of the script have rows, and of this task of a phase of its plan over them no attempt
--- has won: the drill and the losses of the lent hosts account for each of its tries. All phases
--- before it, and all smaller tasks of it, have run without a trap
+-- All inputs of the script have rows, over which it has a meaning, and of this task of a phase of
+-- its plan no attempt has won: the drill and the losses of the lent hosts account for each of its
+-- tries. All phases before it, and all smaller tasks of it, have run without a trap
 abbrev pub GivesUp : RunSettings → Option (List NamedBytes) → List Account → List Account → Script
     → ℕ → Phase → ℕ → Type 0
 GivesUp s told olds news script stage phase task =
-    (rows : List (List Value)) × (plan : Plan) × AllHaveRows told (inputs_of script) rows
-    × IsScriptPlan script plan
+    (rows : List (List Value)) × (plan : Plan) × (table : Table)
+    × IsMeant told script rows table × IsScriptPlan script plan
     × IsGivenUp s.tries s.drill (world_of script rows) (phases_of s script rows plan)
     (lent s olds) (lent s news) stage phase task
 

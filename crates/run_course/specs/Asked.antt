@@ -7,15 +7,15 @@ use Rattle.script_program.specs.Script.{Script}
 use Rattle.script_loading.specs.Accepted.{Accepted}
 use Rattle.script_loading.specs.Loads.{AllHaveRows, Loads}
 use Rattle.command_words.specs.Words.{asked_for}
-use Rattle.script_loading.specs.declared.limits.TheConstants.{SCRIPT_LIMIT, INPUT_LIMIT}
-use Rattle.run_course.specs.declared.limits.TheConstants.{TRIES}
+use Rattle.script_loading.specs.Limits.{script_limit, input_limit}
+use Rattle.run_course.specs.Limits.{usual_tries}
 use Rattle.command_words.specs.declared.words.Command.{Command}
 use Rattle.command_words.specs.declared.words.Command.TheVariants.{Check, Plan, Direct, Run}
 
 -- how often a file is loaded for a command before the source's failure is the answer
 abbrev pub tries_of : Command → ℕ
 tries_of (Run settings) = settings.tries
-tries_of _ = TRIES
+tries_of _ = usual_tries
 
 -- the words ask for this command on the script of that name
 abbrev pub AskFor : List (List ℕ) → Command → List ℕ → Type 0
@@ -25,7 +25,7 @@ AskFor words command name = asked_for words ≡ Some (record { command = command
 abbrev pub Reads : List (List ℕ) → Option (List File) → Command → Script → Type 0
 Reads words told command script =
     (name : List ℕ) × (bytes : List ℕ) × AskFor words command name
-    × Loads told name SCRIPT_LIMIT bytes × Accepted bytes script
+    × Loads told name script_limit bytes × Accepted bytes script
 
 -- the inputs that a command reads of a script: those that are needed, and none to check or plan it
 abbrev pub inputs_read : Command → Script → List Wanted
@@ -47,6 +47,6 @@ IsTurnOf words told command wanted =
 -- script's, or an input's
 abbrev pub IsAskedFor : List (List ℕ) → Option (List File) → Command → List ℕ → ℕ → Type 0
 IsAskedFor words told command name limit =
-    (AskFor words command name × (limit ≡ SCRIPT_LIMIT))
+    (AskFor words command name × (limit ≡ script_limit))
     ⊎ ((wanted : Wanted) × IsTurnOf words told command wanted × (name ≡ wanted.file)
-    × (limit ≡ INPUT_LIMIT))
+    × (limit ≡ input_limit))

@@ -1,7 +1,9 @@
 pub mod Answers
 pub mod Asked
 pub mod Asks
+pub mod Hosts
 pub mod Lent
+pub mod Limits
 pub mod Promises
 pub mod World
 pub mod Written

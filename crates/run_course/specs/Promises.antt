@@ -15,6 +15,7 @@ use Rattle.run_course.specs.Answers.{IsDone, IsFileFault, IsGaveUp, IsInputRefus
 use Rattle.script_loading.specs.Loads.{AllHaveRows}
 use Rattle.run_course.specs.Asks.{AsksFor}
 use Rattle.run_course.specs.Asked.{Reads, inputs_read, tries_of}
+use Rattle.run_course.specs.Hosts.{AsksHosts}
 use Rattle.run_course.specs.Lent.{lent}
 use Rattle.run_course.specs.World.{Keeps, World, asks}
 use Rattle.run_course.specs.Written.{Table}
@@ -61,11 +62,13 @@ IsShelfCalm (Show form) before after = ⊤
 IsShelfCalm Direct before after = Rose before.faults after.faults → ⊥
 IsShelfCalm (Run s) before after = Rose before.faults after.faults → ⊥
 
--- the hosts can bring each task of a command to its end: for each task of a run's plan some try is
--- neither in the drill nor accounted for by the losses of the lent hosts
+-- the hosts can bring each task of a command to its end: for each task of a run's plan, over rows
+-- over which the script has a meaning, some try is neither in the drill nor accounted for by the
+-- losses of the lent hosts
 abbrev pub CanEnd : Command → Script → List (List Value) → List Account → List Account → Type 0
 CanEnd (Run s) script rows olds news =
-    (plan : Plan) → IsScriptPlan script plan
+    (plan : Plan) (table : Table) → IsScriptPlan script plan
+    → meaning script rows ≡ Some table
     → CanFinishAll s.tries s.drill (phases_of s script rows plan) (lent s olds) (lent s news)
 CanEnd _ script rows olds news = ⊤
 
@@ -126,6 +129,9 @@ pub record Promises (words : List (List ℕ)) (before after : World) (status : S
   -- what the source was asked for: the script's file and then those of the inputs that the command
   -- reads, in order, each once, and again only where the source failed, as often as is tried
   pub asked : AsksFor words before.source.told (asks before) (asks after) status
+  -- what hosts were asked for: nothing, or for `run` some front of its plan's phases, one behind
+  -- the other, each place at most once, and this of the lent hosts alone
+  pub asked_hosts : AsksHosts words before.source.told before.hosts after.hosts status
   pub script_refused : (line : ℕ) (kind : ScriptKind) → status ≡ ScriptRefused line kind →
       IsScriptRefused line kind words before.source
   pub input_refused : (name : List ℕ) (row column : ℕ) (kind : RowKind) →

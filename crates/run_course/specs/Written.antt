@@ -16,7 +16,7 @@ use Rattle.exec_plan.specs.declared.plan.Plan.{Plan}
 use Rattle.plan_texts.specs.Texts.{plan_json_of, plan_text_of}
 use Rattle.run_texts.specs.Texts.{size_lines}
 use Rattle.script_plans.specs.Plans.{IsScriptPlan}
-use Rattle.script_run.specs.Runs.{WereRun, phases_of}
+use Rattle.script_run.specs.Runs.{AsksAllPhases, WereRun, phases_of}
 use Rattle.serde_json.specs.Written.{compact_text}
 use Rattle.script_program.specs.declared.made.Output.{Output}
 use Rattle.script_program.specs.Script.{Script}
@@ -79,11 +79,13 @@ ShowsPlan form script text =
 
 -- ---- runs
 
--- each task of the plan was run over these rows: of each phase there are winners
+-- each task of the plan was run over these rows: of each phase there are winners, and the hosts
+-- were asked for these phases alone, one behind the other
 abbrev pub AllTasksRan : RunSettings → Script → List (List Value) → Plan → List Account
     → List Account → Type 0
 AllTasksRan s script rows plan olds news =
     (winners : List PhaseWinners) × WereRun s (phases_of s script rows plan) olds news winners
+    × AsksAllPhases s (phases_of s script rows plan) olds news
 
 -- What a run writes and leaves: the files of its script's direct meaning; its graph and its plan,
 -- the sizes of its collections and `done`. Each task of the plan was run on the lent hosts.

@@ -15,7 +15,7 @@ ghost use Rattle.run_course.specs.Lent.{lends};
 ghost use Rattle.run_course.specs.Written.{ShowsPlan, Writes, WritesMeaning, WritesRun};
 ghost use Rattle.script_loading.specs.Loads.{file_names};
 ghost use Rattle.script_loading.specs.Ready.{IsReady};
-ghost use Rattle.run_course.specs.inner.Course.{AsksUntil, IsCommandStop, IsMeaningStop};
+ghost use Rattle.run_course.specs.inner.Course.{AsksHostsUntil, AsksUntil, IsCommandStop, IsMeaningStop};
 
 use crate::evaluation::written_meaning;
 use crate::files::Written;
@@ -64,6 +64,9 @@ pub fn carried_out<X: Threads + Sync, R: Source, H: Host + Send>(
     ensures asked { AsksUntil (spec.tries_of command.now)
         (file_names (inputs_read command.now program.now.script))
         (seen R.asked R.faults source.old) (seen R.asked R.faults source.new) result }
+    ensures asked_hosts { AsksHostsUntil command.now (R.files source.old) program.now.script
+        (map (account H.notes H.losses) hosts.old) (map (account H.notes H.losses) hosts.new)
+        result }
     ensures files { R.files source.new ≡ R.files source.old }
     ensures later { R.faults source.old ≤ R.faults source.new }
     ensures grew { AllZip Grew (map (account H.notes H.losses) hosts.old)
@@ -143,6 +146,9 @@ fn run_on<X: Threads + Sync, R: Source, H: Host + Send>(
         program.now.script) }
     ensures asked { AsksUntil settings.now.tries (file_names (inputs_of program.now.script))
         (seen R.asked R.faults source.old) (seen R.asked R.faults source.new) result }
+    ensures asked_hosts { AsksHostsUntil (Run settings.now) (R.files source.old)
+        program.now.script (map (account H.notes H.losses) hosts.old)
+        (map (account H.notes H.losses) hosts.new) result }
     ensures files { R.files source.new ≡ R.files source.old }
     ensures later { R.faults source.old ≤ R.faults source.new }
     ensures grew { AllZip Grew (map (account H.notes H.losses) hosts.old)

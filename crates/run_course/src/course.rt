@@ -7,11 +7,12 @@ ghost use Rattle.outside.specs.Saves.{output_file};
 ghost use Rattle.outside.specs.Seen.{seen, seen_shelf};
 ghost use Rattle.run_course.specs.Answers.{Answers};
 ghost use Rattle.run_course.specs.Asks.{AsksFor};
+ghost use Rattle.run_course.specs.Hosts.{AsksHosts};
 ghost use Rattle.run_course.specs.Lent.{lent_to};
 ghost use Rattle.run_course.specs.Promises.{Promises};
 ghost use Rattle.run_course.specs.World.{Keeps, world};
 ghost use Rattle.run_course.specs.Written.{IsWritten};
-ghost use Rattle.run_course.specs.inner.Course.{AsksInCall, Delivers, IsStopped};
+ghost use Rattle.run_course.specs.inner.Course.{AsksHostsInCall, AsksInCall, Delivers, IsStopped};
 
 use crate::commands::{carried_out, tries_of};
 use crate::files::Written;
@@ -78,6 +79,9 @@ fn answer<X: Threads + Sync, R: Source, H: Host + Send, K: Shelf, P: Screen>(
         (map (account H.notes H.losses) hosts.new)) }
     ensures asked { AsksFor (map string_bytes words.now) (R.files source.old)
         (seen R.asked R.faults source.old) (seen R.asked R.faults source.new) result }
+    ensures asked_hosts { AsksHosts (map string_bytes words.now) (R.files source.old)
+        (map (account H.notes H.losses) hosts.old) (map (account H.notes H.losses) hosts.new)
+        result }
     ensures hosts { drop (lent_to (map string_bytes words.now)) hosts.new
         ≡ drop (lent_to (map string_bytes words.now)) hosts.old }
 {
@@ -117,6 +121,9 @@ fn prepare<X: Threads + Sync, R: Source, H: Host + Send>(
         (map (account H.notes H.losses) hosts.old) (map (account H.notes H.losses) hosts.new)) }
     ensures asked { AsksInCall (map string_bytes words.now) (R.files source.old)
         (seen R.asked R.faults source.old) (seen R.asked R.faults source.new) result }
+    ensures asked_hosts { AsksHostsInCall (map string_bytes words.now) (R.files source.old)
+        (map (account H.notes H.losses) hosts.old) (map (account H.notes H.losses) hosts.new)
+        result }
     ensures files { R.files source.new ≡ R.files source.old }
     ensures later { R.faults source.old ≤ R.faults source.new }
     ensures grew { AllZip Grew (map (account H.notes H.losses) hosts.old)

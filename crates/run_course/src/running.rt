@@ -7,7 +7,7 @@ ghost use Rattle.outside.specs.Saves.{output_file};
 ghost use Rattle.run_texts.specs.Texts.{size_lines};
 ghost use Rattle.script_laws.specs.WellFormed.{IsWellFormed};
 ghost use Rattle.script_plans.specs.Plans.{IsScriptPlan};
-ghost use Rattle.script_run.specs.Runs.{IsPlanOf, IsRan, IsRunFault};
+ghost use Rattle.script_run.specs.Runs.{AsksSomePhases, IsPlanOf, IsRan, IsRunFault, phases_of};
 ghost use Rattle.run_course.specs.Lent.{lent};
 ghost use Rattle.run_course.specs.Written.{AllTasksRan};
 ghost use Rattle.script_loading.specs.Ready.{IsReady};
@@ -48,6 +48,10 @@ pub fn written_run<X: Threads + Sync, H: Host + Send>(
     ensures ran { IfOk result (λ it. AllTasksRan settings.now program.now.script inputs shown.plan
         (lent settings.now (map (account H.notes H.losses) hosts.old))
         (lent settings.now (map (account H.notes H.losses) hosts.new))) }
+    ensures asked { AsksSomePhases settings.now
+        (phases_of settings.now program.now.script inputs shown.plan)
+        (lent settings.now (map (account H.notes H.losses) hosts.old))
+        (lent settings.now (map (account H.notes H.losses) hosts.new)) }
     ensures stop { IfErr result (IsRunStop settings.now program.now.script inputs shown.plan
         (lent settings.now (map (account H.notes H.losses) hosts.old))
         (lent settings.now (map (account H.notes H.losses) hosts.new))) }
@@ -81,6 +85,10 @@ fn ran_on<X: Threads + Sync, H: Host + Send>(
     requires typed { AreInputs program.now.script inputs }
     requires of_script { IsPlanOf program.now.script plan.now }
     requires sixteen { length hosts.old ≡ 16 }
+    ensures asked { AsksSomePhases settings.now
+        (phases_of settings.now program.now.script inputs plan.now)
+        (lent settings.now (map (account H.notes H.losses) hosts.old))
+        (lent settings.now (map (account H.notes H.losses) hosts.new)) }
     ensures ran { IfOk result (IsRan settings.now program.now.script inputs plan.now
         (lent settings.now (map (account H.notes H.losses) hosts.old))
         (lent settings.now (map (account H.notes H.losses) hosts.new))) }

@@ -1,3 +1,4 @@
+// How a script is run: its workers, shards, partitions, tries and drill, within limits.
 ghost use Rattle.std.specs.Prelude.{◌≡◌};
 
 use crew::Drill;

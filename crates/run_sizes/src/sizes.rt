@@ -1,3 +1,4 @@
+// The sizes of the needed collections, by what a run has counted.
 ghost use Rattle.std.specs.Prelude.{◌≡◌, ◌<◌, ◌++◌, ◌-◌, ◌^◌, [], IfOk, List, OnOk, Option, Some, length};
 ghost use Rattle.flume_collection.specs.Collection.{Collection};
 ghost use Rattle.direct_meaning.specs.Direct.{meaning, sizes_of};

@@ -1,94 +1,52 @@
-// Calls over one input, `in.csv`, whose one output is `out.csv`.
-use crate::hosts::CALM_HOST;
-use crate::worlds::{self, CALM, Failing, Named, check_on};
+// The word count by `direct` and by `run`, and by `run` on two hosts that meet. Expected texts were
+// written by hand.
+use crate::hosts::{CALM_HOST, Meeting, meeting_hosts};
+use crate::worlds::is_done;
 use std::alloc::{AllocError, Global};
-use std::process::Abort;
-use std::test::Fail as TestFail;
+use std::test::Fail;
 use std::thread::Threads;
 
-/// The words that ask for the script `s`.
-pub const RUN: [&str; 3] = ["flume", "run", "s"];
+const BY_RUN: &[u8] = b"graph
+0 source lines
+1 do 0 ws:split
+2 do 1 c:%pair
+3 group 2 c
+4 do 3 c:%sum
+output c reads 4 to \"out.csv\"
+plan
+stage 1 mscr
+in 0 reads s0 does ws:split(c:%pair>0)
+group 0 c lift sum takes 0.0 does c:%sum>0 gives 1.0
+output c reads 1.0 to \"out.csv\"
+size lines 1
+size ws 3
+size c 2
+done
+";
 
-/// What the source has: the bytes of the files `s` and `in.csv`, where they are there.
-#[derive(Clone, Copy)]
-pub struct Given<'a> {
-    pub script: Option<&'a [u8]>,
-    pub input: Option<&'a [u8]>,
+const BY_DIRECT: &[u8] = b"size lines 1\nsize ws 3\nsize c 2\ndone\n";
+
+#[test]
+fn counts_words(rt: HostRuntime) -> Result<(), Fail> {
+    let alloc = rt.alloc();
+    assert!(rt; is_done(&rt, alloc, "run", &mut [CALM_HOST; 16], BY_RUN)?);
+    assert!(rt; is_done(&rt, alloc, "direct", &mut [CALM_HOST; 16], BY_DIRECT)?);
+    Ok(())
 }
 
-/// What a call leaves: its exit status, the bytes of out.csv, and all that the screen got.
-#[derive(Clone, Copy)]
-pub struct Left<'a> {
-    pub code: u8,
-    pub file: Option<&'a [u8]>,
-    pub screen: &'a [u8],
+// Whether a run of two workers on hosts that meet is done, and each saw the other at work in each
+// phase.
+fn has_met<X: Threads + Sync>(rt: &X, alloc: Global) -> Result<bool, AllocError> {
+    let meeting = Meeting::new();
+    let mut hosts = meeting_hosts(&meeting);
+    let done = is_done(rt, alloc, "run", &mut hosts, BY_RUN)?;
+    Ok(done && meeting.all_met())
 }
 
-/// Makes the call, and compares what it leaves.
-pub fn check<X: Threads + Sync + Abort>(
-    rt: &X,
-    alloc: Global,
-    words: &[&str],
-    given: Given,
-    failing: Failing,
-    want: Left,
-) -> Result<(), TestFail> {
-    let inputs = [("in.csv", given.input.unwrap_or(b""))];
-    let files = [("out.csv", want.file.unwrap_or(b""))];
-    let given = worlds::Given {
-        script: given.script,
-        inputs: those(&inputs, given.input.is_some()),
-    };
-    let want = worlds::Left {
-        code: want.code,
-        files: those(&files, want.file.is_some()),
-        screen: want.screen,
-    };
-    check_on(rt, alloc, words, given, failing, &mut [CALM_HOST; 16], want)
-}
-
-// The files, where they are there.
-fn those<'a>(files: &'a [Named<'a>], are_there: bool) -> &'a [Named<'a>] {
-    if are_there { files } else { &[] }
-}
-
-/// The run of a script over an input, with no failure.
-pub fn check_run<X: Threads + Sync + Abort>(
-    rt: &X,
-    alloc: Global,
-    script: &[u8],
-    input: &[u8],
-    want: Left,
-) -> Result<(), TestFail> {
-    let given = Given {
-        script: Some(script),
-        input: Some(input),
-    };
-    check(rt, alloc, &RUN, given, CALM, want)
-}
-
-/// The same, where the call is refused with this exit status and this line, and writes nothing.
-pub fn check_refused<X: Threads + Sync + Abort>(
-    rt: &X,
-    alloc: Global,
-    script: &[u8],
-    input: &[u8],
-    code: u8,
-    line: &[u8],
-) -> Result<(), TestFail> {
-    let left = Left {
-        code,
-        file: None,
-        screen: line,
-    };
-    check_run(rt, alloc, script, input, left)
-}
-
-/// Texts, one behind the other.
-pub fn text_of(alloc: Global, parts: &[&[u8]]) -> Result<Vec<u8>, AllocError> {
-    let mut text = Vec::new(alloc);
-    for part in parts {
-        text.extend_from_slice(part)?;
-    }
-    Ok(text)
+// Two workers are at work at the same time, in each phase.
+#[test]
+fn two_hosts_meet(rt: HostRuntime) -> Result<(), Fail> {
+    let met = has_met(&rt, rt.alloc())?;
+    assert!(rt; met);
+    Ok(())
 }

@@ -1,7 +1,5 @@
 // The hosts of all tests. They are of one type, since the whole program is made once for each type
 // of host.
-ghost use Rattle.outside.specs.Cause.{HasCause};
-
 use outside::{At, Down, Host, Phase};
 use std::sync::atomic::AtomicU64;
 use std::sync::atomic::Ordering::SeqCst;
@@ -45,20 +43,14 @@ pub struct Seat<'a> {
     side: Side,
 }
 
-/// A host that is down at two places at most, and may have a seat in a meeting.
+/// A host that is never down, and may have a seat in a meeting.
 #[derive(Clone, Copy)]
 pub struct TestHost<'a> {
-    pub down_at: [Option<At>; 2],
     pub seat: Option<Seat<'a>>,
-    pub losses: u64,
 }
 
-/// A host that is never down.
-pub const CALM_HOST: TestHost<'static> = TestHost {
-    down_at: [None, None],
-    seat: None,
-    losses: 0,
-};
+/// A host that is in no meeting.
+pub const CALM_HOST: TestHost<'static> = TestHost { seat: None };
 
 impl Signs {
     fn new() -> Signs {
@@ -139,12 +131,9 @@ fn is_set_soon(flag: &AtomicU64) -> bool {
 }
 
 impl<'a> TestHost<'a> {
-    /// A host that is never down, with that seat.
-    pub fn seated(meeting: &'a Meeting, side: Side) -> TestHost<'a> {
+    fn seated(meeting: &'a Meeting, side: Side) -> TestHost<'a> {
         TestHost {
-            down_at: [None, None],
             seat: Some(Seat { meeting, side }),
-            losses: 0,
         }
     }
 }
@@ -154,15 +143,11 @@ impl<'a> Host for TestHost<'a> {
 
     ghost notes = { λ _. None };
 
-    ghost losses = { λ h. h.losses };
+    ghost losses = { λ _. 0 };
 
     fn pass(&mut self, at: At) -> Result<(), Down> {
         if let Some(seat) = self.seat {
             seat.arrive(at.phase);
-        }
-        if self.down_at.contains(&Some(at)) {
-            self.losses = self.losses.saturating_add(1);
-            return Err(Down);
         }
         Ok(())
     }

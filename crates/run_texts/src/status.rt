@@ -1,3 +1,4 @@
+// How a call ended, and the exit status of that.
 ghost use Rattle.std.specs.Prelude.{◌≡◌};
 ghost use Rattle.run_texts.specs.Codes.{code_of};
 

@@ -1,3 +1,4 @@
+// The check of a whole script, statement after statement.
 ghost use Rattle.written_types.specs.Answer.{Gives};
 ghost use Rattle.script_check.specs.Rules as spec;
 

@@ -1,3 +1,4 @@
+// Two rules of each definition: there is room for it, and its name is new.
 ghost use Rattle.std.specs.Prelude.{◌≡◌, false, nat_lt, not, OnOk};
 ghost use Rattle.written_types.specs.Answer.{Gives, unless};
 

@@ -1,3 +1,4 @@
+// The rules of an input: its name, and the type and the columns of its rows.
 ghost use Rattle.std.specs.Prelude.{◌≡◌, ◌<◌, ℕ, List, false, is_some, length, IfOk, OnOk};
 ghost use Rattle.flume_types.specs.Columns.{input_columns_of};
 ghost use Rattle.type_table.specs.Table.{type_at};

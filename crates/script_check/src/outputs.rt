@@ -1,3 +1,4 @@
+// The rules of an output: its collection, the columns of that, and its file.
 ghost use Rattle.std.specs.Prelude.{◌≡◌, ◌<◌, false, is_some, length, OnOk};
 ghost use Rattle.flume_types.specs.Columns.{columns_of};
 ghost use Rattle.type_table.specs.Table.{type_at};

@@ -1,3 +1,4 @@
+// The rules of each kind of statement, in order.
 ghost use Rattle.std.specs.Prelude.{◌≡◌, ◌<◌, false, is_some, length, IfOk, OnOk};
 ghost use Rattle.type_table.specs.Table.{type_at};
 ghost use Rattle.written_types.specs.Answer.{Gives};

@@ -1,3 +1,4 @@
+// The scale of a function: how many emissions are expected of a hundred calls.
 ghost use Rattle.std.specs.Prelude.{Some};
 ghost use Rattle.written_types.specs.Answer.{Gives};
 ghost use Rattle.script_check.specs.Rules.{scale_of};

@@ -1,3 +1,4 @@
+// The rules of a function: its types, its scale and its body.
 ghost use Rattle.std.specs.Prelude.{◌≡◌, [], ◌∷◌, false, is_some, length, IfOk, OnOk};
 ghost use Rattle.written_types.specs.Answer.{Gives};
 ghost use Rattle.written_types.specs.Named.{find};

@@ -1,3 +1,4 @@
+// The law that the world of a well-formed script is typed.
 ghost use Rattle.std.specs.Prelude.{List};
 ghost use Rattle.flume_value.specs.declared.value.Value.{Value};
 ghost use Rattle.exec_graph.specs.Typing.{IsWorldTyped};

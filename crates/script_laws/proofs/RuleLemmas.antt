@@ -37,7 +37,8 @@ node-more : (line : ℕ) (u : Unit {0}) (s : State) (name : List ℕ) (node : No
     → spec.room line most_collections s.nodes ≡ Ok u → Fits s.functions s.nodes node.made node.type
     → IsGood (with_node name node s)
 node-more line u s name node good room fits =
-    let below = (Decides-ltb (length s.nodes) most_collections).0 (holds line TooMany _ u room) in record {
+    let below = (Decides-ltb (length s.nodes) most_collections).0 (holds line TooMany _ u room) in
+    record {
       functions = good.functions;
       nodes = fit-push s.functions [] s.nodes (name, node) good.nodes fits;
       outputs = outputs-kept s.nodes ((name, node) ∷ []) s.outputs good.outputs;

@@ -1,3 +1,4 @@
+// What holds of every accepted script, and of the collections that it needs.
 ghost use Rattle.std.specs.Prelude.{◌≡◌, ◌↔◌, ℕ, IsTrue, List, Ok};
 ghost use Rattle.flume_grammar.specs.declared.tree.Statement.{Statement};
 ghost use Rattle.script_program.specs.Script.{Script};

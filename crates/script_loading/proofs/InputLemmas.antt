@@ -1,11 +1,12 @@
 -- Inputs, as they are read node by node.
 use Rattle.std.proofs.Common.{◌≡◌, ℕ, suc, zero, ◌+◌, ◌<◌, Bool, true, false, List, [], ◌∷◌, ◌++◌, drop, length, Option, Some, None, slice_get, ap, sym, ◌∙◌, refl, subst, append_assoc, append-nil, arith}
 use Rattle.std.specs.Option.{option_map}
-use Rattle.std.specs.Prelude.{IsUtf8}
+use Rattle.std.specs.Prelude.{IsUtf8, Ok}
 use Rattle.std.proofs.lemmas.List.{drop_all}
 use Rattle.std.proofs.lemmas.Option.{get_or_from_slice_get, slice_get_within}
+use Rattle.csv_rows.specs.Rows.{rows_of}
 use Rattle.flume_types.specs.declared.types.Ty.{Ty}
-use Rattle.direct_meaning.specs.Inputs.{AreInputs, HaveRows, Wanted, inputs_of, wanted_by}
+use Rattle.direct_meaning.specs.Inputs.{HaveRows, Wanted, inputs_of, wanted_by}
 use Rattle.script_program.specs.Needed.{is_needed}
 use Rattle.flume_types.specs.Columns.{input_columns_of}
 use Rattle.flume_types.specs.Typing.{AllHave}
@@ -74,19 +75,22 @@ more_rows told (w ∷ done) it [] own all has = absurd all
 more_rows told (w ∷ done) it (r ∷ rows) own all has =
     (all.0, more_rows told done it rows own all.1 has)
 
-more_typed : (done : List Wanted) (it : Wanted) (rows : List (List Value)) (own : List Value)
-    → HaveRows done rows → AllHave it.type own
-    → HaveRows (done ++ it ∷ []) (rows ++ own ∷ [])
-more_typed [] it [] own all has = (has, tt)
-more_typed [] it (r ∷ rows) own all has = absurd all
-more_typed (w ∷ done) it [] own all has = absurd all
-more_typed (w ∷ done) it (r ∷ rows) own all has =
-    (all.0, more_typed done it rows own all.1 has)
+-- rows that files have are of the types of their inputs, where decoded rows have their type
+pub typed_rows : (told : Told)
+    → ((bytes : List ℕ) (ty : Ty) (rows : List Value) → rows_of bytes ty ≡ Some (Ok rows)
+    → AllHave ty rows)
+    → (inputs : List Wanted) (rows : List (List Value)) → AllHaveRows told inputs rows
+    → HaveRows inputs rows
+typed_rows told typed [] [] all = tt
+typed_rows told typed [] (r ∷ rows) all = absurd all
+typed_rows told typed (w ∷ inputs) [] all = absurd all
+typed_rows told typed (w ∷ inputs) (r ∷ rows) all =
+    (typed all.0.0 w.type r all.0.2, typed_rows told typed inputs rows all.1)
 
 -- ---- what was read
 
 pub none_read : (told : Told) (script : Script) → HasRead told script 0 []
-none_read told script = ([], refl, tt, tt)
+none_read told script = ([], refl, tt)
 
 nothing_behind : (script : Script) (number : ℕ) → inputs_from script number [] ≡ []
 nothing_behind script number = refl
@@ -102,12 +106,10 @@ all_done script done is =
 
 pub all_read : (told : Told) (script : Script) (rows : List (List Value))
     → HasRead told script (length script.nodes) rows
-    → AllHaveRows told (inputs_of script) rows × AreInputs script rows
+    → AllHaveRows told (inputs_of script) rows
 all_read told script rows read =
-    let same = sym (all_done script read.0 read.1) in (
-      subst (λ (l : List Wanted). AllHaveRows told l rows) same read.2,
-      subst (λ (l : List Wanted). HaveRows l rows) same read.3,
-    )
+    subst (λ (l : List Wanted). AllHaveRows told l rows) (sym (all_done script read.0 read.1))
+    read.2
 
 -- a node that is not needed
 pub passes : (told : Told) (script : Script) (number : ℕ) (rows : List (List Value)) (entry :
@@ -118,7 +120,6 @@ passes told script number rows entry found unneeded read = (
   read.0,
   read.1 ∙ ap (λ l. read.0 ++ l) (from_node script number entry false found unneeded),
   read.2,
-  read.3,
 )
 
 -- a node that is no input
@@ -132,7 +133,6 @@ passes_other told script number rows entry found needed other read =
       read.1 ∙ ap (λ l. read.0 ++ l)
           (from_node script number entry true found needed ∙ ap (λ own. own ++ behind) other),
       read.2,
-      read.3,
     )
 
 -- the inputs, where this node is one of them
@@ -151,15 +151,14 @@ turns script number entry it done found needed is read =
 pub reads_more : (told : Told) (script : Script) (number : ℕ) (rows : List (List Value))
     (entry : Entry) (it : Wanted) (own : List Value)
     → slice_get script.nodes number ≡ Some entry → is_needed script number ≡ true
-    → wanted entry ≡ it ∷ [] → HasRows told it own → AllHave it.type own
+    → wanted entry ≡ it ∷ [] → HasRows told it own
     → HasRead told script number rows → HasRead told script (suc number) (rows ++ own ∷ [])
-reads_more told script number rows entry it own found needed is has typed read =
+reads_more told script number rows entry it own found needed is has read =
     let behind = inputs_from script (suc number) (drop (suc number) script.nodes) in (
       read.0 ++ it ∷ [],
       turns script number entry it read.0 found needed is read.1
           ∙ sym (append_assoc read.0 (it ∷ []) behind),
       more_rows told read.0 it rows own read.2 has,
-      more_typed read.0 it rows own read.3 typed,
     )
 
 -- why an input has no rows is why the inputs have none
@@ -301,9 +300,9 @@ pub behind_input : (told : Told) (script : Script) (number : ℕ) (rows more : L
     (entry : Entry) (it : Wanted) (own : List Value) → slice_get script.nodes number
     ≡ Some entry
     → is_needed script number ≡ true → wanted entry ≡ it ∷ [] → HasRows told it own
-    → AllHave it.type own → more ≡ rows ++ own ∷ [] → HasRead told script number rows
+    → more ≡ rows ++ own ∷ [] → HasRead told script number rows
     → HasRead told script (number + 1) more
-behind_input told script number rows more entry it own found needed is has typed longer read =
+behind_input told script number rows more entry it own found needed is has longer read =
     subst (λ (all : List (List Value)). HasRead told script (number + 1) all) (sym longer)
     (as_sum told script number (rows ++ own ∷ [])
-    (reads_more told script number rows entry it own found needed is has typed read))
+    (reads_more told script number rows entry it own found needed is has read))

@@ -8,7 +8,7 @@ use Rattle.run_texts.specs.declared.status.Status.{Status}
 use Rattle.run_texts.specs.declared.status.Status.TheVariants.{Done, GaveUp, Usage, ScriptRefused, InputRefused, Trap, ReadFault, WriteFault, WantOfMemory, TooLong, NoFile}
 use Rattle.script_loading.specs.Causes.{IsInputCause, IsInputsCause}
 use Rattle.script_loading.specs.Loads.{AllHaveRows, IsAbove, IsMissing, Loads}
-use Rattle.script_loading.specs.declared.limits.TheConstants.{INPUT_LIMIT}
+use Rattle.script_loading.specs.Limits.{input_limit}
 
 abbrev Told : Type 0
 Told = Option (List NamedBytes)
@@ -28,7 +28,7 @@ module _ (tries : ℕ) (before middle after : SeenSource) where
   input_since wanted (InputRefused name row column kind) told later cause = (
     cause.0,
     cause.1,
-    subst (λ (t : Told). Loads t wanted.file INPUT_LIMIT cause.1) told cause.2,
+    subst (λ (t : Told). Loads t wanted.file input_limit cause.1) told cause.2,
     cause.3,
   )
   input_since wanted (NoFile other) told later cause =
@@ -38,7 +38,7 @@ module _ (tries : ℕ) (before middle after : SeenSource) where
   input_since wanted (TooLong other most) told later cause = (
     cause.0,
     cause.1,
-    subst (λ (t : Told). IsAbove t wanted.file INPUT_LIMIT) told cause.2,
+    subst (λ (t : Told). IsAbove t wanted.file input_limit) told cause.2,
   )
   input_since wanted WantOfMemory told later cause = tt
   input_since wanted Usage told later cause = absurd cause

@@ -12,12 +12,12 @@ use Rattle.run_texts.specs.declared.status.Status.TheVariants.{ScriptRefused, In
 use Rattle.script_program.specs.Script.{Script}
 use Rattle.script_loading.specs.Accepted.{Accepted, Refused}
 use Rattle.script_loading.specs.Loads.{AllHaveRows, IsAbove, IsMissing, Loads}
-use Rattle.script_loading.specs.declared.limits.TheConstants.{SCRIPT_LIMIT, INPUT_LIMIT}
+use Rattle.script_loading.specs.Limits.{script_limit, input_limit}
 
 -- the file of that name is accepted as this script
 abbrev pub IsLoaded : Option (List NamedBytes) → List ℕ → Script → Type 0
 IsLoaded told name script =
-    (bytes : List ℕ) × Loads told name SCRIPT_LIMIT bytes × Accepted bytes script
+    (bytes : List ℕ) × Loads told name script_limit bytes × Accepted bytes script
 
 -- how often a file is loaded before the source's failure is the answer
 module _ (tries : ℕ) (before after : Seen (List NamedBytes)) where
@@ -34,15 +34,15 @@ module _ (tries : ℕ) (before after : Seen (List NamedBytes)) where
   -- why no script was read, where the answer is this one
   abbrev pub IsScriptCause : List ℕ → Status → Type 0
   IsScriptCause name (ScriptRefused line kind) =
-      (bytes : List ℕ) × Loads before.told name SCRIPT_LIMIT bytes × Refused bytes line kind
-  IsScriptCause name status = IsLoadCause name SCRIPT_LIMIT status
+      (bytes : List ℕ) × Loads before.told name script_limit bytes × Refused bytes line kind
+  IsScriptCause name status = IsLoadCause name script_limit status
 
   -- why an input has no rows, where the answer is this one
   abbrev pub IsInputCause : Wanted → Status → Type 0
   IsInputCause wanted (InputRefused name row column kind) =
-      (name ≡ wanted.file) × (bytes : List ℕ) × Loads before.told wanted.file INPUT_LIMIT bytes
+      (name ≡ wanted.file) × (bytes : List ℕ) × Loads before.told wanted.file input_limit bytes
       × (rows_of bytes wanted.type ≡ Some (Err (Bad row column kind)))
-  IsInputCause wanted status = IsLoadCause wanted.file INPUT_LIMIT status
+  IsInputCause wanted status = IsLoadCause wanted.file input_limit status
 
   -- why not all of these inputs have rows, where the answer is this one: the first that has none
   abbrev pub IsInputsCause : List Wanted → Status → Type 0

@@ -5,7 +5,7 @@ use Rattle.direct_meaning.specs.Inputs.{Wanted}
 use Rattle.flume_value.specs.declared.value.Value.{Value}
 use Rattle.outside.specs.Files.{bytes_of}
 use Rattle.outside.specs.declared.file.File.{File}
-use Rattle.script_loading.specs.declared.limits.TheConstants.{INPUT_LIMIT}
+use Rattle.script_loading.specs.Limits.{input_limit}
 
 -- the file of that name has these bytes, where files are told, and they are within the limit
 abbrev pub Loads : Option (List File) → List ℕ → ℕ → List ℕ → Type 0
@@ -28,7 +28,7 @@ file_names inputs = map (λ wanted. wanted.file) inputs
 -- the file of an input has these rows
 abbrev pub HasRows : Option (List File) → Wanted → List Value → Type 0
 HasRows told wanted rows =
-    (bytes : List ℕ) × Loads told wanted.file INPUT_LIMIT bytes
+    (bytes : List ℕ) × Loads told wanted.file input_limit bytes
     × (rows_of bytes wanted.type ≡ Some (Ok rows))
 
 -- the same of several inputs, in order

@@ -7,7 +7,7 @@ ghost use Rattle.script_loading.specs.Loads.{Loads};
 ghost use Rattle.script_loading.specs.inner.Reading.{status_of};
 
 use flume_value::Str;
-use outside::{LoadFault, Source, load_tried};
+use outside::{LoadFault, Pieces, Source, load_tried};
 use run_texts::Status;
 use std::alloc::Global;
 
@@ -18,10 +18,10 @@ pub fn loaded<R: Source>(
     name: &str,
     limit: u64,
     tries: u32,
-) -> Result<Vec<u8>, Status>
+) -> Result<Pieces, Status>
     requires tries { 0 < tries }
     ensures files { R.files source.new ≡ R.files source.old }
-    ensures ok { IfOk result (λ bytes. Loads (R.files source.old) name.now limit bytes.items) }
+    ensures ok { IfOk result (λ bytes. Loads (R.files source.old) name.now limit bytes) }
     ensures err { IfErr result (IsLoadCause tries (seen R.files R.faults source.old)
         (seen R.files R.faults source.new) name.now limit) }
     ensures later { R.faults source.old ≤ R.faults source.new }

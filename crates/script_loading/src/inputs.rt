@@ -2,7 +2,6 @@
 ghost use Rattle.std.specs.Prelude.{◌≡◌, ◌≤◌, ◌<◌, ◌⊎◌, ◌+◌, ◌∷◌, [], IfErr, IfOk, IsUtf8, OnErr, OnOk, Some, length};
 ghost use Rattle.direct_meaning.specs.Inputs.{AreInputs, Wanted, inputs_of};
 ghost use Rattle.flume_types.specs.Columns.{input_columns_of};
-ghost use Rattle.flume_types.specs.Typing.{AllHave};
 ghost use Rattle.flume_types.specs.declared.types.Ty.{Ty};
 ghost use Rattle.outside.specs.Asked.{Asks, AsksFront};
 ghost use Rattle.outside.specs.Seen.{seen};
@@ -13,8 +12,9 @@ ghost use Rattle.script_loading.specs.Ready.{IsReady};
 ghost use Rattle.script_loading.specs.inner.Reading.{HasRead, fault_status, inputs_at};
 
 use crate::files::loaded;
+use crate::laws::inputs_law;
 use crate::limits::INPUT_LIMIT;
-use csv_rows::{RowFault, rows_under_columns};
+use csv_rows::{RowFault, rows_of};
 use flume_types::Column;
 use flume_value::{Items, Pile, Str};
 use outside::Source;
@@ -47,6 +47,7 @@ pub fn rows_of_inputs<R: Source>(
         (AsksFront tries (file_names (inputs_of program.now.script))
         (seen R.asked R.faults source.old) (seen R.asked R.faults source.new)) }
 {
+    inputs_law();
     let mut rows = Pile::new(alloc);
     for number in 0..program.node_count() {
         add_rows(alloc, program, number, source, tries, &mut rows)?;
@@ -105,8 +106,6 @@ fn rows_of_file<R: Source>(
     ensures files { R.files source.new ≡ R.files source.old }
     ensures ok { IfOk result (λ rows. (type : Ty) → input_columns_of type ≡ Some columns.now →
         HasRows (R.files source.old) (record { file = file.now; type = type }) rows) }
-    ensures typed { IfOk result (λ rows. (type : Ty) → input_columns_of type ≡ Some columns.now →
-        AllHave type rows) }
     ensures err { IfErr result (λ status. (type : Ty) →
         input_columns_of type ≡ Some columns.now →
         IsInputCause tries (seen R.files R.faults source.old) (seen R.files R.faults source.new)
@@ -118,8 +117,8 @@ fn rows_of_file<R: Source>(
     let Ok(name) = str::from_utf8(file.as_bytes()) else {
         unreachable!();
     };
-    let bytes = loaded(alloc, source, name, INPUT_LIMIT, tries)?;
-    match rows_under_columns(alloc, &bytes, columns) {
+    let loaded = loaded(alloc, source, name, INPUT_LIMIT, tries)?;
+    match rows_of(alloc, loaded, columns) {
         Ok(rows) => Ok(rows),
         Err(fault) => Err(input_refused(alloc, name, fault)),
     }

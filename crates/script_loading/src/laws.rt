@@ -1,7 +1,14 @@
-ghost use Rattle.std.specs.Prelude.{◌≡◌, List, ℕ};
+// What holds of all scripts and inputs that are read, whatever reads them.
+ghost use Rattle.std.specs.Prelude.{◌≡◌, List, Option, ℕ};
+ghost use Rattle.direct_meaning.specs.Inputs.{AreInputs, inputs_of};
 ghost use Rattle.flume_grammar.specs.declared.fault.ScriptKind.{ScriptKind as Kind};
+ghost use Rattle.flume_value.specs.declared.value.Value.{Value};
+ghost use Rattle.outside.specs.declared.file.File.{File};
 ghost use Rattle.script_program.specs.Script.{Script};
 ghost use Rattle.script_loading.specs.Accepted.{Accepted, Refused};
+ghost use Rattle.script_loading.specs.Loads.{AllHaveRows};
+
+use csv_rows::rows_law;
 
 /// Bytes are accepted as one script or refused for one reason, and not both.
 pub fn accepted_law()
@@ -12,3 +19,11 @@ pub fn accepted_law()
     ensures one_reason { (bytes : List ℕ) (n m : ℕ) (j k : Kind) →
         Refused bytes n j → Refused bytes m k → (n ≡ m) × (j ≡ k) }
 {}
+
+/// The rows that the files of a script's needed inputs have are of the types of these inputs.
+pub fn inputs_law()
+    ensures typed { (told : Option (List File)) (script : Script) (rows : List (List Value)) →
+        AllHaveRows told (inputs_of script) rows → AreInputs script rows }
+{
+    rows_law();
+}

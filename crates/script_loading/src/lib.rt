@@ -3,8 +3,9 @@
 //! A file is loaded as often as the caller says before the source's failure is the answer
 //! (`files`). The bytes of a script are parsed and checked (`script`): they are accepted as one
 //! script or refused for one reason (specs/Accepted.antt, `accepted_law`). The rows of each input
-//! that a script needs are decoded under its columns, in the script's order (`inputs`). A refusal
-//! is the first that is met, with its cause (specs/Causes.antt).
+//! that a script needs are decoded under its columns, in the script's order (`inputs`); they are of
+//! its types (`inputs_law`). A refusal is the first that is met, with its cause
+//! (specs/Causes.antt).
 #![tactic(auto)]
 
 mod files;
@@ -14,6 +15,6 @@ mod limits;
 mod script;
 
 pub use inputs::rows_of_inputs;
-pub use laws::accepted_law;
+pub use laws::{accepted_law, inputs_law};
 pub use limits::{INPUT_LIMIT, SCRIPT_LIMIT};
 pub use script::script_of;

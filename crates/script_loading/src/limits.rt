@@ -1,3 +1,5 @@
+// How large a file may be.
+
 /// The most bytes that a script may have.
 pub const SCRIPT_LIMIT: u64 = 65_536;
 

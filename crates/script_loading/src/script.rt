@@ -12,7 +12,7 @@ use crate::files::loaded;
 use crate::limits::SCRIPT_LIMIT;
 use flume_grammar::ScriptFault;
 use flume_syntax::parse;
-use outside::Source;
+use outside::{Pieces, Source};
 use run_texts::Status;
 use script_check::check;
 use script_program::Program;
@@ -37,11 +37,24 @@ pub fn script_of<R: Source>(
     ensures asked { Asks tries (name.now ∷ []) (seen R.asked R.faults source.old)
         (seen R.asked R.faults source.new) }
 {
-    let bytes = loaded(alloc, source, name, SCRIPT_LIMIT, tries)?;
-    match program_of(alloc, &bytes) {
+    let file = loaded(alloc, source, name, SCRIPT_LIMIT, tries)?;
+    match program_in(alloc, file) {
         Ok(program) => Ok(program),
         Err(ScriptFault::Refused { line, kind }) => Err(Status::ScriptRefused { line, kind }),
         Err(ScriptFault::Memory) => Err(Status::WantOfMemory),
+    }
+}
+
+// The program of a script, as it was loaded.
+fn program_in(alloc: Global, file: Pieces) -> Result<Program, ScriptFault>
+    ensures accepted { IfOk result (λ program. Accepted file program.script) }
+    ensures refused { IfErr result (IsScriptFault file) }
+    ensures well_formed { IfOk result (λ program. IsWellFormed program.script) }
+    ensures ready { IfOk result (λ program. IsReady program.script) }
+{
+    match file.into_vec(alloc) {
+        Ok(bytes) => program_of(alloc, &bytes),
+        Err(_) => Err(ScriptFault::Memory),
     }
 }
 

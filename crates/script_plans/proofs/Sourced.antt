@@ -1,19 +1,24 @@
--- The sources of a script's graph are numbered below their count.
-use Rattle.std.proofs.Common.{◌≡◌, ℕ, suc, ◌+◌, ◌<◌, ◌≤◌, List, [], ◌∷◌, ◌++◌, Option, Some, None, refl, sym, subst, arith}
-use Rattle.std.specs.List.{AllByRecursion}
+-- The sources of a script's graph are numbered below their count, and are as many as needed inputs.
+use Rattle.std.proofs.Common.{◌≡◌, ℕ, suc, ◌+◌, ◌<◌, ◌≤◌, Bool, true, false, cond, List, [], ◌∷◌, ◌++◌, Option, Some, None, length, length-append, refl, sym, subst, arith}
+use Rattle.std.specs.Prelude.{if◌then◌else◌}
+use Rattle.std.specs.List.{AllByRecursion, filter, flat_map}
+use Rattle.flume_types.specs.declared.types.Ty.{Ty}
 use Rattle.flume_value.proofs.EachLemmas.{Each-append, Each-weaker}
+use Rattle.direct_meaning.specs.Inputs.{Wanted, inputs_of, wanted_by}
 use Rattle.exec_graph.specs.declared.graph.Entry.{Entry}
 use Rattle.exec_graph.specs.declared.graph.Node.{Node}
 use Rattle.exec_graph.specs.declared.graph.Node.TheVariants.{Source, Flatten, Pdo, Gbk, Barrier}
 use Rattle.exec_graph.specs.declared.graph.Place.{Place}
 use Rattle.graph_build.specs.Graphs.{behind, giving, graph_of, next_source, nodes_at, nodes_from, place_in}
 use Rattle.graph_build.specs.Nodes.{made_nodes}
-use Rattle.graph_build.specs.Wanted.{wanted}
+use Rattle.graph_build.specs.Wanted.{wanted, wanted_from}
 use Rattle.optimise.specs.Optimised.{source_count, source_count_at}
 use Rattle.plan_rules.specs.Fitting.{HasSourcesBelow, IsSourceBelow}
 use Rattle.script_program.specs.declared.made.Made.{Made}
 use Rattle.script_program.specs.declared.made.Made.TheVariants as made
-use Rattle.script_program.specs.Script.{Script}
+use Rattle.script_program.specs.Needed.{is_needed, numbered}
+use Rattle.script_program.specs.Script.{Node as ScriptNode, Script}
+use Rattle.written_types.specs.Named.{Named}
 
 abbrev Below : ℕ → List Entry → Type 0
 Below m es = AllByRecursion (λ e. IsSourceBelow m e.node) es
@@ -97,3 +102,55 @@ sources_below script =
     let es : List Entry = (graph_of script).nodes in
     let e : 0 + source_count es ≡ source_count es = omega arith in
     subst (λ (m : ℕ). Below m es) e (all_below (place_in (giving script)) 0 0 0 (wanted script))
+
+-- ---- as many as needed inputs
+
+module _ (script : Script) (gives : ℕ → Place) where
+  block_count : (origin source n : ℕ) (mk : Made) (t : Ty)
+      → source_count (made_nodes gives origin source n mk) ≡ length (wanted_by mk t)
+  block_count origin source n (made.Input file columns) t = refl
+  block_count origin source n (made.Do input f output) t = refl
+  block_count origin source n (made.Group input) t = refl
+  block_count origin source n (made.Combine input k) t = refl
+  block_count origin source n (made.Flatten inputs) t = refl
+  block_count origin source n (made.Count input) t = refl
+  block_count origin source n (made.Join left right) t = refl
+  block_count origin source n (made.Top many input) t = refl
+
+  abbrev Numbered : Type 0
+  Numbered = List (ℕ × (List ℕ × ScriptNode))
+
+  abbrev inputs_in : Numbered → List Wanted
+  inputs_in entries = flat_map (λ it. wanted_by it.1.1.made it.1.1.type) entries
+
+  -- one collection more, which is needed or not
+  more_count : (b : Bool) (origin source n : ℕ) (entry : List ℕ × ScriptNode) (others : Numbered)
+      (rest : List Entry) → source_count rest ≡ length (inputs_in others)
+      → source_count
+      (nodes_at gives origin source n (if b then Some entry.1.made else None) ++ rest)
+      ≡ length (inputs_in (cond b ((origin, entry) ∷ others) others))
+  more_count true origin source n entry others rest h =
+      let mk = entry.1.made in
+      let t = entry.1.type in
+      let whole = count_append (made_nodes gives origin source n mk) rest in
+      let block = block_count origin source n mk t in
+      let inputs = length-append (wanted_by mk t) (inputs_in others) in
+      omega arith
+  more_count false origin source n entry others rest h = h
+
+  all_count : (origin source n : ℕ) (nodes : Named ScriptNode)
+      → source_count (nodes_from gives origin source n (wanted_from script origin nodes))
+      ≡ length (inputs_in (filter (λ it. is_needed script it.0) (numbered origin nodes)))
+  all_count origin source n [] = refl
+  all_count origin source n (entry ∷ nodes) =
+      let b = is_needed script origin in
+      let how : Option Made = if b then Some entry.1.made else None in
+      more_count b origin source n entry
+      (filter (λ it. is_needed script it.0) (numbered (suc origin) nodes))
+      (nodes_from gives (suc origin) (next_source source how) (behind n how)
+      (wanted_from script (suc origin) nodes))
+      (all_count (suc origin) (next_source source how) (behind n how) nodes)
+
+pub sources_counted : (script : Script)
+    → source_count (graph_of script).nodes ≡ length (inputs_of script)
+sources_counted script = all_count script (place_in (giving script)) 0 0 0 script.nodes

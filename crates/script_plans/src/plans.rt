@@ -1,5 +1,6 @@
 // The plan of a program: what its execution graph keeps is what the optimiser asks for.
-ghost use Rattle.std.specs.Prelude.{◌≡◌, IfOk};
+ghost use Rattle.std.specs.Prelude.{◌≡◌, IfOk, length};
+ghost use Rattle.direct_meaning.specs.Inputs.{inputs_of};
 ghost use Rattle.exec_graph.specs.Typing.{IsTyped, Signatures};
 ghost use Rattle.exec_graph.specs.Wellformed.{IsGraphOk};
 ghost use Rattle.exec_graph.specs.World.{World};
@@ -29,6 +30,8 @@ pub fn plan_of(alloc: Global, program: &Program, graph: Graph) -> Result<Plan, A
     ensures types { IfOk result (λ plan. (s : Signatures) →
         IsTyped s (graph_of program.now.script) → IsPlanTyped s plan) }
     ensures object_free { IfOk result (λ plan. IsPlanObjectFree plan) }
+    ensures sources { IfOk result (λ plan.
+        plan.sources ≡ length (inputs_of program.now.script)) }
 {
     one_step_law();
     object_free_law();

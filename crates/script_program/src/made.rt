@@ -1,3 +1,4 @@
+// What a script defines: how collections are made, functions and outputs.
 use combine_table::Comb;
 use dofn_eval::Fun;
 use flume_grammar::Body;

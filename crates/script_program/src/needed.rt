@@ -1,3 +1,4 @@
+// Which collections are needed, as outputs read from them.
 ghost use Rattle.std.specs.Prelude.{◌≡◌, ℕ, ◌<◌, List, ◌∷◌, [], ◌++◌, length, false, replicate};
 ghost use Rattle.std.specs.Prelude.{IfOk};
 ghost use Rattle.script_program.specs.Needed.{operands, with_reads, read_from};

@@ -1,3 +1,4 @@
+// What an operation names: a collection that it reads, or a function that it calls.
 use crate::made::Signature;
 use type_table::TypeId;
 

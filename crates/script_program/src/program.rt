@@ -1,3 +1,4 @@
+// The program that an accepted script is.
 ghost use Rattle.std.specs.Prelude.{◌≡◌, ◌<◌, Some, length, slice_get};
 ghost use Rattle.std.specs.Option.{option_map};
 ghost use Rattle.script_program.specs.Program as spec;

@@ -1,5 +1,5 @@
 -- What a plan's execution comes to, in the world of the script.
-use Rattle.std.proofs.Common.{◌≡◌, ℕ, zero, suc, ◌<◌, List, [], ◌∷◌, Option, Some, length, map, slice_get, slice_index_or, refl, sym, subst}
+use Rattle.std.proofs.Common.{◌≡◌, ℕ, zero, suc, ◌<◌, List, [], ◌∷◌, Option, Some, length, map, slice_get, slice_index_or, refl, sym, ap, subst}
 use Rattle.std.specs.List.{Contains}
 use Rattle.build_law.specs.Signatures.{signatures_of}
 use Rattle.build_law.specs.Worlds.{world_of}
@@ -14,21 +14,33 @@ use Rattle.flume_collection.specs.Calls.{or_none}
 use Rattle.flume_collection.specs.Collection.{Collection}
 use Rattle.flume_collection.specs.declared.trap.Trap.{Trap}
 use Rattle.flume_value.specs.declared.value.Value.{Value}
+use Rattle.direct_meaning.specs.Inputs.{HaveRows, Wanted}
+use Rattle.plan_phases.specs.Phases.{phases}
+use Rattle.plan_phases.specs.Told.{AskedFront}
 use Rattle.plan_phases.specs.declared.fault.RunFault.{RunFault}
 use Rattle.plan_phases.specs.declared.fault.RunFault.TheVariants as fault
 use Rattle.run_settings.specs.Settings.{RunSettings}
 use Rattle.script_program.specs.Script.{Script}
-use Rattle.stage_exec.specs.Executions.{IsExecuted, IsTypedRun, IsRunFault as IsExecutionFault}
+use Rattle.stage_exec.specs.Executions.{IsExecuted, IsRunFault as IsExecutionFault, split_of}
 use Rattle.stage_exec.specs.declared.executed.Executed.{Executed}
 use Rattle.stage_phases.specs.Stages.{run_world}
+use Rattle.task_safety.specs.Stages.{IsTypedRun}
 use Rattle.task_safety.specs.Taking.{Takes}
-use Rattle.script_run.specs.Runs.{IsRunFault}
+use Rattle.script_run.specs.Runs.{AsksSomePhases, IsRunFault, phases_of}
 
 rows_same : (inputs : List (List Value)) (r : ℕ)
     → or_none (slice_get inputs r) ≡ slice_index_or inputs r []
 rows_same [] r = refl
 rows_same (rows ∷ inputs) zero = refl
 rows_same (rows ∷ inputs) (suc r) = rows_same inputs r
+
+-- as many lists of rows as inputs
+pub as_many_rows : (wanted : List Wanted) (inputs : List (List Value)) → HaveRows wanted inputs
+    → length inputs ≡ length wanted
+as_many_rows [] [] have = refl
+as_many_rows [] (rows ∷ inputs) have = absurd have
+as_many_rows (one ∷ wanted) [] have = absurd have
+as_many_rows (one ∷ wanted) (rows ∷ inputs) have = ap suc (as_many_rows wanted inputs have.1)
 
 module _ (script : Script) (inputs : List (List Value)) where
   -- the world of a run
@@ -58,6 +70,11 @@ module _ (script : Script) (inputs : List (List Value)) where
     executed nodes it h =
         subst (λ w. IsExecuted s w plan nodes olds news it) same_world h
 
+    pub phases_asked : AskedFront s.tries s.drill (phases World_ (split_of s) plan) olds news
+        → AsksSomePhases s (phases_of s script inputs plan) olds news
+    phases_asked h =
+        subst (λ w. AskedFront s.tries s.drill (phases w (split_of s) plan) olds news) same_world h
+
     faulted_here : (made : List (Option Collection)) → meaning script inputs ≡ Some made
         → ((trap : Trap) → Contains (plan_traps (world_of script inputs) plan) trap
         → Contains (traps_of made) trap) → (e : RunFault)
@@ -70,7 +87,8 @@ module _ (script : Script) (inputs : List (List Value)) where
       first = h.0;
       ran = h.2;
     }
-    faulted_here made means among (fault.GaveUp stage phase task) h = h
+    faulted_here made means among (fault.GaveUp stage phase task) h =
+        record { made = made; means = means; given_up = h }
     faulted_here made means among fault.Memory h = tt
 
     pub faulted : (made : List (Option Collection)) → meaning script inputs ≡ Some made

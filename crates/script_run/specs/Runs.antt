@@ -1,10 +1,11 @@
 -- What the run of a script by its plan comes to.
-use Rattle.std.specs.Prelude.{◌≡◌, List, [], Option, Some, ⊤}
+use Rattle.std.specs.Prelude.{◌≡◌, ℕ, List, [], Option, Some, ⊤, length}
 use Rattle.std.specs.List.{AllZip, Contains}
 use Rattle.build_law.specs.Signatures.{signatures_of}
 use Rattle.build_law.specs.Worlds.{world_of}
 use Rattle.crew.specs.Hosts.{Account}
 use Rattle.direct_meaning.specs.Direct.{meaning, sizes_of, traps_of}
+use Rattle.direct_meaning.specs.Inputs.{inputs_of}
 use Rattle.exec_graph.specs.World.{World}
 use Rattle.exec_plan.specs.ObjectFree.{IsPlanObjectFree}
 use Rattle.exec_plan.specs.Typing.{IsPlanTyped}
@@ -14,9 +15,10 @@ use Rattle.flume_collection.specs.Collection.{Collection}
 use Rattle.flume_collection.specs.declared.trap.Trap.{Trap}
 use Rattle.flume_value.specs.declared.value.Value.{Value}
 use Rattle.graph_build.specs.Graphs.{graph_of}
+use Rattle.outside.specs.declared.host.Phase.{Phase}
 use Rattle.plan_laws.specs.Operations.{SamePlan}
 use Rattle.plan_phases.specs.Phases.{PhaseTasks, phases}
-use Rattle.plan_phases.specs.Told.{AreWinners, HasTrapped, IsGivenUp}
+use Rattle.plan_phases.specs.Told.{AreWinners, AskedFront, AskedInTurn, HasTrapped, IsGivenUp}
 use Rattle.plan_phases.specs.declared.fault.RunFault.{RunFault}
 use Rattle.plan_phases.specs.declared.fault.RunFault.TheVariants as fault
 use Rattle.plan_phases.specs.declared.winners.PhaseWinners.{PhaseWinners}
@@ -28,12 +30,13 @@ use Rattle.script_run.specs.Comes.{AreMembers}
 use Rattle.script_run.specs.declared.run.Ran.{Ran}
 
 -- the plan is well-formed and typed, has no objects, and means what the script's graph means, over
--- any rows
+-- any rows; it has a source for each input that the script needs
 pub record IsPlanOf (script : Script) (plan : Plan) : Type 0 where
   pub well_formed : IsPlanOk plan
   pub object_free : IsPlanObjectFree plan
   pub typed : IsPlanTyped (signatures_of script) plan
   pub same : (w : World) → SamePlan w (graph_of script) plan
+  pub sources : plan.sources ≡ length (inputs_of script)
 
 -- into how many shards and partitions a run splits its channels
 abbrev pub split_of : RunSettings → Split
@@ -50,8 +53,17 @@ abbrev pub WereRun : RunSettings → List PhaseTasks → List Account → List A
 WereRun s phases olds news winners =
     AllZip (AreWinners s.tries s.drill olds news) phases winners
 
+-- the hosts were asked for all of these phases alone, one behind the other
+abbrev pub AsksAllPhases : RunSettings → List PhaseTasks → List Account → List Account → Type 0
+AsksAllPhases s phases olds news = AskedInTurn s.tries s.drill phases olds news
+
+-- the same of a front of them
+abbrev pub AsksSomePhases : RunSettings → List PhaseTasks → List Account → List Account → Type 0
+AsksSomePhases s phases olds news = AskedFront s.tries s.drill phases olds news
+
 -- Nothing in the script's meaning traps, and these are the members that its outputs write and the
--- sizes of its collections. Each task of the plan was run.
+-- sizes of its collections. Each task of the plan was run, and the hosts were asked for its phases
+-- alone, in turn.
 pub record IsRan (s : RunSettings) (script : Script) (inputs : List (List Value)) (plan : Plan)
     (olds news : List Account) (it : Ran) : Type 0 where
   pub made : List (Option Collection)
@@ -62,6 +74,7 @@ pub record IsRan (s : RunSettings) (script : Script) (inputs : List (List Value)
       it.outputs.items
   pub sizes : it.sizes.items ≡ sizes_of script made
   pub ran : WereRun s (phases_of s script inputs plan) olds news it.winners.items
+  pub asked : AsksAllPhases s (phases_of s script inputs plan) olds news
 
 -- a trap of the script's meaning, the first of the tasks of the plan; its task has run, and all
 -- tasks before have run without a trap
@@ -74,12 +87,20 @@ pub record IsFirstOf (s : RunSettings) (script : Script) (inputs : List (List Va
   pub ran : HasTrapped s.tries s.drill (world_of script inputs) (phases_of s script inputs plan)
       olds news trap
 
+-- a task of the plan that was given up, of a script that has a meaning over these rows; all phases
+-- and tasks before have run without a trap
+pub record IsLostOf (s : RunSettings) (script : Script) (inputs : List (List Value)) (plan : Plan)
+    (olds news : List Account) (stage : ℕ) (phase : Phase) (task : ℕ) : Type 0 where
+  pub made : List (Option Collection)
+  pub means : meaning script inputs ≡ Some made
+  pub given_up : IsGivenUp s.tries s.drill (world_of script inputs)
+      (phases_of s script inputs plan) olds news stage phase task
+
 -- why a run of the plan came to no end: a trap, a task that was given up, or want of memory
 abbrev pub IsRunFault : RunSettings → Script → List (List Value) → Plan → List Account
     → List Account → RunFault → Type 0
 IsRunFault s script inputs plan olds news (fault.Trap trap) =
     IsFirstOf s script inputs plan olds news trap
 IsRunFault s script inputs plan olds news (fault.GaveUp stage phase task) =
-    IsGivenUp s.tries s.drill (world_of script inputs) (phases_of s script inputs plan) olds news
-    stage phase task
+    IsLostOf s script inputs plan olds news stage phase task
 IsRunFault s script inputs plan olds news fault.Memory = ⊤

@@ -6,7 +6,7 @@ ghost use Rattle.crew.specs.Hosts.{account, Grew};
 ghost use Rattle.direct_meaning.specs.Inputs.{AreInputs};
 ghost use Rattle.flume_value.specs.Bag.{bag_of};
 ghost use Rattle.script_laws.specs.WellFormed.{IsWellFormed};
-ghost use Rattle.script_run.specs.Runs.{IsPlanOf, IsRan, IsRunFault};
+ghost use Rattle.script_run.specs.Runs.{AsksSomePhases, IsPlanOf, IsRan, IsRunFault, phases_of};
 
 use crate::laws::plan_law;
 use build_law::means_law;
@@ -52,6 +52,9 @@ pub fn run_script<X: Threads + Sync, H: Host + Send>(
     requires inputs { AreInputs program.now.script inputs }
     requires hosts { length hosts.old ≡ settings.now.workers }
     ensures grew { AllZip Grew
+        (map (account H.notes H.losses) hosts.old) (map (account H.notes H.losses) hosts.new) }
+    ensures asked { AsksSomePhases settings.now
+        (phases_of settings.now program.now.script inputs plan.now)
         (map (account H.notes H.losses) hosts.old) (map (account H.notes H.losses) hosts.new) }
     ensures ran { IfOk result (IsRan settings.now program.now.script inputs plan.now
         (map (account H.notes H.losses) hosts.old) (map (account H.notes H.losses) hosts.new)) }

@@ -1,3 +1,4 @@
+// The law that the shards of a list, one after another, are the list.
 ghost use Rattle.std.specs.Prelude.{◌≡◌, ◌<◌, ℕ, List};
 ghost use Rattle.flume_value.specs.declared.value.Value.{Value};
 ghost use Rattle.shards.specs.Shards.{joined, shard};

@@ -1,3 +1,4 @@
+// Where each shard of a list begins and ends.
 ghost use Rattle.std.specs.Prelude.{◌≡◌, ◌+◌, ◌<◌, ◌≤◌, length};
 ghost use Rattle.shards.specs.Shards.{begins, shard as shard_is};
 

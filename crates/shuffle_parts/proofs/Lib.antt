@@ -1,4 +1,5 @@
 pub mod Borrowed
+pub mod Finding
 pub mod Gathered
 pub mod Parting
 pub mod Passing

@@ -1,3 +1,4 @@
+// Pairs parted by their keys, and combined within each partition.
 ghost use Rattle.std.specs.Prelude.{◌<◌, All, IfOk, map};
 ghost use Rattle.std.specs.List.{AllZip};
 ghost use Rattle.bag_groups.specs.Pairs.{pairs_of};

@@ -1,4 +1,5 @@
-ghost use Rattle.std.specs.Prelude.{◌≡◌, ◌<◌, ℕ, true, All, IsTrue, List, filter};
+// Laws of partitions: parting keeps groups whole, and what is gathered is right.
+ghost use Rattle.std.specs.Prelude.{◌≡◌, ◌<◌, ℕ, true, All, IsSomeAnd, IsTrue, List, Some, filter};
 ghost use Rattle.std.specs.List.{AllZip, flat_map};
 ghost use Rattle.flume_value.specs.declared.value.Value.{Value};
 ghost use Rattle.flume_value.specs.Bag.{bag_of};
@@ -31,9 +32,9 @@ pub fn parts_law()
 pub fn gathered_law()
     ensures pairs { (n r p : ℕ) (outs : List MapOut) (given : List (List Value)) → p < n →
         AllZip (λ out pairs. ArePairsOf n (sent_at r out) pairs) outs given →
-        all_pairs outs r p ≡ part_of n p (flat_map (λ pairs. pairs) given) }
+        all_pairs outs r p ≡ Some (part_of n p (flat_map (λ pairs. pairs) given)) }
     ensures partials { (c : Comb) (n r p : ℕ) (outs : List MapOut) (given : List (List Value)) →
         p < n → AllZip (λ out pairs. ArePartialsOf c n (sent_at r out) pairs) outs given →
-        StandFor c (all_partials outs r p)
-        (pairs_of (part_of n p (flat_map (λ pairs. pairs) given))) }
+        IsSomeAnd (all_partials outs r p) (λ partials. StandFor c partials
+        (pairs_of (part_of n p (flat_map (λ pairs. pairs) given)))) }
 {}

@@ -1,3 +1,4 @@
+// What a map task gives to the output channels of its stage.
 use flume_value::{Items, Pile};
 use partial_tables::Partial;
 

@@ -1,7 +1,8 @@
 // What is parted by keys, and gathered.
-ghost use Rattle.std.specs.Prelude.{◌<◌, All, IfOk};
+ghost use Rattle.std.specs.Prelude.{◌<◌, All, IfOk, IsSome, ℕ};
 ghost use Rattle.bag_groups.specs.Pairs.{IsPair};
 ghost use Rattle.partial_tables.specs.Merges.{IsCombinable};
+ghost use Rattle.shuffle_parts.specs.Outs.{all_pairs, all_partials, pairs_at, partials_at};
 
 use bag_groups::pair;
 use combine_table::Comb;
@@ -32,6 +33,7 @@ fn three(alloc: Global, a: i64, b: i64, c: i64) -> Result<Vec<Value>, AllocError
 // An out that groups the pairs in three partitions, and passes a value.
 fn grouped(alloc: Global, pairs: Vec<Value>, passed: i64) -> Result<MapOut, AllocError>
     requires { All IsPair pairs.items }
+    ensures { IfOk result (λ out. (p : ℕ) → p < 3 → IsSome (pairs_at 0 p out)) }
 {
     let mut values = Pile::new(alloc);
     values.push(Value::Int(passed))?;
@@ -42,6 +44,16 @@ fn grouped(alloc: Global, pairs: Vec<Value>, passed: i64) -> Result<MapOut, Allo
         sent,
         counts: Pile::new(alloc),
     })
+}
+
+// The outs of two tasks, which group three pairs each.
+fn two_tasks(alloc: Global) -> Result<Vec<MapOut>, AllocError>
+    ensures { IfOk result (λ outs. (p : ℕ) → p < 3 → IsSome (all_pairs outs.items 0 p)) }
+{
+    let mut outs = Vec::new(alloc);
+    outs.push(grouped(alloc, three(alloc, 10, 20, 11)?, 7)?)?;
+    outs.push(grouped(alloc, three(alloc, 12, 21, 13)?, 8)?)?;
+    Ok(outs)
 }
 
 // Whether the pair of these ints stands at that place.
@@ -62,9 +74,7 @@ fn stands(
 #[test]
 fn pairs_are_gathered_by_the_partition_of_their_key(rt: HostRuntime) -> Result<(), Fail> {
     let alloc = rt.alloc();
-    let mut outs = Vec::new(alloc);
-    outs.push(grouped(alloc, three(alloc, 10, 20, 11)?, 7)?)?;
-    outs.push(grouped(alloc, three(alloc, 12, 21, 13)?, 8)?)?;
+    let outs = two_tasks(alloc)?;
     let one = partition(&Value::Int(1), 3) as usize;
     let two = partition(&Value::Int(2), 3) as usize;
     let ones = gather_pairs(alloc, outs.as_slice(), 0, one)?;
@@ -74,13 +84,14 @@ fn pairs_are_gathered_by_the_partition_of_their_key(rt: HostRuntime) -> Result<(
     assert!(rt; stands(alloc, ones.as_slice(), 3, 1, 13)?);
     assert!(rt; stands(alloc, twos.as_slice(), 0, 2, 20)?);
     assert!(rt; stands(alloc, twos.as_slice(), 1, 2, 21)?);
-    assert!(rt; gather_pairs(alloc, outs.as_slice(), 1, one)?.is_empty());
+    assert!(rt; gather_pairs(alloc, &[], 1, one)?.is_empty());
     Ok(())
 }
 
 // The accumulators of one part.
 fn sums(alloc: Global, pairs: Vec<Value>) -> Result<MapOut, AllocError>
     requires { All (IsCombinable Comb.Sum) pairs.items }
+    ensures { IfOk result (λ out. IsSome (partials_at 0 0 out)) }
 {
     let referred: Vec<&Value> = pairs.iter().collect(alloc)?;
     let mut combined = Vec::new(alloc);
@@ -93,12 +104,20 @@ fn sums(alloc: Global, pairs: Vec<Value>) -> Result<MapOut, AllocError>
     })
 }
 
-#[test]
-fn accumulators_are_gathered_in_order_of_tasks(rt: HostRuntime) -> Result<(), Fail> {
-    let alloc = rt.alloc();
+// The outs of two tasks, which combine three pairs each.
+fn two_sums(alloc: Global) -> Result<Vec<MapOut>, AllocError>
+    ensures { IfOk result (λ outs. IsSome (all_partials outs.items 0 0)) }
+{
     let mut outs = Vec::new(alloc);
     outs.push(sums(alloc, three(alloc, 10, 20, 11)?)?)?;
     outs.push(sums(alloc, three(alloc, 12, 21, 13)?)?)?;
+    Ok(outs)
+}
+
+#[test]
+fn accumulators_are_gathered_in_order_of_tasks(rt: HostRuntime) -> Result<(), Fail> {
+    let alloc = rt.alloc();
+    let outs = two_sums(alloc)?;
     let all = gather_partials(alloc, outs.as_slice(), 0, 0)?;
     assert!(rt; all.len() == 4);
     assert!(rt; all[0].1 == Value::Wide(21) && all[1].1 == Value::Wide(20));

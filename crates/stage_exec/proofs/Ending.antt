@@ -25,7 +25,8 @@ use Rattle.task_lists.specs.Plans.{first_trap, size_of}
 use Rattle.task_lists.specs.Runs.{kept_count}
 use Rattle.task_lists.specs.Tasks.{Lists}
 use Rattle.stage_exec.proofs.Running.{all_dropped}
-use Rattle.stage_exec.specs.Executions.{IsRunFault, IsTypedRun, split_of}
+use Rattle.task_safety.specs.Stages.{IsTypedRun}
+use Rattle.stage_exec.specs.Executions.{IsRunFault, split_of}
 use Rattle.stage_exec.specs.inner.Along.{CanGoOn}
 use Rattle.stage_exec.specs.inner.Reads.{AgreeOn}
 

@@ -11,10 +11,11 @@ use Rattle.crew.specs.Hosts.{Account, Grew}
 use Rattle.exec_graph.specs.World.{World}
 use Rattle.exec_plan.specs.declared.plan.Stage.{Stage}
 use Rattle.map_shard.specs.Tables.{table}
+use Rattle.plan_phases.proofs.Asking.{asked_all, asked_then, front_before}
 use Rattle.plan_phases.proofs.Joining.{none_run, run_then, stopped_before, stopped_behind}
 use Rattle.plan_phases.proofs.Lasting.{all_grew_on}
 use Rattle.plan_phases.specs.Phases.{stage_phases}
-use Rattle.plan_phases.specs.Told.{HaveRun, IsStopped}
+use Rattle.plan_phases.specs.Told.{AskedFront, HaveRun, IsStopped}
 use Rattle.plan_phases.specs.declared.fault.RunFault.{RunFault}
 use Rattle.plan_phases.specs.declared.winners.PhaseWinners.{PhaseWinners}
 use Rattle.run_settings.specs.Settings.{RunSettings}
@@ -24,7 +25,8 @@ use Rattle.task_lists.specs.Lists.{result_lists, run_lists, source_lists, with_l
 use Rattle.task_lists.specs.Plans.{stage_tasks, task_counts, tasks_from}
 use Rattle.task_lists.specs.Tasks.{Lists}
 use Rattle.task_lists.proofs.TypedResults.{table_typed}
-use Rattle.stage_phases.specs.Stages.{CanRunStage, run_world}
+use Rattle.stage_phases.specs.Stages.{run_world}
+use Rattle.task_safety.specs.Stages.{CanRunStage}
 use Rattle.stage_exec.specs.Executions.{split_of}
 use Rattle.stage_exec.specs.inner.Along.{Along, CanGoOn, counted_on, lists_after, phases_on}
 use Rattle.stage_exec.specs.inner.Reads.{AgreeOn, later_reads}
@@ -77,7 +79,7 @@ module _ (s : RunSettings) (called : ℕ → Value → Called) (takes : ℕ → 
             = ap (λ t. counted_on s World_ 1 stages t i) here in
             omega (arith, same);
         ran = [];
-        have_run = none_run s.tries s.drill World_ us us before;
+        have_run = none_run s.tries s.drill World_ us before;
         phases = ap (phases_on s World_ 1 stages) here;
         grew = all_same us;
       }
@@ -220,8 +222,22 @@ module _ (s : RunSettings) (called : ℕ → Value → Called) (takes : ℕ → 
         subst (λ ps. IsStopped s.tries s.drill World_ ps us ws e)
         (append_assoc a.ran here rest ∙ phases_left)
         (stopped_before s.tries s.drill World_ (a.ran ++ here) rest us ws e
-        (stopped_behind s.tries s.drill World_ a.ran here us vs ws e a.have_run.through stopped
-        a.grew grew))
+        (stopped_behind s.tries s.drill World_ a.ran here us vs ws e a.have_run.through
+        a.have_run.asked stopped a.grew grew))
+
+    -- where the stage ran and no memory was found behind it, no phase behind it was asked for
+    pub stage_asked : (ws : List Account) (later : List PhaseWinners)
+        → HaveRun s.tries s.drill World_ (stage_phases World_ (k + 1) (split_of s) Found stage)
+        vs ws told later
+        → AskedFront s.tries s.drill (phases_on s World_ 1 stages (source_lists World_)) us ws
+    stage_asked ws later ran =
+        let here = stage_phases World_ (k + 1) (split_of s) Found stage in
+        let rest = phases_on s World_ (suc (suc k)) (drop (suc k) stages) Next in
+        subst (λ ps. AskedFront s.tries s.drill ps us ws)
+        (append_assoc a.ran here rest ∙ phases_left)
+        (front_before s.tries s.drill (a.ran ++ here) rest us ws
+        (asked_all s.tries s.drill (a.ran ++ here) us ws
+        (asked_then s.tries s.drill a.ran here us vs ws a.have_run.asked ran.asked)))
 
   -- what is read no more may be dropped
   pub along_fewer : (k : ℕ) (results fewer : List (List (List Value))) (first sizes : List ℕ)

@@ -2,30 +2,19 @@
 use Rattle.std.specs.Prelude.{◌≡◌, ℕ, ◌<◌, List, [], Some, ⊤, length, map, slice_get}
 use Rattle.std.specs.List.{AllZip, Contains}
 use Rattle.crew.specs.Hosts.{Account}
-use Rattle.exec_graph.specs.Typing.{IsWorldTyped, Signatures}
 use Rattle.exec_graph.specs.World.{World}
 use Rattle.exec_plan.specs.Meaning.{emitted_by, plan_collection, plan_traps}
-use Rattle.exec_plan.specs.Typing.{IsPlanTyped}
 use Rattle.exec_plan.specs.declared.plan.Plan.{Plan}
 use Rattle.flume_value.specs.Bag.{bag_of}
-use Rattle.flume_value.specs.declared.value.Value.{Value}
 use Rattle.plan_phases.specs.Phases.{phases}
-use Rattle.plan_phases.specs.Told.{AreWinners, HasTrapped, IsGivenUp}
+use Rattle.plan_phases.specs.Told.{AreWinners, AskedInTurn, HasTrapped, IsGivenUp}
 use Rattle.plan_phases.specs.declared.fault.RunFault.{RunFault}
 use Rattle.plan_phases.specs.declared.fault.RunFault.TheVariants as fault
 use Rattle.run_settings.specs.Settings.{RunSettings}
 use Rattle.task_lists.specs.Plans.{first_trap}
 use Rattle.task_lists.specs.Runs.{kept_count}
 use Rattle.task_lists.specs.Tasks.{Split}
-use Rattle.task_safety.specs.Taking.{Takes}
 use Rattle.stage_exec.specs.declared.executed.Executed.{Executed}
-
--- the world and the plan have the same types, and functions may be called on what they take by them
-pub record IsTypedRun (w : World) (takes : ℕ → Value → Type 0) (p : Plan) : Type 0 where
-  pub signatures : Signatures
-  pub world : IsWorldTyped signatures w
-  pub calls : (f : ℕ) (x : Value) → Takes signatures f x → takes f x
-  pub plan : IsPlanTyped signatures p
 
 -- into how many shards and partitions a run splits its channels
 abbrev pub split_of : RunSettings → Split
@@ -34,7 +23,7 @@ split_of s = record { shards = s.shards; partitions = s.partitions }
 -- Nothing in the plan's meaning traps. The lists of outputs have the bags of what the plan writes
 -- out, and the counts are the sizes of the first so many script nodes. Of each phase of the plan
 -- there are winners: an attempt of each task, not in the drill, all of whose places some host has
--- let through since.
+-- let through since. The hosts were asked for these phases alone, in turn.
 pub record IsExecuted (s : RunSettings) (w : World) (p : Plan) (nodes : ℕ)
     (olds news : List Account) (it : Executed) : Type 0 where
   pub calm : plan_traps w p ≡ []
@@ -45,6 +34,7 @@ pub record IsExecuted (s : RunSettings) (w : World) (p : Plan) (nodes : ℕ)
       slice_get it.counts i ≡ Some (kept_count (length (emitted_by w p i)))
   pub ran : AllZip (AreWinners s.tries s.drill olds news) (phases w (split_of s) p)
       it.winners
+  pub asked : AskedInTurn s.tries s.drill (phases w (split_of s) p) olds news
 
 -- why a plan's execution stopped: by the first trap of its tasks, which is one of the plan's, at a
 -- task that has run; or at a task that was given up; all phases and tasks before have run without a

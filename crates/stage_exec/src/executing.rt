@@ -7,9 +7,10 @@ ghost use Rattle.exec_plan.specs.Wellformed.{IsPlanOk};
 ghost use Rattle.forest_steps.specs.Fresh.{zeros};
 ghost use Rattle.map_shard.specs.Tables.{table};
 ghost use Rattle.plan_phases.specs.Phases.{phases};
-ghost use Rattle.plan_phases.specs.Told.{CanFinishAll, IsNotGivenUp};
-ghost use Rattle.stage_exec.specs.Executions.{IsExecuted, IsRunFault, IsTypedRun, split_of};
+ghost use Rattle.plan_phases.specs.Told.{AskedFront, CanFinishAll, IsNotGivenUp};
+ghost use Rattle.stage_exec.specs.Executions.{IsExecuted, IsRunFault, split_of};
 ghost use Rattle.stage_phases.specs.Stages.{run_world};
+ghost use Rattle.task_safety.specs.Stages.{IsTypedRun};
 
 use crate::executed::Executed;
 use crate::outputs::output_lists;
@@ -25,8 +26,8 @@ use std::alloc::{AllocError, Global};
 use std::thread::Threads;
 use task_lists::tasks_law;
 
-/// Executes a plan without objects over the rows of its sources, with a worker on each of the
-/// hosts. It counts for the first so many script nodes.
+/// Executes a plan without objects over the rows of its sources, one list for each, with a worker
+/// on each of the hosts. It counts for the first so many script nodes.
 ///
 /// It stops at the first trap of the plan's tasks, by phases in order and by tasks in order within
 /// one; or, where no smaller task of that phase and none of an earlier one traps, at the least task
@@ -43,11 +44,16 @@ pub fn execute<R: Threads + Sync, F: Functions + Sync, H: Host + Send>(
 ) -> Result<Executed, RunFault>
     requires plan { IsPlanOk plan.now }
     requires object_free { IsPlanObjectFree plan.now }
+    requires sources { length sources.now ≡ plan.now.sources }
     requires typed { IsTypedRun (run_world (F.called functions.now) sources.now)
         (F.can_call functions.now) plan.now }
     requires some { 1 ≤ length hosts.old }
     requires most { length hosts.old ≤ 16 }
     ensures grew { AllZip Grew
+        (map (account H.notes H.losses) hosts.old) (map (account H.notes H.losses) hosts.new) }
+    // However it ends, no phase is made twice, and none behind the one where it stops.
+    ensures asked { AskedFront settings.now.tries settings.now.drill
+        (phases (run_world (F.called functions.now) sources.now) (split_of settings.now) plan.now)
         (map (account H.notes H.losses) hosts.old) (map (account H.notes H.losses) hosts.new) }
     ensures done { IfOk result (IsExecuted settings.now
         (run_world (F.called functions.now) sources.now) plan.now nodes

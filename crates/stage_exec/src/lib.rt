@@ -12,6 +12,7 @@
 //!
 //! Whatever the hosts do, and whoever wins, what is answered is the plan's meaning (`IsExecuted`,
 //! `IsRunFault`: specs/Executions.antt).
+//! They are asked for the plan's phases alone, one behind the other (`asked` of `execute`).
 #![tactic(auto)]
 
 mod dropping;

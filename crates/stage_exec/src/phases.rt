@@ -7,7 +7,8 @@ ghost use Rattle.map_shard.specs.Tables.{split, table};
 ghost use Rattle.plan_phases.specs.Phases.{stage_phases};
 ghost use Rattle.plan_phases.specs.Told.{HaveRun, IsStopped};
 ghost use Rattle.stage_phases.specs.Outs.{AreReduceOuts};
-ghost use Rattle.stage_phases.specs.Stages.{CanRunStage, run_world};
+ghost use Rattle.stage_phases.specs.Stages.{run_world};
+ghost use Rattle.task_safety.specs.Stages.{CanRunStage};
 ghost use Rattle.task_lists.specs.Outs.{AreMapOuts};
 
 use exec_plan::Mscr;

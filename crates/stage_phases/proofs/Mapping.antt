@@ -1,19 +1,16 @@
 -- The tasks of a map phase as a crew runs them.
-use Rattle.std.proofs.Common.{◌≡◌, ℕ, ◌<◌, ◌/◌, ◌%◌, List, refl, sym, ap, subst}
-use Rattle.std.specs.Option.{IsSomeAnd}
+use Rattle.std.proofs.Common.{◌≡◌, ℕ, List, refl, sym, ap, subst}
 use Rattle.flume_value.specs.declared.value.Value.{Value}
 use Rattle.outside.specs.declared.host.Phase.TheVariants.{Map}
 use Rattle.crew.specs.Drills.{Settings}
-use Rattle.shuffle_parts.specs.declared.out.MapOut.{MapOut}
-use Rattle.phase_outs.proofs.Placing.{some_at}
 use Rattle.exec_graph.specs.World.{World}
 use Rattle.exec_plan.specs.declared.plan.Mscr.{Mscr}
-use Rattle.task_lists.specs.Outs.{AreMapOuts, IsCalm, IsFirstTrap, IsMapOut}
+use Rattle.task_lists.specs.Outs.{IsCalm, IsFirstTrap}
 use Rattle.task_lists.specs.Tasks.{Task, map_task_at, places}
 use Rattle.map_shard.specs.Work.{IsWorkValue, Work, lists_of, split_of, work_count, work_places}
 use Rattle.plan_phases.specs.Phases.{map_phase_of}
 use Rattle.run_settings.specs.Settings.{RunSettings}
-use Rattle.stage_phases.specs.inner.Tasks.{AreValues, IsPhaseOf}
+use Rattle.stage_phases.specs.inner.Tasks.{IsPhaseOf}
 use Rattle.stage_phases.proofs.Numbers.{at_below, length_below}
 
 abbrev pub work_of : {F : Type 0} → F → List (List Value) → List (List (List Value)) → Mscr
@@ -43,15 +40,4 @@ module _ {F : Type 0} (work : Work F) (w : World) where
         subst (λ x. IsFirstTrap w x trap) (at_below task_of (work_count work) j task at)
         (is w refl);
     asks = λ j task at. ap places (at_below task_of (work_count work) j task at);
-  }
-
-  pub are_map_outs : (outs : List MapOut)
-      → AreValues (work_count work) (IsWorkValue w.called work) outs
-      → AreMapOuts w (split_of work) (lists_of work) work.stage outs
-  are_map_outs outs h = record {
-    count = h.count;
-    each = λ k below.
-        let here = some_at outs k (subst (λ n. k < n) (sym h.count) below) in
-        subst (λ o. IsSomeAnd o (IsMapOut w (split_of work) (lists_of work) work.stage
-        (k / work.shards) (k % work.shards))) (sym here.1) (h.values k here.0 here.1 w refl);
   }

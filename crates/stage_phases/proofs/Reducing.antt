@@ -1,6 +1,7 @@
 -- The tasks of a reduce phase as a crew runs them.
 use Rattle.std.proofs.Common.{◌≡◌, ℕ, true, false, ◌<◌, ◌≤◌, ◌*◌, ◌/◌, ◌%◌, ◌^◌, List, [], ◌∷◌, length, Option, Some, Result, Ok, Err, refl, sym, ap, ◌∙◌, subst, arith, slice_get, mod-lt, zero-mul}
-use Rattle.std.specs.List.{AllByRecursion as Each, list_any}
+use Rattle.std.specs.List.{list_any}
+use Rattle.std.specs.Prelude.{option_and_then, unwrap_or}
 use Rattle.std.specs.Option.{IsSomeAnd, option_map_or}
 use Rattle.std.proofs.Math.Nat.{div-lt_iff_lt-mul, le-mul_of_pos_right}
 use Rattle.std.proofs.lemmas.Option.{slice_get_within}
@@ -19,24 +20,17 @@ use Rattle.exec_plan.specs.declared.plan.OutChannel.{OutChannel}
 use Rattle.exec_plan.specs.declared.plan.OutChannel.TheVariants.{Group, Pass}
 use Rattle.task_lists.specs.Outs.{AreMapOuts, IsCalm, IsFirstTrap}
 use Rattle.task_lists.specs.Tasks.{Lists, Split, Task, groupings, no_task, places, reduce_count, reduce_task, reduce_task_at}
-use Rattle.forest_steps.specs.Safety.{SafeOf}
 use Rattle.run_settings.specs.Settings.{RunSettings}
 use Rattle.reduce_part.specs.declared.out.ReduceOut.{ReduceOut}
-use Rattle.reduce_part.specs.Reducing.{AreGroupsFirst, CanReduce, IsGathered, IsReducingValue, IsReduceValue, Reducing, group_count, group_task, reducing_count, reducing_places}
+use Rattle.reduce_part.specs.Reducing.{AreGroupsFirst, IsGathered, IsReducingValue, IsReduceValue, Reducing, group_count, group_task, reducing_count, reducing_places}
 use Rattle.map_shard.specs.Tables.{split}
 use Rattle.plan_phases.specs.Phases.{reduce_phase_of, reduce_phases, tasks_below}
 use Rattle.stage_phases.specs.Outs.{AreReduceOuts, IsOutOf}
 use Rattle.stage_phases.specs.inner.Channels.{is_group}
 use Rattle.stage_phases.specs.inner.Tasks.{AreValues, IsPhaseOf}
-use Rattle.stage_phases.proofs.Fitting.{IsOutSomewhere, few_tasks}
-use Rattle.stage_phases.proofs.Gathering.{gathered_at, pairs_at, task_is}
+use Rattle.reduce_part.proofs.Shuffled.{few_groupings, gathered_at, pairs_at, task_is}
+use Rattle.task_safety.proofs.Fitting.{few_tasks}
 use Rattle.stage_phases.proofs.Numbers.{at_below, length_below}
-
--- not more channels group than there are
-pub few_groupings : (channels : List OutChannel) → length (groupings channels) ≤ length channels
-few_groupings [] = omega arith
-few_groupings (Group g ∷ cs) = let rest = few_groupings cs in omega arith
-few_groupings (Pass k n ∷ cs) = let rest = few_groupings cs in omega arith
 
 -- whether a channel groups says whether there is a reduce phase
 pub no_groupings : (channels : List OutChannel) → list_any is_group channels ≡ false
@@ -106,34 +100,6 @@ module _ {F : Type 0} (r : Reducing F) (w : World) (shards : ℕ) (t : Lists)
       → group_task g (pairs_of_part i g p) ≡ reduce_task w n t r.stage.inputs g p
   same_task i g p = task_is w n t r.stage r.outs i some made g p
 
-  -- ---- the tasks can be made
-
-  module _ (takes : ℕ → Value → Type 0) (called : World)
-      (out_ok : (i : ℕ) (c : OutChannel) → slice_get r.stage.outputs i ≡ Some c
-      → IsOutSomewhere r.stage.inputs c)
-      (safe : (i p : ℕ) (g : Grouping) → slice_get r.stage.outputs i ≡ Some (Group g)
-      → Each (SafeOf called takes g.does) (reduce_task w n t r.stage.inputs g p).elements) where
-    pub can_reduce : length r.stage.outputs ≤ 2 ^ 17 → r.partitions ≤ 64
-        → CanReduce called takes r
-    can_reduce few small = record {
-      partitions = some_partitions;
-      few =
-          let channels = few_groupings r.stage.outputs in
-          let most = few_tasks (length (groupings r.stage.outputs)) r.partitions (omega arith)
-          (omega (arith, small)) in omega arith;
-      first = first;
-      ready = λ i p g at below.
-          let place = first i g at in
-          let ok = (out_ok i (Group g) place).ok in record {
-            numbered = ok.steps;
-            lift = ok.lift;
-            pairs = pairs_of_part i g p;
-            gathered = gathered_of i g p below place;
-            safe = subst (λ (x : Task). Each (SafeOf called takes g.does) x.elements)
-                (sym (same_task i g p)) (safe i p g place);
-          };
-    }
-
   -- ---- what they give
 
   abbrev task_of : ℕ → Task
@@ -181,7 +147,7 @@ module _ {F : Type 0} (r : Reducing F) (w : World) (shards : ℕ) (t : Lists)
   pub is_reduce_phase : (k : ℕ) (s : Settings) → s.stage ≡ k → s.phase ≡ Reduce
       → ((lifted : Option Comb) (i p : ℕ) (pairs : List Value)
       → IsGathered lifted r.outs i p pairs
-      → group_count lifted r.outs i p ≡ length (grouped pairs))
+      → group_count lifted r.outs i p ≡ Some (length (grouped pairs)))
       → IsPhaseOf w (reduce_phase_of w k n t r.stage) s (reducing_count r)
       (IsReducingValue w.called r) (reducing_places r)
   is_reduce_phase k s stage phase counted = record {
@@ -198,10 +164,11 @@ module _ {F : Type 0} (r : Reducing F) (w : World) (shards : ℕ) (t : Lists)
         let i = j / r.partitions in
         let p = j % r.partitions in
         let asked : Option Grouping → ℕ =
-        λ o. option_map_or (λ g. group_count g.lifted r.outs i p) o 0 in
+        λ o. unwrap_or (option_and_then (λ g. group_count g.lifted r.outs i p) o) 0 in
         ap asked h.at
-        ∙ counted h.channel.lifted i p (pairs_of_part i h.channel p)
-        (gathered_of i h.channel p h.within h.place)
+        ∙ ap (λ o. unwrap_or o 0)
+        (counted h.channel.lifted i p (pairs_of_part i h.channel p)
+        (gathered_of i h.channel p h.within h.place))
         ∙ ap places
         (same_task i h.channel p ∙ sym h.is ∙ at_below task_of (reducing_count r) j task at);
   }

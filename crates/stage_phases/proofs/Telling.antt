@@ -1,11 +1,10 @@
 -- What a phase tells, where its tasks are those of the plan.
 use Rattle.std.proofs.Common.{◌≡◌, ℕ, zero, suc, ◌<◌, List, [], ◌∷◌, ◌++◌, take, Some, length, Result, Ok, refl, ap, sym, ◌∙◌, subst, arith, slice_get}
-use Rattle.std.specs.List.{AllByRecursion as Each}
 use Rattle.std.proofs.lemmas.List.{length-take-le}
 use Rattle.std.proofs.lemmas.Option.{none-some, same_Some, slice_get_within}
 use Rattle.crew.specs.Drills.{Settings}
 use Rattle.crew.specs.Hosts.{Account}
-use Rattle.crew.specs.Phases.{IsLostTask}
+use Rattle.crew.specs.Phases.{AreAskedOnce, IsLostTask}
 use Rattle.exec_graph.specs.World.{World}
 use Rattle.flume_collection.specs.declared.trap.Trap.{Trap}
 use Rattle.phase_outs.specs.declared.made.PhaseOuts.{PhaseOuts}
@@ -17,15 +16,12 @@ use Rattle.task_lists.specs.Outs.{IsCalm}
 use Rattle.task_lists.specs.Tasks.{Task, places}
 use Rattle.plan_phases.specs.declared.winners.PhaseWinners.{PhaseWinners}
 use Rattle.plan_phases.specs.Phases.{PhaseTasks}
-use Rattle.plan_phases.specs.Told.{HaveRun, IsReached, IsStopped, RanThrough, first_tasks, settings_of}
+use Rattle.plan_phases.specs.Told.{AreAsked, AskedFront, HaveRun, IsReached, IsStopped, RanThrough, first_tasks, settings_of}
+use Rattle.plan_phases.proofs.Asking.{asked_all, asked_one}
+use Rattle.task_safety.proofs.Fitting.{each_placed}
 use Rattle.stage_phases.specs.inner.Tasks.{IsPhaseOf, fault_at}
 
 -- ---- lists
-
-pub each_placed : {A : Type 0} (P : A → Type 0) (xs : List A)
-    → ((k : ℕ) (x : A) → slice_get xs k ≡ Some x → P x) → Each P xs
-each_placed P [] f = tt
-each_placed P (x ∷ xs) f = (f 0 x refl, each_placed P xs (λ k y e. f (suc k) y e))
 
 -- what stands among the first stands there
 from_first : {A : Type 0} (xs : List A) (n k : ℕ) (x : A) → slice_get (take n xs) k ≡ Some x
@@ -70,6 +66,20 @@ module _ (w : World) (ph : PhaseTasks) (s : Settings) (tasks : ℕ) {O : Type 0}
       subst (λ x. HasRun x us vs k (places task) attempt) settings_are
       (subst (λ n. HasRun s us vs k n attempt) (p.asks k task at) ran)
 
+  asked_in : AreAskedOnce tasks s asked us vs → AreAsked s.tries s.drill ph us vs
+  asked_in h = record {
+    asks = asked;
+    each = p.asks;
+    once = subst (λ x. AreAskedOnce (length ph.tasks) x asked us vs) settings_are
+        (subst (λ n. AreAskedOnce n s asked us vs) (sym p.count) h);
+  }
+
+  -- whatever comes of the phase, the hosts were asked for it alone
+  pub phase_asked : AreAskedOnce tasks s asked us vs
+      → AskedFront s.tries s.drill (ph ∷ []) us vs
+  phase_asked h =
+      asked_all s.tries s.drill (ph ∷ []) us vs (asked_one s.tries s.drill ph us vs (asked_in h))
+
   -- the tasks below one that stopped the phase have run through
   run_below : (n : ℕ) → n < length ph.tasks → AreMadeBelow tasks s is_value asked us vs n
       → RanThrough s.tries s.drill w (first_tasks n ph ∷ []) us vs
@@ -99,11 +109,11 @@ module _ (w : World) (ph : PhaseTasks) (s : Settings) (tasks : ℕ) {O : Type 0}
       }
 
   pub has_run : (before after : List PhaseWinners) (made : PhaseOuts O)
-      → AreMade tasks s is_value asked us vs made
+      → AreMade tasks s is_value asked us vs made → AreAskedOnce tasks s asked us vs
       → after ≡ before
       ++ record { stage = s.stage; phase = s.phase; attempts = made.attempts.items }
       ∷ [] → HaveRun s.tries s.drill w (ph ∷ []) us vs before after
-  has_run before after made m told = record {
+  has_run before after made m once told = record {
     through = record {
       calm = (
         each_placed (IsCalm w) ph.tasks (λ k task at.
@@ -126,11 +136,12 @@ module _ (w : World) (ph : PhaseTasks) (s : Settings) (tasks : ℕ) {O : Type 0}
       );
     };
     told = told;
+    asked = asked_one s.tries s.drill ph us vs (asked_in once);
   }
 
   reached : (task : ℕ) → task < tasks → AreMadeBelow tasks s is_value asked us vs task
-      → IsReached s.tries s.drill w (ph ∷ []) us vs ph task
-  reached task small made =
+      → AreAskedOnce tasks s asked us vs → IsReached s.tries s.drill w (ph ∷ []) us vs ph task
+  reached task small made once =
       let below = subst (λ n. task < n) (sym p.count) small in record {
         before = [];
         behind = [];
@@ -138,26 +149,28 @@ module _ (w : World) (ph : PhaseTasks) (s : Settings) (tasks : ℕ) {O : Type 0}
         is_task = below;
         earlier = record { calm = tt; winners = []; won = tt };
         smaller = run_below task below made;
+        asked = asked_one s.tries s.drill ph us vs (asked_in once);
       }
 
   pub has_stopped : (e : PhaseStop) → IsStop tasks s is_value asked us vs e
+      → AreAskedOnce tasks s asked us vs
       → IsStopped s.tries s.drill w (ph ∷ []) us vs (fault_at s.stage s.phase e)
-  has_stopped (stop.Trap task trap) h =
+  has_stopped (stop.Trap task trap) h once =
       let here = some_at ph.tasks task (subst (λ n. task < n) (sym p.count) h.0) in record {
         here = ph;
         number = task;
-        reached = reached task h.0 h.2;
+        reached = reached task h.0 h.2 once;
         task = here.0;
         at = here.1;
         is = p.trapped task here.0 trap here.1 h.1.value;
         attempt = h.1.attempt;
         ran = run_of task h.1.attempt here.0 here.1 h.1.ran;
       }
-  has_stopped (stop.GaveUp task) h = record {
+  has_stopped (stop.GaveUp task) h once = record {
     here = ph;
     named = p.named;
-    reached = reached task h.0 h.2;
+    reached = reached task h.0 h.2 once;
     lost = subst (λ n. IsLostTask n (settings_of s.tries s.drill ph) us vs task) (sym p.count)
         (subst (λ x. IsLostTask tasks x us vs task) settings_are h.1);
   }
-  has_stopped stop.Memory h = tt
+  has_stopped stop.Memory h once = phase_asked once

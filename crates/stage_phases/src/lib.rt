@@ -3,13 +3,13 @@
 //! `map_outs` runs the map phase of a stage, and `reduce_outs` its reduce phase, where it has one.
 //! Each gives the outs of its tasks, in order, and tells which attempts have won them; or it says
 //! why it stopped: a task trapped, or no attempt of it has won. That the tasks can be made follows
-//! from the types of the plan (`CanRunStage`, specs/Stages.antt).
+//! from the types of the plan (`map_tasks_law` of `map_shard`, and `reduce_tasks_law` of
+//! `reduce_part`).
 #![tactic(auto)]
 
 mod inputs;
 mod map;
 mod outs;
-mod ready;
 mod reduce;
 
 pub use inputs::Inputs;

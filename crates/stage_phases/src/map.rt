@@ -8,15 +8,15 @@ ghost use Rattle.map_shard.specs.Tables.{split, table};
 ghost use Rattle.map_shard.specs.Work.{work_count};
 ghost use Rattle.plan_phases.specs.Phases.{map_phase_of};
 ghost use Rattle.plan_phases.specs.Told.{HaveRun, IsStopped};
-ghost use Rattle.stage_phases.specs.Stages.{CanRunStage, run_world};
+ghost use Rattle.stage_phases.specs.Stages.{run_world};
+ghost use Rattle.task_safety.specs.Stages.{CanRunStage};
 
 use crate::inputs::Inputs;
 use crate::outs::outs_of;
-use crate::ready::map_law;
 use exec_plan::Mscr;
 use flume_value::{Items, Pile};
 use forest_steps::Functions;
-use map_shard::MapTasks;
+use map_shard::{MapTasks, map_tasks_law};
 use outside::{Host, Phase};
 use plan_phases::{PhaseWinners, RunFault};
 use shuffle_parts::MapOut;
@@ -88,7 +88,7 @@ fn map_tasks<'a, F: Functions>(
     } }
     ensures count { (0 < work_count result) × (work_count result ≤ 2 ^ 27) }
 {
-    map_law(inputs.functions);
+    map_tasks_law(inputs.functions);
     MapTasks::new(
         inputs.functions,
         inputs.sources,

@@ -15,12 +15,11 @@ ghost use Rattle.stage_phases.specs.inner.Channels.{is_group};
 
 use crate::inputs::Inputs;
 use crate::outs::outs_of;
-use crate::ready::reduce_law;
 use exec_plan::{Mscr, OutChannel};
 use forest_steps::Functions;
 use outside::{Host, Phase};
 use plan_phases::{PhaseWinners, RunFault};
-use reduce_part::{ReduceOut, ReduceTasks, reducing_law};
+use reduce_part::{ReduceOut, ReduceTasks, reduce_tasks_law, reducing_law};
 use shuffle_parts::MapOut;
 use std::alloc::Global;
 use std::thread::Threads;
@@ -115,6 +114,6 @@ fn reduce_tasks<'a, F: Functions>(
     } }
     ensures count { (0 < reducing_count result) × (reducing_count result ≤ 2 ^ 27) }
 {
-    reduce_law(inputs.functions);
+    reduce_tasks_law(inputs.functions);
     ReduceTasks::new(inputs.functions, stage, maps, inputs.settings.partitions())
 }

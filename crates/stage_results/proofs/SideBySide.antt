@@ -1,11 +1,13 @@
 -- Lists side by side, each behind the one at its place.
-use Rattle.std.proofs.Common.{◌≡◌, ℕ, zero, suc, ◌<◌, ◌≤◌, List, [], ◌∷◌, ◌++◌, length, get_or, refl, sym, ap, ◌∙◌, subst, arith, slice_get, drop, append-nil, append_assoc}
-use Rattle.std.specs.Prelude.{slice_set}
-use Rattle.shuffle_parts.specs.Outs.{all_passed, or_none, passed_in}
+use Rattle.std.proofs.Common.{◌≡◌, ℕ, zero, suc, ◌<◌, ◌≤◌, List, [], ◌∷◌, ◌++◌, length, get_or, Option, Some, None, refl, sym, ap, ◌∙◌, subst, arith, slice_get, drop, append-nil}
+use Rattle.std.specs.Prelude.{IsSome, option_and_then, slice_set}
+use Rattle.std.proofs.lemmas.Option.{same_Some}
+use Rattle.shuffle_parts.specs.Outs.{all_passed, passed_at, passed_in}
+use Rattle.shuffle_parts.proofs.Finding.{ComesTo, begins, first_there, found_next}
 use Rattle.shuffle_parts.specs.declared.out.MapOut.{MapOut}
 use Rattle.shuffle_parts.specs.declared.out.Sent.{Sent}
 use Rattle.flume_value.specs.declared.value.Value.{Value}
-use Rattle.stage_results.specs.inner.Channels.{each_joined, passed_by}
+use Rattle.stage_results.specs.inner.Channels.{each_joined, or_none, passed_by}
 
 pub none_joined : {A : Type 0} (xs : List (List A)) → each_joined xs [] ≡ xs
 none_joined [] = refl
@@ -56,24 +58,49 @@ joined_at (x ∷ xs) [] r = sym (append-nil (or_none (slice_get (x ∷ xs) r)))
 joined_at (x ∷ xs) (y ∷ ys) zero = refl
 joined_at (x ∷ xs) (y ∷ ys) (suc r) = joined_at xs ys r
 
-passed_at : (sent : List Sent) (r : ℕ)
-    → or_none (slice_get (passed_by sent) r) ≡ passed_in (slice_get sent r)
-passed_at [] r = refl
-passed_at (s ∷ sent) zero = refl
-passed_at (s ∷ sent) (suc r) = passed_at sent r
+moved_at : (sent : List Sent) (r : ℕ)
+    → or_none (slice_get (passed_by sent) r)
+    ≡ or_none (option_and_then passed_in (slice_get sent r))
+moved_at [] r = refl
+moved_at (s ∷ sent) zero = refl
+moved_at (s ∷ sent) (suc r) = moved_at sent r
+
+there : (o : Option (List Value)) → IsSome o → o ≡ Some (or_none o)
+there None some = cc some
+there (Some values) some = refl
+
+-- before any out has passed
+pub passed_none : (lists : List (List Value)) (outs : List MapOut) (r : ℕ) (whole : List Value)
+    → lists ≡ [] → all_passed outs r ≡ Some whole
+    → ComesTo (passed_at r) outs (Some whole) (or_none (slice_get lists r))
+passed_none lists outs r whole none e =
+    subst (λ o. ComesTo (passed_at r) outs o (or_none (slice_get lists r))) e
+    (begins (passed_at r) outs (or_none (slice_get lists r))
+    (ap (λ (l : List (List Value)). or_none (slice_get l r)) none)
+    (subst IsSome (sym e) refl))
 
 -- what has passed so far, and what passes of the outs that are left, come to the whole
 pub passed_more : (lists next : List (List Value)) (out : MapOut) (outs : List MapOut) (r : ℕ)
-    → next ≡ each_joined lists (passed_by out.sent)
-    → or_none (slice_get next r) ++ all_passed outs r
-    ≡ or_none (slice_get lists r) ++ all_passed (out ∷ outs) r
-passed_more lists next out outs r e =
-    ap (λ l. or_none (slice_get l r) ++ all_passed outs r) e
-    ∙ ap (λ l. l ++ all_passed outs r)
-    (joined_at lists (passed_by out.sent) r
-    ∙ ap (λ l. or_none (slice_get lists r) ++ l) (passed_at out.sent r))
-    ∙ append_assoc (or_none (slice_get lists r)) (passed_in (slice_get out.sent r))
-    (all_passed outs r)
+    (whole : Option (List Value)) → next ≡ each_joined lists (passed_by out.sent)
+    → ComesTo (passed_at r) (out ∷ outs) whole (or_none (slice_get lists r))
+    → ComesTo (passed_at r) outs whole (or_none (slice_get next r))
+passed_more lists next out outs r whole e stands =
+    let so_far = or_none (slice_get lists r) in
+    let found = there (passed_at r out)
+    (first_there (passed_at r) out outs whole so_far stands) in
+    found_next (passed_at r) out outs whole so_far (or_none (passed_at r out))
+    (or_none (slice_get next r)) found
+    (ap (λ l. or_none (slice_get l r)) e
+    ∙ (joined_at lists (passed_by out.sent) r
+    ∙ ap (λ l. so_far ++ l) (moved_at out.sent r)))
+    stands
+
+-- behind all of them
+pub passed_whole : (outs : List MapOut) (r : ℕ) (whole so_far : List Value) → length outs ≡ 0
+    → ComesTo (passed_at r) outs (Some whole) so_far → so_far ≡ whole
+passed_whole [] r whole so_far end stands =
+    sym (same_Some whole (so_far ++ []) stands ∙ append-nil so_far)
+passed_whole (out ∷ outs) r whole so_far end stands = absurd (omega arith)
 
 -- behind the first list, places are one less
 pub behind_first : {A : Type 0} (xs : List (List A)) (r : ℕ)

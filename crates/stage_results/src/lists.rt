@@ -4,17 +4,18 @@ ghost use Rattle.std.specs.Vec.Iter.{into_iter_items};
 ghost use Rattle.exec_graph.specs.World.{World};
 ghost use Rattle.exec_plan.specs.declared.plan.InChannel.{InChannel};
 ghost use Rattle.exec_plan.specs.declared.plan.Stage.TheVariants as stages;
+ghost use Rattle.flume_value.specs.declared.value.Value.{Value as GhostValue};
 ghost use Rattle.map_shard.specs.Tables.{split};
 ghost use Rattle.reduce_part.specs.declared.out.ReduceOut.{ReduceOut as Out};
 ghost use Rattle.shuffle_parts.specs.declared.out.MapOut.{MapOut as GivenOut};
-ghost use Rattle.shuffle_parts.specs.Outs.{all_passed, or_none};
+ghost use Rattle.shuffle_parts.specs.Outs.{all_passed};
 ghost use Rattle.stage_phases.specs.Outs.{AreReduceOuts};
 ghost use Rattle.step_counts.specs.Sizes.{HaveGrown};
 ghost use Rattle.task_lists.specs.Lists.{given_lists, result_lists};
 ghost use Rattle.task_lists.specs.Outs.{AreMapOuts};
 ghost use Rattle.task_lists.specs.Plans.{task_counts};
 ghost use Rattle.task_lists.specs.Tasks.{Lists, reduce_phase};
-ghost use Rattle.stage_results.specs.inner.Channels.{AreOutsAt, channel_counts};
+ghost use Rattle.stage_results.specs.inner.Channels.{AreOutsAt, channel_counts, or_none};
 
 use crate::channel::channel_lists;
 use crate::passed::passed_lists;
@@ -89,7 +90,8 @@ fn given_lists(
         (here behind : List Out) → into_iter_items outs.old ≡ here ++ behind →
         AreOutsAt w (split shards partitions) t s.inputs channel.now here →
         0 < shards → AreMapOuts w (split shards partitions) t s maps →
-        slice_get s.outputs r ≡ Some channel.now → passed ≡ all_passed maps r →
+        slice_get s.outputs r ≡ Some channel.now →
+        ((values : List GhostValue) → all_passed maps r ≡ Some values → passed ≡ values) →
         IfOk result (λ lists.
         lists.items ≡ given_lists w (split shards partitions) t s.inputs channel.now) }
     ensures grown { (w : World) (shards : ℕ) (t : Lists) (ins : List InChannel)

@@ -1,18 +1,19 @@
 // What passes through the channels of a stage.
-ghost use Rattle.std.specs.Prelude.{◌≡◌, ℕ, Some, slice_get, IfOk, OnOk};
-ghost use Rattle.shuffle_parts.specs.Outs.{all_passed, or_none, passed_in};
-ghost use Rattle.stage_results.specs.inner.Channels.{each_joined, passed_by};
+ghost use Rattle.std.specs.Prelude.{◌≡◌, ℕ, List, Some, slice_get, IfOk, OnOk};
+ghost use Rattle.flume_value.specs.declared.value.Value.{Value};
+ghost use Rattle.shuffle_parts.specs.Outs.{all_passed, passed_in};
+ghost use Rattle.stage_results.specs.inner.Channels.{each_joined, or_none, passed_by};
 
 use crate::joining::join_at;
 use flume_value::{Items, Pile};
 use shuffle_parts::{MapOut, Sent};
 use std::alloc::{AllocError, Global};
 
-/// What passes through each output channel, of all outs in order of tasks. It is moved. What
-/// passes through a channel that groups is nothing.
+/// What passes through each output channel, of all outs in order of tasks. It is moved. For a
+/// channel that groups there is an empty list.
 pub(crate) fn passed_lists(alloc: Global, outs: Vec<MapOut>) -> Result<Vec<Items>, AllocError>
-    ensures { IfOk result (λ lists. (r : ℕ) →
-        or_none (slice_get lists.items r) ≡ all_passed outs.items r) }
+    ensures { IfOk result (λ lists. (r : ℕ) (values : List Value) →
+        all_passed outs.items r ≡ Some values → or_none (slice_get lists.items r) ≡ values) }
 {
     let mut lists = Vec::new(alloc);
     for out in outs {
@@ -34,7 +35,7 @@ fn join_passed(alloc: Global, lists: &mut Vec<Items>, sent: Pile<Sent>) -> Resul
 }
 
 fn passed(alloc: Global, sent: Sent) -> Items
-    ensures { result ≡ passed_in (Some sent) }
+    ensures { result ≡ or_none (passed_in sent) }
 {
     match sent {
         Sent::Passed(values) => values,

@@ -1,3 +1,4 @@
+// What comes of the scripts of a table, and the first that comes out otherwise.
 use crate::made::repeated;
 use flume_syntax::{Ast, ScriptFault, ScriptKind, parse};
 use std::alloc::Global;

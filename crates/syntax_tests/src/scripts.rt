@@ -1,3 +1,4 @@
+// Rows of scripts that are accepted, at the limits too, and of pairs of trees.
 use crate::made::repeated;
 use crate::outcome::{Outcome, Repeated, first_made_other, first_other, parsed};
 use flume_syntax::Ast;

@@ -2,8 +2,8 @@
 use Rattle.std.proofs.Common.{◌≡◌, ◌<◌, ◌/◌, ◌%◌, ℕ, List, [], ◌∷◌, length, map, Option, Some, None, sym, ap, ◌∙◌, subst, append-nil}
 use Rattle.std.specs.List.{flat_map, slice_get, AllZip}
 use Rattle.std.specs.Option.{IsSomeAnd, MatchOption}
-use Rattle.std.proofs.lemmas.Slice.Zip.{AllZip-left, AllZip-map}
-use Rattle.std.proofs.lemmas.List.Folds.{flat_map-map}
+use Rattle.std.specs.Prelude.{option_and_then}
+use Rattle.std.proofs.lemmas.Slice.Zip.{AllZip-left}
 use Rattle.flume_value.specs.declared.value.Value.{Value}
 use Rattle.bag_groups.specs.Combining.{groups_in}
 use Rattle.bag_groups.specs.Groups.{grouped}
@@ -17,8 +17,9 @@ use Rattle.shards.proofs.Joined.{flat_map-joined, joined_same}
 use Rattle.shuffle_parts.specs.declared.out.MapOut.{MapOut}
 use Rattle.shuffle_parts.specs.declared.out.Sent.{Sent}
 use Rattle.shuffle_parts.specs.declared.out.Sent.TheVariants.{Passed}
-use Rattle.shuffle_parts.specs.Outs.{sent_at, passed_in, all_passed, all_pairs, all_partials, ArePairsOf, ArePartialsOf}
+use Rattle.shuffle_parts.specs.Outs.{sent_at, passed_at, passed_in, all_passed, all_pairs, all_partials, ArePairsOf, ArePartialsOf}
 use Rattle.shuffle_parts.specs.Partitions.{is_in, part_of}
+use Rattle.shuffle_parts.proofs.Finding.{found_zip}
 use Rattle.shuffle_parts.proofs.Gathered.{all_pairs-are, all_partials-stand}
 use Rattle.shuffle_parts.proofs.Passing.{grouped-passing}
 use Rattle.exec_graph.specs.World.{World}
@@ -82,20 +83,18 @@ module _ (w : World) (n : Split) (t : Lists) (s : Mscr) (outs : List MapOut) (r 
   -- ---- values that pass through
 
   passed_is : (o : Option Sent) (values : List Value)
-      → IsSomeAnd o (λ sent. sent ≡ Passed values) → values ≡ passed_in o
+      → IsSomeAnd o (λ sent. sent ≡ Passed values) → option_and_then passed_in o ≡ Some values
   passed_is None values h = absurd h
-  passed_is (Some sent) values h = sym (ap (λ x. passed_in (Some x)) h)
+  passed_is (Some sent) values h = ap passed_in h
 
   pub passed_whole : (k : Take) (number : ℕ) → slice_get s.outputs r ≡ Some (Pass k number)
-      → all_passed outs r ≡ gathered w n t s.inputs (k ∷ [])
+      → all_passed outs r ≡ Some (gathered w n t s.inputs (k ∷ []))
   passed_whole k number at =
       let takes : List Take = k ∷ [] in
-      let passed : MapOut → List Value = λ out. passed_in (sent_at r out) in
-      let lists = AllZip-map passed outs (listed (given_by takes) (length outs))
-      (zipped (Pass k number) takes (λ out values. values ≡ passed out) at
-      (λ j out sent. passed_is (sent_at r out) (given_by takes j) sent)) in
-      sym (flat_map-map (λ values. values) passed outs)
-      ∙ ap (flat_map (λ values. values)) (sym lists) ∙ given_all takes
+      found_zip (passed_at r) outs (listed (given_by takes) (length outs))
+      (zipped (Pass k number) takes (λ out values. passed_at r out ≡ Some values) at
+      (λ j out sent. passed_is (sent_at r out) (given_by takes j) sent))
+      ∙ ap Some (given_all takes)
 
   -- ---- pairs and accumulators
 
@@ -116,43 +115,60 @@ module _ (w : World) (n : Split) (t : Lists) (s : Mscr) (outs : List MapOut) (r 
 
   pub groups_whole : (p : ℕ) (g : Grouping) → p < n.partitions
       → slice_get s.outputs r ≡ Some (Group g) → g.lifted ≡ None
-      → grouped (all_pairs outs r p) ≡ (reduce_task w n t s.inputs g p).elements
+      → IsSomeAnd (all_pairs outs r p)
+      (λ pairs. grouped pairs ≡ (reduce_task w n t s.inputs g p).elements)
   groups_whole p g below at unlifted =
       let P = n.partitions in
-      ap grouped
-      (all_pairs-are P r p outs (listed (given_by g.takes) (length outs)) below
+      let given : List (List Value) = listed (given_by g.takes) (length outs) in
+      let pairs : all_pairs outs r p ≡ Some (part_of P p (flat_map (λ pairs. pairs) given)) =
+      all_pairs-are P r p outs given below
       (zipped (Group g) g.takes (λ out pairs. ArePairsOf P (sent_at r out) pairs) at
-      (λ k out sent. pairs_are (sent_at r out) P (given_by g.takes k) g.lifted unlifted sent))
-      ∙ ap (part_of P p) (given_all g.takes))
-      ∙ grouped-passing (is_in P p) (gathered w n t s.inputs g.takes)
+      (λ k out sent. pairs_are (sent_at r out) P (given_by g.takes k) g.lifted unlifted sent)) in
+      subst (λ o. IsSomeAnd o (λ l. grouped l ≡ (reduce_task w n t s.inputs g p).elements))
+      (sym pairs)
+      (ap (λ l. grouped (part_of P p l)) (given_all g.takes)
+      ∙ grouped-passing (is_in P p) (gathered w n t s.inputs g.takes))
 
   pub combined_whole : (p : ℕ) (g : Grouping) (c : Comb) → p < n.partitions
       → slice_get s.outputs r ≡ Some (Group g) → g.lifted ≡ Some c
-      → finished_each c (merged_by_key c (all_partials outs r p))
-      ≡ combined_groups c (groups_in (reduce_task w n t s.inputs g p).elements)
+      → IsSomeAnd (all_partials outs r p) (λ partials. finished_each c (merged_by_key c partials)
+      ≡ combined_groups c (groups_in (reduce_task w n t s.inputs g p).elements))
   combined_whole p g c below at lifted =
       let P = n.partitions in
       let given : List (List Value) = listed (given_by g.takes) (length outs) in
       let pairs : List Value = part_of P p (flat_map (λ pairs. pairs) given) in
-      let stands : StandFor c (all_partials outs r p) (pairs_of pairs) =
+      let stands : IsSomeAnd (all_partials outs r p) (λ l. StandFor c l (pairs_of pairs)) =
       all_partials-stand c P r p outs given below
       (zipped (Group g) g.takes (λ out pairs. ArePartialsOf c P (sent_at r out) pairs) at
       (λ k out sent. partials_are (sent_at r out) P (given_by g.takes k) g.lifted c lifted sent)) in
-      ap (finished_each c) (merged-accumulated c (all_partials outs r p) (pairs_of pairs) stands)
+      some_weaker (λ l. StandFor c l (pairs_of pairs))
+      (λ l. finished_each c (merged_by_key c l)
+      ≡ combined_groups c (groups_in (reduce_task w n t s.inputs g p).elements))
+      (λ l stand.
+      ap (finished_each c) (merged-accumulated c l (pairs_of pairs) stand)
       ∙ finished-accumulated c pairs
       ∙ ap (λ l. combined_groups c (groups_in l))
       (ap (λ l. grouped (part_of P p l)) (given_all g.takes)
-      ∙ grouped-passing (is_in P p) (gathered w n t s.inputs g.takes))
+      ∙ grouped-passing (is_in P p) (gathered w n t s.inputs g.takes)))
+      (all_partials outs r p) stands
 
   -- so the root of a lifted reducer answers of the groups what their accumulators finish as
   pub answered_whole : (p : ℕ) (g : Grouping) (c : Comb) → p < n.partitions
       → slice_get s.outputs r ≡ Some (Group g) → g.lifted ≡ Some c
-      → answers_of (finished_each c (merged_by_key c (all_partials outs r p)))
-      ≡ map (called w (does.Combine c)) (reduce_task w n t s.inputs g p).elements
+      → IsSomeAnd (all_partials outs r p)
+      (λ partials. answers_of (finished_each c (merged_by_key c partials))
+      ≡ map (called w (does.Combine c)) (reduce_task w n t s.inputs g p).elements)
   answered_whole p g c below at lifted =
       let all : List Value = gathered w n t s.inputs g.takes in
       let same = grouped-passing (is_in n.partitions p) all in
-      ap answers_of (combined_whole p g c below at lifted)
+      some_weaker
+      (λ l. finished_each c (merged_by_key c l)
+      ≡ combined_groups c (groups_in (reduce_task w n t s.inputs g p).elements))
+      (λ l. answers_of (finished_each c (merged_by_key c l))
+      ≡ map (called w (does.Combine c)) (reduce_task w n t s.inputs g p).elements)
+      (λ l finished.
+      ap answers_of finished
       ∙ ap (λ l. answers_of (combined_groups c (groups_in l))) (sym same)
       ∙ groups_answered w c (part_of n.partitions p all)
-      ∙ ap (map (called w (does.Combine c))) same
+      ∙ ap (map (called w (does.Combine c))) same)
+      (all_partials outs r p) (combined_whole p g c below at lifted)

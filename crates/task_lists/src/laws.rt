@@ -1,4 +1,5 @@
-ghost use Rattle.std.specs.Prelude.{◌≡◌, ◌<◌, ◌↔◌, ℕ, List, [], ◌∷◌, Option, Some, None, length, map, slice_get};
+// Laws of the tasks of a plan: their lists, sizes, traps and types.
+ghost use Rattle.std.specs.Prelude.{◌≡◌, ◌<◌, ◌↔◌, ℕ, List, [], ◌∷◌, IsSomeAnd, Option, Some, None, length, map, slice_get};
 ghost use Rattle.std.specs.List.{AllByRecursion, Contains};
 ghost use Rattle.std.specs.Option.{option_map_or};
 ghost use Rattle.flume_value.specs.declared.value.Value.{Value};
@@ -92,29 +93,31 @@ pub fn first_law()
 {}
 
 /// What is gathered of the outs of all map tasks of a stage: the list of a pass-through channel; of
-/// a grouping channel pairs whose groups are the elements of the reduce task; and of a lifted one
-/// accumulators that finish, merged by key, as those groups combine, however the pairs were shared
-/// out and however often a table was emptied.
+/// each partition of a grouping channel pairs whose groups are the elements of the reduce task; and
+/// of a lifted one accumulators that finish, merged by key, as those groups combine, however the
+/// pairs were shared out and however often a table was emptied.
 pub fn outs_law()
     ensures passed { (w : World) (n : Split) (t : Lists) (s : Mscr) (outs : List MapOut)
         (r number : ℕ) (k : Take) → 0 < n.shards → AreMapOuts w n t s outs →
         slice_get s.outputs r ≡ Some (Pass k number) →
-        all_passed outs r ≡ gathered w n t s.inputs (k ∷ []) }
+        all_passed outs r ≡ Some (gathered w n t s.inputs (k ∷ [])) }
     ensures groups { (w : World) (n : Split) (t : Lists) (s : Mscr) (outs : List MapOut)
         (r p : ℕ) (g : Grouping) → 0 < n.shards → p < n.partitions → AreMapOuts w n t s outs →
         slice_get s.outputs r ≡ Some (Group g) → g.lifted ≡ None →
-        grouped (all_pairs outs r p) ≡ (reduce_task w n t s.inputs g p).elements }
+        IsSomeAnd (all_pairs outs r p)
+        (λ pairs. grouped pairs ≡ (reduce_task w n t s.inputs g p).elements) }
     ensures combined { (w : World) (n : Split) (t : Lists) (s : Mscr) (outs : List MapOut)
         (r p : ℕ) (g : Grouping) (c : Comb) → 0 < n.shards → p < n.partitions →
         AreMapOuts w n t s outs → slice_get s.outputs r ≡ Some (Group g) → g.lifted ≡ Some c →
-        finished_each c (merged_by_key c (all_partials outs r p))
-        ≡ combined_groups c (groups_in (reduce_task w n t s.inputs g p).elements) }
+        IsSomeAnd (all_partials outs r p) (λ partials. finished_each c (merged_by_key c partials)
+        ≡ combined_groups c (groups_in (reduce_task w n t s.inputs g p).elements)) }
     // So they finish as the root of the reducer answers of those groups, traps included.
     ensures answered { (w : World) (n : Split) (t : Lists) (s : Mscr) (outs : List MapOut)
         (r p : ℕ) (g : Grouping) (c : Comb) → 0 < n.shards → p < n.partitions →
         AreMapOuts w n t s outs → slice_get s.outputs r ≡ Some (Group g) → g.lifted ≡ Some c →
-        answers_of (finished_each c (merged_by_key c (all_partials outs r p)))
-        ≡ map (called w (does.Combine c)) (reduce_task w n t s.inputs g p).elements }
+        IsSomeAnd (all_partials outs r p)
+        (λ partials. answers_of (finished_each c (merged_by_key c partials))
+        ≡ map (called w (does.Combine c)) (reduce_task w n t s.inputs g p).elements) }
 {}
 
 /// In a well-formed plan without objects whose types fit, over a typed world, the lists have their

@@ -1,2 +1,4 @@
 pub mod Safely
 pub mod Taken
+pub mod Standing
+pub mod Fitting

@@ -4,8 +4,11 @@
 //! `forest_steps`). Where the types of a task fit (`IsTaskTyped`, of `task_lists`) and functions
 //! answer by their signatures, each step takes what it is given, by its signature (`safe_law`); and
 //! so the steps may be called of any `Functions` that take no less (`taken_law`).
+//!
+//! In a typed run of a well-formed plan each stage can be run over the lists so far (`CanRunStage`,
+//! specs/Stages.antt; `stage_law`).
 #![tactic(auto)]
 
 mod laws;
 
-pub use laws::{safe_law, taken_law};
+pub use laws::{safe_law, stage_law, taken_law};

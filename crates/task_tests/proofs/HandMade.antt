@@ -1,6 +1,6 @@
 -- What the outs that are made by hand have.
-use Rattle.std.proofs.Common.{◌≡◌, ℤ, pos, List, [], ◌∷◌, ◌++◌, sym, subst, arith, append-nil}
-use Rattle.std.specs.Prelude.{All, slice_get}
+use Rattle.std.proofs.Common.{◌≡◌, ℤ, pos, List, [], ◌∷◌, Option, Some, refl, sym, ap, ◌∙◌, subst, arith, append-nil}
+use Rattle.std.specs.Prelude.{All, IsSomeAnd, option_and_then, slice_get}
 use Rattle.std.proofs.lemmas.List.Elements.{All-filter, All-from_recursion}
 use Rattle.flume_value.specs.declared.value.Value.{Value}
 use Rattle.flume_value.specs.declared.value.Value.TheVariants as variant
@@ -14,10 +14,11 @@ use Rattle.keyed_steps.proofs.TypedFacts.{Has-pair}
 use Rattle.shuffle_parts.specs.declared.out.MapOut.{MapOut}
 use Rattle.shuffle_parts.specs.declared.out.Sent.{Sent}
 use Rattle.shuffle_parts.specs.declared.out.Sent.TheVariants.{Grouped}
-use Rattle.shuffle_parts.specs.Outs.{all_pairs, or_none, pairs_in, sent_at, ArePartialsOf}
+use Rattle.shuffle_parts.specs.Outs.{pairs_at, pairs_in, sent_at, ArePartialsOf}
 use Rattle.shuffle_parts.specs.Partitions.{falls_in, part_of, parted}
+use Rattle.shuffle_parts.proofs.Finding.{found_both}
 use Rattle.shuffle_parts.proofs.Gathered.{all_partials-stand}
-use Rattle.task_tests.specs.Stages.{HaveSums}
+use Rattle.task_tests.specs.Stages.{HavePairs, HaveSums}
 
 -- the pair of the key 1 and an int
 abbrev pub of_one : ℤ → Value
@@ -35,6 +36,7 @@ three_sum x y z outs a b c e f g h =
     let given : List (List Value) = (of_one a ∷ []) ∷ (of_one b ∷ []) ∷ (of_one c ∷ []) ∷ [] in
     let all : List Value = of_one a ∷ of_one b ∷ of_one c ∷ [] in
     subst HaveSums (sym e) (record {
+      some = omega arith;
       pairs = part_of 1 0 all;
       typed = All-filter (falls_in 1 0) (Has (table_of type.Int type.Int)) all
           (All-from_recursion (Has (table_of type.Int type.Int)) all
@@ -45,11 +47,15 @@ three_sum x y z outs a b c e f g h =
 
 pub grouped_pairs : (out : MapOut) (outs : List MapOut) (parts : List (List Value))
     (pairs : List Value) → outs ≡ out ∷ [] → out.sent ≡ Grouped parts ∷ [] → parts ≡ parted 1 pairs
-    → All IsPair pairs → All IsPair (all_pairs outs 0 0)
+    → All IsPair pairs → HavePairs outs
 grouped_pairs out outs parts pairs e sent parted_are all =
-    subst (λ (os : List MapOut). All IsPair (all_pairs os 0 0)) (sym e)
-    (subst (λ (s : List Sent). All IsPair (pairs_in 0 (slice_get s 0) ++ [])) (sym sent)
-    (subst (λ (ps : List (List Value)). All IsPair (or_none (slice_get ps 0) ++ []))
-    (sym parted_are)
-    (subst (All IsPair) (sym (append-nil (part_of 1 0 pairs)))
-    (All-filter (falls_in 1 0) IsPair pairs all))))
+    let found : pairs_at 0 0 out ≡ Some (part_of 1 0 pairs) =
+    ap (λ (s : List Sent). option_and_then (pairs_in 0) (slice_get s 0)) sent
+    ∙ ap (λ (ps : List (List Value)). slice_get ps 0) parted_are in
+    let whole = found_both (pairs_at 0 0) out [] (part_of 1 0 pairs) [] found refl in
+    subst HavePairs (sym e) (record {
+      some = omega arith;
+      pairs = subst (λ (o : Option (List Value)). IsSomeAnd o (All IsPair)) (sym whole)
+          (subst (All IsPair) (sym (append-nil (part_of 1 0 pairs)))
+          (All-filter (falls_in 1 0) IsPair pairs all));
+    })

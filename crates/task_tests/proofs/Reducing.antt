@@ -1,6 +1,6 @@
 -- The reduce tasks of the stages that are tried can be made.
-use Rattle.std.proofs.Common.{◌≡◌, ◌<◌, ◌*◌, ◌^◌, ℕ, zero, suc, List, [], ◌∷◌, length, Some, refl, sym, subst, arith}
-use Rattle.std.specs.Prelude.{All, slice_get}
+use Rattle.std.proofs.Common.{◌≡◌, ◌<◌, ◌*◌, ◌^◌, ℕ, zero, suc, List, [], ◌∷◌, length, Option, Some, None, refl, sym, subst, arith}
+use Rattle.std.specs.Prelude.{All, IsSomeAnd, slice_get}
 use Rattle.std.proofs.lemmas.List.Elements.{recursion_from_All}
 use Rattle.flume_value.specs.declared.value.Value.{Value}
 use Rattle.flume_value.proofs.EachLemmas.{Each-weaker}
@@ -13,12 +13,13 @@ use Rattle.keyed_steps.proofs.TypedFacts.{grouped_suited}
 use Rattle.shuffle_parts.specs.Outs.{all_pairs}
 use Rattle.exec_graph.specs.World.{World}
 use Rattle.exec_plan.specs.declared.plan.Grouping.{Grouping}
+use Rattle.exec_plan.specs.declared.plan.InChannel.{InChannel}
 use Rattle.exec_plan.specs.declared.plan.OutChannel.{OutChannel}
 use Rattle.exec_plan.specs.declared.plan.OutChannel.TheVariants.{Group}
 use Rattle.task_lists.specs.Tasks.{groupings}
 use Rattle.forest_steps.specs.Safety.{SafeOf}
 use Rattle.reduce_part.specs.Reducing.{AreGroupsFirst, CanReduce, IsReducible, Reducing}
-use Rattle.task_tests.specs.Stages.{two_calls, sums, called_groups, lifted_sums, HaveSums}
+use Rattle.task_tests.specs.Stages.{two_calls, sums, called_groups, lifted_sums, plain_input, HavePairs, HaveSums}
 use Rattle.task_tests.proofs.Working.{each_all, safe_calls}
 
 first_alone : (g : Grouping) → AreGroupsFirst (Group g ∷ [])
@@ -27,12 +28,17 @@ first_alone g (suc r) h e = cc
 
 -- the one partition of one grouping channel
 can_reduce : {F : Type 0} (w : World) (takes : ℕ → Value → Type 0) (r : Reducing F)
-    (g : Grouping) → r.partitions ≡ 1 → r.stage.outputs ≡ Group g ∷ []
+    (g : Grouping) → r.partitions ≡ 1 → r.stage.inputs ≡ plain_input ∷ []
+    → r.stage.outputs ≡ Group g ∷ [] → 0 < length r.outs
     → IsReducible w takes r.outs 0 0 g → CanReduce w takes r
-can_reduce {F} w takes r g one e ready =
+can_reduce {F} w takes r g one inputs e some ready =
     let only : (i p : ℕ) (h : Grouping) → slice_get (groupings (Group g ∷ [])) i ≡ Some h
     → p < 1 → IsReducible w takes r.outs i p h = only_ready w takes r g ready in
     record {
+      shards = length r.outs;
+      some = some;
+      outs = subst (λ (ins : List InChannel). length r.outs ≡ length ins * length r.outs)
+          (sym inputs) (omega arith);
       partitions = omega (arith, one);
       few = subst (λ (os : List OutChannel). length (groupings os) * r.partitions < 2 ^ 32)
           (sym e) (omega (arith, one));
@@ -52,25 +58,31 @@ can_reduce {F} w takes r g one e ready =
     only_ready w takes r g ready zero (suc p) h at l = absurd (omega (arith, l))
     only_ready w takes r g ready (suc i) p h at l = cc
 
+pairs_there : (o : Option (List Value)) → IsSomeAnd o (All IsPair)
+    → (pairs : List Value) × (o ≡ Some pairs) × All IsPair pairs
+pairs_there None h = absurd h
+pairs_there (Some pairs) h = (pairs, refl, h)
+
 pub called_reducing : {F : Type 0} (w : World) (takes : ℕ → Value → Type 0) (r : Reducing F)
     → ((f : ℕ) (x : Value) → takes f x) → r.partitions ≡ 1
-    → r.stage.outputs ≡ Group called_groups ∷ [] → All IsPair (all_pairs r.outs 0 0)
-    → CanReduce w takes r
-called_reducing w takes r all one e pairs =
-    can_reduce w takes r called_groups one e (record {
+    → r.stage.inputs ≡ plain_input ∷ [] → r.stage.outputs ≡ Group called_groups ∷ []
+    → HavePairs r.outs → CanReduce w takes r
+called_reducing w takes r all one inputs e have =
+    let found = pairs_there (all_pairs r.outs 0 0) have.pairs in
+    can_reduce w takes r called_groups one inputs e have.some (record {
       numbered = refl;
       lift = tt;
-      pairs = all_pairs r.outs 0 0;
-      gathered = (refl, pairs);
+      pairs = found.0;
+      gathered = (found.1, found.2);
       safe = each_all (SafeOf w takes (Some two_calls)) (safe_calls w takes all)
-          (grouped (all_pairs r.outs 0 0));
+          (grouped found.0);
     })
 
 pub sums_reducing : {F : Type 0} (w : World) (takes : ℕ → Value → Type 0) (r : Reducing F)
-    → r.partitions ≡ 1 → r.stage.outputs ≡ Group lifted_sums ∷ [] → HaveSums r.outs
-    → CanReduce w takes r
-sums_reducing w takes r one e have =
-    can_reduce w takes r lifted_sums one e (record {
+    → r.partitions ≡ 1 → r.stage.inputs ≡ plain_input ∷ []
+    → r.stage.outputs ≡ Group lifted_sums ∷ [] → HaveSums r.outs → CanReduce w takes r
+sums_reducing w takes r one inputs e have =
+    can_reduce w takes r lifted_sums one inputs e have.some (record {
       numbered = refl;
       lift = refl;
       pairs = have.pairs;

@@ -1,15 +1,15 @@
 -- The stages whose tasks are tried.
-use Rattle.std.specs.Prelude.{◌≡◌, true, List, [], ◌∷◌, Some, None}
+use Rattle.std.specs.Prelude.{◌≡◌, ◌<◌, true, All, List, [], ◌∷◌, IsSomeAnd, Some, None, length}
 use Rattle.std.specs.List.{AllByRecursion}
 use Rattle.flume_value.specs.declared.value.Value.{Value}
 use Rattle.flume_types.specs.declared.types.Ty.TheVariants as type
 use Rattle.flume_types.specs.Tables.{table_of}
 use Rattle.flume_types.specs.Typing.{AllHave}
-use Rattle.bag_groups.specs.Pairs.{pairs_of}
+use Rattle.bag_groups.specs.Pairs.{IsPair, pairs_of}
 use Rattle.combine_table.specs.declared.comb.Comb.TheVariants as by
 use Rattle.partial_tables.specs.Merges.{StandFor}
 use Rattle.shuffle_parts.specs.declared.out.MapOut.{MapOut}
-use Rattle.shuffle_parts.specs.Outs.{all_partials}
+use Rattle.shuffle_parts.specs.Outs.{all_pairs, all_partials}
 use Rattle.exec_graph.specs.declared.step.Does.TheVariants as does
 use Rattle.exec_graph.specs.Forests.{Forest, Bare, Grow}
 use Rattle.exec_plan.specs.declared.plan.PlanPlace.TheVariants as at
@@ -81,8 +81,14 @@ lifted_sums = record {
 
 -- ---- outs
 
--- what is gathered of the first channel stands for pairs of ints
+-- there are some, and what is gathered of their first channel are pairs
+pub record HavePairs (outs : List MapOut) : Type 0 where
+  pub some : 0 < length outs
+  pub pairs : IsSomeAnd (all_pairs outs 0 0) (All IsPair)
+
+-- there are some, and what is gathered of their first channel stands for pairs of ints
 pub record HaveSums (outs : List MapOut) : Type 0 where
+  pub some : 0 < length outs
   pub pairs : List Value
   pub typed : AllHave (table_of type.Int type.Int) pairs
-  pub stand : StandFor by.Sum (all_partials outs 0 0) (pairs_of pairs)
+  pub stand : IsSomeAnd (all_partials outs 0 0) (λ l. StandFor by.Sum l (pairs_of pairs))

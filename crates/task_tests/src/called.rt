@@ -3,7 +3,7 @@ ghost use Rattle.std.specs.Prelude.{◌≡◌, ◌∷◌, [], Ok, IfOk, IfErr};
 ghost use Rattle.forest_steps.specs.Functions.{IsCallFault};
 ghost use Rattle.task_tests.specs.Calls.{but_for};
 
-use flume_value::{CallFault, Items, Kind, Pile, Value, compare};
+use flume_value::{CallFault, Held, Items, Kind, Pile, Value, compare};
 use forest_steps::Functions;
 use std::alloc::{AllocError, Global};
 
@@ -11,8 +11,8 @@ use std::alloc::{AllocError, Global};
 /// the second.
 #[derive(Drop)]
 pub struct Called {
-    pub first: Value,
-    pub second: Value,
+    pub first: Held<Value>,
+    pub second: Held<Value>,
 }
 
 impl Functions for Called {
@@ -24,9 +24,9 @@ impl Functions for Called {
 
     fn call(&self, alloc: Global, number: u32, element: &Value) -> Result<Vec<Items>, CallFault> {
         if number == 0 {
-            give(alloc, &self.first, element)
+            give(alloc, self.first.get(), element)
         } else {
-            give(alloc, &self.second, element)
+            give(alloc, self.second.get(), element)
         }
     }
 }
@@ -52,10 +52,14 @@ fn one(alloc: Global, value: Value) -> Result<Vec<Items>, AllocError>
     Ok(lists)
 }
 
+/// Function 0 traps on the first value, and each other function on the second.
+pub fn trapping(alloc: Global, first: Value, second: Value) -> Result<Called, AllocError> {
+    let first = Held::new(alloc, first)?;
+    let second = Held::new(alloc, second)?;
+    Ok(Called { first, second })
+}
+
 /// Functions that trap on no int above 0.
-pub fn calm() -> Called {
-    Called {
-        first: Value::Int(-1),
-        second: Value::Int(-1),
-    }
+pub fn calm(alloc: Global) -> Result<Called, AllocError> {
+    trapping(alloc, Value::Int(-1), Value::Int(-1))
 }

@@ -1,4 +1,5 @@
-//! Tests of the tasks of a stage and of what is shuffled between them, by their public calls alone.
+//! Tests of the tasks of a stage and of what is shuffled between them, by their public calls alone:
+//! tables of cases. No value is held where a test may end.
 #![tactic(auto)]
 
 #[cfg(test)]
@@ -13,3 +14,5 @@ mod parts;
 mod reduces;
 #[cfg(test)]
 mod stages;
+#[cfg(test)]
+mod wanted;

@@ -12,40 +12,66 @@ use shuffle_parts::combine_pairs;
 use std::alloc::{AllocError, Global};
 use std::test::Fail;
 
-// How many accumulators are taken, where it is full and of what is left, when so many keys go into
-// a table with this room.
-fn taken(alloc: Global, keys: i64, room: u64) -> Result<Vec<usize>, AllocError> {
+// Whether as many accumulators are taken, where a table with this room is full and of what is left,
+// when so many keys go into it.
+fn is_taken(alloc: Global, keys: i64, room: u64, wanted: &[usize]) -> Result<bool, AllocError> {
     let mut table = Partials::new(alloc, Comb::Sum, room);
     let mut sizes = Vec::new(alloc);
+    take_all(alloc, &mut table, keys, &mut sizes)?;
+    Ok(sizes.as_slice() == wanted)
+}
+
+fn take_all(
+    alloc: Global,
+    table: &mut Partials,
+    keys: i64,
+    sizes: &mut Vec<usize>,
+) -> Result<(), AllocError>
+    requires { table.old.comb ≡ by.Sum }
+{
     for key in 0..keys {
-        add(alloc, &mut table, Value::Int(key), &mut sizes)?;
+        add(alloc, table, key, sizes)?;
     }
-    let rest = table.take(alloc)?;
-    sizes.push(rest.len())?;
-    Ok(sizes)
+    take(alloc, table, sizes)
 }
 
 fn add(
     alloc: Global,
     table: &mut Partials,
-    key: Value,
+    key: i64,
     sizes: &mut Vec<usize>,
 ) -> Result<(), AllocError>
     requires { table.old.comb ≡ by.Sum }
     ensures { OnOk result (table.new.comb ≡ by.Sum) }
 {
-    match table.add(alloc, key, none(alloc)?) {
-        Ok(()) => Ok(()),
-        Err(AddFault::Memory) => Err(AllocError),
-        Err(AddFault::Full { key, acc }) => {
-            let full = table.take(alloc)?;
-            sizes.push(full.len())?;
-            match table.add(alloc, key, acc) {
-                Ok(()) => Ok(()),
-                Err(_) => Err(AllocError),
-            }
-        }
+    if is_added(alloc, table, key)? {
+        return Ok(());
     }
+    take(alloc, table, sizes)?;
+    if is_added(alloc, table, key)? {
+        return Ok(());
+    }
+    Err(AllocError)
+}
+
+// Whether there was room for an accumulator of this key.
+fn is_added(alloc: Global, table: &mut Partials, key: i64) -> Result<bool, AllocError>
+    requires { table.old.comb ≡ by.Sum }
+    ensures { OnOk result (table.new.comb ≡ by.Sum) }
+{
+    match table.add(alloc, Value::Int(key), none(alloc)?) {
+        Ok(()) => Ok(true),
+        Err(AddFault::Full { key: _, acc: _ }) => Ok(false),
+        Err(AddFault::Memory) => Err(AllocError),
+    }
+}
+
+fn take(alloc: Global, table: &mut Partials, sizes: &mut Vec<usize>) -> Result<(), AllocError>
+    ensures { OnOk result (table.new.comb ≡ table.old.comb) }
+{
+    let taken = table.take(alloc)?;
+    sizes.push(taken.len())?;
+    Ok(())
 }
 
 // The accumulator of no values.
@@ -59,10 +85,10 @@ fn none(alloc: Global) -> Result<Value, AllocError>
 #[test]
 fn a_full_table_is_taken_as_a_whole(rt: HostRuntime) -> Result<(), Fail> {
     let alloc = rt.alloc();
-    assert!(rt; taken(alloc, 2050, 1024)?.as_slice() == [1024usize, 1024, 2].as_slice());
-    assert!(rt; taken(alloc, 1024, 1024)?.as_slice() == [1024usize].as_slice());
-    assert!(rt; taken(alloc, 0, 1024)?.as_slice() == [0usize].as_slice());
-    assert!(rt; taken(alloc, 3, 1)?.as_slice() == [1usize, 1, 1].as_slice());
+    assert!(rt; is_taken(alloc, 2050, 1024, &[1024, 1024, 2])?);
+    assert!(rt; is_taken(alloc, 1024, 1024, &[1024])?);
+    assert!(rt; is_taken(alloc, 0, 1024, &[0])?);
+    assert!(rt; is_taken(alloc, 3, 1, &[1, 1, 1])?);
     Ok(())
 }
 

@@ -3,26 +3,62 @@ ghost use Rattle.std.specs.Prelude.{◌≡◌, ◌<◌, All, IfOk};
 ghost use Rattle.bag_groups.specs.Pairs.{IsPair};
 ghost use Rattle.reduce_part.specs.Reducing.{reducing_count};
 
-use crate::called::{Called, calm};
+use crate::called::{Called, calm, trapping};
 use crate::outs::{grouped, three_sums};
 use crate::stages::{called_groups, group_tasks, lifted_sums, sum_tasks};
+use crate::wanted::{Trapped, is_pair, is_trap};
 use bag_groups::pair;
 use crew::{Attempt, Spot, Tasks};
-use flume_value::{Kind, Pile, Value};
+use flume_value::{Pile, Value};
 use outside::{CalmHost, Phase};
-use reduce_part::{ReduceTasks, Reduced};
+use reduce_part::{ReduceOut, ReduceTasks, Reduced};
 use std::alloc::{AllocError, Global};
 use std::test::Fail;
 
-// What the first attempt of the first task makes.
-fn made(alloc: Global, tasks: &ReduceTasks<'_, Called>) -> Result<Option<Reduced>, AllocError>
+/// What a task is to make.
+#[derive(Clone, Copy)]
+enum Wanted {
+    /// this pair first
+    Pair(i64, i64),
+    /// a trap
+    Trap(Trapped),
+    /// an out, and no trap
+    Out,
+}
+
+fn is_out(out: &ReduceOut, wanted: Wanted) -> bool {
+    match wanted {
+        Wanted::Pair(key, value) => match out.outputs.get(0) {
+            Some(list) => match list.get(0) {
+                Some(pair) => is_pair(pair, key, value),
+                None => false,
+            },
+            None => false,
+        },
+        Wanted::Trap(_) => false,
+        Wanted::Out => true,
+    }
+}
+
+fn is_wanted(made: &Attempt<Reduced>, wanted: Wanted) -> bool {
+    match made {
+        Attempt::Made(Ok(out)) => is_out(out, wanted),
+        Attempt::Made(Err(trap)) => matches!(wanted, Wanted::Trap(it) if is_trap(trap, it)),
+        Attempt::Down => false,
+    }
+}
+
+// Whether the first attempt of the first task makes this.
+fn is_made(
+    alloc: Global,
+    tasks: &ReduceTasks<'_, Called>,
+    wanted: Wanted,
+) -> Result<bool, AllocError>
     requires { 0 < reducing_count tasks.now }
 {
     let spot = Spot::new(1, Phase::Reduce, 1);
-    match tasks.attempt(alloc, 0, &mut CalmHost, &spot)? {
-        Attempt::Made(out) => Ok(Some(out)),
-        Attempt::Down => Ok(None),
-    }
+    let made = tasks.attempt(alloc, 0, &mut CalmHost, &spot)?;
+    Ok(is_wanted(&made, wanted))
 }
 
 fn ints(alloc: Global, key: i64, value: i64) -> Result<Value, AllocError>
@@ -39,61 +75,53 @@ fn group(alloc: Global, key: i64, value: i64) -> Result<Value, AllocError> {
     pair(alloc, Value::Int(key), Value::List(values))
 }
 
-// Which step trapped on which element, if one did.
-fn trap(made: Option<Reduced>) -> Option<(u32, Value, Kind)> {
-    match made {
-        Some(Err(trap)) => Some((trap.origin, trap.element, trap.kind)),
-        _ => None,
-    }
-}
-
-// What the two calls make of the groups of (2, 20) and (1, 10), where the first traps on the group
-// of one key and the second on that of another.
-fn called(alloc: Global, first: i64, second: i64) -> Result<Option<Reduced>, AllocError> {
-    let functions = Called {
-        first: group(alloc, first, 10 * (first % 3))?,
-        second: group(alloc, second, 10 * (second % 3))?,
-    };
+// The pairs (2, 20) and (1, 10).
+fn two_pairs(alloc: Global) -> Result<Vec<Value>, AllocError>
+    ensures { IfOk result (λ pairs. All IsPair pairs.items) }
+{
     let mut pairs = Vec::new(alloc);
     pairs.push(ints(alloc, 2, 20)?)?;
     pairs.push(ints(alloc, 1, 10)?)?;
-    let outs = grouped(alloc, pairs)?;
+    Ok(pairs)
+}
+
+// Functions of which the first traps on the group of one key, and the second on that of another.
+fn trapping_on(alloc: Global, first: i64, second: i64) -> Result<Called, AllocError> {
+    let second = group(alloc, second, 10 * (second % 3))?;
+    trapping(alloc, group(alloc, first, 10 * (first % 3))?, second)
+}
+
+// Whether the two calls make this of the groups of (2, 20) and (1, 10), where the first traps on
+// the group of one key and the second on that of another.
+fn is_called(alloc: Global, first: i64, second: i64, wanted: Wanted) -> Result<bool, AllocError> {
+    let functions = trapping_on(alloc, first, second)?;
+    let outs = grouped(alloc, two_pairs(alloc)?)?;
     let stage = called_groups(alloc)?;
     let tasks = group_tasks(&functions, &stage, &outs);
-    made(alloc, &tasks)
+    is_made(alloc, &tasks, wanted)
 }
 
 #[test]
 fn the_steps_on_a_group_come_before_the_next_group(rt: HostRuntime) -> Result<(), Fail> {
     let alloc = rt.alloc();
-    let kid = (2u32, group(alloc, 1, 10)?, Kind::Overflow);
-    assert!(rt; trap(called(alloc, 2, 1)?) == Some(kid));
-    let next = (1u32, group(alloc, 2, 20)?, Kind::Overflow);
-    assert!(rt; trap(called(alloc, 2, 4)?) == Some(next));
-    let own = (1u32, group(alloc, 1, 10)?, Kind::Overflow);
-    assert!(rt; trap(called(alloc, 1, 1)?) == Some(own));
-    assert!(rt; trap(called(alloc, 4, 5)?).is_none());
+    for (first, second, wanted) in [
+        (2, 1, Wanted::Trap(Trapped::Group(2, 1, 10))),
+        (2, 4, Wanted::Trap(Trapped::Group(1, 2, 20))),
+        (1, 1, Wanted::Trap(Trapped::Group(1, 1, 10))),
+        (4, 5, Wanted::Out),
+    ] {
+        assert!(rt; is_called(alloc, first, second, wanted)?);
+    }
     Ok(())
 }
 
-// The sum of three shards, each with one int.
-fn summed(alloc: Global, a: i64, b: i64, c: i64) -> Result<Option<Reduced>, AllocError> {
-    let functions = calm();
+// Whether this is the sum of three shards, each with one int.
+fn is_summed(alloc: Global, a: i64, b: i64, c: i64, wanted: Wanted) -> Result<bool, AllocError> {
+    let functions = calm(alloc)?;
     let outs = three_sums(alloc, a, b, c)?;
     let stage = lifted_sums(alloc)?;
     let tasks = sum_tasks(&functions, &stage, &outs);
-    made(alloc, &tasks)
-}
-
-// The one pair of the one output, if nothing trapped.
-fn pair_in(made: &Option<Reduced>) -> Option<&Value> {
-    match made {
-        Some(Ok(out)) => match out.outputs.get(0) {
-            Some(list) => list.get(0),
-            None => None,
-        },
-        _ => None,
-    }
+    is_made(alloc, &tasks, wanted)
 }
 
 #[test]
@@ -101,11 +129,9 @@ fn sums_leave_64_bits_and_come_back_over_three_shards(rt: HostRuntime) -> Result
     let alloc = rt.alloc();
     let max = i64::MAX;
     for (a, b, c) in [(max, 1, -1), (1, max, -1), (-1, 1, max)] {
-        let wanted = ints(alloc, 1, max)?;
-        let made = summed(alloc, a, b, c)?;
-        assert!(rt; pair_in(&made) == Some(&wanted));
+        assert!(rt; is_summed(alloc, a, b, c, Wanted::Pair(1, max))?);
     }
-    let beyond = (1u32, Value::Int(1), Kind::Overflow);
-    assert!(rt; trap(summed(alloc, max, 1, 0)?) == Some(beyond));
+    let beyond = Wanted::Trap(Trapped::Int(1, 1));
+    assert!(rt; is_summed(alloc, max, 1, 0, beyond)?);
     Ok(())
 }

@@ -1,14 +1,12 @@
 // Stages that are made by hand, and their tasks.
-ghost use Rattle.std.specs.Prelude.{◌≡◌, ◌<◌, ◌∷◌, [], All, IfOk, true, slice_get};
+ghost use Rattle.std.specs.Prelude.{◌≡◌, ◌<◌, ◌∷◌, [], IfOk, true, slice_get};
 ghost use Rattle.std.specs.List.{AllByRecursion};
 ghost use Rattle.flume_collection.specs.Calls.{or_none};
-ghost use Rattle.bag_groups.specs.Pairs.{IsPair};
-ghost use Rattle.shuffle_parts.specs.Outs.{all_pairs};
 ghost use Rattle.exec_plan.specs.declared.plan.OutChannel.TheVariants.{Group, Pass};
 ghost use Rattle.exec_plan.specs.declared.plan.PlanPlace.TheVariants.{Source};
 ghost use Rattle.map_shard.specs.Work.{work_count};
 ghost use Rattle.reduce_part.specs.Reducing.{reducing_count};
-ghost use Rattle.task_tests.specs.Stages.{two_calls, sums as sums_is, plain_input, called_input, IsFirst, IsFitFor, first_take, called_groups as called_groups_is, lifted_sums as lifted_sums_is, HaveSums};
+ghost use Rattle.task_tests.specs.Stages.{two_calls, sums as sums_is, plain_input, called_input, IsFirst, IsFitFor, first_take, called_groups as called_groups_is, lifted_sums as lifted_sums_is, HavePairs, HaveSums};
 
 use crate::called::Called;
 use combine_table::Comb;
@@ -142,7 +140,8 @@ pub fn calling(alloc: Global) -> Result<Mscr, AllocError>
 
 /// A stage whose groups are given to the two calls.
 pub fn called_groups(alloc: Global) -> Result<Mscr, AllocError>
-    ensures { IfOk result (λ stage. stage.outputs ≡ Group called_groups_is ∷ []) }
+    ensures inputs { IfOk result (λ stage. stage.inputs ≡ plain_input ∷ []) }
+    ensures outputs { IfOk result (λ stage. stage.outputs ≡ Group called_groups_is ∷ []) }
 {
     let channel = reduced(alloc, None, calls(alloc)?)?;
     plain(alloc, channel)
@@ -150,7 +149,8 @@ pub fn called_groups(alloc: Global) -> Result<Mscr, AllocError>
 
 /// A stage that sums by key.
 pub fn lifted_sums(alloc: Global) -> Result<Mscr, AllocError>
-    ensures { IfOk result (λ stage. stage.outputs ≡ Group lifted_sums_is ∷ []) }
+    ensures inputs { IfOk result (λ stage. stage.inputs ≡ plain_input ∷ []) }
+    ensures outputs { IfOk result (λ stage. stage.outputs ≡ Group lifted_sums_is ∷ []) }
 {
     let channel = reduced(alloc, Some(Comb::Sum), sums(alloc)?)?;
     plain(alloc, channel)
@@ -193,8 +193,9 @@ pub fn group_tasks<'a>(
     stage: &'a Mscr,
     outs: &'a [MapOut],
 ) -> ReduceTasks<'a, Called>
+    requires inputs { stage.now.inputs ≡ plain_input ∷ [] }
     requires outputs { stage.now.outputs ≡ Group called_groups_is ∷ [] }
-    requires pairs { All IsPair (all_pairs outs.now 0 0) }
+    requires pairs { HavePairs outs.now }
     ensures { reducing_count result ≡ 1 }
 {
     ReduceTasks::new(functions, stage, outs, 1)
@@ -206,6 +207,7 @@ pub fn sum_tasks<'a>(
     stage: &'a Mscr,
     outs: &'a [MapOut],
 ) -> ReduceTasks<'a, Called>
+    requires inputs { stage.now.inputs ≡ plain_input ∷ [] }
     requires outputs { stage.now.outputs ≡ Group lifted_sums_is ∷ [] }
     requires outs { HaveSums outs.now }
     ensures { reducing_count result ≡ 1 }

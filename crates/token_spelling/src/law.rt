@@ -1,3 +1,4 @@
+// The law that cutting the spelling of tokens gives them back.
 ghost use Rattle.std.specs.Prelude.{◌≡◌, ◌≤◌, ℕ, List, length, IsUtf8, Ok};
 ghost use Rattle.flume_tokens.specs.declared.token.Token.{Token};
 ghost use Rattle.flume_tokens.specs.declared.token.TokenList.{TokenList as Cut};

@@ -1,3 +1,4 @@
+// How deep a type is, from the depths of its parts.
 ghost use Rattle.std.specs.Prelude.{◌≡◌, ◌+◌, ◌<◌, length, map};
 ghost use Rattle.flume_types.specs.Depth.{depth_of, deepest as deepest_of};
 ghost use Rattle.type_table.specs.Table as spec;

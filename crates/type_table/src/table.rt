@@ -1,3 +1,4 @@
+// A table of types, which has each of them once.
 ghost use Rattle.std.specs.Prelude.{◌≡◌, ◌<◌, ◌↔◌, [], ◌∷◌, ◌++◌, ℕ, length, MatchOption, IsTrue, IfOk, OnOk, OnErr};
 ghost use Rattle.flume_types.specs.declared.types.Ty.{out-Ty};
 ghost use Rattle.flume_types.specs.Depth.{depth_of};

@@ -1,3 +1,4 @@
+// Rows of values, the canonical bytes of each, and its partition.
 use crate::samples::{Sample, value_of};
 use flume_value::{Value, canonical_bytes, partition};
 use std::alloc::{AllocError, Global};

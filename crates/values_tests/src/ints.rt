@@ -1,3 +1,4 @@
+// Rows of texts, and the int that each shows, if any.
 use int_text::int_of_text;
 
 /// Texts, and the int of each, if it shows one.

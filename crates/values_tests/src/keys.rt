@@ -1,3 +1,4 @@
+// Values of each variant as the keys of a map, which finds each of them again.
 use crate::samples::of_each_variant;
 use flume_value::{Value, copy};
 use indexmap::IndexMap;

@@ -1,3 +1,4 @@
+// Values that tests try, as plain data, and one of each variant.
 use flume_value::{Held, Items, Pile, Str, Value};
 use std::alloc::{AllocError, Global};
 

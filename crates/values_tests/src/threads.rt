@@ -1,3 +1,4 @@
+// Values of each variant that threads share, and that are sent through threads.
 use crate::samples::of_each_variant;
 use flume_value::{Items, Pile, Str, Value, partition};
 use std::alloc::{AllocError, Global};

@@ -1,3 +1,4 @@
+// Rows of types: the values that have them, how deep they are, and their columns.
 use crate::samples::{Sample, value_of};
 use flume_types::{
     ColumnFault, ColumnKind, Columns, Field, Ty, columns, copy, depth, has_type, input_columns,

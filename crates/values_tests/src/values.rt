@@ -1,3 +1,4 @@
+// Copies, orders and sorted lists of values of each variant, and kinds of call faults.
 use crate::samples::{Sample, of_each_variant, push};
 use flume_value::{CallFault, Kind, Value, ascending, compare, copy, copy_all, equals, sorted};
 use std::alloc::{AllocError, Global};

@@ -53,11 +53,13 @@ pub struct When {
     pub faults: Vec<Fault>,
 }
 
-/// A call of the outside that fails.
+/// A call of the outside that fails, or gives little.
 #[derive(Clone, Copy)]
 pub enum Fault {
     /// A call of the source.
     Source(Fail),
+    /// Each read of the source gives so many bytes at most, one at least.
+    Step(u32),
     /// A call of the shelf.
     Shelf(Fail),
     /// A call of the screen, by its number from 0.

@@ -28,6 +28,8 @@ fn fault_of(text: &[u8]) -> Result<Fault, Mistake> {
     let (kind, rest) = first_word(text);
     if kind == b"source".as_slice() {
         Ok(Fault::Source(fail_of(rest)?))
+    } else if kind == b"step".as_slice() {
+        Ok(Fault::Step(number_of(rest)?))
     } else if kind == b"shelf".as_slice() {
         Ok(Fault::Shelf(fail_of(rest)?))
     } else if kind == b"screen".as_slice() {

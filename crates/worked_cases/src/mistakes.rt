@@ -57,7 +57,7 @@ impl Mistake {
             Mistake::TooLong => "a text of more than 100,000,000 bytes",
             Mistake::Utf8 => "a word is UTF-8",
             Mistake::Fault => {
-                "a fault is of the source, shelf or screen, of a host or of all hosts"
+                "a fault is a step of the source, or of source, shelf, screen, a host or all hosts"
             }
             Mistake::Place => "a place is STAGE, m or r, TASK.ATTEMPT@PLACE, as 1m0.1@0",
             Mistake::NoRoom => "the files before do not fit the room of the shelf",

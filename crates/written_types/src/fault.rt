@@ -1,3 +1,4 @@
+// The fault with which a line of a script is refused.
 ghost use Rattle.std.specs.Prelude.{◌≡◌};
 
 use flume_grammar::{ScriptFault, ScriptKind};

@@ -1,3 +1,4 @@
+// The types that are known: under numbers, and some of them by name.
 ghost use Rattle.std.specs.Prelude.{◌≡◌, ◌<◌, ◌++◌, ◌∷◌, [], length, None, IfOk, IfSome, OnOk, OnErr};
 ghost use Rattle.std.specs.Option.{option_map};
 ghost use Rattle.type_table.specs.Table.{type_at, tree_of, IsWithin, Extends};

@@ -1,3 +1,4 @@
+// The type of a table's elements, from those of its key and its value.
 ghost use Rattle.std.specs.Prelude.{◌≡◌, ◌<◌, [], ◌∷◌, length, IfOk, codes};
 ghost use Rattle.flume_types.specs.Tables.{table_of};
 ghost use Rattle.type_table.specs.Table.{type_at, Extends};

@@ -1,3 +1,4 @@
+// The type that a script writes, names replaced and depth checked, or its first fault.
 ghost use Rattle.std.specs.Prelude.{◌≡◌, ◌<◌, [], List, length, map, not, IfOk};
 ghost use Rattle.flume_types.specs.declared.types.Ty.{Ty};
 ghost use Rattle.type_table.specs.Table.{type_at, field_at, AreWithin, Extends};

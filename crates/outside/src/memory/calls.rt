@@ -1,3 +1,4 @@
+// Which calls of a source or a shelf in memory are to fail, and the counts of its calls.
 ghost use Rattle.std.specs.Prelude.{◌≡◌};
 ghost use Rattle.std.specs.Prelude.{◌≤◌};
 ghost use Rattle.outside.specs.Calls.{fails_begin, fails_call, is_named, no_calls, with_begin, with_call};

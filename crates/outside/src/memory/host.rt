@@ -1,3 +1,4 @@
+// A host in memory, which is down exactly at the places of a list and notes what it is asked.
 ghost use Rattle.std.specs.Prelude.{◌≡◌, ◌↔◌, is_ok, Contains, IsErr, IfOk, IfSome, IsSomeAnd};
 ghost use Rattle.outside.specs.Cause.{HasCause};
 ghost use Rattle.outside.specs.Notes.{noted, new_host, told_by, asked};

@@ -1,3 +1,4 @@
+// A screen in memory, with bounded room, whose writes fail where a list names them.
 ghost use Rattle.std.specs.Prelude.{Some, [], ◌≡◌, ◌≤◌, ◌<◌, ◌+◌, ◌++◌, ◌⊎◌, ◌↔◌, length, take, IsTrue, IsErr, IfOk, OnErr};
 ghost use Rattle.outside.specs.Calls.{counted, is_numbered};
 ghost use Rattle.outside.specs.Cause.{HasStrictCause, raised};

@@ -1,3 +1,4 @@
+// A shelf in memory, with bounded room, whose calls fail where a list names them.
 ghost use Rattle.std.specs.Prelude.{Some, None, false, ◌≡◌, ◌≤◌, ◌<◌, ◌+◌, ◌⊎◌, ◌↔◌, [], length, take, sum_by, is_some, is_ok, unwrap_or, if◌then◌else◌, slice_get, IsSomeAnd, IsTrue, IsErr, IfOk, OnOk, OnErr};
 ghost use Rattle.std.specs.Option.{option_copied};
 ghost use Rattle.outside.specs.Begun.{left_at_begin};

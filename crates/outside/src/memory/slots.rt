@@ -1,3 +1,4 @@
+// The slots of a shelf in memory: files by name, in room that is taken beforehand.
 ghost use Rattle.std.specs.Prelude.{Some, None, ◌≡◌, ◌≤◌, ◌<◌, ◌+◌, ◌^◌, ◌++◌, ◌∷◌, [], List, vec_len, vec_capacity, All, length, sum_by, IfOk, OnErr, OnOk};
 ghost use Rattle.std.proofs.Common.{set};
 ghost use Rattle.outside.specs.inner.Slots.{bytes_at, files_of, name_at, place_of, HasRoom, slot_size};

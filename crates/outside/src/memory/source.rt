@@ -1,8 +1,10 @@
-ghost use Rattle.std.specs.Prelude.{Some, None, Ok, true, ◌≡◌, ◌≢◌, ◌≤◌, ◌<◌, ◌↔◌, ◌++◌, ◌∷◌, [], is_ok, is_some, unwrap_or, IsTrue, IsErr, IsErrOf, IfOk, OnOk, take, length, MatchOption};
+// A source in memory, whose calls fail where a list names them and which notes its begins.
+ghost use Rattle.std.specs.Prelude.{Some, None, Ok, true, ◌≡◌, ◌≢◌, ◌≤◌, ◌<◌, ◌↔◌, ◌++◌, ◌∷◌, [], ◌-◌, ◌^◌, is_ok, is_some, unwrap_or, IsTrue, IsErr, IsErrOf, IfOk, OnOk, take, length, MatchOption};
 ghost use Rattle.std.specs.Option.{option_map};
-ghost use Rattle.outside.specs.Calls.{counted, counted_begin, fails_begin, fails_call, no_calls, with_begin, with_call};
+ghost use Rattle.outside.specs.Calls.{counted, counted_begin, fails_begin, fails_call, with_begin, with_call};
 ghost use Rattle.outside.specs.Cause.{HasCause, HasBeginCause};
 ghost use Rattle.outside.specs.Files.{bytes_of};
+ghost use Rattle.outside.specs.Memory.{source_of};
 ghost use Rattle.outside.specs.Told.{WhileTold};
 ghost use Rattle.outside.specs.inner.Slots.{bytes_at};
 
@@ -23,10 +25,12 @@ pub struct MemSource {
     calls: Calls,
     begun: Option<usize>,
     at: usize,
+    step: u32,
     faults: u64,
 }
 
 impl Model for MemSource {
+    ghost use Rattle.std.specs.Prelude.{◌<◌};
     ghost use Rattle.std.specs.Option.{option_map};
     ghost use Rattle.outside.specs.Memory.{SourceInMemory};
     ghost use Rattle.outside.specs.inner.Slots.{rest_of};
@@ -37,21 +41,31 @@ impl Model for MemSource {
       files = s.files.items;
       asked = option_map (λ names. names.items) s.asked;
       rest = rest_of s.files.items s.begun s.at;
+      step = s.step;
       calls = s.calls;
       faults = s.faults;
     } };
+
+    ghost invariant = { λ s. 0 < s.step };
 }
 
 impl MemSource {
     /// A source of these files, whose named calls are to fail. It takes no memory.
     pub fn new(alloc: Global, files: Pile<File>, fails: Pile<Fail>) -> Result<Self, AllocError>
-        ensures { result ≡ Ok (record {
-          files = files;
-          asked = Some [];
-          rest = None;
-          calls = no_calls fails;
-          faults = 0;
-        }) }
+        ensures { result ≡ Ok (source_of files fails (2 ^ 32 - 1)) }
+    {
+        MemSource::with_step(alloc, files, fails, u32::MAX)
+    }
+
+    /// The same, where a read gives so many bytes at most. It takes no memory.
+    pub fn with_step(
+        alloc: Global,
+        files: Pile<File>,
+        fails: Pile<Fail>,
+        step: u32,
+    ) -> Result<Self, AllocError>
+        requires { 1 ≤ step }
+        ensures { result ≡ Ok (source_of files fails step) }
     {
         Ok(MemSource {
             files: files.into_vec(),
@@ -60,6 +74,7 @@ impl MemSource {
             calls: Calls::new(fails),
             begun: None,
             at: 0,
+            step,
             faults: 0,
         })
     }
@@ -117,6 +132,7 @@ impl Source for MemSource {
             (IsTrue (fails_begin self.old.calls) × (bytes_of self.old.files name.now ≢ None)) }
         ensures counted { self.new.faults ≡ counted_begin result self.old.faults }
         ensures calls { self.new.calls ≡ with_begin self.old.calls }
+        ensures step { self.new.step ≡ self.old.step }
     {
         let fails = self.calls.begin();
         self.asked = noted(self.alloc, self.asked.take(), name.as_bytes());
@@ -149,6 +165,10 @@ impl Source for MemSource {
         ensures fails { IsErr result ↔ IsTrue (fails_call self.old.calls) }
         ensures counted { self.new.faults ≡ counted result self.old.faults }
         ensures calls { self.new.calls ≡ with_call self.old.calls }
+
+        // It gives its step at most.
+        ensures steps { IfOk result (λ n. n ≤ self.old.step) }
+        ensures step { self.new.step ≡ self.old.step }
     {
         if self.calls.call() {
             return Err(failed(&mut self.faults));
@@ -163,7 +183,7 @@ impl Source for MemSource {
         if self.at >= bytes.len() {
             return Ok(0);
         }
-        let n = copy_front(&bytes[self.at..], buf);
+        let n = copy_step(&bytes[self.at..], self.step, buf);
         self.at += n;
         Ok(n)
     }
@@ -200,14 +220,15 @@ fn file_place(files: &[File], name: &[u8]) -> Option<usize>
     None
 }
 
-// Copies the front of the bytes that are left to the buffer, as far as it goes.
-fn copy_front(rest: &[u8], buf: &mut [u8]) -> usize
+// Copies the front of the bytes that are left to the buffer, as far as it goes, and a step at most.
+fn copy_step(rest: &[u8], step: u32, buf: &mut [u8]) -> usize
     ensures front { take result buf.new ≡ take result rest.now }
     ensures bound { result ≤ length buf.old }
     ensures bytes { result ≤ length rest.now }
-    ensures some { 0 < length buf.old → 0 < length rest.now → 0 < result }
+    ensures steps { result ≤ step }
+    ensures some { 0 < step → 0 < length buf.old → 0 < length rest.now → 0 < result }
 {
-    let n = buf.len().min(rest.len());
+    let n = buf.len().min(rest.len()).min(step as usize);
     buf[..n].copy_from_slice(&rest[..n]);
     n
 }

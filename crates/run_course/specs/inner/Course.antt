@@ -1,7 +1,6 @@
 -- The parts of the course of a call.
-use Rattle.std.specs.Prelude.{◌≡◌, ◌⊎◌, ℕ, List, [], ◌∷◌, ◌++◌, codes, Option, Some, IsSome, Result, Ok, Err}
+use Rattle.std.specs.Prelude.{◌≡◌, ◌⊎◌, ℕ, List, [], ◌∷◌, ◌++◌, codes, Option, Some, IsSome, Result, Ok, Err, ⊤}
 use Rattle.std.specs.List.{All, AllZip, Contains}
-use Rattle.build_law.specs.Worlds.{world_of}
 use Rattle.command_words.specs.declared.words.Command.{Command}
 use Rattle.command_words.specs.declared.words.Command.TheVariants.{Direct, Run}
 use Rattle.crew.specs.Hosts.{Account}
@@ -19,7 +18,6 @@ use Rattle.outside.specs.Says.{HasLine}
 use Rattle.outside.specs.Seen.{Seen, SeenShelf}
 use Rattle.outside.specs.declared.file.File.{File as NamedBytes}
 use Rattle.outside.specs.declared.host.Phase.{Phase}
-use Rattle.plan_phases.specs.Told.{IsGivenUp}
 use Rattle.run_settings.specs.Settings.{RunSettings}
 use Rattle.run_texts.specs.Lines.{line_of}
 use Rattle.run_texts.specs.Texts.{size_lines}
@@ -28,13 +26,14 @@ use Rattle.run_texts.specs.declared.status.Status.{Status}
 use Rattle.run_texts.specs.declared.status.Status.TheVariants.{Done, GaveUp, WriteFault, WantOfMemory, InputRefused, NoFile, ReadFault, TooLong}
 use Rattle.script_program.specs.declared.made.Output.{Output}
 use Rattle.script_program.specs.Script.{Script}
-use Rattle.script_run.specs.Runs.{phases_of}
+use Rattle.script_run.specs.Runs.{IsLostOf}
 use Rattle.script_loading.specs.Causes.{IsInputsCause}
 use Rattle.run_course.specs.Answers.{FailsAtFile, GivesUp, HasText, IsCause, IsCutOff, IsFirstOfTasks, MayTell, name_at}
 use Rattle.run_course.specs.Asked.{Reads, inputs_read, tries_of}
 use Rattle.run_course.specs.Asks.{AsksAll, AsksFor}
+use Rattle.run_course.specs.Hosts.{AsksInRun, AsksRun, MayHaveRun}
 use Rattle.run_course.specs.Written.{IsMeant, Table, files_of}
-use Rattle.run_course.specs.declared.limits.TheConstants.{TRIES}
+use Rattle.run_course.specs.Limits.{usual_tries}
 use Rattle.run_course.specs.declared.stop.Stop.{Stop}
 use Rattle.run_course.specs.declared.stop.Trapped.{Trapped}
 use Rattle.run_course.specs.declared.stop.Stop.TheVariants as stop
@@ -102,8 +101,7 @@ abbrev pub IsGivingUp : RunSettings → Script → List (List Value) → Plan �
     → List Account → Status → Type 0
 IsGivingUp s script rows plan olds news status =
     (stage : ℕ) × (phase : Phase) × (task : ℕ) × (status ≡ GaveUp stage phase task)
-    × IsGivenUp s.tries s.drill (world_of script rows) (phases_of s script rows plan) olds news
-    stage phase task
+    × IsLostOf s script rows plan olds news stage phase task
 
 -- why the run of this plan over these rows on the lent hosts writes nothing: no memory was found, a
 -- task was given up, or a call traps
@@ -128,7 +126,7 @@ IsTrapped command olds news told script trap =
 -- why the meaning of a script writes nothing; no host has a part in it
 abbrev pub IsMeaningStop : Seen (List NamedBytes) → Seen (List NamedBytes) → Script → Stop → Type 0
 IsMeaningStop before after script (stop.Refused status) =
-    (status ≡ WantOfMemory) ⊎ IsInputsCause TRIES before after (inputs_of script) status
+    (status ≡ WantOfMemory) ⊎ IsInputsCause usual_tries before after (inputs_of script) status
 IsMeaningStop before after script (stop.Trapped trap) =
     IsTrapped Direct [] [] before.told script trap
 
@@ -193,6 +191,32 @@ module _ (words : List (List ℕ)) (told : Option (List NamedBytes))
   AsksInCall (Ok it) = AsksAll words told before after
   AsksInCall (Err (stop.Trapped trap)) = AsksAll words told before after
   AsksInCall (Err (stop.Refused status)) = AsksFor words told before after status
+
+-- ---- what hosts are asked for
+
+-- what comes of a call may have come behind the phases of a run
+abbrev pub MayHaveCome : {T : Type 0} → Result T Stop → Type 0
+MayHaveCome (Ok it) = ⊤
+MayHaveCome (Err (stop.Trapped trap)) = ⊤
+MayHaveCome (Err (stop.Refused status)) = MayHaveRun status
+
+-- the command is a run, whose phases were asked for
+abbrev pub AsksAsRun : Command → Option (List NamedBytes) → Script → List Account → List Account
+    → Type 0
+AsksAsRun command told script olds news =
+    (s : RunSettings) × (command ≡ Run s) × AsksInRun s told script olds news
+
+-- what a command asked hosts for, by what comes of it: nothing, or the phases of a run
+abbrev pub AsksHostsUntil : {T : Type 0} → Command → Option (List NamedBytes) → Script
+    → List Account → List Account → Result T Stop → Type 0
+AsksHostsUntil command told script olds news r =
+    (olds ≡ news) ⊎ (MayHaveCome r × AsksAsRun command told script olds news)
+
+-- the same of a call with these words
+abbrev pub AsksHostsInCall : {T : Type 0} → List (List ℕ) → Option (List NamedBytes)
+    → List Account → List Account → Result T Stop → Type 0
+AsksHostsInCall words told olds news r =
+    (olds ≡ news) ⊎ (MayHaveCome r × AsksRun words told olds news)
 
 -- ---- what is left
 

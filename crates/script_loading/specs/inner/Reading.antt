@@ -5,7 +5,7 @@ use Rattle.std.specs.Option.{option_map_or}
 use Rattle.csv_rows.specs.declared.fault.RowFault.{RowFault}
 use Rattle.csv_rows.specs.declared.fault.RowFault.TheVariants.{Bad}
 use Rattle.csv_rows.specs.declared.fault.RowFault.TheVariants as row_fault
-use Rattle.direct_meaning.specs.Inputs.{HaveRows, Wanted, inputs_of, wanted_by}
+use Rattle.direct_meaning.specs.Inputs.{Wanted, inputs_of, wanted_by}
 use Rattle.flume_grammar.specs.declared.fault.ScriptFault.{ScriptFault}
 use Rattle.flume_grammar.specs.declared.fault.ScriptFault.TheVariants as script_fault
 use Rattle.flume_value.specs.declared.value.Value.{Value}
@@ -45,12 +45,12 @@ inputs_from script number nodes =
     flat_map (λ it. wanted_by it.1.1.made it.1.1.type)
     (filter (λ it. is_needed script it.0) (numbered number nodes))
 
--- the inputs of the nodes below a number have these rows, which are of their types
+-- the inputs of the nodes below a number have these rows
 abbrev pub HasRead : Option (List NamedBytes) → Script → ℕ → List (List Value) → Type 0
 HasRead told script number rows =
     (done : List Wanted)
     × (inputs_of script ≡ done ++ inputs_from script number (drop number script.nodes))
-    × AllHaveRows told done rows × HaveRows done rows
+    × AllHaveRows told done rows
 
 -- the input that the node of that number is, where it is needed
 abbrev pub inputs_at : Script → ℕ → List Wanted

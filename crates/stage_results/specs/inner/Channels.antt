@@ -1,5 +1,5 @@
 -- The outs of reduce tasks, channel by channel.
-use Rattle.std.specs.Prelude.{◌≡◌, ℕ, ◌<◌, List, [], ◌∷◌, ◌++◌, length, map, Some, slice_get}
+use Rattle.std.specs.Prelude.{◌≡◌, ℕ, ◌<◌, List, [], ◌∷◌, ◌++◌, length, map, Option, Some, None, slice_get}
 use Rattle.std.specs.Option.{IsSomeAnd}
 use Rattle.flume_value.specs.declared.value.Value.{Value}
 use Rattle.shards.specs.Shards.{joined}
@@ -21,9 +21,14 @@ each_joined [] ys = ys
 each_joined (x ∷ xs) [] = x ∷ xs
 each_joined (x ∷ xs) (y ∷ ys) = (x ++ y) ∷ each_joined xs ys
 
--- what passes through each channel of what a map task gives them
+-- a list that may be missing
+abbrev pub or_none : {A : Type 0} → Option (List A) → List A
+or_none None = []
+or_none (Some xs) = xs
+
+-- what is moved of what a map task gives each channel: nothing of one through which no values pass
 abbrev pub passed_by : List Sent → List (List Value)
-passed_by sent = map (λ s. passed_in (Some s)) sent
+passed_by sent = map (λ s. or_none (passed_in s)) sent
 
 -- the outs of the tasks of a grouping channel, in order of partitions
 pub record AreOutsOf (w : World) (n : Split) (t : Lists) (ins : List InChannel) (g : Grouping)

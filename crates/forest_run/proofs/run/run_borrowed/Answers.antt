@@ -31,7 +31,8 @@ walk-requires g c =
     let takes = g.F.Functions.can_call c.args.functions.now in
     let safe = subst (λ (d : Option Forest). AllByRecursion (SafeOf w takes d) c.args.elements.now)
     c.in-Some.is c.requires.safe in
-    subst (λ (f : Forest). AllByRecursion (Safe w takes f) c.args.elements.now) (sym c.steps.ensures) safe
+    subst (λ (f : Forest). AllByRecursion (Safe w takes f) c.args.elements.now)
+    (sym c.steps.ensures) safe
 
 pub returns-in_ok-sizes-in-Some-clause-value : goal.returns-in_ok-sizes-in-Some-clause-value
 returns-in_ok-sizes-in-Some-clause-value g c =

@@ -28,10 +28,11 @@ walk-requires g c =
     let w = world_of (g.F.Functions.called c.args.functions.now) in
     let takes = g.F.Functions.can_call c.args.functions.now in
     let all : c.into_iter.result.rest.items ≡ c.args.elements.items = search rules in
-    let safe = subst (λ (d : Option Forest). AllByRecursion (SafeOf w takes d) c.args.elements.items)
+    let xs = c.args.elements.items in
+    let safe = subst (λ (d : Option Forest). AllByRecursion (SafeOf w takes d) xs)
     c.in-Some.is c.requires.safe in
     subst (λ (l : List Value). AllByRecursion (Safe w takes (grown c.steps.result.now)) l) (sym all)
-    (subst (λ (f : Forest). AllByRecursion (Safe w takes f) c.args.elements.items) (sym c.steps.ensures) safe)
+    (subst (λ (f : Forest). AllByRecursion (Safe w takes f) xs) (sym c.steps.ensures) safe)
 
 pub returns-in_ok-sizes-in-Some-clause-value : goal.returns-in_ok-sizes-in-Some-clause-value
 returns-in_ok-sizes-in-Some-clause-value g c =
@@ -39,9 +40,11 @@ returns-in_ok-sizes-in-Some-clause-value g c =
     let begun = c.in_ok-sizes-in-Some in
     let all : c.into_iter.result.rest.items ≡ c.args.elements.items = search rules in
     let numbered = subst IsNumbered c.in-Some.is c.requires.numbered in
-    subst (λ (d : Option Forest). IfOk c.walk.result (IsMadeOf (IsCourse w d c.args.elements.items)))
+    let roots = c.in-Some.roots in
+    let end = c.walk.result in
+    subst (λ (d : Option Forest). IfOk end (IsMadeOf (IsCourse w d c.args.elements.items)))
     (sym c.in-Some.is)
-    (subst (λ (l : List Value). IfOk c.walk.result (IsMadeOf (IsCourse w (Some c.in-Some.roots) l))) all
+    (subst (λ (l : List Value). IfOk end (IsMadeOf (IsCourse w (Some roots) l))) all
     (walked_courses w c.in-Some.roots c.steps.result.now c.deref.result.now begun.outputs
     c.steps.ensures numbered begun.ensures.few (c.deref.ensures.value ∙ begun.ensures.sizes)
     begun.ensures.fresh c.into_iter.result.rest.items c.walk.result c.walk.ensures.value))
@@ -54,5 +57,6 @@ returns-in_ok-sizes-in-Some-clause-asked g c =
     let b = account g.H.Host.notes g.H.Host.losses c.walk.new.host in
     let all : c.into_iter.result.rest.items ≡ c.args.elements.items = search rules in
     subst (λ (n : ℕ). Asked e n a b c.walk.result)
-    (length-map c.into_iter.result.rest.items (run w c.deref.result.now 0 (grown c.steps.result.now)) ∙ ap length all)
+    (length-map c.into_iter.result.rest.items
+    (run w c.deref.result.now 0 (grown c.steps.result.now)) ∙ ap length all)
     c.walk.ensures.asked

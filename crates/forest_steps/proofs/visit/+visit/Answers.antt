@@ -1,4 +1,4 @@
-use Rattle.std.proofs.Common.{ℕ, ◌+◌, ◌≤◌, arith, ◌≡◌, ◌∷◌, List, drop, ap, subst, sym, ◌∙◌}
+use Rattle.std.proofs.Common.{ℕ, ◌+◌, ◌≤◌, arith, ◌≡◌, ◌∷◌, [], List, drop, ap, refl, subst, sym, ◌∙◌}
 use borrow.Author.Rules.{rules, lives}
 use Rattle.std.specs.List.{AllByRecursion, slice_get}
 use Rattle.std.proofs.lemmas.Result.{err_from_is_err_and}
@@ -14,6 +14,7 @@ use Rattle.exec_graph.proofs.step.Step.TheLaws.TheFalls.{size_decreases}
 use Rattle.forest_steps.specs.Functions.{world_of}
 use Rattle.forest_steps.specs.Safety.{Safe}
 use Rattle.forest_steps.specs.Running.{Run, IsRun, run, run_twigs}
+use Rattle.forest_steps.specs.inner.Answers.{lists_of}
 use Rattle.forest_steps.proofs.Twigging.{limb_run, limb_safe, safe_member}
 use Rattle.forest_steps.proofs.Visiting.{each_member, place_begun, place_on, safe_begun, safe_first, safe_here, safe_on, steps_end, steps_on, twigs_begun, twigs_end, twigs_on}
 use Rattle.forest_steps.proofs.visit.+visit.Goals as goal
@@ -143,13 +144,13 @@ visit_outputs-loop-output-preserved g t c =
           c.output-item.is rest c.loop-output.invariant.safe;
     }
 
-pub visit_step-visit_outputs-requires : goal.visit_step-visit_outputs-requires
-visit_step-visit_outputs-requires g t c κs within =
+pub visit_step-visit_answer-requires : goal.visit_step-visit_answer-requires
+visit_step-visit_answer-requires g t c κs within =
     let w = world_of (g.F.Functions.called c.args.functions.now) in
     let takes = g.F.Functions.can_call c.args.functions.now in
-    let answers = c.in_ok-answers.answers.items in
+    let answers = lists_of c.in_ok-answered.answered in
     let given = sym (ap (λ (d : Branch). called w d.does c.args.x.now) c.step.view_is)
-    ∙ c.in_ok-answers.ensures.given in (
+    ∙ c.in_ok-answered.ensures.given in (
       search rules,
       (
         search (rules, lives, within) depth 24 fits 20000,
@@ -161,11 +162,11 @@ pub visit_step-returns-clause-ran : goal.visit_step-returns-clause-ran
 visit_step-returns-clause-ran g t c =
     let w = world_of (g.F.Functions.called c.args.functions.now) in
     let given = sym (ap (λ (d : Branch). called w d.does c.args.x.now) c.step.view_is)
-    ∙ c.in_ok-answers.ensures.given in
-    subst (λ (r : Run). IsRun r c.visit_outputs.new.outputs c.visit_outputs.result)
+    ∙ c.in_ok-answered.ensures.given in
+    subst (λ (r : Run). IsRun r c.visit_answer.new.outputs c.visit_answer.result)
     (sym (limb_run w c.args.sizes.now c.args.at c.args.step.now c.args.x.now
-    c.in_ok-answers.answers.items c.args.outputs.now given))
-    c.visit_outputs.ensures.ran
+    (lists_of c.in_ok-answered.answered) c.args.outputs.now given))
+    c.visit_answer.ensures.ran
 
 pub visit_kids-visit_step-requires : goal.visit_kids-visit_step-requires
 visit_kids-visit_step-requires g t c κs within =
@@ -211,13 +212,13 @@ visit_kids-loop-kid-preserved g t c =
     c.loop-kid-test.true c.kid-item.is c.in_ok-next.ensures.place c.loop-kid.invariant
     c.in_ok-next.ensures.ran
 
-pub visit_moved-visit_outputs-requires : goal.visit_moved-visit_outputs-requires
-visit_moved-visit_outputs-requires g t c κs within =
+pub visit_moved-visit_answer-requires : goal.visit_moved-visit_answer-requires
+visit_moved-visit_answer-requires g t c κs within =
     let w = world_of (g.F.Functions.called c.args.functions.now) in
     let takes = g.F.Functions.can_call c.args.functions.now in
-    let answers = c.in_ok-answers.answers.items in
+    let answers = lists_of c.in_ok-answered.answered in
     let given = sym (ap (λ (d : Branch). called w d.does c.args.x) c.step.view_is)
-    ∙ c.in_ok-answers.ensures.given in (
+    ∙ c.in_ok-answered.ensures.given in (
       search rules,
       (
         search (rules, lives, within) depth 24 fits 20000,
@@ -229,8 +230,23 @@ pub visit_moved-returns : goal.visit_moved-returns
 visit_moved-returns g t c =
     let w = world_of (g.F.Functions.called c.args.functions.now) in
     let given = sym (ap (λ (d : Branch). called w d.does c.args.x) c.step.view_is)
-    ∙ c.in_ok-answers.ensures.given in
-    subst (λ (r : Run). IsRun r c.visit_outputs.new.outputs c.visit_outputs.result)
+    ∙ c.in_ok-answered.ensures.given in
+    subst (λ (r : Run). IsRun r c.visit_answer.new.outputs c.visit_answer.result)
     (sym (limb_run w c.args.sizes.now c.args.at c.args.step.now c.args.x
-    c.in_ok-answers.answers.items c.args.outputs.now given))
-    c.visit_outputs.ensures.ran
+    (lists_of c.in_ok-answered.answered) c.args.outputs.now given))
+    c.visit_answer.ensures.ran
+
+pub visit_one-visit_emission-requires : goal.visit_one-visit_emission-requires
+visit_one-visit_emission-requires g t c κs within =
+    let w = world_of (g.F.Functions.called c.args.functions.now) in
+    let takes = g.F.Functions.can_call c.args.functions.now in
+    let v = c.args.value in
+    let first = sym (ap (λ (d : Branch). d.first) c.step.view_is) in
+    let whole = ap size c.step.view_is in (
+      omega (arith, c.decreases, whole, size_decreases c.step.inside c.step.invariant),
+      (
+        search (rules, lives, within) depth 24 fits 20000,
+        (safe_first w c.args.sizes.now takes c.args.step.now c.step.inside.first ((v ∷ []) ∷ [])
+            (v ∷ []) first refl c.requires).0,
+      ),
+    )

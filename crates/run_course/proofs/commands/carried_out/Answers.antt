@@ -1,10 +1,10 @@
-use Rattle.std.proofs.Common.{map}
+use Rattle.std.proofs.Common.{inl, map, refl}
 use Rattle.std.proofs.lemmas.Result.{IfErr-weaker, err_from_is_err_and}
 use Rattle.crew.specs.Hosts.{account}
 use Rattle.crew.proofs.Accounts.{all_grew_not}
 use Rattle.outside.proofs.AskLemmas.{asks_none}
 use Rattle.outside.specs.Seen.{seen}
-use Rattle.run_course.specs.declared.limits.TheConstants.{TRIES}
+use Rattle.run_course.specs.Limits.{usual_tries}
 use Rattle.run_course.proofs.AskLemmas.{none_with}
 use Rattle.run_course.proofs.CauseLemmas.{meaning_stop}
 use Rattle.run_course.proofs.commands.carried_out.Goals as goal
@@ -39,7 +39,8 @@ pub returns-in-Direct-clause-grew : goal.returns-in-Direct-clause-grew
 returns-in-Direct-clause-grew g c =
     all_grew_not (map (account g.H.Host.notes g.H.Host.losses) c.args.hosts.now)
 
-pub returns-in_err-accepted-in-Check-clause-asked : goal.returns-in_err-accepted-in-Check-clause-asked
+pub returns-in_err-accepted-in-Check-clause-asked :
+    goal.returns-in_err-accepted-in-Check-clause-asked
 returns-in_err-accepted-in-Check-clause-asked g c =
     let end = c.from_residual in
     let p = err_from_is_err_and end.result end.ensures.1 in
@@ -53,8 +54,30 @@ returns-in_err-planned-in-Plan-clause-asked g c =
 
 pub returns-in_ok-accepted-in-Check-clause-asked : goal.returns-in_ok-accepted-in-Check-clause-asked
 returns-in_ok-accepted-in-Check-clause-asked g c =
-    rw c.in-Check.is (asks_none TRIES (seen g.R.Source.asked g.R.Source.faults c.args.source.now))
+    rw c.in-Check.is
+    (asks_none usual_tries (seen g.R.Source.asked g.R.Source.faults c.args.source.now))
 
 pub returns-in_ok-planned-in-Plan-clause-asked : goal.returns-in_ok-planned-in-Plan-clause-asked
 returns-in_ok-planned-in-Plan-clause-asked g c =
-    rw c.in-Plan.is (asks_none TRIES (seen g.R.Source.asked g.R.Source.faults c.args.source.now))
+    rw c.in-Plan.is
+    (asks_none usual_tries (seen g.R.Source.asked g.R.Source.faults c.args.source.now))
+
+pub returns-in_err-accepted-in-Check-clause-asked_hosts :
+    goal.returns-in_err-accepted-in-Check-clause-asked_hosts
+returns-in_err-accepted-in-Check-clause-asked_hosts g c = inl refl
+
+pub returns-in_err-planned-in-Plan-clause-asked_hosts :
+    goal.returns-in_err-planned-in-Plan-clause-asked_hosts
+returns-in_err-planned-in-Plan-clause-asked_hosts g c = inl refl
+
+pub returns-in_ok-accepted-in-Check-clause-asked_hosts :
+    goal.returns-in_ok-accepted-in-Check-clause-asked_hosts
+returns-in_ok-accepted-in-Check-clause-asked_hosts g c = inl refl
+
+pub returns-in_ok-planned-in-Plan-clause-asked_hosts :
+    goal.returns-in_ok-planned-in-Plan-clause-asked_hosts
+returns-in_ok-planned-in-Plan-clause-asked_hosts g c = inl refl
+
+pub returns-in-Direct-clause-asked_hosts :
+    goal.returns-in-Direct-clause-asked_hosts
+returns-in-Direct-clause-asked_hosts g c = inl refl

@@ -1,4 +1,4 @@
-use Rattle.std.proofs.Common.{ℕ, inl, inr, map, subst}
+use Rattle.std.proofs.Common.{ℕ, inl, inr, map, refl, subst}
 use Rattle.std.proofs.lemmas.Result.{IfErr-weaker, err_from_is_err_and}
 use Rattle.crew.specs.Hosts.{account}
 use Rattle.crew.proofs.Accounts.{all_grew_not}
@@ -11,6 +11,7 @@ use Rattle.script_loading.specs.Loads.{file_names}
 use Rattle.run_course.specs.Lent.{lent}
 use Rattle.run_course.proofs.AskLemmas.{inputs_with, none_with, run_until}
 use Rattle.run_course.proofs.CauseLemmas.{run_stop}
+use Rattle.run_course.proofs.HostLemmas.{others_as, run_asks}
 use Rattle.run_course.proofs.RunLemmas.{both_ok, writes_run}
 use Rattle.run_course.proofs.commands.run_on.Goals as goal
 
@@ -92,3 +93,20 @@ returns-clause-asked g c =
     (seen g.R.Source.asked g.R.Source.faults c.args.source.now)
     (seen g.R.Source.asked g.R.Source.faults c.rows_of_inputs.new.source))
     c.tries.ensures.value c.in_ok-inputs.ensures.asked)
+
+pub returns-in_err-shown-clause-asked_hosts : goal.returns-in_err-shown-clause-asked_hosts
+returns-in_err-shown-clause-asked_hosts g c = inl refl
+
+pub returns-in_err-inputs-clause-asked_hosts : goal.returns-in_err-inputs-clause-asked_hosts
+returns-in_err-inputs-clause-asked_hosts g c = inl refl
+
+pub returns-clause-asked_hosts : goal.returns-clause-asked_hosts
+returns-clause-asked_hosts g c =
+    run_asks c.args.settings.now (g.R.Source.files c.args.source.now)
+    (map (account g.H.Host.notes g.H.Host.losses) c.args.hosts.now)
+    (map (account g.H.Host.notes g.H.Host.losses) c.written_run.new.hosts)
+    c.args.program.now.script c.in_ok-inputs.inputs c.in_ok-shown.shown.plan c.written_run.result
+    c.in_ok-inputs.ensures.ok c.in_ok-shown.ensures.optimised c.written_run.ensures.stop
+    c.written_run.ensures.asked
+    (others_as (account g.H.Host.notes g.H.Host.losses) c.args.settings.now.workers
+    c.args.hosts.now c.written_run.new.hosts c.written_run.ensures.hosts)

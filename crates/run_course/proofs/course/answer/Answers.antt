@@ -4,6 +4,7 @@ use Rattle.outside.specs.Seen.{seen, seen_shelf}
 use Rattle.run_course.specs.World.{world}
 use Rattle.run_course.proofs.AskLemmas.{delivered_for}
 use Rattle.run_course.proofs.CauseLemmas.{delivered}
+use Rattle.run_course.proofs.HostLemmas.{delivered_asks}
 use Rattle.run_course.proofs.course.answer.Goals as goal
 
 pub returns-in-Ok-clause-answers : goal.returns-in-Ok-clause-answers
@@ -27,3 +28,10 @@ returns-in-Ok-clause-asked g c =
     (seen g.R.Source.asked g.R.Source.faults c.args.source.now)
     (seen g.R.Source.asked g.R.Source.faults c.prepare.new.source) _ _ _ _ _ _ c.deliver.result
     c.deliver.ensures.delivered c.in-Ok.ensures.asked
+
+pub returns-in-Ok-clause-asked_hosts : goal.returns-in-Ok-clause-asked_hosts
+returns-in-Ok-clause-asked_hosts g c =
+    delivered_asks (map string_bytes c.args.words.now) (g.R.Source.files c.args.source.now)
+    (map (account g.H.Host.notes g.H.Host.losses) c.args.hosts.now)
+    (map (account g.H.Host.notes g.H.Host.losses) c.prepare.new.hosts) _ _ _ _ _ _
+    c.deliver.result c.in-Ok.written c.deliver.ensures.delivered c.in-Ok.ensures.asked_hosts

@@ -1,4 +1,4 @@
-use Rattle.std.proofs.Common.{ℕ, inl, List, [], ◌∷◌, Option, map, string_bytes, subst, sym, ap, ◌∙◌}
+use Rattle.std.proofs.Common.{ℕ, inl, refl, List, [], ◌∷◌, Option, map, string_bytes, subst, sym, ap, ◌∙◌}
 use Rattle.std.specs.Option.{option_map}
 use Rattle.command_words.specs.Held.{asked_in}
 use Rattle.crew.specs.Hosts.{account}
@@ -14,6 +14,7 @@ use Rattle.outside.specs.Asked.{Asks}
 use Rattle.outside.proofs.AskLemmas.{asks_none}
 use Rattle.run_course.proofs.AskLemmas.{command_for, script_for}
 use Rattle.run_course.proofs.CauseLemmas.{command_stop, script_cause, written}
+use Rattle.run_course.proofs.HostLemmas.{call_asks}
 use Rattle.run_course.proofs.course.prepare.Goals as goal
 
 pub returns-in_err-program-clause-err : goal.returns-in_err-program-clause-err
@@ -127,3 +128,22 @@ returns-clause-asked g c =
     (seen g.R.Source.asked g.R.Source.faults c.script_of.new.source))
     c.tries_of.ensures.value c.in_ok-program.ensures.asked)
     c.carried_out.result c.carried_out.ensures.asked
+
+pub returns-in_err-asked-clause-asked_hosts : goal.returns-in_err-asked-clause-asked_hosts
+returns-in_err-asked-clause-asked_hosts g c = inl refl
+
+pub returns-in_default-clause-asked_hosts : goal.returns-in_default-clause-asked_hosts
+returns-in_default-clause-asked_hosts g c = inl refl
+
+pub returns-in_err-program-clause-asked_hosts : goal.returns-in_err-program-clause-asked_hosts
+returns-in_err-program-clause-asked_hosts g c = inl refl
+
+pub returns-clause-asked_hosts : goal.returns-clause-asked_hosts
+returns-clause-asked_hosts g c =
+    call_asks (map string_bytes c.args.words.now) (g.R.Source.files c.args.source.now)
+    (g.R.Source.files c.script_of.new.source) c.in-Some.asked.command c.in-Some.asked.script.now
+    c.in_ok-program.program.script
+    (map (account g.H.Host.notes g.H.Host.losses) c.args.hosts.now)
+    (map (account g.H.Host.notes g.H.Host.losses) c.carried_out.new.hosts)
+    (sym c.in_ok-asked.ensures ∙ ap (option_map asked_in) c.in-Some.is, c.in_ok-program.ensures.ok)
+    c.in_ok-program.ensures.files c.carried_out.result c.carried_out.ensures.asked_hosts

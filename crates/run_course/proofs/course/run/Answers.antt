@@ -19,3 +19,4 @@ returns-clause-promises g c =
     (seen g.P.Screen.text g.P.Screen.faults c.answer.new.screen)
     (map (account g.H.Host.notes g.H.Host.losses) c.answer.new.hosts))
     c.answer.result c.answer.ensures.answers c.answer.ensures.kept c.answer.ensures.asked
+    c.answer.ensures.asked_hosts

@@ -10,4 +10,5 @@ returns-clause-of_script c =
       typed = c.in_ok-plan.ensures.types (signatures_of script)
           (c.types_law.ensures.well_formed script c.requires.well_formed c.requires.ready.first);
       same = c.in_ok-plan.ensures.same;
+      sources = c.in_ok-plan.ensures.sources;
     }

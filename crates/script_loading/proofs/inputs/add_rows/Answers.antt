@@ -103,8 +103,7 @@ returns-in-Ok-clause-read g c =
     c.push.new.self at.entry (its_wanted script c.args.number file columns at)
     c.in_ok-own-in-Input.own at.found needed (wants script c.args.number file columns at)
     (c.in_ok-own-in-Input.ensures.ok at.entry.1.type fits)
-    (c.in_ok-own-in-Input.ensures.typed at.entry.1.type fits) c.in-Ok.ensures.ok
-    c.requires.read
+    c.in-Ok.ensures.ok c.requires.read
 
 pub returns-in-Err-clause-err : goal.returns-in-Err-clause-err
 returns-in-Err-clause-err g c =

@@ -1,8 +1,10 @@
-use Rattle.std.proofs.Common.{◌+◌, ◌∙◌, arith}
+use Rattle.std.proofs.Common.{◌≡◌, ◌+◌, ◌∙◌, arith, length, subst}
 use Rattle.std.proofs.lemmas.Result.{err_from_is_err_and}
 use Rattle.outside.specs.Seen.{seen}
 use Rattle.direct_meaning.specs.Inputs.{inputs_of}
+use Rattle.script_loading.specs.inner.Reading.{HasRead}
 use Rattle.script_loading.proofs.AskLemmas.{front_asked, more_asked}
+use Rattle.script_loading.proofs.InputLemmas.{all_read}
 use Rattle.script_loading.proofs.SinceLemmas.{inputs_since}
 use Rattle.script_loading.proofs.inputs.rows_of_inputs.Goals as goal
 
@@ -43,3 +45,18 @@ loop-number-preserved g c =
       more_asked c.args.tries script c.loop-number.number before middle after within
           c.loop-number.invariant.3 c.in_ok-add_rows.ensures.asked,
     )
+
+pub returns-clause-typed : goal.returns-clause-typed
+returns-clause-typed g c =
+    let script = c.args.program.now.script in
+    let told = g.R.Source.files c.args.source.now in
+    let rows = c.loop-number.rows in
+    let end : c.loop-number.number ≡ length script.nodes = omega (
+      arith,
+      c.loop-number-test.false,
+      c.loop-number.auto.number-end,
+      c.node_count-number-end.ensures,
+    ) in
+    c.inputs_law.ensures.typed told script rows
+    (all_read told script rows
+    (subst (λ n. HasRead told script n rows) end c.loop-number.invariant.2))

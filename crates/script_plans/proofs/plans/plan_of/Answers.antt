@@ -1,4 +1,4 @@
-use Rattle.std.proofs.Common.{subst, sym}
+use Rattle.std.proofs.Common.{◌≡◌, ◌∙◌, subst, sym}
 use Rattle.exec_graph.specs.declared.graph.Graph.{Graph}
 use Rattle.exec_graph.specs.ObjectFree.{IsObjectFree}
 use Rattle.exec_graph.specs.Typing.{IsTyped, Signatures}
@@ -9,7 +9,7 @@ use Rattle.graph_laws.specs.Single.{HasNarrowSteps, IsUnfused}
 use Rattle.optimise.specs.Optimised.{source_count}
 use Rattle.plan_laws.specs.Operations.{SamePlan}
 use Rattle.plan_rules.specs.Fitting.{HasSourcesBelow}
-use Rattle.script_plans.proofs.Sourced.{sources_below}
+use Rattle.script_plans.proofs.Sourced.{sources_below, sources_counted}
 use Rattle.script_plans.proofs.plans.plan_of.Goals as goal
 
 pub optimise-requires : goal.optimise-requires
@@ -41,3 +41,8 @@ returns-clause-object_free c =
     c.in_ok-plan.ensures.object_free
     (subst IsObjectFree (sym c.requires.built)
     (c.object_free_law.ensures c.args.program.now.script))
+
+pub returns-clause-sources : goal.returns-clause-sources
+returns-clause-sources c =
+    subst (λ (g : Graph). c.in_ok-plan.plan.sources ≡ source_count g.nodes) c.requires.built
+    c.in_ok-plan.ensures.optimised.sources ∙ sources_counted c.args.program.now.script

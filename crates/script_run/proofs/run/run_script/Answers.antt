@@ -1,10 +1,11 @@
 use denote.Param.Send.{sendable}
-use Rattle.std.proofs.Common.{◌∙◌, ap, arith, map}
+use Rattle.std.proofs.Common.{◌∙◌, ap, arith, map, sym}
 use Rattle.std.proofs.lemmas.Result.{err_from_is_err_and}
 use Rattle.build_law.specs.Worlds.{world_of}
 use Rattle.flume_value.specs.Bag.{bag_of}
 use Rattle.script_functions.proofs.Sharing.{functions_sync}
-use Rattle.script_run.proofs.Running.{executed, faulted, typed_run}
+use Rattle.direct_meaning.specs.Inputs.{inputs_of}
+use Rattle.script_run.proofs.Running.{as_many_rows, executed, faulted, phases_asked, typed_run}
 use Rattle.script_run.proofs.run.run_script.Goals as goal
 
 pub execute-requires-sync-F : goal.execute-requires-sync-F
@@ -17,6 +18,12 @@ execute-requires-clause-typed g c κs within =
     (typed_run script c.args.inputs c.args.plan.now
     (c.world_law.ensures script c.args.inputs c.requires.well_formed c.requires.inputs)
     c.requires.plan.typed)
+
+pub execute-requires-clause-sources : goal.execute-requires-clause-sources
+execute-requires-clause-sources g c κs within =
+    rw c.as_slice-rows.ensures
+    (as_many_rows (inputs_of c.args.program.now.script) c.args.inputs c.requires.inputs
+    ∙ sym c.requires.plan.sources)
 
 pub execute-requires-clause-some : goal.execute-requires-clause-some
 execute-requires-clause-some g c κs within =
@@ -76,4 +83,27 @@ returns-clause-ran g c =
           (c.plan_law.ensures.counts w script plan m.0 c.in_ok-done.done.counts is same
           (λ i below. done.counts i (rw c.node_count-nodes.ensures below)));
       ran = rw c.into_vec-2.ensures done.ran;
+      asked = done.asked;
     }
+
+-- ---- what hosts were asked for
+
+pub returns-in_err-done-clause-asked : goal.returns-in_err-done-clause-asked
+returns-in_err-done-clause-asked g c =
+    phases_asked c.args.program.now.script c.args.inputs c.args.settings.now c.args.plan.now _ _
+    (rw (c.new-functions.ensures, c.as_slice-rows.ensures) at c.in_err-done.ensures.asked)
+
+pub returns-in_err-sizes-clause-asked : goal.returns-in_err-sizes-clause-asked
+returns-in_err-sizes-clause-asked g c =
+    phases_asked c.args.program.now.script c.args.inputs c.args.settings.now c.args.plan.now _ _
+    (rw (c.new-functions.ensures, c.as_slice-rows.ensures) at c.in_ok-done.ensures.asked)
+
+pub returns-in_err-all_sorted-clause-asked : goal.returns-in_err-all_sorted-clause-asked
+returns-in_err-all_sorted-clause-asked g c =
+    phases_asked c.args.program.now.script c.args.inputs c.args.settings.now c.args.plan.now _ _
+    (rw (c.new-functions.ensures, c.as_slice-rows.ensures) at c.in_ok-done.ensures.asked)
+
+pub returns-clause-asked : goal.returns-clause-asked
+returns-clause-asked g c =
+    phases_asked c.args.program.now.script c.args.inputs c.args.settings.now c.args.plan.now _ _
+    (rw (c.new-functions.ensures, c.as_slice-rows.ensures) at c.in_ok-done.ensures.asked)

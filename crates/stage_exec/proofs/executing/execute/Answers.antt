@@ -7,12 +7,20 @@ use Rattle.map_shard.specs.Tables.{table}
 use Rattle.stage_phases.specs.Stages.{run_world}
 use Rattle.stage_exec.proofs.Ending.{bags_are, begins, counts_are, faulted, given_back, zeros_many}
 use Rattle.stage_exec.specs.Executions.{split_of}
+use Rattle.plan_phases.proofs.Asking.{asked_all, asked_none}
+use Rattle.plan_phases.proofs.Joining.{front_stopped}
 use Rattle.plan_phases.specs.Phases.{phases}
 use Rattle.stage_exec.proofs.Finishing.{finishes}
 use Rattle.stage_exec.proofs.executing.execute.Goals as goal
 
 pub returns-in_err-sizes-clause-grew : goal.returns-in_err-sizes-clause-grew
 returns-in_err-sizes-clause-grew g c = all_grew_not _
+
+pub returns-in_err-sizes-clause-asked : goal.returns-in_err-sizes-clause-asked
+returns-in_err-sizes-clause-asked g c =
+    let s = c.args.settings.now in
+    let w = run_world (g.F.Functions.called c.args.functions.now) c.args.sources.now in
+    asked_none s.tries s.drill (phases w (split_of s) c.args.plan.now) _
 
 pub run_stages-requires-clause-ready : goal.run_stages-requires-clause-ready
 run_stages-requires-clause-ready g c κs within =
@@ -51,6 +59,28 @@ returns-in_err-results-clause-complete g c can =
     c.in_err-results.field-0.0 can
     (rw (← c.as_slice-stages.ensures) c.in_err-results.ensures.stopped))
 
+pub returns-in_err-results-clause-asked : goal.returns-in_err-results-clause-asked
+returns-in_err-results-clause-asked g c =
+    let s = c.args.settings.now in
+    let w = run_world (g.F.Functions.called c.args.functions.now) c.args.sources.now in
+    front_stopped s.tries s.drill w (phases w (split_of s) c.args.plan.now) _ _
+    c.in_err-results.field-0.0
+    (rw (← c.as_slice-stages.ensures) c.in_err-results.ensures.stopped)
+
+pub returns-in_err-outputs-clause-asked : goal.returns-in_err-outputs-clause-asked
+returns-in_err-outputs-clause-asked g c =
+    let s = c.args.settings.now in
+    let w = run_world (g.F.Functions.called c.args.functions.now) c.args.sources.now in
+    let ran = rw c.as_slice-stages.ensures at c.in_ok-results.ensures.ran in
+    asked_all s.tries s.drill (phases w (split_of s) c.args.plan.now) _ _ ran.asked
+
+pub returns-clause-asked : goal.returns-clause-asked
+returns-clause-asked g c =
+    let s = c.args.settings.now in
+    let w = run_world (g.F.Functions.called c.args.functions.now) c.args.sources.now in
+    let ran = rw c.as_slice-stages.ensures at c.in_ok-results.ensures.ran in
+    asked_all s.tries s.drill (phases w (split_of s) c.args.plan.now) _ _ ran.asked
+
 pub returns-clause-done : goal.returns-clause-done
 returns-clause-done g c =
     let s = c.args.settings.now in
@@ -87,4 +117,5 @@ returns-clause-done g c =
           (c.tasks_law.ensures.sizes w (split_of s) p cut.0 cut.1 c.requires.object_free
           c.requires.plan none));
       ran = rw told ran.through.won;
+      asked = ran.asked;
     }

@@ -48,7 +48,8 @@ returns-in_err-reduces-clause-stopped g c =
     rw (p.1, p.2)
     (stopped_behind settings.tries settings.drill w (map_phase_of c.args.number n t stage ∷ [])
     (reduce_phases w c.args.number n t stage (groupings stage.outputs)) _ _ _ _
-    c.in_ok-maps.ensures.ran.through (c.in_err-reduces.ensures.stopped t
+    c.in_ok-maps.ensures.ran.through c.in_ok-maps.ensures.ran.asked
+    (c.in_err-reduces.ensures.stopped t
     (rw c.deref.ensures.value c.in_ok-maps.ensures.outs))
     c.in_ok-maps.ensures.grew c.in_err-reduces.ensures.grew)
 

@@ -1,4 +1,5 @@
 use Rattle.map_shard.specs.Tables.{table}
+use Rattle.plan_phases.proofs.Asking.{asked_all}
 use Rattle.stage_phases.specs.Stages.{run_world}
 use Rattle.stage_exec.proofs.stage.run_mscr.Goals as goal
 
@@ -21,3 +22,8 @@ returns-in-Ok-clause-grown g c =
     rw (c.shards-shards.ensures.value, c.partitions-partitions.ensures.value)
     at c.in-Ok.ensures.grown in
     grown w t c.in_ok-outs.ensures.maps c.in_ok-outs.ensures.reduces
+
+pub returns-in-Err-clause-stopped : goal.returns-in-Err-clause-stopped
+returns-in-Err-clause-stopped g c =
+    let settings = c.args.inputs.now.settings.now in
+    asked_all settings.tries settings.drill _ _ _ c.in_ok-outs.ensures.ran.asked

@@ -1,4 +1,6 @@
+use Rattle.std.proofs.Common.{[]}
 use Rattle.crew.proofs.Accounts.{all_grew_not}
+use Rattle.plan_phases.proofs.Asking.{asked_none}
 use Rattle.plan_phases.proofs.Joining.{none_run}
 use Rattle.stage_phases.specs.Stages.{run_world}
 use Rattle.stage_exec.proofs.stage.run_stage.Goals as goal
@@ -17,5 +19,10 @@ returns-in-Ok-clause-ran g c =
     let inputs = c.args.inputs.now in
     rw c.in-Flatten.is
     (none_run inputs.settings.now.tries inputs.settings.now.drill
-    (run_world (g.F.Functions.called inputs.functions.now) inputs.sources.now) _ _
+    (run_world (g.F.Functions.called inputs.functions.now) inputs.sources.now) _
     c.args.winners.now.items)
+
+pub returns-in-Err-clause-stopped : goal.returns-in-Err-clause-stopped
+returns-in-Err-clause-stopped g c =
+    let inputs = c.args.inputs.now in
+    rw c.in-Flatten.is (asked_none inputs.settings.now.tries inputs.settings.now.drill [] _)

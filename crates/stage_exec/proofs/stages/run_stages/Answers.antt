@@ -2,7 +2,7 @@ use Rattle.std.proofs.Common.{◌+◌, arith, map}
 use Rattle.std.proofs.lemmas.Result.{err_from_is_err_and}
 use Rattle.crew.specs.Hosts.{account}
 use Rattle.plan_phases.proofs.Lasting.{all_grew_on}
-use Rattle.stage_exec.proofs.Running.{along_fewer, along_more, along_none, end_lists, end_run, run_stops, stage_ready}
+use Rattle.stage_exec.proofs.Running.{along_fewer, along_more, along_none, end_lists, end_run, run_stops, stage_asked, stage_ready}
 use Rattle.stage_exec.proofs.stages.run_stages.Goals as goal
 
 pub loop-k-init : goal.loop-k-init
@@ -47,6 +47,20 @@ returns-in_err-lists-clause-stopped g c =
 pub returns-in_err-push_results-clause-grew : goal.returns-in_err-push_results-clause-grew
 returns-in_err-push_results-clause-grew g c =
     all_grew_on _ _ _ c.loop-k.invariant.grew c.run_stage.ensures.grew
+
+pub returns-in_err-push_results-clause-stopped : goal.returns-in_err-push_results-clause-stopped
+returns-in_err-push_results-clause-stopped g c =
+    let inputs = c.args.inputs.now in
+    let end = c.from_residual-in_err-push_results in
+    let p = err_from_is_err_and end.result end.ensures.1 in
+    rw (p.1, p.2)
+    (stage_asked inputs.settings.now (g.F.Functions.called inputs.functions.now)
+    (g.F.Functions.can_call inputs.functions.now) inputs.sources.now c.args.stages.now
+    c.args.outputs.now c.loop-k.k
+    c.loop-k.results.items c.args.sizes.now c.loop-k.sizes _ _ c.args.winners.now.items
+    c.loop-k.winners.items c.loop-k.invariant c.index-stages-k.result c.loop-k-test.true
+    c.index-stages-k.is _ c.run_stage.new.winners.items
+    (rw (← c.as_slice.ensures.value) c.in_ok-lists.ensures.ran))
 
 pub loop-k-preserved : goal.loop-k-preserved
 loop-k-preserved g c =

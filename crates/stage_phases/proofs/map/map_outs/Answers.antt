@@ -1,8 +1,9 @@
 use Rattle.std.proofs.Common.{refl}
 use Rattle.std.proofs.lemmas.Result.{IfOk-weaker}
 use Rattle.map_shard.proofs.CrossLemmas.{MapTasks-sync}
+use Rattle.map_shard.proofs.Fitting.{are_outs}
 use Rattle.stage_phases.specs.Stages.{run_world}
-use Rattle.stage_phases.proofs.Mapping.{are_map_outs, is_map_phase, work_of}
+use Rattle.stage_phases.proofs.Mapping.{is_map_phase, work_of}
 use denote.Exit.{no}
 use denote.Param.Send.{arg_sync, param_sync}
 use denote.Ref.{NamedLft}
@@ -18,10 +19,11 @@ pub returns-clause-outs : goal.returns-clause-outs
 returns-clause-outs g c =
     let inputs = c.args.inputs.now in
     let w = run_world (g.F.Functions.called inputs.functions.now) inputs.sources.now in
-    let work = work_of inputs.functions.now inputs.sources.now c.args.results.now c.args.stage.now
-    inputs.settings.now in
+    let settings = inputs.settings.now in
     let values = rw c.map_tasks-tasks.ensures.tasks at c.outs_of.ensures.values in
-    IfOk-weaker c.outs_of.result _ _ (λ outs v. are_map_outs work w outs.items v) values
+    IfOk-weaker c.outs_of.result _ _
+    (λ outs v. are_outs inputs.functions.now inputs.sources.now c.args.results.now c.args.stage.now
+    settings.shards settings.partitions w w.called refl outs.items v.count v.values) values
 
 pub returns-clause-ran : goal.returns-clause-ran
 returns-clause-ran g c =

@@ -29,7 +29,7 @@ returns-then-not-has_groupings-clause-ran g c t made =
     let stage = c.args.stage.now in
     let none = no_groupings stage.outputs
     (sym c.has_groupings.ensures ∙ c.if-not-has_groupings.true) in
-    rw none (none_run _ _ _ _ _ _)
+    rw none (none_run _ _ _ _ _)
 
 -- ---- with some
 

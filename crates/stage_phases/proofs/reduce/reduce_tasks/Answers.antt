@@ -1,4 +1,4 @@
-use Rattle.std.proofs.Common.{sym, subst}
+use Rattle.std.proofs.Common.{refl, sym, subst}
 use Rattle.map_shard.specs.Tables.{split, table}
 use Rattle.task_lists.specs.Outs.{AreMapOuts}
 use Rattle.stage_phases.specs.Stages.{run_world}
@@ -14,9 +14,9 @@ new-requires g c =
     let made = subst (λ p. AreMapOuts w (split inputs.settings.now.shards p)
     (table inputs.sources.now h.results) c.args.stage.now c.args.maps.now)
     (sym c.partitions.ensures.value) h.made in
-    c.reduce_law.ensures inputs.sources.now h.results c.args.stage.now c.args.maps.now
-    c.args._number inputs.settings.now.shards c.partitions.result h.cut.0 within.0 within.1 h.ready
-    made
+    c.reduce_tasks_law.ensures.can_reduce w
+    (split inputs.settings.now.shards c.partitions.result) (table inputs.sources.now h.results)
+    c.args.stage.now c.args.maps.now c.args._number refl h.cut.0 within.0 within.1 h.ready made
 
 pub returns-clause-count : goal.returns-clause-count
 returns-clause-count g c =

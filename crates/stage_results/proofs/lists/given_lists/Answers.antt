@@ -1,4 +1,17 @@
+use Rattle.std.proofs.Common.{◌∙◌, ◌∷◌, [], ap}
+use Rattle.std.proofs.lemmas.Result.{IfOk-weaker}
+use Rattle.map_shard.specs.Tables.{split}
 use Rattle.stage_results.proofs.lists.given_lists.Goals as goal
+
+pub returns-in-Pass-clause-lists : goal.returns-in-Pass-clause-lists
+returns-in-Pass-clause-lists c w shards t s maps r here behind is are some made at passed =
+    let number = c.in-Pass.field-1 in
+    let take = c.in-Pass.field-0 in
+    let whole = c.outs_law.ensures.passed w (split shards c.args.partitions) t s maps r number take
+    some made (rw c.in-Pass.is at at) in
+    rw c.in-Pass.is
+    (IfOk-weaker c.one_list.result _ _ (λ lists e. e ∙ ap (λ l. l ∷ []) (passed _ whole))
+    c.one_list.ensures)
 
 pub returns-in-Group-clause-lists : goal.returns-in-Group-clause-lists
 returns-in-Group-clause-lists c w shards t s maps r here behind is are some made at passed =

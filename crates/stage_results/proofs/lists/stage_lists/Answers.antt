@@ -1,17 +1,21 @@
-use Rattle.std.proofs.Common.{◌≤◌, ◌∙◌, ap, arith, length, refl, slice_get, suc, sym}
+use Rattle.std.proofs.Common.{◌≡◌, ◌+◌, ◌≤◌, ◌∙◌, List, Some, ap, arith, length, refl, slice_get, subst, suc, sym}
 use Rattle.std.proofs.lemmas.Option.{slice_get_read}
 use Rattle.std.specs.Vec.Iter.{into_iter_items}
 use Rattle.map_shard.specs.Tables.{split}
-use Rattle.shuffle_parts.specs.Outs.{all_passed, or_none}
+use Rattle.flume_value.specs.declared.value.Value.{Value}
+use Rattle.shuffle_parts.specs.Outs.{all_passed}
+use Rattle.stage_results.specs.inner.Channels.{or_none}
 use Rattle.stage_results.proofs.SideBySide.{behind_first}
 use Rattle.stage_results.proofs.Staging.{along_more, along_none, channel_outs, end_grown, end_lists, stage_outs}
 use Rattle.stage_results.proofs.lists.stage_lists.Goals as goal
 
 pub loop-channel-init : goal.loop-channel-init
 loop-channel-init c = record {
-  passed = λ r.
+  passed = λ r values found.
+      let here : 0 + r ≡ r = omega arith in
       ap (λ l. or_none (slice_get l r)) c.into_iter-passed.ensures.rest
-      ∙ c.in_ok-passed_lists.ensures r ∙ ap (all_passed c.args.maps.items) (omega arith);
+      ∙ c.in_ok-passed_lists.ensures r values
+      (subst (λ n. all_passed c.args.maps.items n ≡ Some values) here found);
   along = λ w shards t some maps reduces.
       let n = split shards c.args.partitions in
       let s = c.args.stage.now in
@@ -22,11 +26,13 @@ loop-channel-init c = record {
 
 pub loop-channel-preserved : goal.loop-channel-preserved
 loop-channel-preserved c = record {
-  passed = λ r.
+  passed = λ r values found.
+      let next : c.loop-channel.channel-index + 1 + r ≡ c.loop-channel.channel-index + suc r
+      = omega arith in
       ap (λ l. or_none (slice_get l r)) c.next_list-here.ensures.rest
       ∙ behind_first (into_iter_items c.loop-channel.passed) r
-      ∙ c.loop-channel.invariant.passed (suc r)
-      ∙ ap (all_passed c.args.maps.items) (omega arith);
+      ∙ c.loop-channel.invariant.passed (suc r) values
+      (subst (λ n. all_passed c.args.maps.items n ≡ Some values) next found);
   along = λ w shards t some maps reduces.
       let n = split shards c.args.partitions in
       let s = c.args.stage.now in
@@ -38,8 +44,11 @@ loop-channel-preserved c = record {
       let a = c.loop-channel.invariant.along w shards t some maps reduces in
       let next = channel_outs w n t s r _ _ _ _ x a at in
       let given = c.in_ok-given.ensures in
-      let passed = c.next_list-here.ensures.next ∙ c.loop-channel.invariant.passed 0
-      ∙ ap (all_passed c.args.maps.items) (omega arith) in
+      let first : r ≡ r + 0 = omega arith in
+      let passed = λ (values : List Value) (found : all_passed c.args.maps.items r ≡ Some values).
+      c.next_list-here.ensures.next
+      ∙ c.loop-channel.invariant.passed 0 values
+      (subst (λ n. all_passed c.args.maps.items n ≡ Some values) first found) in
       along_more w n t s r _ _ _ _ x a at _ c.in_ok-given.given.items _ _
       (rw (given.next w shards t s.inputs next.0 next.1 next.2 next.3) next.4)
       (given.lists w shards t s c.args.maps.items r next.0 next.1 next.2 next.3 some maps at passed)

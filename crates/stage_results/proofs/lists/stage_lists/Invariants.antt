@@ -1,18 +1,21 @@
-use Rattle.std.proofs.Common.{◌≡◌, ℕ, ◌+◌, ◌<◌, slice_get}
+use Rattle.std.proofs.Common.{◌≡◌, ℕ, ◌+◌, ◌<◌, List, Some, slice_get}
 use Rattle.std.specs.Vec.Iter.{into_iter_items}
 use Rattle.exec_graph.specs.World.{World}
 use Rattle.map_shard.specs.Tables.{split}
-use Rattle.shuffle_parts.specs.Outs.{all_passed, or_none}
+use Rattle.flume_value.specs.declared.value.Value.{Value}
+use Rattle.shuffle_parts.specs.Outs.{all_passed}
 use Rattle.stage_phases.specs.Outs.{AreReduceOuts}
 use Rattle.task_lists.specs.Outs.{AreMapOuts}
 use Rattle.task_lists.specs.Tasks.{Lists}
 use Rattle.stage_results.specs.inner.Along.{AreAlong}
+use Rattle.stage_results.specs.inner.Channels.{or_none}
 use Rattle.stage_results.proofs.lists.stage_lists.Given as goal
 
 abbrev pub invariant-loop-channel : goal.invariant-loop-channel
 invariant-loop-channel l = record {
-  passed : (r : ℕ) → or_none (slice_get (into_iter_items l.passed) r)
-      ≡ all_passed l.fn.maps.items (l.channel-index + r);
+  passed : (r : ℕ) (values : List Value)
+      → all_passed l.fn.maps.items (l.channel-index + r) ≡ Some values
+      → or_none (slice_get (into_iter_items l.passed) r) ≡ values;
   along : (w : World) (shards : ℕ) (t : Lists) → 0 < shards
       → AreMapOuts w (split shards l.partitions) t l.stage l.fn.maps.items
       → AreReduceOuts w (split shards l.partitions) t l.stage l.fn.reduces.items

@@ -1,8 +1,12 @@
-use Rattle.std.proofs.Common.{◌≡◌, ℕ, ◌++◌, slice_get}
-use Rattle.shuffle_parts.specs.Outs.{all_passed, or_none}
+use Rattle.std.proofs.Common.{◌≡◌, ℕ, List, Some, slice_get}
+use Rattle.flume_value.specs.declared.value.Value.{Value}
+use Rattle.shuffle_parts.specs.Outs.{all_passed, passed_at}
+use Rattle.shuffle_parts.proofs.Finding.{ComesTo}
+use Rattle.stage_results.specs.inner.Channels.{or_none}
 use Rattle.stage_results.proofs.passed.passed_lists.Given as goal
 
 abbrev pub invariant-loop-out : goal.invariant-loop-out
 invariant-loop-out l =
-    (r : ℕ) → or_none (slice_get l.lists.items r) ++ all_passed l.out-iterator.rest.items r
-    ≡ all_passed l.fn.outs.items r
+    (r : ℕ) (whole : List Value) → all_passed l.fn.outs.items r ≡ Some whole
+    → ComesTo (passed_at r) l.out-iterator.rest.items (Some whole)
+    (or_none (slice_get l.lists.items r))

@@ -40,11 +40,15 @@ returns-clause-ran g c =
     let places = places_are c.self.invariant c.args.task below c.as_slice.result.now
     c.as_slice.ensures c.index-as_slice-channel.result c.index-as_slice-channel.is
     c.in-Group.grouping c.in-Group.is c.self.view_is in
+    let ready = task_ready c.self.invariant c.args.task below c.as_slice.result.now
+    c.as_slice.ensures c.index-as_slice-channel.result c.index-as_slice-channel.is
+    c.in-Group.grouping c.in-Group.is in
     let e = attempt_at c.args.at.now c.args.task in
     let a = account g.H.Host.notes g.H.Host.losses c.args.host.now in
     let b = account g.H.Host.notes g.H.Host.losses c.reduce_partition.new.host in
     asked_ran e (reducing_places c.args.self.now c.args.task) a b c.reduce_partition.result
-    (subst (λ n. Asked e n a b c.reduce_partition.result) places c.reduce_partition.ensures.asked)
+    (subst (λ n. Asked e n a b c.reduce_partition.result) places
+    (c.reduce_partition.ensures.asked ready.pairs ready.gathered))
 
 pub returns-clause-early : goal.returns-clause-early
 returns-clause-early g c =
@@ -52,8 +56,12 @@ returns-clause-early g c =
     let places = places_are c.self.invariant c.args.task below c.as_slice.result.now
     c.as_slice.ensures c.index-as_slice-channel.result c.index-as_slice-channel.is
     c.in-Group.grouping c.in-Group.is c.self.view_is in
+    let ready = task_ready c.self.invariant c.args.task below c.as_slice.result.now
+    c.as_slice.ensures c.index-as_slice-channel.result c.index-as_slice-channel.is
+    c.in-Group.grouping c.in-Group.is in
     let e = attempt_at c.args.at.now c.args.task in
     let a = account g.H.Host.notes g.H.Host.losses c.args.host.now in
     let b = account g.H.Host.notes g.H.Host.losses c.reduce_partition.new.host in
     asked_early e (reducing_places c.args.self.now c.args.task) a b c.reduce_partition.result
-    (subst (λ n. Asked e n a b c.reduce_partition.result) places c.reduce_partition.ensures.asked)
+    (subst (λ n. Asked e n a b c.reduce_partition.result) places
+    (c.reduce_partition.ensures.asked ready.pairs ready.gathered))

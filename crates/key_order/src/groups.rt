@@ -1,0 +1,67 @@
+// The groups of pairs that are referred to, by a sort of numbers.
+ghost use Rattle.std.specs.Prelude.{◌≡◌, All, IfOk, Some, map};
+ghost use Rattle.std.specs.List.Sorted.{IsSorted};
+ghost use Rattle.flume_value.specs.Order.{value_cmp};
+ghost use Rattle.bag_groups.specs.Pairs.{IsPair, pair as pair_of};
+ghost use Rattle.bag_groups.specs.Groups.{grouped};
+ghost use Rattle.bag_groups.specs.inner.Runs.{IsLastRun, held_by};
+
+use crate::sorting::ascending;
+use bag_groups::{key, pair, value};
+use flume_value::{Items, Pile, Value, equals};
+use std::alloc::{AllocError, Global};
+
+/// One pair for each key of the pairs that are referred to, keys ascending: the key and the list
+/// of its values, ascending. It sorts the references, each beside the number of its pair's key, and
+/// copies each value once and one key of each run.
+pub fn group_numbered(alloc: Global, pairs: Vec<&Value>) -> Result<Vec<Value>, AllocError>
+    requires { All (λ pair. IsPair pair.now) pairs.items }
+    ensures groups { IfOk result (λ groups.
+        groups.items ≡ grouped (map (λ pair. pair.now) pairs.entry.items)) }
+    ensures ascending { IfOk result (λ groups. IsSorted value_cmp groups.items) }
+{
+    let mut left = ascending(alloc, pairs)?;
+    let mut groups = Vec::new(alloc);
+    'runs: while !left.is_empty() {
+        let last = key(left[left.len() - 1]);
+        let start = run_start(last, &left);
+        groups.push(group_of_run(alloc, last, &left[start..])?)?;
+        left.truncate(start);
+    }
+    groups.reverse();
+    Ok(groups)
+}
+
+/// Where the pairs of this key begin, which stand at the end.
+fn run_start(wanted: &Value, pairs: &[&Value]) -> usize
+    requires { All (λ pair. IsPair pair.now) pairs.now }
+    ensures { IsLastRun (Some wanted.now) (map (λ pair. pair.now) pairs.now) result }
+{
+    let mut start = pairs.len();
+    while start > 0 && equals(key(pairs[start - 1]), wanted) {
+        start -= 1;
+    }
+    start
+}
+
+/// The pair of a key and the list of the values of its pairs.
+fn group_of_run(alloc: Global, key: &Value, run: &[&Value]) -> Result<Value, AllocError>
+    requires { All (λ pair. IsPair pair.now) run.now }
+    ensures { IfOk result (λ group. group
+        ≡ pair_of key.now (Value.List (held_by (map (λ pair. pair.now) run.now)))) }
+{
+    let values = Value::List(values_of(alloc, run)?);
+    pair(alloc, key.copy(alloc)?, values)
+}
+
+/// Copies of the values of these pairs.
+fn values_of(alloc: Global, pairs: &[&Value]) -> Result<Items, AllocError>
+    requires { All (λ pair. IsPair pair.now) pairs.now }
+    ensures { IfOk result (λ values. values ≡ held_by (map (λ pair. pair.now) pairs.now)) }
+{
+    let mut values = Vec::with_capacity(alloc, pairs.len())?;
+    for pair in pairs {
+        values.push(value(pair).copy(alloc)?)?;
+    }
+    Ok(Pile::from_vec(values))
+}

@@ -1,0 +1,122 @@
+-- What a call asks hosts for, by what comes of it.
+use Rattle.std.proofs.Common.{◌≡◌, ℕ, zero, suc, inl, inr, List, [], ◌∷◌, drop, map, Result, Ok, Err, IfErr, refl, sym, ap, ◌∙◌, subst}
+use Rattle.command_words.specs.declared.words.Command.{Command}
+use Rattle.command_words.specs.declared.words.Command.TheVariants.{Run}
+use Rattle.crew.specs.Hosts.{Account}
+use Rattle.direct_meaning.specs.Inputs.{inputs_of}
+use Rattle.exec_plan.specs.declared.plan.Plan.{Plan}
+use Rattle.flume_value.specs.declared.value.Value.{Value}
+use Rattle.outside.specs.Seen.{Seen, SeenShelf}
+use Rattle.outside.specs.declared.file.File.{File as NamedBytes}
+use Rattle.run_settings.specs.Settings.{RunSettings}
+use Rattle.run_texts.specs.declared.status.Status.{Status}
+use Rattle.run_texts.specs.declared.status.Status.TheVariants.{Done, GaveUp, Usage, ScriptRefused, InputRefused, Trap, ReadFault, WriteFault, WantOfMemory, TooLong, NoFile}
+use Rattle.script_loading.specs.Loads.{AllHaveRows}
+use Rattle.script_plans.specs.Plans.{IsScriptPlan}
+use Rattle.script_program.specs.Script.{Script}
+use Rattle.script_run.specs.Runs.{AsksSomePhases, phases_of}
+use Rattle.run_course.specs.Asked.{Reads}
+use Rattle.run_course.specs.Hosts.{AsksHosts, AsksInRun, MayHaveRun}
+use Rattle.run_course.specs.Lent.{lent}
+use Rattle.run_course.specs.declared.stop.Stop.{Stop}
+use Rattle.run_course.specs.declared.stop.Stop.TheVariants as stop
+use Rattle.run_course.specs.inner.Course.{AsksHostsInCall, AsksHostsUntil, Delivers, IsRunStop, MayHaveCome}
+use Rattle.run_course.proofs.CauseLemmas.{IsAt, reads}
+use Rattle.run_course.proofs.ReadLemmas.{Told, Words}
+
+-- ---- a run
+
+dropped_map : {A B : Type 0} (f : A → B) (n : ℕ) (xs : List A)
+    → drop n (map f xs) ≡ map f (drop n xs)
+dropped_map f zero xs = refl
+dropped_map f (suc n) [] = refl
+dropped_map f (suc n) (x ∷ xs) = dropped_map f n xs
+
+-- hosts that are as before have the accounts that they had
+pub others_as : {A : Type 0} (f : A → Account) (n : ℕ) (xs ys : List A) → drop n ys ≡ drop n xs
+    → drop n (map f ys) ≡ drop n (map f xs)
+others_as f n xs ys same =
+    dropped_map f n ys ∙ (ap (map f) same ∙ sym (dropped_map f n xs))
+
+module _ (s : RunSettings) (script : Script) (rows : List (List Value)) (plan : Plan)
+    (olds news : List Account) where
+  may_stop : {T : Type 0} (r : Result T Stop) → IfErr r (IsRunStop s script rows plan olds news)
+      → MayHaveCome r
+  may_stop (Ok it) stops = tt
+  may_stop (Err (stop.Trapped trap)) stops = tt
+  may_stop (Err (stop.Refused status)) (inl memory) =
+      subst (λ (it : Status). MayHaveRun it) (sym memory) tt
+  may_stop (Err (stop.Refused status)) (inr up) =
+      subst (λ (it : Status). MayHaveRun it) (sym up.3) tt
+
+pub run_asks : {T : Type 0} (s : RunSettings) (told : Told) (olds news : List Account)
+    (script : Script) (rows : List (List Value)) (plan : Plan) (r : Result T Stop)
+    → AllHaveRows told (inputs_of script) rows → IsScriptPlan script plan
+    → IfErr r (IsRunStop s script rows plan (lent s olds) (lent s news))
+    → AsksSomePhases s (phases_of s script rows plan) (lent s olds) (lent s news)
+    → drop s.workers news ≡ drop s.workers olds
+    → AsksHostsUntil (Run s) told script olds news r
+run_asks s told olds news script rows plan r have is stops asked others =
+    inr (
+      may_stop s script rows plan (lent s olds) (lent s news) r stops,
+      (
+        s,
+        refl,
+        record {
+          rows = rows;
+          plan = plan;
+          inputs = have;
+          is = is;
+          asked = asked;
+          others = others;
+        },
+      ),
+    )
+
+-- ---- a call
+
+pub call_asks : {T : Type 0} (words : Words) (told middle : Told) (command : Command)
+    (name : List ℕ) (script : Script) (olds news : List Account)
+    → IsAt words told command name script → middle ≡ told → (r : Result T Stop)
+    → AsksHostsUntil command middle script olds news r → AsksHostsInCall words told olds news r
+call_asks words told middle command name script olds news at same r (inl none) = inl none
+call_asks words told middle command name script olds news at same r (inr it) =
+    let run = it.1 in
+    inr (
+      it.0,
+      (
+        run.0,
+        script,
+        subst (λ (c : Command). Reads words told c script) run.1
+            (reads words told command name script at),
+        subst (λ (t : Told). AsksInRun run.0 t script olds news) same run.2,
+      ),
+    )
+
+-- what came to its writing may have run
+may_deliver : (files : List NamedBytes) (text : List ℕ) (shelf shelf' : SeenShelf)
+    (screen screen' : Seen (List ℕ)) (status : Status)
+    → Delivers files text shelf shelf' screen screen' status → MayHaveRun status
+may_deliver files text shelf shelf' screen screen' Done is = tt
+may_deliver files text shelf shelf' screen screen' (WriteFault place) is = tt
+may_deliver files text shelf shelf' screen screen' Usage is = absurd is
+may_deliver files text shelf shelf' screen screen' (ScriptRefused line kind) is = absurd is
+may_deliver files text shelf shelf' screen screen' (InputRefused name row column kind) is =
+    absurd is
+may_deliver files text shelf shelf' screen screen' (Trap origin kind element) is = tt
+may_deliver files text shelf shelf' screen screen' (ReadFault name) is = absurd is
+may_deliver files text shelf shelf' screen screen' (GaveUp stage phase task) is = tt
+may_deliver files text shelf shelf' screen screen' WantOfMemory is = tt
+may_deliver files text shelf shelf' screen screen' (TooLong name limit) is = absurd is
+may_deliver files text shelf shelf' screen screen' (NoFile name) is = absurd is
+
+pub delivered_asks : {T : Type 0} (words : Words) (told : Told) (olds news : List Account)
+    (files : List NamedBytes) (text : List ℕ) (shelf shelf' : SeenShelf)
+    (screen screen' : Seen (List ℕ)) (status : Status) (it : T)
+    → Delivers files text shelf shelf' screen screen' status
+    → AsksHostsInCall {T = T} words told olds news (Ok it)
+    → AsksHosts words told olds news status
+delivered_asks words told olds news files text shelf shelf' screen screen' status it is (inl none) =
+    inl none
+delivered_asks words told olds news files text shelf shelf' screen screen' status it is (inr run) =
+    inr (may_deliver files text shelf shelf' screen screen' status is, run.1)

@@ -1,0 +1,9 @@
+use Rattle.direct_meaning.specs.Inputs.{inputs_of}
+use Rattle.script_loading.proofs.InputLemmas.{typed_rows}
+use Rattle.script_loading.proofs.laws.inputs_law.Goals as goal
+
+pub returns : goal.returns
+returns c = record {
+  typed = λ told script rows all.
+      typed_rows told c.rows_law.ensures.typed (inputs_of script) rows all;
+}
