@@ -1,8 +1,8 @@
 -- The marks of a whole graph.
-use Rattle.std.proofs.Common.{◌≡◌, ℕ, Bool, true, false, cond, ◌&&◌, ◌||◌, ◌⊎◌, inl, inr, List, [], ◌∷◌, refl, sym, ap, ◌∙◌, subst}
+use Rattle.std.proofs.Common.{◌≡◌, ℕ, Bool, true, false, cond, ◌&&◌, ◌||◌, ◌⊎◌, inl, inr, List, [], ◌∷◌, ◌++◌, Option, Some, None, append-nil, append_assoc, refl, sym, ap, ◌∙◌, subst}
 use Rattle.std.proofs.lemmas.Bool.{false≢true}
 use Rattle.std.specs.List.{AllByRecursion, list_any}
-use Rattle.flume_value.proofs.EachLemmas.{Each-append, Each-right}
+use Rattle.flume_value.proofs.EachLemmas.{Each-append, Each-right, Each-weaker}
 use Rattle.exec_graph.specs.Meaning.{IsThere, node_at, place, reads}
 use Rattle.exec_graph.specs.Readers.{among, same_place}
 use Rattle.exec_graph.specs.Wellformed.{IsBlockedOk, IsGraphOk, is_lifted}
@@ -11,10 +11,11 @@ use Rattle.exec_graph.specs.declared.graph.Node.{Node}
 use Rattle.exec_graph.specs.declared.graph.Node.TheVariants.{Source, Flatten, Pdo, Gbk, Barrier}
 use Rattle.exec_graph.specs.declared.graph.Entry.{Entry}
 use Rattle.exec_graph.specs.declared.graph.Graph.{Graph}
+use Rattle.exec_graph.specs.declared.graph.Blocked.{Blocked}
 use Rattle.exec_graph.proofs.Bools.{or_else, or_left, or_right}
 use Rattle.exec_graph.proofs.Entries.{all_found}
 use Rattle.exec_graph.proofs.Soundness.{IsSound-ok}
-use Rattle.fusion_blocks.specs.Blocks.{IsBlocked, IsMarkOf}
+use Rattle.fusion_blocks.specs.Blocks.{CanMark, IsBlocked, IsMarkOf, MarksLead, takes_mark, unmarked, with_mark}
 use Rattle.fusion_blocks.specs.Chains.{IsChain, group, lifted, then}
 use Rattle.fusion_blocks.specs.Feeding.{feeds, feeds_by, flattens, groups, is_grouped}
 use Rattle.fusion_blocks.specs.inner.Stretches.{AreMarks, MarkedBy, MarkedFrom, fed}
@@ -97,7 +98,7 @@ from_among es m c d (b ∷ cs) h w =
     (λ q. inl (subst (λ (x : Place). IsMarkOf es m x d) (same_is c b q) w))
     (λ q. inr (from_among es m c d cs q w))
 
-record OneOf (es : List Entry) (m : ℕ → ℕ) (P : Place → Bool) (d : Place) : Type 0 where
+pub record OneOf (es : List Entry) (m : ℕ → ℕ) (P : Place → Bool) (d : Place) : Type 0 where
   pub output : Place
   pub is : P output ≡ true
   pub mark : IsMarkOf es m output d
@@ -164,17 +165,26 @@ blocked_by scales g marks w = record {
 -- ---- marks are there, and none is of a lifted Gbk
 
 abbrev IsMarkable : List Entry → Place → Type 0
-IsMarkable es d = IsThere es d × (is_lifted (node_at es d.node) ≡ false)
+IsMarkable es d = IsThere es d × (takes_mark (node_at es d.node) ≡ true)
+
+not_lifted : (o : Option Node) → takes_mark o ≡ true → is_lifted o ≡ false
+not_lifted None h = refl
+not_lifted (Some (Source r)) h = refl
+not_lifted (Some (Flatten ins)) h = refl
+not_lifted (Some (Pdo c f)) h = refl
+not_lifted (Some (Gbk c o l None)) h = refl
+not_lifted (Some (Gbk c o l (Some k))) h = absurd (false≢true h)
+not_lifted (Some (Barrier ins o l a)) h = refl
 
 chain_markable : (es : List Entry) (c : Place) (cs : List Place) → AllThere es → IsChain es c cs
     → IsThere es c → AllByRecursion (IsMarkable es) cs
-chain_markable es c cs t (group h) i = ((i, ap is_lifted h), tt)
+chain_markable es c cs t (group h) i = ((i, ap takes_mark h), tt)
 chain_markable es c cs t (lifted h) i = tt
 chain_markable es c cs t (then {d = d} {f = f} {cs = us} h b) i =
     let reads_there : AllByRecursion (IsThere es) (d ∷ []) =
     all_found (λ e. AllByRecursion (IsThere es) (reads e.node)) es c.node (Pdo d f) h t in
     Each-append (IsMarkable es) us (c ∷ [])
-    (chain_markable es d us t b reads_there.0) ((i, ap is_lifted h), tt)
+    (chain_markable es d us t b reads_there.0) ((i, ap takes_mark h), tt)
 
 mark_markable : (es : List Entry) (m : ℕ → ℕ) (d : Place) → AllThere es → OneOf es m (feeds es) d
     → IsMarkable es d
@@ -185,14 +195,69 @@ mark_markable es m d t w =
     (Each-right (IsMarkable es) k.marked.before (d ∷ k.marked.after)
     (subst (AllByRecursion (IsMarkable es)) k.marked.parts all)).0
 
+-- what is marked by chains can be marked
+pub marks_can : (g : Graph) (m : ℕ → ℕ) (marks : List Place) → IsGraphOk g
+    → ((d : Place) → among d marks ≡ true → OneOf g.nodes m (feeds g.nodes) d)
+    → AllByRecursion (CanMark g) marks
+marks_can g m marks ok f =
+    all_among (CanMark g) marks (λ d h.
+    let k = mark_markable g.nodes m d ok.founded.there (f d h) in
+    record { there = k.0; kind = k.1 })
+
+pub can_ok : (g : Graph) (marks : List Place) → IsGraphOk g → AllByRecursion (CanMark g) marks
+    → IsBlockedOk (record { graph = g; marks = marks })
+can_ok g marks ok a = record {
+  ok = ok;
+  marked = Each-weaker (CanMark g) (IsThere g.nodes) (λ d k. k.there) marks a;
+  unlifted = Each-weaker (CanMark g) (λ d. is_lifted (node_at g.nodes d.node) ≡ false)
+      (λ d k. not_lifted (node_at g.nodes d.node) k.kind) marks a;
+}
+
 pub blocked_ok : (scales : List ℕ) (g : Graph) (marks : List Place) → IsGraphOk g
     → AreMarks scales g.nodes marks → IsBlockedOk (record { graph = g; marks = marks })
 blocked_ok scales g marks ok w =
-    let t = ok.founded.there in record {
-      ok = ok;
-      marked = all_among (IsThere g.nodes) marks (λ d h. (mark_markable g.nodes w.estimates d t
-          (from_marked scales g.nodes marks w d h)).0);
-      unlifted = all_among (λ d. is_lifted (node_at g.nodes d.node) ≡ false) marks
-          (λ d h. (mark_markable g.nodes w.estimates d t
-          (from_marked scales g.nodes marks w d h)).1);
-    }
+    can_ok g marks ok
+    (marks_can g w.estimates marks ok (from_marked scales g.nodes marks w))
+
+-- ---- one mark after another
+
+pub blocked_can : (scales : List ℕ) (b : Blocked) → IsGraphOk b.graph → IsBlocked scales b
+    → AllByRecursion (CanMark b.graph) b.marks
+blocked_can scales b ok w =
+    marks_can b.graph w.estimates b.marks ok (λ d h.
+    let k = (w.marks d).0 h in record { output = k.output; is = k.fed; mark = k.mark })
+
+lead_from : (g : Graph) (old cs : List Place) → AllByRecursion (CanMark g) cs
+    → MarksLead cs (record { graph = g; marks = old })
+    (record { graph = g; marks = old ++ cs })
+lead_from g old [] a =
+    ap (λ (l : List Place). let b : Blocked = record { graph = g; marks = l } in b)
+    (sym (append-nil old))
+lead_from g old (c ∷ cs) a = (
+  a.0,
+  subst (λ (l : List Place). MarksLead cs (record { graph = g; marks = old ++ c ∷ [] })
+      (record { graph = g; marks = l })) (append_assoc old (c ∷ []) cs)
+      (lead_from g (old ++ c ∷ []) cs a.1),
+)
+
+pub marks_lead : (scales : List ℕ) (b : Blocked) → IsGraphOk b.graph → IsBlocked scales b
+    → MarksLead b.marks (unmarked b.graph) b
+marks_lead scales b ok w = lead_from b.graph [] b.marks (blocked_can scales b ok w)
+
+pub mark_ok : (b : Blocked) (c : Place) → IsBlockedOk b → CanMark b.graph c
+    → IsBlockedOk (with_mark b c)
+mark_ok b c ok can = record {
+  ok = ok.ok;
+  marked = Each-append (IsThere b.graph.nodes) b.marks (c ∷ []) ok.marked (can.there, tt);
+  unlifted = Each-append (λ d. is_lifted (node_at b.graph.nodes d.node) ≡ false) b.marks (c ∷ [])
+      ok.unlifted (not_lifted (node_at b.graph.nodes c.node) can.kind, tt);
+}
+
+pub lead_ok : (cs : List Place) (a b : Blocked) → IsBlockedOk a → MarksLead cs a b
+    → IsBlockedOk b
+lead_ok [] a b ok l = subst IsBlockedOk l ok
+lead_ok (c ∷ cs) a b ok l = lead_ok cs (with_mark a c) b (mark_ok a c ok l.0) l.1
+
+pub lead_same : (cs : List Place) (a b : Blocked) → MarksLead cs a b → b.graph ≡ a.graph
+lead_same [] a b l = ap (λ (x : Blocked). x.graph) (sym l)
+lead_same (c ∷ cs) a b l = lead_same cs (with_mark a c) b l.1
