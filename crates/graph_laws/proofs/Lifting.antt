@@ -28,7 +28,7 @@ use Rattle.exec_graph.specs.declared.graph.Graph.{Graph}
 use Rattle.flume_value.proofs.EachLemmas.{Each-weaker}
 
 -- ---- what does not see a mark
-reads-marked : (h : Option Comb → Option Comb) (x : Node) → reads (marked h x) ≡ reads x
+pub reads-marked : (h : Option Comb → Option Comb) (x : Node) → reads (marked h x) ≡ reads x
 reads-marked h (Source r) = refl
 reads-marked h (Flatten ins) = refl
 reads-marked h (Pdo c f) = refl
@@ -73,7 +73,7 @@ size-marked h (Pdo c f) = refl
 size-marked h (Gbk c o l k) = refl
 size-marked h (Barrier ins o l a) = refl
 
-calls-marked : (c : Place) (h : Option Comb → Option Comb) (x : Node)
+pub calls-marked : (c : Place) (h : Option Comb → Option Comb) (x : Node)
     → calls_on c (marked h x) ≡ calls_on c x
 calls-marked c h (Source r) = refl
 calls-marked c h (Flatten ins) = refl
@@ -81,7 +81,7 @@ calls-marked c h (Pdo d f) = refl
 calls-marked c h (Gbk d o l k) = refl
 calls-marked c h (Barrier ins o l a) = refl
 
-collects-marked : (c : Place) (h : Option Comb → Option Comb) (x : Node)
+pub collects-marked : (c : Place) (h : Option Comb → Option Comb) (x : Node)
     → collects c (marked h x) ≡ collects c x
 collects-marked c h (Source r) = refl
 collects-marked c h (Flatten ins) = refl
@@ -106,11 +106,11 @@ object-marked h (Gbk d o l i) = refl
 object-marked h (Barrier ins o l a) = refl
 
 -- ---- lists of nodes
-abbrev marked_at : (Option Comb → Option Comb) → Option Node → Option Node
+abbrev pub marked_at : (Option Comb → Option Comb) → Option Node → Option Node
 marked_at h None = None
 marked_at h (Some x) = Some (marked h x)
 
-node_at-marked : (s : ℕ → Option Comb → Option Comb) (es : List Entry) (n : ℕ)
+pub node_at-marked : (s : ℕ → Option Comb → Option Comb) (es : List Entry) (n : ℕ)
     → node_at (map (marked_entry s) es) n ≡ marked_at (s n) (node_at es n)
 node_at-marked s [] n = refl
 node_at-marked s (e ∷ es) n = by (node_at-marked s es n) (eqb e.number n) refl
@@ -122,13 +122,13 @@ node_at-marked s (e ∷ es) n = by (node_at-marked s es n) (eqb e.number n) refl
     by f true i = ap (λ (k : ℕ). Some (marked (s k) e.node)) (eqb-true e.number n i)
     by f false i = f
 
-any-marked : (t : Node → Bool) → ((h : Option Comb → Option Comb) (x : Node) → t (marked h x) ≡ t x)
+pub any-marked : (t : Node → Bool) → ((h : Option Comb → Option Comb) (x : Node) → t (marked h x) ≡ t x)
     → (s : ℕ → Option Comb → Option Comb) (es : List Entry)
     → any_node t (map (marked_entry s) es) ≡ any_node t es
 any-marked t h s [] = refl
 any-marked t h s (e ∷ es) = let i = any-marked t h s es in let j = h (s e.number) e.node in cc
 
-those-marked : (t : Node → Bool) → ((h : Option Comb → Option Comb) (x : Node)
+pub those-marked : (t : Node → Bool) → ((h : Option Comb → Option Comb) (x : Node)
     → t (marked h x) ≡ t x) → (s : ℕ → Option Comb → Option Comb) (es : List Entry)
     → those t (map (marked_entry s) es) ≡ those t es
 those-marked t h s [] = refl
@@ -158,12 +158,12 @@ gives_at-marked : (h : Option Comb → Option Comb) (o : Option Node) (j : ℕ)
 gives_at-marked h None j = refl
 gives_at-marked h (Some x) j = gives-marked h x j
 
-root_at-marked : (h : Option Comb → Option Comb) (o : Option Node)
+pub root_at-marked : (h : Option Comb → Option Comb) (o : Option Node)
     → comb_at (marked_at h o) ≡ comb_at o
 root_at-marked h None = refl
 root_at-marked h (Some x) = root-marked h x
 
-there-marked : (s : ℕ → Option Comb → Option Comb) (es : List Entry) (c : Place) → IsThere es c
+pub there-marked : (s : ℕ → Option Comb → Option Comb) (es : List Entry) (c : Place) → IsThere es c
     → IsThere (map (marked_entry s) es) c
 there-marked s es c t = ap (λ (o : Option Node). gives_at o c.out) (node_at-marked s es c.node)
     ∙ gives_at-marked (s c.node) (node_at es c.node) c.out ∙ t

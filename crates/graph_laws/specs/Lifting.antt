@@ -1,9 +1,10 @@
 -- Lifting: a Gbk whose only reader is one CombineValues is marked with its combiner.
-use Rattle.std.specs.Prelude.{ℕ, ◌==◌, cond, List, [], ◌∷◌, map, Option, None}
+use Rattle.std.specs.Prelude.{◌≡◌, ℕ, ◌==◌, Bool, cond, List, [], ◌∷◌, map, Option, Some, None}
 use Rattle.combine_table.specs.declared.comb.Comb.{Comb}
 use Rattle.exec_graph.specs.Wellformed.{comb_at}
 use Rattle.exec_graph.specs.Meaning.{place, node_at}
 use Rattle.exec_graph.specs.Readers.{among, any_node, collects, readers}
+use Rattle.exec_graph.specs.declared.graph.Place.{Place}
 use Rattle.exec_graph.specs.declared.graph.Node.{Node}
 use Rattle.exec_graph.specs.declared.graph.Node.TheVariants.{Source, Flatten, Pdo, Gbk, Barrier}
 use Rattle.exec_graph.specs.declared.graph.Entry.{Entry}
@@ -51,3 +52,20 @@ lifted g = remarked (λ n k. lift_of g n) g
 -- the Gbk n is lifted, if it may be
 abbrev pub lifted_at : ℕ → Graph → Graph
 lifted_at n g = remarked (λ m k. cond (m == n) (lift_of g n) k) g
+
+-- ---- one after another
+
+-- the node n is a Gbk, and may be lifted
+pub record CanLift (g : Graph) (n : ℕ) : Type 0 where
+  pub input : Place
+  pub origin : ℕ
+  pub last : Bool
+  pub mark : Option Comb
+  pub gbk : node_at g.nodes n ≡ Some (Gbk input origin last mark)
+  pub comb : Comb
+  pub may : lift_of g n ≡ Some comb
+
+-- Gbks are lifted one after another, each of which may be
+abbrev pub LiftsLead : List ℕ → Graph → Graph → Type 0
+LiftsLead [] g h = g ≡ h
+LiftsLead (n ∷ ns) g h = CanLift g n × LiftsLead ns (lifted_at n g) h
