@@ -3,6 +3,7 @@ use Rattle.std.proofs.Common.{◌≡◌, ℕ, ◌<◌, ◌≤◌, Bool, true, fa
 use Rattle.std.proofs.lemmas.Bool.{eqb-true, eq-eqb, false≢true}
 use Rattle.std.specs.List.{AllByRecursion as Each, list_any}
 use Rattle.flume_value.proofs.BoolLemmas.{both_true}
+use Rattle.exec_graph.specs.Meaning.{node_at}
 use Rattle.exec_graph.specs.Wellformed.{HaveObjects}
 use Rattle.exec_graph.specs.declared.graph.Place.{Place}
 use Rattle.exec_graph.specs.declared.graph.Node.{Node}
@@ -16,7 +17,7 @@ use Rattle.plan_laws.specs.Operations.{times}
 use Rattle.plan_laws.proofs.Running.{place_same}
 use Rattle.plan_roles.specs.Levels.{level}
 use Rattle.plan_rules.specs.Fitting.{same_key}
-use Rattle.form_laws.specs.Classes.{AreClasses, IsChain, IsGbk, IsGbkAt, IsLinked, IsShared, has_same, keys_of, members, related}
+use Rattle.form_laws.specs.Classes.{AreClasses, IsChain, IsGbk, IsGbkAt, IsLinked, IsShared, has_same, keys_at, keys_of, members, related}
 use Rattle.form_laws.proofs.Basics.{all_at, counts_head, in_either, times_append}
 use Rattle.form_laws.proofs.Reading.{is_gbk}
 
@@ -103,6 +104,22 @@ node_gbk (Pdo c f) h = absurd (false≢true h)
 node_gbk (Gbk c o l k) h = tt
 node_gbk (Barrier ins o l a) h = absurd (false≢true h)
 
+-- what is related is a Gbk
+any_gbk : (b : Blocked) (n : ℕ) (f : Key → Bool) (o : Option Node)
+    → list_any f (keys_at b n o) ≡ true → IsGbkAt o
+any_gbk b n f None h = absurd (false≢true h)
+any_gbk b n f (Some (Source r)) h = absurd (false≢true h)
+any_gbk b n f (Some (Flatten ins)) h = absurd (false≢true h)
+any_gbk b n f (Some (Pdo c t)) h = absurd (false≢true h)
+any_gbk b n f (Some (Gbk c o l k)) h = tt
+any_gbk b n f (Some (Barrier ins o l a)) h = absurd (false≢true h)
+
+pub related_gbk : (b : Blocked) (n k : ℕ) → related b n k ≡ true → IsGbk b k
+related_gbk b n k h =
+    any_gbk b k (has_same (keys_of b n)) (node_at b.graph.nodes k)
+    (both_true (eqb (level b.graph.nodes n) (level b.graph.nodes k))
+    (list_any (has_same (keys_of b n)) (keys_of b k)) h).1
+
 -- ---- members
 pub each_counted : (P : ℕ → Type 0) (ns : List ℕ) → ((n : ℕ) → 0 < times n ns → P n) → Each P ns
 each_counted P [] f = tt
@@ -112,7 +129,7 @@ each_counted P (n ∷ ns) f = (
 )
 
 -- what holds of each class that stands among those of cs
-each_class : (P : List ℕ → Type 0) (cs : List (List ℕ))
+pub each_class : (P : List ℕ → Type 0) (cs : List (List ℕ))
     → ((c : List ℕ) → ((n : ℕ) → 0 < times n c → 0 < times n (members cs))
     → ((n k : ℕ) → 0 < times n c → 0 < times k c → IsShared n k cs) → P c) → Each P cs
 each_class P [] f = tt

@@ -22,12 +22,13 @@ use Rattle.plan_roles.specs.Mappers.{is_mapper, is_reducer, is_stage, maps_at, r
 use Rattle.form_laws.specs.declared.ranked.Ranked.{Ranked}
 use Rattle.form_laws.specs.Classes.{IsGbk, IsGbkAt, has_same, keys_of, members}
 use Rattle.form_laws.specs.Operations.{all_alone, alone, alone_of, class_keys, class_ranked, barrier_ranked, operations, trivial}
+use Rattle.form_laws.specs.Order.{Among}
 use Rattle.form_laws.proofs.Basics.{one_among, times_append}
 use Rattle.form_laws.proofs.Classing.{AreParts, each_counted, gbk_node, member_gbk, node_gbk}
 use Rattle.form_laws.proofs.Keying.{class_mapper, classes_runs, keys_times, no_keys, one_key, reducers}
 use Rattle.form_laws.proofs.Meeting.{reducer_found}
 use Rattle.form_laws.proofs.Ordering.{runs_of}
-use Rattle.form_laws.proofs.Providing.{Among, KeyIn, maps_in}
+use Rattle.form_laws.proofs.Providing.{KeyIn, maps_in}
 use Rattle.form_laws.proofs.Serving.{reduces_one}
 use Rattle.form_laws.proofs.Reading.{reducer_ok, reducer_only}
 

@@ -20,12 +20,11 @@ use Rattle.form_laws.specs.declared.ranked.Ranked.{Ranked}
 use Rattle.form_laws.specs.Classes.{IsGbk}
 use Rattle.form_laws.specs.Formed.{AreFormed, in_order}
 use Rattle.form_laws.specs.Operations.{all_alone, alone, alone_of, class_operation, class_ranked, operations, trivial}
-use Rattle.form_laws.specs.Order.{Picked, ordered, ordered_by, pick}
+use Rattle.form_laws.specs.Order.{Among, Picked, ordered, ordered_by, pick}
 use Rattle.form_laws.proofs.Classing.{AreParts, classes_part}
 use Rattle.form_laws.proofs.Counting.{runs_once}
 use Rattle.form_laws.proofs.Ordering.{pick_ok}
 use Rattle.form_laws.proofs.Progress.{all_alone_so}
-use Rattle.form_laws.proofs.Providing.{Among}
 use Rattle.form_laws.proofs.Settling.{among_all, formed_ordered, formed_told}
 use Rattle.form_laws.proofs.Standing.{class_honest, barrier_honest, trivial_honest}
 

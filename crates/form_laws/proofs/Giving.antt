@@ -26,12 +26,12 @@ use Rattle.plan_roles.specs.Reading.{goes_on}
 use Rattle.plan_roles.specs.Mappers.{is_mapper, is_reducer, is_stage, maps_at}
 use Rattle.form_laws.specs.declared.ranked.Ranked.{Ranked}
 use Rattle.form_laws.specs.Operations.{alone, barrier_rank, barrier_ranked, operations}
+use Rattle.form_laws.specs.Order.{Among}
 use Rattle.form_laws.proofs.Basics.{one_among}
 use Rattle.form_laws.proofs.Classing.{AreParts}
 use Rattle.form_laws.proofs.Leveling.{levels_at}
 use Rattle.form_laws.proofs.Measuring.{below, below_from, lower_rank, measure, same_rank}
 use Rattle.form_laws.proofs.Meeting.{NotFlat, flat_met, barrier_met, not_flat, pdo_met, whole_met, whole_reader}
-use Rattle.form_laws.proofs.Providing.{Among}
 use Rattle.form_laws.proofs.Serving.{Served, ends_at, is_end, provide}
 use Rattle.form_laws.proofs.Reading.{is_gbk, mapper_flat, mapper_unread, mapper_whole, read_on}
 

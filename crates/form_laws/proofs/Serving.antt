@@ -23,12 +23,13 @@ use Rattle.plan_roles.specs.Reading.{goes_on}
 use Rattle.plan_roles.specs.Mappers.{is_mapper, is_reducer, is_stage, outputs_of, passes, reducer_of, reduces}
 use Rattle.form_laws.specs.declared.ranked.Ranked.{Ranked}
 use Rattle.form_laws.specs.Operations.{all_alone, alone, class_keys, class_level, class_operation, class_ranked, grouped, key_passes, barrier_ranked, operations, passes_at, trivial}
+use Rattle.form_laws.specs.Order.{Among}
 use Rattle.form_laws.proofs.Basics.{any_at, in_filter, in_left, in_right}
 use Rattle.form_laws.proofs.Classing.{AreParts}
 use Rattle.form_laws.proofs.Leveling.{levels_at}
 use Rattle.form_laws.proofs.Meeting.{IsMet, is_some_of}
 use Rattle.form_laws.proofs.Reading.{is_flatten, is_gbk, out_in, reducer_ok}
-use Rattle.form_laws.proofs.Providing.{Among, ClassOf, alone_in, among_left, among_right, class_gives, class_of, maps_in, passes_in}
+use Rattle.form_laws.proofs.Providing.{ClassOf, alone_in, among_left, among_right, class_gives, class_of, maps_in, passes_in}
 
 -- ---- who gives a collection
 -- whether the node is a Flatten

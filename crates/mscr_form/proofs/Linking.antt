@@ -1,18 +1,14 @@
 -- Gbks are linked exactly where their places are.
-use Rattle.std.proofs.Common.{◌≡◌, ◌<◌, ℕ, Bool, true, eqb, List, [], ◌∷◌, length, Option, Some, None, sym, ap, ◌∙◌, subst, inl, inr}
-use Rattle.std.proofs.lemmas.Bool.{false≢true}
+use Rattle.std.proofs.Common.{◌≡◌, ◌<◌, ℕ, true, eqb, List, [], ◌∷◌, length, sym, ap, ◌∙◌, subst, inl, inr}
 use Rattle.std.specs.List.{list_any}
 use Rattle.flume_value.proofs.BoolLemmas.{and_both, both_true}
 use Rattle.exec_graph.specs.Meaning.{AllDiffer, node_at}
-use Rattle.exec_graph.specs.declared.graph.Node.{Node}
-use Rattle.exec_graph.specs.declared.graph.Node.TheVariants.{Source, Flatten, Pdo, Gbk, Barrier}
 use Rattle.exec_graph.specs.declared.graph.Blocked.{Blocked}
-use Rattle.plan_laws.specs.declared.operations.Key.{Key}
 use Rattle.plan_roles.specs.declared.roles.Role.{Role}
 use Rattle.plan_roles.specs.Levels.{level}
 use Rattle.plan_roles.specs.Roles.{roles}
-use Rattle.form_laws.specs.Classes.{IsChain, IsGbk, IsGbkAt, IsLinked, has_same, keys_at as node_keys, keys_of, related}
-use Rattle.form_laws.proofs.Classing.{gbk_node, share_related}
+use Rattle.form_laws.specs.Classes.{IsChain, IsGbk, IsLinked, has_same, keys_of, related}
+use Rattle.form_laws.proofs.Classing.{gbk_node, related_gbk, share_related}
 use Rattle.mscr_form.specs.inner.Labels.{AreLabels, IsWay, at_key, keys_at, level_at, shares}
 use Rattle.mscr_form.proofs.Labeling.{shares_one}
 use Rattle.mscr_form.proofs.Placing.{PlaceOf, keys_placed, level_placed, number_at, one_place, place_of}
@@ -60,21 +56,6 @@ way_linked b i (j ∷ js) k d hi p =
       | inl e ↦ inr ([], subst (λ (x : ℕ). related b (number_at rs i) x ≡ true) e r)
       | inr c ↦ inr (number_at rs j ∷ c.0, (r, c.1))
     ]
-
-any_gbk : (b : Blocked) (n : ℕ) (f : Key → Bool) (o : Option Node)
-    → list_any f (node_keys b n o) ≡ true → IsGbkAt o
-any_gbk b n f None h = absurd (false≢true h)
-any_gbk b n f (Some (Source r)) h = absurd (false≢true h)
-any_gbk b n f (Some (Flatten ins)) h = absurd (false≢true h)
-any_gbk b n f (Some (Pdo c t)) h = absurd (false≢true h)
-any_gbk b n f (Some (Gbk c o l k)) h = tt
-any_gbk b n f (Some (Barrier ins o l a)) h = absurd (false≢true h)
-
-related_gbk : (b : Blocked) (n k : ℕ) → related b n k ≡ true → IsGbk b k
-related_gbk b n k h =
-    any_gbk b k (has_same (keys_of b n)) (node_at b.graph.nodes k)
-    (both_true (eqb (level b.graph.nodes n) (level b.graph.nodes k))
-    (list_any (has_same (keys_of b n)) (keys_of b k)) h).1
 
 pub gbk_place : (b : Blocked) (n : ℕ) → IsGbk b n → PlaceOf b n
 gbk_place b n g = let x = gbk_node (node_at b.graph.nodes n) g in place_of b n x.0 x.1

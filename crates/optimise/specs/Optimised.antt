@@ -38,5 +38,4 @@ source_count (e ∷ es) = source_count_at e.node + source_count es
 pub record IsOptimised (scales : List ℕ) (g : Graph) (p : Plan) : Type 0 where
   pub refined : Blocked
   pub is_refined : IsRefined scales g refined
-  pub is_formed : IsFormed refined p
-  pub sources : p.sources ≡ source_count g.nodes
+  pub is_formed : IsFormed (source_count g.nodes) refined p

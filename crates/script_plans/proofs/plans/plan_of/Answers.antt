@@ -45,4 +45,4 @@ returns-clause-object_free c =
 pub returns-clause-sources : goal.returns-clause-sources
 returns-clause-sources c =
     subst (λ (g : Graph). c.in_ok-plan.plan.sources ≡ source_count g.nodes) c.requires.built
-    c.in_ok-plan.ensures.optimised.sources ∙ sources_counted c.args.program.now.script
+    c.in_ok-plan.ensures.sources ∙ sources_counted c.args.program.now.script
