@@ -58,6 +58,18 @@ hanging b (suc k) ns =
 abbrev pub forest_over : Cut → Place → Forest
 forest_over b c = hanging b (length b.graph.nodes) (readers b.graph.nodes c)
 
+-- without levels: over an output that is fused with its readers stands the forest of that output,
+-- and over others nothing, so that the parent of a step is the step whose output it read
+abbrev pub over_out : Cut → ℕ → Option ℕ → Forest
+over_out b n None = Bare
+over_out b n (Some j) = cond (is_inner b (place n j)) (forest_over b (place n j)) Bare
+
+-- the steps that read c side by side, each with what stands over its outputs
+abbrev pub trees_over : Cut → Place → Forest
+trees_over b c =
+    in_turn (λ n rest. hung b n (over_out b n) (step_in (node_at b.graph.nodes n)) rest)
+    (readers b.graph.nodes c)
+
 -- ---- the nodes that are left
 
 abbrev pub is_first : ℕ → List ℕ → Bool
