@@ -6,10 +6,14 @@ use Rattle.exec_graph.specs.declared.graph.Graph.{Graph}
 use Rattle.exec_graph.specs.declared.graph.Node.{Node}
 use Rattle.exec_graph.specs.declared.graph.Node.TheVariants.{Source, Flatten, Pdo, Gbk, Barrier}
 use Rattle.exec_plan.specs.declared.plan.Plan.{Plan}
+use Rattle.exec_graph.specs.Wellformed.{IsGraphOk}
 use Rattle.form_laws.specs.Formed.{IsFormed}
 use Rattle.fusion_blocks.specs.Blocks.{IsBlocked}
+use Rattle.graph_bounds.specs.Sources.{AreOfKinds}
 use Rattle.graph_laws.specs.Lifting.{lifted}
+use Rattle.graph_laws.specs.Single.{HasNarrowSteps, IsUnfused}
 use Rattle.pardo_fuse.specs.Fusing.{fused}
+use Rattle.plan_rules.specs.Fitting.{HasSourcesBelow}
 use Rattle.sink_laws.specs.Chain.{IsSunk}
 
 -- The graph with its flattens sunk, then its combiners lifted, then its fusion blocks marked by the
@@ -33,6 +37,16 @@ source_count_at (Barrier ins o l a) = 0
 abbrev pub source_count : List Entry → ℕ
 source_count [] = 0
 source_count (e ∷ es) = source_count_at e.node + source_count es
+
+-- What the passes ask of a graph: that it is well-formed; that each Pdo has one step, as before
+-- fusing, of few outputs; that its sources have numbers below their count; and that sources of one
+-- number are objects, or none of them is.
+pub record CanOptimise (g : Graph) : Type 0 where
+  pub ok : IsGraphOk g
+  pub unfused : IsUnfused g
+  pub narrow : HasNarrowSteps g
+  pub sources : HasSourcesBelow (source_count g.nodes) g
+  pub kinds : AreOfKinds g
 
 -- The plan that is formed of the graph after all other passes, over as many sources as it has.
 pub record IsOptimised (scales : List ℕ) (g : Graph) (p : Plan) : Type 0 where
