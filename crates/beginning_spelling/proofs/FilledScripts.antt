@@ -1,11 +1,13 @@
 -- Bodies, operations, statements and scripts stay so with other contents.
-use Rattle.std.proofs.Common.{ℕ, ◌≤◌, List, [], ◌∷◌, ◌++◌, Option, refl, sym, subst}
+use Rattle.std.proofs.Common.{ℕ, ◌+◌, ◌≤◌, List, [], ◌∷◌, ◌++◌, Option, refl, sym, subst}
+use Rattle.flume_tokens.specs.declared.keyword.Keyword.{Keyword}
 use Rattle.flume_tokens.specs.declared.token.Token.{Token}
 use Rattle.flume_grammar.specs.declared.tree.Body.{Body}
 use Rattle.flume_grammar.specs.declared.tree.Combiner.{Combiner}
 use Rattle.flume_grammar.specs.declared.tree.Operation.{Operation}
 use Rattle.flume_grammar.specs.declared.tree.Statement.{Statement}
 use Rattle.flume_grammar.specs.Limits.{Limits}
+use Rattle.flume_grammar.specs.Parts.{Tree}
 use Rattle.flume_grammar.specs.Grammar as g
 use Rattle.beginning_spelling.proofs.Fillings.{Plan, on, Filled, FilledList, one_more}
 use Rattle.beginning_spelling.proofs.FilledTypes.{whole_type_filled}
@@ -29,10 +31,10 @@ names_filled g.one p = (on p, (p 0).word ∷ [], refl, g.one)
 names_filled (g.more {x} {xs} h) p = let (q, ms, n, j) = names_filled h p in
     (on (on q), ms ++ (q 1).word ∷ [], one_more xs ms x ((q 1).word) n, g.more j)
 
-scale_filled : {ts us : List Token} {o : Option (List ℕ)} → g.IsScale ts us o → (p : Plan)
-    → Filled (λ xs ys x. g.IsScale xs ys x) p ts us
-scale_filled g.absent p = (p, _, g.absent)
-scale_filled g.present p = (on (on p), _, g.present)
+numbered_filled : {k : Keyword} {ts us : List Token} {o : Option (List ℕ)}
+    → g.IsNumbered k ts us o → (p : Plan) → Filled (λ xs ys x. g.IsNumbered k xs ys x) p ts us
+numbered_filled g.absent p = (p, _, g.absent)
+numbered_filled g.present p = (on (on p), _, g.present)
 
 module _ (limits : Limits) where
   mutual
@@ -40,8 +42,10 @@ module _ (limits : Limits) where
         → (p : Plan) → Filled (λ xs ys x. g.IsBody limits xs ys x a) p ts us
     body_filled (g.let_ x) p =
         let (q, e, y) = expression_filled limits x (on (on (on p))) in (q, _, g.let_ y)
-    body_filled (g.emit x) p =
-        let (q, e, y) = expression_filled limits x (on p) in (q, _, g.emit y)
+    body_filled (g.emit o x) p =
+        let (q, n, z) = numbered_filled o (on p) in
+        let (r, e, y) = expression_filled limits x q in
+        (r, _, g.emit z y)
     body_filled (g.if_ x b) p =
         let (q, e, y) = expression_filled limits x (on p) in
         let (r, ss, c) = block_filled b q in
@@ -88,20 +92,32 @@ module _ (limits : Limits) where
   operation_filled g.join p = (on (on (on (on p))), _, g.join)
   operation_filled g.top p = (on (on (on p)), _, g.top)
 
+  more_types_filled : {ts us : List Token} {types : List Tree}
+      → g.AreMoreTypes limits ts us types → (p : Plan)
+      → FilledList (λ xs ys rs. g.AreMoreTypes limits xs ys rs) p ts us types
+  more_types_filled g.none_ p = (p, [], refl, g.none_)
+  more_types_filled (g.some {t} {types} h w) p =
+      let (q, rs, n, j) = more_types_filled h p in
+      let (r, s, y) = whole_type_filled limits w (on q) in
+      (r, rs ++ s ∷ [], one_more types rs t s n, g.some j y)
+
   statement_filled : {ts us : List Token} {s : Statement} → g.IsStatement limits ts us s
       → (p : Plan) → Filled (λ xs ys x. g.IsStatement limits xs ys x) p ts us
   statement_filled (g.type_ w) p =
       let (q, t, y) = whole_type_filled limits w (on (on (on p))) in (q, _, g.type_ y)
   statement_filled (g.input w) p =
       let (q, t, y) = whole_type_filled limits w (on (on (on p))) in (on (on q), _, g.input y)
-  statement_filled (g.fn_ v w c b l) p =
+  statement_filled (g.fn_ v w h i c b l) p =
       let (q, s, x) = whole_type_filled limits v (on (on (on (on (on p))))) in
       let (r, t, y) = whole_type_filled limits w (on (on q)) in
-      let (o, n, z) = scale_filled c r in
+      let (k, types, e, f) = more_types_filled h r in
+      let (o, n, z) = numbered_filled c k in
       let (m, ss, d) = block_filled b o in
-      (m, _, g.fn_ x y z d l)
-  statement_filled (g.let_ h) p =
-      let (q, o, y) = operation_filled h (on (on (on p))) in (q, _, g.let_ y)
+      (m, _, g.fn_ x y f (subst (λ j. 1 + j ≤ limits.outputs) (sym e) i) z d l)
+  statement_filled (g.let_ n h) p =
+      let (q, ms, i, x) = names_filled n (on p) in
+      let (r, o, y) = operation_filled h (on q) in
+      (r, _, g.let_ x y)
   statement_filled g.output p = (on (on (on (on p))), _, g.output)
 
   -- a script stays one

@@ -1,6 +1,6 @@
 -- The slots of a body are well typed, and emit what it emits.
 use Rattle.std.proofs.Common.{◌≡◌, ℕ, true, Option, Some, None, Ok, List, [], ◌∷◌, map, slice_get}
-use Rattle.std.proofs.Common.{refl, sym, ◌∙◌, subst, append-nil}
+use Rattle.std.proofs.Common.{length, refl, sym, ◌∙◌, subst, append-nil}
 use Rattle.flume_types.specs.declared.types.Ty.{Ty, out-Ty}
 use Rattle.flume_types.specs.declared.types.Ty.TheVariants as ty
 use Rattle.flume_types.proofs.SameLemmas.{tells_apart}
@@ -11,7 +11,6 @@ use Rattle.flume_grammar.specs.declared.tree.Body.{map-Body, ind-Body}
 use Rattle.dofn_eval.specs.declared.stmt.Stmt.{Stmt}
 use Rattle.dofn_eval.specs.declared.stmt.Stmt.TheVariants as stmt
 use Rattle.dofn_eval.specs.Outcome.{Gives, then}
-use Rattle.dofn_eval.specs.Run.{emitted_to}
 use Rattle.dofn_eval.specs.Typed as typing
 use Rattle.dofn_eval.specs.Typed.{BlockTyped}
 use Rattle.written_types.specs.Answer.{Checked, ◌>>=◌, unless, or_fault}
@@ -25,7 +24,8 @@ use Rattle.expression_check.specs.Right.{IsRight}
 use Rattle.expression_types.proofs.TypeLemmas.{bool_is}
 use Rattle.expression_check.proofs.RightLemmas.{right}
 use Rattle.body_check.specs.Bodies.{after_all, layer_after, after as sight_after}
-use Rattle.body_check.specs.Call.{run_all, block, after, layer_emitted, emitted_in}
+use Rattle.body_check.specs.Outputs.{output_of}
+use Rattle.body_check.specs.Call.{run_all, block, emitted_by, after, layer_emitted, emitted_in}
 use Rattle.body_check.specs.inner.Slots.{Placed, slots_as, block_slots, block as block_of}
 use Rattle.body_check.specs.inner.Slots.{layer_placed, placed_of}
 use Rattle.body_check.proofs.FormLemmas.{emitted_in-step, after-step}
@@ -75,22 +75,37 @@ module _ (known : Named Ty) (gives : List Ty) where
   same_of : (t u : Ty) → is_same t u ≡ true → t ≡ u
   same_of t u e = tells_apart t u e
 
-  emit_form : (line : ℕ) (e : Expr) (s : Sight) → s.known ≡ known → (n : ℕ) (o : Option Ty)
-      → slice_get gives n ≡ o
+  emit_at : (line : ℕ) (to : Option (List ℕ)) (e : Expr) (s : Sight) → s.known ≡ known
+      → (n : ℕ) → output_of (length gives) to ≡ Some n → (o : Option Ty) → slice_get gives n ≡ o
       → IsPlaced gives s
       (or_fault line BadNumber o >>= λ wanted. slots_as line (λ t. is_same t wanted) e s
       >>= λ slots. Ok (stmt.Emit n slots, s))
       (or_fault line BadNumber o >>= λ wanted. type_of line e s
       >>= λ t. unless line Mistyped (is_same t wanted) >>= λ same. Ok s)
-      (λ st. after st.env (then (given_in line known e st.env) (λ x. emitted_to n x.1 st.out)))
-  emit_form line e s is n None at = refl
-  emit_form line e s is n (Some wanted) at =
+      (λ st. after st.env (then (given_in line known e st.env) (λ x. emitted_by to x.1 st.out)))
+  emit_at line to e s is n number None at = refl
+  emit_at line to e s is n number (Some wanted) at =
       renamed gives s _ _ _ _
       (assoc (type_of line e s) (λ t. unless line Mistyped (is_same t wanted)) (λ same. Ok s))
-      (emit_by line gives s n wanted at (λ t. is_same t wanted) (λ t. same_of t wanted) _ _
+      (emit_by line gives s to n number wanted at (λ t. is_same t wanted)
+      (λ t. same_of t wanted) _ _
       (given_in line known e)
       (as_right line (λ t. is_same t wanted) wanted (λ t. same_of t wanted) s.names _ _
       (given_in line known e) (right_in line e s is)))
+
+  emit_form : (line : ℕ) (to : Option (List ℕ)) (e : Expr) (s : Sight) → s.known ≡ known
+      → (p : Option ℕ) → output_of (length gives) to ≡ p
+      → IsPlaced gives s
+      (or_fault line BadNumber p >>= λ n. or_fault line BadNumber (slice_get gives n)
+      >>= λ wanted. slots_as line (λ t. is_same t wanted) e s
+      >>= λ slots. Ok (stmt.Emit n slots, s))
+      (or_fault line BadNumber p >>= λ n. or_fault line BadNumber (slice_get gives n)
+      >>= λ wanted. type_of line e s
+      >>= λ t. unless line Mistyped (is_same t wanted) >>= λ same. Ok s)
+      (λ st. after st.env (then (given_in line known e st.env) (λ x. emitted_by to x.1 st.out)))
+  emit_form line to e s is None number = refl
+  emit_form line to e s is (Some n) number =
+      emit_at line to e s is n number (slice_get gives n) refl
 
   by_form : (y : Body-F ((b : Body) × RightBody b)) (s : Sight) → s.known ≡ known
       → IsPlaced gives s
@@ -100,7 +115,8 @@ module _ (known : Named Ty) (gives : List Ty) where
   by_form (Body-F.Let line name e) s is =
       let_by line gives s name (fresh line name s.names) _ _ (given_in line known e)
       (right_in line e s is)
-  by_form (Body-F.Emit line e) s is = emit_form line e s is 0 (slice_get gives 0) refl
+  by_form (Body-F.Emit line to e) s is =
+      emit_form line to e s is (output_of (length gives) to) refl
   by_form (Body-F.If line e a b) s is =
       renamed gives s _ _ _ _
       (assoc (type_of line e s) (λ t. unless line Mistyped (is_bool (out-Ty t)))

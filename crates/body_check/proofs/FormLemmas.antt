@@ -37,7 +37,7 @@ module _ (known : Named Ty) where
       → layer_emitted known (λ m. m) (map-Body Body (State → Outcome State) f x) s
       ≡ layer_emitted known f x s
   body_mapped f (Body-F.Let line name e) s = refl
-  body_mapped f (Body-F.Emit line e) s = refl
+  body_mapped f (Body-F.Emit line to e) s = refl
   body_mapped f (Body-F.If line e a b) s =
       λ i. after s.env (chosen (valued (given_in line known e s.env))
       (block_mapped f a i s.env s.out) (block_mapped f b i s.env s.out))
@@ -59,7 +59,7 @@ module _ (gives : List Ty) where
       → layer_after gives (λ m. m) (map-Body Body (Sight → Checked Sight) f x) s
       ≡ layer_after gives f x s
   names_mapped f (Body-F.Let line name e) s = refl
-  names_mapped f (Body-F.Emit line e) s = refl
+  names_mapped f (Body-F.Emit line to e) s = refl
   names_mapped f (Body-F.If line e a b) s =
       λ i. type_of line e s >>= λ t. unless line Mistyped (is_bool (out-Ty t)) >>= λ test.
       after_mapped f a s i >>= λ x. after_mapped f b s i >>= λ y. Ok s

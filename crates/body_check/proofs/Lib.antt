@@ -4,6 +4,7 @@ pub mod FormLemmas
 pub mod FrameLemmas
 pub mod FunctionLemmas
 pub mod GoesLemmas
+pub mod OutputLemmas
 pub mod PlacedLemmas
 pub mod SightLemmas
 pub mod StatementLemmas

@@ -1,5 +1,5 @@
 -- The slots of each form of statement, by those of its blocks.
-use Rattle.std.proofs.Common.{◌≡◌, ℕ, Ok, List, [], ◌∷◌, ◌++◌, map, refl, ap, ◌∙◌}
+use Rattle.std.proofs.Common.{◌≡◌, ℕ, Option, Ok, List, [], ◌∷◌, ◌++◌, map, refl, ap, ◌∙◌}
 use Rattle.flume_types.specs.declared.types.Ty.{Ty}
 use Rattle.flume_grammar.specs.declared.tree.Expr.{Expr}
 use Rattle.flume_grammar.specs.declared.tree.Body.{Body, Body-F, out-Body, map-Body, fold_out-Body}
@@ -26,7 +26,7 @@ module _ (gives : List Ty) where
       → layer_placed gives (λ m. m) (map-Body Body (Sight → Checked Placed) f x) s
       ≡ layer_placed gives f x s
   mapped f (Body-F.Let line name e) s = refl
-  mapped f (Body-F.Emit line e) s = refl
+  mapped f (Body-F.Emit line to e) s = refl
   mapped f (Body-F.If line e a b) s =
       λ i. if_slots line e (λ t. block_mapped f a t i) (λ t. block_mapped f b t i) s
   mapped f (Body-F.For line name e inner) s =
@@ -48,9 +48,9 @@ module _ (gives : List Ty) where
       → placed_of gives (body.Let line name e) s ≡ let_slots line name e s
   placed-Let line name e s = at _ _ s (body.outs-Let line name e)
 
-  pub placed-Emit : (line : ℕ) (e : Expr) (s : Sight)
-      → placed_of gives (body.Emit line e) s ≡ emit_slots line gives 0 e s
-  placed-Emit line e s = at _ _ s (body.outs-Emit line e)
+  pub placed-Emit : (line : ℕ) (to : Option (List ℕ)) (e : Expr) (s : Sight)
+      → placed_of gives (body.Emit line to e) s ≡ emit_slots line gives to e s
+  placed-Emit line to e s = at _ _ s (body.outs-Emit line to e)
 
   pub placed-If : (line : ℕ) (e : Expr) (a b : List Body) (s : Sight)
       → placed_of gives (body.If line e a b) s

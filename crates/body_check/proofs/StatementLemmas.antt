@@ -1,6 +1,6 @@
 -- The slots of each form of statement are right where those of its parts are.
 use Rattle.std.proofs.Common.{◌≡◌, ℕ, Bool, true, false, Option, Some, None, Ok, Err, List, ◌∷◌}
-use Rattle.std.proofs.Common.{refl, sym, ap, ◌∙◌, subst, slice_get}
+use Rattle.std.proofs.Common.{refl, sym, ap, ◌∙◌, subst, length, slice_get}
 use Rattle.flume_value.specs.declared.value.Value.{Value}
 use Rattle.flume_types.specs.declared.types.Ty.{Ty}
 use Rattle.flume_types.specs.declared.types.Ty.TheVariants as ty
@@ -13,11 +13,10 @@ use Rattle.dofn_eval.specs.Outcome.{Gives, then}
 use Rattle.dofn_eval.specs.Operations.{chosen}
 use Rattle.dofn_eval.specs.Meaning.{value_of}
 use Rattle.dofn_eval.specs.Run as slots
-use Rattle.dofn_eval.specs.Run.{emitted_to}
 use Rattle.dofn_eval.specs.Typed as typing
 use Rattle.dofn_eval.specs.Typed.{BlockTyped}
 use Rattle.dofn_eval.proofs.MeaningLemmas.{run_one-Let, run_one-Emit, run_one-If, run_one-For}
-use Rattle.dofn_eval.proofs.MeaningLemmas.{run_one-Case}
+use Rattle.dofn_eval.proofs.MeaningLemmas.{run_one-Case, then_same}
 use Rattle.written_types.specs.Answer.{Checked, ◌>>=◌, unless, or_fault}
 use Rattle.expression_types.specs.Sight.{Newest, Sight, with_name}
 use Rattle.expression_types.specs.Fields.{member_type, side_types}
@@ -25,10 +24,12 @@ use Rattle.expression_check.specs.Given.{tagged, valued}
 use Rattle.expression_check.specs.Slots.{Typed}
 use Rattle.expression_check.specs.Right.{types, bound, IsRight}
 use Rattle.expression_types.proofs.TypeLemmas.{list_type_is, either_type_is}
-use Rattle.body_check.specs.Call.{state, Emits, for_each, by_side, after}
+use Rattle.body_check.specs.Outputs.{output_of}
+use Rattle.body_check.specs.Call.{state, Emits, for_each, by_side, emitted_by, after}
 use Rattle.body_check.specs.inner.Slots.{Placed, InBlock}
 use Rattle.body_check.proofs.GoesLemmas.{named, after_named, let_goes, emit_goes, valued_tagged}
 use Rattle.body_check.proofs.GoesLemmas.{for_goes, case_goes}
+use Rattle.body_check.proofs.OutputLemmas.{emitted_as}
 use Rattle.body_check.proofs.BlockLemmas.{Giving, Doing, IsPlaced, IsBlock, IsInside}
 
 -- ---- each form of statement
@@ -93,18 +94,21 @@ module _ (line : ℕ) (gives : List Ty) (s : Sight) where
         ∙ ap (named ((name, x.1) ∷ s.names)) (sym (run_one-Let x.0 (slots.state vs out))),
   )
 
-  pub emit_by : (n : ℕ) (wanted : Ty) → slice_get gives n ≡ Some wanted → (test : Ty → Bool)
+  pub emit_by : (to : Option (List ℕ)) (n : ℕ) → output_of (length gives) to ≡ Some n
+      → (wanted : Ty) → slice_get gives n ≡ Some wanted → (test : Ty → Bool)
       (is : (t : Ty) → test t ≡ true → t ≡ wanted) (o : Checked Slots) (type : Checked Ty)
       (given : Giving) → IsAs line test wanted is s.names o type given
       → IsPlaced gives s (o >>= λ k. Ok (stmt.Emit n k, s))
       (tested line test wanted is s.names type >>= λ same. Ok s)
-      (λ st. after st.env (then (given st.env) (λ x. emitted_to n x.1 st.out)))
-  emit_by n wanted at test is (Err f) type given h = ap (λ o. o >>= λ same. Ok s) h
-  emit_by n wanted at test is (Ok k) type given h = (
+      (λ st. after st.env (then (given st.env) (λ x. emitted_by to x.1 st.out)))
+  emit_by to n number wanted at test is (Err f) type given h = ap (λ o. o >>= λ same. Ok s) h
+  emit_by to n number wanted at test is (Ok k) type given h = (
     ap (λ o. o >>= λ same. Ok s) h.0,
     refl,
     λ rest td. typing.emits n at h.1 td,
-    λ vs out. ap (λ o. after (bound s.names vs) (then o (λ x. emitted_to n x.1 out))) (h.2 vs)
+    λ vs out. ap (λ o. after (bound s.names vs) (then o (λ x. emitted_by to x.1 out))) (h.2 vs)
+        ∙ ap (after (bound s.names vs)) (then_same (tagged wanted (value_of k vs)) _ _
+        (λ x. emitted_as x.1 out (length gives) to n number))
         ∙ emit_goes s.names wanted vs out n (value_of k vs)
         ∙ ap (named s.names) (sym (run_one-Emit n k (slots.state vs out))),
   )

@@ -1,5 +1,5 @@
 -- The rules of a function's body, or its first fault, on the line of the innermost statement.
-use Rattle.std.specs.Prelude.{ℕ, List, [], ◌∷◌, Ok, slice_get}
+use Rattle.std.specs.Prelude.{ℕ, List, [], ◌∷◌, Ok, length, slice_get}
 use Rattle.flume_types.specs.declared.types.Ty.{Ty, out-Ty}
 use Rattle.flume_grammar.specs.declared.tree.Body.{Body, Body-F, fold-Body}
 use Rattle.flume_grammar.specs.declared.fault.ScriptKind.TheVariants.{BadNumber, Mistyped}
@@ -9,6 +9,7 @@ use Rattle.expression_types.specs.Sight.{Sight, with_name}
 use Rattle.expression_types.specs.Fields.{member_type, side_types}
 use Rattle.expression_types.specs.Types.{is_same, is_bool}
 use Rattle.expression_check.specs.Types.{type_of}
+use Rattle.body_check.specs.Outputs.{output_of}
 
 -- statements one after another, where f gives what is in sight after each
 abbrev pub after_all : {X : Type 0} → (X → Sight → Checked Sight) → List X → Sight → Checked Sight
@@ -26,8 +27,9 @@ module _ (gives : List Ty) where
     new ← fresh line name s.names
     t ← type_of line e s
     Ok (with_name name t s)
-  layer_after f (Body-F.Emit line e) s = do
-    wanted ← or_fault line BadNumber (slice_get gives 0)
+  layer_after f (Body-F.Emit line to e) s = do
+    output ← or_fault line BadNumber (output_of (length gives) to)
+    wanted ← or_fault line BadNumber (slice_get gives output)
     t ← type_of line e s
     same ← unless line Mistyped (is_same t wanted)
     Ok s

@@ -1,6 +1,6 @@
 -- The meaning of a call: what a body emits where names stand for values, by one equation for each
--- form of statement. `emit` emits to the first output.
-use Rattle.std.specs.Prelude.{ℕ, Option, Some, None, List, [], ◌∷◌, replicate}
+-- form of statement. `emit to N` emits to output N, counted from 1, and `emit` to the first.
+use Rattle.std.specs.Prelude.{ℕ, Option, Some, None, List, [], ◌∷◌, length, replicate}
 use Rattle.flume_value.specs.declared.value.Value.{Value}
 use Rattle.flume_value.specs.Parts.{members_of, left_of, right_of}
 use Rattle.flume_types.specs.declared.types.Ty.{Ty}
@@ -11,6 +11,7 @@ use Rattle.dofn_eval.specs.Run.{Emissions, emitted_to}
 use Rattle.written_types.specs.Named.{Named}
 use Rattle.expression_types.specs.Fields.{member_type, side_types}
 use Rattle.expression_check.specs.Given.{Thing, Environment, valued, given_in}
+use Rattle.body_check.specs.Outputs.{output_of}
 
 -- what a statement finds and leaves: what names stand for, the newest first, and what was emitted
 -- to each output
@@ -58,6 +59,10 @@ by_side f left g right thing env out =
     with_part (side_types thing.0)
     (λ types. side f left g right types (left_of thing.1) (right_of thing.1) env out)
 
+-- one value more behind what was emitted to the output that the `emit` is to
+abbrev pub emitted_by : Option (List ℕ) → Value → Emissions → Outcome Emissions
+emitted_by to x out = with_part (output_of (length out) to) (λ output. emitted_to output x out)
+
 -- goes on with the names from before
 abbrev pub after : Environment → Outcome Emissions → Outcome State
 after env o = then o (λ out. Gives (state env out))
@@ -69,8 +74,8 @@ module _ (known : Named Ty) where
       Body-F X → State → Outcome State
   layer_emitted f (Body-F.Let line name e) s =
       then (given_in line known e s.env) (λ x. Gives (state ((name, x) ∷ s.env) s.out))
-  layer_emitted f (Body-F.Emit line e) s =
-      after s.env (then (given_in line known e s.env) (λ x. emitted_to 0 x.1 s.out))
+  layer_emitted f (Body-F.Emit line to e) s =
+      after s.env (then (given_in line known e s.env) (λ x. emitted_by to x.1 s.out))
   layer_emitted f (Body-F.If line e a b) s =
       after s.env
       (chosen (valued (given_in line known e s.env))

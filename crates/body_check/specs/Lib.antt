@@ -1,3 +1,4 @@
+pub mod Outputs
 pub mod Bodies
 pub mod Call
 pub mod inner

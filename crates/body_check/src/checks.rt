@@ -63,6 +63,7 @@ fn block_of(
 ) -> Result<Block, ScriptFault>
     requires takes { takes < length known.old.types }
     requires gives { AreTypes (length known.old.types) gives.now }
+    requires most { length gives.now ≤ 8 }
     ensures gives { Gives (λ _. tt) result (body_of known.old.names argument.now
         (type_at known.old.types takes) (map (type_at known.old.types) gives.now) body.now) }
     ensures typed { IfOk result (λ block. BlockTyped (type_at known.old.types takes ∷ []) block

@@ -1,7 +1,7 @@
 // What is in sight of a statement, and what its function emits.
 #![tactic(auto, using(crate::proofs::FrameLemmas::frame_rules))]
 
-ghost use Rattle.std.specs.Prelude.{◌≡◌, ◌<◌, ◌-◌, None, length, map, drop, slice_get};
+ghost use Rattle.std.specs.Prelude.{◌≡◌, ◌<◌, ◌≤◌, ◌-◌, None, length, map, drop, slice_get};
 ghost use Rattle.std.specs.Prelude.{is_some, IfOk, IfSome, OnOk};
 ghost use Rattle.std.specs.Option.{option_map};
 ghost use Rattle.type_table.specs.Table.{type_at, Extends};
@@ -27,7 +27,7 @@ pub struct Frame<'a> {
 }
 
 impl<'a> Model for Frame<'a> {
-    ghost use Rattle.std.specs.Prelude.{length};
+    ghost use Rattle.std.specs.Prelude.{◌≤◌, length};
     ghost use Rattle.expression_types.specs.Held.{AreTypes};
     ghost use Rattle.std.specs.Coded.{codes};
     ghost use Rattle.flume_types.specs.contracts.types.Ty as coded_types;
@@ -39,13 +39,15 @@ impl<'a> Model for Frame<'a> {
 
     ghost view = { λ f. in_body f.scope f.gives.now };
 
-    ghost invariant = { λ f. AreTypes (length f.scope.types) f.gives.now };
+    ghost invariant = { λ f. AreTypes (length f.scope.types) f.gives.now
+        × (length f.gives.now ≤ 8) };
 }
 
 impl<'a> Frame<'a> {
     /// A function that emits values of these types, one for each output.
     pub fn new(scope: Scope, gives: &'a [TypeId]) -> Frame<'a>
-        requires { AreTypes (length scope.types) gives.now }
+        requires gives { AreTypes (length scope.types) gives.now }
+        requires most { length gives.now ≤ 8 }
         ensures types { result.types ≡ scope.types }
         ensures sight { result.sight ≡ scope.sight }
         ensures emits { result.gives ≡ map (type_at scope.types) gives.now }
@@ -67,6 +69,13 @@ impl<'a> Frame<'a> {
         ensures { result.now ≡ self.now.types }
     {
         self.scope.types()
+    }
+
+    /// How many outputs the function has.
+    pub fn outputs(&self) -> u32
+        ensures { result ≡ length self.now.gives }
+    {
+        self.gives.len() as u32
     }
 
     /// The type of what the function emits to the output of this number, if there is one.

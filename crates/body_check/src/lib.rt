@@ -5,7 +5,8 @@
 //! call of a function means where names stand for values, by one equation for each form.
 //! `check_body` answers the function with slots in place of names, or that first fault on the line
 //! of the innermost statement; and what that function means is what the parsed body does. Both have
-//! a list of outputs, each with its type; `emit` emits to the first.
+//! a list of outputs, each with its type: `emit to N` emits to output N, counted from 1, and `emit`
+//! to the first.
 #![tactic(auto)]
 
 mod checks;

@@ -1,5 +1,5 @@
 // The check of statements, form by form, with slots in place of names.
-ghost use Rattle.std.specs.Prelude.{◌≡◌, ◌<◌, [], None, length, slice_get, IfOk, OnOk};
+ghost use Rattle.std.specs.Prelude.{◌≡◌, ◌<◌, [], Some, None, length, slice_get, IfOk, OnOk};
 ghost use Rattle.flume_grammar.specs.declared.fault.ScriptKind.TheVariants.{BadNumber as Bad};
 ghost use Rattle.flume_types.specs.declared.types.Ty.{out-Ty};
 ghost use Rattle.type_table.specs.Table.{type_at, Extends};
@@ -8,13 +8,14 @@ ghost use Rattle.written_types.specs.Named.{find, fresh};
 ghost use Rattle.expression_types.specs.Sight.{with_name};
 ghost use Rattle.expression_check.specs.Slots.{typed};
 ghost use Rattle.expression_types.specs.Types.{is_bool as is_bool_type};
+ghost use Rattle.body_check.specs.Outputs.{output_of as output_meant};
 ghost use Rattle.body_check.specs.inner.Frames.{IsBehind};
 ghost use Rattle.body_check.specs.inner.Slots as spec;
 ghost use Rattle.body_check.specs.inner.Slots.{placed_of};
 
 use crate::frame::Frame;
 use dofn_eval::{Block, Expr as Slots, Stmt};
-use expression_check::Typed;
+use expression_check::{Typed, number_within};
 use expression_types::{Sides, is_bool, member_of, sides_of};
 use flume_grammar::{Body, Expr, ScriptFault, ScriptKind};
 use flume_value::{Pile, Str};
@@ -78,7 +79,7 @@ fn placed(alloc: Global, statement: &Body, frame: &mut Frame<'_>) -> Result<Stmt
 {
     match statement {
         Body::Let(line, name, e) => place_let(alloc, *line, name, e, frame),
-        Body::Emit(line, e) => place_emit(alloc, *line, 0, e, frame),
+        Body::Emit(line, to, e) => place_emit(alloc, *line, to, e, frame),
         Body::If(line, e, a, b) => {
             let blocks = Branches {
                 first: a,
@@ -121,22 +122,45 @@ fn place_let(
 fn place_emit(
     alloc: Global,
     line: u32,
-    output: usize,
+    to: &Option<Str>,
     e: &Expr,
     frame: &mut Frame<'_>,
 ) -> Result<Stmt, ScriptFault>
     ensures gives { Gives (λ k. (k, frame.new.sight)) result
-        (spec.emit_slots line frame.old.gives output e.now frame.old.sight) }
+        (spec.emit_slots line frame.old.gives to.now e.now frame.old.sight) }
     ensures extends { Extends frame.old.types frame.new.types }
     ensures sight { frame.new.sight ≡ frame.old.sight }
     ensures emits { frame.new.gives ≡ frame.old.gives }
 {
+    let output = output_of(line, to, frame)?;
     let wanted = wanted(line, output, frame)?;
     let x = frame.resolve(alloc, line, e)?;
     if frame.types().same(x.ty, wanted) {
         Ok(Stmt::Emit(output, x.expr))
     } else {
         Err(refused(line, ScriptKind::Mistyped))
+    }
+}
+
+// The number, from 0, of the output to which an `emit` emits.
+fn output_of(line: u32, to: &Option<Str>, frame: &Frame<'_>) -> Result<usize, ScriptFault>
+    ensures { Gives (λ output. output) result
+        (or_fault line Bad (output_meant (length frame.now.gives) to.now)) }
+{
+    match to {
+        None => Ok(0),
+        Some(digits) => numbered(line, digits, frame.outputs()),
+    }
+}
+
+// The output with the number that digits write, counted from 1.
+fn numbered(line: u32, digits: &Str, outputs: u32) -> Result<usize, ScriptFault>
+    ensures { Gives (λ output. output) result
+        (or_fault line Bad (output_meant outputs (Some digits.now))) }
+{
+    match number_within(1, outputs, digits) {
+        Some(number) => Ok(number.saturating_sub(1) as usize),
+        None => Err(refused(line, ScriptKind::BadNumber)),
     }
 }
 

@@ -28,6 +28,26 @@ fn well_typed_bodies_are_accepted(rt: HostRuntime) -> Result<(), Fail> {
 }
 
 #[test]
+fn emits_to_outputs_are_accepted(rt: HostRuntime) -> Result<(), Fail> {
+    let alloc = rt.alloc();
+    let table: [&[u8]; 5] = [
+        b"emit x.a emit to 1 x.b emit to 2 x.n",
+        b"emit to 2 x.n",
+        b"emit to 01 x.a emit to 002 1",
+        b"for w in x.all { emit w if x.ok { emit to 2 len(w) } }",
+        b"case x.e left i { emit to 2 i } right t { emit to 1 t }",
+    ];
+    for body in table {
+        assert_eq!(rt; answer_of(alloc, b"text, int", body)?, Answer::Accepted);
+    }
+    assert_eq!(rt;
+        answer_of(alloc, b"text", b"emit to 1 x.a")?,
+        Answer::Accepted
+    );
+    Ok(())
+}
+
+#[test]
 fn types_are_as_deep_as_they_may_be(rt: HostRuntime) -> Result<(), Fail> {
     let alloc = rt.alloc();
     let table: [&[u8]; 3] = [

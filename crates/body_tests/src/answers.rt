@@ -34,6 +34,7 @@ fn define(
     }
 }
 
+// A function of one output, or of two.
 fn check(
     alloc: Global,
     line: u32,
@@ -41,9 +42,18 @@ fn check(
     known: &mut TypeNames,
 ) -> Result<(), ScriptFault> {
     let takes = whole_type(alloc, line, &function.takes, known)?;
-    let gives = whole_type(alloc, line, &function.gives, known)?;
+    let first = whole_type(alloc, line, &function.gives, known)?;
+    let argument = &function.argument;
     let body = function.body.as_slice();
-    check_body(alloc, known, &function.argument, takes, &[gives], body)?;
+    match function.more.as_slice() {
+        [second] => {
+            let second = whole_type(alloc, line, second, known)?;
+            check_body(alloc, known, argument, takes, &[first, second], body)?;
+        }
+        _ => {
+            check_body(alloc, known, argument, takes, &[first], body)?;
+        }
+    }
     Ok(())
 }
 

@@ -79,3 +79,32 @@ fn the_first_fault_is_told(rt: HostRuntime) -> Result<(), Fail> {
     }
     Ok(())
 }
+
+#[test]
+fn faults_of_emits_to_outputs(rt: HostRuntime) -> Result<(), Fail> {
+    let alloc = rt.alloc();
+    let table: [(&[u8], u32, ScriptKind); 12] = [
+        (b"emit to 0 x.a", 3, BadNumber),
+        (b"emit to 3 x.a", 3, BadNumber),
+        (b"emit to 9 x.a", 3, BadNumber),
+        (b"emit to 4294967297 x.a", 3, BadNumber),
+        (b"emit to 9223372036854775808 x.a", 3, BadNumber),
+        // the number, before the expression, whose fault comes before its type
+        (b"emit to 3 y", 3, BadNumber),
+        (b"emit to 2 y", 3, Unknown),
+        (b"emit to 2 x.a + y", 3, Unknown),
+        (b"emit to 2 x.a", 3, Mistyped),
+        (b"emit to 1 x.n", 3, Mistyped),
+        (b"emit x.n", 3, Mistyped),
+        (b"emit x.a\nif x.ok {\n  emit to 3 x.a\n}", 5, BadNumber),
+    ];
+    for (body, line, kind) in table {
+        assert_eq!(rt;
+            answer_of(alloc, b"text, int", body)?,
+            Answer::Fault(line, kind)
+        );
+    }
+    let beyond = answer_of(alloc, b"text", b"emit to 2 x.a")?;
+    assert_eq!(rt; beyond, Answer::Fault(3, BadNumber));
+    Ok(())
+}

@@ -1,9 +1,11 @@
--- Accepted scripts have first outputs alone, and as many collections together as are written.
-use Rattle.std.proofs.Common.{◌≡◌, ℕ, ◌+◌, ◌≤◌, nat_lt, List, [], ◌∷◌, ◌++◌, length, Ok, refl, ap, subst, arith, length-append}
+-- Accepted scripts put as many collections together as are written.
+use Rattle.std.proofs.Common.{◌≡◌, ℕ, suc, ◌+◌, ◌≤◌, nat_lt, List, [], ◌∷◌, ◌++◌, length, Ok, refl, ap, subst, arith, length-append}
 use Rattle.std.specs.List.{AllByRecursion}
+use Rattle.std.specs.Map.{keys_of}
 use Rattle.std.proofs.lemmas.List.{length-map}
 use Rattle.flume_types.specs.Columns.{columns_of, input_columns_of}
 use Rattle.flume_types.specs.Equality.{type_eq}
+use Rattle.flume_types.specs.declared.types.Ty.{Ty}
 use Rattle.flume_value.proofs.EachLemmas.{Each-append, Each-weaker}
 use Rattle.exec_graph.specs.Wellformed.{most_nodes}
 use Rattle.flume_grammar.specs.declared.tree.Type as tree
@@ -15,65 +17,67 @@ use Rattle.flume_grammar.specs.declared.tree.Operation.TheVariants as operation
 use Rattle.flume_grammar.specs.declared.tree.Statement.{Statement}
 use Rattle.flume_grammar.specs.declared.fault.ScriptKind.TheVariants.{Mistyped, NoOutput, NotFlat}
 use Rattle.combine_table.specs.declared.comb.Comb.{Comb}
-use Rattle.written_types.specs.Answer.{unless, or_fault}
+use Rattle.written_types.specs.Answer.{Checked, unless, or_fault}
 use Rattle.written_types.specs.Named.{fresh}
-use Rattle.written_types.specs.Written.{shallow, whole_type}
+use Rattle.written_types.specs.Written.{whole_type}
 use Rattle.body_check.specs.Bodies.{body_of}
-use Rattle.script_program.specs.Limits.{most_collections}
+use Rattle.script_program.specs.Limits.{most_collections, most_files}
 use Rattle.script_program.specs.declared.made.Made.{Made}
-use Rattle.script_program.specs.Script.{Callee, Node, Operand, Script, State, nothing, script_from, with_node}
+use Rattle.script_program.specs.Script.{Callee, Making, Node, Operand, Script, State, nothing, script_from, with_node, with_nodes, with_statement}
 use Rattle.operation_check.specs.Operations as spec
 use Rattle.script_check.specs.Rules as rules_
-use Rattle.script_laws.proofs.CheckedLemmas.{both, ok-same}
-use Rattle.build_law.specs.Limits.{AreShort, HasFirstOutputs, HasShortFlattens, IsFirstOutput, IsShort, IsShortForm, IsShortOperation}
+use Rattle.script_check.proofs.CheckedLemmas.{both, ok-same}
+use Rattle.build_law.specs.Limits.{AreShort, HasShortFlattens, IsShort, IsShortForm, IsShortOperation}
 
--- what is promised of how a collection is made
-pub record IsFine (made : Made) : Type 0 where
-  pub first : IsFirstOutput made
-  pub short : IsShort made
+-- no operation puts more together than are written
+abbrev pub AllShort : List Making → Type 0
+AllShort makings = AllByRecursion (λ making. IsShort making.made) makings
 
 module _ (line : ℕ) (s : State) where
-  do_fine : (source : Operand) (function : Callee) (node : Node)
-      → spec.do_of line source function ≡ Ok node → IsFine node.made
-  do_fine source function node e =
-      let same = both (unless line Mistyped (type_eq source.type function.takes)) _ node e in
-      let t = both (spec.one_output line function.gives) _ node same.then in
-      subst (λ (n : Node). IsFine n.made) (ok-same _ node t.then)
-      (record { first = refl; short = tt })
+  outputs_short : (source function output : ℕ) (types : List Ty)
+      → AllShort (spec.outputs_from source function output types)
+  outputs_short source function output [] = tt
+  outputs_short source function output (t ∷ types) =
+      (tt, outputs_short source function (suc output) types)
 
-  done_fine : (source function : List ℕ) (node : Node)
-      → spec.done line source function s ≡ Ok node → IsFine node.made
-  done_fine source function node e =
-      let one = both (spec.collection line source s) _ node e in
-      let by = both (spec.callee line function s) _ node one.then in
-      do_fine one.part by.part node by.then
+  do_short : (source : Operand) (function : Callee) (makings : List Making)
+      → spec.do_of line source function ≡ Ok makings → AllShort makings
+  do_short source function makings e =
+      let same = both (unless line Mistyped (type_eq source.type function.takes)) _ makings e in
+      subst AllShort (ok-same _ makings same.then)
+      (outputs_short source.number function.number 0 function.gives)
 
-  group_fine : (source : Operand) (node : Node) → spec.group_of line source ≡ Ok node
-      → IsFine node.made
-  group_fine source node e =
-      let pair = both (spec.pair_of line source.type) _ node e in
-      subst (λ (n : Node). IsFine n.made) (ok-same _ node pair.then)
-      (record { first = tt; short = tt })
+  done_short : (source function : List ℕ) (makings : List Making)
+      → spec.done line source function s ≡ Ok makings → AllShort makings
+  done_short source function makings e =
+      let one = both (spec.collection line source s) _ makings e in
+      let by = both (spec.callee line function s) _ makings one.then in
+      do_short one.part by.part makings by.then
 
-  combine_fine : (source : Operand) (by : Comb) (node : Node)
-      → spec.combine_of line source by ≡ Ok node → IsFine node.made
-  combine_fine source by node e =
-      let pair = both (spec.pair_of line source.type) _ node e in
-      let member = both (spec.member_of line pair.part.value) _ node pair.then in
+  group_short : (source : List ℕ) (making : Making) → spec.grouped line source s ≡ Ok making
+      → IsShort making.made
+  group_short source making e =
+      let one = both (spec.collection line source s) _ making e in
+      let pair = both (spec.pair_of line one.part.type) _ making one.then in
+      subst (λ (n : Making). IsShort n.made) (ok-same _ making pair.then) tt
+
+  combine_short : (source : Operand) (by : Comb) (making : Making)
+      → spec.combine_of line source by ≡ Ok making → IsShort making.made
+  combine_short source by making e =
+      let pair = both (spec.pair_of line source.type) _ making e in
+      let member = both (spec.member_of line pair.part.value) _ making pair.then in
       let value =
-      both (or_fault line Mistyped (spec.combined_type by member.part)) _ node member.then in
-      subst (λ (n : Node). IsFine n.made) (ok-same _ node value.then)
-      (record { first = tt; short = tt })
+      both (or_fault line Mistyped (spec.combined_type by member.part)) _ making member.then in
+      subst (λ (n : Making). IsShort n.made) (ok-same _ making value.then) tt
 
-  join_fine : (left right_ : Operand) (node : Node)
-      → spec.join_of line left right_ ≡ Ok node → IsFine node.made
-  join_fine left right_ node e =
-      let lefts = both (spec.pair_of line left.type) _ node e in
-      let rights = both (spec.pair_of line right_.type) _ node lefts.then in
+  join_short : (left right_ : Operand) (making : Making)
+      → spec.join_of line left right_ ≡ Ok making → IsShort making.made
+  join_short left right_ making e =
+      let lefts = both (spec.pair_of line left.type) _ making e in
+      let rights = both (spec.pair_of line right_.type) _ making lefts.then in
       let same =
-      both (unless line Mistyped (type_eq lefts.part.key rights.part.key)) _ node rights.then in
-      subst (λ (n : Node). IsFine n.made) (ok-same _ node same.then)
-      (record { first = tt; short = tt })
+      both (unless line Mistyped (type_eq lefts.part.key rights.part.key)) _ making rights.then in
+      subst (λ (n : Making). IsShort n.made) (ok-same _ making same.then) tt
 
   as_many : (found : List Operand) (names : List (List ℕ)) (all : List Operand)
       → spec.collections_behind line found names s ≡ Ok all
@@ -88,51 +92,72 @@ module _ (line : ℕ) (s : State) where
       let more = length-append found (one.part ∷ []) in
       omega arith
 
-  flatten_fine : (names : List (List ℕ)) (node : Node) → length names ≤ most_nodes
-      → spec.flattened line names s ≡ Ok node → IsFine node.made
-  flatten_fine names node few e =
-      let all = both (spec.collections_behind line [] names s) _ node e in
-      let t = both (spec.one_type line all.part) _ node all.then in
+  flatten_short : (names : List (List ℕ)) (making : Making) → length names ≤ most_nodes
+      → spec.flattened line names s ≡ Ok making → IsShort making.made
+  flatten_short names making few e =
+      let all = both (spec.collections_behind line [] names s) _ making e in
+      let t = both (spec.one_type line all.part) _ making all.then in
       let many = as_many [] names all.part all.first in
       let same = length-map all.part (λ (source : Operand). source.number) in
-      subst (λ (n : Node). IsFine n.made) (ok-same _ node t.then)
-      (record { first = tt; short = omega arith })
+      subst (λ (n : Making). IsShort n.made) (ok-same _ making t.then) (omega arith)
 
-  made_fine : (by : Operation) (node : Node) → IsShortOperation by
-      → spec.made_by line by s ≡ Ok node → IsFine node.made
-  made_fine (operation.Do source function) node short e = done_fine source function node e
-  made_fine (operation.Group source) node short e =
-      let one = both (spec.collection line source s) _ node e in
-      group_fine one.part node one.then
-  made_fine (operation.Combine source combiner) node short e =
-      let one = both (spec.collection line source s) _ node e in
-      let by = both (spec.comb_of line combiner) _ node one.then in
-      combine_fine one.part by.part node by.then
-  made_fine (operation.Flatten sources) node short e = flatten_fine sources node short e
-  made_fine (operation.Count source) node short e =
-      let one = both (spec.collection line source s) _ node e in
-      subst (λ (n : Node). IsFine n.made) (ok-same _ node one.then)
-      (record { first = tt; short = tt })
-  made_fine (operation.Join left right_) node short e =
-      let one = both (spec.collection line left s) _ node e in
-      let other = both (spec.collection line right_ s) _ node one.then in
-      join_fine one.part other.part node other.then
-  made_fine (operation.Top digits source) node short e =
-      let one = both (spec.collection line source s) _ node e in
-      let number = both (spec.top_number line digits) _ node one.then in
-      subst (λ (n : Node). IsFine n.made) (ok-same _ node number.then)
-      (record { first = tt; short = tt })
+  -- an operation that makes one collection
+  alone_short : (one : Checked Making) (makings : List Making)
+      → ((making : Making) → one ≡ Ok making → IsShort making.made)
+      → spec.alone one ≡ Ok makings → AllShort makings
+  alone_short one makings h e =
+      let it = both one _ makings e in
+      subst AllShort (ok-same _ makings it.then) (h it.part it.first, tt)
+
+  made_short : (by : Operation) (makings : List Making) → IsShortOperation by
+      → spec.made_by line by s ≡ Ok makings → AllShort makings
+  made_short (operation.Do source function) makings short e = done_short source function makings e
+  made_short (operation.Group source) makings short e =
+      alone_short (spec.grouped line source s) makings (group_short source) e
+  made_short (operation.Combine source combiner) makings short e =
+      alone_short (spec.combined line source combiner s) makings
+      (λ making is.
+      let one = both (spec.collection line source s) _ making is in
+      let by = both (spec.comb_of line combiner) _ making one.then in
+      combine_short one.part by.part making by.then) e
+  made_short (operation.Flatten sources) makings short e =
+      alone_short (spec.flattened line sources s) makings
+      (λ making is. flatten_short sources making short is) e
+  made_short (operation.Count source) makings short e =
+      alone_short (spec.counted line source s) makings
+      (λ making is.
+      let one = both (spec.collection line source s) _ making is in
+      subst (λ (n : Making). IsShort n.made) (ok-same _ making one.then) tt) e
+  made_short (operation.Join left right_) makings short e =
+      alone_short (spec.joined line left right_ s) makings
+      (λ making is.
+      let one = both (spec.collection line left s) _ making is in
+      let other = both (spec.collection line right_ s) _ making one.then in
+      join_short one.part other.part making other.then) e
+  made_short (operation.Top digits source) makings short e =
+      alone_short (spec.greatest line digits source s) makings
+      (λ making is.
+      let one = both (spec.collection line source s) _ making is in
+      let number = both (spec.top_number line digits) _ making one.then in
+      subst (λ (n : Making). IsShort n.made) (ok-same _ making number.then) tt) e
 
 -- ---- statements
 
 abbrev pub AllFine : State → Type 0
-AllFine s = AllByRecursion (λ entry. IsFine entry.1.made) s.nodes
+AllFine s = AllByRecursion (λ entry. IsShort entry.1.made) s.nodes
 
-node_more : (s : State) (name : List ℕ) (node : Node) → AllFine s → IsFine node.made
-    → AllFine (with_node name node s)
-node_more s name node fine one =
-    Each-append (λ (entry : List ℕ × Node). IsFine entry.1.made) s.nodes ((name, node) ∷ []) fine
-    (one, tt)
+node_more : (s : State) (name : List ℕ) (making : Making) → AllFine s → IsShort making.made
+    → AllFine (with_node name making s)
+node_more s name making fine one =
+    Each-append (λ (entry : List ℕ × Node). IsShort entry.1.made) s.nodes _ fine (one, tt)
+
+nodes_more : (names : List (List ℕ)) (makings : List Making) (s : State) → AllFine s
+    → AllShort makings → AllFine (with_nodes names makings s)
+nodes_more [] makings s fine short = fine
+nodes_more (name ∷ names) [] s fine short = fine
+nodes_more (name ∷ names) (making ∷ makings) s fine short =
+    nodes_more names makings (with_node name making s) (node_more s name making fine short.0)
+    short.1
 
 module _ (line : ℕ) (s after : State) (fine : AllFine s) where
   type_fine : (name : List ℕ) (type : tree.Type) → rules_.rule_type line name type s ≡ Ok after
@@ -145,12 +170,11 @@ module _ (line : ℕ) (s after : State) (fine : AllFine s) where
   input_fine : (name : List ℕ) (type : tree.Type) (file : List ℕ)
       → rules_.rule_input line name type file s ≡ Ok after → AllFine after
   input_fine name type file e =
-      let few = both (rules_.room line most_collections s.nodes) _ after e in
-      let new = both (fresh line name s.nodes) _ after few.then in
+      let few = both (rules_.room line 1 most_collections s.nodes) _ after e in
+      let new = both (fresh line name s.names) _ after few.then in
       let t = both (whole_type line type s.types) _ after new.then in
       let columns = both (or_fault line NotFlat (input_columns_of t.part)) _ after t.then in
-      subst AllFine (ok-same _ after columns.then)
-      (node_more s name _ fine (record { first = tt; short = tt }))
+      subst AllFine (ok-same _ after columns.then) (node_more s name _ fine tt)
 
   function_fine : (function : Written) → rules_.rule_function line function s ≡ Ok after
       → AllFine after
@@ -163,20 +187,20 @@ module _ (line : ℕ) (s after : State) (fine : AllFine s) where
       signature.then in
       subst AllFine (ok-same _ after body.then) fine
 
-  let_fine : (name : List ℕ) (by : Operation) → IsShortOperation by
-      → rules_.rule_let line name by s ≡ Ok after → AllFine after
-  let_fine name by short e =
-      let few = both (rules_.room line most_collections s.nodes) _ after e in
-      let new = both (fresh line name s.nodes) _ after few.then in
-      let node = both (spec.made_by line by s) _ after new.then in
-      let low = both (shallow line node.part.type) _ after node.then in
-      subst AllFine (ok-same _ after low.then)
-      (node_more s name node.part fine (made_fine line s by node.part short node.first))
+  let_fine : (names : List (List ℕ)) (by : Operation) → IsShortOperation by
+      → rules_.rule_let line names by s ≡ Ok after → AllFine after
+  let_fine names by short e =
+      let few = both (rules_.room line (length names) most_collections s.nodes) _ after e in
+      let new = both (rules_.all_fresh line (keys_of s.names) names) _ after few.then in
+      let makings = both (spec.made_by line by s) _ after new.then in
+      let fit = both (rules_.all_fit line (length names) makings.part) _ after makings.then in
+      subst AllFine (ok-same _ after fit.then)
+      (nodes_more names makings.part s fine (made_short line s by makings.part short makings.first))
 
   output_fine : (name file : List ℕ) → rules_.rule_output line name file s ≡ Ok after
       → AllFine after
   output_fine name file e =
-      let few = both (rules_.room line 64 s.outputs) _ after e in
+      let few = both (rules_.room line 1 most_files s.outputs) _ after e in
       let one = both (spec.collection line name s) _ after few.then in
       let columns = both (or_fault line NotFlat (columns_of one.part.type)) _ after one.then in
       let new = both (fresh line file s.outputs) _ after columns.then in
@@ -187,7 +211,7 @@ module _ (line : ℕ) (s after : State) (fine : AllFine s) where
   rule_fine (form.Type name type) short e = type_fine name type e
   rule_fine (form.Input name type file) short e = input_fine name type file e
   rule_fine (form.Function function) short e = function_fine function e
-  rule_fine (form.Let name by) short e = let_fine name by short e
+  rule_fine (form.Let names by) short e = let_fine names by short e
   rule_fine (form.Output name file) short e = output_fine name file e
 
 defined_fine : (statements : List Statement) (s after : State) → AreShort statements → AllFine s
@@ -195,21 +219,12 @@ defined_fine : (statements : List Statement) (s after : State) → AreShort stat
 defined_fine [] s after short fine e = subst AllFine (ok-same s after e) fine
 defined_fine (statement ∷ rest) s after short fine e =
     let next = both (rules_.rule statement.line statement.form s) _ after e in
-    defined_fine rest next.part after short.1
+    defined_fine rest (with_statement next.part) after short.1
     (rule_fine statement.line s next.part fine statement.form short.0 next.first) next.then
 
 -- what an accepted script keeps
 pub record IsKept (script : Script) : Type 0 where
-  pub first : HasFirstOutputs script
   pub short : HasShortFlattens script
-
-kept_from : (s : State) → AllFine s → IsKept (script_from s)
-kept_from s fine = record {
-  first = Each-weaker (λ (entry : List ℕ × Node). IsFine entry.1.made)
-      (λ entry. IsFirstOutput entry.1.made) (λ entry h. h.first) s.nodes fine;
-  short = Each-weaker (λ (entry : List ℕ × Node). IsFine entry.1.made)
-      (λ entry. IsShort entry.1.made) (λ entry h. h.short) s.nodes fine;
-}
 
 pub accepted_kept : (statements : List Statement) (script : Script) → AreShort statements
     → rules_.script_of statements ≡ Ok script → IsKept script
@@ -217,4 +232,4 @@ accepted_kept statements script short e =
     let s = both (rules_.defined statements nothing) _ script e in
     let some = both (unless 0 NoOutput (nat_lt 0 (length s.part.outputs))) _ script s.then in
     subst IsKept (ok-same _ script some.then)
-    (kept_from s.part (defined_fine statements nothing s.part short tt s.first))
+    (record { short = defined_fine statements nothing s.part short tt s.first })

@@ -16,7 +16,6 @@ use Rattle.script_program.specs.Script.{Node, Script}
 use Rattle.direct_meaning.specs.Direct.{collections, inputs_behind, made_as, made_at}
 use Rattle.graph_build.specs.Nodes.{inputs_of}
 use Rattle.graph_build.specs.Wanted.{wanted_from}
-use Rattle.build_law.specs.Limits.{IsFirstOutput}
 use Rattle.build_law.specs.Worlds.{world_of}
 use Rattle.build_law.proofs.Made.{is_made}
 use Rattle.build_law.proofs.Meeting.{AllMade, IsSettled}
@@ -74,9 +73,6 @@ rows_behind script all n source (made.Top many input) rem table c ahead h = rw a
 
 -- ---- all nodes
 
-abbrev pub AreFirstOutputs : Named Node → Type 0
-AreFirstOutputs nodes = AllByRecursion (λ entry. IsFirstOutput entry.1.made) nodes
-
 abbrev pub at_of : List (Option Collection) → ℕ → Collection
 at_of made j = or_nothing (made_at made j)
 
@@ -104,12 +100,11 @@ module _ (script : Script) (all : List (List Value)) (made : List (Option Collec
     next_made : (entry : List ℕ × Node) (nodes : Named Node) (rem : List (List Value))
         (table : List (Option Collection)) (source : ℕ) (c : Collection)
         → is_needed script (length table) ≡ true → rem ≡ drop source all → SettledIn table
-        → IsFirstOutput entry.1.made
         → made_as script (length table) entry.1.made rem table ≡ Some c
         → collections script nodes (inputs_behind entry.1.made rem) (table ++ Some c ∷ [])
         ≡ Some made
         → Behind nodes → AllFrom (entry ∷ nodes) (length table) source
-    next_made entry nodes rem table source c needed ahead st first made_c rest behind =
+    next_made entry nodes rem table source c needed ahead st made_c rest behind =
         let k = continues script nodes (inputs_behind entry.1.made rem) (table ++ Some c ∷ []) made
         rest in
         let is : made ≡ table ++ Some c ∷ k.tail = k.is ∙ append_assoc table (Some c ∷ []) k.tail in
@@ -120,7 +115,7 @@ module _ (script : Script) (all : List (List Value)) (made : List (Option Collec
         ap or_nothing (ap (λ t. made_at t n) is ∙ made_next table k.tail c) in
         let mk : Made = entry.1.made in
         let one = is_made script all (at_of made) table (λ j d h. ap or_nothing (front j d h))
-        (settled_at table st) n source c here mk rem ahead first made_c in
+        (settled_at table st) n source c here mk rem ahead made_c in
         let others = behind (inputs_behind mk rem) (table ++ Some c ∷ []) (source + inputs_of mk)
         (rows_behind script all n source mk rem table c ahead made_c)
         (settled_more table c st one.settled) rest in
@@ -168,26 +163,25 @@ module _ (script : Script) (all : List (List Value)) (made : List (Option Collec
     next_of : (entry : List ℕ × Node) (nodes : Named Node) (rem : List (List Value))
         (table : List (Option Collection)) (source : ℕ) (b : Bool)
         → is_needed script (length table) ≡ b → rem ≡ drop source all → SettledIn table
-        → IsFirstOutput entry.1.made
         → (if b then option_and_then (λ c.
         collections script nodes (inputs_behind entry.1.made rem) (table ++ Some c ∷ []))
         (made_as script (length table) entry.1.made rem table)
         else collections script nodes rem (table ++ None ∷ [])) ≡ Some made
         → Behind nodes → AllFrom (entry ∷ nodes) (length table) source
-    next_of entry nodes rem table source true needed ahead st first h behind =
+    next_of entry nodes rem table source true needed ahead st h behind =
         let (c, made_c, rest) =
         and_then_some
         (λ c. collections script nodes (inputs_behind entry.1.made rem) (table ++ Some c ∷ []))
         (made_as script (length table) entry.1.made rem table) made h in
-        next_made entry nodes rem table source c needed ahead st first made_c rest behind
-    next_of entry nodes rem table source false needless ahead st first h behind =
+        next_made entry nodes rem table source c needed ahead st made_c rest behind
+    next_of entry nodes rem table source false needless ahead st h behind =
         next_without entry nodes rem table source needless ahead st h behind
 
-    pub all_from : (nodes : Named Node) → AreFirstOutputs nodes → Behind nodes
-    all_from [] first [] table source ahead st h =
+    pub all_from : (nodes : Named Node) → Behind nodes
+    all_from [] [] table source ahead st h =
         let e : table ≡ made = cc in
         record { all_made = tt; settled = subst SettledIn e st }
-    all_from [] first (rows ∷ rem) table source ahead st h = cc
-    all_from (entry ∷ nodes) first rem table source ahead st h =
-        next_of entry nodes rem table source (is_needed script (length table)) refl ahead st first.0
-        h (all_from nodes first.1)
+    all_from [] (rows ∷ rem) table source ahead st h = cc
+    all_from (entry ∷ nodes) rem table source ahead st h =
+        next_of entry nodes rem table source (is_needed script (length table)) refl ahead st
+        h (all_from nodes)

@@ -1,28 +1,28 @@
 -- Each node of a script's graph is well-formed.
-use Rattle.std.proofs.Common.{◌≡◌, ℕ, suc, ◌+◌, ◌<◌, ◌≤◌, Bool, true, false, List, [], ◌∷◌, ◌++◌, map, length, get_or, Option, Some, None, refl, ap, ◌∙◌, subst, arith, add-zero}
+use Rattle.std.proofs.Common.{◌≡◌, ℕ, suc, ◌+◌, ◌<◌, ◌≤◌, Bool, true, false, List, [], ◌∷◌, ◌++◌, map, length, refl, ap, ◌∙◌, subst, arith, add-zero}
 use Rattle.std.specs.Prelude.{◌==◌, ◌||◌}
 use Rattle.std.specs.List.{AllByRecursion}
 use Rattle.std.proofs.lemmas.Bool.{eqb-true}
 use Rattle.std.proofs.lemmas.List.{length-map}
-use Rattle.exec_graph.specs.Meaning.{place}
+use Rattle.exec_graph.specs.Forests.{Branch}
+use Rattle.exec_graph.specs.Meaning.{has_out, place}
 use Rattle.exec_graph.specs.Readers.{among, is_read, same_place, uses}
 use Rattle.exec_graph.specs.Wellformed.{IsForestOk, IsNodeOk, most_nodes}
 use Rattle.exec_graph.specs.declared.graph.Entry.{Entry}
 use Rattle.exec_graph.specs.declared.graph.Graph.{Graph}
 use Rattle.exec_graph.specs.declared.graph.Place.{Place}
 use Rattle.exec_graph.specs.declared.step.Does.{Does}
-use Rattle.graph_build.specs.Graphs.{behind, giving_from, last_node, next_source, nodes_at, nodes_from}
-use Rattle.graph_build.specs.Nodes.{before_last, entry, first_of, groups, last_step, made_nodes, one_step, step}
+use Rattle.graph_build.specs.Calls.{names_needed, needed_from, other_names}
+use Rattle.graph_build.specs.Nodes.{before_last, call_branch, entry, first_of, groups, last_step, made_nodes, one_step, step}
+use Rattle.graph_build.specs.Wanted.{needed_at}
 use Rattle.combine_table.specs.declared.comb.Comb.TheVariants as by
 use Rattle.exec_graph.specs.declared.graph.Node.TheVariants.{Flatten}
 use Rattle.exec_graph.specs.declared.step.Does.TheVariants as does
 use Rattle.script_program.specs.declared.made.Made.{Made}
 use Rattle.script_program.specs.declared.made.Made.TheVariants as made
-use Rattle.flume_value.proofs.EachLemmas.{Each-append}
-use Rattle.build_law.proofs.Lowering.{at_seam}
-use Rattle.build_law.proofs.Reading.{any_behind, any_front, any_uses, or_left, or_right, same_self}
-use Rattle.build_law.proofs.Tables.{one_longer}
-use Rattle.build_law.proofs.Values.{regrouped}
+use Rattle.script_program.specs.Script.{Script}
+use Rattle.build_law.proofs.Outputs.{buds, in_order}
+use Rattle.build_law.proofs.Reading.{any_behind, any_uses, or_left, or_right, same_self}
 
 -- a step has its first output alone
 first_only : (j : ℕ) (b : Bool) → (0 == j) ≡ b → (b || (false || false)) ≡ true → 0 ≡ j
@@ -52,16 +52,22 @@ module _ (g : Graph) where
       step_ok n origin last does
       (subst (λ k. is_read g (first_of k) ≡ true) (add-zero n) read)
 
-  module _ (gives : ℕ → Place) (origin source n : ℕ) where
+  -- the step of a call, whose outputs that have numbers are read
+  call_ok : (n : ℕ) (b : Branch) (needed : List Bool)
+      → ((j : ℕ) → has_out j (buds b 0 0 needed) ≡ true → is_read g (place n j) ≡ true)
+      → IsForestOk g n (buds b 0 0 needed)
+  call_ok n b needed read = record { order = in_order b 0 0 needed; read = read }
+
+  module _ (script : Script) (gives : ℕ → Place) (origin source n : ℕ) where
     abbrev Inner : Made → Type 0
     Inner made =
-        (c : Place) → any_uses c (made_nodes gives origin source n made) ≡ true
+        (c : Place) → any_uses c (made_nodes script gives origin source n made) ≡ true
         → is_read g c ≡ true
 
     -- the right side is read by the third node of a join
     right_read : (left right : ℕ)
         → any_uses (first_of (n + 1))
-        (made_nodes gives origin source n (made.Join left right)) ≡ true
+        (made_nodes script gives origin source n (made.Join left right)) ≡ true
     right_read left right =
         let c = first_of (n + 1) in
         any_behind (λ e. uses c e.node)
@@ -77,7 +83,7 @@ module _ (g : Graph) where
     -- the greatest members are read by the last of their nodes
     greatest_read : (many input : ℕ)
         → any_uses (first_of (n + 2))
-        (made_nodes gives origin source n (made.Top many input)) ≡ true
+        (made_nodes script gives origin source n (made.Top many input)) ≡ true
     greatest_read many input =
         let c = first_of (n + 2) in
         any_behind (λ e. uses c e.node)
@@ -88,10 +94,24 @@ module _ (g : Graph) where
         (or_left (same_place c c || false) false
         (or_left (same_place c c) false (same_self c)))
 
-    pub block_ok : (made : Made) → is_read g (first_of (n + before_last made)) ≡ true
-        → Inner made → FlattenFits made → Ok (made_nodes gives origin source n made)
+    -- its last node is read, or each output of its call that has a number
+    abbrev pub IsLastRead : Made → Type 0
+    IsLastRead (made.Do input f output) =
+        (j : ℕ) → has_out j (buds (call_branch origin f (needed_at script origin)
+        (needed_from script (suc origin) (other_names script f))) 0 0
+        (names_needed script origin f)) ≡ true → is_read g (place n j) ≡ true
+    IsLastRead made = is_read g (first_of (n + before_last made)) ≡ true
+
+    pub block_ok : (made : Made) → IsLastRead made
+        → Inner made → FlattenFits made → Ok (made_nodes script gives origin source n made)
     block_ok (made.Input file columns) last inner fits = (tt, tt)
-    block_ok (made.Do input f output) last inner fits = (last_ok n _ _ _ last, tt)
+    block_ok (made.Do input f output) last inner fits = (
+      call_ok n
+          (call_branch origin f (needed_at script origin)
+          (needed_from script (suc origin) (other_names script f)))
+          (names_needed script origin f) last,
+      tt,
+    )
     block_ok (made.Group input) last inner fits = (tt, tt)
     block_ok (made.Combine input k) last inner fits = (last_ok n _ _ _ last, tt)
     block_ok (made.Flatten inputs) last inner fits =
@@ -124,46 +144,3 @@ module _ (g : Graph) where
         ),
       ),
     )
-
-  -- all nodes are, where those that give collections are read
-  module _ (all : List (Option Made)) (numbers : List ℕ) (gives : ℕ → Place)
-      (last : (j : ℕ) (made : Made) → get_or all j None ≡ Some made
-      → is_read g (first_of (get_or numbers j 0)) ≡ true)
-      (fits : (j : ℕ) (made : Made) → get_or all j None ≡ Some made → FlattenFits made) where
-    abbrev Embeds : List Entry → Type 0
-    Embeds es = (c : Place) → any_uses c es ≡ true → is_read g c ≡ true
-
-    part_ok : (origin source n : ℕ) (ws before : List (Option Made)) (given : List ℕ)
-        (made : Option Made) → all ≡ before ++ made ∷ ws → length before ≡ origin
-        → numbers ≡ given ++ last_node n made ∷ giving_from (behind n made) ws
-        → length given ≡ origin → Embeds (nodes_at gives origin source n made)
-        → Ok (nodes_at gives origin source n made)
-    part_ok origin source n ws before given None all_is size is more embeds = tt
-    part_ok origin source n ws before given (Some made) all_is size is more embeds =
-        let found : get_or all origin None ≡ Some made =
-        at_seam all before ws (Some made) None origin all_is size in
-        let number : get_or numbers origin 0 ≡ n + before_last made =
-        at_seam numbers given (giving_from (behind n (Some made)) ws) (n + before_last made) 0
-        origin is more in
-        block_ok gives origin source n made
-        (subst (λ k. is_read g (first_of k) ≡ true) number (last origin made found))
-        embeds (fits origin made found)
-
-    pub all_ok : (origin source n : ℕ) (ws before : List (Option Made)) (given : List ℕ)
-        → all ≡ before ++ ws → length before ≡ origin
-        → numbers ≡ given ++ giving_from n ws → length given ≡ origin
-        → Embeds (nodes_from gives origin source n ws) → Ok (nodes_from gives origin source n ws)
-    all_ok origin source n [] before given all_is size is more embeds = tt
-    all_ok origin source n (made ∷ ws) before given all_is size is more embeds =
-        let here : List Entry = nodes_at gives origin source n made in
-        let rest : List Entry =
-        nodes_from gives (suc origin) (next_source source made) (behind n made) ws in
-        Each-append (λ e. IsNodeOk g e.number e.node) here rest
-        (part_ok origin source n ws before given made all_is size is more
-        (λ c h. embeds c (any_front (λ e. uses c e.node) here rest h)))
-        (all_ok (suc origin) (next_source source made) (behind n made) ws
-        (before ++ made ∷ []) (given ++ last_node n made ∷ [])
-        (regrouped all before (made ∷ []) ws all_is) (one_longer before made ∙ ap suc size)
-        (regrouped numbers given (last_node n made ∷ []) (giving_from (behind n made) ws) is)
-        (one_longer given (last_node n made) ∙ ap suc more)
-        (λ c h. embeds c (any_behind (λ e. uses c e.node) here rest h)))

@@ -1,30 +1,160 @@
--- The graph of a well-formed script is founded.
-use Rattle.std.proofs.Common.{◌≡◌, ◌+◌, ◌<◌, true, length, sym, subst, arith}
-use Rattle.std.specs.List.{AllByRecursion}
-use Rattle.flume_value.proofs.EachLemmas.{Each-weaker}
-use Rattle.exec_graph.specs.Meaning.{IsThere, gives_at, node_at, reads}
+-- The graph of a well-formed script is founded: all that is read is there, and is lower.
+use Rattle.std.proofs.Common.{◌≡◌, ℕ, zero, suc, ◌+◌, ◌<◌, ◌≤◌, Bool, true, List, [], ◌∷◌, ◌++◌, length, get_or, map, Option, Some, None, refl, sym, ap, ◌∙◌, subst, arith, add-zero, zero-add}
+use Rattle.std.specs.List.{AllByRecursion, Contains, list_any}
+use Rattle.exec_graph.specs.Meaning.{IsThere, gives_at, has_out, node_at, place, reads}
+use Rattle.exec_graph.specs.Wellformed.{size}
 use Rattle.exec_graph.specs.declared.graph.Entry.{Entry}
 use Rattle.exec_graph.specs.declared.graph.Place.{Place}
-use Rattle.graph_build.specs.Graphs.{giving, nodes_of, place_in}
-use Rattle.graph_build.specs.Wanted.{wanted}
+use Rattle.flume_value.proofs.EachLemmas.{Each-weaker}
+use Rattle.graph_build.specs.Built.{built}
+use Rattle.graph_build.specs.Calls.{names_needed, needed_from, number_behind, other_names}
+use Rattle.graph_build.specs.Graphs.{nodes_of}
+use Rattle.graph_build.specs.Nodes.{before_last, call_branch, call_in, first_of, made_nodes}
+use Rattle.graph_build.specs.Wanted.{needed_at, wanted}
+use Rattle.script_program.specs.Needed.{operands}
+use Rattle.script_program.specs.declared.made.Made.{Made}
+use Rattle.script_program.specs.declared.made.Made.TheVariants as made
 use Rattle.script_program.specs.Script.{Script}
 use Rattle.script_laws.specs.WellFormed.{IsWellFormed}
-use Rattle.build_law.proofs.Lowering.{operands_low}
-use Rattle.build_law.proofs.Numbered.{Counts, IsLow, all_counts, all_low, below_counts, there_counts}
+use Rattle.build_law.proofs.Blocks.{block_each, each_block, last_number, lower_start}
+use Rattle.build_law.proofs.Calling.{IsNamed, built_call, call_built, each_contained, how_needed, named, needed_as, other_built, reads_early, split_at}
+use Rattle.build_law.proofs.MadeKinds.{IsOther, Kind, called, kind_of, other}
+use Rattle.build_law.proofs.Numbered.{Counts, IsPlain, all_counts, at_counts, below_counts, last_in, nodes_end, there_counts}
+use Rattle.build_law.proofs.Outputs.{buds, first_there, one_step_of, out_there}
+use Rattle.build_law.proofs.Placing.{call_place, gives, other_place, source, start}
+
+-- ---- one collection's nodes
+
+-- where it is a call, one of its names is needed
+abbrev pub IsCalled : Script → ℕ → Made → Type 0
+IsCalled script origin (made.Do input f o) =
+    list_any (λ one. one) (names_needed script origin f) ≡ true
+IsCalled script origin _ = Unit {0}
+
+-- a node reads what is there and lower
+abbrev pub IsLow : (Place → Type 0) → ℕ → Place → Type 0
+IsLow P n c = P c × (c.node < n)
+
+abbrev pub ReadsLow : (Place → Type 0) → Entry → Type 0
+ReadsLow P e = AllByRecursion (IsLow P e.number) (reads e.node)
+
+module _ (script : Script) (gives : ℕ → Place) (origin source n : ℕ) where
+  block_plain : (mk : Made) → IsCalled script origin mk
+      → AllByRecursion IsPlain (made_nodes script gives origin source n mk)
+  block_plain (made.Input file columns) h = ((refl, refl), tt)
+  block_plain (made.Do input f o) h =
+      let b = call_branch origin f (needed_at script origin)
+      (needed_from script (suc origin) (other_names script f)) in (
+        (
+          first_there b 0 0 (names_needed script origin f) h,
+          one_step_of b 0 (needed_at script origin)
+              (needed_from script (suc origin) (other_names script f)),
+        ),
+        tt,
+      )
+  block_plain (made.Group input) h = ((refl, refl), tt)
+  block_plain (made.Combine input k) h = ((refl, refl), tt)
+  block_plain (made.Flatten inputs) h = ((refl, refl), tt)
+  block_plain (made.Count input) h = ((refl, refl), ((refl, refl), ((refl, refl), tt)))
+  block_plain (made.Join left right) h =
+      ((refl, refl), ((refl, refl), ((refl, refl), ((refl, refl), ((refl, refl), tt)))))
+  block_plain (made.Top many input) h =
+      ((refl, refl), ((refl, refl), ((refl, refl), ((refl, refl), tt))))
+
+  module _ (P : Place → Type 0) where
+    -- each node of the collection is there
+    abbrev AreThere : Made → Type 0
+    AreThere mk = (k : ℕ) → k ≤ n + before_last mk → P (first_of k)
+
+    higher : (m : ℕ) → n ≤ m → (cs : List Place) → AllByRecursion (IsLow P n) cs
+        → AllByRecursion (IsLow P m) cs
+    higher m up cs h =
+        Each-weaker (IsLow P n) (IsLow P m)
+        (λ c low. (low.0, (let below = low.1 in omega arith))) cs h
+
+    all_low : (js : List ℕ) → AllByRecursion (λ j. IsLow P n (gives j)) js
+        → AllByRecursion (IsLow P n) (map gives js)
+    all_low [] h = tt
+    all_low (j ∷ js) h = (h.0, all_low js h.1)
+
+    next : (mk : Made) → AreThere mk → (k m : ℕ) → k ≤ n + before_last mk → k < m
+        → AllByRecursion (IsLow P m) (first_of k ∷ [])
+    next mk there k m within below = ((there k within, below), tt)
+
+    block_low : (mk : Made) → AreThere mk
+        → AllByRecursion (λ j. IsLow P n (gives j)) (operands mk)
+        → AllByRecursion (ReadsLow P) (made_nodes script gives origin source n mk)
+    block_low (made.Input file columns) there h = (tt, tt)
+    block_low (made.Do input f o) there h = ((h.0, tt), tt)
+    block_low (made.Group input) there h = ((h.0, tt), tt)
+    block_low (made.Combine input k) there h = ((h.0, tt), tt)
+    block_low (made.Flatten inputs) there h = (all_low inputs h, tt)
+    block_low (made.Count input) there h = (
+      (h.0, tt),
+      (
+        next (made.Count input) there n (n + 1) (omega arith) (omega arith),
+        (next (made.Count input) there (n + 1) (n + 2) (omega arith) (omega arith), tt),
+      ),
+    )
+    block_low (made.Join left right) there h =
+        let mk = made.Join left right in (
+          (h.0, tt),
+          (
+            higher (n + 1) (omega arith) (gives right ∷ []) (h.1.0, tt),
+            (
+              (
+                (there n (omega arith), omega arith),
+                ((there (n + 1) (omega arith), omega arith), tt),
+              ),
+              (
+                next mk there (n + 2) (n + 3) (omega arith) (omega arith),
+                (next mk there (n + 3) (n + 4) (omega arith) (omega arith), tt),
+              ),
+            ),
+          ),
+        )
+    block_low (made.Top many input) there h =
+        let mk = made.Top many input in (
+          (h.0, tt),
+          (
+            next mk there n (n + 1) (omega arith) (omega arith),
+            (
+              next mk there (n + 1) (n + 2) (omega arith) (omega arith),
+              (next mk there (n + 2) (n + 3) (omega arith) (omega arith), tt),
+            ),
+          ),
+        )
+
+-- ---- all nodes
 
 module _ (script : Script) (well : IsWellFormed script) where
+  abbrev nodes : List Entry
+  nodes = nodes_of script
+
   pub counts : Counts 0 (nodes_of script)
-  counts = all_counts (place_in (giving script)) 0 0 0 (wanted script)
+  counts = all_counts script (gives script) 0 0 0 (built script)
 
-  pub lows : AllByRecursion IsLow (nodes_of script)
-  lows = all_low (giving script) 0 0 0 (wanted script) (operands_low script well)
+  is_called : (t : ℕ) {mk : Made} → Kind mk → get_or (built script) t None ≡ Some mk
+      → IsCalled script t mk
+  is_called t (called input f o) found = (built_call script t input f o found).1
+  is_called t (other mk apart) found = by_other mk apart
+    where
+      by_other : (how : Made) → IsOther how → IsCalled script t how
+      by_other (made.Input file columns) h = tt
+      by_other (made.Do input f o) h = absurd h
+      by_other (made.Group input) h = tt
+      by_other (made.Combine input k) h = tt
+      by_other (made.Flatten inputs) h = tt
+      by_other (made.Count input) h = tt
+      by_other (made.Join left right) h = tt
+      by_other (made.Top many input) h = tt
 
-  -- the first output of each node is there
-  pub is_there : (c : Place) → c.out ≡ 0 → c.node < length (nodes_of script)
-      → IsThere (nodes_of script) c
-  is_there c out below =
-      subst (λ k. gives_at (node_at (nodes_of script) c.node) k ≡ true) (sym out)
-      (there_counts 0 (nodes_of script) counts lows c.node (omega arith) (omega arith))
+  pub plains : AllByRecursion IsPlain (nodes_of script)
+  plains =
+      each_block script (gives script) IsPlain 0 0 0 (built script)
+      (λ t mk found.
+      block_plain script (gives script) (0 + t) (source script t) (start script t) mk
+      (subst (λ o. IsCalled script o mk) (sym (zero-add t)) (is_called t (kind_of mk) found)))
 
   pub numbers_below : AllByRecursion (λ e. e.number < length (nodes_of script)) (nodes_of script)
   numbers_below =
@@ -32,8 +162,112 @@ module _ (script : Script) (well : IsWellFormed script) where
       (λ e. e.number < length (nodes_of script)) (λ e h. omega arith) (nodes_of script)
       (below_counts 0 (nodes_of script) counts)
 
-  pub reads_there : (e : Entry) → e.number < length (nodes_of script) → IsLow e
-      → AllByRecursion (IsThere (nodes_of script)) (reads e.node)
-  reads_there e below low =
-      Each-weaker (λ (c : Place). (c.out ≡ 0) × (c.node < e.number)) (IsThere (nodes_of script))
-      (λ c h. is_there c h.0 (let lower = h.1 in omega arith)) (reads e.node) low.reads
+  -- the first output of each node is there
+  first_is_there : (k : ℕ) → k < length (nodes_of script)
+      → IsThere (nodes_of script) (first_of k)
+  first_is_there k below =
+      there_counts 0 (nodes_of script) counts plains k (omega arith) (omega arith)
+
+  within_all : (t : ℕ) (mk : Made) → get_or (built script) t None ≡ Some mk
+      → start script t + before_last mk < length (nodes_of script)
+  within_all t mk found =
+      let low = last_in 0 t (built script) mk found in
+      let last = last_number 0 (built script) t mk found in
+      let all = nodes_end script (gives script) 0 0 0 (built script) in
+      omega arith
+
+  inner_there : (t : ℕ) (mk : Made) → get_or (built script) t None ≡ Some mk → (k : ℕ)
+      → k ≤ start script t + before_last mk → IsThere (nodes_of script) (first_of k)
+  inner_there t mk found k low =
+      let all = within_all t mk found in first_is_there k (omega arith)
+
+  -- the node of a call is at its number
+  call_at : (first input f : ℕ)
+      → get_or (built script) first None ≡ Some (made.Do input f 0)
+      → node_at (nodes_of script) (start script first)
+      ≡ Some (call_in script first f (gives script input))
+  call_at first input f found =
+      (block_each script (gives script)
+      (λ e. node_at (nodes_of script) e.number ≡ Some e.node) 0 0 0 (built script) first
+      (made.Do input f 0) found (at_counts 0 (nodes_of script) counts)).0
+      ∙ ap (λ o. Some (call_in script o f (gives script input))) (zero-add first)
+
+  -- where a collection is that is needed
+  pub record IsPlaced (j : ℕ) : Type 0 where
+    pub home : ℕ
+    pub how : Made
+    pub built_ : get_or (built script) home None ≡ Some how
+    pub early : home ≤ j
+    pub node : (gives script j).node ≡ start script home + before_last how
+    pub there : IsThere (nodes_of script) (gives script j)
+
+  other_placed : (j : ℕ) (how : Made) → IsOther how → get_or (wanted script) j None ≡ Some how
+      → IsPlaced j
+  other_placed j how apart found =
+      let at = other_built script j how apart found in
+      let e = other_place script j how apart found in
+      record {
+        home = j;
+        how = how;
+        built_ = at;
+        early = omega arith;
+        node = ap (λ (c : Place). c.node) e;
+        there = subst (IsThere (nodes_of script)) (sym e)
+            (inner_there j how at (start script j + before_last how) (omega arith));
+      }
+
+  call_placed : (j input f o : ℕ) → get_or (wanted script) j None ≡ Some (made.Do input f o)
+      → (n : IsNamed script well j input f o) → IsPlaced j
+  call_placed j input f o found n =
+      let at = call_built script well j input f o found n in
+      let e = call_place script j input f o n.first found n.place at in
+      let front = needed_from script n.first o in
+      let split = split_at script n.first (suc (other_names script f)) o n.below
+      (subst (λ k. needed_at script k ≡ true) (sym n.place)
+      (how_needed script j (made.Do input f o) found)) in
+      let b = call_branch n.first f (needed_at script n.first)
+      (needed_from script (suc n.first) (other_names script f)) in
+      record {
+        home = n.first;
+        how = made.Do input f 0;
+        built_ = at;
+        early = let h = n.place in omega arith;
+        node = ap (λ (c : Place). c.node) e ∙ sym (add-zero (start script n.first));
+        there = subst (IsThere (nodes_of script)) (sym e)
+            (ap (λ o. gives_at o (number_behind 0 front)) (call_at n.first input f at)
+            ∙ ap (λ names. has_out (number_behind 0 front) (buds b 0 0 names)) split.1
+            ∙ out_there b 0 0 front split.0);
+      }
+
+  placed_by : (j : ℕ) {how : Made} → Kind how → get_or (wanted script) j None ≡ Some how
+      → IsPlaced j
+  placed_by j (called input f o) found =
+      call_placed j input f o found
+      (named script well j input f o (needed_as script j (made.Do input f o) found).made)
+  placed_by j (other how apart) found = other_placed j how apart found
+
+  pub is_placed : (j : ℕ) (how : Made) → get_or (wanted script) j None ≡ Some how → IsPlaced j
+  is_placed j how found = placed_by j (kind_of how) found
+
+  operand_low : (t : ℕ) (mk : Made) → get_or (built script) t None ≡ Some mk → (j : ℕ)
+      → Contains (operands mk) j → IsLow (IsThere (nodes_of script))
+      (start script t) (gives script j)
+  operand_low t mk found j reads_ =
+      let read = reads_early script well t mk found j reads_ in
+      let at = is_placed j read.how read.wanted in
+      let early = at.early in
+      let before = read.early in
+      let low = lower_start 0 (built script) at.home t at.how at.built_ (omega arith) in
+      let node = at.node in
+      (at.there, omega arith)
+
+  -- all that is read is there, and lower
+  pub lows : AllByRecursion (ReadsLow (IsThere (nodes_of script))) (nodes_of script)
+  lows =
+      each_block script (gives script) (ReadsLow (IsThere (nodes_of script))) 0 0 0 (built script)
+      (λ t mk found.
+      block_low script (gives script) (0 + t) (source script t) (start script t)
+      (IsThere (nodes_of script)) mk (inner_there t mk found)
+      (each_contained
+      (λ j. IsLow (IsThere (nodes_of script)) (start script t) (gives script j)) (operands mk)
+      (operand_low t mk found)))

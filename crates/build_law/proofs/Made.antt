@@ -1,5 +1,5 @@
 -- The collections of a script meet their equations.
-use Rattle.std.proofs.Common.{◌≡◌, ℕ, ◌-◌, true, List, [], ◌∷◌, ◌++◌, map, drop, get_or, Option, Some, refl, sym, ap, ◌∙◌, subst, arith, add-zero}
+use Rattle.std.proofs.Common.{◌≡◌, ℕ, ◌-◌, true, List, [], ◌∷◌, ◌++◌, map, drop, get_or, Option, Some, refl, sym, ap, ◌∙◌, subst, add-zero}
 use Rattle.std.specs.Prelude.{option_map, option_and_then}
 use Rattle.std.specs.List.{AllByRecursion, flat_map}
 use Rattle.flume_value.specs.declared.value.Value.{Value}
@@ -20,10 +20,9 @@ use Rattle.script_laws.specs.WellFormed.{function_at}
 use Rattle.direct_meaning.specs.Calls.{answer_of, calls_on}
 use Rattle.direct_meaning.specs.Direct.{all_made, called_by, combined_by, counted_by, done_at, done_by, joined_at, joined_by, made_as, made_at, rows_as, top_by}
 use Rattle.script_program.specs.Needed.{operands}
-use Rattle.build_law.specs.Limits.{IsFirstOutput}
 use Rattle.build_law.specs.Worlds.{answered_by, or_silent, world_of}
 use Rattle.build_law.proofs.Meeting.{IsMadeBy, IsSettled}
-use Rattle.build_law.proofs.Passing.{only_label}
+use Rattle.build_law.proofs.Passing.{call_label}
 use Rattle.build_law.proofs.Settling.{called_settled, combined_settled, counted_settled, groups_settled, joined_settled, rows_settled, together_settled, top_settled}
 use Rattle.build_law.proofs.Tables.{and_then_some, map_some}
 
@@ -44,20 +43,20 @@ flat_mapped : {A B C : Type 0} (g : B → List C) (f : A → B) (xs : List A)
 flat_mapped g f [] = refl
 flat_mapped g f (x ∷ xs) = ap (λ ys. g (f x) ++ ys) (flat_mapped g f xs)
 
--- what a function makes is what its step gives
-call_is : (w : World) (n f : ℕ) (answer : Value → Option Called) (c : Collection)
+-- what a function makes is what its step gives to the output
+call_is : (w : World) (n f output : ℕ) (answer : Value → Option Called) (c : Collection)
     (calls : List Called) → w.called f ≡ (λ x. or_silent (answer x))
     → calls_on answer c.bag ≡ Some calls
-    → called_by n 0 c.traps calls ≡ through w (only_label n true (does.Call f)) c
+    → called_by n output c.traps calls ≡ through w (call_label n f output) c
 unfolding called
-call_is w n f answer c calls world h =
-    ap (called_by n 0 c.traps) (sym (calls_mapped answer c.bag calls h))
+call_is w n f output answer c calls world h =
+    ap (called_by n output c.traps) (sym (calls_mapped answer c.bag calls h))
     ∙ (λ i. record {
-      bag = bag_of (flat_mapped (emissions 0) (λ x. or_silent (answer x)) c.bag i);
+      bag = bag_of (flat_mapped (emissions output) (λ x. or_silent (answer x)) c.bag i);
       traps = trap_set (c.traps
           ++ flat_mapped (trap_of n) (λ x. or_silent (answer x)) c.bag i);
     })
-    ∙ (λ i. passed n 0 (sym world i) c)
+    ∙ (λ i. passed n output (sym world i) c)
 
 -- what is made of flattened collections
 all_at : (table : List (Option Collection)) (at : ℕ → Collection) (js : List ℕ)
@@ -106,11 +105,11 @@ module _ (script : Script) (all : List (List Value)) (at : ℕ → Collection)
       ap (λ k. get_or all k []) (sym (add-zero source)) ∙ sym (get_or-drop source all 0 [])
       ∙ ap (λ xs. get_or xs 0 []) (sym ahead)
 
-  by_function : (input f output : ℕ) → output ≡ 0
+  by_function : (input f output : ℕ)
       → option_and_then (λ function. done_at (n - output) output function input table)
       (function_at script.functions f) ≡ Some c
       → Is (made.Do input f output)
-  by_function input f output first h =
+  by_function input f output h =
       let (function, calls_it, done) =
       and_then_some (λ function. done_at (n - output) output function input table)
       (function_at script.functions f) c h in
@@ -120,14 +119,11 @@ module _ (script : Script) (all : List (List Value)) (at : ℕ → Collection)
       map_some (called_by (n - output) output d.traps) (calls_on (answer_of function) d.bag) c
       done_d in
       let w : World = world_of script all in
-      let zero_off : n - output ≡ n = omega (arith, first) in
-      let e : called_by n 0 d.traps calls ≡ c =
-      (λ i. called_by (sym zero_off i) (sym first i) d.traps calls) ∙ is in
       record {
-        is = here ∙ sym e
-            ∙ call_is w n f (answer_of function) d calls (λ i x. answered_by (calls_it i) x)
-            called_calls
-            ∙ ap (through w (only_label n true (does.Call f))) (sym (same input d read));
+        is = here ∙ sym is
+            ∙ call_is w (n - output) f output (answer_of function) d calls
+            (λ i x. answered_by (calls_it i) x) called_calls
+            ∙ ap (through w (call_label (n - output) f output)) (sym (same input d read));
         settled = subst IsSettled is (called_settled (n - output) output d.traps calls);
         read = ((d, read), tt);
       }
@@ -196,19 +192,19 @@ module _ (script : Script) (all : List (List Value)) (at : ℕ → Collection)
       }
 
   pub is_made : (mk : Made) (rem : List (List Value)) → rem ≡ drop source all
-      → IsFirstOutput mk → made_as script n mk rem table ≡ Some c → Is mk
-  is_made (made.Input file columns) [] ahead first h = cc
-  is_made (made.Input file columns) (rows ∷ rem) ahead first h =
+      → made_as script n mk rem table ≡ Some c → Is mk
+  is_made (made.Input file columns) [] ahead h = cc
+  is_made (made.Input file columns) (rows ∷ rem) ahead h =
       let e : rows_as rows ≡ c = cc in
       record {
         is = here ∙ sym e ∙ ap rows_as (sym (rows_here rows rem ahead));
         settled = subst IsSettled e (rows_settled rows);
         read = tt;
       }
-  is_made (made.Do input f output) rem ahead first h = by_function input f output first h
-  is_made (made.Group input) rem ahead first h = by_group input h
-  is_made (made.Combine input k) rem ahead first h = by_combining input k h
-  is_made (made.Flatten inputs) rem ahead first h = by_flattening inputs h
-  is_made (made.Count input) rem ahead first h = by_counting input h
-  is_made (made.Join left right) rem ahead first h = by_joining left right h
-  is_made (made.Top many input) rem ahead first h = by_top many input h
+  is_made (made.Do input f output) rem ahead h = by_function input f output h
+  is_made (made.Group input) rem ahead h = by_group input h
+  is_made (made.Combine input k) rem ahead h = by_combining input k h
+  is_made (made.Flatten inputs) rem ahead h = by_flattening inputs h
+  is_made (made.Count input) rem ahead h = by_counting input h
+  is_made (made.Join left right) rem ahead h = by_joining left right h
+  is_made (made.Top many input) rem ahead h = by_top many input h

@@ -1,18 +1,19 @@
--- The nodes of a graph are numbered one after another, and read what lower ones give.
+-- The nodes of a graph are numbered one after another.
 use Rattle.std.proofs.Common.{◌≡◌, ℕ, zero, suc, ◌+◌, ◌<◌, ◌≤◌, Bool, true, false, cond, List, [], ◌∷◌, ◌++◌, map, length, get_or, Option, Some, None, refl, subst, arith, add-zero, ◌*◌, length-append}
 use Rattle.std.specs.Prelude.{◌==◌}
 use Rattle.std.specs.List.{AllByRecursion}
-use Rattle.std.proofs.lemmas.Bool.{eq-eqb}
-use Rattle.flume_value.proofs.EachLemmas.{Each-append, Each-weaker}
-use Rattle.exec_graph.specs.Meaning.{gives, gives_at, node_at, reads}
+use Rattle.std.proofs.lemmas.Bool.{eq-eqb, eqb-true}
+use Rattle.flume_value.proofs.EachLemmas.{Each-both, Each-weaker}
+use Rattle.exec_graph.specs.Meaning.{gives, gives_at, node_at}
 use Rattle.exec_graph.specs.Wellformed.{Ascends, size, total_size}
 use Rattle.exec_graph.specs.declared.graph.Entry.{Entry}
+use Rattle.exec_graph.specs.declared.graph.Node.{Node}
 use Rattle.exec_graph.specs.declared.graph.Place.{Place}
-use Rattle.graph_build.specs.Graphs.{behind, giving_from, last_node, next_source, nodes_at, nodes_from, place_in}
-use Rattle.graph_build.specs.Nodes.{before_last, first_of, made_nodes}
-use Rattle.script_program.specs.Needed.{operands}
+use Rattle.graph_build.specs.Graphs.{behind, giving_from, last_node, next_source, nodes_at, nodes_from}
+use Rattle.graph_build.specs.Nodes.{before_last, made_nodes}
 use Rattle.script_program.specs.declared.made.Made.{Made}
 use Rattle.script_program.specs.declared.made.Made.TheVariants as made
+use Rattle.script_program.specs.Script.{Script}
 
 -- numbers one after another
 abbrev pub Counts : ℕ → List Entry → Type 0
@@ -53,13 +54,11 @@ below_counts n (e ∷ es) h = (
       (below_counts (suc n) es h.1),
 )
 
--- ---- what nodes give and read
+-- ---- what nodes give
 
--- a node is one step, gives its first output, and reads first outputs of lower nodes
-pub record IsLow (e : Entry) : Type 0 where
-  pub gives : gives e.node 0 ≡ true
-  pub size : size e.node ≡ 1
-  pub reads : AllByRecursion (λ c. (c.out ≡ 0) × (c.node < e.number)) (reads e.node)
+-- a node is one step, and gives its first output
+abbrev pub IsPlain : Entry → Type 0
+IsPlain e = (gives e.node 0 ≡ true) × (size e.node ≡ 1)
 
 found_at : (e : Entry) (es : List Entry) (k : ℕ) (b : Bool) → (e.number == k) ≡ b
     → (b ≡ true → gives e.node 0 ≡ true)
@@ -68,157 +67,92 @@ found_at : (e : Entry) (es : List Entry) (k : ℕ) (b : Bool) → (e.number == k
 found_at e es k true is here later = here refl
 found_at e es k false is here later = later refl
 
-pub there_counts : (n : ℕ) (es : List Entry) → Counts n es → AllByRecursion IsLow es → (k : ℕ)
+pub there_counts : (n : ℕ) (es : List Entry) → Counts n es → AllByRecursion IsPlain es → (k : ℕ)
     → n ≤ k → k < n + length es → gives_at (node_at es k) 0 ≡ true
 there_counts n [] h low k above below = absurd (omega arith)
 there_counts n (e ∷ es) h low k above below =
-    found_at e es k (e.number == k) refl (λ is. low.0.gives)
+    found_at e es k (e.number == k) refl (λ is. low.0.0)
     (λ is. there_counts (suc n) es h.1 low.1 k
     (let apart : e.number ≡ k → ⊥ = λ same. (let yes_ = eq-eqb e.number k same in cc) in
     let same = h.0 in omega arith)
     (omega arith))
 
+-- each node is at its number
+same_at : (e : Entry) (b : Bool) → (e.number == e.number) ≡ b → b ≡ true → (o : Option Node)
+    → cond b (Some e.node) o ≡ Some e.node
+same_at e true is h o = refl
+same_at e false is h o = cc
+
+other_at : (e d : Entry) (b : Bool) → (e.number == d.number) ≡ b → (e.number ≡ d.number → ⊥)
+    → (o : Option Node) → o ≡ Some d.node → cond b (Some e.node) o ≡ Some d.node
+other_at e d true is differ o h = absurd (differ (eqb-true e.number d.number is))
+other_at e d false is differ o h = h
+
+pub at_counts : (n : ℕ) (es : List Entry) → Counts n es
+    → AllByRecursion (λ e. node_at es e.number ≡ Some e.node) es
+at_counts n [] h = tt
+at_counts n (e ∷ es) h = (
+  same_at e (e.number == e.number) refl (eq-eqb e.number e.number refl) (node_at es e.number),
+  Each-both (λ (d : Entry). suc n ≤ d.number) (λ d. node_at es d.number ≡ Some d.node)
+      (λ d. node_at (e ∷ es) d.number ≡ Some d.node)
+      (λ d above at. other_at e d (e.number == d.number) refl
+      (λ same. let here = h.0 in absurd (omega arith)) (node_at es d.number) at)
+      es (above_counts (suc n) es h.1) (at_counts (suc n) es h.1),
+)
+
 -- ---- the nodes of collections
 
-pub block_length : (gives : ℕ → Place) (origin source n : ℕ) (made : Made)
-    → length (made_nodes gives origin source n made) ≡ before_last made + 1
-block_length gives origin source n (made.Input file columns) = refl
-block_length gives origin source n (made.Do input f output) = refl
-block_length gives origin source n (made.Group input) = refl
-block_length gives origin source n (made.Combine input k) = refl
-block_length gives origin source n (made.Flatten inputs) = refl
-block_length gives origin source n (made.Count input) = refl
-block_length gives origin source n (made.Join left right) = refl
-block_length gives origin source n (made.Top many input) = refl
+pub block_length : (script : Script) (gives : ℕ → Place) (origin source n : ℕ) (made : Made)
+    → length (made_nodes script gives origin source n made) ≡ before_last made + 1
+block_length script gives origin source n (made.Input file columns) = refl
+block_length script gives origin source n (made.Do input f output) = refl
+block_length script gives origin source n (made.Group input) = refl
+block_length script gives origin source n (made.Combine input k) = refl
+block_length script gives origin source n (made.Flatten inputs) = refl
+block_length script gives origin source n (made.Count input) = refl
+block_length script gives origin source n (made.Join left right) = refl
+block_length script gives origin source n (made.Top many input) = refl
 
-block_counts : (gives : ℕ → Place) (origin source n : ℕ) (made : Made)
-    → Counts n (made_nodes gives origin source n made)
-block_counts gives origin source n (made.Input file columns) = (refl, tt)
-block_counts gives origin source n (made.Do input f output) = (refl, tt)
-block_counts gives origin source n (made.Group input) = (refl, tt)
-block_counts gives origin source n (made.Combine input k) = (refl, tt)
-block_counts gives origin source n (made.Flatten inputs) = (refl, tt)
-block_counts gives origin source n (made.Count input) =
+block_counts : (script : Script) (gives : ℕ → Place) (origin source n : ℕ) (made : Made)
+    → Counts n (made_nodes script gives origin source n made)
+block_counts script gives origin source n (made.Input file columns) = (refl, tt)
+block_counts script gives origin source n (made.Do input f output) = (refl, tt)
+block_counts script gives origin source n (made.Group input) = (refl, tt)
+block_counts script gives origin source n (made.Combine input k) = (refl, tt)
+block_counts script gives origin source n (made.Flatten inputs) = (refl, tt)
+block_counts script gives origin source n (made.Count input) =
     (refl, (omega arith, (omega arith, tt)))
-block_counts gives origin source n (made.Join left right) =
+block_counts script gives origin source n (made.Join left right) =
     (refl, (omega arith, (omega arith, (omega arith, (omega arith, tt)))))
-block_counts gives origin source n (made.Top many input) =
+block_counts script gives origin source n (made.Top many input) =
     (refl, (omega arith, (omega arith, (omega arith, tt))))
 
-part_counts : (gives : ℕ → Place) (origin source n : ℕ) (made : Option Made) (ys : List Entry)
-    → Counts (behind n made) ys → Counts n (nodes_at gives origin source n made ++ ys)
-part_counts gives origin source n None ys h = h
-part_counts gives origin source n (Some made) ys h =
-    counts_append n (made_nodes gives origin source n made) ys
-    (block_counts gives origin source n made)
+part_counts : (script : Script) (gives : ℕ → Place) (origin source n : ℕ)
+    (made : Option Made) (ys : List Entry)
+    → Counts (behind n made) ys → Counts n (nodes_at script gives origin source n made ++ ys)
+part_counts script gives origin source n None ys h = h
+part_counts script gives origin source n (Some made) ys h =
+    counts_append n (made_nodes script gives origin source n made) ys
+    (block_counts script gives origin source n made)
     (subst (λ k. Counts k ys)
-    (let e : n + before_last made + 1 ≡ n + length (made_nodes gives origin source n made) =
-    omega (arith, block_length gives origin source n made) in e) h)
+    (let e : n + before_last made + 1 ≡ n + length (made_nodes script gives origin source n made) =
+    omega (arith, block_length script gives origin source n made) in e) h)
 
-pub all_counts : (gives : ℕ → Place) (origin source n : ℕ) (ws : List (Option Made))
-    → Counts n (nodes_from gives origin source n ws)
-all_counts gives origin source n [] = tt
-all_counts gives origin source n (made ∷ ws) =
-    part_counts gives origin source n made
-    (nodes_from gives (suc origin) (next_source source made) (behind n made) ws)
-    (all_counts gives (suc origin) (next_source source made) (behind n made) ws)
-
--- ---- what they read
-
--- the nodes that give what a collection reads have lower numbers
-abbrev pub OperandsLow : List ℕ → ℕ → List (Option Made) → Type 0
-OperandsLow giving n [] = Unit {0}
-OperandsLow giving n (None ∷ ws) = OperandsLow giving n ws
-OperandsLow giving n (Some made ∷ ws) =
-    AllByRecursion (λ j. get_or giving j 0 < n) (operands made)
-    × OperandsLow giving (behind n (Some made)) ws
-
-low_places : (giving : List ℕ) (n : ℕ) (js : List ℕ)
-    → AllByRecursion (λ j. get_or giving j 0 < n) js
-    → AllByRecursion (λ c. (c.out ≡ 0) × (c.node < n)) (map (place_in giving) js)
-low_places giving n [] h = tt
-low_places giving n (j ∷ js) h = ((refl, h.0), low_places giving n js h.1)
-
-low_one : (giving : List ℕ) (n j : ℕ) → get_or giving j 0 < n
-    → AllByRecursion (λ c. (c.out ≡ 0) × (c.node < n)) (place_in giving j ∷ [])
-low_one giving n j h = ((refl, h), tt)
-
-low_next : (n k : ℕ) → n < k
-    → AllByRecursion (λ c. (c.out ≡ 0) × (c.node < k)) (first_of n ∷ [])
-low_next n k h = ((refl, h), tt)
-
-block_low : (giving : List ℕ) (origin source n : ℕ) (made : Made)
-    → AllByRecursion (λ j. get_or giving j 0 < n) (operands made)
-    → AllByRecursion IsLow (made_nodes (place_in giving) origin source n made)
-block_low giving origin source n (made.Input file columns) h =
-    (record { gives = refl; size = refl; reads = tt }, tt)
-block_low giving origin source n (made.Do input f output) h =
-    (record { gives = refl; size = refl; reads = low_one giving n input h.0 }, tt)
-block_low giving origin source n (made.Group input) h =
-    (record { gives = refl; size = refl; reads = low_one giving n input h.0 }, tt)
-block_low giving origin source n (made.Combine input k) h =
-    (record { gives = refl; size = refl; reads = low_one giving n input h.0 }, tt)
-block_low giving origin source n (made.Flatten inputs) h =
-    (record { gives = refl; size = refl; reads = low_places giving n inputs h }, tt)
-block_low giving origin source n (made.Count input) h = (
-  record { gives = refl; size = refl; reads = low_one giving n input h.0 },
-  (
-    record { gives = refl; size = refl; reads = low_next n (n + 1) (omega arith) },
-    (record { gives = refl; size = refl; reads = low_next (n + 1) (n + 2) (omega arith) }, tt),
-  ),
-)
-block_low giving origin source n (made.Join left right) h = (
-  record { gives = refl; size = refl; reads = low_one giving n left h.0 },
-  (
-    record {
-      gives = refl;
-      size = refl;
-      reads =
-          low_one giving (n + 1) right (let below = h.1.0 in omega arith);
-    },
-    (
-      record {
-        gives = refl;
-        size = refl;
-        reads =
-            ((refl, omega arith), ((refl, omega arith), tt));
-      },
-      (
-        record { gives = refl; size = refl; reads = low_next (n + 2) (n + 3) (omega arith) },
-        (record { gives = refl; size = refl; reads = low_next (n + 3) (n + 4) (omega arith) }, tt),
-      ),
-    ),
-  ),
-)
-block_low giving origin source n (made.Top many input) h = (
-  record { gives = refl; size = refl; reads = low_one giving n input h.0 },
-  (
-    record { gives = refl; size = refl; reads = low_next n (n + 1) (omega arith) },
-    (
-      record { gives = refl; size = refl; reads = low_next (n + 1) (n + 2) (omega arith) },
-      (record { gives = refl; size = refl; reads = low_next (n + 2) (n + 3) (omega arith) }, tt),
-    ),
-  ),
-)
-
-pub all_low : (giving : List ℕ) (origin source n : ℕ) (ws : List (Option Made))
-    → OperandsLow giving n ws
-    → AllByRecursion IsLow (nodes_from (place_in giving) origin source n ws)
-all_low giving origin source n [] h = tt
-all_low giving origin source n (None ∷ ws) h = all_low giving (suc origin) source n ws h
-all_low giving origin source n (Some made ∷ ws) h =
-    Each-append IsLow (made_nodes (place_in giving) origin source n made)
-    (nodes_from (place_in giving) (suc origin) (next_source source (Some made))
-    (behind n (Some made)) ws)
-    (block_low giving origin source n made h.0)
-    (all_low giving (suc origin) (next_source source (Some made)) (behind n (Some made)) ws h.1)
+pub all_counts : (script : Script) (gives : ℕ → Place) (origin source n : ℕ)
+    (ws : List (Option Made))
+    → Counts n (nodes_from script gives origin source n ws)
+all_counts script gives origin source n [] = tt
+all_counts script gives origin source n (made ∷ ws) =
+    part_counts script gives origin source n made
+    (nodes_from script gives (suc origin) (next_source source made) (behind n made) ws)
+    (all_counts script gives (suc origin) (next_source source made) (behind n made) ws)
 
 -- ---- how many
 
-pub one_each : (es : List Entry) → AllByRecursion IsLow es → total_size es ≡ length es
+pub one_each : (es : List Entry) → AllByRecursion IsPlain es → total_size es ≡ length es
 one_each [] h = refl
 one_each (e ∷ es) h =
-    let one = h.0.size in let others = one_each es h.1 in
+    let one = h.0.1 in let others = one_each es h.1 in
     (let all : total_size (e ∷ es) ≡ suc (length es) = omega arith in all)
 
 few_before : (made : Made) → before_last made ≤ 4
@@ -231,18 +165,20 @@ few_before (made.Count input) = omega arith
 few_before (made.Join left right) = omega arith
 few_before (made.Top many input) = omega arith
 
-pub few_nodes : (gives : ℕ → Place) (origin source n : ℕ) (ws : List (Option Made))
-    → length (nodes_from gives origin source n ws) ≤ 5 * length ws
-few_nodes gives origin source n [] = omega arith
-few_nodes gives origin source n (None ∷ ws) =
-    let others = few_nodes gives (suc origin) source n ws in omega arith
-few_nodes gives origin source n (Some made ∷ ws) =
-    let rest = nodes_from gives (suc origin) (next_source source (Some made))
+pub few_nodes : (script : Script) (gives : ℕ → Place) (origin source n : ℕ)
+    (ws : List (Option Made))
+    → length (nodes_from script gives origin source n ws) ≤ 5 * length ws
+few_nodes script gives origin source n [] = omega arith
+few_nodes script gives origin source n (None ∷ ws) =
+    let others = few_nodes script gives (suc origin) source n ws in omega arith
+few_nodes script gives origin source n (Some made ∷ ws) =
+    let rest = nodes_from script gives (suc origin) (next_source source (Some made))
     (behind n (Some made)) ws in
     let others : length rest ≤ 5 * length ws =
-    few_nodes gives (suc origin) (next_source source (Some made)) (behind n (Some made)) ws in
-    let both = length-append (made_nodes gives origin source n made) rest in
-    let own = block_length gives origin source n made in
+    few_nodes script gives (suc origin) (next_source source (Some made)) (behind n (Some made))
+    ws in
+    let both = length-append (made_nodes script gives origin source n made) rest in
+    let own = block_length script gives origin source n made in
     let few = few_before made in
     omega arith
 
@@ -257,17 +193,18 @@ end_up n (None ∷ ws) = end_up n ws
 end_up n (Some made ∷ ws) =
     let up = end_up (n + before_last made + 1) ws in omega arith
 
-pub nodes_end : (gives : ℕ → Place) (origin source n : ℕ) (ws : List (Option Made))
-    → n + length (nodes_from gives origin source n ws) ≡ end_of n ws
-nodes_end gives origin source n [] = omega arith
-nodes_end gives origin source n (None ∷ ws) = nodes_end gives (suc origin) source n ws
-nodes_end gives origin source n (Some made ∷ ws) =
+pub nodes_end : (script : Script) (gives : ℕ → Place) (origin source n : ℕ)
+    (ws : List (Option Made))
+    → n + length (nodes_from script gives origin source n ws) ≡ end_of n ws
+nodes_end script gives origin source n [] = omega arith
+nodes_end script gives origin source n (None ∷ ws) = nodes_end script gives (suc origin) source n ws
+nodes_end script gives origin source n (Some made ∷ ws) =
     let next : ℕ = n + before_last made + 1 in
-    let rest = nodes_from gives (suc origin) (next_source source (Some made)) next ws in
+    let rest = nodes_from script gives (suc origin) (next_source source (Some made)) next ws in
     let others : next + length rest ≡ end_of next ws =
-    nodes_end gives (suc origin) (next_source source (Some made)) next ws in
-    let both = length-append (made_nodes gives origin source n made) rest in
-    let own = block_length gives origin source n made in
+    nodes_end script gives (suc origin) (next_source source (Some made)) next ws in
+    let both = length-append (made_nodes script gives origin source n made) rest in
+    let own = block_length script gives origin source n made in
     omega arith
 
 last_before : (n : ℕ) (w : Option Made) (how : Made) → w ≡ Some how → last_node n w < behind n w

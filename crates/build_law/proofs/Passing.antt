@@ -1,5 +1,5 @@
 -- What one step of a graph gives of a collection.
-use Rattle.std.proofs.Common.{◌≡◌, ℕ, Bool, List, [], ◌∷◌, ◌++◌, map, Some, refl, ap, ◌∙◌, append-nil}
+use Rattle.std.proofs.Common.{◌≡◌, ℕ, Bool, true, List, [], ◌∷◌, ◌++◌, map, Some, None, refl, ap, ◌∙◌, append-nil}
 use Rattle.std.specs.List.{flat_map}
 use Rattle.combine_table.specs.declared.comb.Comb.{Comb}
 use Rattle.flume_value.specs.Bag.{bag_of}
@@ -22,6 +22,11 @@ use Rattle.direct_meaning.specs.Direct.{combined_by}
 abbrev pub only_label : ℕ → Bool → Does → Label
 only_label origin last does =
     record { origin = origin; last = last; does = does; at = 0; out = Some 0 }
+
+-- the output of a call at a place, where the first name has the number `origin`
+abbrev pub call_label : ℕ → ℕ → ℕ → Label
+call_label origin f at =
+    record { origin = origin; last = true; does = does.Call f; at = at; out = None }
 
 abbrev pub no_trap : Value → List Trap
 no_trap x = []

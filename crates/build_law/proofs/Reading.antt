@@ -1,4 +1,4 @@
--- The node that gives a needed collection is read.
+-- What a collection is made from is read by its nodes.
 use Rattle.std.proofs.Common.{inl, inr, ◌≡◌, ℕ, zero, suc, Bool, true, false, List, [], ◌∷◌, ◌++◌, map, get_or, Option, Some, None, refl, ap, ◌∙◌, subst, arith}
 use Rattle.std.specs.Prelude.{◌==◌, ◌&&◌, ◌||◌}
 use Rattle.std.specs.List.{Contains, list_any}
@@ -8,12 +8,12 @@ use Rattle.flume_collection.proofs.Members.{head_or_tail}
 use Rattle.exec_graph.specs.Readers.{among, same_place, uses}
 use Rattle.exec_graph.specs.declared.graph.Entry.{Entry}
 use Rattle.exec_graph.specs.declared.graph.Place.{Place}
-use Rattle.graph_build.specs.Graphs.{behind, next_source, nodes_at, nodes_from}
 use Rattle.graph_build.specs.Nodes.{made_nodes, step}
 use Rattle.exec_graph.specs.declared.step.Does.TheVariants as does
 use Rattle.script_program.specs.Needed.{operands}
 use Rattle.script_program.specs.declared.made.Made.{Made}
 use Rattle.script_program.specs.declared.made.Made.TheVariants as made
+use Rattle.script_program.specs.Script.{Script}
 
 -- ---- tests of lists
 
@@ -88,9 +88,9 @@ only_any : (a : Bool) → a ≡ true → (a || false) ≡ true
 only_any true h = refl
 only_any false h = cc
 
-module _ (gives : ℕ → Place) (origin source n j : ℕ) where
+module _ (script : Script) (gives : ℕ → Place) (origin source n j : ℕ) where
   joined_uses : (left right : ℕ) → Contains (left ∷ right ∷ []) j
-      → any_uses (gives j) (made_nodes gives origin source n (made.Join left right)) ≡ true
+      → any_uses (gives j) (made_nodes script gives origin source n (made.Join left right)) ≡ true
   joined_uses left right is =
       elim (head_or_tail left (right ∷ []) j is) [
         | inl same ↦
@@ -103,7 +103,7 @@ module _ (gives : ℕ → Place) (origin source n j : ℕ) where
       ]
 
   pub block_uses : (made : Made) → Contains (operands made) j
-      → any_uses (gives j) (made_nodes gives origin source n made) ≡ true
+      → any_uses (gives j) (made_nodes script gives origin source n made) ≡ true
   block_uses (made.Input file columns) is = let below = is.1 in absurd (omega arith)
   block_uses (made.Do input f output) is =
       calls (same_place (gives j) (gives input)) (same_input gives input j is)
@@ -118,21 +118,3 @@ module _ (gives : ℕ → Place) (origin source n j : ℕ) where
   block_uses (made.Join left right) is = joined_uses left right is
   block_uses (made.Top many input) is =
       calls_first (same_place (gives j) (gives input)) _ (same_input gives input j is)
-
--- a node of a needed collection is among all nodes
-pub block_among : (gives : ℕ → Place) (p : Entry → Bool) (origin source n i : ℕ)
-    (ws : List (Option Made)) (made : Made) → get_or ws i None ≡ Some made
-    → ((origin source n : ℕ) → list_any p (made_nodes gives origin source n made) ≡ true)
-    → list_any p (nodes_from gives origin source n ws) ≡ true
-block_among gives p origin source n i [] made found h = cc
-block_among gives p origin source n zero (None ∷ ws) made found h = cc
-block_among gives p origin source n zero (Some own ∷ ws) made found h =
-    let same : made ≡ own = cc in
-    any_front p (made_nodes gives origin source n own)
-    (nodes_from gives (suc origin) (next_source source (Some own)) (behind n (Some own)) ws)
-    (subst (λ m. list_any p (made_nodes gives origin source n m) ≡ true) same
-    (h origin source n))
-block_among gives p origin source n (suc i) (own ∷ ws) made found h =
-    any_behind p (nodes_at gives origin source n own)
-    (nodes_from gives (suc origin) (next_source source own) (behind n own) ws)
-    (block_among gives p (suc origin) (next_source source own) (behind n own) i ws made found h)

@@ -24,8 +24,8 @@ statement_short : {ts us : List Token} {s : Statement} → g.IsStatement the_lim
     → IsShortForm s.form
 statement_short (g.type_ w) = tt
 statement_short (g.input w) = tt
-statement_short (g.fn_ v w c b l) = tt
-statement_short (g.let_ o) = operation_short o
+statement_short (g.fn_ v w m f c b l) = tt
+statement_short (g.let_ names o) = operation_short o
 statement_short g.output = tt
 
 statements_short : {ts us : List Token} {ss : List Statement} → g.AreStatements the_limits ts us ss

@@ -1,30 +1,29 @@
 -- The traps of the nodes of a script's graph are those of the script.
-use Rattle.std.proofs.Common.{◌≡◌, ℕ, suc, ◌+◌, true, false, List, [], ◌∷◌, ◌++◌, map, length, get_or, Option, Some, None, refl, sym, ap, ◌∙◌, subst, add-zero, append-nil, ⊎_elim}
+use Rattle.std.proofs.Common.{◌≡◌, ℕ, zero, suc, ◌+◌, Bool, true, false, List, [], ◌∷◌, ◌++◌, map, length, Option, Some, None, refl, sym, ap, ◌∙◌, subst, add-zero, append-nil, ⊎_elim}
 use Rattle.std.specs.List.{Contains, flat_map}
-use Rattle.std.proofs.lemmas.List.Concat.{flat_map-append}
 use Rattle.std.proofs.lemmas.List.Elements.{Contains-append_cases, Contains-append_left, Contains-append_right}
-use Rattle.flume_value.proofs.EachLemmas.{Each-left, Each-right}
 use Rattle.flume_collection.specs.Collection.{Collection, by_key, together}
 use Rattle.flume_collection.specs.Traps.{trap_le, trap_set}
 use Rattle.flume_collection.specs.declared.trap.Trap.{Trap}
 use Rattle.flume_collection.proofs.Members.{not_in_none, same_set, set_members}
 use Rattle.flume_collection.proofs.Orders.{trap_order}
 use Rattle.combine_table.specs.declared.comb.Comb.TheVariants as by
-use Rattle.exec_graph.specs.Forests.{Label}
-use Rattle.exec_graph.specs.Meaning.{Holds, Meets, nothing, or_nothing, through, traps}
+use Rattle.exec_graph.specs.Forests.{Branch, Label}
+use Rattle.exec_graph.specs.Meaning.{Meets, step_traps, through, total, traps}
 use Rattle.exec_graph.specs.World.{World}
 use Rattle.exec_graph.specs.declared.graph.Entry.{Entry}
 use Rattle.exec_graph.specs.declared.graph.Place.{Place}
 use Rattle.exec_graph.specs.declared.step.Does.TheVariants as does
-use Rattle.graph_build.specs.Graphs.{nodes_from}
-use Rattle.graph_build.specs.Nodes.{before_last, first_of, inputs_of, made_nodes}
+use Rattle.graph_build.specs.Calls.{needed_from, next_if, other_names}
+use Rattle.graph_build.specs.Nodes.{before_last, call_branch, first_of, made_nodes}
+use Rattle.graph_build.specs.Wanted.{needed_at}
 use Rattle.script_program.specs.declared.made.Made.{Made}
 use Rattle.script_program.specs.declared.made.Made.TheVariants as made
+use Rattle.script_program.specs.Script.{Script}
 use Rattle.direct_meaning.specs.Direct.{made_at, traps_behind}
-use Rattle.build_law.proofs.Assigning.{at_of}
-use Rattle.build_law.proofs.Passing.{only_label}
-use Rattle.build_law.proofs.Tables.{Matches, made_next, one_longer}
-use Rattle.build_law.proofs.Values.{given_at, next_number, regrouped, values_at, values_from}
+use Rattle.build_law.proofs.MadeKinds.{IsOther}
+use Rattle.build_law.proofs.Outputs.{buds, given_to}
+use Rattle.build_law.proofs.Passing.{call_label, only_label}
 
 -- ---- parts
 
@@ -35,13 +34,13 @@ AreIn xs ys = (t : Trap) → Contains xs t → Contains ys t
 none_in : (ys : List Trap) → AreIn [] ys
 none_in ys t h = absurd (not_in_none t h)
 
-same_in : {xs ys : List Trap} → xs ≡ ys → AreIn xs ys
+pub same_in : {xs ys : List Trap} → xs ≡ ys → AreIn xs ys
 same_in e t h = subst (λ zs. Contains zs t) e h
 
 both_in : (xs ys zs : List Trap) → AreIn xs zs → AreIn ys zs → AreIn (xs ++ ys) zs
 both_in xs ys zs h k t is = ⊎_elim (h t) (k t) (Contains-append_cases xs ys t is)
 
-then_in : (xs ys zs : List Trap) → AreIn xs ys → AreIn ys zs → AreIn xs zs
+pub then_in : (xs ys zs : List Trap) → AreIn xs ys → AreIn ys zs → AreIn xs zs
 then_in xs ys zs h k t is = k t (h t is)
 
 -- what is behind a step's members is behind what it gives
@@ -53,7 +52,7 @@ through_in w l c t is =
 step_list : (xs zs : List Trap) → AreIn xs zs → AreIn (xs ++ []) zs
 step_list xs zs h = both_in xs [] zs h (none_in zs)
 
-module _ (w : World) (m : Place → Collection) (gives : ℕ → Place) where
+module _ (script : Script) (w : World) (m : Place → Collection) (gives : ℕ → Place) where
   abbrev pub trapped : List Entry → List Trap
   trapped es = flat_map (λ e. traps w m e.node) es
 
@@ -105,9 +104,9 @@ module _ (w : World) (m : Place → Collection) (gives : ℕ → Place) where
     last_traps k c d holds is = ap (λ (x : Collection). x.traps) (sym holds ∙ is)
 
     count_traps : (input : ℕ) (d : Collection)
-        → Meets w (made_nodes gives origin source n (made.Count input)) m
+        → Meets w (made_nodes script gives origin source n (made.Count input)) m
         → m (first_of (n + 2)) ≡ d
-        → SameTraps (made_nodes gives origin source n (made.Count input)) d
+        → SameTraps (made_nodes script gives origin source n (made.Count input)) d
     count_traps input d h is =
         let one : Collection = through w (only_label origin false does.Pair) (m (gives input)) in
         let sum : Label = only_label origin true (does.Combine by.Sum) in
@@ -130,9 +129,9 @@ module _ (w : World) (m : Place → Collection) (gives : ℕ → Place) where
         }
 
     top_traps : (many input : ℕ) (d : Collection)
-        → Meets w (made_nodes gives origin source n (made.Top many input)) m
+        → Meets w (made_nodes script gives origin source n (made.Top many input)) m
         → m (first_of (n + 3)) ≡ d
-        → SameTraps (made_nodes gives origin source n (made.Top many input)) d
+        → SameTraps (made_nodes script gives origin source n (made.Top many input)) d
     top_traps many input d h is =
         let one : Collection = through w (only_label origin false does.Solo) (m (gives input)) in
         let great : Label = only_label origin false (does.Combine (by.Top many)) in
@@ -173,9 +172,9 @@ module _ (w : World) (m : Place → Collection) (gives : ℕ → Place) where
         (Contains-append_right a (b ++ []) t (Contains-append_left b [] t is))
 
     join_traps : (left right : ℕ) (d : Collection)
-        → Meets w (made_nodes gives origin source n (made.Join left right)) m
+        → Meets w (made_nodes script gives origin source n (made.Join left right)) m
         → m (first_of (n + 4)) ≡ d
-        → SameTraps (made_nodes gives origin source n (made.Join left right)) d
+        → SameTraps (made_nodes script gives origin source n (made.Join left right)) d
     join_traps left right d h is =
         let one : Collection = through w (only_label origin false does.TagLeft) (m (gives left))
         in
@@ -214,101 +213,86 @@ module _ (w : World) (m : Place → Collection) (gives : ℕ → Place) where
               (into_behind group rest d.traps (same_in (sym same)))));
         }
 
-    pub block_traps : (made : Made) (d : Collection)
-        → Meets w (made_nodes gives origin source n made) m
+    -- the traps of a call are those behind each of its names
+    all_alike : (b : Branch) (v : Collection) (k next : ℕ) (needed : List Bool)
+        → AreIn (total w (step_traps w) v (buds b k next needed)) (given_to w b v 0).traps
+    all_alike b v k next [] = none_in _
+    all_alike b v k next (x ∷ xs) =
+        both_in (given_to w b v 0).traps
+        (total w (step_traps w) v (buds b (suc k) (next_if x next) xs)) (given_to w b v 0).traps
+        (λ t is. is) (all_alike b v (suc k) (next_if x next) xs)
+
+    pub call_traps : (input f o k : ℕ) (c d : Collection) → m (gives input) ≡ c
+        → through w (call_label origin f k) c ≡ d
+        → SameTraps (made_nodes script gives origin source n (made.Do input f o)) d
+    call_traps input f o k c d read is =
+        let first : Bool = needed_at script origin in
+        let others : List Bool = needed_from script (suc origin) (other_names script f) in
+        let b = call_branch origin f first others in
+        let v = m (gives input) in
+        let same : (given_to w b v 0).traps ≡ d.traps =
+        (λ i. (through w (call_label origin f 0) (read i)).traps)
+        ∙ ap (λ (x : Collection). x.traps) is in
+        let rest = total w (step_traps w) v (buds b 1 (next_if first 0) others) in
+        record {
+          from = step_list ((given_to w b v 0).traps ++ rest) d.traps
+              (both_in (given_to w b v 0).traps rest d.traps (same_in same)
+              (then_in rest (given_to w b v 0).traps d.traps
+              (all_alike b v 1 (next_if first 0) others) (same_in same)));
+          into = λ t at.
+              Contains-append_left ((given_to w b v 0).traps ++ rest) [] t
+              (Contains-append_left (given_to w b v 0).traps rest t (same_in (sym same) t at));
+        }
+
+    pub block_traps : (made : Made) (d : Collection) → IsOther made
+        → Meets w (made_nodes script gives origin source n made) m
         → m (first_of (n + before_last made)) ≡ d
-        → SameTraps (made_nodes gives origin source n made) d
-    block_traps (made.Input file columns) d h is =
+        → SameTraps (made_nodes script gives origin source n made) d
+    block_traps (made.Input file columns) d apart h is =
         same_list _ d (ap (λ (x : Collection). x.traps) (sym h.0 ∙ at_start is))
-    block_traps (made.Do input f output) d h is =
-        same_list _ d (one_step_traps _ d (ap (λ (x : Collection). x.traps)
-        (sym h.0.0 ∙ at_start is)))
-    block_traps (made.Group input) d h is =
+    block_traps (made.Do input f output) d apart h is = absurd apart
+    block_traps (made.Group input) d apart h is =
         same_list _ d
         (append-nil (m (gives input)).traps
         ∙ ap (λ (x : Collection). x.traps) (sym h.0 ∙ at_start is))
-    block_traps (made.Combine input k) d h is =
+    block_traps (made.Combine input k) d apart h is =
         same_list _ d (one_step_traps _ d (ap (λ (x : Collection). x.traps)
         (sym h.0.0 ∙ at_start is)))
-    block_traps (made.Flatten inputs) d h is =
+    block_traps (made.Flatten inputs) d apart h is =
         same_list _ d
         (append-nil (together (map m (map gives inputs))).traps
         ∙ ap (λ (x : Collection). x.traps) (sym h.0 ∙ at_start is))
-    block_traps (made.Count input) d h is = count_traps input d h is
-    block_traps (made.Join left right) d h is = join_traps left right d h is
-    block_traps (made.Top many input) d h is = top_traps many input d h is
+    block_traps (made.Count input) d apart h is = count_traps input d h is
+    block_traps (made.Join left right) d apart h is = join_traps left right d h is
+    block_traps (made.Top many input) d apart h is = top_traps many input d h is
 
--- ---- all nodes
+-- all traps behind what is made
+pub made_traps : (made : List (Option Collection)) (zs : List Trap)
+    → ((j : ℕ) (c : Collection) → made_at made j ≡ Some c → AreIn c.traps zs)
+    → AreIn (flat_map traps_behind made) zs
+made_traps [] zs h = none_in zs
+made_traps (None ∷ made) zs h = made_traps made zs (λ j c is. h (suc j) c is)
+made_traps (Some c ∷ made) zs h =
+    both_in c.traps (flat_map traps_behind made) zs (h 0 c refl)
+    (made_traps made zs (λ j d is. h (suc j) d is))
 
+pub traps_made : (made : List (Option Collection)) (j : ℕ) (c : Collection)
+    → made_at made j ≡ Some c → AreIn c.traps (flat_map traps_behind made)
+traps_made [] j c h = cc
+traps_made (None ∷ made) zero c h = cc
+traps_made (Some d ∷ made) zero c h =
+    let same : d ≡ c = cc in
+    λ t is. Contains-append_left d.traps (flat_map traps_behind made) t
+    (same_in (ap (λ (x : Collection). x.traps) (sym same)) t is)
+traps_made (None ∷ made) (suc j) c h = traps_made made j c h
+traps_made (Some d ∷ made) (suc j) c h =
+    λ t is. Contains-append_right d.traps (flat_map traps_behind made) t
+    (traps_made made j c h t is)
+
+-- as many in one list as in the other
 pub record AreSame (xs ys : List Trap) : Type 0 where
   pub from : AreIn xs ys
   pub into : AreIn ys xs
-
-parts_same : (xs ys us vs : List Trap) → AreSame xs us → AreSame ys vs
-    → AreSame (xs ++ ys) (us ++ vs)
-parts_same xs ys us vs h k = record {
-  from = both_in xs ys (us ++ vs) (λ t is. Contains-append_left us vs t (h.from t is))
-      (λ t is. Contains-append_right us vs t (k.from t is));
-  into = both_in us vs (xs ++ ys) (λ t is. Contains-append_left xs ys t (h.into t is))
-      (λ t is. Contains-append_right xs ys t (k.into t is));
-}
-
-module _ (w : World) (m : Place → Collection) (gives : ℕ → Place)
-    (made : List (Option Collection)) (whole : List Collection)
-    (read : (c : Place) → m c ≡ get_or whole c.node nothing) where
-  made_here : (front tail : List (Option Collection)) (origin : ℕ) (c : Collection)
-      → made ≡ front ++ Some c ∷ tail → length front ≡ origin → at_of made origin ≡ c
-  made_here front tail origin c is size =
-      subst (λ k. at_of made k ≡ c) size
-      (ap (λ o. or_nothing o)
-      (ap (λ table. made_at table (length front)) is ∙ made_next front tail c))
-
-  pub traps_from : (pre : List Collection) (front tail : List (Option Collection))
-      (origin source n : ℕ) (ws : List (Option Made)) → Matches tail ws
-      → made ≡ front ++ tail → length front ≡ origin → length pre ≡ n
-      → whole ≡ pre ++ values_from w (at_of made) origin ws
-      → Meets w (nodes_from gives origin source n ws) m
-      → AreSame (trapped w m gives (nodes_from gives origin source n ws))
-      (flat_map traps_behind tail)
-  traps_from pre front [] origin source n [] match_ is size more whole_is h =
-      record { from = none_in []; into = none_in [] }
-  traps_from pre front (None ∷ tail) origin source n (None ∷ ws) match_ is size more whole_is h =
-      traps_from pre (front ++ None ∷ []) tail (suc origin) source n ws match_
-      (regrouped made front (None ∷ []) tail is) (one_longer front None ∙ ap suc size) more
-      whole_is h
-  traps_from pre front (Some c ∷ tail) origin source n (Some how ∷ ws) match_ is size more
-      whole_is h =
-      let here : List Entry = made_nodes gives origin source n how in
-      let next : ℕ = n + before_last how + 1 in
-      let later : ℕ = source + inputs_of how in
-      let rest : List Entry = nodes_from gives (suc origin) later next ws in
-      let value : m (first_of (n + before_last how)) ≡ c =
-      read (first_of (n + before_last how))
-      ∙ given_at w (at_of made) whole pre origin n 0 (Some how ∷ ws) how more whole_is refl
-      ∙ ap (at_of made) (add-zero origin) ∙ made_here front tail origin c is size in
-      let own = block_traps w m gives origin source n how c
-      (Each-left (λ e. Holds w m e.number e.node) here rest h) value in
-      let others = traps_from (pre ++ values_at w (at_of made) origin (Some how))
-      (front ++ Some c ∷ []) tail (suc origin) later next ws match_
-      (regrouped made front (Some c ∷ []) tail is) (one_longer front (Some c) ∙ ap suc size)
-      (next_number w (at_of made) origin n pre (Some how) more)
-      (regrouped whole pre (values_at w (at_of made) origin (Some how))
-      (values_from w (at_of made) (suc origin) ws) whole_is)
-      (Each-right (λ e. Holds w m e.number e.node) here rest h) in
-      subst (λ xs. AreSame xs (c.traps ++ flat_map traps_behind tail))
-      (sym (flat_map-append (λ e. traps w m e.node) here rest))
-      (parts_same (trapped w m gives here) (trapped w m gives rest) c.traps
-      (flat_map traps_behind tail) (record { from = own.from; into = own.into }) others)
-  traps_from pre front (Some c ∷ tail) origin source n (None ∷ ws) match_ is size more whole_is h
-      = elim match_ [ ]
-  traps_from pre front (None ∷ tail) origin source n (Some how ∷ ws) match_ is size more whole_is
-      h = elim match_ [ ]
-  traps_from pre front [] origin source n (how ∷ ws) match_ is size more whole_is h =
-      elim match_ [ ]
-  traps_from pre front (None ∷ tail) origin source n [] match_ is size more whole_is h =
-      elim match_ [ ]
-  traps_from pre front (Some c ∷ tail) origin source n [] match_ is size more whole_is h =
-      elim match_ [ ]
 
 pub same_traps : (xs ys : List Trap) → AreSame xs ys → trap_set xs ≡ trap_set ys
 same_traps xs ys h = same_set trap_le trap_order xs ys (λ t. (h.from t, h.into t))

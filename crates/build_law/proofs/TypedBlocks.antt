@@ -1,5 +1,5 @@
 -- The nodes of a collection of a script have types that fit.
-use Rattle.std.proofs.Common.{◌≡◌, ℕ, ◌+◌, List, [], ◌∷◌, ◌++◌, map, length, get_or, Some, refl, sym, ap, ◌∙◌, subst, add-zero}
+use Rattle.std.proofs.Common.{◌≡◌, ℕ, suc, ◌+◌, Bool, true, false, List, [], ◌∷◌, ◌++◌, map, length, get_or, Some, refl, sym, ap, ◌∙◌, subst, arith, add-zero, zero-add}
 use Rattle.std.specs.Prelude.{slice_get}
 use Rattle.std.specs.List.{AllByRecursion}
 use Rattle.combine_table.specs.declared.comb.Comb.{Comb}
@@ -7,17 +7,22 @@ use Rattle.flume_types.specs.declared.types.Ty.{Ty}
 use Rattle.flume_types.specs.declared.types.Ty.TheVariants as type
 use Rattle.flume_types.specs.Tables.{table_of}
 use Rattle.flume_value.proofs.EachLemmas.{each_from}
-use Rattle.exec_graph.specs.Typing.{NodeTyped, Signatures}
+use Rattle.exec_graph.specs.Forests.{Branch}
+use Rattle.exec_graph.specs.Meaning.{place}
+use Rattle.exec_graph.specs.Typing.{ForestTyped, NodeTyped, Signatures, StepTyped}
 use Rattle.exec_graph.specs.declared.graph.Place.{Place}
-use Rattle.graph_build.specs.Nodes.{before_last, first_of, made_nodes}
+use Rattle.exec_graph.specs.declared.step.Does.TheVariants as does
+use Rattle.graph_build.specs.Calls.{names_needed, needed_from, other_names}
+use Rattle.graph_build.specs.Nodes.{before_last, call_branch, first_of, made_nodes}
+use Rattle.graph_build.specs.Wanted.{needed_at}
 use Rattle.script_program.specs.Needed.{operands}
 use Rattle.direct_meaning.proofs.TypeLemmas.{taken}
 use Rattle.script_program.specs.declared.made.Made.{Made}
 use Rattle.script_program.specs.declared.made.Made.TheVariants as made
-use Rattle.script_program.specs.Script.{Function, Node}
+use Rattle.script_program.specs.Script.{Function, Node, Script}
 use Rattle.written_types.specs.Named.{Named}
 use Rattle.script_laws.specs.WellFormed.{Fits, IsCombined, IsCounted, IsDone, IsGrouped, IsJoined, IsTop, function_at, members_at}
-use Rattle.build_law.specs.Limits.{IsFirstOutput}
+use Rattle.build_law.proofs.Outputs.{EachName, buds, kept}
 
 module _ (functions : Named Function) (before : Named Node) where
   -- the types of the nodes before the last
@@ -38,6 +43,9 @@ module _ (functions : Named Function) (before : Named Node) where
       table_of type.Int t ∷ table_of type.Int (type.List t)
       ∷ table_of type.Int (type.List t) ∷ []
 
+  abbrev pub inner_rows_of : (made : Made) (t : Ty) → Fits functions before made t → List (List Ty)
+  inner_rows_of made t fit = map (λ u. u ∷ []) (inner_types made t fit)
+
   pub inner_count : (made : Made) (t : Ty) (fit : Fits functions before made t)
       → length (inner_types made t fit) ≡ before_last made
   inner_count (made.Input file columns) t fit = refl
@@ -51,8 +59,13 @@ module _ (functions : Named Function) (before : Named Node) where
 
 -- ---- types of places
 
-module _ (s : Signatures) (functions : Named Function) (before : Named Node)
-    (τ : Place → Ty) (gives : ℕ → Place) where
+module _ (script : Script) (s : Signatures) (functions : Named Function) (before : Named Node)
+    (τ : Place → Ty) (gives : ℕ → Place) (typ : ℕ → Ty) where
+  -- the types of what the last node of a collection gives
+  abbrev pub row_of : ℕ → Made → Ty → List Ty
+  row_of origin (made.Do input f output) t = kept typ origin (names_needed script origin f)
+  row_of origin made t = t ∷ []
+
   -- what is read has the type that it has in the script
   abbrev pub Known : ℕ → Type 0
   Known j = (u : Ty) → members_at before j ≡ Some u → τ (gives j) ≡ u
@@ -67,31 +80,72 @@ module _ (s : Signatures) (functions : Named Function) (before : Named Node)
 
   module _ (calls : (f : ℕ) (function : Function) → function_at functions f ≡ Some function
       → (s.takes f ≡ function.signature.takes) × (s.gives f ≡ function.signature.gives))
-      (origin source n : ℕ) (rest : List Ty) where
+      (origin source n : ℕ) (later : List (List Ty)) where
     abbrev pub Typed : Made → Type 0
     Typed made =
         AllByRecursion (λ e. NodeTyped s τ e.number e.node)
-        (made_nodes gives origin source n made)
+        (made_nodes script gives origin source n made)
 
     abbrev Facts : (made : Made) (t : Ty) → Fits functions before made t → Type 0
     Facts made t fit =
-        (k : ℕ)
-        → τ (first_of (n + k))
-        ≡ get_or ((inner_types functions before made t fit ++ t ∷ []) ++ rest) k type.Int
+        (k j : ℕ)
+        → τ (place (n + k) j)
+        ≡ get_or
+        (get_or ((inner_rows_of functions before made t fit ++ row_of origin made t ∷ [])
+        ++ later) k []) j type.Int
 
     at_start : {t : Ty} → τ (first_of (n + 0)) ≡ t → τ (first_of n) ≡ t
     at_start {t} h = subst (λ k. τ (first_of k) ≡ t) (add-zero n) h
 
+    -- each output of a call gives the type of its name, where that is needed
+    abbrev NameTyped : ℕ → ℕ → ℕ → Bool → Type 0
+    NameTyped f number k needed =
+        (u : Ty) × (slice_get (s.gives f) k ≡ Some u) × (needed ≡ true → typ number ≡ u)
+
+    buds_typed : (b : Branch) (f : ℕ) (t : Ty) → b.does ≡ does.Call f → t ≡ s.takes f
+        → (number k next : ℕ) (needed : List Bool)
+        → ((i : ℕ) → τ (place n (next + i)) ≡ get_or (kept typ number needed) i type.Int)
+        → EachName (NameTyped f) number k needed
+        → ForestTyped s τ n t (buds b k next needed)
+    buds_typed b f t call takes number k next [] row each = tt
+    buds_typed b f t call takes number k next (true ∷ xs) row each =
+        let u = each.0.0 in (
+          (
+            u,
+            subst (λ d. StepTyped s d k t u) (sym call) (takes, each.0.1),
+            subst (λ i. τ (place n i) ≡ typ number) (add-zero next) (row 0) ∙ each.0.2 refl,
+            tt,
+          ),
+          buds_typed b f t call takes (suc number) (suc k) (next + 1) xs
+              (λ i. subst (λ j. τ (place n j) ≡ get_or (kept typ (suc number) xs) i type.Int)
+              (let e : next + suc i ≡ (next + 1) + i = omega arith in e) (row (suc i)))
+              each.1,
+        )
+    buds_typed b f t call takes number k next (false ∷ xs) row each =
+        let u = each.0.0 in (
+          (u, subst (λ d. StepTyped s d k t u) (sym call) (takes, each.0.1), tt, tt),
+          buds_typed b f t call takes (suc number) (suc k) next xs row each.1,
+        )
+
     do_typed : (input f output : ℕ) (t : Ty) (fit : IsDone functions before input f output t)
-        → output ≡ 0 → Facts (made.Do input f output) t fit → Known input
+        → Facts (made.Do input f output) t fit → Known input
+        → EachName (NameTyped f) origin 0 (names_needed script origin f)
         → Typed (made.Do input f output)
-    do_typed input f output t fit first fact known =
+    do_typed input f output t fit fact known names =
         let call = calls f fit.function fit.calls in
         let takes : τ (gives input) ≡ s.takes f =
         known fit.function.signature.takes fit.takes ∙ sym call.0 in
-        let given : slice_get (s.gives f) 0 ≡ Some t =
-        (λ i. slice_get (call.1 i) (sym first i)) ∙ fit.gives in
-        (((t, (takes, given), at_start (fact 0), tt), tt), tt)
+        let b = call_branch origin f (needed_at script origin)
+        (needed_from script (suc origin) (other_names script f)) in
+        let flags = names_needed script origin f in (
+          buds_typed b f (τ (gives input)) refl takes origin 0 0 flags
+              (λ i. subst (λ k. τ (place n k) ≡ get_or (kept typ origin flags) i type.Int)
+              (sym (zero-add i))
+              (subst (λ k. τ (place k i) ≡ get_or (kept typ origin flags) i type.Int) (add-zero n)
+              (fact 0 i)))
+              names,
+          tt,
+        )
 
     group_typed : (input : ℕ) (t : Ty) (fit : IsGrouped before input t)
         → Facts (made.Group input) t fit → Known input → Typed (made.Group input)
@@ -100,7 +154,7 @@ module _ (s : Signatures) (functions : Named Function) (before : Named Node)
         key = fit.key;
         value = fit.value;
         takes = known (table_of fit.key fit.value) fit.reads;
-        gives = at_start (fact 0) ∙ fit.gives;
+        gives = at_start (fact 0 0) ∙ fit.gives;
       },
       tt,
     )
@@ -122,7 +176,7 @@ module _ (s : Signatures) (functions : Named Function) (before : Named Node)
                   gives = fit.gives ∙ ap (table_of fit.key) suits.1;
                 },
               ),
-              at_start (fact 0),
+              at_start (fact 0 0),
               tt,
             ),
             tt,
@@ -134,8 +188,8 @@ module _ (s : Signatures) (functions : Named Function) (before : Named Node)
         → Facts (made.Count input) t fit → Known input → Typed (made.Count input)
     count_typed input t fit fact known =
         let read : τ (gives input) ≡ fit.member = known fit.member fit.reads in
-        let first : τ (first_of n) ≡ table_of fit.member type.Int = at_start (fact 0) in
-        let second : τ (first_of (n + 1)) ≡ table_of fit.member (type.List type.Int) = fact 1 in (
+        let first : τ (first_of n) ≡ table_of fit.member type.Int = at_start (fact 0 0) in
+        let second : τ (first_of (n + 1)) ≡ table_of fit.member (type.List type.Int) = fact 1 0 in (
           (
             (
               table_of fit.member type.Int,
@@ -161,7 +215,7 @@ module _ (s : Signatures) (functions : Named Function) (before : Named Node)
                       gives = fit.gives;
                     },
                   ),
-                  fact 2,
+                  fact 2 0,
                   tt,
                 ),
                 tt,
@@ -176,10 +230,10 @@ module _ (s : Signatures) (functions : Named Function) (before : Named Node)
         → Typed (made.Join left right)
     join_typed left right t fit fact known other =
         let either : Ty = type.Either fit.left_value fit.right_value in
-        let first : τ (first_of n) ≡ table_of fit.key either = at_start (fact 0) in
-        let second : τ (first_of (n + 1)) ≡ table_of fit.key either = fact 1 in
-        let third : τ (first_of (n + 2)) ≡ table_of fit.key either = fact 2 in
-        let fourth : τ (first_of (n + 3)) ≡ table_of fit.key (type.List either) = fact 3 in (
+        let first : τ (first_of n) ≡ table_of fit.key either = at_start (fact 0 0) in
+        let second : τ (first_of (n + 1)) ≡ table_of fit.key either = fact 1 0 in
+        let third : τ (first_of (n + 2)) ≡ table_of fit.key either = fact 2 0 in
+        let fourth : τ (first_of (n + 3)) ≡ table_of fit.key (type.List either) = fact 3 0 in (
           (
             (
               table_of fit.key either,
@@ -235,7 +289,7 @@ module _ (s : Signatures) (functions : Named Function) (before : Named Node)
                           gives = fit.gives;
                         },
                       ),
-                      fact 4,
+                      fact 4 0,
                       tt,
                     ),
                     tt,
@@ -251,9 +305,9 @@ module _ (s : Signatures) (functions : Named Function) (before : Named Node)
         → Facts (made.Top many input) t fit → Known input → Typed (made.Top many input)
     top_typed many input t fit fact known =
         let read : τ (gives input) ≡ t = known t fit.reads in
-        let first : τ (first_of n) ≡ table_of type.Int t = at_start (fact 0) in
-        let second : τ (first_of (n + 1)) ≡ table_of type.Int (type.List t) = fact 1 in
-        let third : τ (first_of (n + 2)) ≡ table_of type.Int (type.List t) = fact 2 in (
+        let first : τ (first_of n) ≡ table_of type.Int t = at_start (fact 0 0) in
+        let second : τ (first_of (n + 1)) ≡ table_of type.Int (type.List t) = fact 1 0 in
+        let third : τ (first_of (n + 2)) ≡ table_of type.Int (type.List t) = fact 2 0 in (
           ((table_of type.Int t, (refl, ap (table_of type.Int) (sym read)), first, tt), tt),
           (
             record { key = type.Int; value = t; takes = first; gives = second },
@@ -276,7 +330,7 @@ module _ (s : Signatures) (functions : Named Function) (before : Named Node)
                 ),
                 tt,
               ),
-              (((t, (refl, record { key = type.Int; takes = third }), fact 3, tt), tt), tt),
+              (((t, (refl, record { key = type.Int; takes = third }), fact 3 0, tt), tt), tt),
             ),
           ),
         )
@@ -286,26 +340,32 @@ module _ (s : Signatures) (functions : Named Function) (before : Named Node)
     HasInput (made.Input file columns) t = s.inputs source ≡ t
     HasInput _ t = Unit {0}
 
+    -- the names of a call have the types that its function gives
+    abbrev pub HasNames : Made → Type 0
+    HasNames (made.Do input f output) =
+        EachName (NameTyped f) origin 0 (names_needed script origin f)
+    HasNames _ = Unit {0}
+
     pub block_typed : (made : Made) (t : Ty) (fit : Fits functions before made t)
-        → IsFirstOutput made → Facts made t fit
+        → Facts made t fit
         → HasInput made t
-        → AllByRecursion Known (operands made) → Typed made
-    block_typed (made.Input file columns) t fit first fact input_ known =
-        (at_start (fact 0) ∙ sym input_, tt)
-    block_typed (made.Do input f output) t fit first fact input_ known =
-        do_typed input f output t fit first fact known.0
-    block_typed (made.Group input) t fit first fact input_ known =
+        → AllByRecursion Known (operands made) → HasNames made → Typed made
+    block_typed (made.Input file columns) t fit fact input_ known names =
+        (at_start (fact 0 0) ∙ sym input_, tt)
+    block_typed (made.Do input f output) t fit fact input_ known names =
+        do_typed input f output t fit fact known.0 names
+    block_typed (made.Group input) t fit fact input_ known names =
         group_typed input t fit fact known.0
-    block_typed (made.Combine input k) t fit first fact input_ known =
+    block_typed (made.Combine input k) t fit fact input_ known names =
         combine_typed input k t fit fact known.0
-    block_typed (made.Flatten inputs) t fit first fact input_ known = (
-      all_known inputs t (first_of n) (at_start (fact 0)) known
+    block_typed (made.Flatten inputs) t fit fact input_ known names = (
+      all_known inputs t (first_of n) (at_start (fact 0 0)) known
           (each_from (λ j. members_at before j ≡ Some t) inputs fit.read),
       tt,
     )
-    block_typed (made.Count input) t fit first fact input_ known =
+    block_typed (made.Count input) t fit fact input_ known names =
         count_typed input t fit fact known.0
-    block_typed (made.Join left right) t fit first fact input_ known =
+    block_typed (made.Join left right) t fit fact input_ known names =
         join_typed left right t fit fact known.0 known.1.0
-    block_typed (made.Top many input) t fit first fact input_ known =
+    block_typed (made.Top many input) t fit fact input_ known names =
         top_typed many input t fit fact known.0

@@ -1,13 +1,11 @@
 -- The graph of a well-formed script is well-formed.
 use Rattle.std.proofs.Common.{◌≡◌, ℕ, zero, suc, ◌+◌, ◌<◌, ◌≤◌, Bool, true, false, List, [], ◌∷◌, ◌++◌, map, length, get_or, Option, Some, None, refl, sym, ap, ◌∙◌, subst, arith, add-zero, zero-add}
-use Rattle.std.specs.Prelude.{if◌then◌else◌, slice_get, IsSomeAnd}
-use Rattle.std.specs.Option.{option_map}
+use Rattle.std.specs.Prelude.{slice_get, IsSomeAnd}
 use Rattle.std.specs.List.{AllByRecursion, Contains}
-use Rattle.std.proofs.lemmas.Option.{slice_get-map}
 use Rattle.flume_value.proofs.EachLemmas.{Each-both, Each-map, Each-weaker, each_from}
 use Rattle.flume_types.specs.declared.types.Ty.{Ty}
 use Rattle.flume_collection.proofs.Members.{at_head, at_tail}
-use Rattle.exec_graph.specs.Meaning.{IsThere, reads}
+use Rattle.exec_graph.specs.Meaning.{IsThere, place, reads}
 use Rattle.exec_graph.specs.Readers.{among, is_read, uses}
 use Rattle.exec_graph.specs.Wellformed.{IsFounded, IsGraphOk, IsNodeOk, most_nodes, total_size}
 use Rattle.exec_graph.specs.declared.graph.Entry.{Entry}
@@ -20,43 +18,23 @@ use Rattle.script_program.specs.declared.made.Output.{Output}
 use Rattle.script_program.specs.Script.{Node, Script}
 use Rattle.script_laws.specs.WellFormed.{AllFit, Fits, HasColumns, IsWellFormed}
 use Rattle.script_laws.proofs.NeededLemmas.{needed_law, read_at}
-use Rattle.graph_build.specs.Graphs.{giving, graph_of, nodes_of, place_in}
-use Rattle.graph_build.specs.Nodes.{first_of}
-use Rattle.graph_build.specs.Wanted.{wanted, wanted_from}
-use Rattle.graph_build.proofs.WantedLemmas.{wanted_length, wanted_needed}
+use Rattle.graph_build.specs.Built.{built}
+use Rattle.graph_build.specs.Calls.{names_needed, needed_from, number_behind, other_names}
+use Rattle.graph_build.specs.Graphs.{graph_of, nodes_of}
+use Rattle.graph_build.specs.Nodes.{before_last, call_branch, first_of, made_nodes}
+use Rattle.graph_build.specs.Wanted.{needed_at, wanted}
+use Rattle.graph_build.proofs.BuiltLemmas.{built_length}
 use Rattle.build_law.specs.Limits.{HasShortFlattens, IsShort}
+use Rattle.build_law.proofs.Blocks.{any_block, each_block}
+use Rattle.build_law.proofs.Calling.{IsNamed, built_as, built_call, call_built, how_wanted, name_wanted, named, needed_as, other_built, other_wanted, parts, wanted_here}
+use Rattle.build_law.proofs.MadeKinds.{IsOther, Kind, called, kind_of, other}
 use Rattle.build_law.proofs.ObjectFree.{have_objects}
-use Rattle.build_law.proofs.Fitting.{FlattenFits, all_ok}
-use Rattle.build_law.proofs.Founded.{counts, is_there, lows, numbers_below, reads_there}
-use Rattle.build_law.proofs.Lowering.{wanted_here}
-use Rattle.build_law.proofs.Numbered.{IsLow, ascends_counts, few_nodes, last_in, nodes_end, one_each}
-use Rattle.build_law.proofs.Reading.{any_uses, among_places, block_among, block_uses, or_left, or_right}
-use Rattle.build_law.proofs.Tables.{map_some}
-
--- ---- what is wanted
-
-first_wanted : (b : Bool) (own made : Made) → (if b then Some own else None) ≡ Some made
-    → (b ≡ true) × (own ≡ made)
-first_wanted true own made h = (refl, cc)
-first_wanted false own made h = cc
-
--- what is wanted is needed, and is so made
-pub is_wanted : (script : Script) (k i : ℕ) (nodes : Named Node) (made : Made)
-    → get_or (wanted_from script k nodes) i None ≡ Some made
-    → (is_needed script (k + i) ≡ true) × (i < length nodes)
-    × (slice_get (map (λ entry. entry.1.made) nodes) i ≡ Some made)
-is_wanted script k i [] made h = cc
-is_wanted script k zero (entry ∷ nodes) made h =
-    let own = first_wanted (is_needed script k) entry.1.made made h in (
-      subst (λ n. is_needed script n ≡ true) (sym (add-zero k)) own.0,
-      omega arith,
-      ap Some own.1,
-    )
-is_wanted script k (suc i) (entry ∷ nodes) made h =
-    let rest = is_wanted script (suc k) i nodes made h in
-    let below = rest.1 in
-    let e : suc k + i ≡ k + suc i = omega arith in
-    (subst (λ n. is_needed script n ≡ true) e rest.0, omega arith, rest.2)
+use Rattle.build_law.proofs.Outputs.{IsAt, where_out}
+use Rattle.build_law.proofs.Placing.{call_place, gives, other_place, source, start}
+use Rattle.build_law.proofs.Fitting.{FlattenFits, IsLastRead, block_ok}
+use Rattle.build_law.proofs.Founded.{IsLow, ReadsLow, counts, is_placed, lows, numbers_below, plains}
+use Rattle.build_law.proofs.Numbered.{ascends_counts, few_nodes, one_each}
+use Rattle.build_law.proofs.Reading.{among_places, any_uses, block_uses, or_left, or_right}
 
 map_twice : {A B C : Type 0} (g : B → C) (f : A → B) (xs : List A)
     → map g (map f xs) ≡ map (λ x. g (f x)) xs
@@ -64,54 +42,107 @@ map_twice g f [] = refl
 map_twice g f (x ∷ xs) = ap (λ ys. g (f x) ∷ ys) (map_twice g f xs)
 
 module _ (script : Script) (well : IsWellFormed script) where
-  -- what is needed is wanted as it is made
-  how_wanted : (j : ℕ) (how : Made) → is_needed script j ≡ true
-      → slice_get (made_of script) j ≡ Some how → get_or (wanted script) j None ≡ Some how
-  how_wanted j how needed is =
-      let (entry, found, same) =
-      map_some (λ (it : List ℕ × Node). it.1.made) (slice_get script.nodes j) how
-      (sym (slice_get-map (λ (it : List ℕ × Node). it.1.made) script.nodes j) ∙ is) in
-      sym (wanted_needed script j entry.1 (ap (option_map (λ (it : List ℕ × Node). it.1)) found)
-      (sym needed)) ∙ ap Some same
-
   -- the outputs of the graph
-  outputs_are : map (place_in (giving script)) (outputs_read script) ≡ (graph_of script).outputs
-  outputs_are = map_twice (place_in (giving script)) (λ output. output.1.reads) script.outputs
+  outputs_are : map (gives script) (outputs_read script) ≡ (graph_of script).outputs
+  outputs_are = map_twice (gives script) (λ output. output.1.reads) script.outputs
 
-  read_by_node : (j reader : ℕ) (how : Made) → is_needed script reader ≡ true
-      → slice_get (made_of script) reader ≡ Some how → Contains (operands how) j
-      → is_read (graph_of script) (place_in (giving script) j) ≡ true
-  read_by_node j reader how needed is reads =
-      or_left (any_uses (place_in (giving script) j) (nodes_of script)) _
-      (block_among (place_in (giving script))
-      (λ e. uses (place_in (giving script) j) e.node) 0 0 0 reader (wanted script) how
-      (how_wanted reader how needed is)
-      (λ origin source n. block_uses (place_in (giving script)) origin source n j how reads))
+  -- a needed collection is read: by the nodes of one that is made from it, or by an output
+  used_by : (j t : ℕ) (mk : Made) → get_or (built script) t None ≡ Some mk
+      → Contains (operands mk) j → is_read (graph_of script) (gives script j) ≡ true
+  used_by j t mk found reads_ =
+      or_left (any_uses (gives script j) (nodes_of script)) _
+      (any_block script (gives script) (λ e. uses (gives script j) e.node) 0 0 0 (built script) t
+      mk found
+      (block_uses script (gives script) (0 + t) (source script t) (start script t) j mk reads_))
+
+  used_by_call : (j reader input f o : ℕ)
+      → get_or (wanted script) reader None ≡ Some (made.Do input f o)
+      → (n : IsNamed script well reader input f o) → Contains (input ∷ []) j
+      → is_read (graph_of script) (gives script j) ≡ true
+  used_by_call j reader input f o found n reads_ =
+      used_by j n.first (made.Do input f 0) (call_built script well reader input f o found n) reads_
+
+  read_by_node : (j reader : ℕ) {how : Made} → Kind how
+      → get_or (wanted script) reader None ≡ Some how → Contains (operands how) j
+      → is_read (graph_of script) (gives script j) ≡ true
+  read_by_node j reader (called input f o) found reads_ =
+      used_by_call j reader input f o found
+      (named script well reader input f o
+      (needed_as script reader (made.Do input f o) found).made) reads_
+  read_by_node j reader (other how apart) found reads_ =
+      used_by j reader how (other_built script reader how apart found) reads_
 
   read_on : (j reader : ℕ) (o : Option Made) → slice_get (made_of script) reader ≡ o
       → is_needed script reader ≡ true → IsSomeAnd o (λ how. Contains (operands how) j)
-      → is_read (graph_of script) (place_in (giving script) j) ≡ true
-  read_on j reader None is needed reads = elim reads [ ]
-  read_on j reader (Some how) is needed reads = read_by_node j reader how needed is reads
+      → is_read (graph_of script) (gives script j) ≡ true
+  read_on j reader None is needed reads_ = elim reads_ [ ]
+  read_on j reader (Some how) is needed reads_ =
+      read_by_node j reader (kind_of how) (how_wanted script reader how needed is) reads_
 
   read_along : (j : ℕ) (path : List ℕ) → LeadsToOutput script j path
-      → is_read (graph_of script) (place_in (giving script) j) ≡ true
+      → is_read (graph_of script) (gives script j) ≡ true
   read_along j [] leads =
-      or_right (any_uses (place_in (giving script) j) (nodes_of script)) _
-      (subst (λ places. among (place_in (giving script) j) places ≡ true) outputs_are
-      (among_places (place_in (giving script)) (outputs_read script) j leads))
+      or_right (any_uses (gives script j) (nodes_of script)) _
+      (subst (λ places. among (gives script j) places ≡ true) outputs_are
+      (among_places (gives script) (outputs_read script) j leads))
   read_along j (reader ∷ path) leads =
       read_on j reader (slice_get (made_of script) reader) refl
       ((needed_law script well reader).1 (path, leads.1)) leads.0
 
-  -- the node that gives a needed collection is read
-  last_read : (j : ℕ) (made : Made) → get_or (wanted script) j None ≡ Some made
-      → is_read (graph_of script) (first_of (get_or (giving script) j 0)) ≡ true
-  last_read j made found =
-      let needed = is_wanted script 0 j script.nodes made found in
-      let way = (needed_law script well j).0
-      (subst (λ n. is_needed script n ≡ true) (zero-add j) needed.0) in
+  wanted_read : (j : ℕ) (how : Made) → get_or (wanted script) j None ≡ Some how
+      → is_read (graph_of script) (gives script j) ≡ true
+  wanted_read j how found =
+      let way = (needed_law script well j).0 (needed_as script j how found).needed in
       read_along j way.0 way.1
+
+  -- the outputs of a call that have numbers are those of its needed names
+  out_read : (t input f j : ℕ) → get_or (built script) t None ≡ Some (made.Do input f 0)
+      → IsAt (names_needed script t f) 0 j
+      → is_read (graph_of script) (place (start script t) j) ≡ true
+  out_read t input f j found at =
+      let it = parts script t (suc (other_names script f)) at.front at.back at.is in
+      let k : ℕ = length at.front in
+      let want = name_wanted script well t input f found k it.below it.needed in
+      subst (λ c. is_read (graph_of script) c ≡ true)
+      (call_place script (t + k) input f k t want refl found
+      ∙ ap (λ front. place (start script t) (number_behind 0 front)) it.same
+      ∙ ap (place (start script t)) at.number)
+      (wanted_read (t + k) (made.Do input f k) want)
+
+  abbrev LastRead : ℕ → Made → Type 0
+  LastRead t mk =
+      IsLastRead (graph_of script) script (gives script) t (source script t) (start script t) mk
+
+  call_read : (t input f o : ℕ) → get_or (built script) t None ≡ Some (made.Do input f o)
+      → o ≡ 0 → LastRead t (made.Do input f o)
+  call_read t input f o found first j has =
+      out_read t input f j
+      (subst (λ k. get_or (built script) t None ≡ Some (made.Do input f k)) first found)
+      (where_out
+      (call_branch t f (needed_at script t) (needed_from script (suc t) (other_names script f)))
+      0 0 j (names_needed script t f) has)
+
+  other_read : (t : ℕ) (how : Made) → IsOther how
+      → is_read (graph_of script) (first_of (start script t + before_last how)) ≡ true
+      → LastRead t how
+  other_read t (made.Input file columns) apart h = h
+  other_read t (made.Do input f o) apart h = absurd apart
+  other_read t (made.Group input) apart h = h
+  other_read t (made.Combine input k) apart h = h
+  other_read t (made.Flatten inputs) apart h = h
+  other_read t (made.Count input) apart h = h
+  other_read t (made.Join left right) apart h = h
+  other_read t (made.Top many input) apart h = h
+
+  last_read : (t : ℕ) {mk : Made} → Kind mk → get_or (built script) t None ≡ Some mk
+      → LastRead t mk
+  last_read t (called input f o) found =
+      call_read t input f o found (built_call script t input f o found).0
+  last_read t (other how apart) found =
+      let want = other_wanted script t how apart found in
+      other_read t how apart
+      (subst (λ c. is_read (graph_of script) c ≡ true) (other_place script t how apart want)
+      (wanted_read t how want))
 
   -- ---- outputs
 
@@ -125,20 +156,18 @@ module _ (script : Script) (well : IsWellFormed script) where
   )
 
   output_there : (j : ℕ) → j < length script.nodes → Contains (outputs_read script) j
-      → IsThere (nodes_of script) (place_in (giving script) j)
+      → IsThere (nodes_of script) (gives script j)
   output_there j below read =
-      let how = wanted_here script well j below ((needed_law script well j).1 ([], read)) in
-      let low = last_in 0 j (wanted script) how.0 how.1 in
-      let all = nodes_end (place_in (giving script)) 0 0 0 (wanted script) in
-      is_there script well (place_in (giving script) j) refl (omega arith)
+      let how = wanted_here script j below ((needed_law script well j).1 ([], read)) in
+      (is_placed script well j how.0 how.1).there
 
   told : AllByRecursion (IsThere (nodes_of script)) (graph_of script).outputs
   told =
-      Each-map (IsThere (nodes_of script)) (λ output. place_in (giving script) output.1.reads)
+      Each-map (IsThere (nodes_of script)) (λ output. gives script output.1.reads)
       script.outputs
       (Each-both (λ (output : List ℕ × Output). HasColumns script.nodes output.1)
       (λ output. Contains (outputs_read script) output.1.reads)
-      (λ output. IsThere (nodes_of script) (place_in (giving script) output.1.reads))
+      (λ output. IsThere (nodes_of script) (gives script output.1.reads))
       (λ output columns read. output_there output.1.reads
       (read_at script.nodes output.1.reads columns.type columns.reads) read)
       script.outputs
@@ -150,16 +179,18 @@ module _ (script : Script) (well : IsWellFormed script) where
   is_founded = record {
     ascends = ascends_counts 0 (nodes_of script) (counts script well);
     below = numbers_below script well;
-    there = Each-both (λ (e : Entry). e.number < length (nodes_of script)) IsLow
+    there = Each-weaker (ReadsLow (IsThere (nodes_of script)))
         (λ e. AllByRecursion (IsThere (nodes_of script)) (reads e.node))
-        (λ e below low. reads_there script well e below low) (nodes_of script)
-        (numbers_below script well) (lows script well);
+        (λ e low. Each-weaker (IsLow (IsThere (nodes_of script)) e.number)
+        (IsThere (nodes_of script)) (λ c h. h.0) (reads e.node) low)
+        (nodes_of script) (lows script well);
     told = told;
     ranked = (
       (λ n. n),
-      Each-weaker IsLow (λ e. AllByRecursion (λ c. c.node < e.number) (reads e.node))
-          (λ e low. Each-weaker (λ (c : Place). (c.out ≡ 0) × (c.node < e.number))
-          (λ c. c.node < e.number) (λ c h. h.1) (reads e.node) low.reads)
+      Each-weaker (ReadsLow (IsThere (nodes_of script)))
+          (λ e. AllByRecursion (λ c. c.node < e.number) (reads e.node))
+          (λ e low. Each-weaker (IsLow (IsThere (nodes_of script)) e.number)
+          (λ c. c.node < e.number) (λ c h. h.1) (reads e.node) low)
           (nodes_of script) (lows script well),
     );
   }
@@ -177,27 +208,35 @@ module _ (script : Script) (well : IsWellFormed script) where
   flatten_fits before (made.Join left right) type fit short = tt
   flatten_fits before (made.Top many input) type fit short = tt
 
-  fits_at : (before nodes : Named Node) (i : ℕ) (made : Made)
+  fits_short : (before nodes : Named Node) (i : ℕ) (made : Made)
       → AllFit script.functions before nodes
       → AllByRecursion (λ entry. IsShort entry.1.made) nodes
       → slice_get (map (λ entry. entry.1.made) nodes) i ≡ Some made → FlattenFits made
-  fits_at before [] i made fit short found = cc
-  fits_at before (entry ∷ nodes) zero made fit short found =
+  fits_short before [] i made fit short found = cc
+  fits_short before (entry ∷ nodes) zero made fit short found =
       let same : entry.1.made ≡ made = cc in
       subst FlattenFits same
       (flatten_fits before entry.1.made entry.1.type fit.0 short.0)
-  fits_at before (entry ∷ nodes) (suc i) made fit short found =
-      fits_at (before ++ entry ∷ []) nodes i made fit.1 short.1 found
+  fits_short before (entry ∷ nodes) (suc i) made fit short found =
+      fits_short (before ++ entry ∷ []) nodes i made fit.1 short.1 found
 
   module _ (short : HasShortFlattens script) where
     nodes_ok : AllByRecursion (λ e. IsNodeOk (graph_of script) e.number e.node) (nodes_of script)
     nodes_ok =
-        all_ok (graph_of script) (wanted script) (giving script) (place_in (giving script))
-        last_read
-        (λ j made found. fits_at [] script.nodes j made well.nodes short
-        (is_wanted script 0 j script.nodes made found).2)
-        0 0 0 (wanted script) [] [] refl refl refl refl
-        (λ c h. or_left (any_uses c (nodes_of script)) _ h)
+        each_block script (gives script) (λ e. IsNodeOk (graph_of script) e.number e.node) 0 0 0
+        (built script)
+        (λ t mk found.
+        subst (λ o. AllByRecursion (λ e. IsNodeOk (graph_of script) e.number e.node)
+        (made_nodes script (gives script) o (source script t) (start script t) mk))
+        (sym (zero-add t))
+        (block_ok (graph_of script) script (gives script) t (source script t) (start script t) mk
+        (last_read t (kind_of mk) found)
+        (λ c used. or_left (any_uses c (nodes_of script)) _
+        (any_block script (gives script) (λ e. uses c e.node) 0 0 0 (built script) t mk found
+        (subst (λ o. any_uses c
+        (made_nodes script (gives script) o (source script t) (start script t) mk) ≡ true)
+        (sym (zero-add t)) used)))
+        (fits_short [] script.nodes t mk well.nodes short (built_as script t mk found).made)))
 
     pub is_graph_ok : IsGraphOk (graph_of script)
     is_graph_ok = record {
@@ -205,9 +244,9 @@ module _ (script : Script) (well : IsWellFormed script) where
       nodes = nodes_ok;
       objects = have_objects script;
       few =
-          let sizes = one_each (nodes_of script) (lows script well) in
-          let few = few_nodes (place_in (giving script)) 0 0 0 (wanted script) in
-          let same = wanted_length script in
+          let sizes = one_each (nodes_of script) (plains script well) in
+          let few = few_nodes script (gives script) 0 0 0 (built script) in
+          let same = built_length script in
           let limit = well.few in
           (let e : total_size (nodes_of script) ≤ most_nodes = omega arith in e);
     }

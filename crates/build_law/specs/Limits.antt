@@ -16,16 +16,8 @@ abbrev pub IsShort : Made → Type 0
 IsShort (made.Flatten sources) = length sources ≤ most_nodes
 IsShort _ = Unit {0}
 
--- a function's collection has what it emits to its first output
-abbrev pub IsFirstOutput : Made → Type 0
-IsFirstOutput (made.Do source function output) = output ≡ 0
-IsFirstOutput _ = Unit {0}
-
 abbrev pub HasShortFlattens : Script → Type 0
 HasShortFlattens script = AllByRecursion (λ entry. IsShort entry.1.made) script.nodes
-
-abbrev pub HasFirstOutputs : Script → Type 0
-HasFirstOutputs script = AllByRecursion (λ entry. IsFirstOutput entry.1.made) script.nodes
 
 -- ---- scripts as they are written
 
@@ -35,7 +27,7 @@ IsShortOperation (operation.Flatten sources) = length sources ≤ most_nodes
 IsShortOperation _ = Unit {0}
 
 abbrev pub IsShortForm : Form → Type 0
-IsShortForm (form.Let name by) = IsShortOperation by
+IsShortForm (form.Let names by) = IsShortOperation by
 IsShortForm _ = Unit {0}
 
 abbrev pub AreShort : List Statement → Type 0

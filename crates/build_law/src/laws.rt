@@ -14,7 +14,7 @@ ghost use Rattle.script_laws.specs.WellFormed.{IsWellFormed};
 ghost use Rattle.direct_meaning.specs.Direct.{meaning};
 ghost use Rattle.graph_build.specs.Graphs.{graph_of};
 ghost use Rattle.graph_laws.specs.Single.{HasNarrowSteps, IsUnfused};
-ghost use Rattle.build_law.specs.Limits.{AreShort, HasFirstOutputs, HasShortFlattens};
+ghost use Rattle.build_law.specs.Limits.{AreShort, HasShortFlattens};
 ghost use Rattle.build_law.specs.Means.{IsMeaning};
 ghost use Rattle.build_law.specs.Signatures.{signatures_of};
 ghost use Rattle.build_law.specs.Worlds.{world_of};
@@ -33,10 +33,12 @@ pub fn graph_law()
         AreShort statements → script_of statements ≡ Ok script → IsGraphOk (graph_of script) }
 {}
 
-/// Each Pdo of a script's graph has one step, which has few outputs.
+/// Each Pdo of a script's graph has one step, which has few outputs where the script is
+/// well-formed.
 pub fn one_step_law()
     ensures unfused { (script : Script) → IsUnfused (graph_of script) }
-    ensures narrow { (script : Script) → HasNarrowSteps (graph_of script) }
+    ensures narrow { (script : Script) → IsWellFormed script →
+        HasNarrowSteps (graph_of script) }
 {}
 
 /// A script's graph has no objects: no source is one, and none is made.
@@ -48,7 +50,7 @@ pub fn object_free_law()
 pub fn means_law()
     ensures well_formed { (script : Script) (inputs : List (List Value))
         (made : List (Option Collection)) →
-        IsWellFormed script → HasShortFlattens script → HasFirstOutputs script →
+        IsWellFormed script → HasShortFlattens script →
         meaning script inputs ≡ Some made →
         IsMeaning (world_of script inputs) script made (graph_of script) }
     ensures accepted { (statements : List Statement) (script : Script)
@@ -61,7 +63,7 @@ pub fn means_law()
 /// Types fit the graph of a well-formed script: each step takes what it is given, by the types of
 /// the script's inputs and functions.
 pub fn types_law()
-    ensures well_formed { (script : Script) → IsWellFormed script → HasFirstOutputs script →
+    ensures well_formed { (script : Script) → IsWellFormed script →
         IsTyped (signatures_of script) (graph_of script) }
     ensures accepted { (statements : List Statement) (script : Script) →
         AreShort statements → script_of statements ≡ Ok script →

@@ -13,6 +13,8 @@ mod order;
 #[cfg(test)]
 mod outcome;
 #[cfg(test)]
+mod outputs;
+#[cfg(test)]
 mod programs;
 #[cfg(test)]
 mod statements;

@@ -71,6 +71,24 @@ fn one_more_collection(rt: HostRuntime) -> Result<(), Fail> {
     Ok(())
 }
 
+static TWO_COLLECTIONS: [Faulty<'static>; 2] = [
+    (b"\nlet xaaa, xaaa = do nope nope", 2, ScriptKind::TooMany),
+    (b"\nlet xzzz = do nope nope", 2, ScriptKind::Unknown),
+];
+
+/// Room for one collection more, and not for two.
+#[test]
+fn two_more_collections(rt: HostRuntime) -> Result<(), Fail> {
+    let alloc = rt.alloc();
+    let most = named_apart(alloc, COUNTED, b"let x", 1021, b" = top 1 a ")?;
+    assert_eq!(rt;
+        told_of(alloc, &most, b"let xzzz = count a"),
+        Outcome::Accepted
+    );
+    assert_eq!(rt; first_other(alloc, &most, &TWO_COLLECTIONS), None);
+    Ok(())
+}
+
 static ONE_LEVEL: [Faulty<'static>; 1] = [(b"\ntype x = list<h>", 2, ScriptKind::TooDeep)];
 
 /// Seven records of 16 fields, each of the one before: written out they have 16 to the power of 7

@@ -19,6 +19,8 @@ let f = flatten p, p
 let c = count f
 let j = join p, f
 let t = top 7 c
+fn both(x: r) -> int, r { emit to 2 x emit x.k }
+let m, n = do a both
 output t to \"out.csv\"
 output a to \"copy.csv\"";
 
@@ -73,7 +75,10 @@ fn is_part(program: &Program, part: Part) -> bool {
 }
 
 /// The names of the collections.
-static NAMES: [&[u8]; 8] = [b"a", b"p", b"g", b"s", b"f", b"c", b"j", b"t"];
+static NAMES: [&[u8]; 10] = [b"a", b"p", b"g", b"s", b"f", b"c", b"j", b"t", b"m", b"n"];
+
+/// The numbers of the statements that make them.
+static STATEMENTS: [usize; 10] = [1, 4, 5, 6, 7, 8, 9, 10, 12, 12];
 
 /// Whether the collections have these names, and each is made as the script says.
 fn are_collections(program: &Program, names: &[&[u8]]) -> bool {
@@ -95,7 +100,10 @@ fn is_named(program: &Program, number: usize, name: &[u8]) -> bool {
 
 /// Whether the collection of this number is made as the script says.
 fn is_node(program: &Program, number: usize) -> bool {
-    number < program.node_count() && is_made(number, &program.node(number).made)
+    number < program.node_count()
+        && is_made(number, &program.node(number).made)
+        && number < STATEMENTS.len()
+        && program.node(number).statement == STATEMENTS[number]
 }
 
 fn is_made(number: usize, made: &Made) -> bool {
@@ -105,13 +113,23 @@ fn is_made(number: usize, made: &Made) -> bool {
             source,
             function,
             output,
-        } => number == 1 && *source == 0 && *function == 0 && *output == 0,
+        } => *source == 0 && is_output_of(number, *function, *output),
         Made::Group { source } => number == 2 && *source == 1,
         Made::Combine { source, by } => number == 3 && *source == 2 && *by == Comb::Top(3),
         Made::Flatten { sources } => number == 4 && are_both(sources.as_slice(), 1),
         Made::Count { source } => number == 5 && *source == 4,
         Made::Join { left, right } => number == 6 && *left == 1 && *right == 4,
         Made::Top { number: of, source } => number == 7 && *of == 7 && *source == 5,
+    }
+}
+
+/// Whether the collection of this number is this output of this function.
+fn is_output_of(number: usize, function: usize, output: usize) -> bool {
+    match number {
+        1 => function == 0 && output == 0,
+        8 => function == 2 && output == 0,
+        9 => function == 2 && output == 1,
+        _ => false,
     }
 }
 
@@ -124,31 +142,32 @@ fn are_both(sources: &[usize], number: usize) -> bool {
 }
 
 fn are_functions(program: &Program) -> bool {
-    program.function_count() == 2
-        && is_called(program, 0, b"pair", 300)
-        && is_called(program, 1, b"same", 100)
+    program.function_count() == 3
+        && is_called(program, 0, b"pair", 1, 300)
+        && is_called(program, 1, b"same", 1, 100)
+        && is_called(program, 2, b"both", 2, 100)
 }
 
-/// Whether the function of this number has this name and this scale.
-fn is_called(program: &Program, number: usize, name: &[u8], scale: u32) -> bool {
+/// Whether the function of this number has this name, so many outputs and this scale.
+fn is_called(program: &Program, number: usize, name: &[u8], outputs: usize, scale: u32) -> bool {
     number < program.function_count()
         && program.function_name(number).is(name)
-        && is_function(program.function(number), scale)
+        && is_function(program.function(number), outputs, scale)
 }
 
-/// Whether the function has one statement, one output, and this scale.
-fn is_function(function: &Function, scale: u32) -> bool {
+/// Whether the function has so many outputs, a statement for each, and this scale.
+fn is_function(function: &Function, outputs: usize, scale: u32) -> bool {
     function.argument.is(b"x")
         && function.type_names == 1
-        && function.body.len() == 1
-        && function.fun.body().len() == 1
-        && function.fun.outputs() == 1
+        && function.body.len() == outputs
+        && function.fun.body().len() == outputs
+        && function.fun.outputs() == outputs
         && function.signature.scale == scale
 }
 
 /// Whether the first function gives pairs of the rows that it takes, and the second the rows.
 fn are_rows_and_pairs(program: &Program) -> bool {
-    if program.function_count() != 2 || program.node_count() <= 1 {
+    if program.function_count() != 3 || program.node_count() <= 1 {
         return false;
     }
     let pairs = program.node(1).ty;
@@ -175,15 +194,16 @@ static COLUMNS: [&[u8]; 3] = [b"key.key", b"key.value", b"value"];
 
 fn are_outputs(program: &Program) -> bool {
     program.output_count() == 2
-        && is_output(program, 0, b"out.csv", 7)
-        && is_output(program, 1, b"copy.csv", 0)
+        && is_output(program, 0, b"t", b"out.csv", 7)
+        && is_output(program, 1, b"a", b"copy.csv", 0)
         && has_columns(program, &COLUMNS)
 }
 
-/// Whether the output of this number is this file, and reads this collection.
-fn is_output(program: &Program, number: usize, file: &[u8], reads: usize) -> bool {
+/// Whether the output of this number has this name and this file, and reads this collection.
+fn is_output(program: &Program, number: usize, name: &[u8], file: &[u8], reads: usize) -> bool {
     number < program.output_count()
         && program.output_file(number).is(file)
+        && program.output(number).name.is(name)
         && program.output(number).reads == reads
 }
 

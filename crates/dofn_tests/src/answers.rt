@@ -1,14 +1,18 @@
 // What the function of a script answers on a number, beside what it is to answer.
+ghost use Rattle.std.specs.Prelude.{◌≡◌, ◌≤◌, ◌<◌, length};
 ghost use Rattle.flume_value.specs.declared.value.Value.TheVariants as variant;
+ghost use Rattle.flume_types.specs.declared.types.Ty.TheVariants as ty;
+ghost use Rattle.type_table.specs.Table.{type_at};
+ghost use Rattle.expression_types.specs.Held.{AreTypes};
 ghost use Rattle.dofn_eval.specs.Function.{Accepts};
 
 use body_check::check_body;
-use dofn_eval::{Fun, call};
+use dofn_eval::{Fun, Lists, call};
 use flume_grammar::{Ast, Form, Function, ScriptFault};
 use flume_syntax::parse;
-use flume_value::{CallFault, Items, Kind, Value};
+use flume_value::{CallFault, Kind, Value};
 use std::alloc::{AllocError, Global};
-use type_table::Shape;
+use type_table::{Shape, TypeId};
 use written_types::{TypeNames, whole_type};
 
 /// What comes of a script of one function.
@@ -19,21 +23,42 @@ pub enum Answer {
     WantOfMemory,
     OtherArgument,
     Trap(Kind),
-    Emits(Items),
+    Emits(Lists),
 }
 
-// What a function of one output answers on a number.
+// What a function answers on a number.
 fn called(alloc: Global, f: &Fun, n: i64) -> Answer
     requires { Accepts f.now (variant.Int n) }
 {
     match call(alloc, f, &Value::Int(n)) {
-        Ok(lists) => Answer::Emits(lists.into_first()),
+        Ok(lists) => Answer::Emits(lists),
         Err(CallFault::Trap(kind)) => Answer::Trap(kind),
         Err(CallFault::Memory) => Answer::WantOfMemory,
     }
 }
 
+// What a function that takes ints, and gives values of these types, answers on a number.
 fn checked(
+    alloc: Global,
+    function: &Function,
+    takes: TypeId,
+    gives: &[TypeId],
+    n: i64,
+    known: &mut TypeNames,
+) -> Result<Answer, ScriptFault>
+    requires takes { takes < length known.old.types }
+    requires is_int { type_at known.old.types takes ≡ ty.Int }
+    requires gives { AreTypes (length known.old.types) gives.now }
+    requires some { 1 ≤ length gives.now }
+    requires most { length gives.now ≤ 8 }
+{
+    let body = function.body.as_slice();
+    let f = check_body(alloc, known, &function.argument, takes, gives, body)?;
+    Ok(called(alloc, &f, n))
+}
+
+// The same of a function of one output, or of two, by its types as they are written.
+fn typed(
     alloc: Global,
     function: &Function,
     n: i64,
@@ -41,18 +66,22 @@ fn checked(
 ) -> Result<Answer, ScriptFault> {
     let int = known.intern(Shape::Int)?;
     let takes = whole_type(alloc, 1, &function.takes, known)?;
-    let gives = whole_type(alloc, 1, &function.gives, known)?;
+    let first = whole_type(alloc, 1, &function.gives, known)?;
     if !known.types().same(takes, int) {
         return Ok(Answer::OtherArgument);
     }
-    let body = function.body.as_slice();
-    let f = check_body(alloc, known, &function.argument, takes, &[gives], body)?;
-    Ok(called(alloc, &f, n))
+    match function.more.as_slice() {
+        [second] => {
+            let second = whole_type(alloc, 1, second, known)?;
+            checked(alloc, function, int, &[first, second], n, known)
+        }
+        _ => checked(alloc, function, int, &[first], n, known),
+    }
 }
 
 fn answer_on(alloc: Global, function: &Function, n: i64) -> Answer {
     let mut known = TypeNames::new(alloc);
-    match checked(alloc, function, n, &mut known) {
+    match typed(alloc, function, n, &mut known) {
         Ok(answer) => answer,
         Err(ScriptFault::Refused { line: _, kind: _ }) => Answer::Refused,
         Err(ScriptFault::Memory) => Answer::WantOfMemory,
@@ -114,6 +143,8 @@ fn answer_behind(
 #[derive(Clone, Copy)]
 pub enum Wanted {
     Emits(&'static [i64]),
+    /// ints to each of several outputs
+    Each(&'static [&'static [i64]]),
     Texts(&'static [&'static [u8]]),
     /// the record of the text three and a 7
     Pair,
@@ -125,10 +156,37 @@ pub enum Wanted {
 
 fn is_wanted(answer: &Answer, wanted: Wanted) -> bool {
     match answer {
-        Answer::Emits(items) => are_wanted(items.as_slice(), wanted),
+        Answer::Emits(lists) => are_emitted(lists, wanted),
         Answer::Trap(kind) => matches!(wanted, Wanted::Traps(other) if *kind == other),
         Answer::Refused => matches!(wanted, Wanted::Refused),
         Answer::NotParsed | Answer::WantOfMemory | Answer::OtherArgument => false,
+    }
+}
+
+fn are_emitted(lists: &Lists, wanted: Wanted) -> bool {
+    match wanted {
+        Wanted::Each(each) => are_each(lists, each),
+        _ => lists.len() == 1 && are_wanted(lists.first(), wanted),
+    }
+}
+
+/// Whether these ints are emitted to each output.
+fn are_each(lists: &Lists, each: &[&[i64]]) -> bool {
+    if lists.len() != each.len() {
+        return false;
+    }
+    for output in 0..each.len() {
+        if !are_at(lists, output, each[output]) {
+            return false;
+        }
+    }
+    true
+}
+
+fn are_at(lists: &Lists, output: usize, all: &[i64]) -> bool {
+    match lists.get(output) {
+        Some(items) => are_ints(items, all),
+        None => false,
     }
 }
 
@@ -138,7 +196,7 @@ fn are_wanted(items: &[Value], wanted: Wanted) -> bool {
         Wanted::Texts(all) => are_texts(items, all),
         Wanted::Pair => are_pair(items),
         Wanted::Many(count) => items.len() == count,
-        Wanted::Traps(_) | Wanted::Refused => false,
+        Wanted::Each(_) | Wanted::Traps(_) | Wanted::Refused => false,
     }
 }
 

@@ -8,4 +8,6 @@ mod computed;
 #[cfg(test)]
 mod named;
 #[cfg(test)]
+mod outputs;
+#[cfg(test)]
 mod refused;

@@ -1,6 +1,6 @@
 //! The texts of options: numbers, and the attempts that a run is to lose on purpose.
 //!
-//! `number_in` and `number_up_to` read a number of one to six decimal digits, without a sign and
+//! `number_in` and `number_up_to` read a number of one to nine decimal digits, without a sign and
 //! without leading zeros (specs/Numbers.antt). `drill_of` reads a drill: attempts in the form
 //! STAGE(m|r)TASK.ATTEMPT, parted by commas, at most 64 and none of them twice
 //! (specs/Drills.antt). `drill_law` says the same the other way round: a text spells a drill

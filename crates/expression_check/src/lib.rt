@@ -7,14 +7,17 @@
 //! slots have the type and give what the expression gives.
 //!
 //! What is in sight, and the type of each operation from those of its operands, is the crate
-//! expression_types below; here is what goes down into an expression.
+//! expression_types below; here is what goes down into an expression. `number_within` reads a
+//! number in digits within limits, as `specs/Numbers.antt` defines, for the statements above.
 #![tactic(auto)]
 
 mod expression;
 mod forms;
 mod laws;
+mod numbers;
 mod typed;
 
 pub use expression::resolve;
 pub use laws::{expression_law, slots_law};
+pub use numbers::number_within;
 pub use typed::Typed;

@@ -1,5 +1,5 @@
 -- What is in the grammar is read: types.
-use Rattle.std.proofs.Common.{◌≡◌, ℕ, zero, suc, ◌+◌, ◌≤◌, ◌<◌, max, length, length-append, nat_le, List, [], ◌∷◌, Bool, true, Some, Ok, Err, if◌then◌else◌, refl, ap, ◌∙◌, arith}
+use Rattle.std.proofs.Common.{◌≡◌, ℕ, zero, suc, ◌+◌, ◌≤◌, ◌<◌, max, length, length-append, nat_le, List, [], ◌∷◌, Bool, true, false, Option, Some, None, Ok, Err, if◌then◌else◌, refl, ap, ◌∙◌, arith}
 use Rattle.std.proofs.lemmas.Bool.{lt-ltb, le-leb}
 use denote.Enum.Bare.{true_same}
 use Rattle.flume_tokens.specs.contracts.keyword.Keyword as keyword_type
@@ -13,12 +13,12 @@ use Rattle.flume_grammar.specs.declared.fault.ScriptKind.TheVariants.{Syntax, To
 use Rattle.flume_grammar.specs.declared.parts.Parts.{Parts}
 use Rattle.flume_grammar.specs.declared.start.TypeStart.{TypeStart}
 use Rattle.flume_grammar.specs.declared.start.TypeStart.TheVariants as begins
-use Rattle.flume_grammar.specs.inner.Out.{Out, give, bind, at, one, passed, all_of}
-use Rattle.flume_grammar.specs.inner.Reading.{sign_at, keyword_at, word_at, comma_at, or_syntax}
-use Rattle.flume_grammar.specs.Terminals.{word_of, key, mark}
+use Rattle.flume_grammar.specs.inner.Out.{Out, give, bind, at, one, passed, next as next_kind, all_of}
+use Rattle.flume_grammar.specs.inner.Reading.{sign_at, keyword_at, word_at, number_at, comma_at, or_syntax, is_at_keyword, numbered}
+use Rattle.flume_grammar.specs.Terminals.{word_of, key, mark, number}
 use Rattle.flume_grammar.specs.Parts.{Tree, none, with_part}
 use Rattle.flume_grammar.specs.inner.Types.{deep_start, type_start, pair_type, field_type, next_field_type, at_comma, type_within, whole_type}
-use Rattle.flume_grammar.specs.Grammar.{IsWholeType, IsType, int, bool, text_, named, list, either, table, record_, AreFieldTypes, first, next}
+use Rattle.flume_grammar.specs.Grammar.{IsNumbered, absent, present, IsWholeType, IsType, int, bool, text_, named, list, either, table, record_, AreFieldTypes, first, next}
 use Rattle.flume_grammar.proofs.Loops.{Reaches, reaches_start, reaches_next, reaches_end}
 use Rattle.flume_grammar.specs.Limits.{Limits}
 use Rattle.flume_grammar.proofs.Fair.{IsFair}
@@ -51,7 +51,24 @@ same_comma n limit m us h =
     ap (λ b. passed (if b then Ok tt else Err (at (mark sign.Comma m) TooMany)) us)
     (lt-ltb n limit h)
 
+-- the number behind a keyword is read, before what is not this keyword
+pub complete_numbered : (k : Keyword) {ts us : List Token} {o : Option (List ℕ)}
+    → IsNumbered k ts us o → is_at_keyword k (next_kind us) ≡ false → numbered k ts ≡ Ok (o, us)
+complete_numbered k (absent {ts}) e = ap (λ t. if t then bind (one (keyword_at k) ts)
+    (λ _ us. bind (one number_at us) (λ n vs. give (Some n) vs)) else give None ts) e
+complete_numbered k (present {digits} {n} {m} {ts}) e =
+    ap (λ t. if t then bind (one (keyword_at k) (key k n ∷ number digits m ∷ ts))
+    (λ _ us. bind (one number_at us) (λ z vs. give (Some z) vs)) else give None
+    (key k n ∷ number digits m ∷ ts)) (true_same keyword_type.the_type k k refl)
+    ∙ went (one (keyword_at k) (key k n ∷ number digits m ∷ ts)) _ tt (number digits m ∷ ts) _
+    (same_key k n _) refl
+
 -- ---- what is read takes a token
+
+pub shorter_numbered : {k : Keyword} {ts us : List Token} {o : Option (List ℕ)}
+    → IsNumbered k ts us o → length us ≤ length ts
+shorter_numbered absent = omega arith
+shorter_numbered present = omega arith
 
 module _ (limits : Limits) (fair : IsFair limits) where
   mutual

@@ -11,7 +11,7 @@ use Rattle.flume_grammar.specs.declared.start.BodyStart.TheVariants as begin
 use Rattle.flume_grammar.specs.declared.tree.Expr.{Expr}
 use Rattle.flume_grammar.specs.declared.tree.Body.{Body}
 use Rattle.flume_grammar.specs.inner.Out.{give, bind, at, one, passed, next, all_of}
-use Rattle.flume_grammar.specs.inner.Reading.{sign_at, keyword_at, name_at, is_at_keyword}
+use Rattle.flume_grammar.specs.inner.Reading.{sign_at, keyword_at, name_at, is_at_keyword, numbered}
 use Rattle.flume_grammar.specs.inner.Expressions.{suffix_of, expression_within}
 use Rattle.flume_grammar.specs.inner.Bodies as b
 use Rattle.flume_grammar.specs.inner.Bodies.{value, block_within, whole_block}
@@ -19,9 +19,9 @@ use Rattle.flume_grammar.specs.Grammar as g
 use Rattle.flume_grammar.specs.Terminals.{key, mark, name}
 use Rattle.flume_grammar.specs.Grammar.{IsExpr, IsBody, IsBlock, AreBodies}
 use Rattle.flume_grammar.proofs.Loops.{Reaches, reaches_start, reaches_next, reaches_end}
-use Rattle.flume_grammar.proofs.Complete.{went, taken, same_key}
+use Rattle.flume_grammar.proofs.Complete.{went, taken, same_key, complete_numbered, shorter_numbered}
 use Rattle.flume_grammar.proofs.Ranks.{Fits}
-use Rattle.flume_grammar.proofs.Sizes.{shorter, positive}
+use Rattle.flume_grammar.proofs.Sizes.{shorter, positive, no_to}
 use Rattle.flume_grammar.proofs.CompleteExpr.{complete_expression}
 use Rattle.flume_grammar.specs.Limits.{Limits}
 use Rattle.flume_grammar.proofs.Fair.{IsFair}
@@ -35,7 +35,7 @@ module _ (limits : Limits) (fair : IsFair limits) where
 
   begins_ends : {us vs : List Token} {x : Body} {a : ℕ} → IsBody limits us vs x a → Ends us
   begins_ends (g.let_ x) = record { fits = (tt, tt); stops = λ own. refl; no_else = refl }
-  begins_ends (g.emit x) = record { fits = (tt, tt); stops = λ own. refl; no_else = refl }
+  begins_ends (g.emit o x) = record { fits = (tt, tt); stops = λ own. refl; no_else = refl }
   begins_ends (g.if_ x y) = record { fits = (tt, tt); stops = λ own. refl; no_else = refl }
   begins_ends (g.if_else x y z) = record { fits = (tt, tt); stops = λ own. refl; no_else = refl }
   begins_ends (g.for_ x y) = record { fits = (tt, tt); stops = λ own. refl; no_else = refl }
@@ -44,7 +44,7 @@ module _ (limits : Limits) (fair : IsFair limits) where
   begins_body : {us vs : List Token} {x : Body} {a : ℕ} → IsBody limits us vs x a
       → b.begins_body (next us) ≡ true
   begins_body (g.let_ x) = refl
-  begins_body (g.emit x) = refl
+  begins_body (g.emit o x) = refl
   begins_body (g.if_ x y) = refl
   begins_body (g.if_else x y z) = refl
   begins_body (g.for_ x y) = refl
@@ -57,7 +57,8 @@ module _ (limits : Limits) (fair : IsFair limits) where
     shorter_body : {us vs : List Token} {x : Body} {a : ℕ} → IsBody limits us vs x a
         → length vs < length us
     shorter_body (g.let_ x) = let h = (shorter limits fair) x in omega (arith, h)
-    shorter_body (g.emit x) = let h = (shorter limits fair) x in omega (arith, h)
+    shorter_body (g.emit o x) = let h = shorter_numbered o in let i = (shorter limits fair) x in
+        omega (arith, h, i)
     shorter_body (g.if_ x y) = let h = (shorter limits fair) x in let i = shorter_block y in
         omega (arith, h, i)
     shorter_body (g.if_else x y z) = let h = (shorter limits fair) x in let i = shorter_block y in
@@ -79,7 +80,7 @@ module _ (limits : Limits) (fair : IsFair limits) where
 
   body_deep : {us vs : List Token} {x : Body} {a : ℕ} → IsBody limits us vs x a → 2 ≤ a
   body_deep (g.let_ x) = let h = (positive limits fair) x in omega (arith, h)
-  body_deep (g.emit x) = let h = (positive limits fair) x in omega (arith, h)
+  body_deep (g.emit o x) = let h = (positive limits fair) x in omega (arith, h)
   body_deep (g.if_ x y) = let h = (positive limits fair) x in omega (arith, h)
   body_deep (g.if_else x y z) = let h = (positive limits fair) x in omega (arith, h)
   body_deep (g.for_ x y) = let h = (positive limits fair) x in omega (arith, h)
@@ -151,12 +152,14 @@ module _ (limits : Limits) (fair : IsFair limits) where
         (body_starts (suc n) keyword.Let begin.Let l _ refl (omega (arith, h, p)))
         (went (value limits (suc n) ts) _ (e, a) us _
         (value_reads y n (omega (arith, h)) d.fits d.stops) refl)
-    complete_body (g.emit {n = l} {a} {ts} {us} {e} y) n h d =
+    complete_body (g.emit {n = l} {a} {ts} {us} {vs} {to} {e} o y) n h d =
         let p = (positive limits fair) y in
         went (one (b.body_start (suc n)) (key keyword.Emit l ∷ ts)) _ (begin.Emit, l) ts _
         (body_starts (suc n) keyword.Emit begin.Emit l _ refl (omega (arith, h, p)))
-        (went (value limits (suc n) ts) _ (e, a) us _
-        (value_reads y n (omega (arith, h)) d.fits d.stops) refl)
+        (went (numbered keyword.To ts) _ to us _
+        (complete_numbered keyword.To o (no_to limits fair y))
+        (went (value limits (suc n) us) _ (e, a) vs _
+        (value_reads y n (omega (arith, h)) d.fits d.stops) refl))
     complete_body (g.if_ {n = l} {a} {b = c} {ts} {us} {vs} {e} {ss} y z) n h d =
         let p = (positive limits fair) y in
         let (f, o) = block_begins z in

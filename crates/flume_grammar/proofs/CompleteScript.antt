@@ -1,5 +1,5 @@
 -- Operations, statements and scripts of the grammar are read.
-use Rattle.std.proofs.Common.{◌≡◌, ℕ, ◌≤◌, ◌<◌, length, length-append, List, [], ◌∷◌, ◌++◌, true, false, Option, Some, None, Ok, if◌then◌else◌, refl, ap, arith}
+use Rattle.std.proofs.Common.{◌≡◌, ℕ, ◌+◌, ◌≤◌, ◌<◌, length, length-append, List, [], ◌∷◌, ◌++◌, true, false, Option, Some, None, Ok, refl, arith}
 use Rattle.flume_tokens.specs.declared.token.Token.{Token}
 use Rattle.flume_tokens.specs.declared.keyword.Keyword.TheVariants as keyword
 use Rattle.flume_tokens.specs.declared.sign.Sign.TheVariants as sign
@@ -9,19 +9,50 @@ use Rattle.flume_grammar.specs.declared.tree.Operation.{Operation}
 use Rattle.flume_grammar.specs.declared.tree.Operation.TheVariants as operation
 use Rattle.flume_grammar.specs.declared.tree.Form.TheVariants as form
 use Rattle.flume_grammar.specs.declared.tree.Statement.{Statement}
-use Rattle.flume_grammar.specs.inner.Out.{give, bind, one, next, all_of}
-use Rattle.flume_grammar.specs.inner.Reading.{sign_at, keyword_at, name_at, number_at, text_at, comma_at, is_at_keyword, is_at_sign}
+use Rattle.flume_grammar.specs.inner.Out.{Out, give, bind, one, next, all_of}
+use Rattle.flume_grammar.specs.inner.Reading.{sign_at, keyword_at, name_at, text_at, comma_at, is_at_sign, numbered}
+use Rattle.flume_grammar.specs.Parts.{Tree}
 use Rattle.flume_grammar.specs.inner.Types.{at_comma, whole_type}
 use Rattle.flume_grammar.specs.inner.Bodies.{whole_block}
 use Rattle.flume_grammar.specs.inner.Statements as s
 use Rattle.flume_grammar.specs.Grammar as g
 use Rattle.flume_grammar.specs.Terminals.{key, mark, name, text}
-use Rattle.flume_grammar.specs.Grammar.{IsBlock, IsCombiner, AreNames, IsOperation, IsScale, IsStatement, AreStatements, IsScript}
+use Rattle.flume_grammar.specs.Grammar.{IsNumbered, AreMoreTypes, IsBlock, IsCombiner, AreNames, IsOperation, IsStatement, AreStatements, IsScript}
 use Rattle.flume_grammar.proofs.Loops.{Reaches, reaches_start, reaches_next, reaches_end}
-use Rattle.flume_grammar.proofs.Complete.{went, same_key, same_comma, shorter_type, complete_whole}
+use Rattle.flume_grammar.proofs.Complete.{went, same_key, same_comma, shorter_numbered, shorter_type, complete_whole}
 use Rattle.flume_grammar.specs.Limits.{Limits}
 use Rattle.flume_grammar.proofs.Fair.{IsFair}
 use Rattle.flume_grammar.proofs.CompleteBodies.{shorter_block, complete_whole_block}
+
+-- ---- names
+
+-- the first name is read, and from there on the loop comes to the last
+module _ (part : List (List ℕ) → List Token → Out (List (List ℕ))) (Room : List (List ℕ) → Type 0)
+    (fewer : (xs : List (List ℕ)) (x : List ℕ) → Room (xs ++ x ∷ []) → Room xs)
+    (step : (xs : List (List ℕ)) (x : List ℕ) (m n : ℕ) (us : List Token) → Room (xs ++ x ∷ [])
+    → part xs (mark sign.Comma m ∷ name x n ∷ us) ≡ Ok (xs ++ x ∷ [], us))
+  where
+    complete_names : {ts us : List Token} {xs : List (List ℕ)} → AreNames ts us xs → Room xs
+        → (x : List ℕ) × (vs : List Token) × (one name_at ts ≡ Ok (x, vs))
+        × Reaches at_comma part (all_of at_comma part (x ∷ []) vs) xs us
+    complete_names (g.one {x} {n} {ts}) h = (x, ts, refl, reaches_start at_comma part (x ∷ []) ts)
+    complete_names (g.more {x} {xs} {n} {m} {ts} {us} y) h =
+        let (z, vs, q, r) = complete_names y (fewer xs x h) in (
+          z,
+          vs,
+          q,
+          reaches_next at_comma part _ xs (xs ++ x ∷ [])
+              (mark sign.Comma m ∷ name x n ∷ us) us r refl (step xs x m n us h) (omega arith),
+        )
+
+-- the names of a let
+complete_let : {ts us : List Token} {xs : List (List ℕ)} {n : ℕ}
+    → AreNames ts (mark sign.Assign n ∷ us) xs → s.names ts ≡ Ok (xs, mark sign.Assign n ∷ us)
+complete_let {ts} {us} {xs} {n} x =
+    let (z, vs, q, r) = complete_names s.next_name (λ ys. Unit {0}) (λ ys y i. tt)
+    (λ ys y k m ws i. refl) x tt in
+    went (one name_at ts) (λ y ws. all_of at_comma s.next_name (y ∷ []) ws) z vs _ q
+    (reaches_end at_comma s.next_name _ xs (mark sign.Assign n ∷ us) r refl)
 
 module _ (limits : Limits) (fair : IsFair limits) where
   -- ---- operations
@@ -38,25 +69,17 @@ module _ (limits : Limits) (fair : IsFair limits) where
   complete_combiner g.mean = refl
   complete_combiner g.distinct = refl
 
-  complete_names : {ts us : List Token} {xs : List (List ℕ)} → AreNames ts us xs
-      → length xs ≤ limits.inputs → (x : List ℕ) × (vs : List Token) × (one name_at ts ≡ Ok (x, vs))
-      × Reaches at_comma (s.next_input limits) (all_of at_comma (s.next_input limits) (x ∷ []) vs)
-      xs us
-  complete_names (g.one {x} {n} {ts}) h =
-      (x, ts, refl, reaches_start at_comma (s.next_input limits) (x ∷ []) ts)
-  complete_names (g.more {x} {xs} {n} {m} {ts} {us} y) h =
+  next_input : (xs : List (List ℕ)) (x : List ℕ) (m n : ℕ) (us : List Token)
+      → length (xs ++ x ∷ []) ≤ limits.inputs
+      → s.next_input limits xs (mark sign.Comma m ∷ name x n ∷ us) ≡ Ok (xs ++ x ∷ [], us)
+  next_input xs x m n us h =
       let j = length-append xs (x ∷ []) in
-      let (z, vs, q, r) = complete_names y (omega (arith, h, j)) in
-      let step : (s.next_input limits) xs (mark sign.Comma m ∷ name x n ∷ us) ≡ Ok
-      (xs ++ x ∷ [], us) =
       went (one (comma_at (length xs) limits.inputs) (mark sign.Comma m ∷ name x n ∷ us)) _ tt
-      (name x n ∷ us) _ (same_comma (length xs) limits.inputs m _ (omega (arith, h, j))) refl in (
-        z,
-        vs,
-        q,
-        reaches_next at_comma (s.next_input limits) _ xs (xs ++ x ∷ []) _ us r refl step
-            (omega arith),
-      )
+      (name x n ∷ us) _ (same_comma (length xs) limits.inputs m _ (omega (arith, h, j))) refl
+
+  few_inputs : (xs : List (List ℕ)) (x : List ℕ) → length (xs ++ x ∷ []) ≤ limits.inputs
+      → length xs ≤ limits.inputs
+  few_inputs xs x h = let j = length-append xs (x ∷ []) in omega (arith, h, j)
 
   -- an operation, before what is no comma
   complete_operation : {ts us : List Token} {o : Operation} → IsOperation limits ts us o
@@ -68,7 +91,8 @@ module _ (limits : Limits) (fair : IsFair limits) where
       (λ _ vs. bind (s.combiner_at vs) (λ w ws. give (operation.Combine c w) ws)) tt ts _
       (same_key keyword.By k ts) (went (s.combiner_at ts) _ z us _ (complete_combiner x) refl)
   complete_operation (g.flatten {n} {ts} {us} {xs} x l) h =
-      let (z, vs, q, r) = complete_names x l in
+      let (z, vs, q, r) = complete_names (s.next_input limits) (λ ys. length ys ≤ limits.inputs)
+      few_inputs next_input x l in
       went (one name_at ts) (λ y ws. bind (all_of at_comma (s.next_input limits) (y ∷ []) ws)
       (λ ys xs. give (operation.Flatten ys) xs)) z vs _ q
       (went (all_of at_comma (s.next_input limits) (z ∷ []) vs) _ xs us _
@@ -79,20 +103,27 @@ module _ (limits : Limits) (fair : IsFair limits) where
 
   -- ---- statements
 
-  no_scale : (us : List Token) → is_at_keyword keyword.Scale (next us) ≡ false
-      → s.scale us ≡ Ok (None, us)
-  no_scale us e =
-      ap (λ t. if t then bind (one (keyword_at keyword.Scale) us)
-      (λ _ vs. bind (one number_at vs) (λ n ws. give (Some n) ws)) else give None us) e
+  -- what stands before a function's body
+  before_block : {us vs ws : List Token} {c : Option (List ℕ)} {ss : List Body} {a : ℕ}
+      → IsNumbered keyword.Scale us vs c → IsBlock limits vs ws ss a
+      → (is_at_sign sign.Comma (next us) ≡ false) × (numbered keyword.Scale us ≡ Ok (c, vs))
+  before_block g.absent (g.braces x) = (refl, refl)
+  before_block g.present x = (refl, refl)
 
-  block_no_scale : {us vs : List Token} {ss : List Body} {a : ℕ} → IsBlock limits us vs ss a
-      → is_at_keyword keyword.Scale (next us) ≡ false
-  block_no_scale (g.braces x) = refl
-
-  complete_scale : {us vs ws : List Token} {c : Option (List ℕ)} {ss : List Body} {a : ℕ}
-      → IsScale us vs c → IsBlock limits vs ws ss a → s.scale us ≡ Ok (c, vs)
-  complete_scale (g.absent {ts}) x = no_scale ts (block_no_scale x)
-  complete_scale g.present x = refl
+  complete_more : {ts us : List Token} {types : List Tree} → AreMoreTypes limits ts us types
+      → 1 + length types ≤ limits.outputs
+      → Reaches at_comma (s.next_type limits) (all_of at_comma (s.next_type limits) [] ts) types us
+  complete_more (g.none_ {ts}) h = reaches_start at_comma (s.next_type limits) [] ts
+  complete_more (g.some {n} {ts} {us} {vs} {t} {types} x w) h =
+      let j = length-append types (t ∷ []) in
+      let k = (shorter_type limits fair) w.spelled in
+      let step : (s.next_type limits) types (mark sign.Comma n ∷ us) ≡ Ok (types ++ t ∷ [], vs) =
+      went (one (comma_at (1 + length types) limits.outputs) (mark sign.Comma n ∷ us)) _ tt us _
+      (same_comma (1 + length types) limits.outputs n us (omega (arith, h, j)))
+      (went (whole_type limits us) _ t vs _ ((complete_whole limits fair) w) refl) in
+      reaches_next at_comma (s.next_type limits) _ types (types ++ t ∷ [])
+      (mark sign.Comma n ∷ us) vs (complete_more x (omega (arith, h, j))) refl step
+      (omega (arith, k))
 
   complete_statement : {ts us : List Token} {x : Statement} → IsStatement limits ts us x
       → is_at_sign sign.Comma (next us) ≡ false → s.statement_at limits ts ≡ Ok (x, us)
@@ -107,8 +138,9 @@ module _ (limits : Limits) (fair : IsFair limits) where
       (went (whole_type limits ts) (λ z ws. bind (one (keyword_at keyword.From) ws)
       (λ _ xs. bind (one text_at xs) (λ y ys. give (form.Input x z y) ys))) t
       (key keyword.From i ∷ text f j ∷ us) _ ((complete_whole limits fair) w) refl) refl
-  complete_statement (g.fn_ {x} {y} {n} {m} {k} {i} {j} {o} {p} {d} {ts} {us} {vs} {ws} {s =
-      z} {t} {c} {b = ss} u v w {xs} q l) h =
+  complete_statement (g.fn_ {x} {y} {n} {m} {k} {i} {j} {o} {p} {d} {ts} {us} {vs} {ws} {xs} {ys}
+      {s = z} {t} {types} {c} {b = ss} u v w e f q l) h =
+      let (no_comma, scale) = before_block f q in
       went
       ((s.function_form limits)
       (name x m ∷ mark sign.Open k ∷ name y i ∷ mark sign.Colon j ∷ ts))
@@ -118,12 +150,13 @@ module _ (limits : Limits) (fair : IsFair limits) where
         argument = y;
         takes = z;
         gives = t;
+        more = types;
         scale = c;
         body =
             ss;
-      })) xs _
+      })) ys _
       (went (s.signature limits (mark sign.Open k ∷ name y i ∷ mark sign.Colon j ∷ ts))
-      (λ e zs. bind (s.scale zs)
+      (λ e zs. bind (numbered keyword.Scale zs)
       (λ f ys. bind (whole_block limits ys)
       (λ r os. give (form.Function (record {
         name = x;
@@ -131,23 +164,28 @@ module _ (limits : Limits) (fair : IsFair limits) where
         takes = e.1;
         gives =
             e.2;
+        more = e.3;
         scale = f;
         body = r;
       })) os)))
-      (y, z, t) vs _
+      (y, z, t, types) ws _
       (went (whole_type limits ts) (λ e zs. bind (one (sign_at sign.Close) zs)
       (λ _ ys. bind (one (sign_at sign.Arrow) ys)
-      (λ _ os. bind (whole_type limits os) (λ r ns. give (y, e, r) ns)))) z
+      (λ _ os. bind (whole_type limits os) (λ r ns. bind (s.more_types limits ns)
+      (λ rs ms. give (y, e, r, rs) ms))))) z
       (mark sign.Close o ∷ mark sign.Arrow p ∷ us) _ ((complete_whole limits fair) u)
-      (went (whole_type limits us) (λ r ns. give (y, z, r) ns) t vs _
-      ((complete_whole limits fair) v) refl))
-      (went (s.scale vs) _ c ws _ (complete_scale w q) (went (whole_block limits ws) _ ss xs _
+      (went (whole_type limits us) (λ r ns. bind (s.more_types limits ns)
+      (λ rs ms. give (y, z, r, rs) ms)) t vs _ ((complete_whole limits fair) v)
+      (went (s.more_types limits vs) (λ rs ms. give (y, z, t, rs) ms) types ws _
+      (reaches_end at_comma (s.next_type limits) _ types ws (complete_more w e) no_comma) refl)))
+      (went (numbered keyword.Scale ws) _ c xs _ scale (went (whole_block limits xs) _ ss ys _
       (complete_whole_block limits fair q l) refl))) refl
-  complete_statement (g.let_ {x} {n} {m} {k} {ts} {us} {o} w) h =
-      went (s.let_form limits (name x m ∷ mark sign.Assign k ∷ ts))
-      (λ f vs. give (record { line = n; form = f }) vs) (form.Let x o) us _
-      (went (s.operation_at limits ts) (λ z vs. give (form.Let x z) vs) o us _
-      (complete_operation w h) refl) refl
+  complete_statement (g.let_ {xs} {n} {k} {ts} {us} {vs} {o} x w) h =
+      went (s.let_form limits ts) (λ f ws. give (record { line = n; form = f }) ws)
+      (form.Let xs o) vs _
+      (went (s.names ts) _ xs (mark sign.Assign k ∷ us) _ (complete_let x)
+      (went (s.operation_at limits us) (λ z ws. give (form.Let xs z) ws) o vs _
+      (complete_operation w h) refl)) refl
   complete_statement g.output h = refl
 
   shorter_names : {ts us : List Token} {xs : List (List ℕ)} → AreNames ts us xs
@@ -177,27 +215,33 @@ module _ (limits : Limits) (fair : IsFair limits) where
   shorter_operation g.join = omega arith
   shorter_operation g.top = omega arith
 
-  shorter_scale : {ts us : List Token} {c : Option (List ℕ)} → IsScale ts us c
+  shorter_more : {ts us : List Token} {types : List Tree} → AreMoreTypes limits ts us types
       → length us ≤ length ts
-  shorter_scale g.absent = omega arith
-  shorter_scale g.present = omega arith
+  shorter_more g.none_ = omega arith
+  shorter_more (g.some x w) = let h = shorter_more x in
+      let i = (shorter_type limits fair) w.spelled in omega (arith, h, i)
 
   shorter_statement : {ts us : List Token} {x : Statement} → IsStatement limits ts us x
       → length us < length ts
   shorter_statement (g.type_ w) = let h = (shorter_type limits fair) w.spelled in omega (arith, h)
   shorter_statement (g.input w) = let h = (shorter_type limits fair) w.spelled in omega (arith, h)
-  shorter_statement (g.fn_ u v w q l) = let h = (shorter_type limits fair) u.spelled in
-      let i = (shorter_type limits fair) v.spelled in let j = shorter_scale w in
-      let k = shorter_block limits fair q in omega (arith, h, i, j, k)
-  shorter_statement (g.let_ w) = let h = shorter_operation w in omega (arith, h)
+  shorter_statement (g.fn_ u v w e f q l) =
+      let h = (shorter_type limits fair) u.spelled in
+      let i = (shorter_type limits fair) v.spelled in
+      let j = shorter_more w in
+      let k = shorter_numbered f in
+      let o = shorter_block limits fair q in
+      omega (arith, h, i, j, k, o)
+  shorter_statement (g.let_ x w) = let h = shorter_names x in let i = shorter_operation w in
+      omega (arith, h, i)
   shorter_statement g.output = omega arith
 
   statement_begins : {ts us : List Token} {x : Statement} → IsStatement limits ts us x
       → (is_at_sign sign.Comma (next ts) ≡ false) × ((ss : List Statement) → s.is_more ss ts ≡ true)
   statement_begins (g.type_ w) = (refl, (λ ss. refl))
   statement_begins (g.input w) = (refl, (λ ss. refl))
-  statement_begins (g.fn_ u v w q l) = (refl, (λ ss. refl))
-  statement_begins (g.let_ w) = (refl, (λ ss. refl))
+  statement_begins (g.fn_ u v w e f q l) = (refl, (λ ss. refl))
+  statement_begins (g.let_ x w) = (refl, (λ ss. refl))
   statement_begins g.output = (refl, (λ ss. refl))
 
   complete_statements : {ts us : List Token} {ss : List Statement} → AreStatements limits ts us ss

@@ -18,7 +18,7 @@ use Rattle.flume_grammar.specs.declared.start.BodyStart.{BodyStart}
 use Rattle.flume_grammar.specs.declared.start.BodyStart.TheVariants as begin
 use Rattle.flume_grammar.specs.declared.tree.Expr.{Expr}
 use Rattle.flume_grammar.specs.inner.Out.{Out, give, bind, one, next, all_of}
-use Rattle.flume_grammar.specs.inner.Reading.{is_sign, keyword_at}
+use Rattle.flume_grammar.specs.inner.Reading.{is_sign, keyword_at, numbered}
 use Rattle.flume_grammar.specs.inner.Types as t
 use Rattle.flume_grammar.specs.Parts.{Tree, none}
 use Rattle.flume_grammar.specs.Operators.{rank}
@@ -262,8 +262,9 @@ module _ (limits : Limits) (fair : IsFair limits) where
         each_after _ (one _) _
         (λ x. each_after _ (one _) _ (λ _. each_bind _ _ (b.value limits (suc n)) _ d_value
         (λ y i. each_give _ _ (omega (arith, i)))))
-    d_start begin.Emit line = each_bind _ _ (b.value limits (suc n)) _ d_value
-        (λ y i. each_give _ _ (omega (arith, i)))
+    d_start begin.Emit line =
+        each_after _ (numbered keyword.To) _ (λ o. each_bind _ _ (b.value limits (suc n)) _ d_value
+        (λ y i. each_give _ _ (omega (arith, i))))
     d_start begin.If line =
         each_bind _ _ (b.value limits (suc n)) _ d_value
         (λ y i. each_bind _ _ inner _ h (λ z j. each_bind _ _ (b.otherwise inner) _ d_otherwise

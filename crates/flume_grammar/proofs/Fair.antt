@@ -8,6 +8,13 @@ pub record IsFair (l : Limits) : Type 0 where
   pub fields : 1 ≤ l.fields
   pub members : 1 ≤ l.members
   pub inputs : 1 ≤ l.inputs
+  pub outputs : 1 ≤ l.outputs
 
 pub fair : IsFair the_limits
-fair = record { depth = lit≤ tt; fields = lit≤ tt; members = lit≤ tt; inputs = lit≤ tt }
+fair = record {
+  depth = lit≤ tt;
+  fields = lit≤ tt;
+  members = lit≤ tt;
+  inputs = lit≤ tt;
+  outputs = lit≤ tt;
+}

@@ -2,6 +2,7 @@
 use Rattle.std.proofs.Common.{ℕ, List, [], ◌∷◌, Option}
 use Rattle.std.specs.List.{All, AllByRecursion}
 use Rattle.std.proofs.lemmas.List.Elements.{All-nil, All-cons, All-append, recursion_from_All}
+use Rattle.flume_tokens.specs.declared.keyword.Keyword.{Keyword}
 use Rattle.flume_tokens.specs.declared.token.Token.{Token}
 use Rattle.flume_tokens.specs.Utf8.{IsUtf8Text}
 use Rattle.flume_tokens.proofs.Utf8Texts.{texts}
@@ -45,9 +46,10 @@ rest_names : {ts us : List Token} {xs : List (List ℕ)} → g.AreNames ts us xs
 rest_names g.one h = h.1
 rest_names (g.more x) h = (rest_names x h).1.1
 
-rest_scale : {ts us : List Token} {o : Option (List ℕ)} → g.IsScale ts us o → Texts ts → Texts us
-rest_scale g.absent h = h
-rest_scale g.present h = h.1.1
+rest_numbered : {k : Keyword} {ts us : List Token} {o : Option (List ℕ)} → g.IsNumbered k ts us o
+    → Texts ts → Texts us
+rest_numbered g.absent h = h
+rest_numbered g.present h = h.1.1
 
 module _ (limits : Limits) where
   mutual
@@ -104,7 +106,7 @@ module _ (limits : Limits) where
     rest_body : {ts us : List Token} {s : Body} {a : ℕ} → g.IsBody limits ts us s a → Texts ts
         → Texts us
     rest_body (g.let_ x) h = rest_expr x h.1.1.1
-    rest_body (g.emit x) h = rest_expr x h.1
+    rest_body (g.emit o x) h = rest_expr x (rest_numbered o h.1)
     rest_body (g.if_ x b) h = rest_block b (rest_expr x h.1)
     rest_body (g.if_else x b c) h = rest_block c (rest_block b (rest_expr x h.1)).1
     rest_body (g.for_ x b) h = rest_block b (rest_expr x h.1.1.1)
@@ -129,6 +131,11 @@ module _ (limits : Limits) where
   rest_operation g.join h = h.1.1.1.1
   rest_operation g.top h = h.1.1.1
 
+  rest_more : {ts us : List Token} {types : List Tree} → g.AreMoreTypes limits ts us types
+      → Texts ts → Texts us
+  rest_more g.none_ h = h
+  rest_more (g.some x w) h = rest_type w.spelled (rest_more x h).1
+
   record Named (s : Statement) (us : List Token) : Type 0 where
     pub named : IsUtf8Named s.form
     pub rest : Texts us
@@ -138,10 +145,10 @@ module _ (limits : Limits) where
   one_named (g.type_ w) h = record { named = tt; rest = rest_type w.spelled h.1.1.1 }
   one_named (g.input w) h =
       let k = rest_type w.spelled h.1.1.1 in record { named = k.1.0; rest = k.1.1 }
-  one_named (g.fn_ v w c b l) h =
+  one_named (g.fn_ v w m l c b d) h =
       let k = rest_type w.spelled (rest_type v.spelled h.1.1.1.1.1).1.1 in
-      record { named = tt; rest = rest_block b (rest_scale c k) }
-  one_named (g.let_ o) h = record { named = tt; rest = rest_operation o h.1.1.1 }
+      record { named = tt; rest = rest_block b (rest_numbered c (rest_more m k)) }
+  one_named (g.let_ x o) h = record { named = tt; rest = rest_operation o (rest_names x h.1).1 }
   one_named g.output h = record { named = h.1.1.1.0; rest = h.1.1.1.1 }
 
   abbrev Each : List Statement → Type 0

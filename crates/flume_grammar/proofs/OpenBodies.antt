@@ -1,5 +1,5 @@
 -- Parsers of bodies, and of what a keyword may begin, are open.
-use Rattle.std.proofs.Common.{◌≡◌, ℕ, zero, suc, ◌-◌, ◌≤◌, ◌<◌, max, length, nat_le, is_some, List, [], ◌∷◌, ◌++◌, Bool, true, false, inl, inr, Option, Some, None, Ok, Err, if◌then◌else◌, refl, sym, ap, ◌∙◌, subst, arith}
+use Rattle.std.proofs.Common.{◌≡◌, ℕ, zero, suc, ◌-◌, ◌≤◌, ◌<◌, max, length, nat_le, is_some, List, [], ◌∷◌, ◌++◌, Bool, true, false, inl, inr, Option, Some, None, Ok, Err, if◌then◌else◌, refl, sym, ap, ◌∙◌, subst, arith, lit≤}
 use Rattle.std.proofs.lemmas.Bool.{leb-true, le-leb}
 use Rattle.flume_tokens.specs.declared.token.Token.{Token}
 use Rattle.flume_tokens.specs.declared.token.TokenKind.TheVariants as kind
@@ -11,18 +11,20 @@ use Rattle.flume_grammar.specs.declared.fault.Stop.TheVariants.{Fault}
 use Rattle.flume_grammar.specs.declared.start.BodyStart.{BodyStart}
 use Rattle.flume_grammar.specs.declared.start.BodyStart.TheVariants as begin
 use Rattle.flume_grammar.specs.inner.Out.{Out, give, bind, at, one, next, all_of}
-use Rattle.flume_grammar.specs.inner.Reading.{is_keyword, keyword_at, is_at_keyword}
+use Rattle.flume_grammar.specs.inner.Reading.{is_keyword, keyword_at, number_at, is_at_keyword, numbered}
 use Rattle.flume_grammar.specs.inner.Bodies as b
 use Rattle.flume_grammar.specs.inner.Bodies.{Block, value, block_layer, block_within, whole_block}
 use Rattle.flume_grammar.specs.inner.Expressions.{expression_within}
 use Rattle.flume_grammar.proofs.Sound.{bound, one_token}
-use Rattle.flume_grammar.proofs.Open.{Takes, Class, Behind, any, free, within, Suits, IsOpen, IsOpenAt, Gives, IsComplete, no_longer}
+use Rattle.flume_grammar.proofs.SoundExpr.{sound_expression}
+use Rattle.flume_grammar.proofs.Sizes.{shorter, no_to as begins}
+use Rattle.flume_grammar.proofs.Open.{Takes, Class, Behind, any, Sub, free, within, Suits, IsOpen, IsOpenAt, Gives, IsComplete, no_longer}
 use Rattle.flume_grammar.proofs.OpenSmallest.{Owns, given, stands, single}
 use Rattle.flume_grammar.proofs.OpenAlike.{agree}
 use Rattle.flume_grammar.proofs.OpenThen.{binds_at, then_}
-use Rattle.flume_grammar.proofs.OpenNarrow.{wider, closer}
+use Rattle.flume_grammar.proofs.OpenNarrow.{wider, fronted, narrower, closer}
 use Rattle.flume_grammar.proofs.OpenLoops.{loops}
-use Rattle.flume_grammar.proofs.OpenTokens.{owns_ok, owns_fault, owns_if, takes_token, takes_given, sign_then, keyword_then, name_then}
+use Rattle.flume_grammar.proofs.OpenTokens.{owns_ok, owns_fault, owns_if, takes_token, takes_given, sign_then, keyword_then, name_then, number_then, no_comma}
 use Rattle.flume_grammar.proofs.Quiet.{quiet}
 use Rattle.flume_grammar.proofs.OpenExpr.{complete_expression}
 use Rattle.flume_grammar.proofs.Depths.{block_depth}
@@ -77,17 +79,51 @@ module _ {A : Type 0} (k : Keyword) (f : Unit {0} → List Token → Out A) (a :
           (λ us e. ap (λ c. chosen c us) (ap (is_at_keyword k) e ∙ q))
           (λ x us e. takes_token other (keyword_at k) f o ts x us e) (h.open_ ts)
 
+  -- the same before fewer tokens
+  pub optional_in : (c : Class) → Sub c other → IsComplete other other maybe
+      → IsComplete c c maybe
+  optional_in c s x = record {
+    open_ = λ ts. narrower c other maybe ts s (x.open_ ts);
+    starts = record {
+      others = [];
+      got = a;
+      always = λ rest i. absent rest (stopped rest (s rest i));
+      leads =
+          λ rest i. i;
+    };
+    follows = λ ts y us e. inr (λ rs i. i);
+  }
+
+abbrev pub other_than : Keyword → Class
+other_than k j = is_keyword k j ≡ false
+
+pub behind_other : (k : Keyword) (ts : List Token) → is_at_keyword k (next ts) ≡ false
+    → Behind (other_than k) ts
+behind_other k [] e = tt
+behind_other k (t ∷ ts) e = e
+
+pub o_numbered : (k : Keyword) → IsComplete (other_than k) (other_than k) (numbered k)
+o_numbered k =
+    let x = number_then any (other_than k) _ tt
+    (λ n. given any (other_than k) (Some n) (free (other_than k))) in
+    optional k (λ _ us. bind (one number_at us) (λ n vs. give (Some n) vs)) None
+    (keyword_then any (other_than k) k _ tt (λ _. x)) (λ _. x.open_)
+
 -- ---- bodies
 
 abbrev pub no_else : Class
-no_else k = is_keyword keyword.Else k ≡ false
+no_else = other_than keyword.Else
 
-abbrev pub no_scale : Class
-no_scale k = is_keyword keyword.Scale k ≡ false
+abbrev pub no_to : Class
+no_to = other_than keyword.To
+
+-- before what is neither `scale` nor a comma
+abbrev pub unscaled : Class
+unscaled k = other_than keyword.Scale k × no_comma k
 
 -- before what begins a block
 abbrev pub opening : Class
-opening k = quiet k × no_scale k
+opening k = quiet k × unscaled k
 
 -- behind a statement of a body
 abbrev pub after_body : Class
@@ -121,6 +157,13 @@ module _ (limits : Limits) (fair : IsFair limits) where
     o_value i = subst (λ m. IsComplete any quiet (expression_within limits m 1)) (sym less_one)
         ((complete_expression limits fair) n i 1)
 
+    -- no expression begins with `to`
+    pub o_value_behind : 1 ≤ n → IsComplete no_to quiet (value limits (suc n))
+    o_value_behind i =
+        fronted no_to any quiet (value limits (suc n))
+        (λ ts x us e. let y = sound_expression limits fair (suc n - 1) 1 ts x us (lit≤ tt) e in
+        (shorter limits fair y, behind_other keyword.To ts (begins limits fair y))) (o_value i)
+
     pub at_quiet : 1 ≤ n → IsComplete quiet any inner
     at_quiet i = wider opening quiet any inner (within opening quiet (λ k x. x.0)) (h i)
 
@@ -140,8 +183,11 @@ module _ (limits : Limits) (fair : IsFair limits) where
         (λ e _. given quiet after_body _ (within after_body quiet (λ k j. j.0)))))
 
     pub o_emit : 1 ≤ n → (line : ℕ) → IsComplete any after_body (b.emit_body limits (suc n) line)
-    o_emit i line = then_ any quiet after_body (value limits (suc n)) _ (o_value i)
-        (λ e _. given quiet after_body _ (within after_body quiet (λ k j. j.0)))
+    o_emit i line =
+        wider no_to any after_body _ (free no_to)
+        (then_ no_to no_to after_body (numbered keyword.To) _ (o_numbered keyword.To) (λ o _.
+        then_ no_to quiet after_body (value limits (suc n)) _ (o_value_behind i)
+        (λ e _. given quiet after_body _ (within after_body quiet (λ k j. j.0)))))
 
     pub o_if : 1 ≤ n → (line : ℕ)
         → IsComplete any after_body (b.if_body limits (suc n) inner line)
@@ -232,7 +278,7 @@ module _ (limits : Limits) (fair : IsFair limits) where
 
     pub o_layer : IsComplete opening any (block_layer limits (suc n) inner)
     o_layer =
-        sign_then opening any sign.OpenBrace _ (λ own least. refl, refl)
+        sign_then opening any sign.OpenBrace _ (λ own least. refl, (refl, refl))
         (λ _. wider in_block any any _ (free in_block)
         (then_ in_block in_block any (all_of b.at_body (b.next_body limits (suc n) inner) ([], 0))
         _ (o_bodies ([], 0)) (λ x _. sign_then in_block any sign.CloseBrace _

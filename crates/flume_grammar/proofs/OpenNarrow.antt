@@ -1,9 +1,9 @@
 -- A parser that is open before some tokens is so before fewer of them.
-use Rattle.std.proofs.Common.{ℕ, ◌<◌, length, List, ◌++◌, ◌⊎◌, inl, inr}
+use Rattle.std.proofs.Common.{◌≡◌, ℕ, ◌<◌, length, List, ◌++◌, ◌⊎◌, inl, inr, Ok}
 use Rattle.flume_tokens.specs.declared.token.Token.{Token}
 use Rattle.flume_grammar.specs.declared.fault.ScriptKind.{ScriptKind}
 use Rattle.flume_grammar.specs.inner.Out.{Out}
-use Rattle.flume_grammar.proofs.Open.{Class, Sub, Ends, Stops, Suits, Reads, IsOpenAt, IsComplete}
+use Rattle.flume_grammar.proofs.Open.{Class, Behind, Sub, Ends, Stops, Suits, Reads, IsOpenAt, IsComplete}
 
 -- what may stand before it may be more
 pub wider : {A : Type 0} (b d c : Class) (p : List Token → Out A) → Sub b d → IsComplete b c p
@@ -24,6 +24,22 @@ wider {A} b d c p s x = record {
         → (length us < length ts) ⊎ Sub c d
     by us ts (inl i) = inl i
     by us ts (inr i) = inr (λ rs m. s rs (i rs m))
+
+-- what takes a token may stand behind any that its first one suits
+pub fronted : {A : Type 0} (b d c : Class) (p : List Token → Out A)
+    → ((ts : List Token) (a : A) (us : List Token) → p ts ≡ Ok (a, us)
+    → (length us < length ts) × Behind b ts) → IsComplete d c p → IsComplete b c p
+fronted b d c p h x = record {
+  open_ = x.open_;
+  starts = record {
+    others = x.starts.others;
+    got = x.starts.got;
+    always = x.starts.always;
+    leads =
+        λ rest i. (h (x.starts.others ++ rest) x.starts.got rest (x.starts.always rest i)).1;
+  };
+  follows = λ ts a us e. inl (h ts a us e).0;
+}
 
 -- less may stand behind
 pub narrower : {A : Type 0} (c d : Class) (p : List Token → Out A) (ts : List Token) → Sub c d

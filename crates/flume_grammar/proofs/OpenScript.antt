@@ -1,5 +1,5 @@
 -- Parsers of operations, of statements and of scripts are open.
-use Rattle.std.proofs.Common.{◌≡◌, ℕ, ◌<◌, length, is_some, List, [], ◌∷◌, ◌++◌, false, Option, Some, None, Ok, refl, ap, arith}
+use Rattle.std.proofs.Common.{◌≡◌, ℕ, ◌+◌, ◌<◌, length, is_some, List, [], ◌∷◌, ◌++◌, false, Option, Some, None, Ok, refl, ap, arith}
 use Rattle.flume_tokens.specs.declared.token.Token.{Token}
 use Rattle.flume_tokens.specs.declared.keyword.Keyword.TheVariants as keyword
 use Rattle.flume_tokens.specs.declared.sign.Sign.TheVariants as sign
@@ -12,7 +12,8 @@ use Rattle.flume_grammar.specs.declared.start.StatementStart.{StatementStart}
 use Rattle.flume_grammar.specs.declared.start.StatementStart.TheVariants as stating
 use Rattle.flume_grammar.specs.declared.tree.Statement.{Statement}
 use Rattle.flume_grammar.specs.inner.Out.{give, bind, one, all_of}
-use Rattle.flume_grammar.specs.inner.Reading.{number_at, comma_at}
+use Rattle.flume_grammar.specs.inner.Reading.{sign_at, name_at, number_at, comma_at, numbered}
+use Rattle.flume_grammar.specs.Parts.{Tree}
 use Rattle.flume_grammar.specs.inner.Types.{at_comma, whole_type}
 use Rattle.flume_grammar.specs.inner.Bodies.{whole_block}
 use Rattle.flume_grammar.specs.inner.Statements as s
@@ -27,7 +28,20 @@ use Rattle.flume_grammar.proofs.OpenTokens.{owns_ok, owns_fault, owns_option, to
 use Rattle.flume_grammar.proofs.OpenTypes.{complete_whole}
 use Rattle.flume_grammar.specs.Limits.{Limits}
 use Rattle.flume_grammar.proofs.Fair.{IsFair}
-use Rattle.flume_grammar.proofs.OpenBodies.{optional, no_scale, opening, complete_body}
+use Rattle.flume_grammar.proofs.OpenBodies.{optional_in, other_than, unscaled, o_numbered, opening, complete_body}
+
+-- ---- names
+
+pub o_name : (xs : List (List ℕ))
+    → IsComplete any any (λ us. bind (one name_at us) (λ x vs. give (xs ++ x ∷ []) vs))
+o_name xs = name_then any any _ tt (λ x. given any any _ (free any))
+
+pub o_names : IsComplete any no_comma s.names
+o_names =
+    name_then any no_comma _ tt (λ x. wider no_comma any no_comma _ (free no_comma)
+    (commas no_comma any s.next_name (free no_comma) (λ k i. i)
+    (λ xs. takes_token any (sign_at sign.Comma) _ (λ _. (o_name xs).open_))
+    (λ xs. (sign_then any any sign.Comma _ tt (λ _. o_name xs)).open_) (x ∷ [])))
 
 module _ (limits : Limits) (fair : IsFair limits) where
   -- ---- operations
@@ -51,9 +65,8 @@ module _ (limits : Limits) (fair : IsFair limits) where
       (then_ no_comma no_comma no_comma (all_of at_comma (s.next_input limits) (x ∷ [])) _
       (commas no_comma any (s.next_input limits) (free no_comma) (λ k i. i)
       (λ xs. takes_token any (comma_at (length xs) limits.inputs) _
-      (λ _. (name_then any any _ tt (λ y. given any any _ (free any))).open_))
-      (λ xs. comma_then any (length xs) limits.inputs _
-      (λ _. name_then any any _ tt (λ y. given any any _ (free any)))) (x ∷ []))
+      (λ _. (o_name xs).open_))
+      (λ xs. comma_then any (length xs) limits.inputs _ (λ _. o_name xs)) (x ∷ []))
       (λ xs _. given no_comma no_comma _ (λ rs i. i))))
 
   pub o_begin : (o : OperationStart) → IsComplete any no_comma (s.after_begin limits o)
@@ -80,29 +93,44 @@ module _ (limits : Limits) (fair : IsFair limits) where
 
   -- ---- statements
 
-  pub o_scale : IsComplete no_scale no_scale s.scale
+  pub o_scale : IsComplete unscaled unscaled (numbered keyword.Scale)
   o_scale =
-      let x = number_then any no_scale _ tt (λ n. given any no_scale (Some n) (free no_scale)) in
-      optional keyword.Scale (λ _ us. bind (one number_at us) (λ n vs. give (Some n) vs)) None
-      (keyword_then any no_scale keyword.Scale _ tt (λ _. x)) (λ _. x.open_)
+      optional_in keyword.Scale (λ _ us. bind (one number_at us) (λ n vs. give (Some n) vs)) None
+      unscaled (within unscaled (other_than keyword.Scale) (λ k i. i.0)) (o_numbered keyword.Scale)
 
-  pub o_signature : IsComplete any any (s.signature limits)
+  pub o_type : (types : List Tree)
+      → IsComplete any any (λ us. bind (whole_type limits us) (λ t vs. give (types ++ t ∷ []) vs))
+  o_type types = then_ any any any (whole_type limits) _ (complete_whole limits fair)
+      (λ t _. given any any _ (free any))
+
+  pub o_more_types : IsComplete no_comma no_comma (s.more_types limits)
+  o_more_types =
+      commas no_comma any (s.next_type limits) (free no_comma) (λ k i. i)
+      (λ types. takes_token any (comma_at (1 + length types) limits.outputs) _
+      (λ _. (o_type types).open_))
+      (λ types. comma_then any (1 + length types) limits.outputs _ (λ _. o_type types)) []
+
+  pub o_signature : IsComplete any no_comma (s.signature limits)
   o_signature =
-      sign_then any any sign.Open _ tt
-      (λ _. name_then any any _ tt
-      (λ x. sign_then any any sign.Colon _ tt (λ _. then_ any any any (whole_type limits) _
-      (complete_whole limits fair) (λ a _.
-      sign_then any any sign.Close _ tt
-      (λ _. sign_then any any sign.Arrow _ tt (λ _. then_ any any any (whole_type limits) _
-      (complete_whole limits fair) (λ c _. given any any _ (free any))))))))
+      sign_then any no_comma sign.Open _ tt
+      (λ _. name_then any no_comma _ tt
+      (λ x. sign_then any no_comma sign.Colon _ tt
+      (λ _. then_ any any no_comma (whole_type limits) _ (complete_whole limits fair) (λ a _.
+      sign_then any no_comma sign.Close _ tt
+      (λ _. sign_then any no_comma sign.Arrow _ tt
+      (λ _. then_ any any no_comma (whole_type limits) _ (complete_whole limits fair) (λ c _.
+      wider no_comma any no_comma _ (free no_comma)
+      (then_ no_comma no_comma no_comma (s.more_types limits) _ o_more_types
+      (λ cs _. given no_comma no_comma _ (λ rs i. i))))))))))
 
   pub o_function : IsComplete any no_comma (s.function_form limits)
   o_function =
-      name_then any no_comma _ tt (λ f. then_ any any no_comma (s.signature limits) _ o_signature
-      (λ g _. wider no_scale any no_comma _ (free no_scale)
-      (then_ no_scale no_scale no_comma s.scale _ o_scale (λ n _.
-      then_ no_scale any no_comma (whole_block limits) _
-      (wider opening no_scale any (whole_block limits) (within opening no_scale (λ k i. i.1))
+      name_then any no_comma _ tt
+      (λ f. then_ any no_comma no_comma (s.signature limits) _ o_signature
+      (λ g _. wider unscaled no_comma no_comma _ (within unscaled no_comma (λ k i. i.1))
+      (then_ unscaled unscaled no_comma (numbered keyword.Scale) _ o_scale (λ n _.
+      then_ unscaled any no_comma (whole_block limits) _
+      (wider opening unscaled any (whole_block limits) (within opening unscaled (λ k i. i.1))
       (complete_body limits fair)) (λ x _. given any no_comma _ (free no_comma))))))
 
   pub o_form : (x : StatementStart) → IsComplete any no_comma (s.form_at limits x)
@@ -117,7 +145,8 @@ module _ (limits : Limits) (fair : IsFair limits) where
       text_then any no_comma _ tt (λ f. given any no_comma _ (free no_comma))))))
   o_form stating.Function = o_function
   o_form stating.Let =
-      name_then any no_comma _ tt (λ x. sign_then any no_comma sign.Assign _ tt
+      then_ any no_comma no_comma s.names _ o_names (λ xs _. sign_then no_comma no_comma
+      sign.Assign _ refl
       (λ _. then_ any no_comma no_comma (s.operation_at limits) _ o_operation
       (λ o _. given no_comma no_comma _ (λ rs i. i))))
   o_form stating.Output =

@@ -138,14 +138,19 @@ module _ {B : Type 0} (b c : Class) where
       then_ b any c (one text_at) f (token b text_at (λ t. owns_option t (text_of t.kind))
       (text [] 1) _ refl i) (λ x g. h x)
 
+-- a token, and then more
+pub owned_then : {A B : Type 0} (c : Class) (g : Token → Result A Stop)
+    → ((t : Token) → Owns t (g t)) → (f : A → List Token → Out B)
+    → ((a : A) → IsComplete any c (f a)) → IsOpen c (λ ts. bind (one g ts) f)
+owned_then c g own f h ts =
+    binds_at any c (one g) f ts (single g own ts) (λ a us e. (h a).open_ us)
+    (λ a i. (h a).starts) (λ a i. (h a).follows)
+
 -- a comma, where one more part may stand, and the part
 pub comma_then : {B : Type 0} (c : Class) (parts limit : ℕ) (f : Unit {0} → List Token → Out B)
     → ((u : Unit {0}) → IsComplete any c (f u))
     → IsOpen c (λ ts. bind (one (comma_at parts limit) ts) f)
-comma_then c parts limit f h ts =
-    binds_at any c (one (comma_at parts limit)) f ts
-    (single (comma_at parts limit) (owns_comma parts limit) ts) (λ u us e. (h u).open_ us)
-    (λ u g. (h u).starts) (λ u g. (h u).follows)
+comma_then c parts limit f h = owned_then c (comma_at parts limit) (owns_comma parts limit) f h
 
 -- as long as a comma stands there, one more part
 pub commas : {B : Type 0} (c d : Class) (part : B → List Token → Out B) → Sub c d

@@ -11,22 +11,22 @@ use Rattle.flume_grammar.specs.declared.fault.Stop.TheVariants.{Fault}
 use Rattle.flume_grammar.specs.declared.start.BodyStart.{BodyStart}
 use Rattle.flume_grammar.specs.declared.start.BodyStart.TheVariants as begin
 use Rattle.flume_grammar.specs.inner.Out.{Out, give, bind, one, next, all_of}
-use Rattle.flume_grammar.specs.inner.Reading.{keyword_at, is_at_keyword}
+use Rattle.flume_grammar.specs.inner.Reading.{keyword_at, number_at, is_at_keyword, numbered}
 use Rattle.flume_grammar.specs.inner.Bodies as b
 use Rattle.flume_grammar.specs.inner.Bodies.{Block, block_within, whole_block}
 use Rattle.flume_grammar.specs.Limits.{Limits}
 use Rattle.flume_grammar.proofs.Fair.{IsFair}
 use Rattle.flume_grammar.proofs.Sound.{one_token}
-use Rattle.flume_grammar.proofs.Open.{Class, Behind, any, free, within, IsOpen, IsComplete}
+use Rattle.flume_grammar.proofs.Open.{Class, Behind, any, Sub, free, within, IsOpen, IsComplete}
 use Rattle.flume_grammar.proofs.OpenSmallest.{given, single}
 use Rattle.flume_grammar.proofs.OpenLoops.{unrolled}
 use Rattle.flume_grammar.proofs.Quiet.{quiet}
 use Rattle.flume_grammar.proofs.OpenBodies as o_bodies
-use Rattle.flume_grammar.proofs.OpenBodies.{no_else, opening, after_body, in_block, owns_body, body_room}
+use Rattle.flume_grammar.proofs.OpenBodies.{other_than, no_else, no_to, opening, after_body, in_block, owns_body, body_room}
 use Rattle.flume_grammar.proofs.Depths.{block_depth}
 use Rattle.flume_grammar.proofs.Pair.{Kinds, Spared, Raise, RaiseAt, Limited, raise_token}
 use Rattle.flume_grammar.proofs.PairThen.{raise_bind, raise_agree, raise_loop, IsPair, pair_given, pair_wider, pair_closer, pair_then}
-use Rattle.flume_grammar.proofs.PairTokens.{Grows, Growth, grows_least, grows_down, plain_fault, grows_test, pair_name, pair_sign, pair_keyword, test_raise, test_open}
+use Rattle.flume_grammar.proofs.PairTokens.{Grows, Growth, grows_least, grows_down, plain_fault, grows_test, pair_name, pair_number, pair_sign, pair_keyword, test_raise, test_open}
 use Rattle.flume_grammar.proofs.PairExpr.{pair_expression}
 
 -- what begins with a keyword, or is nothing
@@ -59,6 +59,27 @@ module _ {A : Type 0} (K : Kinds) (k : Keyword) (f g : Unit {0} → List Token �
           (λ us e. ap (λ c. o_bodies.chosen k f a c us) (ap (is_at_keyword k) e ∙ q))
           (λ us e. ap (λ c. o_bodies.chosen k g a c us) (ap (is_at_keyword k) e ∙ q)) (h.raise ts)
 
+  -- the same before fewer tokens
+  pub pair_optional_in : (c : Class) → Sub c (o_bodies.other k f a)
+      → IsPair K (o_bodies.other k f a) (o_bodies.other k f a) (o_bodies.maybe k f a)
+      (o_bodies.maybe k g a) → IsPair K c c (o_bodies.maybe k f a) (o_bodies.maybe k g a)
+  pair_optional_in c s x = record {
+    low_ = o_bodies.optional_in k f a c s x.low_;
+    high_ =
+        o_bodies.optional_in k g a c s x.high_;
+    raise = x.raise;
+  }
+
+pub pair_numbered : (K : Kinds) → (K Syntax → ⊥) → (k : Keyword)
+    → IsPair K (other_than k) (other_than k) (numbered k) (numbered k)
+pair_numbered K no_syntax k =
+    let x = pair_number K no_syntax any (other_than k) _ _ tt
+    (λ n. pair_given K any (other_than k) (Some n) (free (other_than k))) in
+    pair_optional K k (λ _ us. bind (one number_at us) (λ n vs. give (Some n) vs))
+    (λ _ us. bind (one number_at us) (λ n vs. give (Some n) vs)) None
+    (pair_keyword K no_syntax any (other_than k) k _ _ tt (λ _. x)) (λ _. x.low_.open_)
+    (λ _. x.high_.open_)
+
 module _ (K : Kinds) (limits more : Limits) (fair : IsFair limits) (fair_more : IsFair more)
     (growth : Growth K limits more) where
   pub no_syntax : K Syntax → ⊥
@@ -81,6 +102,17 @@ module _ (K : Kinds) (limits more : Limits) (fair : IsFair limits) (fair_more : 
         (omega (arith, i))
         (subst (λ z. Grows K TooDeep z (suc m - 1)) (sym (less_one n))
         (subst (λ z. Grows K TooDeep n z) (sym (less_one m)) g)) 1
+
+    r_value_behind : 1 ≤ n → IsPair K no_to quiet (b.value limits (suc n)) (b.value more (suc m))
+    r_value_behind i =
+        let x = r_value i in
+        let j = grows_least K TooDeep n m g in
+        record {
+          low_ = o_bodies.o_value_behind limits fair n inner low i;
+          high_ =
+              o_bodies.o_value_behind more fair_more m inner_more high (omega (arith, i, j));
+          raise = x.raise;
+        }
 
     at_quiet : 1 ≤ n → IsPair K quiet any inner inner_more
     at_quiet i = pair_wider K opening quiet any inner inner_more (within opening quiet (λ k x. x.0))
@@ -107,9 +139,13 @@ module _ (K : Kinds) (limits more : Limits) (fair : IsFair limits) (fair_more : 
 
     r_emit : 1 ≤ n → (line : ℕ)
         → IsPair K any after_body (b.emit_body limits (suc n) line) (b.emit_body more (suc m) line)
-    r_emit i line = pair_then K any quiet after_body (b.value limits (suc n)) (b.value more (suc m))
-        _ _ (r_value i)
-        (λ e. pair_given K quiet after_body _ (within after_body quiet (λ k j. j.0)))
+    r_emit i line =
+        pair_wider K no_to any after_body _ _ (free no_to)
+        (pair_then K no_to no_to after_body (numbered keyword.To) (numbered keyword.To) _ _
+        (pair_numbered K no_syntax keyword.To) (λ o.
+        pair_then K no_to quiet after_body (b.value limits (suc n)) (b.value more (suc m)) _ _
+        (r_value_behind i)
+        (λ e. pair_given K quiet after_body _ (within after_body quiet (λ k j. j.0)))))
 
     r_if : 1 ≤ n → (line : ℕ) → IsPair K any after_body (b.if_body limits (suc n) inner line)
         (b.if_body more (suc m) inner_more line)
@@ -228,7 +264,7 @@ module _ (K : Kinds) (limits more : Limits) (fair : IsFair limits) (fair_more : 
     r_layer : IsPair K opening any (b.block_layer limits (suc n) inner)
         (b.block_layer more (suc m) inner_more)
     r_layer =
-        pair_sign K no_syntax opening any sign.OpenBrace _ _ (λ own least. refl, refl)
+        pair_sign K no_syntax opening any sign.OpenBrace _ _ (λ own least. refl, (refl, refl))
         (λ _. pair_wider K in_block any any _ _ (free in_block)
         (pair_then K in_block in_block any (all_of b.at_body (b.next_body limits (suc n) inner)
         ([], 0)) (all_of b.at_body (b.next_body more (suc m) inner_more) ([], 0)) _ _

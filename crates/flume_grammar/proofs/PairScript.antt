@@ -1,5 +1,5 @@
 -- Operations, statements and scripts within limits and within higher ones.
-use Rattle.std.proofs.Common.{◌≡◌, ℕ, length, length-append, is_some, List, [], ◌∷◌, ◌++◌, false, Option, Some, None, refl, ap, arith}
+use Rattle.std.proofs.Common.{◌≡◌, ℕ, ◌+◌, length, length-append, is_some, List, [], ◌∷◌, ◌++◌, false, Option, Some, None, refl, ap, arith}
 use Rattle.flume_tokens.specs.declared.token.Token.{Token}
 use Rattle.flume_tokens.specs.declared.keyword.Keyword.TheVariants as keyword
 use Rattle.flume_tokens.specs.declared.sign.Sign.TheVariants as sign
@@ -12,7 +12,8 @@ use Rattle.flume_grammar.specs.declared.start.StatementStart.{StatementStart}
 use Rattle.flume_grammar.specs.declared.start.StatementStart.TheVariants as stating
 use Rattle.flume_grammar.specs.declared.tree.Statement.{Statement}
 use Rattle.flume_grammar.specs.inner.Out.{give, bind, one, all_of}
-use Rattle.flume_grammar.specs.inner.Reading.{number_at, name_at}
+use Rattle.flume_grammar.specs.inner.Reading.{number_at, name_at, numbered}
+use Rattle.flume_grammar.specs.Parts.{Tree}
 use Rattle.flume_grammar.specs.inner.Types.{at_comma, whole_type}
 use Rattle.flume_grammar.specs.inner.Bodies.{whole_block}
 use Rattle.flume_grammar.specs.inner.Statements as s
@@ -23,13 +24,13 @@ use Rattle.flume_grammar.proofs.Open.{Behind, any, free, within, IsOpenAt}
 use Rattle.flume_grammar.proofs.OpenLoops.{unrolled}
 use Rattle.flume_grammar.proofs.OpenTokens.{owns_option, token, no_comma}
 use Rattle.flume_grammar.proofs.OpenScript as o_scripts
-use Rattle.flume_grammar.proofs.OpenBodies.{no_scale, opening}
+use Rattle.flume_grammar.proofs.OpenBodies.{other_than, unscaled, opening}
 use Rattle.flume_grammar.proofs.Depths.{each_after, each_give}
 use Rattle.flume_grammar.proofs.Pair.{Kinds, Raise, Plain}
 use Rattle.flume_grammar.proofs.PairThen.{raise_loop, IsPair, pair_given, pair_wider, pair_then}
-use Rattle.flume_grammar.proofs.PairTokens.{Growth, plain_ok, plain_fault, plain_option, pair_token, pair_name, pair_number, pair_text, pair_sign, pair_keyword, pair_commas}
+use Rattle.flume_grammar.proofs.PairTokens.{Growth, plain_ok, plain_fault, plain_option, pair_token, pair_name, pair_number, pair_text, pair_sign, pair_keyword, pair_commas, pair_listed}
 use Rattle.flume_grammar.proofs.PairTypes.{pair_whole}
-use Rattle.flume_grammar.proofs.PairBodies.{pair_optional, no_syntax, whole_given, r_whole}
+use Rattle.flume_grammar.proofs.PairBodies.{pair_optional_in, pair_numbered, no_syntax, whole_given, r_whole}
 
 module _ (K : Kinds) (limits more : Limits) (fair : IsFair limits) (fair_more : IsFair more)
     (growth : Growth K limits more) where
@@ -60,6 +61,21 @@ module _ (K : Kinds) (limits more : Limits) (fair : IsFair limits) (fair_more : 
       (s.of_keyword s.keyword_combiner t.kind))) r_combiner)
       (λ k. none_comma _)))
 
+  r_name : (xs : List (List ℕ))
+      → IsPair K any any (λ us. bind (one name_at us) (λ x vs. give (xs ++ x ∷ []) vs))
+      (λ us. bind (one name_at us) (λ x vs. give (xs ++ x ∷ []) vs))
+  r_name xs = pair_name K (no_syntax K limits more fair fair_more growth) any any _ _ tt
+      (λ x. whole_given K limits more fair fair_more growth _)
+
+  r_names : IsPair K any no_comma s.names s.names
+  r_names =
+      pair_name K (no_syntax K limits more fair fair_more growth) any no_comma _ _ tt
+      (λ x. pair_wider K no_comma any no_comma _ _ (free no_comma)
+      (pair_listed K (no_syntax K limits more fair fair_more growth) no_comma any (free no_comma)
+      (λ k i. i) (λ xs _ us. bind (one name_at us) (λ y vs. give (xs ++ y ∷ []) vs))
+      (λ xs _ us. bind (one name_at us) (λ y vs. give (xs ++ y ∷ []) vs)) (λ xs _. r_name xs)
+      (x ∷ [])))
+
   r_flatten : IsPair K any no_comma (s.flatten limits) (s.flatten more)
   r_flatten =
       pair_name K (no_syntax K limits more fair fair_more growth) any no_comma _ _ tt
@@ -71,9 +87,7 @@ module _ (K : Kinds) (limits more : Limits) (fair : IsFair limits) (fair_more : 
       (λ k i. i)
       (λ (xs : List (List ℕ)). length xs) limits.inputs more.inputs growth.inputs
       (λ xs _ us. bind (one name_at us) (λ y vs. give (xs ++ y ∷ []) vs))
-      (λ xs _ us. bind (one name_at us) (λ y vs. give (xs ++ y ∷ []) vs))
-      (λ xs _. pair_name K (no_syntax K limits more fair fair_more growth) any any _ _ tt
-      (λ y. whole_given K limits more fair fair_more growth _))
+      (λ xs _ us. bind (one name_at us) (λ y vs. give (xs ++ y ∷ []) vs)) (λ xs _. r_name xs)
       (λ xs _. each_after _ (one name_at) _
       (λ y. each_give _ _ (let i = length-append xs (y ∷ []) in omega (arith, i))))
       (x ∷ []) fair.inputs) (λ xs. comma_given _)))
@@ -113,41 +127,62 @@ module _ (K : Kinds) (limits more : Limits) (fair : IsFair limits) (fair_more : 
 
   -- ---- statements
 
-  r_scale : IsPair K no_scale no_scale s.scale s.scale
+  r_scale : IsPair K unscaled unscaled (numbered keyword.Scale) (numbered keyword.Scale)
   r_scale =
-      let x = pair_number K (no_syntax K limits more fair fair_more growth) any no_scale _ _ tt
-      (λ n. pair_given K any no_scale (Some n)
-      (free no_scale)) in
-      pair_optional K keyword.Scale (λ _ us. bind (one number_at us) (λ n vs. give (Some n) vs))
-      (λ _ us. bind (one number_at us) (λ n vs. give (Some n) vs)) None
-      (pair_keyword K (no_syntax K limits more fair fair_more growth) any no_scale keyword.Scale _ _
-      tt (λ _. x)) (λ _. x.low_.open_)
-      (λ _. x.high_.open_)
+      pair_optional_in K keyword.Scale
+      (λ _ us. bind (one number_at us) (λ n vs. give (Some n) vs))
+      (λ _ us. bind (one number_at us) (λ n vs. give (Some n) vs)) None unscaled
+      (within unscaled (other_than keyword.Scale) (λ k i. i.0))
+      (pair_numbered K (no_syntax K limits more fair fair_more growth) keyword.Scale)
 
   w : IsPair K any any (whole_type limits) (whole_type more)
   w = pair_whole K limits more fair fair_more growth
 
-  r_signature : IsPair K any any (s.signature limits) (s.signature more)
+  r_type : (types : List Tree)
+      → IsPair K any any (λ us. bind (whole_type limits us) (λ t vs. give (types ++ t ∷ []) vs))
+      (λ us. bind (whole_type more us) (λ t vs. give (types ++ t ∷ []) vs))
+  r_type types = pair_then K any any any (whole_type limits) (whole_type more) _ _ w
+      (λ t. whole_given K limits more fair fair_more growth _)
+
+  r_more_types : IsPair K no_comma no_comma (s.more_types limits) (s.more_types more)
+  r_more_types =
+      pair_commas K (no_syntax K limits more fair fair_more growth) no_comma any (free no_comma)
+      (λ k i. i)
+      (λ (types : List Tree). 1 + length types) limits.outputs more.outputs growth.outputs
+      (λ types _ us. bind (whole_type limits us) (λ t vs. give (types ++ t ∷ []) vs))
+      (λ types _ us. bind (whole_type more us) (λ t vs. give (types ++ t ∷ []) vs))
+      (λ types _. r_type types)
+      (λ types _. each_after _ (whole_type limits) _
+      (λ t. each_give _ _ (let i = length-append types (t ∷ []) in omega (arith, i))))
+      [] fair.outputs
+
+  r_signature : IsPair K any no_comma (s.signature limits) (s.signature more)
   r_signature =
-      pair_sign K (no_syntax K limits more fair fair_more growth) any any sign.Open _ _ tt
-      (λ _. pair_name K (no_syntax K limits more fair fair_more growth) any any _ _ tt
-      (λ x. pair_sign K (no_syntax K limits more fair fair_more growth) any any sign.Colon _ _ tt
-      (λ _. pair_then K any any any (whole_type limits) (whole_type more) _ _ w (λ a.
-      pair_sign K (no_syntax K limits more fair fair_more growth) any any sign.Close _ _ tt
-      (λ _. pair_sign K (no_syntax K limits more fair fair_more growth) any any sign.Arrow _ _ tt
-      (λ _. pair_then K any any any (whole_type limits) (whole_type more) _ _ w
-      (λ c. whole_given K limits more fair fair_more growth _)))))))
+      pair_sign K (no_syntax K limits more fair fair_more growth) any no_comma sign.Open _ _ tt
+      (λ _. pair_name K (no_syntax K limits more fair fair_more growth) any no_comma _ _ tt
+      (λ x. pair_sign K (no_syntax K limits more fair fair_more growth) any no_comma sign.Colon _ _
+      tt
+      (λ _. pair_then K any any no_comma (whole_type limits) (whole_type more) _ _ w (λ a.
+      pair_sign K (no_syntax K limits more fair fair_more growth) any no_comma sign.Close _ _ tt
+      (λ _. pair_sign K (no_syntax K limits more fair fair_more growth) any no_comma sign.Arrow _ _
+      tt
+      (λ _. pair_then K any any no_comma (whole_type limits) (whole_type more) _ _ w (λ c.
+      pair_wider K no_comma any no_comma _ _ (free no_comma)
+      (pair_then K no_comma no_comma no_comma (s.more_types limits) (s.more_types more) _ _
+      r_more_types (λ cs. comma_given _)))))))))
 
   r_function : IsPair K any no_comma (s.function_form limits) (s.function_form more)
   r_function =
       pair_name K (no_syntax K limits more fair fair_more growth) any no_comma _ _ tt
-      (λ f. pair_then K any any no_comma (s.signature limits) (s.signature more) _ _ r_signature
+      (λ f. pair_then K any no_comma no_comma (s.signature limits) (s.signature more) _ _
+      r_signature
       (λ g.
-      pair_wider K no_scale any no_comma _ _ (free no_scale)
-      (pair_then K no_scale no_scale no_comma s.scale s.scale _ _ r_scale (λ n.
-      pair_then K no_scale any no_comma (whole_block limits) (whole_block more) _ _
-      (pair_wider K opening no_scale any (whole_block limits) (whole_block more)
-      (within opening no_scale (λ k i. i.1)) (r_whole K limits more fair fair_more growth))
+      pair_wider K unscaled no_comma no_comma _ _ (within unscaled no_comma (λ k i. i.1))
+      (pair_then K unscaled unscaled no_comma (numbered keyword.Scale) (numbered keyword.Scale) _ _
+      r_scale (λ n.
+      pair_then K unscaled any no_comma (whole_block limits) (whole_block more) _ _
+      (pair_wider K opening unscaled any (whole_block limits) (whole_block more)
+      (within opening unscaled (λ k i. i.1)) (r_whole K limits more fair fair_more growth))
       (λ x. none_comma _)))))
 
   r_form : (x : StatementStart) → IsPair K any no_comma (s.form_at limits x) (s.form_at more x)
@@ -168,9 +203,9 @@ module _ (K : Kinds) (limits more : Limits) (fair : IsFair limits) (fair_more : 
       (λ f. none_comma _)))))
   r_form stating.Function = r_function
   r_form stating.Let =
-      pair_name K (no_syntax K limits more fair fair_more growth) any no_comma _ _ tt
-      (λ x. pair_sign K (no_syntax K limits more fair fair_more growth) any no_comma sign.Assign _ _
-      tt
+      pair_then K any no_comma no_comma s.names s.names _ _ r_names
+      (λ xs. pair_sign K (no_syntax K limits more fair fair_more growth) no_comma no_comma
+      sign.Assign _ _ refl
       (λ _. pair_then K any no_comma no_comma (s.operation_at limits) (s.operation_at more) _ _
       r_operation (λ y. comma_given _)))
   r_form stating.Output =

@@ -20,10 +20,10 @@ use Rattle.flume_grammar.specs.inner.Types.{at_comma}
 use Rattle.flume_grammar.proofs.Sound.{bound}
 use Rattle.flume_grammar.proofs.SoundTokens.{comma_read}
 use Rattle.flume_grammar.proofs.Open.{Takes, Class, Behind, any, Sub, free, IsOpenAt, IsComplete}
-use Rattle.flume_grammar.proofs.OpenSmallest.{given, single}
+use Rattle.flume_grammar.proofs.OpenSmallest.{Owns, given, single}
 use Rattle.flume_grammar.proofs.OpenLoops.{unrolled}
 use Rattle.flume_grammar.proofs.OpenTokens as o_tokens
-use Rattle.flume_grammar.proofs.OpenTokens.{a_name, a_number, token, takes_token, owns_option, owns_comma, comma_then, commas}
+use Rattle.flume_grammar.proofs.OpenTokens.{a_name, a_number, token, takes_token, owns_option, owns_sign, owns_comma, owned_then, commas}
 use Rattle.flume_grammar.proofs.Depths.{Each}
 use Rattle.flume_grammar.proofs.Pair.{Kinds, RaiseAt, Plain, Limited, raise_token}
 use Rattle.flume_grammar.proofs.PairThen.{raise_bind, raise_loop, IsPair, pair_then}
@@ -38,6 +38,7 @@ pub record Growth (K : Kinds) (limits more : Limits) : Type 0 where
   pub fields : Grows K TooMany limits.fields more.fields
   pub members : Grows K TooMany limits.members more.members
   pub inputs : Grows K TooMany limits.inputs more.inputs
+  pub outputs : Grows K TooMany limits.outputs more.outputs
 
 pub grows_least : (K : Kinds) (k : ScriptKind) (n m : ℕ) → Grows K k n m → n ≤ m
 grows_least K k n m (inl i) = let e = i.0 in omega (arith, e)
@@ -140,65 +141,51 @@ module _ (K : Kinds) (no_syntax : K Syntax → ⊥) where
         (λ t. plain_if K t (is_keyword k t.kind) _ _ (plain_ok K t tt)
         (plain_fault K t Syntax no_syntax))) h
 
-  -- as long as a comma stands there and there may be more parts, one more
+  -- as long as a comma stands there, one more part: the comma by one token or by another
   module _ {B : Type 0} (c d : Class) (sub : Sub c d) (other : (k : TokenKind) → c k
-      → is_sign sign.Comma k ≡ false) (size : B → ℕ) (n m : ℕ) (grows : Grows K TooMany n m)
+      → is_sign sign.Comma k ≡ false) (P : B → Type 0) (s r : B → Token → Result (Unit {0}) Stop)
+      (owns_s : (b : B) (t : Token) → Owns t (s b t))
+      (owns_r : (b : B) (t : Token) → Owns t (r b t))
+      (limited : (b : B) → P b → (t : Token) → Limited K t (s b t) (r b t))
       (f g : B → Unit {0} → List Token → Out B)
       (h : (b : B) (u : Unit {0}) → IsPair K any d (f b u) (g b u))
-      (steps : (b : B) (u : Unit {0}) → Each (λ x. size x ≡ suc (size b)) (f b u))
+      (keeps : (b : B) (ts : List Token) (x : B) (us : List Token) → P b
+      → bind (one (s b) ts) (f b) ≡ Ok (x, us) → P x)
     where
-      abbrev pub part : B → List Token → Out B
-      part b ts = bind (one (comma_at (size b) n) ts) (f b)
+      abbrev part : B → List Token → Out B
+      part b ts = bind (one (s b) ts) (f b)
 
-      abbrev pub more_part : B → List Token → Out B
-      more_part b ts = bind (one (comma_at (size b) m) ts) (g b)
+      abbrev more_part : B → List Token → Out B
+      more_part b ts = bind (one (r b) ts) (g b)
 
       stopped : (x : B) (ts : List Token) → Behind c ts → at_comma x ts ≡ false
       stopped x [] i = refl
       stopped x (t ∷ ts) i = other t.kind i
 
       takes_part : (b : B) → Takes (part b)
-      takes_part b = takes_token d (comma_at (size b) n) (f b) (λ u. (h b u).low_.open_)
+      takes_part b = takes_token d (s b) (f b) (λ u. (h b u).low_.open_)
 
       takes_more : (b : B) → Takes (more_part b)
-      takes_more b = takes_token d (comma_at (size b) m) (g b) (λ u. (h b u).high_.open_)
+      takes_more b = takes_token d (r b) (g b) (λ u. (h b u).high_.open_)
 
       open_part : (b : B) (ts : List Token) → IsOpenAt d (part b) ts
-      open_part b = comma_then d (size b) n (f b) (λ u. (h b u).low_)
+      open_part b = owned_then d (s b) (owns_s b) (f b) (λ u. (h b u).low_)
 
       open_more : (b : B) (ts : List Token) → IsOpenAt d (more_part b) ts
-      open_more b = comma_then d (size b) m (g b) (λ u. (h b u).high_)
+      open_more b = owned_then d (r b) (owns_r b) (g b) (λ u. (h b u).high_)
 
-      limited : (k : ℕ) → k ≤ n → (t : Token) → Limited K t (comma_at k n t) (comma_at k m t)
-      limited k i t = by (is_sign sign.Comma t.kind)
-        where
-          by : (b : Bool) → Limited K t (comma_if k n t b) (comma_if k m t b)
-          by true =
-              grows_test K t tt TooMany n m grows (nat_lt k) (λ j. lt-ltb k m (omega (arith, i, j)))
-          by false = inl (refl, plain_fault K t Syntax no_syntax)
-
-      raise_part : (b : B) (ts : List Token) → size b ≤ n → RaiseAt K (part b) (more_part b) ts
+      raise_part : (b : B) (ts : List Token) → P b → RaiseAt K (part b) (more_part b) ts
       raise_part b ts i =
-          raise_bind K any d (one (comma_at (size b) n)) (one (comma_at (size b) m)) (f b) (g b) ts
-          (single (comma_at (size b) n) (owns_comma (size b) n) ts)
-          (single (comma_at (size b) m) (owns_comma (size b) m) ts)
-          (raise_token K (comma_at (size b) n) (comma_at (size b) m) (limited (size b) i) ts)
+          raise_bind K any d (one (s b)) (one (r b)) (f b) (g b) ts (single (s b) (owns_s b) ts)
+          (single (r b) (owns_r b) ts) (raise_token K (s b) (r b) (limited b i) ts)
           (λ u us e. (h b u).raise us) (λ u e. (h b u).high_.open_ [])
 
-      keeps : (b : B) (ts : List Token) (x : B) (us : List Token) → size b ≤ n
-          → part b ts ≡ Ok (x, us) → size x ≤ n
-      keeps b ts x us i e =
-          let y = bound (one (comma_at (size b) n) ts) (f b) x us e in
-          let j = (comma_read (size b) n y.got ts y.rest y.part).fewer in
-          let k = steps b y.got y.rest x us y.after in
-          omega (arith, j, k)
-
-      pub pair_commas : (b : B) → size b ≤ n
+      pub pair_parts : (b : B) → P b
           → IsPair K c c (all_of at_comma part b) (all_of at_comma more_part b)
-      pair_commas b i = record {
+      pair_parts b i = record {
         low_ = commas c d part sub other takes_part open_part b;
         high_ = commas c d more_part sub other takes_more open_more b;
-        raise = raise_loop K c d at_comma part more_part (λ x. size x ≤ n)
+        raise = raise_loop K c d at_comma part more_part P
             (λ x ts us e. ap (is_at_sign sign.Comma) e) (λ x ts y us j k e. takes_part x ts y us e)
             keeps (λ x ts j k. open_part x ts) (λ x ts j k. open_more x ts)
             (λ x ts j k. raise_part x ts j)
@@ -212,6 +199,52 @@ module _ (K : Kinds) (no_syntax : K Syntax → ⊥) where
             (λ y us z vs k e. tt) x ts tt)
             (λ x y j e. (commas c d more_part sub other takes_more open_more y).open_ []) b i;
       }
+
+  -- the same where there may be so many parts
+  module _ {B : Type 0} (c d : Class) (sub : Sub c d) (other : (k : TokenKind) → c k
+      → is_sign sign.Comma k ≡ false) (size : B → ℕ) (n m : ℕ) (grows : Grows K TooMany n m)
+      (f g : B → Unit {0} → List Token → Out B)
+      (h : (b : B) (u : Unit {0}) → IsPair K any d (f b u) (g b u))
+      (steps : (b : B) (u : Unit {0}) → Each (λ x. size x ≡ suc (size b)) (f b u))
+    where
+      limited : (b : B) → size b ≤ n → (t : Token)
+          → Limited K t (comma_at (size b) n t) (comma_at (size b) m t)
+      limited b i t = by (is_sign sign.Comma t.kind)
+        where
+          by : (z : Bool) → Limited K t (comma_if (size b) n t z) (comma_if (size b) m t z)
+          by true = grows_test K t tt TooMany n m grows (nat_lt (size b))
+              (λ j. lt-ltb (size b) m (omega (arith, i, j)))
+          by false = inl (refl, plain_fault K t Syntax no_syntax)
+
+      keeps : (b : B) (ts : List Token) (x : B) (us : List Token) → size b ≤ n
+          → bind (one (comma_at (size b) n) ts) (f b) ≡ Ok (x, us) → size x ≤ n
+      keeps b ts x us i e =
+          let y = bound (one (comma_at (size b) n) ts) (f b) x us e in
+          let j = (comma_read (size b) n y.got ts y.rest y.part).fewer in
+          let k = steps b y.got y.rest x us y.after in
+          omega (arith, j, k)
+
+      pub pair_commas : (b : B) → size b ≤ n
+          → IsPair K c c (all_of at_comma (λ x ts. bind (one (comma_at (size x) n) ts) (f x)) b)
+          (all_of at_comma (λ x ts. bind (one (comma_at (size x) m) ts) (g x)) b)
+      pair_commas = pair_parts c d sub other (λ x. size x ≤ n) (λ x. comma_at (size x) n)
+          (λ x. comma_at (size x) m) (λ x. owns_comma (size x) n) (λ x. owns_comma (size x) m)
+          limited f g h keeps
+
+  -- the same where there may be any number of them
+  pub pair_listed : {B : Type 0} (c d : Class) (sub : Sub c d) (other : (k : TokenKind) → c k
+      → is_sign sign.Comma k ≡ false) (f g : B → Unit {0} → List Token → Out B)
+      (h : (b : B) (u : Unit {0}) → IsPair K any d (f b u) (g b u)) (b : B)
+      → IsPair K c c (all_of at_comma (λ x ts. bind (one (sign_at sign.Comma) ts) (f x)) b)
+      (all_of at_comma (λ x ts. bind (one (sign_at sign.Comma) ts) (g x)) b)
+  pair_listed c d sub other f g h b =
+      pair_parts c d sub other (λ x. Unit {0}) (λ x. sign_at sign.Comma) (λ x. sign_at sign.Comma)
+      (λ x. owns_sign sign.Comma) (λ x. owns_sign sign.Comma)
+      (λ x i t. inl (
+        refl,
+        plain_if K t (is_sign sign.Comma t.kind) _ _ (plain_ok K t tt)
+            (plain_fault K t Syntax no_syntax),
+      )) f g h (λ x ts y us i e. tt) b tt
 
 -- ---- a test that holds
 

@@ -1,13 +1,31 @@
--- An expression takes a token at least, and is one deep at least.
-use Rattle.std.proofs.Common.{ℕ, ◌≤◌, ◌<◌, length, List, arith}
+-- An expression takes a token at least, which is not `to`, and is one deep at least.
+use Rattle.std.proofs.Common.{◌≡◌, ℕ, ◌≤◌, ◌<◌, length, List, false, Some, refl, arith}
 use Rattle.flume_tokens.specs.declared.token.Token.{Token}
+use Rattle.flume_tokens.specs.declared.keyword.Keyword.{Keyword}
+use Rattle.flume_tokens.specs.declared.keyword.Keyword.TheVariants as keyword
 use Rattle.flume_grammar.specs.declared.parts.Parts.{Parts}
+use Rattle.flume_grammar.specs.declared.tree.Side.{Side}
+use Rattle.flume_grammar.specs.declared.tree.Unary.{Unary}
 use Rattle.flume_grammar.specs.declared.tree.Expr.{Expr}
+use Rattle.flume_grammar.specs.inner.Out.{next}
+use Rattle.flume_grammar.specs.inner.Reading.{same_keyword, is_at_keyword}
 use Rattle.flume_grammar.specs.Grammar as g
-use Rattle.flume_grammar.specs.Grammar.{IsExpr, AreFields, AreMembers}
+use Rattle.flume_grammar.specs.Grammar.{IsExpr, AreFields, AreMembers, call_of, side_of}
 use Rattle.flume_grammar.proofs.Complete.{shorter_type}
 use Rattle.flume_grammar.specs.Limits.{Limits}
 use Rattle.flume_grammar.proofs.Fair.{IsFair}
+
+side_no_to : (k : Keyword) (s : Side) → side_of k ≡ Some s → same_keyword k keyword.To ≡ false
+side_no_to keyword.Left s q = refl
+side_no_to keyword.Right s q = refl
+side_no_to _ s q = cc
+
+call_no_to : (k : Keyword) (u : Unary) → call_of k ≡ Some u → same_keyword k keyword.To ≡ false
+call_no_to keyword.Len u q = refl
+call_no_to keyword.Words u q = refl
+call_no_to keyword.Text u q = refl
+call_no_to keyword.Number u q = refl
+call_no_to _ u q = cc
 
 module _ (limits : Limits) (fair : IsFair limits) where
   -- ---- what is read takes a token, and is at least one deep
@@ -80,3 +98,26 @@ module _ (limits : Limits) (fair : IsFair limits) where
         → AreMembers limits ts us es a → 1 ≤ a
     positive_members (g.one x) = positive x
     positive_members (g.more f x) = let h = positive x in omega (arith, h)
+
+  -- no expression begins with `to`
+  pub no_to : {r a : ℕ} {ts us : List Token} {e : Expr} → IsExpr limits r ts us e a
+      → is_at_keyword keyword.To (next ts) ≡ false
+  no_to (g.above x) = no_to x
+  no_to (g.binary o x y) = no_to x
+  no_to (g.not_ x) = refl
+  no_to (g.negate x) = refl
+  no_to (g.field x w) = no_to x
+  no_to (g.index x y) = no_to x
+  no_to g.num = refl
+  no_to g.textlit = refl
+  no_to g.true_ = refl
+  no_to g.false_ = refl
+  no_to g.variable = refl
+  no_to (g.paren x) = refl
+  no_to (g.literal f l) = refl
+  no_to (g.members f l) = refl
+  no_to (g.empty w) = refl
+  no_to (g.sided {k} {s} e w x) = side_no_to k s e
+  no_to (g.call {k} {u} e x) = call_no_to k u e
+  no_to (g.concat x y) = refl
+  no_to (g.pick x y z) = refl

@@ -1,5 +1,5 @@
 -- What a parser read, by its parts.
-use Rattle.std.proofs.Common.{◌≡◌, List, [], ◌∷◌, Result, Ok, Err, refl, ap, ◌∙◌}
+use Rattle.std.proofs.Common.{◌≡◌, List, [], ◌∷◌, Result, Ok, Err, refl, sym, ap, ◌∙◌, subst}
 use Rattle.flume_tokens.specs.declared.token.Token.{Token}
 use Rattle.flume_grammar.specs.declared.fault.Stop.{Stop}
 use Rattle.flume_grammar.specs.inner.Out.{Out, give, bind, one, passed}
@@ -28,6 +28,12 @@ ok_inj x y q = cc
 pub gave : {A : Type 0} (a b : A) (ts us : List Token) → give a ts ≡ Ok (b, us) → (a ≡ b)
     × (ts ≡ us)
 gave a b ts us q = let p = ok_inj (a, ts) (b, us) q in (ap (λ x. x.0) p, ap (λ x. x.1) p)
+
+-- what holds of a value and its tokens holds of the same ones
+pub moved_by : {A : Type 0} (R : List Token → List Token → A → Type 0) (ts ts' us us' : List Token)
+    (x y : A) → ts' ≡ ts → us ≡ us' → x ≡ y → R ts us x → R ts' us' y
+moved_by R ts ts' us us' x y a c d h =
+    subst (R ts' us') d (subst (λ z. R ts' z x) c (subst (λ z. R z us x) (sym a) h))
 
 pub record Passed {A : Type 0} (f : Token → Result A Stop) (a : A) (ts us : List Token) : Type 0
   where

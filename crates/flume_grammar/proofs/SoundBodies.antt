@@ -13,14 +13,14 @@ use Rattle.flume_grammar.specs.declared.tree.Expr.{Expr}
 use Rattle.flume_grammar.specs.declared.tree.Body.{Body}
 use Rattle.flume_grammar.specs.declared.tree.Body.TheVariants as body
 use Rattle.flume_grammar.specs.inner.Out.{Out, give, bind, at, one, next, all_of}
-use Rattle.flume_grammar.specs.inner.Reading.{sign_at, keyword_at, name_at, is_at_keyword}
+use Rattle.flume_grammar.specs.inner.Reading.{sign_at, keyword_at, name_at, is_at_keyword, numbered}
 use Rattle.flume_grammar.specs.inner.Bodies as b
 use Rattle.flume_grammar.specs.inner.Bodies.{Block, value, block_layer, block_within}
 use Rattle.flume_grammar.specs.Grammar as g
 use Rattle.flume_grammar.specs.Terminals.{key, mark, name}
 use Rattle.flume_grammar.specs.Grammar.{IsExpr, IsBody, IsBlock, AreBodies}
 use Rattle.flume_grammar.proofs.Sound.{bound, gave, one_token}
-use Rattle.flume_grammar.proofs.SoundTokens.{marked, keyed, name_read}
+use Rattle.flume_grammar.proofs.SoundTokens.{marked, keyed, name_read, numbered_read}
 use Rattle.flume_grammar.proofs.SoundLoops.{kept_all}
 use Rattle.flume_grammar.proofs.SoundExpr.{sound_expression}
 use Rattle.flume_grammar.specs.Limits.{Limits}
@@ -64,11 +64,13 @@ module _ (limits : Limits) (fair : IsFair limits) where
         → b.emit_body limits limit n ts ≡ Ok (x, us)
         → IsBody limits (key keyword.Emit n ∷ ts) us x.0 x.1
     s_emit n ts x us q =
-        let d = bound (value limits limit ts) _ x us q in
-        let y : Body × ℕ = (body.Emit n d.got.0, d.got.1 + 1) in
+        let a = bound (numbered keyword.To ts) _ x us q in
+        let d = bound (value limits limit a.rest) _ x us a.after in
+        let y : Body × ℕ = (body.Emit n a.got d.got.0, d.got.1 + 1) in
         let v = gave y x d.rest us d.after in
         moved (key keyword.Emit n ∷ ts) _ d.rest us y x refl v.1 v.0
-        (g.emit (value_is limit ts d.got d.rest d.part))
+        (g.emit (numbered_read keyword.To ts a.got a.rest a.part)
+        (value_is limit a.rest d.got d.rest d.part))
 
     abbrev Otherwise : List Token → List Token → Block → Type 0
     Otherwise vs us c = ((c ≡ ([], 0)) × (vs ≡ us)) ⊎ ((m : ℕ) × (ws : List Token)

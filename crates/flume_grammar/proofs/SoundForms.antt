@@ -1,5 +1,5 @@
 -- Each form of a statement that is read is in the grammar.
-use Rattle.std.proofs.Common.{◌≡◌, ℕ, ◌≤◌, nat_le, List, ◌∷◌, Bool, true, false, Option, Some, None, Ok, Err, if◌then◌else◌, refl, ap, ◌∙◌, subst}
+use Rattle.std.proofs.Common.{◌≡◌, ℕ, ◌+◌, ◌≤◌, nat_le, length, length-append, List, [], ◌∷◌, ◌++◌, Bool, true, false, None, Ok, Err, if◌then◌else◌, refl, ap, ◌∙◌, subst, arith}
 use Rattle.std.proofs.lemmas.Bool.{leb-true}
 use Rattle.flume_tokens.specs.declared.token.Token.{Token}
 use Rattle.flume_tokens.specs.declared.keyword.Keyword.TheVariants as keyword
@@ -9,22 +9,23 @@ use Rattle.flume_grammar.specs.declared.fault.Stop.TheVariants.{Fault}
 use Rattle.flume_grammar.specs.declared.tree.Body.{Body}
 use Rattle.flume_grammar.specs.declared.tree.Form.{Form}
 use Rattle.flume_grammar.specs.declared.tree.Form.TheVariants as form
-use Rattle.flume_grammar.specs.inner.Out.{give, bind, one, next}
-use Rattle.flume_grammar.specs.inner.Reading.{sign_at, keyword_at, name_at, number_at, text_at, is_at_keyword}
+use Rattle.flume_grammar.specs.inner.Out.{give, one}
+use Rattle.flume_grammar.specs.inner.Reading.{sign_at, keyword_at, name_at, text_at, comma_at, numbered}
 use Rattle.flume_grammar.specs.Parts.{Tree}
-use Rattle.flume_grammar.specs.inner.Types.{whole_type}
+use Rattle.flume_grammar.specs.inner.Types.{at_comma, whole_type}
 use Rattle.flume_grammar.specs.inner.Bodies.{Block, block_within, whole_block}
 use Rattle.flume_grammar.specs.inner.Statements as s
 use Rattle.flume_grammar.specs.Grammar as g
-use Rattle.flume_grammar.specs.Terminals.{key, mark, name, number, text}
-use Rattle.flume_grammar.specs.Grammar.{IsWholeType, IsBlock, IsScale, IsStatement}
-use Rattle.flume_grammar.proofs.Sound.{bound, gave}
-use Rattle.flume_grammar.proofs.SoundTokens.{marked, keyed, name_read, number_read, text_read}
+use Rattle.flume_grammar.specs.Terminals.{key, mark, name, text}
+use Rattle.flume_grammar.specs.Grammar.{AreNames, IsWholeType, AreMoreTypes, IsBlock, IsStatement}
+use Rattle.flume_grammar.proofs.Sound.{bound, gave, moved_by}
+use Rattle.flume_grammar.proofs.SoundTokens.{marked, keyed, name_read, text_read, comma_read, numbered_read}
+use Rattle.flume_grammar.proofs.SoundLoops.{kept_all}
 use Rattle.flume_grammar.proofs.SoundTypes.{sound_whole}
 use Rattle.flume_grammar.specs.Limits.{Limits}
 use Rattle.flume_grammar.proofs.Fair.{IsFair}
 use Rattle.flume_grammar.proofs.SoundBodies.{sound_block}
-use Rattle.flume_grammar.proofs.SoundOperations.{moved_by, s_operation}
+use Rattle.flume_grammar.proofs.SoundOperations.{s_names, s_operation}
 
 module _ (limits : Limits) (fair : IsFair limits) where
   -- ---- statements
@@ -41,7 +42,7 @@ module _ (limits : Limits) (fair : IsFair limits) where
       let m = marked sign.Assign c.got a.rest c.rest c.part in
       let d = bound (whole_type limits c.rest) _ x us c.after in
       let v = gave (form.Type a.got d.got) x d.rest us d.after in
-      moved_by limits fair (StatementOf n) (key keyword.Type n ∷ name a.got w.line ∷ mark
+      moved_by (StatementOf n) (key keyword.Type n ∷ name a.got w.line ∷ mark
       sign.Assign m.line ∷
       c.rest) _ d.rest us (form.Type a.got d.got) x
       (ap (λ z. key keyword.Type n ∷ z) (w.is ∙ ap (λ z. name a.got w.line ∷ z) m.is)) v.1 v.0
@@ -64,7 +65,7 @@ module _ (limits : Limits) (fair : IsFair limits) where
       d.got = subst (λ z. (IsWholeType limits) c.rest z d.got) (i.is
       ∙ ap (λ z. key keyword.From i.line ∷ z) j.is)
       ((sound_whole limits fair) c.rest d.got d.rest d.part) in
-      moved_by limits fair (StatementOf n) (key keyword.Input n ∷ name a.got w.line ∷ mark
+      moved_by (StatementOf n) (key keyword.Input n ∷ name a.got w.line ∷ mark
       sign.Colon m.line ∷
       c.rest) _ f.rest us (form.Input a.got d.got f.got) x
       (ap (λ z. key keyword.Input n ∷ z) (w.is ∙ ap (λ z. name a.got w.line ∷ z) m.is)) v.1 v.0
@@ -73,17 +74,15 @@ module _ (limits : Limits) (fair : IsFair limits) where
   pub s_let_form : (n : ℕ) (ts : List Token) (x : Form) (us : List Token)
       → s.let_form limits ts ≡ Ok (x, us) → StatementOf n (key keyword.Let n ∷ ts) us x
   s_let_form n ts x us q =
-      let a = bound (one name_at ts) _ x us q in
-      let w = name_read a.got ts a.rest a.part in
+      let a = bound (s.names ts) _ x us q in
       let c = bound (one (sign_at sign.Assign) a.rest) _ x us a.after in
       let m = marked sign.Assign c.got a.rest c.rest c.part in
       let d = bound (s.operation_at limits c.rest) _ x us c.after in
       let v = gave (form.Let a.got d.got) x d.rest us d.after in
-      moved_by limits fair (StatementOf n) (key keyword.Let n ∷ name a.got w.line ∷ mark sign.Assign
-      m.line ∷
-      c.rest) _ d.rest us (form.Let a.got d.got) x
-      (ap (λ z. key keyword.Let n ∷ z) (w.is ∙ ap (λ z. name a.got w.line ∷ z) m.is)) v.1 v.0
-      (g.let_ (s_operation limits fair c.rest d.got d.rest d.part))
+      let y : AreNames ts (mark sign.Assign m.line ∷ c.rest) a.got = subst
+      (λ z. AreNames ts z a.got) m.is (s_names ts a.got a.rest a.part) in
+      moved_by (StatementOf n) (key keyword.Let n ∷ ts) _ d.rest us (form.Let a.got d.got) x refl
+      v.1 v.0 (g.let_ y (s_operation limits fair c.rest d.got d.rest d.part))
 
   pub s_output : (n : ℕ) (ts : List Token) (x : Form) (us : List Token) → s.output_form ts ≡ Ok
       (x, us)
@@ -96,33 +95,12 @@ module _ (limits : Limits) (fair : IsFair limits) where
       let d = bound (one text_at c.rest) _ x us c.after in
       let o = text_read d.got c.rest d.rest d.part in
       let v = gave (form.Output a.got d.got) x d.rest us d.after in
-      moved_by limits fair (StatementOf n) (key keyword.Output n ∷ name a.got w.line ∷ key
+      moved_by (StatementOf n) (key keyword.Output n ∷ name a.got w.line ∷ key
       keyword.To m.line ∷
       text d.got o.line ∷ d.rest) _ d.rest us (form.Output a.got d.got) x
       (ap (λ z. key keyword.Output n ∷ z) (w.is
       ∙ ap (λ z. name a.got w.line ∷ z) (m.is ∙ ap (λ z. key keyword.To m.line ∷ z) o.is))) v.1
       v.0 g.output
-
-  s_scale : (ts : List Token) (x : Option (List ℕ)) (us : List Token) → s.scale ts ≡ Ok (x, us)
-      → IsScale ts us x
-  s_scale ts x us q = by (is_at_keyword keyword.Scale (next ts)) q
-    where
-      by : (t : Bool)
-          → (if t then bind (one (keyword_at keyword.Scale) ts)
-          (λ _ vs. bind (one number_at vs) (λ n ws. give (Some n) ws)) else give None ts) ≡ Ok
-          (x, us) → IsScale ts us x
-      by true p =
-          let a = bound (one (keyword_at keyword.Scale) ts)
-          (λ _ vs. bind (one number_at vs) (λ n ws. give (Some n) ws)) x us p in
-          let m = keyed keyword.Scale a.got ts a.rest a.part in
-          let c = bound (one number_at a.rest) (λ n ws. give (Some n) ws) x us a.after in
-          let w = number_read c.got a.rest c.rest c.part in
-          let v = gave (Some c.got) x c.rest us c.after in
-          moved_by limits fair IsScale (key keyword.Scale m.line ∷ number c.got w.line ∷ c.rest) ts
-          c.rest us
-          (Some c.got) x (m.is ∙ ap (λ z. key keyword.Scale m.line ∷ z) w.is) v.1 v.0 g.present
-      by false p = let v = gave None x ts us p in
-          moved_by limits fair IsScale ts ts ts us None x refl v.1 v.0 g.absent
 
   small_block : (t : Bool) (x : Block) (us : List Token) (y : List Body) (vs : List Token)
       → (if t then give x.0 us else Err (Fault None TooDeep)) ≡ Ok (y, vs) → (t ≡ true) × (x.0 ≡ y)
@@ -149,7 +127,30 @@ module _ (limits : Limits) (fair : IsFair limits) where
             leb-true a.got.1 limits.depth c.0;
       }
 
-  record Signed (ts us : List Token) (x : List ℕ × Tree × Tree) : Type 0 where
+  abbrev Outputs : List Token → List Tree → List Token → Type 0
+  Outputs ts types us = AreMoreTypes limits ts us types × (1 + length types ≤ limits.outputs)
+
+  s_next_type : (ts : List Token) (types : List Tree) (vs : List Token) (rs : List Tree)
+      (us : List Token) → Outputs ts types vs → s.next_type limits types vs ≡ Ok (rs, us)
+      → Outputs ts rs us
+  s_next_type ts types vs rs us (e, l) q =
+      let a = bound (one (comma_at (1 + length types) limits.outputs) vs) _ rs us q in
+      let m = comma_read (1 + length types) limits.outputs a.got vs a.rest a.part in
+      let c = bound (whole_type limits a.rest) _ rs us a.after in
+      let v = gave (types ++ c.got ∷ []) rs c.rest us c.after in
+      let n = length-append types (c.got ∷ []) in
+      let y : (AreMoreTypes limits) ts (mark sign.Comma m.line ∷ a.rest) types = subst
+      (λ z. (AreMoreTypes limits) ts z types) m.is e in
+      subst (λ z. Outputs ts z us) v.0 (subst (Outputs ts (types ++ c.got ∷ [])) v.1
+      (g.some y (sound_whole limits fair a.rest c.got c.rest c.part), omega (arith, m.fewer, n)))
+
+  s_more_types : (ts : List Token) (types : List Tree) (us : List Token)
+      → s.more_types limits ts ≡ Ok (types, us) → Outputs ts types us
+  s_more_types ts types us q =
+      kept_all at_comma (s.next_type limits) (Outputs ts)
+      (λ p vs r ws t k e. s_next_type ts p vs r ws k e) [] ts types us (g.none_, fair.outputs) q
+
+  record Signed (ts us : List Token) (x : List ℕ × Tree × Tree × List Tree) : Type 0 where
     k : ℕ
     i : ℕ
     j : ℕ
@@ -157,11 +158,13 @@ module _ (limits : Limits) (fair : IsFair limits) where
     p : ℕ
     vs : List Token
     ws : List Token
+    xs : List Token
     start : ts ≡ mark sign.Open k ∷ name x.0 i ∷ mark sign.Colon j ∷ vs
     takes : (IsWholeType limits) vs (mark sign.Close o ∷ mark sign.Arrow p ∷ ws) x.1
-    gives : (IsWholeType limits) ws us x.2
+    gives : (IsWholeType limits) ws xs x.2
+    more : Outputs xs x.3 us
 
-  s_signature : (ts : List Token) (x : List ℕ × Tree × Tree) (us : List Token)
+  s_signature : (ts : List Token) (x : List ℕ × Tree × Tree × List Tree) (us : List Token)
       → s.signature limits ts ≡ Ok (x, us) → Signed ts us x
   s_signature ts x us q =
       let a = bound (one (sign_at sign.Open) ts) _ x us q in
@@ -176,7 +179,8 @@ module _ (limits : Limits) (fair : IsFair limits) where
       let l = bound (one (sign_at sign.Arrow) f.rest) _ x us f.after in
       let p = marked sign.Arrow l.got f.rest l.rest l.part in
       let m = bound (whole_type limits l.rest) _ x us l.after in
-      let v = gave (c.got, e.got, m.got) x m.rest us m.after in
+      let r = bound (s.more_types limits m.rest) _ x us m.after in
+      let v = gave (c.got, e.got, m.got, r.got) x r.rest us r.after in
       record {
         k = k.line;
         i = i.line;
@@ -185,19 +189,22 @@ module _ (limits : Limits) (fair : IsFair limits) where
         p = p.line;
         vs = d.rest;
         ws = l.rest;
+        xs = m.rest;
         start = k.is ∙ ap (λ z. mark sign.Open k.line ∷ z) (i.is
             ∙ ap (λ z. name c.got i.line ∷ z) j.is)
-            ∙ ap (λ (z : List ℕ × Tree × Tree). mark sign.Open k.line ∷ name z.0 i.line ∷ mark
+            ∙ ap (λ (z : List ℕ × Tree × Tree × List Tree).
+            mark sign.Open k.line ∷ name z.0 i.line ∷ mark
             sign.Colon j.line ∷ d.rest) v.0;
         takes =
-            subst (λ (z : List ℕ × Tree × Tree). (IsWholeType limits) d.rest
+            subst (λ (z : List ℕ × Tree × Tree × List Tree). (IsWholeType limits) d.rest
             (mark sign.Close o.line ∷ mark sign.Arrow p.line ∷ l.rest) z.1) v.0
             (subst (λ z. (IsWholeType limits) d.rest z e.got) (o.is
             ∙ ap (λ z. mark sign.Close o.line ∷ z) p.is)
             ((sound_whole limits fair) d.rest e.got e.rest e.part));
-        gives = subst (λ (z : List ℕ × Tree × Tree). (IsWholeType limits) l.rest us z.2) v.0
-            (subst (λ z. (IsWholeType limits) l.rest z m.got) v.1
-            ((sound_whole limits fair) l.rest m.got m.rest m.part));
+        gives = subst (λ (z : List ℕ × Tree × Tree × List Tree). (IsWholeType limits) l.rest
+            m.rest z.2) v.0 ((sound_whole limits fair) l.rest m.got m.rest m.part);
+        more = subst (λ (z : List ℕ × Tree × Tree × List Tree). Outputs m.rest z.3 us) v.0
+            (subst (Outputs m.rest r.got) v.1 (s_more_types m.rest r.got r.rest r.part));
       }
 
   pub s_function : (n : ℕ) (ts : List Token) (x : Form) (us : List Token)
@@ -207,7 +214,7 @@ module _ (limits : Limits) (fair : IsFair limits) where
       let w = name_read a.got ts a.rest a.part in
       let c = bound (s.signature limits a.rest) _ x us a.after in
       let r = s_signature a.rest c.got c.rest c.part in
-      let d = bound (s.scale c.rest) _ x us c.after in
+      let d = bound (numbered keyword.Scale c.rest) _ x us c.after in
       let e = bound (whole_block limits d.rest) _ x us d.after in
       let k = s_whole_block d.rest e.got e.rest e.part in
       let y = form.Function
@@ -216,13 +223,16 @@ module _ (limits : Limits) (fair : IsFair limits) where
         argument = c.got.0;
         takes = c.got.1;
         gives = c.got.2;
+        more = c.got.3;
         scale =
             d.got;
         body = e.got;
       }) in
       let v = gave y x e.rest us e.after in
-      moved_by limits fair (StatementOf n) (key keyword.Fn n ∷ name a.got w.line ∷ mark sign.Open
+      moved_by (StatementOf n) (key keyword.Fn n ∷ name a.got w.line ∷ mark sign.Open
       r.k ∷ name
       c.got.0 r.i ∷ mark sign.Colon r.j ∷ r.vs) _ e.rest us y x
       (ap (λ z. key keyword.Fn n ∷ z) (w.is ∙ ap (λ z. name a.got w.line ∷ z) r.start)) v.1 v.0
-      (g.fn_ r.takes r.gives (s_scale c.rest d.got d.rest d.part) k.spelled k.small)
+      (g.fn_ r.takes r.gives r.more.0 r.more.1 (numbered_read keyword.Scale c.rest d.got
+      d.rest d.part)
+      k.spelled k.small)

@@ -21,11 +21,40 @@ use Rattle.flume_grammar.specs.inner.Statements as s
 use Rattle.flume_grammar.specs.Grammar as g
 use Rattle.flume_grammar.specs.Terminals.{key, mark, name, number}
 use Rattle.flume_grammar.specs.Grammar.{IsCombiner, AreNames, IsOperation}
-use Rattle.flume_grammar.proofs.Sound.{bound, gave, one_token}
+use Rattle.flume_grammar.proofs.Sound.{bound, gave, moved_by, one_token}
 use Rattle.flume_grammar.proofs.SoundTokens.{marked, keyed, name_read, number_read, comma_read}
 use Rattle.flume_grammar.proofs.SoundLoops.{kept_all}
 use Rattle.flume_grammar.specs.Limits.{Limits}
 use Rattle.flume_grammar.proofs.Fair.{IsFair}
+
+-- ---- names
+
+-- one more name, behind a comma
+more_name : (ts vs ws us : List Token) (xs : List (List ℕ)) (x : List ℕ) (line : ℕ)
+    → AreNames ts vs xs → vs ≡ mark sign.Comma line ∷ ws → one name_at ws ≡ Ok (x, us)
+    → AreNames ts us (xs ++ x ∷ [])
+more_name ts vs ws us xs x line e m q =
+    let w = name_read x ws us q in
+    g.more (subst (λ z. AreNames ts z xs) (m ∙ ap (λ z. mark sign.Comma line ∷ z) w.is) e)
+
+s_next_name : (ts : List Token) (xs : List (List ℕ)) (vs : List Token) (ys : List (List ℕ))
+    (us : List Token) → AreNames ts vs xs → s.next_name xs vs ≡ Ok (ys, us) → AreNames ts us ys
+s_next_name ts xs vs ys us e q =
+    let a = bound (one (sign_at sign.Comma) vs) _ ys us q in
+    let m = marked sign.Comma a.got vs a.rest a.part in
+    let c = bound (one name_at a.rest) _ ys us a.after in
+    let v = gave (xs ++ c.got ∷ []) ys c.rest us c.after in
+    moved_by AreNames ts ts c.rest us (xs ++ c.got ∷ []) ys refl v.1 v.0
+    (more_name ts vs a.rest c.rest xs c.got m.line e m.is c.part)
+
+pub s_names : (ts : List Token) (xs : List (List ℕ)) (us : List Token) → s.names ts ≡ Ok (xs, us)
+    → AreNames ts us xs
+s_names ts xs us q =
+    let a = bound (one name_at ts) _ xs us q in
+    let w = name_read a.got ts a.rest a.part in
+    kept_all at_comma s.next_name (λ ys vs. AreNames ts vs ys)
+    (λ p vs r ws t k e. s_next_name ts p vs r ws k e) (a.got ∷ []) a.rest xs us
+    (subst (λ z. AreNames z a.rest (a.got ∷ [])) (sym w.is) g.one) a.after
 
 module _ (limits : Limits) (fair : IsFair limits) where
   -- ---- operations
@@ -113,12 +142,6 @@ module _ (limits : Limits) (fair : IsFair limits) where
   is_operation_key keyword.Top z q = let e : starts.Top ≡ z = cc in ap operation_key e
   is_operation_key _ z q = cc
 
-  pub moved_by : {A : Type 0} (R : List Token → List Token → A → Type 0)
-      (ts ts' us us' : List Token)
-      (x y : A) → ts' ≡ ts → us ≡ us' → x ≡ y → R ts us x → R ts' us' y
-  moved_by R ts ts' us us' x y a c d h =
-      subst (R ts' us') d (subst (λ z. R ts' z x) c (subst (λ z. R z us x) (sym a) h))
-
   -- a combiner that is one keyword, as the first token told
   s_whole : (k : Keyword) (n : ℕ) (c : Combiner) (ts us : List Token)
       → s.keyword_combiner k ≡ Some (combining.Whole c) → ts ≡ key k n ∷ us → IsCombiner ts us c
@@ -179,13 +202,10 @@ module _ (limits : Limits) (fair : IsFair limits) where
       let a = bound (one (comma_at (length xs) limits.inputs) vs) _ ys us q in
       let m = comma_read (length xs) limits.inputs a.got vs a.rest a.part in
       let c = bound (one name_at a.rest) _ ys us a.after in
-      let w = name_read c.got a.rest c.rest c.part in
       let v = gave (xs ++ c.got ∷ []) ys c.rest us c.after in
-      let y : AreNames ts (mark sign.Comma m.line ∷ name c.got w.line ∷ c.rest) xs = subst
-      (λ z. AreNames ts z xs) (m.is ∙ ap (λ z. mark sign.Comma m.line ∷ z) w.is) e in
       let n = length-append xs (c.got ∷ []) in
       subst (λ z. NamesOf ts z us) v.0 (subst (NamesOf ts (xs ++ c.got ∷ [])) v.1
-      (g.more y, omega (arith, m.fewer, n)))
+      (more_name ts vs a.rest c.rest xs c.got m.line e m.is c.part, omega (arith, m.fewer, n)))
 
   s_operation_after : (z : OperationStart) (n : ℕ) (ts : List Token) (x : Operation)
       (us : List Token) → s.after_begin limits z ts ≡ Ok (x, us)

@@ -12,11 +12,11 @@ use Rattle.flume_grammar.specs.inner.Statements as s
 use Rattle.flume_grammar.specs.Grammar as g
 use Rattle.flume_grammar.specs.Terminals.{key}
 use Rattle.flume_grammar.specs.Grammar.{IsStatement, AreStatements, IsScript}
-use Rattle.flume_grammar.proofs.Sound.{bound, gave, one_token}
+use Rattle.flume_grammar.proofs.Sound.{bound, gave, moved_by, one_token}
 use Rattle.flume_grammar.proofs.SoundLoops.{kept_all}
 use Rattle.flume_grammar.specs.Limits.{Limits}
 use Rattle.flume_grammar.proofs.Fair.{IsFair}
-use Rattle.flume_grammar.proofs.SoundOperations.{of_key, moved_by}
+use Rattle.flume_grammar.proofs.SoundOperations.{of_key}
 use Rattle.flume_grammar.proofs.SoundForms.{StatementOf, s_type, s_input_form, s_let_form, s_output, s_function}
 
 module _ (limits : Limits) (fair : IsFair limits) where
@@ -67,7 +67,7 @@ module _ (limits : Limits) (fair : IsFair limits) where
       let a = bound (one s.statement_start ts) _ x us q in
       let c = bound (s.form_at limits a.got.0 a.rest) _ x us a.after in
       let v = gave (record { line = a.got.1; form = c.got }) x c.rest us c.after in
-      moved_by limits fair (IsStatement limits) (key (statement_key a.got.0) a.got.1 ∷ a.rest) ts
+      moved_by (IsStatement limits) (key (statement_key a.got.0) a.got.1 ∷ a.rest) ts
       c.rest us
       (record { line = a.got.1; form = c.got }) x (stated a.got ts a.rest a.part) v.1 v.0
       (s_form a.got.0 a.got.1 a.rest c.got c.rest c.part)

@@ -11,10 +11,11 @@ use Rattle.flume_tokens.specs.contracts.keyword.Keyword as keyword_type
 use Rattle.flume_tokens.specs.contracts.sign.Sign as sign_type
 use denote.Enum.Bare.{same_true}
 use Rattle.flume_grammar.specs.declared.fault.Stop.{Stop}
-use Rattle.flume_grammar.specs.inner.Out.{one}
-use Rattle.flume_grammar.specs.inner.Reading.{is_sign, is_keyword, sign_at, keyword_at, name_of, name_at, word_at, number_of, number_at, text_of, text_at, comma_at, or_syntax}
+use Rattle.flume_grammar.specs.inner.Out.{give, bind, one, next}
+use Rattle.flume_grammar.specs.inner.Reading.{is_sign, is_keyword, sign_at, keyword_at, name_of, name_at, word_at, number_of, number_at, text_of, text_at, comma_at, or_syntax, is_at_keyword, numbered}
 use Rattle.flume_grammar.specs.Terminals.{word_of, key, mark, name, number, text}
-use Rattle.flume_grammar.proofs.Sound.{one_token}
+use Rattle.flume_grammar.specs.Grammar.{IsNumbered, absent, present}
+use Rattle.flume_grammar.proofs.Sound.{bound, gave, moved_by, one_token}
 
 -- ---- the tokens by their kinds
 
@@ -168,3 +169,24 @@ comma_read n limit u ts us q =
           (sign_kind sign.Comma p.token.kind a);
       fewer = ltb-true n limit b;
     }
+
+-- the number behind a keyword, where that stands
+pub numbered_read : (k : Keyword) (ts : List Token) (x : Option (List ℕ)) (us : List Token)
+    → numbered k ts ≡ Ok (x, us) → IsNumbered k ts us x
+numbered_read k ts x us q = by (is_at_keyword k (next ts)) q
+  where
+    by : (t : Bool)
+        → (if t then bind (one (keyword_at k) ts)
+        (λ _ vs. bind (one number_at vs) (λ n ws. give (Some n) ws)) else give None ts) ≡ Ok
+        (x, us) → IsNumbered k ts us x
+    by true p =
+        let a = bound (one (keyword_at k) ts)
+        (λ _ vs. bind (one number_at vs) (λ n ws. give (Some n) ws)) x us p in
+        let m = keyed k a.got ts a.rest a.part in
+        let c = bound (one number_at a.rest) (λ n ws. give (Some n) ws) x us a.after in
+        let w = number_read c.got a.rest c.rest c.part in
+        let v = gave (Some c.got) x c.rest us c.after in
+        moved_by (IsNumbered k) (key k m.line ∷ number c.got w.line ∷ c.rest) ts c.rest us
+        (Some c.got) x (m.is ∙ ap (λ z. key k m.line ∷ z) w.is) v.1 v.0 present
+    by false p = let v = gave None x ts us p in
+        moved_by (IsNumbered k) ts ts ts us None x refl v.1 v.0 absent

@@ -109,6 +109,7 @@ module _ (limits : Limits) (fair : IsFair limits) where
     members = fair.members;
     inputs =
         fair.inputs;
+    outputs = fair.outputs;
   }
 
   pub fair_longer : IsFair (longer limits)
@@ -118,17 +119,19 @@ module _ (limits : Limits) (fair : IsFair limits) where
     members = omega arith;
     inputs =
         omega arith;
+    outputs = omega arith;
   }
 
   pub fair_above : (more : Limits) → IsBelow limits more → IsFair more
   fair_above more b = let d = b.depth in let f = b.fields in let m = b.members in
-      let i = b.inputs in
+      let i = b.inputs in let o = b.outputs in
       record {
         depth = omega (arith, d);
         fields = omega (arith, f);
         members =
             omega (arith, m);
         inputs = omega (arith, i);
+        outputs = omega (arith, o);
       }
 
   pub to_deeper : Growth (λ k. k ≡ TooDeep) limits (deeper limits)
@@ -139,6 +142,7 @@ module _ (limits : Limits) (fair : IsFair limits) where
         inl (refl, λ e. cc);
     members = inl (refl, λ e. cc);
     inputs = inl (refl, λ e. cc);
+    outputs = inl (refl, λ e. cc);
   }
 
   pub to_longer : Growth (λ k. k ≡ TooMany) limits (longer limits)
@@ -149,6 +153,7 @@ module _ (limits : Limits) (fair : IsFair limits) where
         inr (omega arith, refl);
     members = inr (omega arith, refl);
     inputs = inr (omega arith, refl);
+    outputs = inr (omega arith, refl);
   }
 
   no_limit : Limit Syntax → ⊥
@@ -164,6 +169,7 @@ module _ (limits : Limits) (fair : IsFair limits) where
     members = inr (b.members, inr refl);
     inputs =
         inr (b.inputs, inr refl);
+    outputs = inr (b.outputs, inr refl);
   }
 
   the_same : Growth Strange limits limits
@@ -173,6 +179,7 @@ module _ (limits : Limits) (fair : IsFair limits) where
     fields = inl (refl, λ s. s.2 refl);
     members = inl (refl, λ s. s.2 refl);
     inputs = inl (refl, λ s. s.2 refl);
+    outputs = inl (refl, λ s. s.2 refl);
   }
 
   -- no other kind
@@ -206,6 +213,7 @@ higher l = record {
   members = l.members + 1;
   inputs =
       l.inputs + 1;
+  outputs = l.outputs + 1;
 }
 
 pub below_higher : (l : Limits) → IsBelow l (higher l)
@@ -216,4 +224,5 @@ below_higher l = record {
   members = omega arith;
   inputs =
       omega arith;
+  outputs = omega arith;
 }

@@ -60,11 +60,11 @@ pub data AreNames : List Token → List Token → List (List ℕ) → Type 0 whe
   more : {x : List ℕ} {xs : List (List ℕ)} {n m : ℕ} {ts us : List Token}
       → AreNames ts (mark sign.Comma m ∷ name x n ∷ us) xs → AreNames ts us (xs ++ x ∷ [])
 
--- [ "scale" num ]
-pub data IsScale : List Token → List Token → Option (List ℕ) → Type 0 where
-  absent : {ts : List Token} → IsScale ts ts None
+-- [ "scale" num ], [ "to" num ]: the number behind this keyword, where it stands there
+pub data IsNumbered (k : Keyword) : List Token → List Token → Option (List ℕ) → Type 0 where
+  absent : {ts : List Token} → IsNumbered k ts ts None
   present : {digits : List ℕ} {n m : ℕ} {ts : List Token}
-      → IsScale (key keyword.Scale n ∷ number digits m ∷ ts) ts (Some digits)
+      → IsNumbered k (key k n ∷ number digits m ∷ ts) ts (Some digits)
 
 module _ (limits : Limits) where
   mutual
@@ -105,6 +105,13 @@ module _ (limits : Limits) where
     pub depth : ℕ
     pub spelled : IsType ts us t depth
     pub small : depth ≤ limits.depth
+
+  -- { "," type }
+  pub data AreMoreTypes : List Token → List Token → List Tree → Type 0 where
+    none_ : {ts : List Token} → AreMoreTypes ts ts []
+    some : {n : ℕ} {ts us vs : List Token} {t : Tree} {types : List Tree}
+        → AreMoreTypes ts (mark sign.Comma n ∷ us) types → IsWholeType us vs t
+        → AreMoreTypes ts vs (types ++ t ∷ [])
 
   mutual
     -- An expression of this rank or above: 1 is `or`, 2 `and`, 3 `not`, 4 a comparison, 5 a sum,
@@ -192,14 +199,15 @@ module _ (limits : Limits) where
           → AreMembers ts vs (es ++ e ∷ []) (max a b)
 
   mutual
-    -- body = "let" name "=" expr | "emit" expr | "if" expr block [ "else" block ]
+    -- body = "let" name "=" expr | "emit" [ "to" num ] expr | "if" expr block [ "else" block ]
     --      | "for" name "in" expr block | "case" expr "left" name block "right" name block
     pub data IsBody : List Token → List Token → Body → ℕ → Type 0 where
       let_ : {x : List ℕ} {n m k a : ℕ} {ts us : List Token} {e : Expr} → IsExpr 1 ts us e a
           → IsBody (key keyword.Let n ∷ name x m ∷ mark sign.Assign k ∷ ts) us (body.Let n x e)
           (a + 1)
-      emit : {n a : ℕ} {ts us : List Token} {e : Expr} → IsExpr 1 ts us e a
-          → IsBody (key keyword.Emit n ∷ ts) us (body.Emit n e) (a + 1)
+      emit : {n a : ℕ} {ts us vs : List Token} {to : Option (List ℕ)} {e : Expr}
+          → IsNumbered keyword.To ts us to → IsExpr 1 us vs e a
+          → IsBody (key keyword.Emit n ∷ ts) vs (body.Emit n to e) (a + 1)
       if_ : {n a b : ℕ} {ts us vs : List Token} {e : Expr} {ss : List Body} → IsExpr 1 ts us e a
           → IsBlock us vs ss b
           → IsBody (key keyword.If n ∷ ts) vs (body.If n e ss []) (max (max a b) 0 + 1)
@@ -249,8 +257,8 @@ module _ (limits : Limits) where
         (operation.Top digits c)
 
   -- stmt = "type" name "=" type | "input" name ":" type "from" textlit
-  --      | "fn" name "(" name ":" type ")" "->" type [ "scale" num ] block
-  --      | "let" name "=" op | "output" name "to" textlit
+  --      | "fn" name "(" name ":" type ")" "->" type { "," type } [ "scale" num ] block
+  --      | "let" name { "," name } "=" op | "output" name "to" textlit
   pub data IsStatement : List Token → List Token → Statement → Type 0 where
     type_ : {x : List ℕ} {n m k : ℕ} {ts us : List Token} {t : Tree} → IsWholeType ts us t
         → IsStatement (key keyword.Type n ∷ name x m ∷ mark sign.Assign k ∷ ts) us
@@ -259,14 +267,15 @@ module _ (limits : Limits) where
         → IsWholeType ts (key keyword.From i ∷ text f j ∷ us) t
         → IsStatement (key keyword.Input n ∷ name x m ∷ mark sign.Colon k ∷ ts) us
         (record { line = n; form = form.Input x t f })
-    -- a function's body is at most 32 deep
-    fn_ : {x y : List ℕ} {n m k i j o p d : ℕ} {ts us vs ws : List Token} {s t : Tree}
-        {c : Option (List ℕ)} {b : List Body}
+    -- a function has at most 8 outputs, and its body is at most 32 deep
+    fn_ : {x y : List ℕ} {n m k i j o p d : ℕ} {ts us vs ws xs ys : List Token} {s t : Tree}
+        {types : List Tree} {c : Option (List ℕ)} {b : List Body}
         → IsWholeType ts (mark sign.Close o ∷ mark sign.Arrow p ∷ us) s → IsWholeType us vs t
-        → IsScale vs ws c
-        → {xs : List Token} → IsBlock ws xs b d → d ≤ limits.depth
+        → AreMoreTypes vs ws types → 1 + length types ≤ limits.outputs
+        → IsNumbered keyword.Scale ws xs c
+        → IsBlock xs ys b d → d ≤ limits.depth
         → IsStatement (key keyword.Fn n ∷ name x m ∷ mark sign.Open k ∷ name y i ∷ mark sign.Colon j
-        ∷ ts) xs
+        ∷ ts) ys
         (record {
           line = n;
           form =
@@ -275,14 +284,15 @@ module _ (limits : Limits) where
                 argument = y;
                 takes = s;
                 gives = t;
+                more = types;
                 scale = c;
                 body =
                     b;
               });
         })
-    let_ : {x : List ℕ} {n m k : ℕ} {ts us : List Token} {o : Operation} → IsOperation ts us o
-        → IsStatement (key keyword.Let n ∷ name x m ∷ mark sign.Assign k ∷ ts) us
-        (record { line = n; form = form.Let x o })
+    let_ : {xs : List (List ℕ)} {n k : ℕ} {ts us vs : List Token} {o : Operation}
+        → AreNames ts (mark sign.Assign k ∷ us) xs → IsOperation us vs o
+        → IsStatement (key keyword.Let n ∷ ts) vs (record { line = n; form = form.Let xs o })
     output : {x f : List ℕ} {n m k i : ℕ} {ts : List Token}
         → IsStatement (key keyword.Output n ∷ name x m ∷ key keyword.To k ∷ text f i ∷ ts) ts
         (record { line = n; form = form.Output x f })

@@ -2,15 +2,16 @@
 use Rattle.std.specs.Prelude.{ℕ, ◌+◌, ◌<◌}
 
 -- how deep a function's tree and a type as it is written may be, and how many fields of a record,
--- members of a list literal and inputs of a flatten there may be
+-- members of a list literal, inputs of a flatten and outputs of a function there may be
 pub record Limits : Type 0 where
   pub depth : ℕ
   pub fields : ℕ
   pub members : ℕ
   pub inputs : ℕ
+  pub outputs : ℕ
 
 abbrev pub the_limits : Limits
-the_limits = record { depth = 32; fields = 16; members = 64; inputs = 256 }
+the_limits = record { depth = 32; fields = 16; members = 64; inputs = 256; outputs = 8 }
 
 -- each limit is lower
 pub record IsBelow (limits more : Limits) : Type 0 where
@@ -18,6 +19,7 @@ pub record IsBelow (limits more : Limits) : Type 0 where
   pub fields : limits.fields < more.fields
   pub members : limits.members < more.members
   pub inputs : limits.inputs < more.inputs
+  pub outputs : limits.outputs < more.outputs
 
 -- one more level of depth
 abbrev pub deeper : Limits → Limits
@@ -26,13 +28,15 @@ deeper l = record {
   fields = l.fields;
   members = l.members;
   inputs = l.inputs;
+  outputs = l.outputs;
 }
 
--- one more field, one more member and one more input
+-- one more field, one more member, one more input and one more output
 abbrev pub longer : Limits → Limits
 longer l = record {
   depth = l.depth;
   fields = l.fields + 1;
   members = l.members + 1;
   inputs = l.inputs + 1;
+  outputs = l.outputs + 1;
 }

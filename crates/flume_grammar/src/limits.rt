@@ -11,3 +11,6 @@ pub const MAX_MEMBERS: usize = 64;
 
 /// The greatest number of inputs of a flatten.
 pub const MAX_INPUTS: usize = 256;
+
+/// The greatest number of outputs of a function.
+pub const MAX_OUTPUTS: usize = 8;

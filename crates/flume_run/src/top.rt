@@ -26,9 +26,9 @@ use std::thread::Threads;
 /// the text of the screen: for `run` the execution graph and the plan, and for both the size of
 /// each needed collection, and `done`. Whatever the schedule of the workers and whichever attempts
 /// were lost, the files of `run` are those of `direct`. Where a call of a function traps, the
-/// answer is the least of the traps for `direct`, and for `run` the first of the tasks; else the
-/// first refusal met is, or the task that was given up, and the screen gets its line. Every growth
-/// comes before the shelf's first `begin`.
+/// answer is for `direct` the least of the traps. For `run` it is the trap, or the task that was
+/// given up, that comes first by phases and by tasks. Else it is the first refusal that is met, and
+/// the screen gets its line. Every growth comes before the shelf's first `begin`.
 ///
 /// What is promised of each answer is a field of `Promises` (specs/Promises.antt of run_course).
 /// Hosts that are not lent are as they were.

@@ -92,7 +92,8 @@ picks_some es made x xs true false q p i j h e =
     })
 picks_some es made x xs true true q p i j h e =
     subst (Picks es made (x ∷ xs)) (some_picked (picked q.op (x ∷ q.rest)) p e) (record {
-      least = least_later es made x q.op xs (λ _. less_le q.op.rank q.op.number x.rank x.number j) h.least;
+      least = least_later es made x q.op xs (λ _. less_le q.op.rank q.op.number x.rank x.number j)
+          h.least;
       beside = behind x q.op xs q.rest h.beside;
     })
 picks_some es made x xs false s q p i j h e =

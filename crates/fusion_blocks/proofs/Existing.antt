@@ -34,7 +34,8 @@ estimate_at scales m (Some x) = estimate scales m x
 -- the estimates that some turns reach
 unfoldable estimate_in : List ℕ → List Entry → ℕ → ℕ → ℕ
 estimate_in scales es zero n = 0
-estimate_in scales es (suc turns) n = estimate_at scales (estimate_in scales es turns) (node_at es n)
+estimate_in scales es (suc turns) n = estimate_at scales (estimate_in scales es turns)
+    (node_at es n)
 
 next_in : (scales : List ℕ) (es : List Entry) (k n : ℕ)
     → estimate_in scales es (suc k) n ≡ estimate_at scales (estimate_in scales es k) (node_at es n)

@@ -1,3 +1,6 @@
 pub mod WantedLemmas
+pub mod BuiltLemmas
+pub mod OutputLemmas
 pub mod StepLemmas
+pub mod PlaceLemmas
 pub mod OriginLemmas

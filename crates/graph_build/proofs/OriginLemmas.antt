@@ -4,9 +4,9 @@ use Rattle.std.specs.Prelude.{Option, None}
 use Rattle.script_program.specs.declared.made.Made.{Made}
 use Rattle.script_program.specs.Script.{Script}
 use Rattle.graph_build.specs.Origins.{origins_at, origins_from}
-use Rattle.graph_build.specs.Wanted.{wanted, wanted_at}
+use Rattle.graph_build.specs.Built.{built, built_at}
 use Rattle.graph_build.proofs.StepLemmas.{all_dropped}
-use Rattle.graph_build.proofs.WantedLemmas.{wanted_length}
+use Rattle.graph_build.proofs.BuiltLemmas.{built_length}
 
 origins_step : (ws : List (Option Made)) (i : ℕ) → i < length ws
     → origins_from i (drop i ws)
@@ -16,19 +16,19 @@ origins_step ws i h = rw (add-one, drop-cons ws i None)
 -- one more is done
 pub origins_next : (script : Script) (done more all : List ℕ) (i : ℕ)
     → i < length script.nodes
-    → more ≡ done ++ origins_at i (wanted_at script i)
-    → done ++ origins_from i (drop i (wanted script)) ≡ all
-    → more ++ origins_from (i + 1) (drop (i + 1) (wanted script)) ≡ all
+    → more ≡ done ++ origins_at i (built_at script i)
+    → done ++ origins_from i (drop i (built script)) ≡ all
+    → more ++ origins_from (i + 1) (drop (i + 1) (built script)) ≡ all
 origins_next script done more all i below pushed h =
-    let fits : i < length (wanted script) = rw wanted_length below in
+    let fits : i < length (built script) = rw built_length below in
     rw (pushed, append_assoc)
-    (ap (λ rest. done ++ rest) (sym (origins_step (wanted script) i fits)) ∙ h)
+    (ap (λ rest. done ++ rest) (sym (origins_step (built script) i fits)) ∙ h)
 
 -- all is done
 pub origins_all : (script : Script) (done all : List ℕ) (i : ℕ) → i ≡ length script.nodes
-    → done ++ origins_from i (drop i (wanted script)) ≡ all → done ≡ all
+    → done ++ origins_from i (drop i (built script)) ≡ all → done ≡ all
 origins_all script done all i end h =
     sym (append-nil done)
     ∙ ap (λ rest. done ++ origins_from i rest)
-    (sym (all_dropped (wanted script) i (end ∙ sym (wanted_length script))))
+    (sym (all_dropped (built script) i (end ∙ sym (built_length script))))
     ∙ h

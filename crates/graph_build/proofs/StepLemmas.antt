@@ -9,46 +9,46 @@ use Rattle.exec_graph.specs.declared.graph.Place.{Place}
 use Rattle.script_program.specs.declared.made.Made.{Made}
 use Rattle.script_program.specs.Script.{Script}
 use Rattle.graph_build.specs.Graphs.{last_node, behind, giving_from, next_source, nodes_at, nodes_from}
-use Rattle.graph_build.specs.Wanted.{wanted, wanted_at}
-use Rattle.graph_build.proofs.WantedLemmas.{wanted_length}
+use Rattle.graph_build.specs.Built.{built, built_at}
+use Rattle.graph_build.proofs.BuiltLemmas.{built_length}
 
 pub giving_step : (ws : List (Option Made)) (i n : ℕ) → i < length ws
     → giving_from n (drop i ws)
     ≡ last_node n (get_or ws i None) ∷ giving_from (behind n (get_or ws i None)) (drop (i + 1) ws)
 giving_step ws i n h = rw (add-one, drop-cons ws i None)
 
-pub nodes_step : (gives : ℕ → Place) (ws : List (Option Made)) (i source n : ℕ) → i < length ws
-    → nodes_from gives i source n (drop i ws)
-    ≡ nodes_at gives i source n (get_or ws i None)
-    ++ nodes_from gives (i + 1) (next_source source (get_or ws i None))
+pub nodes_step : (script : Script) (gives : ℕ → Place) (ws : List (Option Made)) (i source n : ℕ)
+    → i < length ws → nodes_from script gives i source n (drop i ws)
+    ≡ nodes_at script gives i source n (get_or ws i None)
+    ++ nodes_from script gives (i + 1) (next_source source (get_or ws i None))
     (behind n (get_or ws i None)) (drop (i + 1) ws)
-nodes_step gives ws i source n h = rw (add-one, drop-cons ws i None)
+nodes_step script gives ws i source n h = rw (add-one, drop-cons ws i None)
 
 pub all_dropped : {A : Type 0} (xs : List A) (i : ℕ) → i ≡ length xs → drop i xs ≡ []
 all_dropped xs i h = rw h (drop-length xs)
 
 pub giving_done : (script : Script) (i n : ℕ) → i ≡ length script.nodes
-    → giving_from n (drop i (wanted script)) ≡ []
+    → giving_from n (drop i (built script)) ≡ []
 giving_done script i n h =
-    ap (giving_from n) (all_dropped (wanted script) i (h ∙ sym (wanted_length script)))
+    ap (giving_from n) (all_dropped (built script) i (h ∙ sym (built_length script)))
 
 pub nodes_done : (gives : ℕ → Place) (script : Script) (i source n : ℕ)
-    → i ≡ length script.nodes → nodes_from gives i source n (drop i (wanted script)) ≡ []
+    → i ≡ length script.nodes → nodes_from script gives i source n (drop i (built script)) ≡ []
 nodes_done gives script i source n h =
-    ap (nodes_from gives i source n)
-    (all_dropped (wanted script) i (h ∙ sym (wanted_length script)))
+    ap (nodes_from script gives i source n)
+    (all_dropped (built script) i (h ∙ sym (built_length script)))
 
 -- one more is done
 pub giving_next : (script : Script) (done more all : List ℕ) (i n next : ℕ)
     → i < length script.nodes
-    → more ≡ done ++ last_node n (wanted_at script i) ∷ []
-    → next ≡ behind n (wanted_at script i)
-    → done ++ giving_from n (drop i (wanted script)) ≡ all
-    → more ++ giving_from next (drop (i + 1) (wanted script)) ≡ all
+    → more ≡ done ++ last_node n (built_at script i) ∷ []
+    → next ≡ behind n (built_at script i)
+    → done ++ giving_from n (drop i (built script)) ≡ all
+    → more ++ giving_from next (drop (i + 1) (built script)) ≡ all
 giving_next script done more all i n next below pushed ahead h =
-    let fits : i < length (wanted script) = rw wanted_length below in
+    let fits : i < length (built script) = rw built_length below in
     rw (pushed, ahead, append_assoc)
-    (ap (λ rest. done ++ rest) (sym (giving_step (wanted script) i n fits)) ∙ h)
+    (ap (λ rest. done ++ rest) (sym (giving_step (built script) i n fits)) ∙ h)
 
 -- an element below the length
 pub found_below : {A : Type 0} (xs : List A) (i : ℕ) → i < length xs
@@ -82,15 +82,15 @@ entry_of (Some entry) y h = (entry, refl, cc)
 
 -- all is done
 pub giving_all : (script : Script) (done all : List ℕ) (i n : ℕ) → i ≡ length script.nodes
-    → done ++ giving_from n (drop i (wanted script)) ≡ all → done ≡ all
+    → done ++ giving_from n (drop i (built script)) ≡ all → done ≡ all
 giving_all script done all i n end h =
     sym (append-nil done) ∙ ap (λ rest. done ++ rest) (sym (giving_done script i n end)) ∙ h
 
 pub nodes_all : (gives : ℕ → Place) (script : Script) (done all : List Entry) (i source n : ℕ)
     → i ≡ length script.nodes
-    → done ++ nodes_from gives i source n (drop i (wanted script)) ≡ all → done ≡ all
+    → done ++ nodes_from script gives i source n (drop i (built script)) ≡ all → done ≡ all
 nodes_all gives script done all i source n end h =
     sym (append-nil done)
     ∙ ap (λ rest. done ++ rest) (sym (nodes_done gives script i source n end)) ∙ h
 
-pub ruleset next_nodes = (nodes_step, wanted_length)
+pub ruleset next_nodes = (nodes_step, built_length)

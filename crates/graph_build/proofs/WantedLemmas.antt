@@ -1,12 +1,12 @@
 -- How the collection of a number is made, where it is needed.
-use Rattle.std.proofs.Common.{◌≡◌, ℕ, suc, zero, ◌+◌, true, false, [], ◌∷◌, length, get_or, refl, arith, ap, ◌∙◌, sym, subst, add-zero}
-use Rattle.std.specs.Prelude.{Option, Some, None, if◌then◌else◌, slice_get}
+use Rattle.std.proofs.Common.{◌≡◌, ℕ, suc, zero, ◌+◌, ◌<◌, ◌≤◌, Bool, true, false, List, [], ◌∷◌, length, get_or, refl, arith, ap, ◌∙◌, sym, subst, add-zero}
+use Rattle.std.specs.Prelude.{Option, Some, None, if◌then◌else◌, is_some, slice_get}
 use Rattle.std.specs.Option.{option_map}
 use Rattle.written_types.specs.Named.{Named}
 use Rattle.script_program.specs.declared.made.Made.{Made}
 use Rattle.script_program.specs.Script.{Node, Script}
 use Rattle.script_program.specs.Needed.{is_needed}
-use Rattle.graph_build.specs.Wanted.{wanted, wanted_from, wanted_at}
+use Rattle.graph_build.specs.Wanted.{needed_at, wanted, wanted_from, wanted_at}
 
 -- how a node is made, where it is needed
 abbrev pub where_needed : Script → ℕ → Node → Option Made
@@ -50,3 +50,33 @@ all_wanted script k (entry ∷ nodes) = ap suc (all_wanted script (suc k) nodes)
 
 pub wanted_length : (script : Script) → length (wanted script) ≡ length script.nodes
 wanted_length script = all_wanted script 0 script.nodes
+
+beyond_all : {A : Type 0} (xs : List A) (i : ℕ) (d : A) → length xs ≤ i → get_or xs i d ≡ d
+beyond_all [] i d h = refl
+beyond_all (x ∷ xs) zero d h = absurd (omega arith)
+beyond_all (x ∷ xs) (suc i) d h = beyond_all xs i d (omega arith)
+
+pub wanted_beyond : (script : Script) (i : ℕ) → length script.nodes ≤ i
+    → None ≡ wanted_at script i
+wanted_beyond script i h =
+    let size = wanted_length script in
+    sym (beyond_all (wanted script) i None (omega arith))
+
+by_need : (script : Script) (i : ℕ) (node : Node) (b : Bool)
+    → option_map (λ entry. entry.1) (slice_get script.nodes i) ≡ Some node
+    → is_needed script i ≡ b → needed_at script i ≡ b
+by_need script i node true h is = ap is_some (sym (wanted_needed script i node h (sym is)))
+by_need script i node false h is = ap is_some (sym (wanted_needless script i node h (sym is)))
+
+within : {A : Type 0} (xs : List A) (i : ℕ) → i < length xs → (x : A) × (slice_get xs i ≡ Some x)
+within [] i h = absurd (omega arith)
+within (x ∷ xs) zero h = (x, refl)
+within (x ∷ xs) (suc i) h = within xs i (omega arith)
+
+-- whether a collection of the script is needed
+pub needed_here : (script : Script) (i : ℕ) → i < length script.nodes
+    → needed_at script i ≡ is_needed script i
+needed_here script i below =
+    let (entry, found) = within script.nodes i below in
+    by_need script i entry.1 (is_needed script i)
+    (ap (option_map (λ (it : List ℕ × Node). it.1)) found) refl

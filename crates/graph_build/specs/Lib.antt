@@ -1,4 +1,6 @@
 pub mod Wanted
+pub mod Calls
+pub mod Built
 pub mod Nodes
 pub mod Graphs
 pub mod Origins

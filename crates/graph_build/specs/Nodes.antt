@@ -1,6 +1,8 @@
 -- The graph nodes that make a collection of a script, of which the last gives it. Each has the
--- collection as its origin, and numbers one after another.
-use Rattle.std.specs.Prelude.{ℕ, ◌+◌, Bool, true, false, List, [], ◌∷◌, map, Some, None}
+-- collection as its origin, and numbers one after another. A call is one node, with an output for
+-- each of its names, and has the first of these as its origin.
+use Rattle.std.specs.Prelude.{ℕ, ◌+◌, Bool, true, false, List, [], ◌∷◌, map, Option, Some, None}
+use Rattle.std.proofs.Common.{suc}
 use Rattle.combine_table.specs.declared.comb.Comb.TheVariants as by
 use Rattle.exec_graph.specs.declared.graph.Entry.{Entry}
 use Rattle.exec_graph.specs.declared.graph.Input.{Input}
@@ -9,10 +11,13 @@ use Rattle.exec_graph.specs.declared.graph.Node.TheVariants.{Source, Flatten, Pd
 use Rattle.exec_graph.specs.declared.graph.Place.{Place}
 use Rattle.exec_graph.specs.declared.step.Does.{Does}
 use Rattle.exec_graph.specs.declared.step.Does.TheVariants as does
-use Rattle.exec_graph.specs.Forests.{Forest, Bare, Grow}
+use Rattle.exec_graph.specs.Forests.{Branch, Forest, Twig, Bare, Grow, limb}
 use Rattle.exec_graph.specs.Meaning.{place}
 use Rattle.script_program.specs.declared.made.Made.{Made}
 use Rattle.script_program.specs.declared.made.Made.TheVariants as made
+use Rattle.script_program.specs.Script.{Script}
+use Rattle.graph_build.specs.Calls.{needed_from, next_if, number_if, other_names, output_numbers}
+use Rattle.graph_build.specs.Wanted.{needed_at}
 
 -- ---- one node
 
@@ -34,6 +39,31 @@ step origin does input = Pdo input (one_step origin false does)
 
 abbrev pub last_step : ℕ → Does → Place → Node
 last_step origin does input = Pdo input (one_step origin true does)
+
+-- an output on which no step is
+abbrev pub bud : Option ℕ → Twig
+bud out = record { out = out; kids = Bare }
+
+-- the call of a function, whose first name has the number `origin`. Each output has a number where
+-- it is needed: whether the first is, and whether each of the others is.
+abbrev pub call_branch : ℕ → ℕ → Bool → List Bool → Branch
+call_branch origin function first others = record {
+  origin = origin;
+  last = true;
+  does = does.Call function;
+  first = bud (number_if first 0);
+  more = map bud (output_numbers (next_if first 0) others);
+}
+
+abbrev pub call_step : ℕ → ℕ → Bool → List Bool → Forest
+call_step origin function first others = limb (call_branch origin function first others) Bare
+
+-- the call of a function in a script, on what is there
+abbrev pub call_in : Script → ℕ → ℕ → Place → Node
+call_in script origin function input =
+    Pdo input
+    (call_step origin function (needed_at script origin)
+    (needed_from script (suc origin) (other_names script function)))
 
 -- the groups behind the last step of a collection
 abbrev pub groups : ℕ → Place → Node
@@ -87,20 +117,21 @@ abbrev pub inputs_of : Made → ℕ
 inputs_of (made.Input file columns) = 1
 inputs_of _ = 0
 
--- the nodes of the collection `origin` from number n on, where these places give the collections of
--- the script, and `source` is the number of the next input
-abbrev pub made_nodes : (ℕ → Place) → ℕ → ℕ → ℕ → Made → List Entry
-made_nodes gives origin source n (made.Input file columns) =
+-- the nodes of the collection `origin` of a script from number n on, where these places give the
+-- script's collections, and `source` is the number of the next input
+abbrev pub made_nodes : Script → (ℕ → Place) → ℕ → ℕ → ℕ → Made → List Entry
+made_nodes script gives origin source n (made.Input file columns) =
     entry n (Source (read_input source)) ∷ []
-made_nodes gives origin source n (made.Do input function output) =
-    entry n (last_step origin (does.Call function) (gives input)) ∷ []
-made_nodes gives origin source n (made.Group input) =
+made_nodes script gives origin source n (made.Do input function output) =
+    entry n (call_in script origin function (gives input)) ∷ []
+made_nodes script gives origin source n (made.Group input) =
     entry n (Gbk (gives input) origin true None) ∷ []
-made_nodes gives origin source n (made.Combine input by) =
+made_nodes script gives origin source n (made.Combine input by) =
     entry n (last_step origin (does.Combine by) (gives input)) ∷ []
-made_nodes gives origin source n (made.Flatten inputs) =
+made_nodes script gives origin source n (made.Flatten inputs) =
     entry n (Flatten (map gives inputs)) ∷ []
-made_nodes gives origin source n (made.Count input) = count_nodes origin n (gives input)
-made_nodes gives origin source n (made.Join left right) =
+made_nodes script gives origin source n (made.Count input) = count_nodes origin n (gives input)
+made_nodes script gives origin source n (made.Join left right) =
     join_nodes origin n (gives left) (gives right)
-made_nodes gives origin source n (made.Top many input) = top_nodes many origin n (gives input)
+made_nodes script gives origin source n (made.Top many input) =
+    top_nodes many origin n (gives input)

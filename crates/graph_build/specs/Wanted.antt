@@ -1,5 +1,5 @@
 -- What is built of a script: its needed collections.
-use Rattle.std.specs.Prelude.{ℕ, List, [], ◌∷◌, Option, Some, None, if◌then◌else◌, slice_index_or}
+use Rattle.std.specs.Prelude.{ℕ, Bool, List, [], ◌∷◌, Option, Some, None, if◌then◌else◌, is_some, slice_index_or}
 use Rattle.std.proofs.Common.{suc}
 use Rattle.written_types.specs.Named.{Named}
 use Rattle.script_program.specs.declared.made.Made.{Made}
@@ -20,3 +20,7 @@ wanted script = wanted_from script 0 script.nodes
 -- how the collection of that number is made, where it is needed
 abbrev pub wanted_at : Script → ℕ → Option Made
 wanted_at script number = slice_index_or (wanted script) number None
+
+-- whether there is a collection of that number that is needed
+abbrev pub needed_at : Script → ℕ → Bool
+needed_at script number = is_some (wanted_at script number)

@@ -1,10 +1,10 @@
 // The collection that each node is built for.
 ghost use Rattle.std.specs.Prelude.{◌≡◌, ◌+◌, ◌<◌, ◌++◌, length, replicate, IfOk, OnOk};
+ghost use Rattle.graph_build.specs.Built.{built_at as built_in};
 ghost use Rattle.graph_build.specs.Origins as spec;
-ghost use Rattle.graph_build.specs.Wanted.{wanted_at as wanted_in};
 
+use crate::built::built_at;
 use crate::numbers::{before_last, number_of};
-use crate::wanted::wanted_at;
 use script_program::Program;
 use std::alloc::{AllocError, Global};
 
@@ -26,9 +26,9 @@ fn push_origins(program: &Program, origin: u32, origins: &mut Vec<u32>) -> Resul
     requires { origin < length program.now.script.nodes }
     ensures { OnOk result (origins.new.items
         ≡ origins.old.items
-        ++ spec.origins_at origin (wanted_in program.now.script origin)) }
+        ++ spec.origins_at origin (built_in program.now.script origin)) }
 {
-    match wanted_at(program, origin) {
+    match built_at(program, origin)? {
         None => Ok(()),
         Some(made) => push_times(before_last(made) + 1, origin, origins),
     }

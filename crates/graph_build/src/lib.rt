@@ -4,13 +4,20 @@
 //! each needed collection, in the order of the script, the nodes that make it (specs/Nodes.antt),
 //! numbered one after another from 0. Counts, joins and greatest members are made of steps, groups
 //! and combinations; of each of these the last node alone gives what the collection is.
+//!
+//! A call of a function is one node, at the first of its names (specs/Built.antt), where one of
+//! them is needed. It has an output for each name, in order; those that are needed have numbers,
+//! from 0 on, and no others are read (specs/Calls.antt).
 #![tactic(auto)]
 
 mod builder;
+mod built;
 mod built_for;
 mod nodes;
 mod numbers;
 mod operations;
+mod outputs;
+mod places;
 mod wanted;
 
 pub use builder::build;

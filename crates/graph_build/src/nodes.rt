@@ -1,12 +1,16 @@
-// Single nodes: inputs, steps of one output, and groups.
+// Single nodes: inputs, steps, calls and groups.
 ghost use Rattle.std.specs.Prelude.{◌≡◌, [], ◌∷◌, ◌++◌, Some, IfOk, OnOk};
 ghost use Rattle.exec_graph.specs.declared.graph.Node.TheVariants.{Pdo, Source};
 ghost use Rattle.exec_graph.specs.Forests.{Bare, grown};
 ghost use Rattle.exec_graph.specs.Twigs.{twig};
 ghost use Rattle.graph_build.specs.Nodes as spec;
 
+use crate::numbers::number_of;
+use crate::outputs::{next_if, other_names, output, outputs_from};
+use crate::wanted::needed_at;
 use exec_graph::{Does, Entry, Input, Node, Output, Place, Roots, Step};
 use flume_value::Pile;
+use script_program::Program;
 use std::alloc::{AllocError, Global};
 
 /// Adds a node under its number.
@@ -44,6 +48,26 @@ pub(crate) fn last_step(
     ensures { IfOk result (λ node. node ≡ spec.last_step origin does input) }
 {
     let step = Step::new(origin, true, does, first_output(alloc), Vec::new(alloc));
+    only(alloc, input, step)
+}
+
+/// The call of a function, whose first name has that number.
+pub(crate) fn call(
+    alloc: Global,
+    program: &Program,
+    first: u32,
+    function: usize,
+    input: Place,
+) -> Result<Node, AllocError>
+    ensures { IfOk result (λ node. node ≡ spec.call_in program.now.script first function input) }
+{
+    let does = Does::Call(number_of(function)?);
+    let others = other_names(program, function)?;
+    let name = first as usize;
+    let needed = needed_at(program, name);
+    let next = next_if(needed, 0)?;
+    let more = outputs_from(alloc, program, next, name + 1, name + 1 + others as usize)?;
+    let step = Step::new(first, true, does, output(alloc, needed, 0), more);
     only(alloc, input, step)
 }
 

@@ -1,10 +1,10 @@
 // The numbers of nodes, in the order in which they are built.
 ghost use Rattle.std.specs.Prelude.{◌≡◌, ◌+◌, ◌<◌, [], ◌∷◌, ◌++◌, length, IfOk, OnOk};
+ghost use Rattle.graph_build.specs.Built.{built_at as built_in};
 ghost use Rattle.graph_build.specs.Graphs as spec;
 ghost use Rattle.graph_build.specs.Nodes.{before_last as before_last_of, first_of as place_of, inputs_of as inputs_in};
-ghost use Rattle.graph_build.specs.Wanted.{wanted_at as wanted_in};
 
-use crate::wanted::wanted_at;
+use crate::built::built_at;
 use exec_graph::Place;
 use script_program::{Made, Program};
 use std::alloc::{AllocError, Global};
@@ -51,7 +51,7 @@ pub(crate) fn inputs_of(made: &Made) -> u32
     }
 }
 
-/// The number of the node that gives each collection.
+/// The number of the last node of each collection.
 pub(crate) fn giving(alloc: Global, program: &Program, count: u32) -> Result<Vec<u32>, AllocError>
     requires { count ≡ length program.now.script.nodes }
     ensures { IfOk result (λ giving. giving.items ≡ spec.giving program.now.script) }
@@ -75,11 +75,11 @@ fn push_giving(
     requires { number < length program.now.script.nodes }
     ensures pushed { OnOk result (giving.new.items
         ≡ giving.old.items
-        ++ spec.last_node next (wanted_in program.now.script number) ∷ []) }
+        ++ spec.last_node next (built_in program.now.script number) ∷ []) }
     ensures next { IfOk result (λ behind.
-        behind ≡ spec.behind next (wanted_in program.now.script number)) }
+        behind ≡ spec.behind next (built_in program.now.script number)) }
 {
-    match wanted_at(program, number) {
+    match built_at(program, number)? {
         None => {
             giving.push(0)?;
             Ok(next)
@@ -90,16 +90,6 @@ fn push_giving(
             let behind = ahead_of(last, 1)?;
             Ok(behind)
         }
-    }
-}
-
-/// The place of the collection of a number.
-pub(crate) fn place_in(giving: &[u32], number: usize) -> Place
-    ensures { result ≡ spec.place_in giving.now number }
-{
-    match giving.get(number) {
-        Some(node) => first_of(*node),
-        None => first_of(0),
     }
 }
 

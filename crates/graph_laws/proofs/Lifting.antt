@@ -122,7 +122,8 @@ node_at-marked s (e ∷ es) n = by (node_at-marked s es n) (eqb e.number n) refl
     by f true i = ap (λ (k : ℕ). Some (marked (s k) e.node)) (eqb-true e.number n i)
     by f false i = f
 
-pub any-marked : (t : Node → Bool) → ((h : Option Comb → Option Comb) (x : Node) → t (marked h x) ≡ t x)
+pub any-marked : (t : Node → Bool) → ((h : Option Comb → Option Comb) (x : Node) → t (marked h x)
+    ≡ t x)
     → (s : ℕ → Option Comb → Option Comb) (es : List Entry)
     → any_node t (map (marked_entry s) es) ≡ any_node t es
 any-marked t h s [] = refl

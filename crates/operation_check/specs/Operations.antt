@@ -1,5 +1,6 @@
--- What collections operations make, each by its rules in order; the first fault with its line.
-use Rattle.std.specs.Prelude.{ℕ, Bool, List, [], ◌∷◌, ◌++◌, ◌&&◌, Option, Some, None, Ok, Err}
+-- What operations make, one collection for each name, each by its rules in order; the first fault
+-- with its line.
+use Rattle.std.specs.Prelude.{ℕ, suc, Bool, List, [], ◌∷◌, ◌++◌, ◌&&◌, Option, Some, None, Ok, Err}
 use Rattle.std.specs.Prelude.{if◌then◌else◌, codes, map}
 use Rattle.std.specs.List.{list_all}
 use Rattle.std.specs.Str.{bytes_eq}
@@ -20,8 +21,8 @@ use Rattle.combine_table.specs.declared.comb.Comb.{Comb}
 use Rattle.combine_table.specs.declared.comb.Comb.TheVariants as comb
 use Rattle.written_types.specs.Answer.{Checked, ◌>>=◌, unless, or_fault}
 use Rattle.script_program.specs.declared.made.Made.TheVariants as made
-use Rattle.operation_check.specs.Numbers.{number_within}
-use Rattle.script_program.specs.Script.{Node, State, Operand, find_node, Callee, find_function}
+use Rattle.expression_check.specs.Numbers.{number_within}
+use Rattle.script_program.specs.Script.{Making, State, Operand, find_node, Callee, find_function}
 
 -- ---- parts of types
 
@@ -71,21 +72,34 @@ all_same t sources = list_all (λ source. type_eq t source.type) sources
 
 -- ---- operations that have no rules of their own
 
-abbrev pub count_of : Operand → Node
+abbrev pub count_of : Operand → Making
 count_of source = record {
   made = made.Count source.number;
   type = table_of source.type ty.Int;
 }
 
-abbrev pub top_of : ℕ → Operand → Node
+abbrev pub top_of : ℕ → Operand → Making
 top_of number source = record { made = made.Top number source.number; type = source.type }
+
+-- what a function emits from each member, to its outputs from one on, which have these types
+abbrev pub outputs_from : ℕ → ℕ → ℕ → List Ty → List Making
+outputs_from source function output [] = []
+outputs_from source function output (t ∷ types) =
+    record { made = made.Do source function output; type = t }
+    ∷ outputs_from source function (suc output) types
+
+-- the one collection of an operation, as the list of those that it makes
+abbrev pub alone : Checked Making → Checked (List Making)
+alone making = do
+  one ← making
+  Ok (one ∷ [])
 
 -- each fault is told on this line
 module _ (line : ℕ) where
   -- ---- operands
 
   abbrev pub collection : List ℕ → State → Checked Operand
-  collection name s = or_fault line Unknown (find_node name s.nodes)
+  collection name s = or_fault line Unknown (find_node name s)
 
   abbrev pub callee : List ℕ → State → Checked Callee
   callee name s = or_fault line Unknown (find_function name s.functions)
@@ -129,38 +143,32 @@ module _ (line : ℕ) where
     same ← unless line Mistyped (all_same first.type others)
     Ok first.type
 
-  -- the type of the one output
-  abbrev pub one_output : List Ty → Checked Ty
-  one_output (t ∷ []) = Ok t
-  one_output _ = Err (Refused line Mistyped)
-
   -- ---- operations on them
 
-  -- what a function of one output emits from each member
-  abbrev pub do_of : Operand → Callee → Checked Node
+  -- what a function emits from each member, to each of its outputs in order
+  abbrev pub do_of : Operand → Callee → Checked (List Making)
   do_of source function = do
     same ← unless line Mistyped (type_eq source.type function.takes)
-    t ← one_output function.gives
-    Ok (record { made = made.Do source.number function.number 0; type = t })
+    Ok (outputs_from source.number function.number 0 function.gives)
 
-  abbrev pub group_of : Operand → Checked Node
+  abbrev pub group_of : Operand → Checked Making
   group_of source = do
     pair ← pair_of source.type
     Ok (record { made = made.Group source.number; type = table_of pair.key (ty.List pair.value) })
 
-  abbrev pub combine_of : Operand → Comb → Checked Node
+  abbrev pub combine_of : Operand → Comb → Checked Making
   combine_of source by = do
     pair ← pair_of source.type
     member ← member_of pair.value
     value ← or_fault line Mistyped (combined_type by member)
     Ok (record { made = made.Combine source.number by; type = table_of pair.key value })
 
-  abbrev pub flatten_of : List Operand → Checked Node
+  abbrev pub flatten_of : List Operand → Checked Making
   flatten_of sources = do
     t ← one_type sources
     Ok (record { made = made.Flatten (numbers sources); type = t })
 
-  abbrev pub join_of : Operand → Operand → Checked Node
+  abbrev pub join_of : Operand → Operand → Checked Making
   join_of left right = do
     lefts ← pair_of left.type
     rights ← pair_of right.type
@@ -170,40 +178,56 @@ module _ (line : ℕ) where
       type = table_of lefts.key (sides_of lefts.value rights.value);
     })
 
-  -- the members of these collections
-  abbrev pub flattened : List (List ℕ) → State → Checked Node
-  flattened names s = do
-    all ← collections_behind [] names s
-    flatten_of all
+  -- ---- operations as they are written
 
   -- what this function emits from each member of this collection
-  abbrev pub done : List ℕ → List ℕ → State → Checked Node
+  abbrev pub done : List ℕ → List ℕ → State → Checked (List Making)
   done source function s = do
     one ← collection source s
     by ← callee function s
     do_of one by
 
-  -- ---- operations as they are written
-
-  -- the collection that an operation makes
-  abbrev pub made_by : Operation → State → Checked Node
-  made_by (operation.Do source function) s = done source function s
-  made_by (operation.Group source) s = do
+  abbrev pub grouped : List ℕ → State → Checked Making
+  grouped source s = do
     one ← collection source s
     group_of one
-  made_by (operation.Combine source combiner) s = do
+
+  abbrev pub combined : List ℕ → Combiner → State → Checked Making
+  combined source combiner s = do
     one ← collection source s
     by ← comb_of combiner
     combine_of one by
-  made_by (operation.Flatten sources) s = flattened sources s
-  made_by (operation.Count source) s = do
+
+  -- the members of these collections
+  abbrev pub flattened : List (List ℕ) → State → Checked Making
+  flattened names s = do
+    all ← collections_behind [] names s
+    flatten_of all
+
+  abbrev pub counted : List ℕ → State → Checked Making
+  counted source s = do
     one ← collection source s
     Ok (count_of one)
-  made_by (operation.Join left right) s = do
+
+  abbrev pub joined : List ℕ → List ℕ → State → Checked Making
+  joined left right s = do
     one ← collection left s
     other ← collection right s
     join_of one other
-  made_by (operation.Top digits source) s = do
+
+  -- so many of the greatest members
+  abbrev pub greatest : List ℕ → List ℕ → State → Checked Making
+  greatest digits source s = do
     one ← collection source s
     number ← top_number digits
     Ok (top_of number one)
+
+  -- the collections that an operation makes, one for each name
+  abbrev pub made_by : Operation → State → Checked (List Making)
+  made_by (operation.Do source function) s = done source function s
+  made_by (operation.Group source) s = alone (grouped source s)
+  made_by (operation.Combine source combiner) s = alone (combined source combiner s)
+  made_by (operation.Flatten sources) s = alone (flattened sources s)
+  made_by (operation.Count source) s = alone (counted source s)
+  made_by (operation.Join left right) s = alone (joined left right s)
+  made_by (operation.Top digits source) s = alone (greatest digits source s)

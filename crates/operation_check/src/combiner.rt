@@ -4,7 +4,7 @@ ghost use Rattle.type_table.specs.Table.{type_at, tree_of, IsWithin, Extends};
 ghost use Rattle.written_types.specs.Answer.{Gives, or_fault};
 ghost use Rattle.operation_check.specs.Operations as spec;
 
-use crate::numbers::top_number;
+use crate::top::top_number;
 use combine_table::Comb;
 use flume_grammar::{Combiner, ScriptFault, ScriptKind};
 use script_program::State;

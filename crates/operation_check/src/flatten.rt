@@ -5,13 +5,13 @@ ghost use Rattle.flume_types.specs.declared.types.Ty.{Ty};
 ghost use Rattle.type_table.specs.Table.{type_at};
 ghost use Rattle.written_types.specs.Answer.{Gives};
 ghost use Rattle.operation_check.specs.Operations as spec;
-ghost use Rattle.script_program.specs.Program.{node_in};
+ghost use Rattle.script_program.specs.Program.{making_in};
 ghost use Rattle.script_program.specs.Held.{operand_in};
 
 use crate::operation::collection;
 use flume_grammar::{ScriptFault, ScriptKind};
 use flume_value::{Pile, Str};
-use script_program::{Made, Node, Operand, State};
+use script_program::{Made, Making, Operand, State};
 use std::alloc::{AllocError, Global};
 use type_table::{TypeId, Types};
 use written_types::refused;
@@ -22,10 +22,10 @@ pub fn flatten(
     line: u32,
     sources: &[Str],
     state: &State,
-) -> Result<Node, ScriptFault>
-    ensures gives { Gives (node_in state.now.types) result
+) -> Result<Making, ScriptFault>
+    ensures gives { Gives (making_in state.now.types) result
         (spec.flattened line sources.now state.now.state) }
-    ensures within { IfOk result (λ node. node.ty < length state.now.types) }
+    ensures within { IfOk result (λ making. making.ty < length state.now.types) }
 {
     let sources = collections(alloc, line, sources, state)?;
     flatten_of(alloc, line, sources.as_slice(), state.types())
@@ -37,15 +37,15 @@ fn flatten_of(
     line: u32,
     sources: &[Operand],
     types: &Types,
-) -> Result<Node, ScriptFault>
+) -> Result<Making, ScriptFault>
     requires { All (λ source. source.ty < length types.now) sources.now }
-    ensures gives { Gives (node_in types.now) result
+    ensures gives { Gives (making_in types.now) result
         (spec.flatten_of line (map (operand_in types.now) sources.now)) }
-    ensures within { IfOk result (λ node. node.ty < length types.now) }
+    ensures within { IfOk result (λ making. making.ty < length types.now) }
 {
     let ty = one_type(line, sources, types)?;
     let sources = numbers(alloc, sources)?;
-    Ok(Node {
+    Ok(Making {
         made: Made::Flatten { sources },
         ty,
     })

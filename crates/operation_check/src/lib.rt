@@ -1,17 +1,16 @@
 //! The rules of operations.
 //!
-//! `made_by` answers the collection that an operation makes of those that a script has defined so
-//! far, or the operation's first fault, exactly as `specs/Operations.antt` defines: how it is made,
-//! and the type of its members. `collection` finds a collection by its name, and `number_within`
-//! reads a number within limits, as `specs/Numbers.antt` defines.
+//! `made_by` answers the collections that an operation makes of those that a script has defined so
+//! far, one for each name, or the operation's first fault, exactly as `specs/Operations.antt`
+//! defines: how each is made, and the type of its members. `collection` finds a collection by its
+//! name.
 #![tactic(auto)]
 
 mod combiner;
 mod flatten;
-mod numbers;
 mod operation;
 mod pairs;
 mod sides;
+mod top;
 
-pub use numbers::number_within;
 pub use operation::{collection, made_by};

@@ -1,67 +1,68 @@
-// The check of each operation: the collection that it makes, or its first fault.
+// The check of each operation: the collections that it makes, or its first fault.
 ghost use Rattle.std.specs.Prelude.{◌≡◌, ℕ, ◌<◌, List, length, map, IfOk};
+ghost use Rattle.std.specs.List.{All};
 ghost use Rattle.flume_types.specs.declared.types.Ty.{Ty};
 ghost use Rattle.type_table.specs.Table.{type_at, Extends};
-ghost use Rattle.written_types.specs.Answer.{Gives};
+ghost use Rattle.written_types.specs.Answer.{Checked, Gives};
 ghost use Rattle.expression_types.specs.Held.{AreTypes};
 ghost use Rattle.operation_check.specs.Operations as spec;
-ghost use Rattle.script_program.specs.Program.{HasTypes, node_in};
+ghost use Rattle.script_program.specs.Program.{HasTypes, making_in};
 ghost use Rattle.script_program.specs.Held.{operand_in, callee_in};
+ghost use Rattle.script_program.specs.Script.{Making as Meant};
 
 use crate::combiner::{comb_of, combined};
 use crate::flatten::flatten;
-use crate::numbers::top_number;
 use crate::pairs::{member_of, pair_of};
 use crate::sides::sides;
+use crate::top::top_number;
 use combine_table::Comb;
-use flume_grammar::{Operation, ScriptFault, ScriptKind};
-use flume_value::Str;
-use script_program::{Callee, Made, Node, Operand, State};
+use flume_grammar::{Combiner, Operation, ScriptFault, ScriptKind};
+use flume_value::{Pile, Str};
+use script_program::{Callee, Made, Making, Operand, State};
 use std::alloc::{AllocError, Global};
 use type_table::{Shape, TypeId};
 use written_types::refused;
 
-/// The collection that an operation makes. Nothing else changes.
+/// The collections that an operation makes, one for each name. Nothing else changes.
 pub fn made_by(
     alloc: Global,
     line: u32,
     by: &Operation,
     state: &mut State,
-) -> Result<Node, ScriptFault>
-    ensures gives { Gives (node_in state.new.types) result
+) -> Result<Pile<Making>, ScriptFault>
+    ensures gives { Gives (map (making_in state.new.types)) result
         (spec.made_by line by.now state.old.state) }
-    ensures within { IfOk result (λ node. node.ty < length state.new.types) }
+    ensures within { IfOk result (All (λ making. making.ty < length state.new.types)) }
     ensures extends { Extends state.old.types state.new.types }
     ensures state { state.new.state ≡ state.old.state }
 {
     match by {
-        Operation::Do(source, function) => done(line, source, function, state),
-        Operation::Group(source) => {
-            let source = collection(line, source, state)?;
-            group_of(alloc, line, source, state)
-        }
+        Operation::Do(source, function) => done(alloc, line, source, function, state),
+        Operation::Group(source) => alone(alloc, grouped(alloc, line, source, state)),
         Operation::Combine(source, combiner) => {
-            let source = collection(line, source, state)?;
-            let by = comb_of(line, combiner)?;
-            combine_of(alloc, line, source, by, state)
+            alone(alloc, combination(alloc, line, source, combiner, state))
         }
-        Operation::Flatten(sources) => flatten(alloc, line, sources.as_slice(), state),
-        Operation::Count(source) => {
-            let source = collection(line, source, state)?;
-            let node = count_of(alloc, source, state)?;
-            Ok(node)
+        Operation::Flatten(sources) => {
+            alone(alloc, flatten(alloc, line, sources.as_slice(), state))
         }
-        Operation::Join(left, right) => {
-            let left = collection(line, left, state)?;
-            let right = collection(line, right, state)?;
-            join_of(alloc, line, left, right, state)
-        }
-        Operation::Top(digits, source) => {
-            let source = collection(line, source, state)?;
-            let number = top_number(line, digits)?;
-            Ok(top_of(number, source))
-        }
+        Operation::Count(source) => alone(alloc, counted(alloc, line, source, state)),
+        Operation::Join(left, right) => alone(alloc, joined(alloc, line, left, right, state)),
+        Operation::Top(digits, source) => alone(alloc, greatest(line, digits, source, state)),
     }
+}
+
+/// The one collection that an operation makes.
+fn alone(alloc: Global, making: Result<Making, ScriptFault>) -> Result<Pile<Making>, ScriptFault>
+    ensures gives { (types : List Ty) (meant : Checked Meant) →
+        Gives (making_in types) making meant →
+        Gives (map (making_in types)) result (spec.alone meant) }
+    ensures within { (n : ℕ) → IfOk making (λ making. making.ty < n) →
+        IfOk result (All (λ making. making.ty < n)) }
+{
+    let making = making?;
+    let mut makings = Pile::new(alloc);
+    makings.push(making)?;
+    Ok(makings)
 }
 
 /// The collection of a name.
@@ -89,51 +90,140 @@ fn callee<'a>(line: u32, name: &Str, state: &'a State) -> Result<Callee<'a>, Scr
 }
 
 /// What a function emits from each member of a collection, by their names.
-fn done(line: u32, source: &Str, function: &Str, state: &State) -> Result<Node, ScriptFault>
-    ensures gives { Gives (node_in state.now.types) result
+fn done(
+    alloc: Global,
+    line: u32,
+    source: &Str,
+    function: &Str,
+    state: &State,
+) -> Result<Pile<Making>, ScriptFault>
+    ensures gives { Gives (map (making_in state.now.types)) result
         (spec.done line source.now function.now state.now.state) }
-    ensures within { IfOk result (λ node. node.ty < length state.now.types) }
+    ensures within { IfOk result (All (λ making. making.ty < length state.now.types)) }
 {
     let source = collection(line, source, state)?;
     let function = callee(line, function, state)?;
-    do_of(line, source, function, state)
+    do_of(alloc, line, source, function, state)
 }
 
-/// What a function of one output emits from each member.
+/// What a function emits from each member, to each of its outputs in order.
 fn do_of(
+    alloc: Global,
     line: u32,
     source: Operand,
     function: Callee<'_>,
     state: &State,
-) -> Result<Node, ScriptFault>
+) -> Result<Pile<Making>, ScriptFault>
     requires source { source.ty < length state.now.types }
     requires function { HasTypes state.now.types function.signature.now }
-    ensures gives { Gives (node_in state.now.types) result (spec.do_of line
+    ensures gives { Gives (map (making_in state.now.types)) result (spec.do_of line
         (operand_in state.now.types source) (callee_in state.now.types function.entry)) }
-    ensures within { IfOk result (λ node. node.ty < length state.now.types) }
+    ensures within { IfOk result (All (λ making. making.ty < length state.now.types)) }
 {
     if !state.types().same(source.ty, function.signature.takes) {
         return Err(refused(line, ScriptKind::Mistyped));
     }
-    let ty = one_output(line, function.signature.gives.as_slice())?;
-    let made = Made::Do {
-        source: source.number,
-        function: function.number,
-        output: 0,
-    };
-    Ok(Node { made, ty })
+    let gives = function.signature.gives.as_slice();
+    Ok(outputs(alloc, source.number, function.number, gives)?)
 }
 
-/// The type of the one output.
-fn one_output(line: u32, gives: &[TypeId]) -> Result<TypeId, ScriptFault>
-    ensures gives { (types : List Ty) →
-        Gives (type_at types) result (spec.one_output line (map (type_at types) gives.now)) }
-    ensures within { (n : ℕ) → AreTypes n gives.now → IfOk result (λ id. id < n) }
+/// What a function emits from each member, to outputs of these types.
+fn outputs(
+    alloc: Global,
+    source: usize,
+    function: usize,
+    gives: &[TypeId],
+) -> Result<Pile<Making>, AllocError>
+    ensures makings { (types : List Ty) → IfOk result (λ makings. map (making_in types) makings
+        ≡ spec.outputs_from source function 0 (map (type_at types) gives.now)) }
+    ensures within { (n : ℕ) → AreTypes n gives.now →
+        IfOk result (All (λ making. making.ty < n)) }
 {
-    match gives {
-        [id] => Ok(*id),
-        _ => Err(refused(line, ScriptKind::Mistyped)),
+    let mut makings = Pile::new(alloc);
+    for output in 0..gives.len() {
+        let made = Made::Do {
+            source,
+            function,
+            output,
+        };
+        let ty = gives[output];
+        makings.push(Making { made, ty })?;
     }
+    Ok(makings)
+}
+
+/// The groups of a table, by its name.
+fn grouped(alloc: Global, line: u32, source: &Str, state: &mut State) -> Result<Making, ScriptFault>
+    ensures gives { Gives (making_in state.new.types) result
+        (spec.grouped line source.now state.old.state) }
+    ensures within { IfOk result (λ making. making.ty < length state.new.types) }
+    ensures extends { Extends state.old.types state.new.types }
+    ensures state { state.new.state ≡ state.old.state }
+{
+    let source = collection(line, source, state)?;
+    group_of(alloc, line, source, state)
+}
+
+/// The combined lists of groups, by their name.
+fn combination(
+    alloc: Global,
+    line: u32,
+    source: &Str,
+    combiner: &Combiner,
+    state: &mut State,
+) -> Result<Making, ScriptFault>
+    ensures gives { Gives (making_in state.new.types) result
+        (spec.combined line source.now combiner.now state.old.state) }
+    ensures within { IfOk result (λ making. making.ty < length state.new.types) }
+    ensures extends { Extends state.old.types state.new.types }
+    ensures state { state.new.state ≡ state.old.state }
+{
+    let source = collection(line, source, state)?;
+    let by = comb_of(line, combiner)?;
+    combine_of(alloc, line, source, by, state)
+}
+
+/// The distinct members of a collection, by its name, with how often each occurs.
+fn counted(alloc: Global, line: u32, source: &Str, state: &mut State) -> Result<Making, ScriptFault>
+    ensures gives { Gives (making_in state.new.types) result
+        (spec.counted line source.now state.old.state) }
+    ensures within { IfOk result (λ making. making.ty < length state.new.types) }
+    ensures extends { Extends state.old.types state.new.types }
+    ensures state { state.new.state ≡ state.old.state }
+{
+    let source = collection(line, source, state)?;
+    let making = count_of(alloc, source, state)?;
+    Ok(making)
+}
+
+/// The lists of both sides, by key, by the names of the sides.
+fn joined(
+    alloc: Global,
+    line: u32,
+    left: &Str,
+    right: &Str,
+    state: &mut State,
+) -> Result<Making, ScriptFault>
+    ensures gives { Gives (making_in state.new.types) result
+        (spec.joined line left.now right.now state.old.state) }
+    ensures within { IfOk result (λ making. making.ty < length state.new.types) }
+    ensures extends { Extends state.old.types state.new.types }
+    ensures state { state.new.state ≡ state.old.state }
+{
+    let left = collection(line, left, state)?;
+    let right = collection(line, right, state)?;
+    join_of(alloc, line, left, right, state)
+}
+
+/// So many of the greatest members of a collection, by its name.
+fn greatest(line: u32, digits: &Str, source: &Str, state: &State) -> Result<Making, ScriptFault>
+    ensures gives { Gives (making_in state.now.types) result
+        (spec.greatest line digits.now source.now state.now.state) }
+    ensures within { IfOk result (λ making. making.ty < length state.now.types) }
+{
+    let source = collection(line, source, state)?;
+    let number = top_number(line, digits)?;
+    Ok(top_of(number, source))
 }
 
 /// The groups of a table.
@@ -142,11 +232,11 @@ fn group_of(
     line: u32,
     source: Operand,
     state: &mut State,
-) -> Result<Node, ScriptFault>
+) -> Result<Making, ScriptFault>
     requires { source.ty < length state.old.types }
-    ensures gives { Gives (node_in state.new.types) result
+    ensures gives { Gives (making_in state.new.types) result
         (spec.group_of line (operand_in state.old.types source)) }
-    ensures within { IfOk result (λ node. node.ty < length state.new.types) }
+    ensures within { IfOk result (λ making. making.ty < length state.new.types) }
     ensures extends { Extends state.old.types state.new.types }
     ensures state { state.new.state ≡ state.old.state }
 {
@@ -156,7 +246,7 @@ fn group_of(
     let made = Made::Group {
         source: source.number,
     };
-    Ok(Node { made, ty })
+    Ok(Making { made, ty })
 }
 
 /// The combined lists of groups.
@@ -166,11 +256,11 @@ fn combine_of(
     source: Operand,
     by: Comb,
     state: &mut State,
-) -> Result<Node, ScriptFault>
+) -> Result<Making, ScriptFault>
     requires { source.ty < length state.old.types }
-    ensures gives { Gives (node_in state.new.types) result
+    ensures gives { Gives (making_in state.new.types) result
         (spec.combine_of line (operand_in state.old.types source) by) }
-    ensures within { IfOk result (λ node. node.ty < length state.new.types) }
+    ensures within { IfOk result (λ making. making.ty < length state.new.types) }
     ensures extends { Extends state.old.types state.new.types }
     ensures state { state.new.state ≡ state.old.state }
 {
@@ -182,15 +272,15 @@ fn combine_of(
         source: source.number,
         by,
     };
-    Ok(Node { made, ty })
+    Ok(Making { made, ty })
 }
 
 /// The distinct members, with how often each occurs.
-fn count_of(alloc: Global, source: Operand, state: &mut State) -> Result<Node, AllocError>
+fn count_of(alloc: Global, source: Operand, state: &mut State) -> Result<Making, AllocError>
     requires { source.ty < length state.old.types }
-    ensures ok { IfOk result (λ node. node_in state.new.types node
+    ensures ok { IfOk result (λ making. making_in state.new.types making
         ≡ spec.count_of (operand_in state.old.types source)) }
-    ensures within { IfOk result (λ node. node.ty < length state.new.types) }
+    ensures within { IfOk result (λ making. making.ty < length state.new.types) }
     ensures extends { Extends state.old.types state.new.types }
     ensures state { state.new.state ≡ state.old.state }
 {
@@ -199,7 +289,7 @@ fn count_of(alloc: Global, source: Operand, state: &mut State) -> Result<Node, A
     let made = Made::Count {
         source: source.number,
     };
-    Ok(Node { made, ty })
+    Ok(Making { made, ty })
 }
 
 /// The lists of both sides, by key.
@@ -209,12 +299,12 @@ fn join_of(
     left: Operand,
     right: Operand,
     state: &mut State,
-) -> Result<Node, ScriptFault>
+) -> Result<Making, ScriptFault>
     requires left { left.ty < length state.old.types }
     requires right { right.ty < length state.old.types }
-    ensures gives { Gives (node_in state.new.types) result (spec.join_of line
+    ensures gives { Gives (making_in state.new.types) result (spec.join_of line
         (operand_in state.old.types left) (operand_in state.old.types right)) }
-    ensures within { IfOk result (λ node. node.ty < length state.new.types) }
+    ensures within { IfOk result (λ making. making.ty < length state.new.types) }
     ensures extends { Extends state.old.types state.new.types }
     ensures state { state.new.state ≡ state.old.state }
 {
@@ -229,20 +319,20 @@ fn join_of(
         left: left.number,
         right: right.number,
     };
-    Ok(Node { made, ty })
+    Ok(Making { made, ty })
 }
 
 /// So many of the greatest members.
-fn top_of(number: u32, source: Operand) -> Node
+fn top_of(number: u32, source: Operand) -> Making
     ensures made { (types : List Ty) →
-        node_in types result ≡ spec.top_of number (operand_in types source) }
+        making_in types result ≡ spec.top_of number (operand_in types source) }
     ensures same { result.ty ≡ source.ty }
 {
     let made = Made::Top {
         number,
         source: source.number,
     };
-    Node {
+    Making {
         made,
         ty: source.ty,
     }

@@ -59,7 +59,8 @@ module _ (g : Graph) (m n : List Place) (inner : Place → Bool) where
   hanging_same (suc k) ns =
       turn_same (λ j rest. hung left j (λ o. hanging left k (kids_on left j o))
       (step_in (node_at g.nodes j)) rest)
-      (λ j rest. hung right j (λ o. hanging right k (kids_on right j o)) (step_in (node_at g.nodes j)) rest)
+      (λ j rest. hung right j (λ o. hanging right k (kids_on right j o))
+      (step_in (node_at g.nodes j)) rest)
       (λ j rest. hung_same j (λ o. hanging left k (kids_on left j o))
       (λ o. hanging right k (kids_on right j o))
       (λ i. λ o. over_same k (λ ms. hanging_same k ms) j o i) (step_in (node_at g.nodes j))

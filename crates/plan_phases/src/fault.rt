@@ -8,7 +8,7 @@ use std::alloc::AllocError;
 pub enum RunFault {
     /// The first trap of the least trapping task of the first phase that has one.
     Trap(Trap),
-    /// The least task of a phase of which no attempt has won.
+    /// The first task, by phases and by tasks, of which no attempt has won; none before it traps.
     GaveUp {
         /// The stage, counted from 1 in the order of the plan.
         stage: u32,

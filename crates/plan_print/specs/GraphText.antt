@@ -65,23 +65,23 @@ node_line script origins entry =
     ++ (codes " "
     ++ (node_text script (slice_index origins entry.number) entry.node ++ codes "\n"))
 
--- the line of an output that is read there
-abbrev pub output_line : Script → List ℕ × Output → Place → List ℕ
-output_line script output place =
+-- the line of an output that is read there, by the name that its statement has
+abbrev pub output_line : List ℕ × Output → Place → List ℕ
+output_line output place =
     codes "output "
-    ++ (name_at script.nodes output.1.reads
+    ++ (output.1.name
     ++ (codes " reads "
     ++ (place_text place ++ (codes " to " ++ (quoted output.0 ++ codes "\n")))))
 
-abbrev pub output_lines : Script → Named Output → List Place → List ℕ
-output_lines script [] places = []
-output_lines script (output ∷ outputs) [] = []
-output_lines script (output ∷ outputs) (place ∷ places) =
-    output_line script output place ++ output_lines script outputs places
+abbrev pub output_lines : Named Output → List Place → List ℕ
+output_lines [] places = []
+output_lines (output ∷ outputs) [] = []
+output_lines (output ∷ outputs) (place ∷ places) =
+    output_line output place ++ output_lines outputs places
 
 -- the text of the graph that is built of a script, whose names it prints
 abbrev pub graph_text : Script → Graph → List ℕ
 graph_text script graph =
     codes "graph\n"
     ++ (flat_map (node_line script (origins_of script)) graph.nodes
-    ++ output_lines script script.outputs graph.outputs)
+    ++ output_lines script.outputs graph.outputs)

@@ -244,7 +244,7 @@ fn push_place(text: &mut Vec<u8>, place: Place) -> Result<(), AllocError>
 /// Adds the lines of the script's outputs, which are read at these places.
 fn push_outputs(text: &mut Vec<u8>, program: &Program, places: &[Place]) -> Result<(), AllocError>
     ensures { OnOk result (text.new.items ≡ text.old.items
-        ++ spec.output_lines program.now.script program.now.script.outputs places.now) }
+        ++ spec.output_lines program.now.script.outputs places.now) }
 {
     let count = program.output_count().min(places.len());
     for number in 0..count {
@@ -264,10 +264,10 @@ fn push_output(
     ensures { (output : List ℕ × Output) →
         slice_get program.now.script.outputs number ≡ Some output →
         OnOk result (text.new.items ≡ text.old.items
-        ++ spec.output_line program.now.script output place) }
+        ++ spec.output_line output place) }
 {
     text.extend_from_slice(b"output ")?;
-    text.extend_from_slice(node_name(program, program.output(number).reads))?;
+    text.extend_from_slice(program.output(number).name.as_bytes())?;
     text.extend_from_slice(b" reads ")?;
     push_place(text, place)?;
     text.extend_from_slice(b" to ")?;

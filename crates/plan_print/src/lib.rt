@@ -1,4 +1,4 @@
-//! The texts of execution graphs and plans.
+//! The texts of execution graphs, and the names of steps in all texts.
 //!
 //! A graph names inputs, functions and collections by number; its text prints the names that a
 //! program has for them. `graph_text` is the text of the graph that is built of the program

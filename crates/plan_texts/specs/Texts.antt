@@ -10,10 +10,9 @@ use Rattle.plan_writing.specs.Naming.{Naming, Written}
 use Rattle.plan_writing.specs.PlanText as text
 use Rattle.plan_json.specs.PlanJson as json
 
--- an output by its file: the collection that it writes, by its name
-abbrev pub written_of : Script → List ℕ × Output → Written
-written_of script output =
-    record { name = name_at script.nodes output.1.reads; file = output.0 }
+-- an output by its file, under the name that its statement has
+abbrev pub written_of : List ℕ × Output → Written
+written_of output = record { name = output.1.name; file = output.0 }
 
 -- what a script calls the numbers of its plans
 abbrev pub naming_of : Script → Naming
@@ -21,7 +20,7 @@ naming_of script = record {
   step = step_text script;
   node = name_at script.nodes;
   combiner = combiner_text;
-  outputs = map (written_of script) script.outputs;
+  outputs = map written_of script.outputs;
 }
 
 abbrev pub plan_text_of : Script → Plan → List ℕ

@@ -34,7 +34,7 @@ impl Names for ProgramNames<'_> {
     }
 
     fn output_name(&self, number: usize) -> &[u8] {
-        node_name(self.program, self.program.output(number).reads)
+        self.program.output(number).name.as_bytes()
     }
 
     fn output_file(&self, number: usize) -> &[u8] {

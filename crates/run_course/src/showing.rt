@@ -69,7 +69,8 @@ pub fn plan_shown(alloc: Global, program: &Program) -> Result<ShownPlan, AllocEr
 
 // A script's plan as JSON, on a line.
 fn json_shown(alloc: Global, program: &Program) -> Result<Vec<u8>, AllocError>
-    requires { IsGraphOk (graph_of program.now.script) }
+    requires well_formed { IsWellFormed program.now.script }
+    requires graph { IsGraphOk (graph_of program.now.script) }
     ensures { IfOk result (λ text. ShowsPlan Json program.now.script text.items) }
 {
     let graph = build(alloc, program)?;

@@ -1,3 +1,5 @@
+// The limits of a run.
+
 /// The most workers that a run may have.
 pub const MOST_WORKERS: u32 = 16;
 

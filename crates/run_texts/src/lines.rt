@@ -21,8 +21,8 @@ pub fn tell<P: Screen>(screen: &mut P, status: &Status)
     let _ = say_line(screen, status);
 }
 
-/// Writes the line of a trap as far as the screen takes it: the name of the collection that the
-/// call was to make a part of, why it traps, and what it was called with.
+/// Writes the line of a trap as far as the screen takes it: the name of the collection that it was
+/// to make a part of, why it traps, and its element.
 pub fn tell_trap<P: Screen>(screen: &mut P, name: &[u8], kind: Kind, element: &Value)
     ensures line { HasLine (trap_line name.now kind element.now)
         (seen P.text P.faults screen.old) (seen P.text P.faults screen.new) }

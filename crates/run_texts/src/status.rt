@@ -34,14 +34,15 @@ pub enum Status {
         column: u32,
         kind: RowKind,
     },
-    /// A call of a function traps, and nothing is written: the number of the collection that it was
-    /// to make a part of, in order of the script, and the element that it was called with.
+    /// A call, a combination or a count has no value, and nothing is written: the number of the
+    /// collection that it was to make a part of, in order of the script, and the element: what was
+    /// called with, or the key.
     Trap {
         origin: u32,
         kind: Kind,
         element: Value,
     },
-    /// The source failed while it gave this file.
+    /// The source failed in each load of this file, as often as the command tries one.
     ReadFault {
         name: Str,
     },

@@ -1,6 +1,11 @@
 -- The rules of statements, each tried in order; the first fault with the line on which its
 -- statement begins.
-use Rattle.std.specs.Prelude.{ℕ, List, [], ◌∷◌, nat_lt, Option, Some, None, Ok, length}
+use Rattle.std.specs.Prelude.{◌+◌, ◌==◌, ℕ, List, [], ◌∷◌, ◌++◌, nat_le, nat_lt, not, Option}
+use Rattle.std.specs.Prelude.{Some, None, Ok, length}
+use Rattle.std.specs.List.{list_any}
+use Rattle.std.specs.Map.{keys_of}
+use Rattle.std.specs.Str.{bytes_eq}
+use Rattle.flume_types.specs.declared.types.Ty.{Ty}
 use Rattle.flume_types.specs.Columns.{columns_of, input_columns_of}
 use Rattle.flume_grammar.specs.declared.tree.Type as tree
 use Rattle.flume_grammar.specs.declared.tree.Form.{Form}
@@ -9,22 +14,32 @@ use Rattle.flume_grammar.specs.declared.tree.Function.{Function as Written}
 use Rattle.flume_grammar.specs.declared.tree.Operation.{Operation}
 use Rattle.flume_grammar.specs.declared.tree.Statement.{Statement}
 use Rattle.flume_grammar.specs.declared.fault.ScriptKind.TheVariants.{TooMany, NotFlat, NoOutput}
-use Rattle.flume_grammar.specs.declared.fault.ScriptKind.TheVariants.{BadNumber}
+use Rattle.flume_grammar.specs.declared.fault.ScriptKind.TheVariants.{BadNumber, Mistyped, Twice}
 use Rattle.written_types.specs.Answer.{Checked, ◌>>=◌, unless, or_fault}
 use Rattle.written_types.specs.Named.{Named, fresh}
 use Rattle.written_types.specs.Written.{shallow, whole_type}
 use Rattle.body_check.specs.Bodies.{body_of}
 use Rattle.script_program.specs.Limits.{most_collections, most_files, most_functions}
+use Rattle.script_program.specs.Limits.{most_outputs}
 use Rattle.script_program.specs.declared.made.Made.TheVariants as made
-use Rattle.operation_check.specs.Numbers.{number_within}
-use Rattle.script_program.specs.Script.{Script, Signature, State, function_from, nothing, script_from, with_function, with_node, with_output, with_type}
+use Rattle.expression_check.specs.Numbers.{number_within}
+use Rattle.script_program.specs.Script.{Making, Script, Signature, State, function_from, nothing}
+use Rattle.script_program.specs.Script.{script_from, with_function, with_node, with_nodes}
+use Rattle.script_program.specs.Script.{with_output, with_statement, with_type}
 use Rattle.operation_check.specs.Operations.{collection, made_by}
 
 -- each fault is told on this line
 module _ (line : ℕ) where
-  -- room for one more
-  abbrev pub room : {A : Type 0} → ℕ → Named A → Checked (Unit {0})
-  room limit names = unless line TooMany (nat_lt (length names) limit)
+  -- room for so many more
+  abbrev pub room : {A : Type 0} → ℕ → ℕ → Named A → Checked (Unit {0})
+  room more limit names = unless line TooMany (nat_le (length names + more) limit)
+
+  -- names that stand for nothing yet: none of those that are taken, and none to its left
+  abbrev pub all_fresh : List (List ℕ) → List (List ℕ) → Checked (Unit {0})
+  all_fresh taken [] = Ok tt
+  all_fresh taken (name ∷ names) = do
+    new ← unless line Twice (not (list_any (bytes_eq name) taken))
+    all_fresh (taken ++ name ∷ []) names
 
   -- how many emissions are expected of a hundred calls: as many, where nothing is said
   abbrev pub scale_of : Option (List ℕ) → Checked ℕ
@@ -39,21 +54,41 @@ module _ (line : ℕ) where
 
   abbrev pub rule_input : List ℕ → tree.Type → List ℕ → State → Checked State
   rule_input name type file s = do
-    few ← room most_collections s.nodes
-    new ← fresh line name s.nodes
+    few ← room 1 most_collections s.nodes
+    new ← fresh line name s.names
     t ← whole_type line type s.types
     columns ← or_fault line NotFlat (input_columns_of t)
     Ok (with_node name (record { made = made.Input file columns; type = t }) s)
 
+  -- the type that is written, behind those so far
+  abbrev pub type_behind : List Ty → tree.Type → Named Ty → Checked (List Ty)
+  type_behind found type known = do
+    t ← whole_type line type known
+    Ok (found ++ t ∷ [])
+
+  -- the types that are written, from the left, behind those so far
+  abbrev pub types_behind : List Ty → List tree.Type → Named Ty → Checked (List Ty)
+  types_behind found [] known = Ok found
+  types_behind found (type ∷ types) known = do
+    more ← type_behind found type known
+    types_behind more types known
+
+  -- what a function gives to its outputs, not more of them than it may have
+  abbrev pub types_given : Written → Named Ty → Checked (List Ty)
+  types_given function known = do
+    types ← types_behind [] (function.gives ∷ function.more) known
+    few ← unless line TooMany (nat_le (length types) most_outputs)
+    Ok types
+
   -- what a function that may be defined here takes and gives
   abbrev pub signature_of : Written → State → Checked Signature
   signature_of function s = do
-    few ← room most_functions s.functions
+    few ← room 1 most_functions s.functions
     new ← fresh line function.name s.functions
     takes ← whole_type line function.takes s.types
-    gives ← whole_type line function.gives s.types
+    gives ← types_given function s.types
     scale ← scale_of function.scale
-    Ok (record { takes = takes; gives = gives ∷ []; scale = scale })
+    Ok (record { takes = takes; gives = gives; scale = scale })
 
   abbrev pub rule_function : Written → State → Checked State
   rule_function function s = do
@@ -61,27 +96,40 @@ module _ (line : ℕ) where
     body ← body_of s.types function.argument signature.takes signature.gives function.body
     Ok (with_function function.name (function_from function signature s) s)
 
-  abbrev pub rule_let : List ℕ → Operation → State → Checked State
-  rule_let name by s = do
-    few ← room most_collections s.nodes
-    new ← fresh line name s.nodes
-    node ← made_by line by s
-    low ← shallow line node.type
-    Ok (with_node name node s)
+  -- types that are at most 8 deep, from the left
+  abbrev pub all_shallow : List Making → Checked (Unit {0})
+  all_shallow [] = Ok tt
+  all_shallow (making ∷ makings) = do
+    low ← shallow line making.type
+    all_shallow makings
+
+  -- as many collections as names, of types that are at most 8 deep
+  abbrev pub all_fit : ℕ → List Making → Checked (Unit {0})
+  all_fit count makings = do
+    same ← unless line Mistyped (length makings == count)
+    all_shallow makings
+
+  abbrev pub rule_let : List (List ℕ) → Operation → State → Checked State
+  rule_let names by s = do
+    few ← room (length names) most_collections s.nodes
+    new ← all_fresh (keys_of s.names) names
+    makings ← made_by line by s
+    fit ← all_fit (length names) makings
+    Ok (with_nodes names makings s)
 
   abbrev pub rule_output : List ℕ → List ℕ → State → Checked State
   rule_output name file s = do
-    few ← room most_files s.outputs
+    few ← room 1 most_files s.outputs
     one ← collection line name s
     columns ← or_fault line NotFlat (columns_of one.type)
     new ← fresh line file s.outputs
-    Ok (with_output file (record { reads = one.number; columns = columns }) s)
+    Ok (with_output file (record { name = name; reads = one.number; columns = columns }) s)
 
   abbrev pub rule : Form → State → Checked State
   rule (form.Type name type) s = rule_type name type s
   rule (form.Input name type file) s = rule_input name type file s
   rule (form.Function function) s = rule_function function s
-  rule (form.Let name by) s = rule_let name by s
+  rule (form.Let names by) s = rule_let names by s
   rule (form.Output name file) s = rule_output name file s
 
 -- what statements define in order, behind those that made this state
@@ -89,7 +137,7 @@ abbrev pub defined : List Statement → State → Checked State
 defined [] s = Ok s
 defined (statement ∷ rest) s = do
   next ← rule statement.line statement.form s
-  defined rest next
+  defined rest (with_statement next)
 
 -- the script that statements are, or their first fault
 abbrev pub script_of : List Statement → Checked Script

@@ -1,4 +1,5 @@
 // The check of a whole script, statement after statement.
+ghost use Rattle.std.specs.Prelude.{◌≡◌};
 ghost use Rattle.written_types.specs.Answer.{Gives};
 ghost use Rattle.script_check.specs.Rules as spec;
 
@@ -22,13 +23,16 @@ pub fn check(alloc: Global, ast: Ast) -> Result<Program, ScriptFault>
     Ok(state.into_program(alloc)?)
 }
 
-/// Statements in order.
+/// Statements in order, behind none.
 fn define(alloc: Global, statements: Pile<Statement>, state: &mut State) -> Result<(), ScriptFault>
+    requires { state.old.state.statements ≡ 0 }
     ensures { Gives (λ _. state.new.state) result
         (spec.defined statements state.old.state) }
 {
+    let _count = statements.len();
     for statement in statements.into_vec() {
         rule(alloc, statement, state)?;
+        state.end_statement();
     }
     Ok(())
 }

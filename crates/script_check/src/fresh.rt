@@ -1,15 +1,15 @@
 // Two rules of each definition: there is room for it, and its name is new.
-ghost use Rattle.std.specs.Prelude.{◌≡◌, false, nat_lt, not, OnOk};
+ghost use Rattle.std.specs.Prelude.{◌≡◌, ◌+◌, false, nat_le, not, OnOk};
 ghost use Rattle.written_types.specs.Answer.{Gives, unless};
 
 use flume_grammar::{ScriptFault, ScriptKind};
 use written_types::refused;
 
-/// Room for one more.
-pub fn room(line: u32, count: usize, limit: usize) -> Result<(), ScriptFault>
-    ensures { Gives (λ _. tt) result (unless line ScriptKind.TooMany (nat_lt count limit)) }
+/// Room for so many more.
+pub fn room(line: u32, more: usize, count: usize, limit: usize) -> Result<(), ScriptFault>
+    ensures { Gives (λ _. tt) result (unless line ScriptKind.TooMany (nat_le (count + more) limit)) }
 {
-    if count < limit {
+    if count <= limit && more <= limit - count {
         Ok(())
     } else {
         Err(refused(line, ScriptKind::TooMany))

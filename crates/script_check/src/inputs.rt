@@ -11,7 +11,7 @@ use crate::fresh::{fresh, room};
 use flume_grammar::{ScriptFault, ScriptKind, Type};
 use flume_types::{ColumnFault, Columns};
 use flume_value::Str;
-use script_program::{MOST_COLLECTIONS, Made, Node, State};
+use script_program::{MOST_COLLECTIONS, Made, Making, State};
 use std::alloc::Global;
 use type_table::{TypeId, input_columns};
 use written_types::refused;
@@ -36,24 +36,24 @@ pub fn rows_for(
       type = type_at state.new.types rows.ty;
     }) state.old.state) result
         (spec.rule_input line name.now ty.now file state.old.state) }
-    ensures new { OnOk result (is_some (find name.now state.old.state.nodes) ≡ false) }
+    ensures new { OnOk result (is_some (find name.now state.old.state.names) ≡ false) }
     ensures within { IfOk result (λ rows. rows.ty < length state.new.types) }
     ensures state { state.new.state ≡ state.old.state }
 {
-    room(line, state.node_count(), MOST_COLLECTIONS)?;
-    fresh(line, state.has_node(name))?;
+    room(line, 1, state.node_count(), MOST_COLLECTIONS)?;
+    fresh(line, state.has_name(name))?;
     let ty = state.whole_type(alloc, line, ty)?;
     let columns = row_columns(alloc, line, ty, state)?;
     Ok(Rows { ty, columns })
 }
 
 /// The collection of the rows of a file.
-pub fn rows_of(file: Str, rows: Rows) -> Node
+pub fn rows_of(file: Str, rows: Rows) -> Making
     ensures made { result.made ≡ Made.Input file rows.columns }
     ensures ty { result.ty ≡ rows.ty }
 {
     let Rows { ty, columns } = rows;
-    Node {
+    Making {
         made: Made::Input { file, columns },
         ty,
     }

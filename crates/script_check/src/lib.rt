@@ -9,6 +9,7 @@
 mod checks;
 mod fresh;
 mod inputs;
+mod lets;
 mod outputs;
 mod rules;
 mod scales;

@@ -17,26 +17,50 @@ use std::alloc::Global;
 use type_table::{TypeId, columns};
 use written_types::refused;
 
-/// The output that may be written to a file.
-pub fn output_for(
+/// What an output reads: the number of its collection, and the columns of that.
+#[derive(Drop)]
+pub struct Read {
+    pub number: usize,
+    pub columns: Columns,
+}
+
+/// What an output of this name to this file may read.
+pub fn read_for(
     alloc: Global,
     line: u32,
     name: &Str,
     file: &Str,
     state: &State,
-) -> Result<Output, ScriptFault>
-    ensures gives { Gives (λ output. with_output file.now output state.now.state) result
-        (spec.rule_output line name.now file.now state.now.state) }
+) -> Result<Read, ScriptFault>
+    ensures gives { Gives (λ read. with_output file.now (record {
+      name = name.now;
+      reads = read.number;
+      columns = read.columns;
+    }) state.now.state) result (spec.rule_output line name.now file.now state.now.state) }
     ensures new { OnOk result (is_some (find file.now state.now.state.outputs) ≡ false) }
 {
-    room(line, state.output_count(), MOST_FILES)?;
+    room(line, 1, state.output_count(), MOST_FILES)?;
     let source = collection(line, name, state)?;
     let columns = flat_columns(alloc, line, source.ty, state)?;
     fresh(line, state.has_output(file))?;
-    Ok(Output {
-        reads: source.number,
+    Ok(Read {
+        number: source.number,
         columns,
     })
+}
+
+/// The output of this name that reads this.
+pub fn output_of(name: Str, read: Read) -> Output
+    ensures name { result.name ≡ name }
+    ensures reads { result.reads ≡ read.number }
+    ensures columns { result.columns ≡ read.columns }
+{
+    let Read { number, columns } = read;
+    Output {
+        name,
+        reads: number,
+        columns,
+    }
 }
 
 /// The columns of a flat type.

@@ -3,18 +3,17 @@ ghost use Rattle.std.specs.Prelude.{◌≡◌, ◌<◌, false, is_some, length, 
 ghost use Rattle.type_table.specs.Table.{type_at};
 ghost use Rattle.written_types.specs.Answer.{Gives};
 ghost use Rattle.written_types.specs.Named.{find};
-ghost use Rattle.script_program.specs.Program.{node_in};
-ghost use Rattle.script_program.specs.Script.{with_type, with_node};
+ghost use Rattle.script_program.specs.Script.{with_type};
 ghost use Rattle.script_check.specs.Rules as spec;
 
-use crate::fresh::{fresh, room};
+use crate::fresh::fresh;
 use crate::inputs::{rows_for, rows_of};
-use crate::outputs::output_for;
+use crate::lets::{add_all, makings_for};
+use crate::outputs::{output_of, read_for};
 use crate::signatures::checked;
 use flume_grammar::{Form, Function as Written, Operation, ScriptFault, Statement, Type};
-use flume_value::Str;
-use operation_check::made_by;
-use script_program::{MOST_COLLECTIONS, Node, State};
+use flume_value::{Pile, Str};
+use script_program::State;
 use std::alloc::Global;
 use type_table::TypeId;
 use written_types::shallow;
@@ -29,8 +28,8 @@ pub fn rule(alloc: Global, statement: Statement, state: &mut State) -> Result<()
         Form::Type(name, ty) => rule_type(alloc, line, name, &ty, state),
         Form::Input(name, ty, file) => rule_input(alloc, line, name, &ty, file, state),
         Form::Function(function) => rule_function(alloc, line, function, state),
-        Form::Let(name, by) => rule_let(alloc, line, name, &by, state),
-        Form::Output(name, file) => rule_output(alloc, line, &name, file, state),
+        Form::Let(names, by) => rule_let(alloc, line, names, &by, state),
+        Form::Output(name, file) => rule_output(alloc, line, name, file, state),
     }
 }
 
@@ -80,7 +79,7 @@ fn rule_input(
         (spec.rule_input line name ty.now file state.old.state) }
 {
     let rows = rows_for(alloc, line, &name, ty, state)?;
-    state.add_node(name, rows_of(file, rows))?;
+    state.add_node(alloc, name, rows_of(file, rows))?;
     Ok(())
 }
 
@@ -101,51 +100,29 @@ fn rule_function(
 fn rule_let(
     alloc: Global,
     line: u32,
-    name: Str,
+    names: Pile<Str>,
     by: &Operation,
     state: &mut State,
 ) -> Result<(), ScriptFault>
     ensures { Gives (λ _. state.new.state) result
-        (spec.rule_let line name by.now state.old.state) }
+        (spec.rule_let line names by.now state.old.state) }
 {
-    let node = node_for(alloc, line, &name, by, state)?;
-    state.add_node(name, node)?;
+    let makings = makings_for(alloc, line, names.as_slice(), by, state)?;
+    add_all(alloc, names, makings, state)?;
     Ok(())
-}
-
-/// The collection that a name may stand for.
-fn node_for(
-    alloc: Global,
-    line: u32,
-    name: &Str,
-    by: &Operation,
-    state: &mut State,
-) -> Result<Node, ScriptFault>
-    ensures gives { Gives
-        (λ node. with_node name.now (node_in state.new.types node) state.old.state) result
-        (spec.rule_let line name.now by.now state.old.state) }
-    ensures new { OnOk result (is_some (find name.now state.old.state.nodes) ≡ false) }
-    ensures within { IfOk result (λ node. node.ty < length state.new.types) }
-    ensures state { state.new.state ≡ state.old.state }
-{
-    room(line, state.node_count(), MOST_COLLECTIONS)?;
-    fresh(line, state.has_node(name))?;
-    let node = made_by(alloc, line, by, state)?;
-    shallow(line, node.ty, state.types())?;
-    Ok(node)
 }
 
 fn rule_output(
     alloc: Global,
     line: u32,
-    name: &Str,
+    name: Str,
     file: Str,
     state: &mut State,
 ) -> Result<(), ScriptFault>
     ensures { Gives (λ _. state.new.state) result
-        (spec.rule_output line name.now file state.old.state) }
+        (spec.rule_output line name file state.old.state) }
 {
-    let output = output_for(alloc, line, name, &file, state)?;
-    state.add_output(file, output)?;
+    let read = read_for(alloc, line, &name, &file, state)?;
+    state.add_output(file, output_of(name, read))?;
     Ok(())
 }

@@ -73,7 +73,7 @@ Written-sync =
     depth 60
 
 Body-sync : IsSync (body.the_field).row
-Body-sync = search (sendable, body_knot.crosses, parts, Written-sync) depth 60
+Body-sync = search (sendable, crosses, body_knot.crosses, parts, Written-sync) depth 60
 
 -- ---- programs
 

@@ -37,16 +37,16 @@ all-fit-more functions more before (entry ∷ nodes) fit = (
   all-fit-more functions more (before ++ entry ∷ []) nodes fit.1,
 )
 
-pub fit-push : (functions : Named Function) (before nodes : Named Node) (entry : List ℕ × Node)
-    → AllFit functions before nodes
-    → Fits functions (before ++ nodes) entry.1.made entry.1.type
-    → AllFit functions before (nodes ++ entry ∷ [])
-fit-push functions before [] entry fit fits =
-    (subst (λ nodes. Fits functions nodes entry.1.made entry.1.type) (append-nil before) fits, tt)
-fit-push functions before (first ∷ nodes) entry fit fits = (
+-- nodes that fit behind others fit with them
+pub fit-append : (functions : Named Function) (before nodes more : Named Node)
+    → AllFit functions before nodes → AllFit functions (before ++ nodes) more
+    → AllFit functions before (nodes ++ more)
+fit-append functions before [] more fit fits =
+    subst (λ nodes. AllFit functions nodes more) (append-nil before) fits
+fit-append functions before (first ∷ nodes) more fit fits = (
   fit.0,
-  fit-push functions (before ++ first ∷ []) nodes entry fit.1
-      (subst (λ nodes. Fits functions nodes entry.1.made entry.1.type) (simp append_assoc) fits),
+  fit-append functions (before ++ first ∷ []) nodes more fit.1
+      (subst (λ nodes. AllFit functions nodes more) (simp append_assoc) fits),
 )
 
 columns-kept : (nodes more : Named Node) (output : Output) → HasColumns nodes output

@@ -19,6 +19,7 @@ use Rattle.script_program.specs.Script.{Function, Node, Script}
 use Rattle.script_program.specs.Needed.{operands, made_of, IsNeeded, LeadsToOutput, has, is_needed}
 use Rattle.script_program.specs.Needed.{outputs_read, read_from, with_reads}
 use Rattle.script_laws.specs.WellFormed.{members_at, Fits, AllFit, IsWellFormed}
+use Rattle.script_laws.proofs.NewLemmas.{how_made}
 
 -- ---- numbers of a list
 
@@ -143,9 +144,6 @@ behind_at later xs r true away read =
     ⊎_elim (λ (here : Contains xs r). absurd (away here)) (λ behind. behind)
     (Contains-append_cases xs later r read)
 behind_at later xs r false away read = read
-
-abbrev how_made : List ℕ × Node → Made
-how_made entry = entry.1.made
 
 step : (functions : Named Function) (outputs : List ℕ) (before rest : Named Node) (k : ℕ)
     → length before ≡ k → AllFit functions before rest → (i r : ℕ) → r ≡ k + i → (how : Made)

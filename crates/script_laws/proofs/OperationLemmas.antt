@@ -1,7 +1,8 @@
 -- What an operation makes fits.
 use Rattle.std.proofs.Common.{◌≡◌, ℕ, ℤ, pos, ◌≤◌, Bool, true, false, ◌&&◌, nat_le, List, [], ◌∷◌}
 use Rattle.std.proofs.Common.{◌++◌, Option, Some, None, option_and_then, if◌then◌else◌, Ok}
-use Rattle.std.proofs.Common.{slice_get, refl, sym, ap, ◌∙◌, subst, arith}
+use Rattle.std.proofs.Common.{◌⊎◌, inl, inr, slice_get, refl, sym, ap, ◌∙◌, subst, arith}
+use Rattle.std.specs.Prelude.{⊤}
 use Rattle.std.specs.List.{All, AllByRecursion}
 use Rattle.std.specs.Option.{option_map}
 use Rattle.std.proofs.lemmas.Bool.{leb-true}
@@ -16,17 +17,23 @@ use Rattle.flume_grammar.specs.declared.tree.Operation.{Operation}
 use Rattle.flume_grammar.specs.declared.tree.Operation.TheVariants as operation
 use Rattle.flume_grammar.specs.declared.fault.ScriptKind.TheVariants.{Unknown, Mistyped, NotTable}
 use Rattle.flume_grammar.specs.declared.fault.ScriptKind.TheVariants.{BadNumber}
+use Rattle.flume_grammar.specs.declared.tree.Combiner.{Combiner}
 use Rattle.combine_table.specs.declared.comb.Comb.{Comb}
 use Rattle.int_text.specs.Ints.{int_of_text}
-use Rattle.written_types.specs.Answer.{unless, or_fault}
+use Rattle.written_types.specs.Answer.{Checked, unless, or_fault}
 use Rattle.written_types.specs.Named.{Named, find}
-use Rattle.operation_check.specs.Numbers.{within}
-use Rattle.script_program.specs.Script.{Function, Node, State, Operand, Callee, place}
+use Rattle.expression_check.specs.Numbers.{within}
+use Rattle.script_program.specs.Script.{Function, Node, State, Operand, Callee, Making, place}
+use Rattle.script_program.specs.Script.{operand_at, operand_of}
+use Rattle.script_program.specs.declared.made.Made.{Made}
+use Rattle.script_program.specs.declared.made.Made.TheVariants as made
+use Rattle.script_program.specs.declared.made.Standing.{Standing}
+use Rattle.script_program.specs.declared.made.Standing.TheVariants.{Collection, Hidden}
 use Rattle.operation_check.specs.Operations as spec
 use Rattle.operation_check.specs.Operations.{Pair, pair_in, member_in, combined_type, numbers}
 use Rattle.operation_check.specs.Operations.{all_same}
 use Rattle.script_laws.specs.WellFormed.{members_at, function_at, Fits}
-use Rattle.script_laws.proofs.CheckedLemmas.{both, holds, there, ok-same}
+use Rattle.script_check.proofs.CheckedLemmas.{both, holds, there, ok-same}
 use Rattle.script_laws.proofs.PlaceLemmas.{meaning, found-at}
 use Rattle.script_laws.proofs.TypeLemmas.{same-types, is-table, is-list}
 
@@ -49,9 +56,6 @@ meant-as g (Some entry) x e =
     let same : entry.1 ≡ x = cc in
     ap (λ y. Some (g y)) same
 
-abbrev read : Named Node → List ℕ → Node → Operand
-read nodes name node = record { number = place name nodes; type = node.type }
-
 abbrev called : Named Function → List ℕ → Function → Callee
 called functions name function = record {
   number = place name functions;
@@ -70,16 +74,30 @@ record IsCallee (functions : Named Function) (callee : Callee) : Type 0 where
 abbrev IsRead : Named Node → Operand → Type 0
 IsRead nodes operand = members_at nodes operand.number ≡ Some operand.type
 
+number-read : (nodes : Named Node) (number : ℕ) (operand : Operand)
+    → operand_at nodes number ≡ Some operand → IsRead nodes operand
+number-read nodes number operand e =
+    let found =
+    from (λ (entry : List ℕ × Node). record { number = number; type = entry.1.type })
+    (slice_get nodes number) operand e in
+    subst (IsRead nodes) found.gives
+    (ap (option_map (λ (entry : List ℕ × Node). entry.1.type)) found.is)
+
+standing-read : (nodes : Named Node) (standing : Standing) (operand : Operand)
+    → operand_of nodes standing ≡ Some operand → IsRead nodes operand
+standing-read nodes (Collection number) operand e = number-read nodes number operand e
+standing-read nodes Hidden operand e = cc
+
+name-read : (nodes : Named Node) (o : Option Standing) (operand : Operand)
+    → option_and_then (operand_of nodes) o ≡ Some operand → IsRead nodes operand
+name-read nodes None operand e = cc
+name-read nodes (Some standing) operand e = standing-read nodes standing operand e
+
 module _ (line : ℕ) (s : State) where
   pub is-read : (name : List ℕ) (operand : Operand) → spec.collection line name s ≡ Ok operand
       → IsRead s.nodes operand
   is-read name operand e =
-      let found =
-      from (read s.nodes name) (find name s.nodes) operand
-      (there line Unknown _ operand e) in
-      subst (IsRead s.nodes) found.gives
-      (meant-as (λ (node : Node). node.type) (slice_get s.nodes (place name s.nodes)) found.part
-      (found-at name s.nodes found.part found.is))
+      name-read s.nodes (find name s.names) operand (there line Unknown _ operand e)
 
   is-callee : (name : List ℕ) (callee : Callee) → spec.callee line name s ≡ Ok callee
       → IsCallee s.functions callee
@@ -97,94 +115,126 @@ module _ (line : ℕ) (s : State) where
         gives = refl;
       })
 
+-- ---- what an operation makes
+
+-- by an operation other than a call
+abbrev pub IsOther : Made → Type 0
+IsOther (made.Input file columns) = ⊥
+IsOther (made.Do source function output) = ⊥
+IsOther _ = ⊤
+
+-- one collection, which fits behind these
+pub record IsAlone (functions : Named Function) (nodes : Named Node)
+    (makings : List Making) : Type 0 where
+  pub making : Making
+  pub are : makings ≡ making ∷ []
+  pub fits : Fits functions nodes making.made making.type
+  pub other : IsOther making.made
+
+-- the outputs of a call
+pub record AreOutputs (functions : Named Function) (nodes : Named Node)
+    (makings : List Making) : Type 0 where
+  pub source : ℕ
+  pub called : ℕ
+  pub function : Function
+  pub calls : function_at functions called ≡ Some function
+  pub takes : members_at nodes source ≡ Some function.signature.takes
+  pub are : makings ≡ spec.outputs_from source called 0 function.signature.gives
+
 -- ---- operations on operands
 
 module _ (line : ℕ) (functions : Named Function) (nodes : Named Node) where
-  abbrev NodeFits : Node → Type 0
-  NodeFits node = Fits functions nodes node.made node.type
+  abbrev MakingFits : Making → Type 0
+  MakingFits making = Fits functions nodes making.made making.type × IsOther making.made
 
   is-pair : (t : Ty) (pair : Pair) → spec.pair_of line t ≡ Ok pair
       → t ≡ table_of pair.key pair.value
   is-pair t pair e = is-table t pair (there line NotTable (pair_in (out-Ty t)) pair e)
 
-  one-is : (types : List Ty) (type : Ty) → spec.one_output line types ≡ Ok type
-      → slice_get types 0 ≡ Some type
-  one-is [] type e = cc
-  one-is (t ∷ []) type e = ap Some (ok-same t type e)
-  one-is (t ∷ u ∷ types) type e = cc
-
-  do-fits : (source : Operand) (callee : Callee) (node : Node) → IsRead nodes source
-      → IsCallee functions callee → spec.do_of line source callee ≡ Ok node → NodeFits node
-  do-fits source callee node reads is e =
-      let same = both (unless line Mistyped (type_eq source.type callee.takes)) _ node e in
+  do-makes : (source : Operand) (callee : Callee) (makings : List Making) → IsRead nodes source
+      → IsCallee functions callee → spec.do_of line source callee ≡ Ok makings
+      → AreOutputs functions nodes makings
+  do-makes source callee makings reads is e =
+      let same = both (unless line Mistyped (type_eq source.type callee.takes)) _ makings e in
       let types : source.type ≡ callee.takes =
       same-types source.type callee.takes (holds line Mistyped _ same.part same.first) in
-      let gives = both (spec.one_output line callee.gives) _ node same.then in
-      subst NodeFits (ok-same _ node gives.then) (record {
+      record {
+        source = source.number;
+        called = callee.number;
         function = is.function;
         calls = is.calls;
         takes = reads ∙ ap Some (types ∙ is.takes);
-        gives =
-            subst (λ types. slice_get types 0 ≡ Some gives.part) is.gives
-            (one-is callee.gives gives.part gives.first);
-      })
+        are =
+            sym (ok-same _ makings same.then)
+            ∙ ap (spec.outputs_from source.number callee.number 0) is.gives;
+      }
 
-  group-fits : (source : Operand) (node : Node) → IsRead nodes source
-      → spec.group_of line source ≡ Ok node → NodeFits node
-  group-fits source node reads e =
-      let pair = both (spec.pair_of line source.type) _ node e in
-      subst NodeFits (ok-same _ node pair.then) (record {
-        key = pair.part.key;
-        value = pair.part.value;
-        reads = reads ∙ ap Some (is-pair source.type pair.part pair.first);
-        gives = refl;
-      })
+  group-fits : (source : Operand) (making : Making) → IsRead nodes source
+      → spec.group_of line source ≡ Ok making → MakingFits making
+  group-fits source making reads e =
+      let pair = both (spec.pair_of line source.type) _ making e in
+      subst MakingFits (ok-same _ making pair.then) (
+        record {
+          key = pair.part.key;
+          value = pair.part.value;
+          reads = reads ∙ ap Some (is-pair source.type pair.part pair.first);
+          gives = refl;
+        },
+        tt,
+      )
 
-  combine-fits : (source : Operand) (by : Comb) (node : Node) → IsRead nodes source
-      → spec.combine_of line source by ≡ Ok node → NodeFits node
-  combine-fits source by node reads e =
-      let pair = both (spec.pair_of line source.type) _ node e in
-      let member = both (spec.member_of line pair.part.value) _ node pair.then in
-      let value = both (or_fault line Mistyped (combined_type by member.part)) _ node member.then in
+  combine-fits : (source : Operand) (by : Comb) (making : Making) → IsRead nodes source
+      → spec.combine_of line source by ≡ Ok making → MakingFits making
+  combine-fits source by making reads e =
+      let pair = both (spec.pair_of line source.type) _ making e in
+      let member = both (spec.member_of line pair.part.value) _ making pair.then in
+      let value = both (or_fault line Mistyped (combined_type by member.part)) _
+      making member.then in
       let list : pair.part.value ≡ ty.List member.part =
       is-list pair.part.value member.part (there line NotTable _ member.part member.first) in
-      subst NodeFits (ok-same _ node value.then) (record {
-        key = pair.part.key;
-        member = member.part;
-        value = value.part;
-        reads =
-            reads
-            ∙ ap Some
-            (is-pair source.type pair.part pair.first ∙ ap (table_of pair.part.key) list);
-        suits = there line Mistyped _ value.part value.first;
-        gives = refl;
-      })
+      subst MakingFits (ok-same _ making value.then) (
+        record {
+          key = pair.part.key;
+          member = member.part;
+          value = value.part;
+          reads =
+              reads
+              ∙ ap Some
+              (is-pair source.type pair.part pair.first ∙ ap (table_of pair.part.key) list);
+          suits = there line Mistyped _ value.part value.first;
+          gives = refl;
+        },
+        tt,
+      )
 
-  count-fits : (source : Operand) → IsRead nodes source → NodeFits (spec.count_of source)
-  count-fits source reads = record { member = source.type; reads = reads; gives = refl }
+  count-fits : (source : Operand) → IsRead nodes source → MakingFits (spec.count_of source)
+  count-fits source reads = (record { member = source.type; reads = reads; gives = refl }, tt)
 
-  join-fits : (left right : Operand) (node : Node) → IsRead nodes left → IsRead nodes right
-      → spec.join_of line left right ≡ Ok node → NodeFits node
-  join-fits left right node reads_left reads_right e =
-      let lefts = both (spec.pair_of line left.type) _ node e in
-      let rights = both (spec.pair_of line right.type) _ node lefts.then in
+  join-fits : (left right : Operand) (making : Making) → IsRead nodes left → IsRead nodes right
+      → spec.join_of line left right ≡ Ok making → MakingFits making
+  join-fits left right making reads_left reads_right e =
+      let lefts = both (spec.pair_of line left.type) _ making e in
+      let rights = both (spec.pair_of line right.type) _ making lefts.then in
       let same =
-      both (unless line Mistyped (type_eq lefts.part.key rights.part.key)) _ node
+      both (unless line Mistyped (type_eq lefts.part.key rights.part.key)) _ making
       rights.then in
       let keys : lefts.part.key ≡ rights.part.key =
       same-types lefts.part.key rights.part.key (holds line Mistyped _ same.part same.first) in
-      subst NodeFits (ok-same _ node same.then) (record {
-        key = lefts.part.key;
-        left_value = lefts.part.value;
-        right_value = rights.part.value;
-        reads_left = reads_left ∙ ap Some (is-pair left.type lefts.part lefts.first);
-        reads_right =
-            reads_right
-            ∙ ap Some
-            (is-pair right.type rights.part rights.first
-            ∙ ap (λ key. table_of key rights.part.value) (sym keys));
-        gives = refl;
-      })
+      subst MakingFits (ok-same _ making same.then) (
+        record {
+          key = lefts.part.key;
+          left_value = lefts.part.value;
+          right_value = rights.part.value;
+          reads_left = reads_left ∙ ap Some (is-pair left.type lefts.part lefts.first);
+          reads_right =
+              reads_right
+              ∙ ap Some
+              (is-pair right.type rights.part rights.first
+              ∙ ap (λ key. table_of key rights.part.value) (sym keys));
+          gives = refl;
+        },
+        tt,
+      )
 
   -- ---- flatten
 
@@ -201,27 +251,30 @@ module _ (line : ℕ) (functions : Named Function) (nodes : Named Node) where
       let parts = both_true (type_eq t source.type) (all_same t sources) same in
       (all.0 ∙ ap Some (sym (same-types t source.type parts.0)), same-read t sources all.1 parts.1)
 
-  flatten-fits : (sources : List Operand) (node : Node) → AreRead sources
-      → spec.flatten_of line sources ≡ Ok node → NodeFits node
-  flatten-fits [] node all e = cc
-  flatten-fits (first ∷ others) node all e =
-      let one = both (spec.one_type line (first ∷ others)) _ node e in
+  flatten-fits : (sources : List Operand) (making : Making) → AreRead sources
+      → spec.flatten_of line sources ≡ Ok making → MakingFits making
+  flatten-fits [] making all e = cc
+  flatten-fits (first ∷ others) making all e =
+      let one = both (spec.one_type line (first ∷ others)) _ making e in
       let same = both (unless line Mistyped (all_same first.type others)) _ one.part one.first in
       let type : first.type ≡ one.part = ok-same first.type one.part same.then in
       let rest =
       same-read first.type others all.1 (holds line Mistyped _ same.part same.first) in
-      subst NodeFits (ok-same _ node one.then) (record {
-        some = omega arith;
-        read =
-            subst (λ t. All (HasType t) (numbers (first ∷ others))) type
-            (All-from_recursion (HasType first.type) (numbers (first ∷ others)) (all.0, rest));
-      })
+      subst MakingFits (ok-same _ making one.then) (
+        record {
+          some = omega arith;
+          read =
+              subst (λ t. All (HasType t) (numbers (first ∷ others))) type
+              (All-from_recursion (HasType first.type) (numbers (first ∷ others)) (all.0, rest));
+        },
+        tt,
+      )
 
 -- ---- operations as they are written
 
 module _ (line : ℕ) (s : State) where
-  abbrev Makes : Node → Type 0
-  Makes node = Fits s.functions s.nodes node.made node.type
+  abbrev Makes : Making → Type 0
+  Makes making = MakingFits line s.functions s.nodes making
 
   all-read : (found : List Operand) (names : List (List ℕ)) (sources : List Operand)
       → All (IsRead s.nodes) found → spec.collections_behind line found names s ≡ Ok sources
@@ -233,12 +286,13 @@ module _ (line : ℕ) (s : State) where
       (All-push (IsRead s.nodes) found one.part all (is-read line s name one.part one.first))
       one.then
 
-  flattened-fits : (names : List (List ℕ)) (node : Node) → spec.flattened line names s ≡ Ok node
-      → Makes node
-  flattened-fits names node e =
-      let all = both (spec.collections_behind line [] names s) _ node e in
+  flattened-fits : (names : List (List ℕ)) (making : Making)
+      → spec.flattened line names s ≡ Ok making
+      → Makes making
+  flattened-fits names making e =
+      let all = both (spec.collections_behind line [] names s) _ making e in
       let read = all-read [] names all.part (All-nil (IsRead s.nodes)) all.first in
-      flatten-fits line s.functions s.nodes all.part node
+      flatten-fits line s.functions s.nodes all.part making
       (recursion_from_All (IsRead s.nodes) all.part read) all.then
 
   in-limits : (low high : ℕ) (test : Bool) (n number : ℕ)
@@ -269,38 +323,89 @@ module _ (line : ℕ) (s : State) where
   top-fits digits source number reads e =
       let limits =
       number-limits 1 1000 (int_of_text digits) number (there line BadNumber _ number e) in
-      record { least = limits.0; most = limits.1; reads = reads }
+      (record { least = limits.0; most = limits.1; reads = reads }, tt)
 
-  pub made-fits : (by : Operation) (node : Node) → spec.made_by line by s ≡ Ok node → Makes node
-  made-fits (operation.Do source function) node e =
-      let one = both (spec.collection line source s) _ node e in
-      let by = both (spec.callee line function s) _ node one.then in
-      do-fits line s.functions s.nodes one.part by.part node
-      (is-read line s source one.part one.first) (is-callee line s function by.part by.first)
-      by.then
-  made-fits (operation.Group source) node e =
-      let one = both (spec.collection line source s) _ node e in
-      group-fits line s.functions s.nodes one.part node (is-read line s source one.part one.first)
-      one.then
-  made-fits (operation.Combine source combiner) node e =
-      let one = both (spec.collection line source s) _ node e in
-      let by = both (spec.comb_of line combiner) _ node one.then in
-      combine-fits line s.functions s.nodes one.part by.part node
+  -- what each operation but a call makes
+
+  grouped-fits : (source : List ℕ) (making : Making) → spec.grouped line source s ≡ Ok making
+      → Makes making
+  grouped-fits source making e =
+      let one = both (spec.collection line source s) _ making e in
+      group-fits line s.functions s.nodes one.part making
+      (is-read line s source one.part one.first) one.then
+
+  combined-fits : (source : List ℕ) (combiner : Combiner) (making : Making)
+      → spec.combined line source combiner s ≡ Ok making → Makes making
+  combined-fits source combiner making e =
+      let one = both (spec.collection line source s) _ making e in
+      let by = both (spec.comb_of line combiner) _ making one.then in
+      combine-fits line s.functions s.nodes one.part by.part making
       (is-read line s source one.part one.first) by.then
-  made-fits (operation.Flatten sources) node e = flattened-fits sources node e
-  made-fits (operation.Count source) node e =
-      let one = both (spec.collection line source s) _ node e in
-      subst Makes (ok-same _ node one.then)
+
+  counted-fits : (source : List ℕ) (making : Making) → spec.counted line source s ≡ Ok making
+      → Makes making
+  counted-fits source making e =
+      let one = both (spec.collection line source s) _ making e in
+      subst Makes (ok-same _ making one.then)
       (count-fits line s.functions s.nodes one.part (is-read line s source one.part one.first))
-  made-fits (operation.Join left right) node e =
-      let one = both (spec.collection line left s) _ node e in
-      let other = both (spec.collection line right s) _ node one.then in
-      join-fits line s.functions s.nodes one.part other.part node
+
+  joined-fits : (left right : List ℕ) (making : Making) → spec.joined line left right s ≡ Ok making
+      → Makes making
+  joined-fits left right making e =
+      let one = both (spec.collection line left s) _ making e in
+      let other = both (spec.collection line right s) _ making one.then in
+      join-fits line s.functions s.nodes one.part other.part making
       (is-read line s left one.part one.first) (is-read line s right other.part other.first)
       other.then
-  made-fits (operation.Top digits source) node e =
-      let one = both (spec.collection line source s) _ node e in
-      let number = both (spec.top_number line digits) _ node one.then in
-      subst Makes (ok-same _ node number.then)
+
+  greatest-fits : (digits source : List ℕ) (making : Making)
+      → spec.greatest line digits source s ≡ Ok making → Makes making
+  greatest-fits digits source making e =
+      let one = both (spec.collection line source s) _ making e in
+      let number = both (spec.top_number line digits) _ making one.then in
+      subst Makes (ok-same _ making number.then)
       (top-fits digits one.part number.part (is-read line s source one.part one.first)
       number.first)
+
+  -- ---- one collection, or the outputs of a call
+
+  abbrev IsMade : List Making → Type 0
+  IsMade makings =
+      IsAlone s.functions s.nodes makings ⊎ AreOutputs s.functions s.nodes makings
+
+  alone-made : (r : Checked Making) (makings : List Making)
+      → ((making : Making) → r ≡ Ok making → Makes making) → spec.alone r ≡ Ok makings
+      → IsMade makings
+  alone-made r makings makes e =
+      let one = both r _ makings e in
+      let fits = makes one.part one.first in
+      inl (record {
+        making = one.part;
+        are = sym (ok-same _ makings one.then);
+        fits = fits.0;
+        other = fits.1;
+      })
+
+  done-makes : (source function : List ℕ) (makings : List Making)
+      → spec.done line source function s ≡ Ok makings
+      → AreOutputs s.functions s.nodes makings
+  done-makes source function makings e =
+      let one = both (spec.collection line source s) _ makings e in
+      let by = both (spec.callee line function s) _ makings one.then in
+      do-makes line s.functions s.nodes one.part by.part makings
+      (is-read line s source one.part one.first) (is-callee line s function by.part by.first)
+      by.then
+
+  pub made-is : (by : Operation) (makings : List Making) → spec.made_by line by s ≡ Ok makings
+      → IsMade makings
+  made-is (operation.Do source function) makings e = inr (done-makes source function makings e)
+  made-is (operation.Group source) makings e = alone-made _ makings (grouped-fits source) e
+  made-is (operation.Combine source combiner) makings e =
+      alone-made _ makings (combined-fits source combiner) e
+  made-is (operation.Flatten sources) makings e =
+      alone-made _ makings (flattened-fits sources) e
+  made-is (operation.Count source) makings e = alone-made _ makings (counted-fits source) e
+  made-is (operation.Join left right) makings e =
+      alone-made _ makings (joined-fits left right) e
+  made-is (operation.Top digits source) makings e =
+      alone-made _ makings (greatest-fits digits source) e

@@ -1,5 +1,6 @@
 -- Where names stand: under the number of its place stands what a name stands for.
-use Rattle.std.proofs.Common.{◌≡◌, ℕ, zero, suc, ◌+◌, Bool, true, false, cond, List, [], ◌∷◌, ◌++◌, Option, Some, None, slice_get, refl, sym, ap, ◌∙◌, arith}
+use Rattle.std.proofs.Common.{◌≡◌, ℕ, zero, suc, ◌+◌, Bool, true, false, cond, List, [], ◌∷◌, ◌++◌, Option, Some, None, length, slice_get, refl, sym, ap, ◌∙◌, arith, ⊎_elim}
+use Rattle.std.proofs.Common.{◌⊎◌, inl, inr}
 use Rattle.std.specs.List.{position_or_len}
 use Rattle.std.specs.Option.{option_map}
 use Rattle.std.specs.Str.{bytes_eq}
@@ -66,3 +67,31 @@ pub mapped-kept : {A B : Type 0} (f : A → B) (xs more : List A) (i : ℕ) (y :
     → option_map f (slice_get xs i) ≡ Some y → option_map f (slice_get (xs ++ more) i) ≡ Some y
 mapped-kept f xs more i y e =
     kept-mapped f xs more i y (slice_get xs i) (λ x. front-kept xs more i x) e
+
+-- what stands at a number stands in front, or behind
+pub record IsBehind {A : Type 0} (xs ys : List A) (i : ℕ) (x : A) : Type 0 where
+  pub number : ℕ
+  pub at : i ≡ length xs + number
+  pub is : slice_get ys number ≡ Some x
+
+pub front-or-behind : {A : Type 0} (xs ys : List A) (i : ℕ) (x : A)
+    → slice_get (xs ++ ys) i ≡ Some x → (slice_get xs i ≡ Some x) ⊎ IsBehind xs ys i x
+front-or-behind [] ys i x e = inr (record { number = i; at = omega arith; is = e })
+front-or-behind (y ∷ xs) ys zero x e = inl e
+front-or-behind (y ∷ xs) ys (suc i) x e =
+    ⊎_elim (λ (front : slice_get xs i ≡ Some x). inl front)
+    (λ (behind : IsBehind xs ys i x). inr (record {
+      number = behind.number;
+      at = omega (arith, behind.at);
+      is = behind.is;
+    }))
+    (front-or-behind xs ys i x e)
+
+pub behind-is : {A : Type 0} (xs ys : List A) (i : ℕ)
+    → slice_get (xs ++ ys) (length xs + i) ≡ slice_get ys i
+behind-is [] ys i =
+    let here : 0 + i ≡ i = omega arith in
+    ap (slice_get ys) here
+behind-is (y ∷ xs) ys i =
+    let next : length (y ∷ xs) + i ≡ suc (length xs + i) = omega arith in
+    ap (slice_get ((y ∷ xs) ++ ys)) next ∙ behind-is xs ys i

@@ -1,7 +1,7 @@
 -- Which scripts are well formed: each collection is made from collections that stand before it, of
--- types that fit, each output has the columns of the collection that it reads, and each function's
--- body is well typed.
-use Rattle.std.specs.Prelude.{◌≡◌, ℕ, ◌<◌, ◌≤◌, List, [], ◌∷◌, ◌++◌, Option, Some, Ok, length}
+-- types that fit, the outputs of a call stand one after another, each output of the script has the
+-- columns of the collection that it reads, and each function's body is well typed.
+use Rattle.std.specs.Prelude.{◌≡◌, ℕ, ◌+◌, ◌<◌, ◌≤◌, List, [], ◌∷◌, ◌++◌, Option, Some, Ok, length}
 use Rattle.std.specs.Prelude.{slice_get, ⊤}
 use Rattle.std.specs.List.{All}
 use Rattle.std.specs.Option.{option_map}
@@ -12,10 +12,11 @@ use Rattle.flume_types.specs.Tables.{table_of}
 use Rattle.combine_table.specs.declared.comb.Comb.{Comb}
 use Rattle.written_types.specs.Named.{Named}
 use Rattle.body_check.specs.Bodies.{body_of}
-use Rattle.script_program.specs.Limits.{most_collections}
+use Rattle.script_program.specs.Limits.{most_collections, most_outputs}
 use Rattle.script_program.specs.declared.made.Made.{Made}
 use Rattle.script_program.specs.declared.made.Made.TheVariants as made
 use Rattle.script_program.specs.declared.made.Output.{Output}
+use Rattle.script_program.specs.Needed.{made_of}
 use Rattle.script_program.specs.Script.{Function, Node, Script}
 use Rattle.operation_check.specs.Operations.{sides_of, combined_type}
 
@@ -100,6 +101,16 @@ AllFit functions before (entry ∷ nodes) =
     Fits functions before entry.1.made entry.1.type
     × AllFit functions (before ++ entry ∷ []) nodes
 
+-- The collection of that number is an output of a call. The call's outputs stand one after another,
+-- as many as its function has; the first of them has the number `first`.
+pub record IsCallOf (script : Script) (number source called output : ℕ) : Type 0 where
+  pub first : ℕ
+  pub place : first + output ≡ number
+  pub function : Function
+  pub calls : function_at script.functions called ≡ Some function
+  pub outputs : (k : ℕ) → k < length function.signature.gives
+      → slice_get (made_of script) (first + k) ≡ Some (made.Do source called k)
+
 -- an output has the columns of the collection that it reads
 pub record HasColumns (nodes : Named Node) (output : Output) : Type 0 where
   pub type : Ty
@@ -113,9 +124,18 @@ IsWellTyped function =
     function.body
     ≡ Ok tt
 
+-- a function has one output or more, and not more than it may
+pub record HasOutputs (function : Function) : Type 0 where
+  pub some : 1 ≤ length function.signature.gives
+  pub few : length function.signature.gives ≤ most_outputs
+
 pub record IsWellFormed (script : Script) : Type 0 where
   pub functions : All (λ entry. IsWellTyped entry.1) script.functions
+  pub gives : All (λ entry. HasOutputs entry.1) script.functions
   pub nodes : AllFit script.functions [] script.nodes
+  pub calls : (number source called output : ℕ)
+      → slice_get (made_of script) number ≡ Some (made.Do source called output)
+      → IsCallOf script number source called output
   pub outputs : All (λ entry. HasColumns script.nodes entry.1) script.outputs
   pub some : 0 < length script.outputs
   pub few : length script.nodes ≤ most_collections

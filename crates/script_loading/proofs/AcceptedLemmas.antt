@@ -1,6 +1,8 @@
 -- Bytes are accepted as one script or refused for one reason, and not both.
-use Rattle.std.proofs.Common.{◌≡◌, ℕ, inl, inr, Ok, Err, List, sym, ap, ◌∙◌}
+use Rattle.std.proofs.Common.{◌≡◌, ◌⊎◌, ⊎_elim, ℕ, inl, inr, Ok, Err, List, refl, sym, ap, ◌∙◌}
 use Rattle.flume_grammar.proofs.Answered.{one_ast, one_refusal, not_both as parse_not_both}
+use Rattle.flume_grammar.proofs.Answered.{some_answer}
+use Rattle.flume_grammar.specs.Answer.{Accepts, Refuses}
 use Rattle.flume_grammar.specs.declared.fault.ScriptFault.TheVariants as fault
 use Rattle.flume_grammar.specs.declared.fault.ScriptKind.{ScriptKind}
 use Rattle.flume_grammar.specs.declared.tree.Ast.{Ast}
@@ -8,6 +10,8 @@ use Rattle.script_check.specs.Rules.{script_of}
 use Rattle.script_program.specs.Script.{Script}
 use Rattle.written_types.specs.Answer.{Checked}
 use Rattle.script_loading.specs.Accepted.{Accepted, Refused}
+use Rattle.script_loading.proofs.ToldLemmas.{IsTold}
+use Rattle.script_loading.proofs.ToldRules.{told-script}
 
 -- ---- one answer of the checker
 
@@ -58,3 +62,29 @@ one_reason bytes n m j k (inr first) (inr second) =
     let trees : first.0 ≡ second.0 = one_ast bytes first.0 second.0 first.1 second.1 in
     same_fault (script_of first.0.statements) n m j k first.2
     (ap (λ (ast : Ast). script_of ast.statements) trees ∙ second.2)
+
+-- ---- one or the other
+
+abbrev pub AnyAccepted : List ℕ → Type 0
+AnyAccepted bytes = (script : Script) × Accepted bytes script
+
+abbrev pub AnyRefused : List ℕ → Type 0
+AnyRefused bytes = (line : ℕ) × (kind : ScriptKind) × Refused bytes line kind
+
+-- a tree keeps the rules, or breaks one
+by_rules : (bytes : List ℕ) (ast : Ast) → Accepts bytes ast → (made : Checked Script)
+    → script_of ast.statements ≡ made → IsTold made → AnyAccepted bytes ⊎ AnyRefused bytes
+by_rules bytes ast spells (Ok script) is told = inl (script, (ast, spells, is))
+by_rules bytes ast spells (Err (fault.Refused line kind)) is told =
+    inr (line, kind, inr (ast, spells, is))
+by_rules bytes ast spells (Err fault.Memory) is told = absurd told
+
+pub accepted_or_refused : (bytes : List ℕ) → AnyAccepted bytes ⊎ AnyRefused bytes
+accepted_or_refused bytes =
+    ⊎_elim
+    (λ (parsed : (ast : Ast) × Accepts bytes ast).
+    by_rules bytes parsed.0 parsed.1 (script_of parsed.0.statements) refl
+    (told-script parsed.0.statements))
+    (λ (broken : (line : ℕ) × (kind : ScriptKind) × Refuses bytes line kind).
+    inr (broken.0, broken.1, inl broken.2))
+    (some_answer bytes)

@@ -4,3 +4,6 @@ pub mod InputLemmas
 pub mod NameLemmas
 pub mod ProgramLemmas
 pub mod SinceLemmas
+pub mod ToldLemmas
+pub mod ToldBodies
+pub mod ToldRules

@@ -1,29 +1,34 @@
 -- The files of an accepted script are named in UTF-8, where those of its statements are.
-use Rattle.std.proofs.Common.{◌≡◌, ℕ, nat_lt, List, [], ◌∷◌, length, Ok, subst}
+use Rattle.std.proofs.Common.{◌≡◌, ◌⊎◌, inl, inr, ℕ, suc, nat_lt, List, [], ◌∷◌, length, Ok, sym}
+use Rattle.std.proofs.Common.{subst}
 use Rattle.std.specs.Prelude.{IsUtf8}
 use Rattle.std.specs.List.{All, AllByRecursion}
+use Rattle.std.specs.Map.{keys_of}
 use Rattle.std.proofs.lemmas.List.Elements.{All-nil, All-push, recursion_from_All}
 use Rattle.flume_types.specs.Columns.{columns_of, input_columns_of}
-use Rattle.flume_types.specs.Equality.{type_eq}
+use Rattle.flume_types.specs.declared.types.Ty.{Ty}
 use Rattle.flume_grammar.specs.Utf8.{IsUtf8Named}
 use Rattle.flume_grammar.specs.declared.tree.Type as tree
 use Rattle.flume_grammar.specs.declared.tree.Form.{Form}
 use Rattle.flume_grammar.specs.declared.tree.Form.TheVariants as form
 use Rattle.flume_grammar.specs.declared.tree.Function.{Function as WrittenFunction}
 use Rattle.flume_grammar.specs.declared.tree.Operation.{Operation}
-use Rattle.flume_grammar.specs.declared.tree.Operation.TheVariants as operation
 use Rattle.flume_grammar.specs.declared.tree.Statement.{Statement}
-use Rattle.flume_grammar.specs.declared.fault.ScriptKind.TheVariants.{NotFlat, NoOutput, Mistyped}
+use Rattle.flume_grammar.specs.declared.fault.ScriptKind.TheVariants.{NotFlat, NoOutput}
 use Rattle.written_types.specs.Answer.{or_fault, unless}
-use Rattle.written_types.specs.Named.{fresh}
-use Rattle.written_types.specs.Written.{shallow, whole_type}
+use Rattle.written_types.specs.Named.{Named, fresh}
+use Rattle.written_types.specs.Written.{whole_type}
 use Rattle.body_check.specs.Bodies.{body_of}
-use Rattle.script_program.specs.Limits.{most_collections}
+use Rattle.script_program.specs.Limits.{most_collections, most_files}
+use Rattle.script_program.specs.declared.made.Made.{Made}
+use Rattle.script_program.specs.declared.made.Made.TheVariants as made
 use Rattle.script_program.specs.declared.made.Output.{Output}
-use Rattle.script_program.specs.Script.{Node, Script, State, nothing, script_from}
+use Rattle.script_program.specs.Script.{Function, Making, Node, Script, State, nothing}
+use Rattle.script_program.specs.Script.{script_from, with_node, with_nodes, with_statement}
 use Rattle.operation_check.specs.Operations as op
 use Rattle.script_check.specs.Rules as spec
-use Rattle.script_laws.proofs.CheckedLemmas.{both, ok-same}
+use Rattle.script_check.proofs.CheckedLemmas.{both, ok-same}
+use Rattle.script_laws.proofs.OperationLemmas.{IsOther, IsAlone, AreOutputs, made-is}
 use Rattle.script_loading.specs.Ready.{IsNamedMade}
 
 abbrev IsNamedNode : List ℕ × Node → Type 0
@@ -39,49 +44,44 @@ record AreNamed (s : State) : Type 0 where
 
 -- ---- operations read no file
 
-module _ (line : ℕ) (s : State) (node : Node) where
-  abbrev Named : Type 0
-  Named = IsNamedMade node.made
+abbrev IsNamedMaking : Making → Type 0
+IsNamedMaking making = IsNamedMade making.made
 
-  made-named : (by : Operation) → op.made_by line by s ≡ Ok node → Named
-  made-named (operation.Do source function) e =
-      let one = both (op.collection line source s) _ node e in
-      let by = both (op.callee line function s) _ node one.then in
-      let same
-      = both (unless line Mistyped (type_eq one.part.type by.part.takes)) _ node by.then in
-      let t = both (op.one_output line by.part.gives) _ node same.then in
-      subst (λ (n : Node). IsNamedMade n.made) (ok-same _ node t.then) tt
-  made-named (operation.Group source) e =
-      let one = both (op.collection line source s) _ node e in
-      let pair = both (op.pair_of line one.part.type) _ node one.then in
-      subst (λ (n : Node). IsNamedMade n.made) (ok-same _ node pair.then) tt
-  made-named (operation.Combine source combiner) e =
-      let one = both (op.collection line source s) _ node e in
-      let by = both (op.comb_of line combiner) _ node one.then in
-      let pair = both (op.pair_of line one.part.type) _ node by.then in
-      let member = both (op.member_of line pair.part.value) _ node pair.then in
-      let value = both (or_fault line Mistyped (op.combined_type by.part member.part)) _ node
-      member.then in
-      subst (λ (n : Node). IsNamedMade n.made) (ok-same _ node value.then) tt
-  made-named (operation.Flatten sources) e =
-      let all = both (op.collections_behind line [] sources s) _ node e in
-      let t = both (op.one_type line all.part) _ node all.then in
-      subst (λ (n : Node). IsNamedMade n.made) (ok-same _ node t.then) tt
-  made-named (operation.Count source) e =
-      let one = both (op.collection line source s) _ node e in
-      subst (λ (n : Node). IsNamedMade n.made) (ok-same _ node one.then) tt
-  made-named (operation.Join left right) e =
-      let one = both (op.collection line left s) _ node e in
-      let other = both (op.collection line right s) _ node one.then in
-      let lefts = both (op.pair_of line one.part.type) _ node other.then in
-      let rights = both (op.pair_of line other.part.type) _ node lefts.then in
-      let same
-      = both (unless line Mistyped (type_eq lefts.part.key rights.part.key)) _ node rights.then in
-      subst (λ (n : Node). IsNamedMade n.made) (ok-same _ node same.then) tt
-  made-named (operation.Top digits source) e =
-      let one = both (op.collection line source s) _ node e in
-      let number = both (op.top_number line digits) _ node one.then in
-      subst (λ (n : Node). IsNamedMade n.made) (ok-same _ node number.then) tt
+abbrev AllNamed : List Making → Type 0
+AllNamed makings = AllByRecursion IsNamedMaking makings
+
+other-named : (how : Made) → IsOther how → IsNamedMade how
+other-named (made.Input file columns) other = absurd other
+other-named (made.Do source function output) other = tt
+other-named (made.Group source) other = tt
+other-named (made.Combine source by) other = tt
+other-named (made.Flatten sources) other = tt
+other-named (made.Count source) other = tt
+other-named (made.Join left right) other = tt
+other-named (made.Top number source) other = tt
+
+outputs-named : (source called output : ℕ) (types : List Ty)
+    → AllNamed (op.outputs_from source called output types)
+outputs-named source called output [] = tt
+outputs-named source called output (t ∷ types) =
+    (tt, outputs-named source called (suc output) types)
+
+all-named : (functions : Named Function) (nodes : Named Node) (makings : List Making)
+    → IsAlone functions nodes makings ⊎ AreOutputs functions nodes makings → AllNamed makings
+all-named functions nodes makings (inl alone) =
+    subst AllNamed (sym alone.are) (other-named alone.making.made alone.other, tt)
+all-named functions nodes makings (inr call) =
+    subst AllNamed (sym call.are)
+    (outputs-named call.source call.called 0 call.function.signature.gives)
+
+nodes-named : (names : List (List ℕ)) (makings : List Making) (s : State) → AreNamed s
+    → AllNamed makings → AreNamed (with_nodes names makings s)
+nodes-named [] makings s named all = named
+nodes-named (name ∷ names) [] s named all = named
+nodes-named (name ∷ names) (making ∷ makings) s named all =
+    nodes-named names makings (with_node name making s)
+    (record { reads = All-push IsNamedNode s.nodes _ named.reads all.0; writes = named.writes })
+    all.1
 
 -- ---- statements
 
@@ -89,8 +89,8 @@ module _ (line : ℕ) (s after : State) (named : AreNamed s) where
   input-named : (name : List ℕ) (type : tree.Type) (file : List ℕ) → IsUtf8 file
       → spec.rule_input line name type file s ≡ Ok after → AreNamed after
   input-named name type file utf8 e =
-      let few = both (spec.room line most_collections s.nodes) _ after e in
-      let new = both (fresh line name s.nodes) _ after few.then in
+      let few = both (spec.room line 1 most_collections s.nodes) _ after e in
+      let new = both (fresh line name s.names) _ after few.then in
       let t = both (whole_type line type s.types) _ after new.then in
       let columns = both (or_fault line NotFlat (input_columns_of t.part)) _ after t.then in
       subst AreNamed (ok-same _ after columns.then) (record {
@@ -109,23 +109,21 @@ module _ (line : ℕ) (s after : State) (named : AreNamed s) where
       subst AreNamed (ok-same _ after body.then)
       (record { reads = named.reads; writes = named.writes })
 
-  let-named : (name : List ℕ) (by : Operation) → spec.rule_let line name by s ≡ Ok after
-      → AreNamed after
-  let-named name by e =
-      let few = both (spec.room line most_collections s.nodes) _ after e in
-      let new = both (fresh line name s.nodes) _ after few.then in
-      let node = both (op.made_by line by s) _ after new.then in
-      let low = both (shallow line node.part.type) _ after node.then in
-      subst AreNamed (ok-same _ after low.then) (record {
-        reads =
-            All-push IsNamedNode s.nodes _ named.reads (made-named line s node.part by node.first);
-        writes = named.writes;
-      })
+  let-named : (names : List (List ℕ)) (by : Operation)
+      → spec.rule_let line names by s ≡ Ok after → AreNamed after
+  let-named names by e =
+      let few = both (spec.room line (length names) most_collections s.nodes) _ after e in
+      let new = both (spec.all_fresh line (keys_of s.names) names) _ after few.then in
+      let makings = both (op.made_by line by s) _ after new.then in
+      let fit = both (spec.all_fit line (length names) makings.part) _ after makings.then in
+      subst AreNamed (ok-same _ after fit.then)
+      (nodes-named names makings.part s named
+      (all-named s.functions s.nodes makings.part (made-is line s by makings.part makings.first)))
 
   output-named : (name file : List ℕ) → IsUtf8 file
       → spec.rule_output line name file s ≡ Ok after → AreNamed after
   output-named name file utf8 e =
-      let few = both (spec.room line 64 s.outputs) _ after e in
+      let few = both (spec.room line 1 most_files s.outputs) _ after e in
       let one = both (op.collection line name s) _ after few.then in
       let columns = both (or_fault line NotFlat (columns_of one.part.type)) _ after one.then in
       let new = both (fresh line file s.outputs) _ after columns.then in
@@ -147,7 +145,7 @@ module _ (line : ℕ) (s after : State) (named : AreNamed s) where
   rule-named (form.Type name type) utf8 e = type-named name type e
   rule-named (form.Input name type file) utf8 e = input-named name type file utf8 e
   rule-named (form.Function function) utf8 e = function-named function e
-  rule-named (form.Let name by) utf8 e = let-named name by e
+  rule-named (form.Let names by) utf8 e = let-named names by e
   rule-named (form.Output name file) utf8 e = output-named name file utf8 e
 
 defined-named : (statements : List Statement) (s after : State) → AreNamed s
@@ -156,8 +154,9 @@ defined-named : (statements : List Statement) (s after : State) → AreNamed s
 defined-named [] s after named utf8 e = subst AreNamed (ok-same s after e) named
 defined-named (statement ∷ rest) s after named utf8 e =
     let next = both (spec.rule statement.line statement.form s) _ after e in
-    defined-named rest next.part after
-    (rule-named statement.line s next.part named statement.form utf8.0 next.first) utf8.1 next.then
+    let kept = rule-named statement.line s next.part named statement.form utf8.0 next.first in
+    defined-named rest (with_statement next.part) after
+    (record { reads = kept.reads; writes = kept.writes }) utf8.1 next.then
 
 nothing-named : AreNamed nothing
 nothing-named = record { reads = All-nil IsNamedNode; writes = All-nil IsNamedOutput }

@@ -40,6 +40,5 @@ checked_ready view bytes ast (Ok x) spells is =
       reads = named.reads;
       writes = named.writes;
       short = kept.short;
-      first = kept.first;
     }
 checked_ready view bytes ast (Err e) spells is = tt

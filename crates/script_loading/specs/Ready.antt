@@ -1,7 +1,7 @@
 -- What each accepted script is ready for.
 use Rattle.std.specs.Prelude.{IsUtf8, ⊤}
 use Rattle.std.specs.List.{All}
-use Rattle.build_law.specs.Limits.{HasFirstOutputs, HasShortFlattens}
+use Rattle.build_law.specs.Limits.{HasShortFlattens}
 use Rattle.script_program.specs.declared.made.Made.{Made}
 use Rattle.script_program.specs.declared.made.Made.TheVariants as made
 use Rattle.script_program.specs.Script.{Script}
@@ -11,10 +11,9 @@ abbrev pub IsNamedMade : Made → Type 0
 IsNamedMade (made.Input file columns) = IsUtf8 file
 IsNamedMade _ = ⊤
 
--- What each accepted script is ready for: its files can be asked for by name, no statement puts too
--- many collections together, and each reads the first output of a function.
+-- What each accepted script is ready for: its files can be asked for by name, and no statement puts
+-- too many collections together.
 pub record IsReady (script : Script) : Type 0 where
   pub reads : All (λ entry. IsNamedMade entry.1.made) script.nodes
   pub writes : All (λ entry. IsUtf8 entry.0) script.outputs
   pub short : HasShortFlattens script
-  pub first : HasFirstOutputs script

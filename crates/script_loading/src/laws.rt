@@ -1,5 +1,5 @@
 // What holds of all scripts and inputs that are read, whatever reads them.
-ghost use Rattle.std.specs.Prelude.{◌≡◌, List, Option, ℕ};
+ghost use Rattle.std.specs.Prelude.{◌≡◌, ◌⊎◌, List, Option, ℕ};
 ghost use Rattle.direct_meaning.specs.Inputs.{AreInputs, inputs_of};
 ghost use Rattle.flume_grammar.specs.declared.fault.ScriptKind.{ScriptKind as Kind};
 ghost use Rattle.flume_value.specs.declared.value.Value.{Value};
@@ -10,8 +10,11 @@ ghost use Rattle.script_loading.specs.Loads.{AllHaveRows};
 
 use csv_rows::rows_law;
 
-/// Bytes are accepted as one script or refused for one reason, and not both.
+/// Bytes are accepted as one script or refused for one reason, and not both: one of the two, since
+/// no rule answers want of memory.
 pub fn accepted_law()
+    ensures either { (bytes : List ℕ) → ((script : Script) × Accepted bytes script)
+        ⊎ ((line : ℕ) × (kind : Kind) × Refused bytes line kind) }
     ensures one_script { (bytes : List ℕ) (one other : Script) →
         Accepted bytes one → Accepted bytes other → one ≡ other }
     ensures not_both { (bytes : List ℕ) (script : Script) (line : ℕ) (kind : Kind) →

@@ -1,5 +1,5 @@
 -- The sources of a script's graph are numbered below their count, and are as many as needed inputs.
-use Rattle.std.proofs.Common.{◌≡◌, ℕ, suc, ◌+◌, ◌<◌, ◌≤◌, Bool, true, false, cond, List, [], ◌∷◌, ◌++◌, Option, Some, None, length, length-append, refl, sym, subst, arith}
+use Rattle.std.proofs.Common.{◌≡◌, ℕ, suc, ◌+◌, ◌<◌, ◌≤◌, Bool, true, false, cond, List, [], ◌∷◌, ◌++◌, Option, Some, None, length, length-append, refl, sym, ap, ◌∙◌, subst, arith}
 use Rattle.std.specs.Prelude.{if◌then◌else◌}
 use Rattle.std.specs.List.{AllByRecursion, filter, flat_map}
 use Rattle.flume_types.specs.declared.types.Ty.{Ty}
@@ -9,9 +9,13 @@ use Rattle.exec_graph.specs.declared.graph.Entry.{Entry}
 use Rattle.exec_graph.specs.declared.graph.Node.{Node}
 use Rattle.exec_graph.specs.declared.graph.Node.TheVariants.{Source, Flatten, Pdo, Gbk, Barrier}
 use Rattle.exec_graph.specs.declared.graph.Place.{Place}
-use Rattle.graph_build.specs.Graphs.{behind, giving, graph_of, next_source, nodes_at, nodes_from, place_in}
+use Rattle.graph_build.specs.Graphs.{behind, graph_of, next_source, nodes_at, nodes_from, place_in, places}
 use Rattle.graph_build.specs.Nodes.{made_nodes}
-use Rattle.graph_build.specs.Wanted.{wanted, wanted_from}
+use Rattle.graph_build.specs.Built.{built, built_from, is_built, is_built_as}
+use Rattle.graph_build.proofs.WantedLemmas.{needed_here}
+use Rattle.build_law.proofs.MadeKinds.{Kind, called, kind_of, none_emitted, other}
+use Rattle.build_law.proofs.Tables.{one_longer}
+use Rattle.build_law.proofs.Values.{regrouped}
 use Rattle.optimise.specs.Optimised.{source_count, source_count_at}
 use Rattle.plan_rules.specs.Fitting.{HasSourcesBelow, IsSourceBelow}
 use Rattle.script_program.specs.declared.made.Made.{Made}
@@ -41,10 +45,10 @@ count_append (x ∷ xs) ys =
     let e = count_append xs ys in
     omega arith
 
-module _ (gives : ℕ → Place) where
+module _ (script : Script) (gives : ℕ → Place) where
   block_below : (origin source n : ℕ) (mk : Made)
-      → Below (source + source_count (made_nodes gives origin source n mk))
-      (made_nodes gives origin source n mk)
+      → Below (source + source_count (made_nodes script gives origin source n mk))
+      (made_nodes script gives origin source n mk)
   block_below origin source n (made.Input file columns) = (omega arith, tt)
   block_below origin source n (made.Do input f output) = (tt, tt)
   block_below origin source n (made.Group input) = (tt, tt)
@@ -56,7 +60,8 @@ module _ (gives : ℕ → Place) where
   block_below origin source n (made.Top many input) = (tt, (tt, (tt, (tt, tt))))
 
   block_next : (origin source n : ℕ) (mk : Made)
-      → next_source source (Some mk) ≡ source + source_count (made_nodes gives origin source n mk)
+      → next_source source (Some mk) ≡ source + source_count
+      (made_nodes script gives origin source n mk)
   block_next origin source n (made.Input file columns) = refl
   block_next origin source n (made.Do input f output) = refl
   block_next origin source n (made.Group input) = refl
@@ -67,24 +72,24 @@ module _ (gives : ℕ → Place) where
   block_next origin source n (made.Top many input) = refl
 
   part_below : (origin source n : ℕ) (w : Option Made)
-      → Below (source + source_count (nodes_at gives origin source n w))
-      (nodes_at gives origin source n w)
+      → Below (source + source_count (nodes_at script gives origin source n w))
+      (nodes_at script gives origin source n w)
   part_below origin source n None = tt
   part_below origin source n (Some mk) = block_below origin source n mk
 
   part_next : (origin source n : ℕ) (w : Option Made)
-      → next_source source w ≡ source + source_count (nodes_at gives origin source n w)
+      → next_source source w ≡ source + source_count (nodes_at script gives origin source n w)
   part_next origin source n None = omega arith
   part_next origin source n (Some mk) = block_next origin source n mk
 
   all_below : (origin source n : ℕ) (ws : List (Option Made))
-      → Below (source + source_count (nodes_from gives origin source n ws))
-      (nodes_from gives origin source n ws)
+      → Below (source + source_count (nodes_from script gives origin source n ws))
+      (nodes_from script gives origin source n ws)
   all_below origin source n [] = tt
   all_below origin source n (w ∷ ws) =
-      let block : List Entry = nodes_at gives origin source n w in
+      let block : List Entry = nodes_at script gives origin source n w in
       let rest : List Entry =
-      nodes_from gives (suc origin) (next_source source w) (behind n w) ws in
+      nodes_from script gives (suc origin) (next_source source w) (behind n w) ws in
       let e : source_count (block ++ rest) ≡ source_count block + source_count rest
       = count_append block rest in
       let next : next_source source w ≡ source + source_count block
@@ -101,13 +106,14 @@ pub sources_below : (script : Script)
 sources_below script =
     let es : List Entry = (graph_of script).nodes in
     let e : 0 + source_count es ≡ source_count es = omega arith in
-    subst (λ (m : ℕ). Below m es) e (all_below (place_in (giving script)) 0 0 0 (wanted script))
+    subst (λ (m : ℕ). Below m es) e (all_below script (place_in (places script)) 0 0 0
+    (built script))
 
 -- ---- as many as needed inputs
 
 module _ (script : Script) (gives : ℕ → Place) where
   block_count : (origin source n : ℕ) (mk : Made) (t : Ty)
-      → source_count (made_nodes gives origin source n mk) ≡ length (wanted_by mk t)
+      → source_count (made_nodes script gives origin source n mk) ≡ length (wanted_by mk t)
   block_count origin source n (made.Input file columns) t = refl
   block_count origin source n (made.Do input f output) t = refl
   block_count origin source n (made.Group input) t = refl
@@ -127,30 +133,77 @@ module _ (script : Script) (gives : ℕ → Place) where
   more_count : (b : Bool) (origin source n : ℕ) (entry : List ℕ × ScriptNode) (others : Numbered)
       (rest : List Entry) → source_count rest ≡ length (inputs_in others)
       → source_count
-      (nodes_at gives origin source n (if b then Some entry.1.made else None) ++ rest)
+      (nodes_at script gives origin source n (if b then Some entry.1.made else None) ++ rest)
       ≡ length (inputs_in (cond b ((origin, entry) ∷ others) others))
   more_count true origin source n entry others rest h =
       let mk = entry.1.made in
       let t = entry.1.type in
-      let whole = count_append (made_nodes gives origin source n mk) rest in
+      let whole = count_append (made_nodes script gives origin source n mk) rest in
       let block = block_count origin source n mk t in
       let inputs = length-append (wanted_by mk t) (inputs_in others) in
       omega arith
   more_count false origin source n entry others rest h = h
 
-  all_count : (origin source n : ℕ) (nodes : Named ScriptNode)
-      → source_count (nodes_from gives origin source n (wanted_from script origin nodes))
+  -- what is no input adds none, whether it is needed or nodes are built at it
+  no_source : (b : Bool) (origin source n input f o : ℕ) (rest : List Entry)
+      → source_count
+      (nodes_at script gives origin source n (if b then Some (made.Do input f o) else None)
+      ++ rest)
+      ≡ source_count rest
+  no_source true origin source n input f o rest =
+      let nodes : List Entry = made_nodes script gives origin source n (made.Do input f o) in
+      let none : source_count nodes ≡ 0 = refl in
+      let whole = count_append nodes rest in
+      omega arith
+  no_source false origin source n input f o rest = refl
+
+  no_input : (b : Bool) (origin input f o : ℕ) (entry : List ℕ × ScriptNode) (others : Numbered)
+      → entry.1.made ≡ made.Do input f o
+      → inputs_in (cond b ((origin, entry) ∷ others) others) ≡ inputs_in others
+  no_input true origin input f o entry others is =
+      ap (λ (how : Made). wanted_by how entry.1.type ++ inputs_in others) is
+  no_input false origin input f o entry others is = refl
+
+  -- nodes are built at what is no output of a call where it is needed
+  one_count : (origin source n : ℕ) (entry : List ℕ × ScriptNode) (others : Numbered)
+      (rest : List Entry) {how : Made} → entry.1.made ≡ how → Kind how
+      → origin < length script.nodes → source_count rest ≡ length (inputs_in others)
+      → source_count
+      (nodes_at script gives origin source n
+      (if is_built script origin how then Some how else None) ++ rest)
+      ≡ length (inputs_in (cond (is_needed script origin) ((origin, entry) ∷ others) others))
+  one_count origin source n entry others rest is (called input f o) below h =
+      no_source (is_built script origin (made.Do input f o)) origin source n input f o rest
+      ∙ h
+      ∙ ap length
+      (sym (no_input (is_needed script origin) origin input f o entry others is))
+  one_count origin source n entry others rest is (other how apart) below h =
+      let need : is_built script origin how ≡ is_needed script origin =
+      ap (is_built_as script origin) (none_emitted how apart) ∙ needed_here script origin below in
+      ap (λ b. source_count
+      (nodes_at script gives origin source n (if b then Some how else None) ++ rest)) need
+      ∙ ap (λ (it : Made). source_count (nodes_at script gives origin source n
+      (if is_needed script origin then Some it else None) ++ rest)) (sym is)
+      ∙ more_count (is_needed script origin) origin source n entry others rest h
+
+  all_count : (before nodes : Named ScriptNode) (origin source n : ℕ)
+      → script.nodes ≡ before ++ nodes → length before ≡ origin
+      → source_count (nodes_from script gives origin source n (built_from script origin nodes))
       ≡ length (inputs_in (filter (λ it. is_needed script it.0) (numbered origin nodes)))
-  all_count origin source n [] = refl
-  all_count origin source n (entry ∷ nodes) =
-      let b = is_needed script origin in
-      let how : Option Made = if b then Some entry.1.made else None in
-      more_count b origin source n entry
+  all_count before [] origin source n is size = refl
+  all_count before (entry ∷ nodes) origin source n is size =
+      let how : Made = entry.1.made in
+      let w : Option Made = if is_built script origin how then Some how else None in
+      let all = ap length is in
+      let both = length-append before (entry ∷ nodes) in
+      one_count origin source n entry
       (filter (λ it. is_needed script it.0) (numbered (suc origin) nodes))
-      (nodes_from gives (suc origin) (next_source source how) (behind n how)
-      (wanted_from script (suc origin) nodes))
-      (all_count (suc origin) (next_source source how) (behind n how) nodes)
+      (nodes_from script gives (suc origin) (next_source source w) (behind n w)
+      (built_from script (suc origin) nodes)) refl (kind_of how) (omega arith)
+      (all_count (before ++ entry ∷ []) nodes (suc origin) (next_source source w) (behind n w)
+      (regrouped script.nodes before (entry ∷ []) nodes is) (one_longer before entry ∙ ap suc size))
 
 pub sources_counted : (script : Script)
     → source_count (graph_of script).nodes ≡ length (inputs_of script)
-sources_counted script = all_count script (place_in (giving script)) 0 0 0 script.nodes
+sources_counted script =
+    all_count script (place_in (places script)) [] script.nodes 0 0 0 refl refl

@@ -9,6 +9,7 @@ ghost use Rattle.exec_plan.specs.Typing.{IsPlanTyped};
 ghost use Rattle.exec_plan.specs.Wellformed.{IsPlanOk};
 ghost use Rattle.graph_build.specs.Graphs.{graph_of};
 ghost use Rattle.plan_laws.specs.Operations.{SamePlan};
+ghost use Rattle.script_laws.specs.WellFormed.{IsWellFormed};
 ghost use Rattle.script_plans.specs.Plans.{IsScriptPlan};
 
 use crate::scales::scales_of;
@@ -21,6 +22,7 @@ use std::alloc::{AllocError, Global};
 
 /// The plan of a program, whose execution graph this is.
 pub fn plan_of(alloc: Global, program: &Program, graph: Graph) -> Result<Plan, AllocError>
+    requires well_formed { IsWellFormed program.now.script }
     requires built { graph ≡ graph_of program.now.script }
     requires ok { IsGraphOk graph }
     ensures optimised { IfOk result (λ plan. IsScriptPlan program.now.script plan) }

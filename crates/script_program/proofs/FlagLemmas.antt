@@ -122,13 +122,12 @@ not-through flags numbers more true e are = cc
 not-through flags numbers more false e are = are
 
 pub read-next : {A : Type 0} (f : A → Made) (numbers : List ℕ) (xs : List A) (k next : ℕ) (x : A)
-    → suc k ≡ next → Some x ≡ slice_get xs k
+    → suc k ≡ next → k < length xs → x ≡ get_or xs k x
     → read_from numbers k (map f (drop k xs))
     ≡ with_reads (read_from numbers next (map f (drop next xs))) k (f x)
-read-next f numbers xs k next x after is =
+read-next f numbers xs k next x after within at =
     ap (λ ys. read_from numbers k (map f ys))
-    (drop-cons xs k x (slice_get_within xs k x (sym is))
-    ∙ ap (λ y. y ∷ drop (suc k) xs) (get_or_from_slice_get xs k x x (sym is)))
+    (drop-cons xs k x within ∙ ap (λ y. y ∷ drop (suc k) xs) (sym at))
     ∙ ap (λ m. with_reads (read_from numbers m (map f (drop m xs))) k (f x)) after
 
 pub none-left : {A : Type 0} (f : A → Made) (numbers : List ℕ) (xs : List A) (k : ℕ)

@@ -5,7 +5,8 @@ use Rattle.std.specs.List.{position, position_or_len}
 use Rattle.std.specs.Option.{option_map}
 use Rattle.std.specs.Str.{bytes_eq}
 use Rattle.std.specs.Map.{keys_of}
-use Rattle.std.proofs.lemmas.List.{length_push, take-append-le}
+use Rattle.std.proofs.lemmas.List.{length_push, take-append-le, map_push}
+use Rattle.std.proofs.lemmas.List.Elements.{All-push, All-same}
 use Rattle.std.proofs.lemmas.Option.{cond_some}
 use Rattle.flume_types.specs.declared.types.Ty.{Ty}
 use Rattle.type_table.specs.Table.{type_at, Extends}
@@ -16,6 +17,7 @@ use Rattle.script_program.specs.declared.made.Function.{Function as HeldFunction
 use Rattle.script_program.specs.declared.made.Signature.{Signature as HeldSignature}
 use Rattle.script_program.specs.declared.made.Node.{Node as HeldNode}
 use Rattle.script_program.specs.declared.made.Output.{Output}
+use Rattle.script_program.specs.declared.made.Standing.{Standing}
 use Rattle.script_program.specs.Script.{place}
 use Rattle.script_program.specs.inner.Tables.{function_of, node_of, FunctionIn, NodeIn, AreHeld}
 use Rattle.script_program.specs.inner.Tables.{checking_of}
@@ -137,8 +139,14 @@ module _ (old new : Known) (more : Grows old new) (functions : Named HeldFunctio
   nodes-kept =
       same-map (node_of new.types) (node_of old.types)
       (λ (entry : List ℕ × HeldNode). NodeIn old entry.1)
-      (λ e in_ i. (e.0, record { made = e.1.made; type = more.types.same e.1.ty in_ i })) nodes
-      held.1
+      (λ e in_ i. (
+        e.0,
+        record {
+          made = e.1.made;
+          type = more.types.same e.1.ty in_ i;
+          statement = e.1.statement;
+        },
+      )) nodes held.1
 
   function-more : (function : HeldFunction) → FunctionIn old function → FunctionIn new function
   function-more function in_ = record {
@@ -154,12 +162,35 @@ module _ (old new : Known) (more : Grows old new) (functions : Named HeldFunctio
   )
 
 pub state-kept : (old new : Known) → Extends old.types new.types → new.names ≡ old.names
-    → (functions : Named HeldFunction) (nodes : Named HeldNode) (outputs : Named Output)
-    → AreHeld old functions nodes
-    → (checking_of new functions nodes outputs).state
-    ≡ (checking_of old functions nodes outputs).state
-state-kept old new more names functions nodes outputs held =
+    → (functions : Named HeldFunction) (nodes : Named HeldNode) (standings : Named Standing)
+    (outputs : Named Output) (statements : ℕ) → AreHeld old functions nodes
+    → (checking_of new functions nodes standings outputs statements).state
+    ≡ (checking_of old functions nodes standings outputs statements).state
+state-kept old new more names functions nodes standings outputs statements held =
     let grows = grows-types old new more names in
     let a = functions-kept old new grows functions nodes held in
     let b = nodes-kept old new grows functions nodes held in
-    λ i. record { types = names i; functions = a i; nodes = b i; outputs = outputs }
+    λ i. record {
+      types = names i;
+      functions = a i;
+      nodes = b i;
+      names = standings;
+      outputs = outputs;
+      statements = statements;
+    }
+
+-- ---- one collection more
+
+module _ (nodes after : Named HeldNode) (entry : List ℕ × HeldNode)
+    (put : after ≡ nodes ++ entry ∷ []) where
+  pub held-push : (known : Known) (functions : Named HeldFunction) → AreHeld known functions nodes
+      → NodeIn known entry.1 → AreHeld known functions after
+  held-push known functions held here = (
+    held.0,
+    All-same (λ (e : List ℕ × HeldNode). NodeIn known e.1) after (nodes ++ entry ∷ []) put
+        (All-push (λ (e : List ℕ × HeldNode). NodeIn known e.1) nodes entry held.1 here),
+  )
+
+  pub nodes-push : (types : List Ty)
+      → map (node_of types) after ≡ map (node_of types) nodes ++ node_of types entry ∷ []
+  nodes-push types = ap (map (node_of types)) put ∙ map_push (node_of types) nodes entry

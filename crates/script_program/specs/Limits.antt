@@ -9,6 +9,10 @@ most_collections = 1024
 abbrev pub most_functions : ℕ
 most_functions = 128
 
+-- the most outputs of a function
+abbrev pub most_outputs : ℕ
+most_outputs = 8
+
 -- the most files that it may write
 abbrev pub most_files : ℕ
 most_files = 64

@@ -10,8 +10,9 @@ use Rattle.expression_types.specs.Held.{AreTypes}
 use Rattle.written_types.specs.Known.{Known}
 use Rattle.script_program.specs.declared.made.Signature.{Signature as HeldSignature}
 use Rattle.script_program.specs.declared.made.Function.{Function as HeldFunction}
+use Rattle.script_program.specs.declared.made.Making.{Making as HeldMaking}
 use Rattle.script_program.specs.declared.made.Node.{Node as HeldNode}
-use Rattle.script_program.specs.Script.{Signature, Function, Node, Script}
+use Rattle.script_program.specs.Script.{Signature, Function, Making, Node, Script}
 
 -- the types under numbers with their names, and the script
 pub record Numbered : Type 0 where
@@ -40,7 +41,15 @@ function_in known held = record {
 
 -- a collection in memory, with its type
 abbrev pub node_in : List Ty → HeldNode → Node
-node_in types held = record { made = held.made; type = type_at types held.ty }
+node_in types held = record {
+  made = held.made;
+  type = type_at types held.ty;
+  statement = held.statement;
+}
+
+-- what a statement makes in memory, with its type
+abbrev pub making_in : List Ty → HeldMaking → Making
+making_in types held = record { made = held.made; type = type_at types held.ty }
 
 -- A function with slots does what a function with names does: it is well typed at the types of the
 -- argument and the outputs, of which it has as many, and means by slots what the parsed body means

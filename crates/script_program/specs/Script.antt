@@ -1,5 +1,6 @@
--- What a script defines, under names in the order of their definitions.
-use Rattle.std.specs.Prelude.{ℕ, List, [], ◌∷◌, ◌++◌, Option}
+-- What a script defines: functions, collections and outputs, in the order of their definitions.
+use Rattle.std.specs.Prelude.{ℕ, suc, List, [], ◌∷◌, ◌++◌, Option, None, slice_get, length}
+use Rattle.std.specs.Prelude.{option_and_then}
 use Rattle.std.specs.List.{position_or_len}
 use Rattle.std.specs.Option.{option_map}
 use Rattle.std.specs.Str.{bytes_eq}
@@ -10,6 +11,8 @@ use Rattle.flume_grammar.specs.declared.tree.Function.{Function as Written}
 use Rattle.written_types.specs.Named.{Named, find}
 use Rattle.script_program.specs.declared.made.Made.{Made}
 use Rattle.script_program.specs.declared.made.Output.{Output}
+use Rattle.script_program.specs.declared.made.Standing.{Standing}
+use Rattle.script_program.specs.declared.made.Standing.TheVariants.{Collection, Hidden}
 
 -- what a function takes, what it gives to each output, and how many emissions are expected of a
 -- hundred calls
@@ -26,24 +29,34 @@ pub record Function : Type 0 where
   pub signature : Signature
   pub body : List Body
 
--- a collection: how it is made, and the type of its members
-pub record Node : Type 0 where
+-- what a statement makes: how a collection is made, and the type of its members
+pub record Making : Type 0 where
   pub made : Made
   pub type : Ty
 
+-- a collection: how it is made, the type of its members, and the number of the statement that makes
+-- it, from 0
+pub record Node : Type 0 where
+  pub made : Made
+  pub type : Ty
+  pub statement : ℕ
+
 -- A script: its functions and collections, each numbered from 0 in this order, and its outputs by
--- their files.
+-- their files. A collection has the name that it is told by.
 pub record Script : Type 0 where
   pub functions : Named Function
   pub nodes : Named Node
   pub outputs : Named Output
 
--- what the statements so far define: types too
+-- What the statements so far define: types too, what names of collections stand for, and how many
+-- statements there are.
 pub record State : Type 0 where
   pub types : Named Ty
   pub functions : Named Function
   pub nodes : Named Node
+  pub names : Named Standing
   pub outputs : Named Output
+  pub statements : ℕ
 
 -- a function as it is written, with its types, where names stand for types as in this state
 abbrev pub function_from : Written → Signature → State → Function
@@ -54,8 +67,23 @@ function_from function signature s = record {
   body = function.body;
 }
 
+-- what a statement of that number makes
+abbrev pub node_from : ℕ → Making → Node
+node_from statement making = record {
+  made = making.made;
+  type = making.type;
+  statement = statement;
+}
+
 abbrev pub nothing : State
-nothing = record { types = []; functions = []; nodes = []; outputs = [] }
+nothing = record {
+  types = [];
+  functions = [];
+  nodes = [];
+  names = [];
+  outputs = [];
+  statements = 0;
+}
 
 abbrev pub script_from : State → Script
 script_from s = record { functions = s.functions; nodes = s.nodes; outputs = s.outputs }
@@ -67,7 +95,9 @@ with_type name t s = record {
   types = s.types ++ (name, t) ∷ [];
   functions = s.functions;
   nodes = s.nodes;
+  names = s.names;
   outputs = s.outputs;
+  statements = s.statements;
 }
 
 abbrev pub with_function : List ℕ → Function → State → State
@@ -75,23 +105,48 @@ with_function name function s = record {
   types = s.types;
   functions = s.functions ++ (name, function) ∷ [];
   nodes = s.nodes;
+  names = s.names;
   outputs = s.outputs;
+  statements = s.statements;
 }
 
-abbrev pub with_node : List ℕ → Node → State → State
-with_node name node s = record {
+-- a collection more, which this statement makes; the name stands for it
+abbrev pub with_node : List ℕ → Making → State → State
+with_node name making s = record {
   types = s.types;
   functions = s.functions;
-  nodes = s.nodes ++ (name, node) ∷ [];
+  nodes = s.nodes ++ (name, node_from s.statements making) ∷ [];
+  names = s.names ++ (name, Collection (length s.nodes)) ∷ [];
   outputs = s.outputs;
+  statements = s.statements;
 }
+
+-- for each name a collection more, in order
+abbrev pub with_nodes : List (List ℕ) → List Making → State → State
+with_nodes [] makings s = s
+with_nodes (name ∷ names) [] s = s
+with_nodes (name ∷ names) (making ∷ makings) s =
+    with_nodes names makings (with_node name making s)
 
 abbrev pub with_output : List ℕ → Output → State → State
 with_output file output s = record {
   types = s.types;
   functions = s.functions;
   nodes = s.nodes;
+  names = s.names;
   outputs = s.outputs ++ (file, output) ∷ [];
+  statements = s.statements;
+}
+
+-- the same, behind one statement more
+abbrev pub with_statement : State → State
+with_statement s = record {
+  types = s.types;
+  functions = s.functions;
+  nodes = s.nodes;
+  names = s.names;
+  outputs = s.outputs;
+  statements = suc s.statements;
 }
 
 -- ---- operands
@@ -105,9 +160,20 @@ pub record Operand : Type 0 where
   pub number : ℕ
   pub type : Ty
 
-abbrev pub find_node : List ℕ → Named Node → Option Operand
-find_node name nodes =
-    option_map (λ node. record { number = place name nodes; type = node.type }) (find name nodes)
+-- the collection of a number, where there is one
+abbrev pub operand_at : Named Node → ℕ → Option Operand
+operand_at nodes number =
+    option_map (λ entry. record { number = number; type = entry.1.type })
+    (slice_get nodes number)
+
+-- what a name stands for, where it is a collection's
+abbrev pub operand_of : Named Node → Standing → Option Operand
+operand_of nodes (Collection number) = operand_at nodes number
+operand_of nodes Hidden = None
+
+-- the collection of a name
+abbrev pub find_node : List ℕ → State → Option Operand
+find_node name s = option_and_then (operand_of s.nodes) (find name s.names)
 
 -- a function as an operand: its number, what it takes, and what it gives to each output
 pub record Callee : Type 0 where

@@ -1,9 +1,10 @@
 //! What a script defines: functions, collections and outputs under their names.
 //!
 //! `State` holds what the statements so far define, and takes one more definition at a time, under
-//! a name that is free. `Program` is the whole, behind the last statement: it also keeps which
-//! collections are needed, as `specs/Needed.antt` defines. Which definitions a script may make is
-//! for script_check.
+//! a name that is free. Names stand apart from collections, so a collection may have a further name
+//! or one by which it is not found. `Program` is the whole, behind the last statement: it also
+//! keeps which collections are needed, as `specs/Needed.antt` defines. Which definitions a script
+//! may make is for script_check.
 //!
 //! Both hold types under numbers. Contracts see them over types as trees, in the order of the
 //! definitions, as `specs/Script.antt` defines; `specs/Program.antt` and `specs/Held.antt` say
@@ -17,8 +18,8 @@ mod operand;
 mod program;
 mod state;
 
-pub use limits::{MOST_COLLECTIONS, MOST_FILES, MOST_FUNCTIONS};
-pub use made::{Function, Made, Node, Output, Signature};
+pub use limits::{MOST_COLLECTIONS, MOST_FILES, MOST_FUNCTIONS, MOST_OUTPUTS};
+pub use made::{Function, Made, Making, Node, Output, Signature, Standing};
 pub use operand::{Callee, Operand};
 pub use program::Program;
 pub use state::State;

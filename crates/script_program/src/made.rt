@@ -51,11 +51,27 @@ pub enum Made {
     },
 }
 
-/// A collection: how it is made, and the type of its members.
+/// What a statement makes: how a collection is made, and the type of its members.
+#[derive(Drop)]
+pub struct Making {
+    pub made: Made,
+    pub ty: TypeId,
+}
+
+/// A collection: how it is made, the type of its members, and the number of the statement that
+/// makes it, from 0 in the script.
 #[derive(Drop)]
 pub struct Node {
     pub made: Made,
     pub ty: TypeId,
+    pub statement: usize,
+}
+
+/// What a name stands for: the collection of a number, or none though it is taken.
+#[derive(Clone, Copy)]
+pub enum Standing {
+    Collection(usize),
+    Hidden,
 }
 
 /// What a function takes and gives.
@@ -87,6 +103,8 @@ pub struct Function {
 /// An output.
 #[derive(Drop)]
 pub struct Output {
+    /// The name of the collection, as it is written.
+    pub name: Str,
     /// The number of the collection that is written.
     pub reads: usize,
     /// The columns in which its members are written.

@@ -12,11 +12,11 @@ use std::alloc::{AllocError, Global};
 /// For each collection whether it is needed: whether a path of reads leads from it to an output.
 pub fn needed(
     alloc: Global,
-    nodes: &IndexMap<Str, Node>,
+    nodes: &[(Str, Node)],
     outputs: &IndexMap<Str, Output>,
 ) -> Result<Vec<bool>, AllocError>
     ensures { IfOk result (λ flags.
-        TellNeeded nodes.now.entries outputs.now.entries flags.items) }
+        TellNeeded nodes.now outputs.now.entries flags.items) }
 {
     let mut flags = unmarked(alloc, nodes.len())?;
     mark_outputs(outputs, &mut flags);
@@ -50,16 +50,16 @@ fn mark_outputs(outputs: &IndexMap<Str, Output>, flags: &mut Vec<bool>)
 }
 
 /// Marks what marked collections are made from, from the last to the first.
-fn mark_needed(nodes: &IndexMap<Str, Node>, flags: &mut Vec<bool>)
-    requires { length flags.old.items ≡ length nodes.now.entries }
+fn mark_needed(nodes: &[(Str, Node)], flags: &mut Vec<bool>)
+    requires { length flags.old.items ≡ length nodes.now }
     ensures many { length flags.new.items ≡ length flags.old.items }
     ensures marked { (numbers : List ℕ) → AreFlags numbers flags.old.items →
-        AreFlags (read_from numbers 0 (held_made nodes.now.entries)) flags.new.items }
+        AreFlags (read_from numbers 0 (held_made nodes.now)) flags.new.items }
 {
     let mut number = nodes.len();
     while 0 < number {
         number -= 1;
-        match nodes.get_index(number) {
+        match nodes.get(number) {
             Some((_, node)) => mark_reads(number, &node.made, flags),
             None => unreachable!(),
         }

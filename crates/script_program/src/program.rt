@@ -7,7 +7,7 @@ ghost use Rattle.script_program.specs.inner.Tables.{AreHeld, numbered_of};
 ghost use Rattle.script_program.specs.inner.Flags.{TellNeeded};
 
 use crate::made::{Function, Node, Output};
-use flume_value::Str;
+use flume_value::{Pile, Str};
 use indexmap::IndexMap;
 use std::marker::Model;
 use type_table::Types;
@@ -18,7 +18,7 @@ use written_types::TypeNames;
 pub struct Program {
     known: TypeNames,
     functions: IndexMap<Str, Function>,
-    nodes: IndexMap<Str, Node>,
+    nodes: Pile<(Str, Node)>,
     outputs: IndexMap<Str, Output>,
     needed: Vec<bool>,
 }
@@ -44,25 +44,25 @@ impl Model for Program {
     ) };
 
     ghost view = { λ program.
-        numbered_of program.known program.functions.entries program.nodes.entries
+        numbered_of program.known program.functions.entries program.nodes
         program.outputs.entries };
 
     ghost invariant = { λ program.
-        AreHeld program.known program.functions.entries program.nodes.entries
-        × TellNeeded program.nodes.entries program.outputs.entries program.needed.items };
+        AreHeld program.known program.functions.entries program.nodes
+        × TellNeeded program.nodes program.outputs.entries program.needed.items };
 }
 
 impl Program {
     pub(crate) fn new(
         known: TypeNames,
         functions: IndexMap<Str, Function>,
-        nodes: IndexMap<Str, Node>,
+        nodes: Pile<(Str, Node)>,
         outputs: IndexMap<Str, Output>,
         needed: Vec<bool>,
     ) -> Program
-        requires held { AreHeld known functions.entries nodes.entries }
-        requires needed { TellNeeded nodes.entries outputs.entries needed.items }
-        ensures { result ≡ numbered_of known functions.entries nodes.entries outputs.entries }
+        requires held { AreHeld known functions.entries nodes }
+        requires needed { TellNeeded nodes outputs.entries needed.items }
+        ensures { result ≡ numbered_of known functions.entries nodes outputs.entries }
     {
         Program {
             known,
@@ -126,7 +126,7 @@ impl Program {
         ensures { option_map (λ entry. entry.0) (slice_get self.now.script.nodes number)
             ≡ Some result.now }
     {
-        match self.nodes.get_index(number) {
+        match self.nodes.get(number) {
             Some((name, _)) => name,
             None => unreachable!(),
         }
@@ -139,7 +139,7 @@ impl Program {
             ≡ Some (spec.node_in self.now.known.types result.now) }
         ensures within { result.now.ty < length self.now.known.types }
     {
-        match self.nodes.get_index(number) {
+        match self.nodes.get(number) {
             Some((_, node)) => node,
             None => unreachable!(),
         }

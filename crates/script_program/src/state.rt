@@ -1,18 +1,18 @@
 // What the statements of a script so far define, which takes one definition more at a time.
 ghost use Rattle.std.specs.Prelude.{◌≡◌, ◌≤◌, ◌<◌, [], length, map, false, is_some, IfOk, IfSome};
-ghost use Rattle.std.specs.Prelude.{OnOk};
+ghost use Rattle.std.specs.Prelude.{◌-◌, ◌^◌, OnOk};
 ghost use Rattle.std.specs.Option.{option_map};
 ghost use Rattle.flume_types.specs.Tables.{table_of};
 ghost use Rattle.type_table.specs.Table.{type_at, tree_of, IsWithin, Extends};
 ghost use Rattle.written_types.specs.Answer.{Gives};
 ghost use Rattle.written_types.specs.Named.{find};
 ghost use Rattle.written_types.specs.Written.{whole_type as whole};
-ghost use Rattle.script_program.specs.Program.{signature_in, HasTypes, node_in, Does};
+ghost use Rattle.script_program.specs.Program.{signature_in, HasTypes, making_in, Does};
 ghost use Rattle.body_check.specs.Bodies.{body_of};
 ghost use Rattle.script_program.specs.Script as spec;
 ghost use Rattle.script_program.specs.Held.{operand_in, callee_in};
 
-use crate::made::{Function, Node, Output, Signature};
+use crate::made::{Function, Making, Node, Output, Signature, Standing};
 use crate::needed::needed;
 use crate::operand::{Callee, Operand};
 use crate::program::Program;
@@ -31,8 +31,10 @@ use written_types::{TypeNames, table, whole_type};
 pub struct State {
     known: TypeNames,
     functions: IndexMap<Str, Function>,
-    nodes: IndexMap<Str, Node>,
+    nodes: Pile<(Str, Node)>,
+    names: IndexMap<Str, Standing>,
     outputs: IndexMap<Str, Output>,
+    statements: usize,
 }
 
 impl Model for State {
@@ -41,6 +43,7 @@ impl Model for State {
     ghost use Rattle.flume_grammar.specs.contracts.tree.Body as coded_bodies;
     ghost use Rattle.script_program.specs.contracts.made.Made as coded_made;
     ghost use Rattle.script_program.specs.contracts.made.Output as coded_outputs;
+    ghost use Rattle.script_program.specs.contracts.made.Standing as coded_standings;
     ghost use Rattle.script_program.specs.Held.{Checking};
     ghost use Rattle.script_program.specs.inner.Tables.{checking_of, AreHeld};
 
@@ -52,14 +55,15 @@ impl Model for State {
       coded_bodies.the_row.coded,
       coded_made.the_row.coded,
       coded_outputs.the_row.coded,
+      coded_standings.the_row.coded,
     ) };
 
     ghost view = { λ state.
-        checking_of state.known state.functions.entries state.nodes.entries
-        state.outputs.entries };
+        checking_of state.known state.functions.entries state.nodes state.names.entries
+        state.outputs.entries state.statements };
 
     ghost invariant = { λ state.
-        AreHeld state.known state.functions.entries state.nodes.entries };
+        AreHeld state.known state.functions.entries state.nodes };
 }
 
 impl State {
@@ -71,8 +75,10 @@ impl State {
         State {
             known: TypeNames::new(alloc),
             functions: IndexMap::new(alloc),
-            nodes: IndexMap::new(alloc),
+            nodes: Pile::new(alloc),
+            names: IndexMap::new(alloc),
             outputs: IndexMap::new(alloc),
+            statements: 0,
         }
     }
 
@@ -80,12 +86,14 @@ impl State {
     pub fn into_program(self, alloc: Global) -> Result<Program, AllocError>
         ensures { IfOk result (λ program. program.script ≡ spec.script_from self.state) }
     {
-        let needed = needed(alloc, &self.nodes, &self.outputs)?;
+        let needed = needed(alloc, self.nodes.as_slice(), &self.outputs)?;
         let State {
             known,
             functions,
             nodes,
+            names: _names,
             outputs,
+            statements: _statements,
         } = self;
         Ok(Program::new(known, functions, nodes, outputs, needed))
     }
@@ -178,11 +186,11 @@ impl State {
         self.functions.contains_key(name)
     }
 
-    /// Whether a name stands for a collection.
-    pub fn has_node(&self, name: &Str) -> bool
-        ensures { result ≡ is_some (find name.now self.now.state.nodes) }
+    /// Whether a name is taken among those of collections.
+    pub fn has_name(&self, name: &Str) -> bool
+        ensures { result ≡ is_some (find name.now self.now.state.names) }
     {
-        self.nodes.contains_key(name)
+        self.names.contains_key(name)
     }
 
     /// Whether a collection is written to a file.
@@ -208,10 +216,22 @@ impl State {
     /// The collection of a name.
     pub fn node(&self, name: &Str) -> Option<Operand>
         ensures ok { option_map (operand_in self.now.types) result
-            ≡ spec.find_node name.now self.now.state.nodes }
+            ≡ spec.find_node name.now self.now.state }
         ensures within { IfSome result (λ operand. operand.ty < length self.now.types) }
     {
-        let (number, _, node) = self.nodes.get_full(name)?;
+        match self.names.get(name)? {
+            Standing::Collection(number) => self.operand(*number),
+            Standing::Hidden => None,
+        }
+    }
+
+    /// The collection of a number, where there is one.
+    fn operand(&self, number: usize) -> Option<Operand>
+        ensures ok { option_map (operand_in self.now.types) result
+            ≡ spec.operand_at self.now.state.nodes number }
+        ensures within { IfSome result (λ operand. operand.ty < length self.now.types) }
+    {
+        let (_, node) = self.nodes.get(number)?;
         Some(Operand {
             number,
             ty: node.ty,
@@ -230,6 +250,13 @@ impl State {
         ensures { result ≡ length self.now.state.nodes }
     {
         self.nodes.len()
+    }
+
+    /// How many statements made this.
+    pub fn statement_count(&self) -> usize
+        ensures { result ≡ self.now.state.statements }
+    {
+        self.statements
     }
 
     /// How many outputs there are.
@@ -275,6 +302,7 @@ impl State {
             argument,
             takes: _takes,
             gives: _gives,
+            more: _more,
             scale: _scale,
             body,
         } = function;
@@ -289,15 +317,24 @@ impl State {
         Ok(())
     }
 
-    /// A collection more, under a name that stands for none yet.
-    pub fn add_node(&mut self, name: Str, node: Node) -> Result<(), AllocError>
-        requires new { is_some (find name self.old.state.nodes) ≡ false }
-        requires within { node.ty < length self.old.types }
+    /// A collection more, which this statement makes, under a name that is not taken yet.
+    pub fn add_node(&mut self, alloc: Global, name: Str, making: Making) -> Result<(), AllocError>
+        requires new { is_some (find name self.old.state.names) ≡ false }
+        requires within { making.ty < length self.old.types }
         ensures state { OnOk result (self.new.state
-            ≡ spec.with_node name (node_in self.old.types node) self.old.state) }
+            ≡ spec.with_node name (making_in self.old.types making) self.old.state) }
         ensures types { self.new.types ≡ self.old.types }
     {
-        self.nodes.insert(name, node)?;
+        let number = self.nodes.len();
+        let key = name.copy(alloc)?;
+        let Making { made, ty } = making;
+        let node = Node {
+            made,
+            ty,
+            statement: self.statements,
+        };
+        self.nodes.push((name, node))?;
+        self.names.insert(key, Standing::Collection(number))?;
         Ok(())
     }
 
@@ -310,5 +347,14 @@ impl State {
     {
         self.outputs.insert(file, output)?;
         Ok(())
+    }
+
+    /// Ends a statement: what is defined from here on is made by the next one.
+    pub fn end_statement(&mut self)
+        requires { self.old.state.statements < 2 ^ 64 - 1 }
+        ensures state { self.new.state ≡ spec.with_statement self.old.state }
+        ensures types { self.new.types ≡ self.old.types }
+    {
+        self.statements += 1;
     }
 }

@@ -1,7 +1,7 @@
 // The run of a script by its plan.
 ghost use Rattle.std.specs.Prelude.{◌≡◌, ◌≤◌, IfErr, IfOk, length, map};
 ghost use Rattle.std.specs.List.{AllZip};
-ghost use Rattle.build_law.specs.Limits.{HasFirstOutputs, HasShortFlattens};
+ghost use Rattle.build_law.specs.Limits.{HasShortFlattens};
 ghost use Rattle.crew.specs.Hosts.{account, Grew};
 ghost use Rattle.direct_meaning.specs.Inputs.{AreInputs};
 ghost use Rattle.flume_value.specs.Bag.{bag_of};
@@ -47,7 +47,6 @@ pub fn run_script<X: Threads + Sync, H: Host + Send>(
 ) -> Result<Ran, RunFault>
     requires well_formed { IsWellFormed program.now.script }
     requires short { HasShortFlattens program.now.script }
-    requires first { HasFirstOutputs program.now.script }
     requires plan { IsPlanOf program.now.script plan.now }
     requires inputs { AreInputs program.now.script inputs }
     requires hosts { length hosts.old ≡ settings.now.workers }

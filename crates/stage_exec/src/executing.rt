@@ -29,9 +29,8 @@ use task_lists::tasks_law;
 /// Executes a plan without objects over the rows of its sources, one list for each, with a worker
 /// on each of the hosts. It counts for the first so many script nodes.
 ///
-/// It stops at the first trap of the plan's tasks, by phases in order and by tasks in order within
-/// one; or, where no smaller task of that phase and none of an earlier one traps, at the least task
-/// of which no attempt has won.
+/// It stops at the first task, by phases in order and by tasks in order within one, that traps or
+/// of which no attempt has won: with its first trap, or naming it.
 pub fn execute<R: Threads + Sync, F: Functions + Sync, H: Host + Send>(
     rt: &R,
     alloc: Global,

@@ -17,10 +17,15 @@ pub fn has_head(function: &Function) -> bool {
         && is_leaf(&function.gives, Leaf::Bool)
 }
 
+/// Whether the function has that head, and no further outputs.
+fn is_single(function: &Function) -> bool {
+    has_head(function) && function.more.is_empty()
+}
+
 /// The only statement of the only function of a script, if that has this head and no scale.
 pub fn sole_body(ast: &Ast) -> Option<&Body> {
     match sole(ast) {
-        Some(Form::Function(function)) if has_head(function) && function.scale.is_none() => {
+        Some(Form::Function(function)) if is_single(function) && function.scale.is_none() => {
             only(function.body.as_slice())
         }
         _ => None,
@@ -39,6 +44,9 @@ fn only(bodies: &[Body]) -> Option<&Body> {
 enum Wanted {
     /// `let y = a`
     Let,
+    Emit,
+    /// to this output
+    EmitTo(&'static [u8]),
     If,
     /// with this line of what is emitted in its `else`
     IfElse(u32),
@@ -48,8 +56,10 @@ enum Wanted {
     Case(u32),
 }
 
-static BODIES: [(&[u8], u32, Wanted); 5] = [
+static BODIES: [(&[u8], u32, Wanted); 7] = [
     (b"\nlet y = a", 2, Wanted::Let),
+    (b"emit a", 1, Wanted::Emit),
+    (b"emit to 02 a", 1, Wanted::EmitTo(b"02")),
     (b"if b { emit a }", 1, Wanted::If),
     (b"if b { emit a } else {\nemit a }", 1, Wanted::IfElse(2)),
     (b"for y in b { emit a }", 1, Wanted::For),
@@ -63,7 +73,7 @@ static BODIES: [(&[u8], u32, Wanted); 5] = [
 /// Whether `emit a` on this line is all of a body.
 fn emits(bodies: &[Body], line: u32) -> bool {
     match bodies {
-        [Body::Emit(at, expr)] => *at == line && is_name(expr, b"a"),
+        [Body::Emit(at, None, expr)] => *at == line && is_name(expr, b"a"),
         _ => false,
     }
 }
@@ -82,7 +92,14 @@ fn is_wanted(body: &Body, line: u32, wanted: Wanted) -> bool {
                 && is_left(y, left.as_slice())
                 && is_right(z, right.as_slice(), wanted)
         }
-        Body::Emit(_, _) => false,
+        Body::Emit(at, to, expr) => *at == line && is_name(expr, b"a") && is_to(to, wanted),
+    }
+}
+
+fn is_to(to: &Option<Str>, wanted: Wanted) -> bool {
+    match to {
+        Some(digits) => matches!(wanted, Wanted::EmitTo(own) if digits.is(own)),
+        None => matches!(wanted, Wanted::Emit),
     }
 }
 

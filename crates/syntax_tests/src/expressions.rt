@@ -143,7 +143,7 @@ fn is_pick(expr: &Expr) -> bool {
 /// Whether the script has one function, whose body emits the wanted expression on line 1.
 fn emits(ast: &Ast, wanted: Wanted) -> bool {
     match sole_body(ast) {
-        Some(Body::Emit(line, expr)) => *line == 1 && is_wanted(expr, wanted),
+        Some(Body::Emit(line, None, expr)) => *line == 1 && is_wanted(expr, wanted),
         _ => false,
     }
 }

@@ -5,7 +5,7 @@ use flume_syntax::ScriptKind;
 use std::test::Fail;
 
 /// Scripts with the first fault of each.
-static FAULTS: [(&[u8], Outcome); 14] = [
+static FAULTS: [(&[u8], Outcome); 20] = [
     (b"type type = int", Outcome::Refused(1, ScriptKind::Syntax)),
     (b"@", Outcome::Refused(1, ScriptKind::Token)),
     (b"\xff", Outcome::Refused(1, ScriptKind::Utf8)),
@@ -37,6 +37,27 @@ static FAULTS: [(&[u8], Outcome); 14] = [
         b"fn f(x: r) -> r { emit 1\n}}",
         Outcome::Refused(2, ScriptKind::Syntax),
     ),
+    (
+        b"fn f(x: r) -> r { emit to\nx }",
+        Outcome::Refused(2, ScriptKind::Syntax),
+    ),
+    (
+        b"fn f(x: r) -> r { emit to 2\nto }",
+        Outcome::Refused(2, ScriptKind::Syntax),
+    ),
+    (
+        b"fn f(x: r) -> r,\n{ }",
+        Outcome::Refused(2, ScriptKind::Syntax),
+    ),
+    (b"let a,\n= do c f", Outcome::Refused(2, ScriptKind::Syntax)),
+    (
+        b"let a\nb = do c f",
+        Outcome::Refused(2, ScriptKind::Syntax),
+    ),
+    (
+        b"let a\n, b, = do c f",
+        Outcome::Refused(2, ScriptKind::Syntax),
+    ),
     // at the end of the tokens a fault is on the last line
     (b"type r =", Outcome::Refused(1, ScriptKind::Syntax)),
     (b"type r =\n", Outcome::Refused(2, ScriptKind::Syntax)),
@@ -54,7 +75,7 @@ const EMIT: &[u8] = b"fn f(x: r) -> r { emit ";
 
 /// One part or one level more than there may be: the token that needs it stands on line 2, all that
 /// is before it on line 1.
-static ONE_TOO_MANY: [(Repeated<'static>, Outcome); 7] = [
+static ONE_TOO_MANY: [(Repeated<'static>, Outcome); 8] = [
     (
         (b"type r = {a: int", b",a: int", 15, b"\n, a: int}"),
         Outcome::Refused(2, ScriptKind::TooMany),
@@ -69,6 +90,10 @@ static ONE_TOO_MANY: [(Repeated<'static>, Outcome); 7] = [
     ),
     (
         (b"fn f(x: r) -> r { emit [a", b",a", 63, b"\n, a]}"),
+        Outcome::Refused(2, ScriptKind::TooMany),
+    ),
+    (
+        (b"fn f(x: r) -> r", b",r", 7, b"\n, r {}"),
         Outcome::Refused(2, ScriptKind::TooMany),
     ),
     (

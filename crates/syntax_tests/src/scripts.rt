@@ -6,7 +6,7 @@ use std::alloc::Global;
 use std::test::Fail;
 
 /// Scripts, and how many statements each has.
-static SMALL: [(&[u8], Outcome); 3] = [
+static SMALL: [(&[u8], Outcome); 4] = [
     (b"", Outcome::Statements(0)),
     (
         b"type r = {type: int, fn: either<table<r, list<bool>>, text>}\n\
@@ -25,12 +25,17 @@ static SMALL: [(&[u8], Outcome); 3] = [
           right b { emit pick(false, right<list<int>>(1), b) } }",
         Outcome::Statements(1),
     ),
+    (
+        b"fn f(y: r) -> int, text scale 2 { emit y.x emit to 2 text(y.x) emit to 1 -1 }\n\
+          let b, c = do a f let d = flatten b, b let e, g = group c",
+        Outcome::Statements(4),
+    ),
 ];
 
 const EMIT: &[u8] = b"fn f(x: r) -> r { emit ";
 
 /// As many parts and levels as there may be.
-static MOST: [(Repeated<'static>, Outcome); 7] = [
+static MOST: [(Repeated<'static>, Outcome); 9] = [
     ((EMIT, b"1+", 30, b"1}"), Outcome::Statements(1)),
     (
         (
@@ -49,6 +54,12 @@ static MOST: [(Repeated<'static>, Outcome); 7] = [
         (b"let a = flatten b", b",b", 255, b""),
         Outcome::Statements(1),
     ),
+    (
+        (b"fn f(x: r) -> r", b",r", 7, b" {}"),
+        Outcome::Statements(1),
+    ),
+    // the names of a let have no limit here
+    ((b"let a", b",a", 300, b" = do c f"), Outcome::Statements(1)),
     (
         (b"fn f(x: r) -> r { emit [a", b",a", 63, b"] }"),
         Outcome::Statements(1),

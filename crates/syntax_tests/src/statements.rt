@@ -3,8 +3,8 @@
 use crate::bodies::has_head;
 use crate::operations::{Operated, is_operation};
 use crate::parts::{Leaf, are_words, is_leaf, read, sole};
-use flume_syntax::{Ast, Form, Function, Type};
-use flume_value::Held;
+use flume_syntax::{Ast, Form, Function, Operation, Type};
+use flume_value::{Held, Str};
 use std::alloc::Global;
 use std::test::Fail;
 
@@ -27,15 +27,19 @@ enum Wanted {
     Type(Written),
     /// of the collection `l`
     Let(Operated),
+    /// of these collections
+    Lets(&'static [&'static [u8]], Operated),
     /// of the collection `c`, an int, from `c.csv`
     Input,
     /// of no body, and this scale
     Function(&'static [u8]),
+    /// of no body, and a bool, a text and an int for its outputs
+    Outputs,
     /// of the collection `c`, to `d.csv`
     Output,
 }
 
-static STATEMENTS: [(&[u8], Wanted); 26] = [
+static STATEMENTS: [(&[u8], Wanted); 29] = [
     (b"type t = int", Wanted::Type(Written::Leaf(Leaf::Int))),
     (b"type t = bool", Wanted::Type(Written::Leaf(Leaf::Bool))),
     (b"type t = text", Wanted::Type(Written::Leaf(Leaf::Text))),
@@ -82,7 +86,16 @@ static STATEMENTS: [(&[u8], Wanted); 26] = [
         Wanted::Let(Operated::Flatten(&[b"c", b"d", b"c"])),
     ),
     (b"let l = join c, d", Wanted::Let(Operated::Join(b"d"))),
+    (
+        b"let a, b = do c f",
+        Wanted::Lets(&[b"a", b"b"], Operated::Do(b"f")),
+    ),
+    (
+        b"let a, b, a = flatten c, d",
+        Wanted::Lets(&[b"a", b"b", b"a"], Operated::Flatten(&[b"c", b"d"])),
+    ),
     (b"fn f(x: int) -> bool scale 20 {}", Wanted::Function(b"20")),
+    (b"fn f(x: int) -> bool, text, int {}", Wanted::Outputs),
     (b"input c: int from \"c.csv\"", Wanted::Input),
     (b"output c to \"d.csv\"", Wanted::Output),
 ];
@@ -124,21 +137,38 @@ fn is_form(form: &Form, wanted: Wanted) -> bool {
         Form::Type(name, ty) => {
             name.is(b"t") && matches!(wanted, Wanted::Type(written) if is_type(ty, written))
         }
-        Form::Let(name, operation) => {
-            name.is(b"l") && matches!(wanted, Wanted::Let(it) if is_operation(operation, it))
-        }
+        Form::Let(names, operation) => is_let(names.as_slice(), operation, wanted),
         Form::Input(name, ty, file) => {
             matches!(wanted, Wanted::Input)
                 && name.is(b"c")
                 && is_leaf(ty, Leaf::Int)
                 && file.is(b"c.csv")
         }
-        Form::Function(function) => {
-            matches!(wanted, Wanted::Function(scale) if is_scaled(function, scale))
-        }
+        Form::Function(function) => is_function(function, wanted),
         Form::Output(name, file) => {
             matches!(wanted, Wanted::Output) && name.is(b"c") && file.is(b"d.csv")
         }
+    }
+}
+
+fn is_let(names: &[Str], operation: &Operation, wanted: Wanted) -> bool {
+    match wanted {
+        Wanted::Let(it) => are_words(names, &[b"l"]) && is_operation(operation, it),
+        Wanted::Lets(words, it) => are_words(names, words) && is_operation(operation, it),
+        _ => false,
+    }
+}
+
+fn is_function(function: &Function, wanted: Wanted) -> bool {
+    match wanted {
+        Wanted::Function(scale) => function.more.is_empty() && is_scaled(function, scale),
+        Wanted::Outputs => {
+            has_head(function)
+                && function.body.is_empty()
+                && function.scale.is_none()
+                && matches!(function.more.as_slice(), [Type::Text, Type::Int])
+        }
+        _ => false,
     }
 }
 

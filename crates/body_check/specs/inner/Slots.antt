@@ -1,5 +1,5 @@
 -- The slots of statements, and what is in sight after them; or the first fault.
-use Rattle.std.specs.Prelude.{ℕ, Bool, List, [], ◌∷◌, ◌++◌, Ok, slice_get}
+use Rattle.std.specs.Prelude.{ℕ, Bool, Option, List, [], ◌∷◌, ◌++◌, Ok, length, slice_get}
 use Rattle.flume_types.specs.declared.types.Ty.{Ty, out-Ty}
 use Rattle.flume_grammar.specs.declared.tree.Expr.{Expr}
 use Rattle.flume_grammar.specs.declared.tree.Body.{Body, Body-F, fold-Body}
@@ -13,6 +13,7 @@ use Rattle.expression_types.specs.Sight.{Sight, with_name}
 use Rattle.expression_types.specs.Fields.{member_type, side_types}
 use Rattle.expression_types.specs.Types.{is_same, is_bool}
 use Rattle.expression_check.specs.Slots.{Typed, slots_of}
+use Rattle.body_check.specs.Outputs.{output_of}
 
 -- a statement, and what is in sight behind it
 abbrev pub Placed : Type 0
@@ -55,8 +56,9 @@ module _ (line : ℕ) where
     x ← new_value name e s
     Ok (stmt.Let x.0, with_name name x.1 s)
 
-  abbrev pub emit_slots : List Ty → ℕ → Expr → Sight → Checked Placed
-  emit_slots gives output e s = do
+  abbrev pub emit_slots : List Ty → Option (List ℕ) → Expr → Sight → Checked Placed
+  emit_slots gives to e s = do
+    output ← or_fault line BadNumber (output_of (length gives) to)
     wanted ← or_fault line BadNumber (slice_get gives output)
     slots ← slots_as (λ t. is_same t wanted) e s
     Ok (stmt.Emit output slots, s)
@@ -101,7 +103,7 @@ module _ (gives : List Ty) where
   abbrev pub layer_placed : {X : Type 0} → (X → Sight → Checked Placed) →
       Body-F X → Sight → Checked Placed
   layer_placed f (Body-F.Let line name e) s = let_slots line name e s
-  layer_placed f (Body-F.Emit line e) s = emit_slots line gives 0 e s
+  layer_placed f (Body-F.Emit line to e) s = emit_slots line gives to e s
   layer_placed f (Body-F.If line e a b) s = if_slots line e (block f a) (block f b) s
   layer_placed f (Body-F.For line name e body) s = for_slots line name e (block f body) s
   layer_placed f (Body-F.Case line e left a right b) s =

@@ -15,7 +15,7 @@ use Rattle.flume_grammar.specs.declared.tree.Expr.{Expr}
 use Rattle.flume_grammar.specs.declared.tree.Body.{Body}
 use Rattle.flume_grammar.specs.declared.tree.Body.TheVariants as tree
 use Rattle.flume_grammar.specs.inner.Out.{Out, give, bind, at, one, next, all_of}
-use Rattle.flume_grammar.specs.inner.Reading.{sign_at, keyword_at, name_at, is_at_keyword}
+use Rattle.flume_grammar.specs.inner.Reading.{sign_at, keyword_at, name_at, is_at_keyword, numbered}
 use Rattle.flume_grammar.specs.inner.Expressions.{expression_within}
 use Rattle.flume_grammar.specs.Limits.{Limits, the_limits}
 
@@ -72,7 +72,9 @@ module _ (limits : Limits) where
       (λ _ vs. bind (value limit vs) (λ e ws. give (tree.Let line x e.0, e.1 + 1) ws)))
 
   abbrev pub emit_body : ℕ → ℕ → List Token → Out (Body × ℕ)
-  emit_body limit line ts = bind (value limit ts) (λ e us. give (tree.Emit line e.0, e.1 + 1) us)
+  emit_body limit line ts =
+      bind (numbered keyword.To ts)
+      (λ o us. bind (value limit us) (λ e vs. give (tree.Emit line o e.0, e.1 + 1) vs))
 
   abbrev pub if_body : ℕ → (List Token → Out Block) → ℕ → List Token → Out (Body × ℕ)
   if_body limit inner line ts =

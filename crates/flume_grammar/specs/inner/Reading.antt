@@ -11,7 +11,7 @@ use Rattle.flume_tokens.specs.declared.token.TokenKind.{TokenKind}
 use Rattle.flume_tokens.specs.declared.token.TokenKind.TheVariants as kind
 use Rattle.flume_grammar.specs.declared.fault.ScriptKind.TheVariants.{Syntax, TooMany}
 use Rattle.flume_grammar.specs.declared.fault.Stop.{Stop}
-use Rattle.flume_grammar.specs.inner.Out.{at}
+use Rattle.flume_grammar.specs.inner.Out.{Out, give, bind, at, one, next}
 use Rattle.flume_grammar.specs.Terminals.{word_of}
 
 -- `==` on signs and on keywords
@@ -78,3 +78,11 @@ is_at_sign s None = false
 abbrev pub is_at_keyword : Keyword → Option TokenKind → Bool
 is_at_keyword j (Some k) = is_keyword j k
 is_at_keyword j None = false
+
+abbrev pub digits : List Token → Out (Option (List ℕ))
+digits ts = bind (one number_at ts) (λ n us. give (Some n) us)
+
+-- the number behind a keyword, where that stands next
+abbrev pub numbered : Keyword → List Token → Out (Option (List ℕ))
+numbered k ts = if is_at_keyword k (next ts) then bind (one (keyword_at k) ts)
+    (λ _ us. digits us) else give None ts

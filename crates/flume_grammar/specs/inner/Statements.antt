@@ -1,5 +1,5 @@
 -- Statements of a script.
-use Rattle.std.specs.Prelude.{ℕ, length, is_some, List, [], ◌∷◌, ◌++◌, Bool, if◌then◌else◌, Option, Some, None, Result, Ok, Err}
+use Rattle.std.specs.Prelude.{ℕ, ◌+◌, length, is_some, List, [], ◌∷◌, ◌++◌, Bool, Option, Some, None, Result, Ok, Err}
 use Rattle.flume_tokens.specs.declared.keyword.Keyword.{Keyword}
 use Rattle.flume_tokens.specs.declared.keyword.Keyword.TheVariants as keyword
 use Rattle.flume_tokens.specs.declared.sign.Sign.TheVariants as sign
@@ -22,7 +22,7 @@ use Rattle.flume_grammar.specs.declared.tree.Form.{Form}
 use Rattle.flume_grammar.specs.declared.tree.Form.TheVariants as form
 use Rattle.flume_grammar.specs.declared.tree.Statement.{Statement}
 use Rattle.flume_grammar.specs.inner.Out.{Out, give, bind, at, one, next, all_of}
-use Rattle.flume_grammar.specs.inner.Reading.{sign_at, keyword_at, name_at, number_at, text_at, comma_at, or_syntax, is_at_keyword}
+use Rattle.flume_grammar.specs.inner.Reading.{sign_at, keyword_at, name_at, number_at, text_at, comma_at, or_syntax, numbered}
 use Rattle.flume_grammar.specs.Parts.{Tree}
 use Rattle.flume_grammar.specs.inner.Types.{at_comma, whole_type}
 use Rattle.flume_grammar.specs.inner.Bodies.{whole_block}
@@ -96,10 +96,14 @@ with_line t None = Err (at t Syntax)
 abbrev pub statement_start : Token → Result (StatementStart × ℕ) Stop
 statement_start t = with_line t (of_keyword keyword_statement t.kind)
 
-abbrev pub scale : List Token → Out (Option (List ℕ))
-scale ts =
-    if is_at_keyword keyword.Scale (next ts) then bind (one (keyword_at keyword.Scale) ts)
-    (λ _ us. bind (one number_at us) (λ n vs. give (Some n) vs)) else give None ts
+abbrev pub next_name : List (List ℕ) → List Token → Out (List (List ℕ))
+next_name xs ts =
+    bind (one (sign_at sign.Comma) ts)
+    (λ _ us. bind (one name_at us) (λ x vs. give (xs ++ x ∷ []) vs))
+
+-- one name or more
+abbrev pub names : List Token → Out (List (List ℕ))
+names ts = bind (one name_at ts) (λ x us. all_of at_comma next_name (x ∷ []) us)
 
 abbrev pub output_form : List Token → Out Form
 output_form ts =
@@ -145,25 +149,35 @@ module _ (limits : Limits) where
       (λ _ xs.
       bind (one text_at xs) (λ f ys. give (form.Input x t f) ys)))))
 
-  -- the argument, its type, and the type of what is given
-  abbrev pub signature : List Token → Out (List ℕ × Tree × Tree)
+  abbrev pub next_type : List Tree → List Token → Out (List Tree)
+  next_type types ts = bind (one (comma_at (1 + length types) limits.outputs) ts)
+      (λ _ us. bind ((whole_type limits) us) (λ t vs. give (types ++ t ∷ []) vs))
+
+  -- the types of further outputs
+  abbrev pub more_types : List Token → Out (List Tree)
+  more_types ts = all_of at_comma next_type [] ts
+
+  -- the argument, its type, and the types of the outputs
+  abbrev pub signature : List Token → Out (List ℕ × Tree × Tree × List Tree)
   signature ts =
       bind (one (sign_at sign.Open) ts)
       (λ _ us. bind (one name_at us) (λ x vs. bind (one (sign_at sign.Colon) vs)
       (λ _ ws. bind ((whole_type limits) ws) (λ a xs.
       bind (one (sign_at sign.Close) xs) (λ _ ys. bind (one (sign_at sign.Arrow) ys)
-      (λ _ zs. bind ((whole_type limits) zs) (λ b os. give (x, a, b) os)))))))
+      (λ _ zs. bind ((whole_type limits) zs) (λ b os. bind (more_types os)
+      (λ bs ps. give (x, a, b, bs) ps))))))))
 
   abbrev pub function_form : List Token → Out Form
   function_form ts =
       bind (one name_at ts)
       (λ f us. bind (signature us)
-      (λ g vs. bind (scale vs) (λ n ws. bind ((whole_block limits) ws) (λ b xs.
+      (λ g vs. bind (numbered keyword.Scale vs) (λ n ws. bind ((whole_block limits) ws) (λ b xs.
       give (form.Function (record {
         name = f;
         argument = g.0;
         takes = g.1;
         gives = g.2;
+        more = g.3;
         scale =
             n;
         body = b;
@@ -171,8 +185,8 @@ module _ (limits : Limits) where
 
   abbrev pub let_form : List Token → Out Form
   let_form ts =
-      bind (one name_at ts) (λ x us. bind (one (sign_at sign.Assign) us)
-      (λ _ vs. bind (operation_at vs) (λ o ws. give (form.Let x o) ws)))
+      bind (names ts) (λ xs us. bind (one (sign_at sign.Assign) us)
+      (λ _ vs. bind (operation_at vs) (λ o ws. give (form.Let xs o) ws)))
 
   abbrev pub form_at : StatementStart → List Token → Out Form
   form_at start.Type ts = type_form ts

@@ -7,16 +7,17 @@ use Rattle.flume_grammar.specs.Parts.{Tree}
 use Rattle.flume_grammar.specs.inner.Out.{Out, give, bind, one}
 use Rattle.flume_grammar.specs.inner.Reading.{sign_at}
 use Rattle.flume_grammar.specs.inner.Types.{whole_type}
+use Rattle.flume_grammar.specs.inner.Statements.{more_types}
 
 module _ (limits : Limits) (argument : List ℕ) where
-  -- after the parameter, of this name and type: `-> type`
-  abbrev pub after_parameter : Tree → List Token → Out (List ℕ × Tree × Tree)
+  -- after the parameter, of this name and type: `-> type, ..`
+  abbrev pub after_parameter : Tree → List Token → Out (List ℕ × Tree × Tree × List Tree)
   after_parameter takes ts =
       bind (one (sign_at Arrow) ts) (λ _ us. bind (whole_type limits us) (λ gives vs.
-      give (argument, takes, gives) vs))
+      bind (more_types limits vs) (λ more ws. give (argument, takes, gives, more) ws)))
 
-  -- after the name of the argument: `: type) -> type`
-  abbrev pub after_argument : List Token → Out (List ℕ × Tree × Tree)
+  -- after the name of the argument: `: type) -> type, ..`
+  abbrev pub after_argument : List Token → Out (List ℕ × Tree × Tree × List Tree)
   after_argument ts =
       bind (one (sign_at Colon) ts) (λ _ us. bind (whole_type limits us) (λ takes vs.
       bind (one (sign_at Close) vs) (λ _ ws. after_parameter takes ws)))

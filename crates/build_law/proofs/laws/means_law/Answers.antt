@@ -9,4 +9,4 @@ returns-clause-well_formed c = is_meaning
 pub returns-clause-accepted : goal.returns-clause-accepted
 returns-clause-accepted c statements script inputs made short e means =
     let kept = accepted_kept statements script short e in
-    is_meaning script inputs made (well-formed statements script e) kept.short kept.first means
+    is_meaning script inputs made (well-formed statements script e) kept.short means

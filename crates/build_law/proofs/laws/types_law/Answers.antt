@@ -1,5 +1,4 @@
 use Rattle.script_laws.proofs.RuleLemmas.{well-formed}
-use Rattle.build_law.proofs.Accepting.{accepted_kept}
 use Rattle.build_law.proofs.TypedGraphs.{is_typed}
 use Rattle.build_law.proofs.laws.types_law.Goals as goal
 
@@ -9,4 +8,3 @@ returns-clause-well_formed c = is_typed
 pub returns-clause-accepted : goal.returns-clause-accepted
 returns-clause-accepted c statements script short e =
     is_typed script (well-formed statements script e)
-    (accepted_kept statements script short e).first

@@ -9,10 +9,10 @@ loop-number-preserved c =
     let (entry, found, same) =
     entry_of (slice_get c.args.program.now.script.outputs c.loop-number.number) _
     c.output.ensures in
-    mapped_next (λ output. place_in c.args.giving.now output.1.reads)
-    c.args.program.now.script.outputs c.loop-number.places c.push.new.self c.loop-number.number
+    mapped_next (λ output. place_in c.args.places.now output.1.reads)
+    c.args.program.now.script.outputs c.loop-number.outputs c.push.new.self c.loop-number.number
     entry found
     (c.in_ok-push.ensures.ok
-    ∙ ap (λ place. c.loop-number.places ++ place ∷ [])
-    (c.place_in.ensures ∙ ap (λ output. place_in c.args.giving.now output.reads) (sym same)))
+    ∙ ap (λ place. c.loop-number.outputs ++ place ∷ [])
+    (c.place_in.ensures ∙ ap (λ output. place_in c.args.places.now output.reads) (sym same)))
     c.loop-number.invariant

@@ -5,7 +5,7 @@ use Rattle.graph_build.proofs.builder.outputs_of.Given as goal
 
 abbrev pub invariant-loop-number : goal.invariant-loop-number
 invariant-loop-number l =
-    l.places
-    ++ map (λ output. place_in l.giving output.1.reads)
+    l.outputs
+    ++ map (λ output. place_in l.places output.1.reads)
     (drop l.number l.program.script.outputs)
-    ≡ map (λ output. place_in l.giving output.1.reads) l.program.script.outputs
+    ≡ map (λ output. place_in l.places output.1.reads) l.program.script.outputs

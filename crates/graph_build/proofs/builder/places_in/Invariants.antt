@@ -5,5 +5,5 @@ use Rattle.graph_build.proofs.builder.places_in.Given as goal
 
 abbrev pub invariant-loop-source : goal.invariant-loop-source
 invariant-loop-source l =
-    l.places ++ map (place_in l.giving) (drop l.source-index l.sources)
-    ≡ map (place_in l.giving) l.sources
+    l.inputs ++ map (place_in l.places) (drop l.source-index l.sources)
+    ≡ map (place_in l.places) l.sources

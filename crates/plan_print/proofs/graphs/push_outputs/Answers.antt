@@ -13,9 +13,9 @@ loop-number-preserved c =
     let none : Place = record { node = 0; out = 0 } in
     let (output, here) =
     found_below c.args.program.now.script.outputs c.loop-number.number below in
-    lines_next c.args.program.now.script c.loop-number.text.items c.push_output.new.text.items
+    lines_next c.loop-number.text.items c.push_output.new.text.items
     (c.args.text.now.items
-    ++ output_lines c.args.program.now.script c.args.program.now.script.outputs
+    ++ output_lines c.args.program.now.script.outputs
     c.args.places.now)
     c.args.program.now.script.outputs c.args.places.now c.loop-number.number output
     (get_or c.args.places.now c.loop-number.number none) here
@@ -26,9 +26,9 @@ pub returns : goal.returns
 returns c =
     let end : min (length c.args.program.now.script.outputs) (length c.args.places.now)
     ≤ c.loop-number.number = omega arith in
-    lines_all c.args.program.now.script c.loop-number.text.items
+    lines_all c.loop-number.text.items
     (c.args.text.now.items
-    ++ output_lines c.args.program.now.script c.args.program.now.script.outputs
+    ++ output_lines c.args.program.now.script.outputs
     c.args.places.now)
     c.args.program.now.script.outputs c.args.places.now c.loop-number.number end
     c.loop-number.invariant

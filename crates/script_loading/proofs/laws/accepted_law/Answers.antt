@@ -1,4 +1,4 @@
-use Rattle.script_loading.proofs.AcceptedLemmas.{accepted_once, not_both, one_reason}
+use Rattle.script_loading.proofs.AcceptedLemmas.{accepted_once, not_both, one_reason, accepted_or_refused}
 use Rattle.script_loading.proofs.laws.accepted_law.Goals as goal
 
 pub returns-clause-one_script : goal.returns-clause-one_script
@@ -9,3 +9,6 @@ returns-clause-not_both c = not_both
 
 pub returns-clause-one_reason : goal.returns-clause-one_reason
 returns-clause-one_reason c = one_reason
+
+pub returns-clause-either : goal.returns-clause-either
+returns-clause-either c = accepted_or_refused

@@ -2,29 +2,22 @@ use Rattle.std.proofs.Common.{◌≡◌, ◌∙◌, subst, sym}
 use Rattle.exec_graph.specs.declared.graph.Graph.{Graph}
 use Rattle.exec_graph.specs.ObjectFree.{IsObjectFree}
 use Rattle.exec_graph.specs.Typing.{IsTyped, Signatures}
+use Rattle.exec_graph.specs.Wellformed.{IsGraphOk}
 use Rattle.exec_graph.specs.World.{World}
 use Rattle.exec_plan.specs.Typing.{IsPlanTyped}
-use Rattle.graph_bounds.proofs.Bounding.{kinds_free}
-use Rattle.graph_laws.specs.Single.{HasNarrowSteps, IsUnfused}
-use Rattle.optimise.specs.Optimised.{source_count}
+use Rattle.optimise.specs.Optimised.{CanOptimise, source_count}
 use Rattle.plan_laws.specs.Operations.{SamePlan}
-use Rattle.plan_rules.specs.Fitting.{HasSourcesBelow}
-use Rattle.script_plans.proofs.Sourced.{sources_below, sources_counted}
+use Rattle.script_plans.proofs.Planned.{can_optimise}
+use Rattle.script_plans.proofs.Sourced.{sources_counted}
 use Rattle.script_plans.proofs.plans.plan_of.Goals as goal
 
 pub optimise-requires : goal.optimise-requires
-optimise-requires c = record {
-  ok = c.requires.ok;
-  unfused = subst IsUnfused (sym c.requires.built)
-      (c.one_step_law.ensures.unfused c.args.program.now.script);
-  narrow = subst HasNarrowSteps (sym c.requires.built)
-      (c.one_step_law.ensures.narrow c.args.program.now.script);
-  sources = subst (λ (g : Graph). HasSourcesBelow (source_count g.nodes) g)
-      (sym c.requires.built) (sources_below c.args.program.now.script);
-  kinds = kinds_free c.args.graph
-      (subst IsObjectFree (sym c.requires.built)
-      (c.object_free_law.ensures c.args.program.now.script));
-}
+optimise-requires c =
+    subst CanOptimise (sym c.requires.built) (can_optimise c.args.program.now.script
+    (subst IsGraphOk c.requires.built c.requires.ok)
+    (c.one_step_law.ensures.unfused c.args.program.now.script)
+    (c.one_step_law.ensures.narrow c.args.program.now.script c.requires.well_formed)
+    (c.object_free_law.ensures c.args.program.now.script))
 
 pub returns-clause-same : goal.returns-clause-same
 returns-clause-same c = λ w.

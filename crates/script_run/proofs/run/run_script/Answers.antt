@@ -47,7 +47,7 @@ returns-in_err-done-clause-fault g c =
     c.requires.inputs in
     let is =
     c.means_law.ensures.well_formed script c.args.inputs m.0 c.requires.well_formed
-    c.requires.short c.requires.first m.1 in
+    c.requires.short m.1 in
     let p = err_from_is_err_and c.from_residual.result c.from_residual.ensures.1 in
     rw (p.1, p.2)
     (faulted script c.args.inputs c.args.settings.now plan _ _ m.0 m.1
@@ -65,7 +65,7 @@ returns-clause-ran g c =
     c.requires.inputs in
     let is =
     c.means_law.ensures.well_formed script c.args.inputs m.0 c.requires.well_formed
-    c.requires.short c.requires.first m.1 in
+    c.requires.short m.1 in
     let same = c.requires.plan.same w in
     let done =
     executed script c.args.inputs c.args.settings.now plan _ _ c.node_count-nodes.result

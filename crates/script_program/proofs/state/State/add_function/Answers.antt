@@ -74,8 +74,10 @@ returns-clause-state c =
     let here : State = record {
       types = own.known.names;
       functions = map (function_of own.known) c.insert.new.self.entries;
-      nodes = map (node_of own.known.types) own.nodes.entries;
+      nodes = map (node_of own.known.types) own.nodes;
+      names = own.names.entries;
       outputs = own.outputs.entries;
+      statements = own.statements;
     } in
     subst
     (λ (checking : Checking). here
@@ -90,8 +92,10 @@ returns-clause-state c =
     ((λ i. record {
       types = own.known.names;
       functions = put i;
-      nodes = map (node_of own.known.types) own.nodes.entries;
+      nodes = map (node_of own.known.types) own.nodes;
+      names = own.names.entries;
       outputs = own.outputs.entries;
+      statements = own.statements;
     })
     ∙ ap
     (λ names. with_function c.args.function.name (record {
@@ -103,7 +107,9 @@ returns-clause-state c =
     (record {
       types = own.known.names;
       functions = map (function_of own.known) own.functions.entries;
-      nodes = map (node_of own.known.types) own.nodes.entries;
+      nodes = map (node_of own.known.types) own.nodes;
+      names = own.names.entries;
       outputs = own.outputs.entries;
+      statements = own.statements;
     }))
     all)

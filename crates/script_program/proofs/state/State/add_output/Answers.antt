@@ -20,14 +20,18 @@ returns-clause-state c =
     let here : State = record {
       types = own.known.names;
       functions = map (function_of own.known) own.functions.entries;
-      nodes = map (node_of types) own.nodes.entries;
+      nodes = map (node_of types) own.nodes;
+      names = own.names.entries;
       outputs = c.insert.new.self.entries;
+      statements = own.statements;
     } in
     subst (λ checking. here ≡ with_output c.args.file c.args.output checking.state)
     c.self.view_is
     (λ i. record {
       types = own.known.names;
       functions = map (function_of own.known) own.functions.entries;
-      nodes = map (node_of types) own.nodes.entries;
+      nodes = map (node_of types) own.nodes;
+      names = own.names.entries;
       outputs = put i;
+      statements = own.statements;
     })

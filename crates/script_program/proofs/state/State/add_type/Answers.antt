@@ -14,16 +14,18 @@ returns-clause-state c =
     grows-name own.known new (c.args.name, type_at own.known.types c.args.id)
     c.add.ensures.types c.in_ok-add.ensures.names in
     let functions =
-    functions-kept own.known new grows own.functions.entries own.nodes.entries
+    functions-kept own.known new grows own.functions.entries own.nodes
     c.self.invariant in
     let nodes =
-    nodes-kept own.known new grows own.functions.entries own.nodes.entries
+    nodes-kept own.known new grows own.functions.entries own.nodes
     c.self.invariant in
     let here : State = record {
       types = new.names;
       functions = map (function_of new) own.functions.entries;
-      nodes = map (node_of new.types) own.nodes.entries;
+      nodes = map (node_of new.types) own.nodes;
+      names = own.names.entries;
       outputs = own.outputs.entries;
+      statements = own.statements;
     } in
     subst
     (λ (checking : Checking). here
@@ -33,5 +35,7 @@ returns-clause-state c =
       types = c.in_ok-add.ensures.names i;
       functions = functions i;
       nodes = nodes i;
+      names = own.names.entries;
       outputs = own.outputs.entries;
+      statements = own.statements;
     })

@@ -8,13 +8,13 @@ invariant_of-self c =
     let grows =
     grows-types own.known c.intern.new.self c.intern.ensures.extends
     c.intern.ensures.names in
-    held-more own.known c.intern.new.self grows own.functions.entries own.nodes.entries
+    held-more own.known c.intern.new.self grows own.functions.entries own.nodes
     c.self.invariant
 
 pub returns-clause-state : goal.returns-clause-state
 returns-clause-state c =
     let own = c.self.inside in
     state-kept own.known c.intern.new.self c.intern.ensures.extends
-    c.intern.ensures.names own.functions.entries own.nodes.entries
-    own.outputs.entries c.self.invariant
+    c.intern.ensures.names own.functions.entries own.nodes
+    own.names.entries own.outputs.entries own.statements c.self.invariant
     ∙ ap (λ checking. checking.state) c.self.view_is

@@ -1,6 +1,6 @@
 use Rattle.std.proofs.Common.{◌∙◌, sym}
 use Rattle.graph_build.proofs.WantedLemmas.{wanted_needed, wanted_needless}
-use Rattle.graph_build.proofs.wanted.wanted_at.Goals as goal
+use Rattle.graph_build.proofs.wanted.wanted_within.Goals as goal
 
 pub returns-then-is_needed : goal.returns-then-is_needed
 returns-then-is_needed c =

@@ -1,0 +1,83 @@
+-- No rule counts its statement: that is done behind it.
+use Rattle.std.proofs.Common.{◌≡◌, ℕ, List, [], ◌∷◌, length, Ok, refl, ap, ◌∙◌}
+use Rattle.std.specs.Map.{keys_of}
+use Rattle.flume_types.specs.Columns.{columns_of, input_columns_of}
+use Rattle.flume_grammar.specs.declared.tree.Type as tree
+use Rattle.flume_grammar.specs.declared.tree.Form.{Form}
+use Rattle.flume_grammar.specs.declared.tree.Form.TheVariants as form
+use Rattle.flume_grammar.specs.declared.tree.Function.{Function as Written}
+use Rattle.flume_grammar.specs.declared.tree.Operation.{Operation}
+use Rattle.flume_grammar.specs.declared.fault.ScriptKind.TheVariants.{NotFlat}
+use Rattle.written_types.specs.Answer.{or_fault}
+use Rattle.written_types.specs.Named.{fresh}
+use Rattle.written_types.specs.Written.{whole_type}
+use Rattle.body_check.specs.Bodies.{body_of}
+use Rattle.script_program.specs.Limits.{most_collections, most_files}
+use Rattle.script_program.specs.Script.{Making, State, with_node, with_nodes}
+use Rattle.operation_check.specs.Operations.{collection, made_by}
+use Rattle.script_check.specs.Rules as spec
+use Rattle.script_check.proofs.CheckedLemmas.{both, ok-same}
+
+nodes-count : (names : List (List ℕ)) (makings : List Making) (s : State)
+    → s.statements ≡ (with_nodes names makings s).statements
+nodes-count [] makings s = refl
+nodes-count (name ∷ names) [] s = refl
+nodes-count (name ∷ names) (making ∷ makings) s =
+    nodes-count names makings (with_node name making s)
+
+abbrev count : State → ℕ
+count s = s.statements
+
+module _ (line : ℕ) (s after : State) where
+  type-count : (name : List ℕ) (type : tree.Type) → spec.rule_type line name type s ≡ Ok after
+      → count s ≡ count after
+  type-count name type e =
+      let new = both (fresh line name s.types) _ after e in
+      let t = both (whole_type line type s.types) _ after new.then in
+      ap count (ok-same _ after t.then)
+
+  input-count : (name : List ℕ) (type : tree.Type) (file : List ℕ)
+      → spec.rule_input line name type file s ≡ Ok after → count s ≡ count after
+  input-count name type file e =
+      let few = both (spec.room line 1 most_collections s.nodes) _ after e in
+      let new = both (fresh line name s.names) _ after few.then in
+      let t = both (whole_type line type s.types) _ after new.then in
+      let columns = both (or_fault line NotFlat (input_columns_of t.part)) _ after t.then in
+      ap count (ok-same _ after columns.then)
+
+  function-count : (function : Written) → spec.rule_function line function s ≡ Ok after
+      → count s ≡ count after
+  function-count function e =
+      let signature = both (spec.signature_of line function s) _ after e in
+      let takes = signature.part.takes in
+      let gives = signature.part.gives in
+      let body =
+      both (body_of s.types function.argument takes gives function.body) _ after
+      signature.then in
+      ap count (ok-same _ after body.then)
+
+  let-count : (names : List (List ℕ)) (by : Operation) → spec.rule_let line names by s ≡ Ok after
+      → count s ≡ count after
+  let-count names by e =
+      let few = both (spec.room line (length names) most_collections s.nodes) _ after e in
+      let new = both (spec.all_fresh line (keys_of s.names) names) _ after few.then in
+      let makings = both (made_by line by s) _ after new.then in
+      let fit = both (spec.all_fit line (length names) makings.part) _ after makings.then in
+      nodes-count names makings.part s ∙ ap count (ok-same _ after fit.then)
+
+  output-count : (name file : List ℕ) → spec.rule_output line name file s ≡ Ok after
+      → count s ≡ count after
+  output-count name file e =
+      let few = both (spec.room line 1 most_files s.outputs) _ after e in
+      let one = both (collection line name s) _ after few.then in
+      let columns = both (or_fault line NotFlat (columns_of one.part.type)) _ after one.then in
+      let new = both (fresh line file s.outputs) _ after columns.then in
+      ap count (ok-same _ after new.then)
+
+  pub rule-count : (form : Form) → spec.rule line form s ≡ Ok after
+      → s.statements ≡ after.statements
+  rule-count (form.Type name type) e = type-count name type e
+  rule-count (form.Input name type file) e = input-count name type file e
+  rule-count (form.Function function) e = function-count function e
+  rule-count (form.Let names by) e = let-count names by e
+  rule-count (form.Output name file) e = output-count name file e

@@ -1,0 +1,28 @@
+// That a script has one plan.
+ghost use Rattle.std.specs.Prelude.{◌≡◌, List, Ok};
+ghost use Rattle.build_law.specs.Limits.{AreShort};
+ghost use Rattle.exec_plan.specs.declared.plan.Plan.{Plan};
+ghost use Rattle.flume_grammar.specs.declared.tree.Statement.{Statement};
+ghost use Rattle.script_check.specs.Rules.{script_of};
+ghost use Rattle.script_plans.specs.Plans.{IsScriptPlan};
+ghost use Rattle.script_program.specs.Script.{Script};
+
+use build_law::{graph_law, object_free_law, one_step_law};
+use optimise::one_law;
+use script_laws::well_formed_law;
+
+/// An accepted script has a plan, and just one, so there is 'the plan' of a script. What is read as
+/// a script is short (`short_law` of build_law).
+pub fn plan_law()
+    ensures some { (statements : List Statement) (script : Script) → AreShort statements →
+        script_of statements ≡ Ok script → (plan : Plan) × IsScriptPlan script plan }
+    ensures one { (statements : List Statement) (script : Script) (p q : Plan) →
+        AreShort statements → script_of statements ≡ Ok script →
+        IsScriptPlan script p → IsScriptPlan script q → p ≡ q }
+{
+    graph_law();
+    one_step_law();
+    object_free_law();
+    well_formed_law();
+    one_law();
+}
