@@ -4,10 +4,10 @@
     tools/builds.py TIME
 
 TIME says how long a build takes from nothing. The sources below the program, without tests and
-wrong edits, are copied to a folder outside of the repository and proved there by rt's own gate,
-over a store of what was proved before (tools/kept_gate): a build that was interrupted goes on where
-it stopped. How far it is stands on standard error. Where two builds begin, the later one waits for
-the other, and then takes what that has made.
+wrong edits, are copied to a folder outside of the repository and proved there by rt's own gate.
+That keeps beside the kit what it has proved: a build that was interrupted goes on where it stopped.
+How far it is stands on standard error. Where two builds begin, the later one waits for the other,
+and then takes what that has made.
 """
 import contextlib
 import fcntl
@@ -124,14 +124,12 @@ def jobs():
     return max(1, min(len(os.sched_getaffinity(0)) + 1, free // MEMORY))
 
 
-def prove(tree, store, log, count):
+def prove(tree, log, count):
     """Has the gate prove the tree, with a line for each few crates, and returns its status."""
-    words = [sys.executable, os.path.join(TOP, "tools", "kept_gate"), PROGRAM]
-    words += ["--store", store, "--no-tests", "--no-edits"]
     how = {"PYTHONUNBUFFERED": "1", "RT_JOBS": os.environ.get("RT_JOBS") or str(jobs())}
     begun, done = time.monotonic(), 0
     with subprocess.Popen(
-        words,
+        ["rt", "ci"],
         cwd=tree,
         env={**os.environ, **how},
         errors="replace",
@@ -142,7 +140,7 @@ def prove(tree, store, log, count):
         for line in gate.stdout:
             log.write(line)
             log.flush()
-            if re.fullmatch(r"rt: \w+ proved\n", line):
+            if re.match(r"rt: \w+ (proved$|is kept: )", line):
                 done += 1
                 if done % STEP == 0 or done == count:
                     minutes = (time.monotonic() - begun) / 60
@@ -150,24 +148,13 @@ def prove(tree, store, log, count):
     return gate.returncode
 
 
-def forget_others(store):
-    """Lets go of what the store has of other texts: its files are in no tree beside it."""
-    for name in os.listdir(store):
-        for at, _, files in os.walk(os.path.join(store, name)):
-            if files:
-                if os.stat(os.path.join(at, files[0])).st_nlink == 1:
-                    shutil.rmtree(os.path.join(store, name))
-                break
-
-
 def build(program, crates):
     """Proves and builds the program, and says whether that went well."""
-    tree, store, log = (os.path.join(room(), it) for it in ("tree", "store", "build.log"))
+    tree, log = (os.path.join(room(), it) for it in ("tree", "build.log"))
     since, begun = time.time(), time.monotonic()
     copy_sources(tree, crates)
-    os.makedirs(store, exist_ok=True)
     with open(log, "w", encoding="utf-8") as file:
-        status = prove(tree, store, file, len(crates))
+        status = prove(tree, file, len(crates))
     built = os.path.join(tree, "crates", PROGRAM, "out", PROGRAM)
     if status or not os.path.isfile(built):
         with open(log, encoding="utf-8") as file:
@@ -175,7 +162,6 @@ def build(program, crates):
         say(f"the program was not built; all that was said stands in {log}")
         return False
     leave(built, program, since)
-    forget_others(store)
     shutil.rmtree(tree)
     say(f"the program is proved and built, in {(time.monotonic() - begun) / 60:.0f} minutes")
     return True

@@ -37,7 +37,7 @@ def channel_of(stage, line):
         beside = {"with": found[2]} if found[2] else {}
         stage["in"].append({"reads": found[1], "does": found[3], **beside})
         return
-    form = r"group \d+ (\w+)(?: lift (.*?))? takes ([\d. ]+) does (.*) gives ([\d. ]+)"
+    form = r"group \d+ (\S+)(?: lift (.*?))? takes ([\d. ]+) does (.*) gives ([\d. ]+)"
     found = re.fullmatch(form, line)
     if found:
         group = {"kind": "group", "name": found[1], "lift": found[2], "does": found[4]}

@@ -5,6 +5,8 @@ use Rattle.flume_tokens.specs.declared.token.Token.{Token}
 use Rattle.flume_grammar.specs.declared.tree.Body.{Body}
 use Rattle.flume_grammar.specs.declared.tree.Combiner.{Combiner}
 use Rattle.flume_grammar.specs.declared.tree.Operation.{Operation}
+use Rattle.flume_grammar.specs.declared.tree.TurnLet.{TurnLet}
+use Rattle.flume_grammar.specs.declared.tree.Repeat.{Repeat}
 use Rattle.flume_grammar.specs.declared.tree.Statement.{Statement}
 use Rattle.flume_grammar.specs.Limits.{Limits}
 use Rattle.flume_grammar.specs.Parts.{Tree}
@@ -92,6 +94,30 @@ module _ (limits : Limits) where
   operation_filled g.join p = (on (on (on (on p))), _, g.join)
   operation_filled g.top p = (on (on (on p)), _, g.top)
 
+  let_filled : {ts us : List Token} {l : TurnLet} → g.IsLet limits ts us l → (p : Plan)
+      → Filled (λ xs ys x. g.IsLet limits xs ys x) p ts us
+  let_filled (g.let_ n h) p =
+      let (q, ms, i, x) = names_filled n (on p) in
+      let (r, o, y) = operation_filled h (on q) in
+      (r, _, g.let_ x y)
+
+  lets_filled : {ts us : List Token} {ls : List TurnLet} → g.AreLets limits ts us ls → (p : Plan)
+      → Filled (λ xs ys x. g.AreLets limits xs ys x) p ts us
+  lets_filled g.none_ p = (p, _, g.none_)
+  lets_filled (g.some h l) p =
+      let (q, ls, y) = lets_filled h p in
+      let (r, m, z) = let_filled l q in
+      (r, _, g.some y z)
+
+  repeat_filled : {ts us : List Token} {r : Repeat} → g.IsRepeat limits ts us r → (p : Plan)
+      → Filled (λ xs ys x. g.IsRepeat limits xs ys x) p ts us
+  repeat_filled (g.repeat_ a b l c) p =
+      let (q, xs, i, x) = names_filled a (on (on (on p))) in
+      let (r, ys, j, y) = names_filled b (on q) in
+      let (s, ls, z) = lets_filled l (on r) in
+      let (t, zs, k, w) = names_filled c (on s) in
+      (on t, _, g.repeat_ x y z w)
+
   more_types_filled : {ts us : List Token} {types : List Tree}
       → g.AreMoreTypes limits ts us types → (p : Plan)
       → FilledList (λ xs ys rs. g.AreMoreTypes limits xs ys rs) p ts us types
@@ -118,6 +144,10 @@ module _ (limits : Limits) where
       let (q, ms, i, x) = names_filled n (on p) in
       let (r, o, y) = operation_filled h (on q) in
       (r, _, g.let_ x y)
+  statement_filled (g.repeat n h) p =
+      let (q, ms, i, x) = names_filled n (on p) in
+      let (r, it, y) = repeat_filled h (on q) in
+      (r, _, g.repeat x y)
   statement_filled g.output p = (on (on (on (on p))), _, g.output)
 
   -- a script stays one

@@ -1,5 +1,6 @@
 -- Accepted scripts put as many collections together as are written.
-use Rattle.std.proofs.Common.{◌≡◌, ℕ, suc, ◌+◌, ◌≤◌, nat_lt, List, [], ◌∷◌, ◌++◌, length, Ok, refl, ap, subst, arith, length-append}
+use Rattle.std.proofs.Common.{◌≡◌, ℕ, zero, suc, ◌+◌, ◌≤◌, nat_lt, List, [], ◌∷◌, ◌++◌, length}
+use Rattle.std.proofs.Common.{map, take, drop, Ok, refl, sym, ap, subst, arith, length-append}
 use Rattle.std.specs.List.{AllByRecursion}
 use Rattle.std.specs.Map.{keys_of}
 use Rattle.std.proofs.lemmas.List.{length-map}
@@ -14,19 +15,28 @@ use Rattle.flume_grammar.specs.declared.tree.Form.TheVariants as form
 use Rattle.flume_grammar.specs.declared.tree.Function.{Function as Written}
 use Rattle.flume_grammar.specs.declared.tree.Operation.{Operation}
 use Rattle.flume_grammar.specs.declared.tree.Operation.TheVariants as operation
+use Rattle.flume_grammar.specs.declared.tree.Repeat.{Repeat as WrittenRepeat}
 use Rattle.flume_grammar.specs.declared.tree.Statement.{Statement}
+use Rattle.flume_grammar.specs.declared.tree.TurnLet.{TurnLet}
 use Rattle.flume_grammar.specs.declared.fault.ScriptKind.TheVariants.{Mistyped, NoOutput, NotFlat}
 use Rattle.combine_table.specs.declared.comb.Comb.{Comb}
 use Rattle.written_types.specs.Answer.{Checked, unless, or_fault}
-use Rattle.written_types.specs.Named.{fresh}
+use Rattle.written_types.specs.Named.{Named, fresh}
 use Rattle.written_types.specs.Written.{whole_type}
 use Rattle.body_check.specs.Bodies.{body_of}
 use Rattle.script_program.specs.Limits.{most_collections, most_files}
 use Rattle.script_program.specs.declared.made.Made.{Made}
-use Rattle.script_program.specs.Script.{Callee, Making, Node, Operand, Script, State, nothing, script_from, with_node, with_nodes, with_statement}
+use Rattle.script_program.specs.declared.made.Made.TheVariants as made
+use Rattle.script_program.specs.Script.{Callee, Making, Node, Operand, Script, State, nothing}
+use Rattle.script_program.specs.Script.{script_from, with_hidden, with_node, with_nodes}
+use Rattle.script_program.specs.Script.{with_statement}
 use Rattle.operation_check.specs.Operations as spec
+use Rattle.script_check.specs.Repeats.{Repeat, copied, nodes_left, renumbered, turn_gives}
+use Rattle.script_check.specs.Repeats.{turn_nodes, turn_to, unrolled}
 use Rattle.script_check.specs.Rules as rules_
 use Rattle.script_check.proofs.CheckedLemmas.{both, ok-same}
+use Rattle.script_check.proofs.EntryLemmas.{nodes-hidden}
+use Rattle.script_check.proofs.FoundLemmas.{before, found, own}
 use Rattle.build_law.specs.Limits.{AreShort, HasShortFlattens, IsShort, IsShortForm, IsShortOperation}
 
 -- no operation puts more together than are written
@@ -159,6 +169,57 @@ nodes_more (name ∷ names) (making ∷ makings) s fine short =
     nodes_more names makings (with_node name making s) (node_more s name making fine short.0)
     short.1
 
+-- ---- the turns of a repeat
+
+abbrev IsFine : List ℕ × Node → Type 0
+IsFine entry = IsShort entry.1.made
+
+entered_short : (from : List Operand) → AllShort (map rules_.entered from)
+entered_short [] = tt
+entered_short (one ∷ from) = (omega arith, entered_short from)
+
+fine_front : (n : ℕ) (nodes : Named Node) → AllByRecursion IsFine nodes
+    → AllByRecursion IsFine (take n nodes)
+fine_front zero nodes fine = tt
+fine_front (suc n) [] fine = tt
+fine_front (suc n) (entry ∷ nodes) fine = (fine.0, fine_front n nodes fine.1)
+
+fine_behind : (n : ℕ) (nodes : Named Node) → AllByRecursion IsFine nodes
+    → AllByRecursion IsFine (drop n nodes)
+fine_behind zero nodes fine = fine
+fine_behind (suc n) [] fine = tt
+fine_behind (suc n) (entry ∷ nodes) fine = fine_behind n nodes fine.1
+
+renumbered_short : (to : ℕ → ℕ) (how : Made) → IsShort how → IsShort (renumbered to how)
+renumbered_short to (made.Input file columns) short = tt
+renumbered_short to (made.Do source function output) short = tt
+renumbered_short to (made.Group source) short = tt
+renumbered_short to (made.Combine source by) short = tt
+renumbered_short to (made.Flatten sources) short =
+    let same = length-map sources to in
+    omega (arith, short, same)
+renumbered_short to (made.Count source) short = tt
+renumbered_short to (made.Join left right_) short = tt
+renumbered_short to (made.Top many source) short = tt
+
+copies_fine : (turn : ℕ) (to : ℕ → ℕ) (nodes : Named Node) → AllByRecursion IsFine nodes
+    → AllByRecursion IsFine (map (copied turn to) nodes)
+copies_fine turn to [] fine = tt
+copies_fine turn to (entry ∷ nodes) fine =
+    (renumbered_short to entry.1.made fine.0, copies_fine turn to nodes fine.1)
+
+turns_fine : (repeat : Repeat) (left turn : ℕ) (entering : List ℕ) (start : ℕ)
+    → AllByRecursion IsFine repeat.body
+    → AllByRecursion IsFine (nodes_left repeat left turn entering start)
+turns_fine repeat zero turn entering start fine = tt
+turns_fine repeat (suc left) turn entering start fine =
+    Each-append IsFine (turn_nodes repeat entering start turn) _
+    (copies_fine turn (turn_to repeat entering start) repeat.body fine)
+    (turns_fine repeat left (suc turn) (turn_gives repeat entering start)
+    (start + length repeat.body) fine)
+
+-- ---- rules
+
 module _ (line : ℕ) (s after : State) (fine : AllFine s) where
   type_fine : (name : List ℕ) (type : tree.Type) → rules_.rule_type line name type s ≡ Ok after
       → AllFine after
@@ -187,11 +248,10 @@ module _ (line : ℕ) (s after : State) (fine : AllFine s) where
       signature.then in
       subst AllFine (ok-same _ after body.then) fine
 
-  let_fine : (names : List (List ℕ)) (by : Operation) → IsShortOperation by
-      → rules_.rule_let line names by s ≡ Ok after → AllFine after
-  let_fine names by short e =
-      let few = both (rules_.room line (length names) most_collections s.nodes) _ after e in
-      let new = both (rules_.all_fresh line (keys_of s.names) names) _ after few.then in
+  named_fine : (names : List (List ℕ)) (by : Operation) → IsShortOperation by
+      → rules_.named line names by s ≡ Ok after → AllFine after
+  named_fine names by short e =
+      let new = both (rules_.all_fresh line (keys_of s.names) names) _ after e in
       let makings = both (spec.made_by line by s) _ after new.then in
       let fit = both (rules_.all_fit line (length names) makings.part) _ after makings.then in
       subst AllFine (ok-same _ after fit.then)
@@ -206,13 +266,53 @@ module _ (line : ℕ) (s after : State) (fine : AllFine s) where
       let new = both (fresh line file s.outputs) _ after columns.then in
       subst AllFine (ok-same _ after new.then) fine
 
+abbrev AllShortLets : List TurnLet → Type 0
+AllShortLets lets = AllByRecursion (λ it. IsShortOperation it.by) lets
+
+lets_fine : (lets : List TurnLet) (s after : State) → AllShortLets lets → AllFine s
+    → rules_.all_named lets s ≡ Ok after → AllFine after
+lets_fine [] s after short fine e = subst AllFine (ok-same s after e) fine
+lets_fine (it ∷ lets) s after short fine e =
+    let next = both (rules_.named it.line it.names it.by s) _ after e in
+    lets_fine lets next.part after short.1
+    (named_fine it.line s next.part fine it.names it.by short.0 next.first) next.then
+
+module _ (line : ℕ) (s after : State) (fine : AllFine s) where
+  repeat_fine : (names : List (List ℕ)) (written : WrittenRepeat) → AllShortLets written.lets
+      → rules_.rule_repeat line names written s ≡ Ok after → AllFine after
+  repeat_fine names written short e =
+      let it = both (rules_.repeated line names written s) _ after e in
+      let has = found line names written s it.part it.first in
+      let from = has.entry.from in
+      let front = before line names written s has.entry in
+      let repeat = own line names written s has.entry has.body has.gives in
+      let hidden = with_hidden names s in
+      let hidden_fine : AllFine hidden =
+      subst (AllByRecursion IsFine) (sym (nodes-hidden names s)) fine in
+      let body =
+      lets_fine written.lets front has.body short
+      (nodes_more written.entering (map rules_.entered from) hidden hidden_fine
+      (entered_short from)) has.lets in
+      let first = length s.names in
+      subst AllFine (ok-same _ after it.then)
+      (subst (λ (r : Repeat). AllFine (rules_.with_repeat r first it.part.behind)) has.repeat
+      (subst (λ (behind : State). AllFine (rules_.with_repeat repeat first behind)) has.behind
+      (Each-append IsFine (take (length s.nodes) has.body.nodes) (unrolled repeat)
+      (fine_front (length s.nodes) has.body.nodes body)
+      (turns_fine repeat repeat.turns 1 repeat.from repeat.outside
+      (fine_behind (length front.nodes) has.body.nodes body)))))
+
   rule_fine : (form : Form) → IsShortForm form → rules_.rule line form s ≡ Ok after
       → AllFine after
-  rule_fine (form.Type name type) short e = type_fine name type e
-  rule_fine (form.Input name type file) short e = input_fine name type file e
-  rule_fine (form.Function function) short e = function_fine function e
-  rule_fine (form.Let names by) short e = let_fine names by short e
-  rule_fine (form.Output name file) short e = output_fine name file e
+  rule_fine (form.Type name type) short e = type_fine line s after fine name type e
+  rule_fine (form.Input name type file) short e =
+      input_fine line s after fine name type file e
+  rule_fine (form.Function function) short e = function_fine line s after fine function e
+  rule_fine (form.Let names by) short e =
+      let few = both (rules_.room line (length names) most_collections s.nodes) _ after e in
+      named_fine line s after fine names by short few.then
+  rule_fine (form.Repeat names written) short e = repeat_fine names written short e
+  rule_fine (form.Output name file) short e = output_fine line s after fine name file e
 
 defined_fine : (statements : List Statement) (s after : State) → AreShort statements → AllFine s
     → rules_.defined statements s ≡ Ok after → AllFine after

@@ -23,7 +23,8 @@ use Rattle.graph_build.proofs.WantedLemmas.{needed_here}
 use Rattle.build_law.specs.Worlds.{world_of}
 use Rattle.build_law.proofs.Assigning.{AllFrom, all_from, at_of, settled_at}
 use Rattle.build_law.proofs.Blocks.{each_block, source_at}
-use Rattle.build_law.proofs.Calling.{SomeName, built_call, each_name, name_wanted, other_wanted, some_name}
+use Rattle.build_law.proofs.Calling.{built_call, each_name, other_wanted}
+use Rattle.build_law.proofs.Naming.{SomeName, name_wanted, some_name}
 use Rattle.build_law.proofs.MadeKinds.{IsOther, Kind, called, kind_of, none_emitted, other}
 use Rattle.build_law.proofs.Meeting.{IsBuiltBy, IsMadeBy, IsSettled, block_holds, made_of_place}
 use Rattle.build_law.proofs.Outputs.{EachName}

@@ -17,7 +17,8 @@ use Rattle.script_program.specs.declared.made.Made.TheVariants as made
 use Rattle.script_program.specs.Script.{Script}
 use Rattle.script_laws.specs.WellFormed.{IsWellFormed}
 use Rattle.build_law.proofs.Blocks.{block_each, each_block, last_number, lower_start}
-use Rattle.build_law.proofs.Calling.{IsNamed, built_call, call_built, each_contained, how_needed, named, needed_as, other_built, reads_early, split_at}
+use Rattle.build_law.proofs.Calling.{built_call, each_contained, how_needed, needed_as, other_built, split_at}
+use Rattle.build_law.proofs.Naming.{IsNamed, call_built, named, reads_early}
 use Rattle.build_law.proofs.MadeKinds.{IsOther, Kind, called, kind_of, other}
 use Rattle.build_law.proofs.Numbered.{Counts, IsPlain, all_counts, at_counts, below_counts, last_in, nodes_end, there_counts}
 use Rattle.build_law.proofs.Outputs.{buds, first_there, one_step_of, out_there}

@@ -11,6 +11,7 @@ pub mod Meeting
 pub mod Settling
 pub mod Tables
 pub mod Calling
+pub mod Naming
 pub mod Placing
 pub mod Made
 pub mod Assigning

@@ -31,7 +31,8 @@ use Rattle.build_law.specs.Worlds.{world_of}
 use Rattle.build_law.proofs.Assembling.{all_settled, assigned, made_here, matches, meets, stands, stands_at}
 use Rattle.build_law.proofs.Assigning.{at_of}
 use Rattle.build_law.proofs.Blocks.{block_each, blocks_in, in_block, one_block}
-use Rattle.build_law.proofs.Calling.{IsNamed, built_as, built_call, built_name, call_built, named, needed_as, operand_wanted, other_built, other_wanted, some_name, wanted_here}
+use Rattle.build_law.proofs.Calling.{built_as, built_call, needed_as, other_built, other_wanted, wanted_here}
+use Rattle.build_law.proofs.Naming.{IsNamed, built_name, call_built, named, operand_wanted, some_name}
 use Rattle.build_law.proofs.MadeKinds.{IsOther, Kind, called, kind_of, other}
 use Rattle.build_law.proofs.Owning.{Apart, HasOwnNode, block_here, block_other, by_other, call_adds}
 use Rattle.build_law.proofs.Passing.{call_label}

@@ -14,7 +14,8 @@ use Rattle.script_program.specs.declared.made.Made.TheVariants as made
 use Rattle.script_program.specs.Script.{Function, Script}
 use Rattle.written_types.specs.Named.{Named}
 use Rattle.script_laws.specs.WellFormed.{HasOutputs, IsWellFormed, function_at}
-use Rattle.build_law.proofs.Calling.{as_many, built_as, fits_at, length_needed}
+use Rattle.build_law.proofs.Calling.{built_as, length_needed}
+use Rattle.build_law.proofs.Naming.{as_many, fits_at}
 use Rattle.build_law.proofs.EachNode.{each_node}
 use Rattle.build_law.proofs.Outputs.{buds_width, no_kids}
 

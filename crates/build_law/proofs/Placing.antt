@@ -12,7 +12,8 @@ use Rattle.script_program.specs.declared.made.Made.TheVariants as made
 use Rattle.script_program.specs.Script.{Script}
 use Rattle.script_laws.specs.WellFormed.{IsWellFormed}
 use Rattle.build_law.proofs.Blocks.{last_number, rows_found, rows_from, source_at, start_at}
-use Rattle.build_law.proofs.Calling.{IsNamed, call_built, how_needed, length_needed, named, needed_as, other_built, split_at}
+use Rattle.build_law.proofs.Calling.{how_needed, length_needed, needed_as, other_built, split_at}
+use Rattle.build_law.proofs.Naming.{IsNamed, call_built, named}
 use Rattle.build_law.proofs.MadeKinds.{IsOther, Kind, called, kind_of, none_emitted, other}
 use Rattle.build_law.proofs.Outputs.{kept, kept_at}
 use Rattle.build_law.proofs.Values.{seam}

@@ -26,7 +26,8 @@ use Rattle.direct_meaning.proofs.PlaceLemmas.{within}
 use Rattle.build_law.specs.Signatures.{given_by, input_type, signatures_of, taken_by}
 use Rattle.build_law.proofs.Assembling.{same_sources}
 use Rattle.build_law.proofs.Blocks.{each_block, source_at}
-use Rattle.build_law.proofs.Calling.{FitsAt, as_many, built_as, built_call, built_name, each_contained, each_name, fits_at, needed_as, other_wanted, reads_early, slice_seam}
+use Rattle.build_law.proofs.Calling.{built_as, built_call, each_contained, each_name, needed_as, other_wanted, slice_seam}
+use Rattle.build_law.proofs.Naming.{FitsAt, as_many, built_name, fits_at, reads_early}
 use Rattle.build_law.proofs.MadeKinds.{IsOther, Kind, called, kind_of, other}
 use Rattle.build_law.proofs.Outputs.{EachName, kept}
 use Rattle.build_law.proofs.Placing.{all_rows, gives, last_row, row_told, source, stands_told, start, told}

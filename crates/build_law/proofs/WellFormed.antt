@@ -26,7 +26,8 @@ use Rattle.graph_build.specs.Wanted.{needed_at, wanted}
 use Rattle.graph_build.proofs.BuiltLemmas.{built_length}
 use Rattle.build_law.specs.Limits.{HasShortFlattens, IsShort}
 use Rattle.build_law.proofs.Blocks.{any_block, each_block}
-use Rattle.build_law.proofs.Calling.{IsNamed, built_as, built_call, call_built, how_wanted, name_wanted, named, needed_as, other_built, other_wanted, parts, wanted_here}
+use Rattle.build_law.proofs.Calling.{built_as, built_call, how_wanted, needed_as, other_built, other_wanted, parts, wanted_here}
+use Rattle.build_law.proofs.Naming.{IsNamed, call_built, name_wanted, named}
 use Rattle.build_law.proofs.MadeKinds.{IsOther, Kind, called, kind_of, other}
 use Rattle.build_law.proofs.ObjectFree.{have_objects}
 use Rattle.build_law.proofs.Outputs.{IsAt, where_out}

@@ -28,6 +28,8 @@ IsShortOperation _ = Unit {0}
 
 abbrev pub IsShortForm : Form → Type 0
 IsShortForm (form.Let names by) = IsShortOperation by
+IsShortForm (form.Repeat names written) =
+    AllByRecursion (λ it. IsShortOperation it.by) written.lets
 IsShortForm _ = Unit {0}
 
 abbrev pub AreShort : List Statement → Type 0

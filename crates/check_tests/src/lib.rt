@@ -17,6 +17,8 @@ mod outputs;
 #[cfg(test)]
 mod programs;
 #[cfg(test)]
+mod repeats;
+#[cfg(test)]
 mod statements;
 #[cfg(test)]
 mod types;

@@ -5,8 +5,8 @@
 /// The values are a bag: their order does not count, and each counts as often as it occurs.
 #[derive(Clone, Copy, PartialEq, Eq, Debug)]
 pub enum Comb {
-    /// The sum of ints, wrapped to 128 bits with a sign; it traps with Overflow where that is not an
-    /// int.
+    /// The sum of ints, wrapped to 128 bits with a sign; it traps with Overflow where that is
+    /// not int.
     Sum,
     /// How many values there are, by the same rule.
     Count,

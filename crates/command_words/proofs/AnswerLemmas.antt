@@ -1,7 +1,7 @@
 -- From what a parse by `clap` says to what the words ask for.
-use Rattle.std.proofs.Common.{◌≡◌, ◌∙◌, true, false, List, [], ◌∷◌, refl, sym, ap, ap₂, inl, inr, ne_eqb, arith, true≢false}
-use Rattle.std.specs.Prelude.{Err, IfOk, IsErr, None, Ok, Option, Result, ◌||◌, if◌then◌else◌, option_map}
-use Rattle.clap.specs.Words.{AddsArg, App, HasKind, IsAmong, Kinds, Rule, Text, app_of, fault_of, is_simple, is_simple_and_free, kind_of, rule_of, subcommand_of, subcommand_rows_of, with_rule}
+use Rattle.std.proofs.Common.{◌≡◌, ◌∙◌, true, false, List, [], ◌∷◌, refl, sym, ap, ap₂, subst, inl, inr, ne_eqb, arith, true≢false}
+use Rattle.std.specs.Prelude.{Err, IfOk, IfSome, IsErr, None, Ok, Option, Result, ◌||◌, if◌then◌else◌}
+use Rattle.clap.specs.Words.{AddsArg, App, HasKind, HasMatchesOf, IsAmong, Kinds, Row, Rule, Text, app_of, fault_of, is_simple, is_simple_and_free, kind_of, rule_of, subcommand_of, subcommand_rows_of, with_rule}
 use Rattle.clap.specs.Walk.{is_empty}
 use Rattle.clap.specs.declared.builder.arg.Arg.{Arg}
 use Rattle.clap.specs.declared.builder.command.Command.{Command}
@@ -10,7 +10,7 @@ use Rattle.clap.specs.declared.error.Error.{Error}
 use Rattle.clap.specs.declared.error.kind.ErrorKind.{ErrorKind}
 use Rattle.clap.specs.declared.error.kind.ErrorKind.TheVariants.{OutOfMemory}
 use Rattle.clap.specs.declared.parser.matches.ArgMatches.{ArgMatches}
-use Rattle.command_words.specs.Words.{asked_for, asked_of, flume_app}
+use Rattle.command_words.specs.Words.{flume_app}
 
 simple : is_simple flume_app ≡ true
 simple = refl
@@ -30,40 +30,53 @@ stays_local old new a adds local before = adds.globals ∙ ap₂ (λ x y. x || y
 
 -- ---- what a parse says
 
+-- what words ask for, by what is read of their matches, where `clap` takes them
+abbrev asks_by : {A : Type 0} → (Option (Text × List Row) → Option A) → List Text → Option A
+asks_by read words =
+    if is_empty (fault_of flume_app words) then read (subcommand_of flume_app words) else None
+
 -- words that are taken ask for what their matches say
-pub taken_asks : (line : App) (words : List Text) (m : ArgMatches) → line ≡ flume_app
+pub taken_asks : {A : Type 0} (read : Option (Text × List Row) → Option A) (line : App)
+    (words : List Text) (m : ArgMatches) → line ≡ flume_app → HasMatchesOf line words m
     → (is_simple_and_free line ≡ true → fault_of line words ≡ [])
-    → subcommand_rows_of m ≡ subcommand_of line words
-    → asked_of (subcommand_rows_of m) ≡ asked_for words
-taken_asks line words m is faultless met =
-    let none : fault_of flume_app words ≡ [] =
-    ap (λ a. fault_of a words) (sym is) ∙ faultless (ap is_simple_and_free is ∙ free) in
-    ap asked_of (met ∙ ap (λ a. subcommand_of a words) is)
-    ∙ ap (λ (fault : Kinds). if is_empty fault then asked_of (subcommand_of flume_app words) else
-    None) (sym none)
+    → read (subcommand_rows_of m) ≡ asks_by read words
+taken_asks read line words m is matches faultless =
+    let none : fault_of flume_app words ≡ []
+    = ap (λ a. fault_of a words) (sym is) ∙ faultless (ap is_simple_and_free is ∙ free) in
+    let met = (matches (ap is_simple is ∙ simple)).1 in
+    ap read (met ∙ ap (λ a. subcommand_of a words) is)
+    ∙ ap (λ (fault : Kinds). if is_empty fault then read (subcommand_of flume_app words) else None)
+    (sym none)
 
 among : (kind : ErrorKind) (kinds : Kinds) → IsAmong kind kinds → is_empty kinds ≡ false
 among kind [] h = absurd h
 among kind (k ∷ ks) h = ne_eqb _ _ (λ e. omega arith)
 
 -- words that are refused for another cause than memory ask for nothing
-pub refused_asks : (line : App) (words : List Text) (e : Error) → line ≡ flume_app
+pub refused_asks : {A : Type 0} (read : Option (Text × List Row) → Option A) (line : App)
+    (words : List Text) (e : Error) → line ≡ flume_app
     → (is_simple_and_free line ≡ true → HasKind (fault_of line words) e)
     → (kind_of e ≡ OutOfMemory → ⊥)
-    → None ≡ asked_for words
-refused_asks line words e is fails other = elim (fails (ap is_simple_and_free is ∙ free)) [
+    → None ≡ asks_by read words
+refused_asks read line words e is fails other = elim (fails (ap is_simple_and_free is ∙ free)) [
   | inl memory ↦ absurd (other memory)
   | inr h ↦
       let some = ap (λ a. is_empty (fault_of a words)) (sym is)
       ∙ among (kind_of e) (fault_of line words) h in
-      ap (λ b. if b then asked_of (subcommand_of flume_app words) else None) (sym some)
+      ap (λ b. if b then read (subcommand_of flume_app words) else None) (sym some)
 ]
 
 -- a refusal that fails only for memory answers with nothing, which is what the words ask for
-pub refusal_answers : {A B E : Type 0} (f : A → B) (r : Result (Option A) E) (answer : Option B)
-    (Memory : Type 0)
-    → IfOk r (λ a. a ≡ None) → (Memory → IsErr r) → ((Memory → ⊥) → None ≡ answer)
-    → IfOk r (λ a. option_map f a ≡ answer)
-refusal_answers f (Ok a) answer Memory nothing memory other = ap (option_map f) nothing
-    ∙ other (λ m. true≢false (sym (memory m)))
-refusal_answers f (Err e) answer Memory nothing memory other = tt
+pub refusal_answers : {A B E : Type 0} (view : Option A → Option B) (r : Result (Option A) E)
+    (answer : Option B) (Memory : Type 0)
+    → IfOk r (λ a. a ≡ None) → (Memory → IsErr r) → ((Memory → ⊥) → view None ≡ answer)
+    → IfOk r (λ a. view a ≡ answer)
+refusal_answers view (Ok a) answer Memory nothing memory other =
+    ap view nothing ∙ other (λ m. true≢false (sym (memory m)))
+refusal_answers view (Err e) answer Memory nothing memory other = tt
+
+-- and with nothing that would have to be within limits
+pub refusal_within : {A E : Type 0} (P : A → Type 0) (r : Result (Option A) E)
+    → IfOk r (λ a. a ≡ None) → IfOk r (λ a. IfSome a P)
+refusal_within P (Ok a) nothing = subst (λ o. IfSome o P) (sym nothing) tt
+refusal_within P (Err e) nothing = tt

@@ -5,3 +5,4 @@ pub mod RowLemmas
 pub mod PartLemmas
 pub mod RunLemmas
 pub mod AnswerLemmas
+pub mod MakeLemmas

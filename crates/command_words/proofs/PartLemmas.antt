@@ -119,7 +119,7 @@ no_dash b digit = elim (cases_Bool (b == dash)) [
   | inr other ↦ other
 ]
 
-operand_by : (text : Text) → BeginsWithDigit text → is_operand text ≡ true
+pub operand_by : (text : Text) → BeginsWithDigit text → is_operand text ≡ true
 operand_by text begins = rw begins.is (rw (no_dash begins.first begins.digit) refl)
 
 number_operand : (usual limit : ℕ) (option : Option Text) (n : ℕ) (value : Text)

@@ -3,3 +3,4 @@ pub mod Words
 pub mod Parts
 pub mod Grammar
 pub mod Held
+pub mod Workloads

@@ -1,23 +1,29 @@
 -- What the words of a command line ask for: by the definitions of `clap`, of the commands that
 -- `flume` has.
-use Rattle.std.specs.Prelude.{ℕ, Bool, true, false, not, ◌==◌, List, [], ◌∷◌, Option, Some, None, codes, if◌then◌else◌, option_and_then, option_map}
+use Rattle.std.specs.Prelude.{ℕ, Bool, true, false, not, ◌==◌, List, [], ◌∷◌, Option, Some, None, codes, if◌then◌else◌, nat_le, option_and_then, option_map}
 use Rattle.std.specs.Option.{option_map_or}
 use Rattle.std.specs.Str.{bytes_eq}
 use Rattle.clap.specs.Words.{App, Row, Rule, Shape, Text, fault_of, first_of, new_app, new_rule, subcommand_of, with_rule, with_subcommand}
 use Rattle.clap.specs.Walk.{is_empty}
 use Rattle.clap.specs.declared.builder.action.ArgAction.TheVariants.{Set, SetTrue}
 use Rattle.drill_text.specs.Drills.{◌>>=◌}
+use Rattle.drill_text.specs.Numbers.{number_in}
 use Rattle.command_words.specs.Options.{settings_given}
 use Rattle.command_words.specs.declared.words.Command.{Command}
 use Rattle.command_words.specs.declared.words.Command.TheVariants.{Check, Plan, Direct, Run}
 use Rattle.command_words.specs.declared.words.PlanForm.{PlanForm}
 use Rattle.command_words.specs.declared.words.PlanForm.TheVariants.{Text as AsText, Json}
+use Rattle.command_words.specs.declared.workload.Workload.{Workload}
 
 -- ---- the command line
 
--- the script, by its place
+-- a word that has to come, by its place
+abbrev pub operand_rule : Text → Rule
+operand_rule name = record (new_rule name) { required = true; action = Some Set }
+
+-- the script
 abbrev pub script_rule : Rule
-script_rule = record (new_rule (codes "script")) { required = true; action = Some Set }
+script_rule = operand_rule (codes "script")
 
 -- the flag `--json`
 abbrev pub json_rule : Rule
@@ -48,6 +54,12 @@ run_app =
     (option_rule (codes "tries")))
     (option_rule (codes "fail"))
 
+-- the command `make`, which takes two numbers
+abbrev pub make_app : App
+make_app =
+    with_rule (with_rule (new_app (codes "make")) (operand_rule (codes "start")))
+    (operand_rule (codes "rows"))
+
 -- the program's own settings: a command has to come, and there is no help to ask for
 abbrev pub asking_for_command : Shape → Shape
 asking_for_command s = record s {
@@ -59,14 +71,16 @@ asking_for_command s = record s {
 abbrev pub program_app : App
 program_app = record { top = asking_for_command (new_app (codes "flume")).top; subs = [] }
 
--- the program, with its four commands
+-- the program, with its five commands
 abbrev pub flume_app : App
 flume_app =
     with_subcommand
     (with_subcommand
+    (with_subcommand
     (with_subcommand (with_subcommand program_app (script_app (codes "check")).top) plan_app.top)
     (script_app (codes "direct")).top)
-    run_app.top
+    run_app.top)
+    make_app.top
 
 -- ---- what is asked for
 
@@ -78,6 +92,45 @@ dash = 45
 abbrev pub is_operand : List ℕ → Bool
 is_operand [] = false
 is_operand (first ∷ rest) = not (first == dash)
+
+-- ---- a made workload
+
+-- the most that either of its numbers may be
+abbrev pub most_made : ℕ
+most_made = 1000000
+
+-- a number that is no more than that
+abbrev pub count_in : Text → Option ℕ
+count_in text = option_and_then (λ n. if nat_le n most_made then Some n else None) (number_in text)
+
+-- a made workload: the number before the first row's, and how many rows there are
+abbrev pub workload : ℕ → ℕ → Workload
+workload start rows = record { start = start; rows = rows }
+
+-- the workload of two words
+abbrev pub workload_in : Option Text → Option Text → Option Workload
+workload_in start rows =
+    option_and_then (λ first. option_map (workload first) (option_and_then count_in rows))
+    (option_and_then count_in start)
+
+-- the workload of a command that was met, by the matches of its own arguments: `make` has one
+abbrev pub workload_at : Text → List Row → Option Workload
+workload_at name rows =
+    if bytes_eq name (codes "make")
+    then workload_in (first_of (codes "start") rows) (first_of (codes "rows") rows)
+    else None
+
+-- the workload of the matches of the command line
+abbrev pub workload_of : Option (Text × List Row) → Option Workload
+workload_of met = option_and_then (λ p. workload_at p.0 p.1) met
+
+-- the workload that the words ask for, where they do
+abbrev pub workload_for : List Text → Option Workload
+workload_for words =
+    if is_empty (fault_of flume_app words) then workload_of (subcommand_of flume_app words)
+    else None
+
+-- ---- a command on a script
 
 -- what is asked for: a command, and the name of a script
 pub record Asked : Type 0 where

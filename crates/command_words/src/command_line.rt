@@ -7,7 +7,7 @@ ghost use Rattle.command_words.specs.Words as spec;
 use clap::{Arg, ArgAction, Command};
 use std::alloc::{AllocError, Global};
 
-// The program with its four commands. There is no help to ask for: a refusal shows the usage.
+// The program with its five commands. There is no help to ask for: a refusal shows the usage.
 pub fn command_line<'a>(alloc: Global) -> Result<Command<'a>, AllocError>
     ensures { IfOk result (λ line. app_of line ≡ spec.flume_app) }
 {
@@ -15,11 +15,13 @@ pub fn command_line<'a>(alloc: Global) -> Result<Command<'a>, AllocError>
     let plan = plan_command(alloc)?;
     let direct = script_command(alloc, "direct")?;
     let run = run_command(alloc)?;
+    let make = make_command(alloc)?;
     program(alloc)
         .subcommand(check)?
         .subcommand(plan)?
         .subcommand(direct)?
-        .subcommand(run)
+        .subcommand(run)?
+        .subcommand(make)
 }
 
 // The program alone.
@@ -69,8 +71,23 @@ fn script_command<'a>(alloc: Global, name: &'a str) -> Result<Command<'a>, Alloc
     ensures app { IfOk result (λ command. app_of command ≡ spec.script_app name.entry.now) }
     ensures local { IfOk result (λ command. (out-Command command).has_globals ≡ false) }
 {
-    let script = Arg::new(alloc, "script")
-        .required(true)
-        .action(ArgAction::Set);
-    Command::new(alloc, name).arg(script)
+    Command::new(alloc, name).arg(operand(alloc, "script"))
+}
+
+// The command `make`, with its two numbers.
+fn make_command<'a>(alloc: Global) -> Result<Command<'a>, AllocError>
+    ensures app { IfOk result (λ command. app_of command ≡ spec.make_app) }
+    ensures local { IfOk result (λ command. (out-Command command).has_globals ≡ false) }
+{
+    Command::new(alloc, "make")
+        .arg(operand(alloc, "start"))?
+        .arg(operand(alloc, "rows"))
+}
+
+// A word that has to come, by its place.
+fn operand<'a>(alloc: Global, name: &'a str) -> Arg<'a>
+    ensures rule { rule_of result ≡ spec.operand_rule name.entry.now }
+    ensures local { result.global ≡ false }
+{
+    Arg::new(alloc, name).required(true).action(ArgAction::Set)
 }

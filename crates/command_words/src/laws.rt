@@ -1,7 +1,7 @@
 //! What the words of the grammar ask for.
-ghost use Rattle.std.specs.Prelude.{◌≡◌, true};
+ghost use Rattle.std.specs.Prelude.{◌≡◌, ◌≤◌, ◌∷◌, [], List, Some, codes, decimal, true, ℕ};
 ghost use Rattle.command_words.specs.Grammar.{TakesGrammar};
-ghost use Rattle.command_words.specs.Words.{is_operand};
+ghost use Rattle.command_words.specs.Words.{is_operand, most_made, workload, workload_for};
 
 /// Words of the grammar are never refused, and ask for what they say: each command with a script,
 /// `plan` with the flag before the script or behind it, and `run` with any of its options, each
@@ -10,4 +10,12 @@ ghost use Rattle.command_words.specs.Words.{is_operand};
 pub fn grammar_law(script: &str)
     requires { is_operand script.now ≡ true }
     ensures { TakesGrammar script.now }
+{}
+
+/// Words of `make` with two numbers, neither of them too great, are never refused, and ask for what
+/// they say.
+pub fn make_law()
+    ensures { (program : List ℕ) (start rows : ℕ) → start ≤ most_made → rows ≤ most_made →
+        workload_for (program ∷ codes "make" ∷ decimal start ∷ decimal rows ∷ [])
+        ≡ Some (workload start rows) }
 {}

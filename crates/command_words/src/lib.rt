@@ -4,7 +4,8 @@
 //! `plan` maybe the flag `--json`, and for `run` maybe options, which say how the run is carried
 //! out. What the words ask for is said by the matches that `clap` defines (specs/Words.antt, and
 //! specs/Options.antt for the options). `grammar_law` says it in plain words (specs/Grammar.antt):
-//! the options of `run` and the script may come in any order (specs/Parts.antt).
+//! the options of `run` and the script may come in any order (specs/Parts.antt). `make` has no
+//! script: `workload_for` reads its two numbers, and `make_law` says which words are taken.
 #![tactic(auto)]
 
 mod command_line;
@@ -12,6 +13,8 @@ mod laws;
 mod matches;
 mod options;
 mod words;
+mod workload;
 
-pub use laws::grammar_law;
+pub use laws::{grammar_law, make_law};
 pub use words::{Asked, Command, PlanForm, asked_for};
+pub use workload::{MOST_MADE, Workload, workload_for};

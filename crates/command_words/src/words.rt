@@ -56,7 +56,7 @@ pub fn asked_for(alloc: Global, words: &[String]) -> Result<Option<Asked<'_>>, A
 }
 
 // Words that are refused ask for nothing, but where it was memory that was wanting.
-fn refused<'a>(kind: ErrorKind) -> Result<Option<Asked<'a>>, AllocError>
+pub(crate) fn refused<T>(kind: ErrorKind) -> Result<Option<T>, AllocError>
     ensures nothing { IfOk result (λ asked. asked ≡ None) }
     ensures memory { kind ≡ ErrorKind.OutOfMemory → IsErr result }
 {

@@ -47,7 +47,7 @@ fresh_done_nothing b (suc n) =
     let Q : Pass → Type 0 = λ p. IsFresh p.state in
     All-append Q (fresh_passes b n) (record { board = b; state = fresh n } ∷ [])
     (fresh_done_nothing b n)
-    (All-cons Q _ [] (record { won = refl; draws = refl; seen = refl }) (All-nil Q))
+    (All-cons Q _ [] (record { won = refl; draws = refl; seen = refl; deeds = refl }) (All-nil Q))
 
 pub length_fresh : (b : Board) (n : ℕ) → length (fresh_passes b n) ≡ n
 length_fresh b zero = refl

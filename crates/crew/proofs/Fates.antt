@@ -98,11 +98,11 @@ module _ (tasks : ℕ) (s : Settings) (places : ℕ → ℕ) where
   fate_of : (downs : List ℕ) (q : PassState) (t : Turn) → Contains q.seen (look_of tasks t)
       → ((x : At) → t.downs ≡ x ∷ [] → 0 < times t.draw downs) → Cause tasks s places q t
       → Fate tasks s downs q t.draw
-  fate_of downs q t saw down (cause.Taken full passed none) = Taken t.word full saw
+  fate_of downs q t saw down (cause.Taken full passed none commit) = Taken t.word full saw
   fate_of downs q t saw down (cause.Won made h) = Won h
-  fate_of downs q t saw down (cause.Lost made h) = Lost h
-  fate_of downs q t saw down (cause.Drilled made h) = Drilled h
-  fate_of downs q t saw down (cause.WentDown h) =
+  fate_of downs q t saw down (cause.Lost x made h) = Lost h
+  fate_of downs q t saw down (cause.Drilled made h commit) = Drilled h
+  fate_of downs q t saw down (cause.WentDown h commit) =
       WentDown (down (at_place (drawn_attempt tasks s t.draw) h.place) h.downs)
 
   -- each draw of a pass that was fresh has a fate

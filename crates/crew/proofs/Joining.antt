@@ -4,13 +4,13 @@ use Rattle.std.specs.Prelude.{All, Result, Ok, Err, IfOk, OnOk}
 use Rattle.std.specs.List.{AllZip}
 use Rattle.std.proofs.lemmas.List.{map-append}
 use Rattle.std.proofs.lemmas.List.Elements.{All-nil, All-cons, All-append, All-weaker, length_all_zip}
-use Rattle.claim_board.specs.Protocol.{PassState, fresh}
+use Rattle.claim_board.specs.Protocol.{PassState, Deed, DrewNumber, fresh}
 use Rattle.claim_board.specs.Boards.{Pass, states_of}
 use Rattle.crew.specs.declared.kept.KeptOut.{KeptOut}
 use Rattle.crew.specs.Hosts.{Account, Grew, SomeHost}
 use Rattle.crew.specs.Drills.{Settings}
 use Rattle.crew.specs.Outs.{IsOut, RanOn, draw_by}
-use Rattle.crew.specs.Work.{Turn, Worker, AreWorkers, HaveWorked, Cause, TookTurns, Took, Worked, look_of}
+use Rattle.crew.specs.Work.{Turn, Worker, AreWorkers, HaveWorked, HasDone, Cause, CameFar, TookTurns, Took, Worked, all_deeds, look_of}
 use Rattle.crew.specs.Workers.{IsFresh, AllTook, Phased, wons}
 use Rattle.crew.proofs.Lists.{some_host_left, some_host_right}
 
@@ -45,6 +45,7 @@ module _ (tasks : ℕ) (s : Settings) (places : ℕ → ℕ) where
     subst (λ (l : List PassState). AreWorkers tasks s places l (us ++ xs) (vs ++ ys) (h.0 ++ k.0))
         (states_both ps qs)
         (are_both (states_of ps) (states_of qs) us vs xs ys h.0 k.0 h.1 k.1),
+    All-append (λ (w : Worker). CameFar tasks s places w.pass w.turns) h.0 k.0 h.2 k.2,
   )
 
   worked_both : (ps qs : List Pass) (us vs xs ys : List Account)
@@ -79,6 +80,12 @@ module _ (tasks : ℕ) (s : Settings) (places : ℕ → ℕ) where
           draws = w.draws ∙ ap (λ (l : List ℕ). l ++ w.gained) f.draws;
           each = w.each;
           seen = w.seen ∙ ap (λ (l : List (ℕ × ℕ)). l ++ map (look_of tasks) ts) f.seen;
+          past = w.past;
+          late = w.late;
+          deeds = subst
+              (λ (l : List (ℕ × Deed)).
+              HasDone l (all_deeds tasks ts ++ map DrewNumber w.past) q.state.deeds)
+              f.deeds w.deeds;
           gains = w.gains;
           lost = w.lost;
           asked = w.asked;
@@ -87,10 +94,13 @@ module _ (tasks : ℕ) (s : Settings) (places : ℕ → ℕ) where
 
   pub took_alone : (old : PassState) (q : Pass) (a b : Account) → IsFresh old
       → Took tasks s places old q.state a b → AllTook tasks s places (q ∷ []) (a ∷ []) (b ∷ [])
-  took_alone old q a b f w = (
-    record { pass = q.state; before = a; after = b; turns = w.0 } ∷ [],
-    are_one old q a b w.0 f w.1,
-  )
+  took_alone old q a b f w =
+      let one : Worker = record { pass = q.state; before = a; after = b; turns = w.0 } in
+      let C : Worker → Type 0 = λ v. CameFar tasks s places v.pass v.turns in (
+        one ∷ [],
+        are_one old q a b w.0 f w.1,
+        All-cons C one [] w.2 (All-nil C),
+      )
 
 module _ (tasks : ℕ) (s : Settings) {O : Type 0} (is_value : ℕ → O → Type 0) (places : ℕ → ℕ) where
   abbrev IsKeptBy : List Account → List Account → KeptOut O → Type 0

@@ -4,6 +4,7 @@ pub mod Turning
 pub mod Working
 pub mod Fates
 pub mod Joining
+pub mod Fronts
 pub mod InOrder
 pub mod Counting
 pub mod Ending

@@ -10,7 +10,7 @@ use Rattle.crew.specs.declared.phase.PhaseFault.TheVariants.{GaveUp, Memory}
 use Rattle.crew.specs.Hosts.{Account, Gains, HaveRisen, Refused, SomeHost}
 use Rattle.crew.specs.Drills.{Settings, attempt_in, names, is_drilled, drilled_tries}
 use Rattle.crew.specs.Outs.{IsOut, RanOn}
-use Rattle.crew.specs.Work.{HaveWorked}
+use Rattle.crew.specs.Work.{Worker, AreWorkers, CameFar, HaveWorked}
 
 -- what each host has let through and refused since, one list of places after the other
 abbrev pub HaveGained : List Account → List Account → List Notes → Type 0
@@ -45,6 +45,27 @@ module _ (tasks : ℕ) (s : Settings) where
     pub good : IsGood tasks s.tries board
     pub passes : length board.passes ≡ hosts
     pub ended : All (λ p. p.ended ≡ true) board.passes
+
+  -- The work of a phase on its hosts, to its end: by its board each task was won by this attempt,
+  -- or by none, where the number is 0; and the board's passes are those of workers, each with a
+  -- host, who were asked in the workers' turns alone.
+  pub record IsWork (places : ℕ → ℕ) (won : List ℕ) (olds news : List Account) : Type 0 where
+    pub board : State
+    pub closed : IsClosed (length olds) board
+    pub words : board.words ≡ won
+    pub worked : HaveWorked tasks s places board.passes olds news
+
+  -- the same, as far as it came
+  pub record IsWorkSoFar (places : ℕ → ℕ) (olds news : List Account) : Type 0 where
+    pub board : State
+    pub good : IsGood tasks s.tries board
+    pub workers : List Worker
+    pub are : AreWorkers tasks s places board.passes olds news workers
+    pub came : All (λ w. CameFar tasks s places w.pass w.turns) workers
+
+  -- the phase was not begun, or its work came so far
+  abbrev pub IsCut : (ℕ → ℕ) → List Account → List Account → Type 0
+  IsCut places olds news = (olds ≡ news) ⊎ IsWorkSoFar places olds news
 
   -- the drill's entries and the losses of the hosts account for each try of the task, and where a
   -- host tells, for each try by itself
@@ -108,7 +129,7 @@ module _ (tasks : ℕ) (s : Settings) where
 
     abbrev pub IsPhaseFault : List Account → List Account → PhaseFault O → Type 0
     IsPhaseFault olds news (GaveUp task below) = Unsettled olds news task below
-    IsPhaseFault olds news Memory = ⊤
+    IsPhaseFault olds news Memory = IsCut places olds news
 
 -- the fault is want of memory
 abbrev pub IsMemory : {O : Type 0} → PhaseFault O → Type 0

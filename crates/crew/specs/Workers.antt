@@ -6,13 +6,14 @@ use Rattle.crew.specs.declared.kept.KeptOut.{KeptOut}
 use Rattle.crew.specs.Hosts.{Account, SomeHost}
 use Rattle.crew.specs.Drills.{Settings}
 use Rattle.crew.specs.Outs.{IsOut, RanOn, draw_by}
-use Rattle.crew.specs.Work.{Worker, AreWorkers, HaveWorked}
+use Rattle.crew.specs.Work.{Worker, AreWorkers, CameFar, HaveWorked}
 
--- a pass that has not won, drawn or looked
+-- a pass that has done nothing
 pub record IsFresh (p : PassState) : Type 0 where
   pub won : p.won ≡ []
   pub draws : p.draws ≡ []
   pub seen : p.seen ≡ []
+  pub deeds : p.deeds ≡ []
 
 -- the passes are the board's, have done nothing, and are as many as the hosts; the board is for so
 -- many tasks, with so many tries
@@ -29,10 +30,11 @@ wons [] = []
 wons (p ∷ ps) = p.state.won ++ wons ps
 
 module _ (tasks : ℕ) (s : Settings) where
-  -- whatever came of them, each worker took turns with its pass and its host
+  -- however far they came, each worker took turns with its pass and its host
   abbrev pub AllTook : (ℕ → ℕ) → List Pass → List Account → List Account → Type 0
   AllTook places ps olds news =
       (ws : List Worker) × AreWorkers tasks s places (states_of ps) olds news ws
+      × All (λ w. CameFar tasks s places w.pass w.turns) ws
 
   -- they kept the outs of just the draws that the passes have won; no pass has a draw left, and
   -- each turn came to something

@@ -16,8 +16,8 @@ use std::thread::Threads;
 /// Why a phase has no out of some task.
 #[derive(Debug, Drop)]
 pub enum PhaseFault<O> {
-    /// The least task of which no attempt has won: each try was in the drill, or its host was down. The
-    /// smaller tasks have an out each, in order.
+    /// The least task of which no attempt has won: each try was in the drill, or its host was
+    /// down. The smaller tasks have an out each, in order.
     GaveUp {
         /// The task.
         task: u32,

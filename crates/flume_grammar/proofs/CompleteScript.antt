@@ -1,106 +1,28 @@
--- Operations, statements and scripts of the grammar are read.
-use Rattle.std.proofs.Common.{◌≡◌, ℕ, ◌+◌, ◌≤◌, ◌<◌, length, length-append, List, [], ◌∷◌, ◌++◌, true, false, Option, Some, None, Ok, refl, arith}
+-- Statements and scripts of the grammar are read.
+use Rattle.std.proofs.Common.{◌≡◌, ℕ, ◌+◌, ◌≤◌, ◌<◌, length, length-append, List, [], ◌∷◌, ◌++◌, true, false, Option, Ok, refl, arith}
 use Rattle.flume_tokens.specs.declared.token.Token.{Token}
 use Rattle.flume_tokens.specs.declared.keyword.Keyword.TheVariants as keyword
 use Rattle.flume_tokens.specs.declared.sign.Sign.TheVariants as sign
 use Rattle.flume_grammar.specs.declared.tree.Body.{Body}
-use Rattle.flume_grammar.specs.declared.tree.Combiner.{Combiner}
-use Rattle.flume_grammar.specs.declared.tree.Operation.{Operation}
-use Rattle.flume_grammar.specs.declared.tree.Operation.TheVariants as operation
 use Rattle.flume_grammar.specs.declared.tree.Form.TheVariants as form
 use Rattle.flume_grammar.specs.declared.tree.Statement.{Statement}
-use Rattle.flume_grammar.specs.inner.Out.{Out, give, bind, one, next, all_of}
-use Rattle.flume_grammar.specs.inner.Reading.{sign_at, keyword_at, name_at, text_at, comma_at, is_at_sign, numbered}
+use Rattle.flume_grammar.specs.inner.Out.{give, bind, one, next, all_of}
+use Rattle.flume_grammar.specs.inner.Reading.{sign_at, keyword_at, text_at, comma_at, is_at_sign, numbered}
 use Rattle.flume_grammar.specs.Parts.{Tree}
 use Rattle.flume_grammar.specs.inner.Types.{at_comma, whole_type}
 use Rattle.flume_grammar.specs.inner.Bodies.{whole_block}
 use Rattle.flume_grammar.specs.inner.Statements as s
 use Rattle.flume_grammar.specs.Grammar as g
 use Rattle.flume_grammar.specs.Terminals.{key, mark, name, text}
-use Rattle.flume_grammar.specs.Grammar.{IsNumbered, AreMoreTypes, IsBlock, IsCombiner, AreNames, IsOperation, IsStatement, AreStatements, IsScript}
+use Rattle.flume_grammar.specs.Grammar.{IsNumbered, AreMoreTypes, IsBlock, IsStatement, AreStatements, IsScript}
 use Rattle.flume_grammar.proofs.Loops.{Reaches, reaches_start, reaches_next, reaches_end}
-use Rattle.flume_grammar.proofs.Complete.{went, same_key, same_comma, shorter_numbered, shorter_type, complete_whole}
+use Rattle.flume_grammar.proofs.Complete.{went, same_comma, shorter_numbered, shorter_type, complete_whole}
 use Rattle.flume_grammar.specs.Limits.{Limits}
 use Rattle.flume_grammar.proofs.Fair.{IsFair}
 use Rattle.flume_grammar.proofs.CompleteBodies.{shorter_block, complete_whole_block}
-
--- ---- names
-
--- the first name is read, and from there on the loop comes to the last
-module _ (part : List (List ℕ) → List Token → Out (List (List ℕ))) (Room : List (List ℕ) → Type 0)
-    (fewer : (xs : List (List ℕ)) (x : List ℕ) → Room (xs ++ x ∷ []) → Room xs)
-    (step : (xs : List (List ℕ)) (x : List ℕ) (m n : ℕ) (us : List Token) → Room (xs ++ x ∷ [])
-    → part xs (mark sign.Comma m ∷ name x n ∷ us) ≡ Ok (xs ++ x ∷ [], us))
-  where
-    complete_names : {ts us : List Token} {xs : List (List ℕ)} → AreNames ts us xs → Room xs
-        → (x : List ℕ) × (vs : List Token) × (one name_at ts ≡ Ok (x, vs))
-        × Reaches at_comma part (all_of at_comma part (x ∷ []) vs) xs us
-    complete_names (g.one {x} {n} {ts}) h = (x, ts, refl, reaches_start at_comma part (x ∷ []) ts)
-    complete_names (g.more {x} {xs} {n} {m} {ts} {us} y) h =
-        let (z, vs, q, r) = complete_names y (fewer xs x h) in (
-          z,
-          vs,
-          q,
-          reaches_next at_comma part _ xs (xs ++ x ∷ [])
-              (mark sign.Comma m ∷ name x n ∷ us) us r refl (step xs x m n us h) (omega arith),
-        )
-
--- the names of a let
-complete_let : {ts us : List Token} {xs : List (List ℕ)} {n : ℕ}
-    → AreNames ts (mark sign.Assign n ∷ us) xs → s.names ts ≡ Ok (xs, mark sign.Assign n ∷ us)
-complete_let {ts} {us} {xs} {n} x =
-    let (z, vs, q, r) = complete_names s.next_name (λ ys. Unit {0}) (λ ys y i. tt)
-    (λ ys y k m ws i. refl) x tt in
-    went (one name_at ts) (λ y ws. all_of at_comma s.next_name (y ∷ []) ws) z vs _ q
-    (reaches_end at_comma s.next_name _ xs (mark sign.Assign n ∷ us) r refl)
+use Rattle.flume_grammar.proofs.CompleteLets.{complete_list, complete_operation, complete_plain, complete_repeat, shorter_names, shorter_operation, shorter_repeat}
 
 module _ (limits : Limits) (fair : IsFair limits) where
-  -- ---- operations
-
-  complete_combiner : {ts us : List Token} {c : Combiner} → IsCombiner ts us c
-      → s.combiner_at ts ≡ Ok (c, us)
-  complete_combiner g.sum = refl
-  complete_combiner g.count = refl
-  complete_combiner g.min = refl
-  complete_combiner g.max_ = refl
-  complete_combiner g.all = refl
-  complete_combiner g.any = refl
-  complete_combiner g.top = refl
-  complete_combiner g.mean = refl
-  complete_combiner g.distinct = refl
-
-  next_input : (xs : List (List ℕ)) (x : List ℕ) (m n : ℕ) (us : List Token)
-      → length (xs ++ x ∷ []) ≤ limits.inputs
-      → s.next_input limits xs (mark sign.Comma m ∷ name x n ∷ us) ≡ Ok (xs ++ x ∷ [], us)
-  next_input xs x m n us h =
-      let j = length-append xs (x ∷ []) in
-      went (one (comma_at (length xs) limits.inputs) (mark sign.Comma m ∷ name x n ∷ us)) _ tt
-      (name x n ∷ us) _ (same_comma (length xs) limits.inputs m _ (omega (arith, h, j))) refl
-
-  few_inputs : (xs : List (List ℕ)) (x : List ℕ) → length (xs ++ x ∷ []) ≤ limits.inputs
-      → length xs ≤ limits.inputs
-  few_inputs xs x h = let j = length-append xs (x ∷ []) in omega (arith, h, j)
-
-  -- an operation, before what is no comma
-  complete_operation : {ts us : List Token} {o : Operation} → IsOperation limits ts us o
-      → is_at_sign sign.Comma (next us) ≡ false → s.operation_at limits ts ≡ Ok (o, us)
-  complete_operation g.do_ h = refl
-  complete_operation g.group h = refl
-  complete_operation (g.combine {c} {n} {m} {k} {ts} {us} {b = z} x) h =
-      went (one (keyword_at keyword.By) (key keyword.By k ∷ ts))
-      (λ _ vs. bind (s.combiner_at vs) (λ w ws. give (operation.Combine c w) ws)) tt ts _
-      (same_key keyword.By k ts) (went (s.combiner_at ts) _ z us _ (complete_combiner x) refl)
-  complete_operation (g.flatten {n} {ts} {us} {xs} x l) h =
-      let (z, vs, q, r) = complete_names (s.next_input limits) (λ ys. length ys ≤ limits.inputs)
-      few_inputs next_input x l in
-      went (one name_at ts) (λ y ws. bind (all_of at_comma (s.next_input limits) (y ∷ []) ws)
-      (λ ys xs. give (operation.Flatten ys) xs)) z vs _ q
-      (went (all_of at_comma (s.next_input limits) (z ∷ []) vs) _ xs us _
-      (reaches_end at_comma (s.next_input limits) _ xs us r h) refl)
-  complete_operation g.count h = refl
-  complete_operation g.join h = refl
-  complete_operation g.top h = refl
-
   -- ---- statements
 
   -- what stands before a function's body
@@ -183,37 +105,14 @@ module _ (limits : Limits) (fair : IsFair limits) where
   complete_statement (g.let_ {xs} {n} {k} {ts} {us} {vs} {o} x w) h =
       went (s.let_form limits ts) (λ f ws. give (record { line = n; form = f }) ws)
       (form.Let xs o) vs _
-      (went (s.names ts) _ xs (mark sign.Assign k ∷ us) _ (complete_let x)
-      (went (s.operation_at limits us) (λ z ws. give (form.Let xs z) ws) o vs _
-      (complete_operation w h) refl)) refl
+      (went (s.names ts) _ xs (mark sign.Assign k ∷ us) _ (complete_list x refl)
+      (complete_plain limits fair xs o us vs (complete_operation limits fair w h))) refl
+  complete_statement (g.repeat {xs} {n} {k} {ts} {us} {vs} {r} x w) h =
+      went (s.let_form limits ts) (λ f ws. give (record { line = n; form = f }) ws)
+      (form.Repeat xs r) vs _
+      (went (s.names ts) _ xs (mark sign.Assign k ∷ us) _ (complete_list x refl)
+      (complete_repeat limits fair xs w)) refl
   complete_statement g.output h = refl
-
-  shorter_names : {ts us : List Token} {xs : List (List ℕ)} → AreNames ts us xs
-      → length us < length ts
-  shorter_names g.one = omega arith
-  shorter_names (g.more x) = let h = shorter_names x in omega (arith, h)
-
-  shorter_combiner : {ts us : List Token} {c : Combiner} → IsCombiner ts us c
-      → length us < length ts
-  shorter_combiner g.sum = omega arith
-  shorter_combiner g.count = omega arith
-  shorter_combiner g.min = omega arith
-  shorter_combiner g.max_ = omega arith
-  shorter_combiner g.all = omega arith
-  shorter_combiner g.any = omega arith
-  shorter_combiner g.top = omega arith
-  shorter_combiner g.mean = omega arith
-  shorter_combiner g.distinct = omega arith
-
-  shorter_operation : {ts us : List Token} {o : Operation} → IsOperation limits ts us o
-      → length us < length ts
-  shorter_operation g.do_ = omega arith
-  shorter_operation g.group = omega arith
-  shorter_operation (g.combine x) = let h = shorter_combiner x in omega (arith, h)
-  shorter_operation (g.flatten x l) = let h = shorter_names x in omega (arith, h)
-  shorter_operation g.count = omega arith
-  shorter_operation g.join = omega arith
-  shorter_operation g.top = omega arith
 
   shorter_more : {ts us : List Token} {types : List Tree} → AreMoreTypes limits ts us types
       → length us ≤ length ts
@@ -232,7 +131,13 @@ module _ (limits : Limits) (fair : IsFair limits) where
       let k = shorter_numbered f in
       let o = shorter_block limits fair q in
       omega (arith, h, i, j, k, o)
-  shorter_statement (g.let_ x w) = let h = shorter_names x in let i = shorter_operation w in
+  shorter_statement (g.let_ x w) =
+      let h = (shorter_names limits fair) x in
+      let i = (shorter_operation limits fair) w in
+      omega (arith, h, i)
+  shorter_statement (g.repeat x w) =
+      let h = (shorter_names limits fair) x in
+      let i = (shorter_repeat limits fair) w in
       omega (arith, h, i)
   shorter_statement g.output = omega arith
 
@@ -242,6 +147,7 @@ module _ (limits : Limits) (fair : IsFair limits) where
   statement_begins (g.input w) = (refl, (λ ss. refl))
   statement_begins (g.fn_ u v w e f q l) = (refl, (λ ss. refl))
   statement_begins (g.let_ x w) = (refl, (λ ss. refl))
+  statement_begins (g.repeat x w) = (refl, (λ ss. refl))
   statement_begins g.output = (refl, (λ ss. refl))
 
   complete_statements : {ts us : List Token} {ss : List Statement} → AreStatements limits ts us ss

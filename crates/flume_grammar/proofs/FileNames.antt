@@ -11,6 +11,8 @@ use Rattle.flume_grammar.specs.declared.tree.Body.{Body}
 use Rattle.flume_grammar.specs.declared.tree.Combiner.{Combiner}
 use Rattle.flume_grammar.specs.declared.tree.Expr.{Expr}
 use Rattle.flume_grammar.specs.declared.tree.Operation.{Operation}
+use Rattle.flume_grammar.specs.declared.tree.TurnLet.{TurnLet}
+use Rattle.flume_grammar.specs.declared.tree.Repeat.{Repeat}
 use Rattle.flume_grammar.specs.declared.tree.Statement.{Statement}
 use Rattle.flume_grammar.specs.declared.tree.Ast.{Ast}
 use Rattle.flume_grammar.specs.Answer.{Accepts}
@@ -131,6 +133,19 @@ module _ (limits : Limits) where
   rest_operation g.join h = h.1.1.1.1
   rest_operation g.top h = h.1.1.1
 
+  rest_let : {ts us : List Token} {l : TurnLet} → g.IsLet limits ts us l → Texts ts → Texts us
+  rest_let (g.let_ x o) h = rest_operation o (rest_names x h.1).1
+
+  rest_lets : {ts us : List Token} {ls : List TurnLet} → g.AreLets limits ts us ls → Texts ts
+      → Texts us
+  rest_lets g.none_ h = h
+  rest_lets (g.some x y) h = rest_let y (rest_lets x h)
+
+  rest_repeat : {ts us : List Token} {r : Repeat} → g.IsRepeat limits ts us r → Texts ts
+      → Texts us
+  rest_repeat (g.repeat_ x y l z) h =
+      (rest_names z (rest_lets l (rest_names y (rest_names x h.1.1.1).1).1).1).1
+
   rest_more : {ts us : List Token} {types : List Tree} → g.AreMoreTypes limits ts us types
       → Texts ts → Texts us
   rest_more g.none_ h = h
@@ -149,6 +164,7 @@ module _ (limits : Limits) where
       let k = rest_type w.spelled (rest_type v.spelled h.1.1.1.1.1).1.1 in
       record { named = tt; rest = rest_block b (rest_numbered c (rest_more m k)) }
   one_named (g.let_ x o) h = record { named = tt; rest = rest_operation o (rest_names x h.1).1 }
+  one_named (g.repeat x r) h = record { named = tt; rest = rest_repeat r (rest_names x h.1).1 }
   one_named g.output h = record { named = h.1.1.1.0; rest = h.1.1.1.1 }
 
   abbrev Each : List Statement → Type 0

@@ -4,6 +4,7 @@ pub mod Comes
 pub mod Complete
 pub mod CompleteBodies
 pub mod CompleteExpr
+pub mod CompleteLets
 pub mod CompleteScript
 pub mod Depths
 pub mod Fair
@@ -45,6 +46,7 @@ pub mod SoundForms
 pub mod SoundLoops
 pub mod SoundOperations
 pub mod SoundParts
+pub mod SoundRepeats
 pub mod SoundScript
 pub mod SoundStarts
 pub mod SoundSuffixes

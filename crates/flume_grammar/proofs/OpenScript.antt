@@ -6,13 +6,16 @@ use Rattle.flume_tokens.specs.declared.sign.Sign.TheVariants as sign
 use Rattle.flume_grammar.specs.declared.fault.ScriptKind.TheVariants.{Syntax}
 use Rattle.flume_grammar.specs.declared.start.OperationStart.{OperationStart}
 use Rattle.flume_grammar.specs.declared.start.OperationStart.TheVariants as starting
+use Rattle.flume_grammar.specs.declared.start.LetStart.{LetStart}
+use Rattle.flume_grammar.specs.declared.start.LetStart.TheVariants as letting
 use Rattle.flume_grammar.specs.declared.start.CombinerStart.{CombinerStart}
 use Rattle.flume_grammar.specs.declared.start.CombinerStart.TheVariants as combining
 use Rattle.flume_grammar.specs.declared.start.StatementStart.{StatementStart}
 use Rattle.flume_grammar.specs.declared.start.StatementStart.TheVariants as stating
+use Rattle.flume_grammar.specs.declared.tree.TurnLet.{TurnLet}
 use Rattle.flume_grammar.specs.declared.tree.Statement.{Statement}
 use Rattle.flume_grammar.specs.inner.Out.{give, bind, one, all_of}
-use Rattle.flume_grammar.specs.inner.Reading.{sign_at, name_at, number_at, comma_at, numbered}
+use Rattle.flume_grammar.specs.inner.Reading.{sign_at, is_keyword, is_at_keyword, name_at, number_at, comma_at, numbered}
 use Rattle.flume_grammar.specs.Parts.{Tree}
 use Rattle.flume_grammar.specs.inner.Types.{at_comma, whole_type}
 use Rattle.flume_grammar.specs.inner.Bodies.{whole_block}
@@ -24,7 +27,7 @@ use Rattle.flume_grammar.proofs.OpenSmallest.{Owns, given}
 use Rattle.flume_grammar.proofs.OpenThen.{then_}
 use Rattle.flume_grammar.proofs.OpenNarrow.{wider}
 use Rattle.flume_grammar.proofs.OpenLoops.{loops}
-use Rattle.flume_grammar.proofs.OpenTokens.{owns_ok, owns_fault, owns_option, token, takes_token, sign_then, keyword_then, name_then, number_then, text_then, comma_then, commas, no_comma}
+use Rattle.flume_grammar.proofs.OpenTokens.{owns_ok, owns_fault, owns_if, owns_option, token, takes_token, sign_then, keyword_then, name_then, number_then, text_then, comma_then, commas, no_comma}
 use Rattle.flume_grammar.proofs.OpenTypes.{complete_whole}
 use Rattle.flume_grammar.specs.Limits.{Limits}
 use Rattle.flume_grammar.proofs.Fair.{IsFair}
@@ -42,6 +45,27 @@ o_names =
     (commas no_comma any s.next_name (free no_comma) (λ k i. i)
     (λ xs. takes_token any (sign_at sign.Comma) _ (λ _. (o_name xs).open_))
     (λ xs. (sign_then any any sign.Comma _ tt (λ _. o_name xs)).open_) (x ∷ [])))
+
+o_head : IsComplete any no_comma s.repeat_head
+o_head =
+    number_then any no_comma _ tt
+    (λ n. keyword_then any no_comma keyword.From _ tt
+    (λ _. then_ any no_comma no_comma s.names _ o_names
+    (λ xs _. keyword_then no_comma no_comma keyword.As _ refl
+    (λ _. then_ any no_comma no_comma s.names _ o_names
+    (λ ys _. given no_comma no_comma _ (λ rs i. i))))))
+
+pub owns_let : (t : Token) → Owns t (s.line_of_let t)
+owns_let t =
+    owns_if t (is_keyword keyword.Let t.kind) _ _ (owns_ok t t.line) (owns_fault t Syntax)
+
+-- before what is neither `let` nor a comma
+abbrev pub in_turn : Class
+in_turn k = other_than keyword.Let k × no_comma k
+
+pub no_let : (ls : List TurnLet) (ts : List Token) → Behind in_turn ts → s.at_let ls ts ≡ false
+no_let ls [] i = refl
+no_let ls (t ∷ ts) i = i.0
 
 module _ (limits : Limits) (fair : IsFair limits) where
   -- ---- operations
@@ -90,6 +114,69 @@ module _ (limits : Limits) (fair : IsFair limits) where
       (token any s.operation_start
       (λ t. owns_option t (s.of_keyword s.keyword_operation t.kind)) (key keyword.Group 1) _
       refl tt) (λ o _. o_begin o)
+
+  -- ---- repeats
+
+  pub o_own : (n : ℕ)
+      → IsComplete {A = TurnLet} any no_comma
+      (λ ts. bind (s.names ts) (λ xs us. bind (one (sign_at sign.Assign) us)
+      (λ _ vs. bind (s.operation_at limits vs)
+      (λ o ws. give (record { line = n; names = xs; by = o }) ws))))
+  o_own n =
+      then_ any no_comma no_comma s.names _ o_names (λ xs _. sign_then no_comma no_comma
+      sign.Assign _ refl
+      (λ _. then_ any no_comma no_comma (s.operation_at limits) _ o_operation
+      (λ o _. given no_comma no_comma _ (λ rs i. i))))
+
+  pub o_turn_let : IsComplete any no_comma (s.turn_let limits)
+  o_turn_let =
+      then_ any any no_comma (one s.line_of_let) _
+      (token any s.line_of_let owns_let (key keyword.Let 1) 1 refl tt) (λ n _. o_own n)
+
+  pub o_next_let : (ls : List TurnLet) → IsComplete any no_comma (s.next_let limits ls)
+  o_next_let ls = then_ any no_comma no_comma (s.turn_let limits) _ o_turn_let
+      (λ l _. given no_comma no_comma _ (λ rs i. i))
+
+  pub t_let : (ls rs : List TurnLet) (ts us : List Token)
+      → s.next_let limits ls ts ≡ Ok (rs, us) → length us < length ts
+  t_let ls rs ts us e =
+      let a = bound (s.turn_let limits ts) _ rs us e in
+      let i = takes_token no_comma s.line_of_let _ (λ n. (o_own n).open_) ts a.got a.rest a.part in
+      let j = no_longer no_comma (give (ls ++ a.got ∷ [])) a.rest rs us
+      ((given no_comma no_comma (ls ++ a.got ∷ []) (λ k l. l)).open_ a.rest) a.after in
+      omega (arith, i, j)
+
+  pub o_lets : (ls : List TurnLet)
+      → IsComplete in_turn in_turn (all_of s.at_let (s.next_let limits) ls)
+  o_lets ls =
+      loops in_turn no_comma s.at_let (s.next_let limits) (λ rs. Unit {0})
+      (within in_turn no_comma (λ k i. i.1)) no_let
+      (λ rs ts us e. ap (is_at_keyword keyword.Let) e)
+      (λ rs ts ps us i m e. t_let rs ps ts us e) (λ rs ts i m. (o_next_let rs).open_ ts)
+      (λ rs ts ps us i e. tt) ls tt
+
+  pub o_inside : IsComplete no_comma any (s.repeat_body limits)
+  o_inside =
+      sign_then no_comma any sign.OpenBrace _ refl
+      (λ _. wider in_turn any any _ (free in_turn)
+      (then_ in_turn in_turn any (s.turn_lets limits) _ (o_lets [])
+      (λ ls _. keyword_then in_turn any keyword.Give _ (refl, refl)
+      (λ _. then_ any no_comma any s.names _ o_names
+      (λ xs _. sign_then no_comma any sign.CloseBrace _ refl
+      (λ _. given any any _ (free any)))))))
+
+  pub o_repeat : IsComplete any no_comma (s.repeat_at limits)
+  o_repeat =
+      then_ any no_comma no_comma s.repeat_head _ o_head
+      (λ h _. then_ no_comma any no_comma (s.repeat_body limits) _ o_inside
+      (λ b _. given any no_comma _ (free no_comma)))
+
+  pub o_let : (xs : List (List ℕ)) (z : LetStart)
+      → IsComplete any no_comma (s.after_let limits xs z)
+  o_let xs (letting.Plain o) = then_ any no_comma no_comma (s.after_begin limits o) _ (o_begin o)
+      (λ y _. given no_comma no_comma _ (λ rs i. i))
+  o_let xs letting.Repeat = then_ any no_comma no_comma (s.repeat_at limits) _ o_repeat
+      (λ r _. given no_comma no_comma _ (λ rs i. i))
 
   -- ---- statements
 
@@ -147,8 +234,9 @@ module _ (limits : Limits) (fair : IsFair limits) where
   o_form stating.Let =
       then_ any no_comma no_comma s.names _ o_names (λ xs _. sign_then no_comma no_comma
       sign.Assign _ refl
-      (λ _. then_ any no_comma no_comma (s.operation_at limits) _ o_operation
-      (λ o _. given no_comma no_comma _ (λ rs i. i))))
+      (λ _. then_ any any no_comma (one s.let_start) _
+      (token any s.let_start (λ t. owns_option t (s.of_keyword s.keyword_let t.kind))
+      (key keyword.Group 1) _ refl tt) (λ z _. o_let xs z)))
   o_form stating.Output =
       name_then any no_comma _ tt (λ x. keyword_then any no_comma keyword.To _ tt
       (λ _. text_then any no_comma _ tt (λ f. given any no_comma _ (free no_comma))))

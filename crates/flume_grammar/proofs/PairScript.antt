@@ -6,13 +6,16 @@ use Rattle.flume_tokens.specs.declared.sign.Sign.TheVariants as sign
 use Rattle.flume_grammar.specs.declared.fault.ScriptKind.TheVariants.{Syntax}
 use Rattle.flume_grammar.specs.declared.start.OperationStart.{OperationStart}
 use Rattle.flume_grammar.specs.declared.start.OperationStart.TheVariants as starting
+use Rattle.flume_grammar.specs.declared.start.LetStart.{LetStart}
+use Rattle.flume_grammar.specs.declared.start.LetStart.TheVariants as letting
 use Rattle.flume_grammar.specs.declared.start.CombinerStart.{CombinerStart}
 use Rattle.flume_grammar.specs.declared.start.CombinerStart.TheVariants as combining
 use Rattle.flume_grammar.specs.declared.start.StatementStart.{StatementStart}
 use Rattle.flume_grammar.specs.declared.start.StatementStart.TheVariants as stating
+use Rattle.flume_grammar.specs.declared.tree.TurnLet.{TurnLet}
 use Rattle.flume_grammar.specs.declared.tree.Statement.{Statement}
 use Rattle.flume_grammar.specs.inner.Out.{give, bind, one, all_of}
-use Rattle.flume_grammar.specs.inner.Reading.{number_at, name_at, numbered}
+use Rattle.flume_grammar.specs.inner.Reading.{sign_at, is_keyword, is_at_keyword, number_at, name_at, numbered}
 use Rattle.flume_grammar.specs.Parts.{Tree}
 use Rattle.flume_grammar.specs.inner.Types.{at_comma, whole_type}
 use Rattle.flume_grammar.specs.inner.Bodies.{whole_block}
@@ -24,11 +27,12 @@ use Rattle.flume_grammar.proofs.Open.{Behind, any, free, within, IsOpenAt}
 use Rattle.flume_grammar.proofs.OpenLoops.{unrolled}
 use Rattle.flume_grammar.proofs.OpenTokens.{owns_option, token, no_comma}
 use Rattle.flume_grammar.proofs.OpenScript as o_scripts
+use Rattle.flume_grammar.proofs.OpenScript.{in_turn, no_let, owns_let}
 use Rattle.flume_grammar.proofs.OpenBodies.{other_than, unscaled, opening}
 use Rattle.flume_grammar.proofs.Depths.{each_after, each_give}
 use Rattle.flume_grammar.proofs.Pair.{Kinds, Raise, Plain}
 use Rattle.flume_grammar.proofs.PairThen.{raise_loop, IsPair, pair_given, pair_wider, pair_then}
-use Rattle.flume_grammar.proofs.PairTokens.{Growth, plain_ok, plain_fault, plain_option, pair_token, pair_name, pair_number, pair_text, pair_sign, pair_keyword, pair_commas, pair_listed}
+use Rattle.flume_grammar.proofs.PairTokens.{Growth, plain_ok, plain_fault, plain_if, plain_option, pair_token, pair_name, pair_number, pair_text, pair_sign, pair_keyword, pair_commas, pair_listed}
 use Rattle.flume_grammar.proofs.PairTypes.{pair_whole}
 use Rattle.flume_grammar.proofs.PairBodies.{pair_optional_in, pair_numbered, no_syntax, whole_given, r_whole}
 
@@ -125,6 +129,103 @@ module _ (K : Kinds) (limits more : Limits) (fair : IsFair limits) (fair_more : 
       (s.of_keyword s.keyword_operation t.kind)))
       r_begin
 
+  -- ---- repeats
+
+  r_head : IsPair K any no_comma s.repeat_head s.repeat_head
+  r_head =
+      pair_number K (no_syntax K limits more fair fair_more growth) any no_comma _ _ tt
+      (λ n. pair_keyword K (no_syntax K limits more fair fair_more growth) any no_comma
+      keyword.From _ _ tt
+      (λ _. pair_then K any no_comma no_comma s.names s.names _ _ r_names
+      (λ xs. pair_keyword K (no_syntax K limits more fair fair_more growth) no_comma no_comma
+      keyword.As _ _ refl
+      (λ _. pair_then K any no_comma no_comma s.names s.names _ _ r_names
+      (λ ys. comma_given _)))))
+
+  r_own : (n : ℕ)
+      → IsPair {A = TurnLet} K any no_comma
+      (λ ts. bind (s.names ts) (λ xs us. bind (one (sign_at sign.Assign) us)
+      (λ _ vs. bind (s.operation_at limits vs)
+      (λ o ws. give (record { line = n; names = xs; by = o }) ws))))
+      (λ ts. bind (s.names ts) (λ xs us. bind (one (sign_at sign.Assign) us)
+      (λ _ vs. bind (s.operation_at more vs)
+      (λ o ws. give (record { line = n; names = xs; by = o }) ws))))
+  r_own n =
+      pair_then K any no_comma no_comma s.names s.names _ _ r_names
+      (λ xs. pair_sign K (no_syntax K limits more fair fair_more growth) no_comma no_comma
+      sign.Assign _ _ refl
+      (λ _. pair_then K any no_comma no_comma (s.operation_at limits) (s.operation_at more) _ _
+      r_operation (λ o. comma_given _)))
+
+  plain_let : (t : Token) → Plain K t (s.line_of_let t)
+  plain_let t =
+      plain_if K t (is_keyword keyword.Let t.kind) _ _ (plain_ok K t t.line)
+      (plain_fault K t Syntax (no_syntax K limits more fair fair_more growth))
+
+  r_turn_let : IsPair K any no_comma (s.turn_let limits) (s.turn_let more)
+  r_turn_let =
+      pair_then K any any no_comma (one s.line_of_let) (one s.line_of_let) _ _
+      (pair_token K (no_syntax K limits more fair fair_more growth) any s.line_of_let
+      (token any s.line_of_let owns_let (key keyword.Let 1) 1 refl tt) plain_let) r_own
+
+  r_next_let : (ls : List TurnLet)
+      → IsPair K any no_comma (s.next_let limits ls) (s.next_let more ls)
+  r_next_let ls = pair_then K any no_comma no_comma (s.turn_let limits) (s.turn_let more) _ _
+      r_turn_let (λ l. comma_given _)
+
+  r_lets : (ls : List TurnLet)
+      → IsPair K in_turn in_turn (all_of s.at_let (s.next_let limits) ls)
+      (all_of s.at_let (s.next_let more) ls)
+  r_lets ls = record {
+    low_ = o_scripts.o_lets limits fair ls;
+    high_ = o_scripts.o_lets more fair_more ls;
+    raise = raise_loop K in_turn no_comma s.at_let (s.next_let limits) (s.next_let more)
+        (λ rs. Unit {0}) (λ rs ts us e. ap (is_at_keyword keyword.Let) e)
+        (λ rs ts ps us i j e. o_scripts.t_let limits fair rs ps ts us e) (λ rs ts ps us i e. tt)
+        (λ rs ts i j. (o_scripts.o_next_let limits fair rs).open_ ts)
+        (λ rs ts i j. (o_scripts.o_next_let more fair_more rs).open_ ts)
+        (λ rs ts i j. (r_next_let rs).raise ts)
+        (λ rs ts i. unrolled in_turn no_comma s.at_let (s.next_let limits) (λ z. Unit {0})
+        (within in_turn no_comma (λ k j. j.1)) no_let
+        (λ z us vs e. ap (is_at_keyword keyword.Let) e)
+        (λ z us ps vs j k e. o_scripts.t_let limits fair z ps us vs e)
+        (λ z us j k. (o_scripts.o_next_let limits fair z).open_ us) (λ z us ps vs j e. tt) rs ts
+        tt)
+        (λ rs ts i. unrolled in_turn no_comma s.at_let (s.next_let more) (λ z. Unit {0})
+        (within in_turn no_comma (λ k j. j.1)) no_let
+        (λ z us vs e. ap (is_at_keyword keyword.Let) e)
+        (λ z us ps vs j k e. o_scripts.t_let more fair_more z ps us vs e)
+        (λ z us j k. (o_scripts.o_next_let more fair_more z).open_ us) (λ z us ps vs j e. tt) rs ts
+        tt)
+        (λ rs ps i e. (o_scripts.o_lets more fair_more ps).open_ []) ls tt;
+  }
+
+  r_inside : IsPair K no_comma any (s.repeat_body limits) (s.repeat_body more)
+  r_inside =
+      pair_sign K (no_syntax K limits more fair fair_more growth) no_comma any sign.OpenBrace _ _
+      refl
+      (λ _. pair_wider K in_turn any any _ _ (free in_turn)
+      (pair_then K in_turn in_turn any (s.turn_lets limits) (s.turn_lets more) _ _ (r_lets [])
+      (λ ls. pair_keyword K (no_syntax K limits more fair fair_more growth) in_turn any
+      keyword.Give _ _ (refl, refl)
+      (λ _. pair_then K any no_comma any s.names s.names _ _ r_names
+      (λ xs. pair_sign K (no_syntax K limits more fair fair_more growth) no_comma any
+      sign.CloseBrace _ _ refl
+      (λ _. whole_given K limits more fair fair_more growth _))))))
+
+  r_repeat : IsPair K any no_comma (s.repeat_at limits) (s.repeat_at more)
+  r_repeat =
+      pair_then K any no_comma no_comma s.repeat_head s.repeat_head _ _ r_head
+      (λ h. pair_then K no_comma any no_comma (s.repeat_body limits) (s.repeat_body more) _ _
+      r_inside (λ b. none_comma _))
+
+  r_let : (xs : List (List ℕ)) (z : LetStart)
+      → IsPair K any no_comma (s.after_let limits xs z) (s.after_let more xs z)
+  r_let xs (letting.Plain o) = pair_then K any no_comma no_comma (s.after_begin limits o)
+      (s.after_begin more o) _ _ (r_begin o) (λ y. comma_given _)
+  r_let xs letting.Repeat = pair_then K any no_comma no_comma (s.repeat_at limits)
+      (s.repeat_at more) _ _ r_repeat (λ r. comma_given _)
+
   -- ---- statements
 
   r_scale : IsPair K unscaled unscaled (numbered keyword.Scale) (numbered keyword.Scale)
@@ -206,8 +307,13 @@ module _ (K : Kinds) (limits more : Limits) (fair : IsFair limits) (fair_more : 
       pair_then K any no_comma no_comma s.names s.names _ _ r_names
       (λ xs. pair_sign K (no_syntax K limits more fair fair_more growth) no_comma no_comma
       sign.Assign _ _ refl
-      (λ _. pair_then K any no_comma no_comma (s.operation_at limits) (s.operation_at more) _ _
-      r_operation (λ y. comma_given _)))
+      (λ _. pair_then K any any no_comma (one s.let_start) (one s.let_start) _ _
+      (pair_token K (no_syntax K limits more fair fair_more growth) any s.let_start
+      (token any s.let_start (λ t. owns_option t (s.of_keyword s.keyword_let t.kind))
+      (key keyword.Group 1) _ refl tt)
+      (λ t. plain_option K (no_syntax K limits more fair fair_more growth) t
+      (s.of_keyword s.keyword_let t.kind)))
+      (λ z. r_let xs z)))
   r_form stating.Output =
       pair_name K (no_syntax K limits more fair fair_more growth) any no_comma _ _ tt
       (λ x. pair_keyword K (no_syntax K limits more fair fair_more growth) any no_comma keyword.To _

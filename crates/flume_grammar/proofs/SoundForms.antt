@@ -1,11 +1,15 @@
 -- Each form of a statement that is read is in the grammar.
-use Rattle.std.proofs.Common.{◌≡◌, ℕ, ◌+◌, ◌≤◌, nat_le, length, length-append, List, [], ◌∷◌, ◌++◌, Bool, true, false, None, Ok, Err, if◌then◌else◌, refl, ap, ◌∙◌, subst, arith}
+use Rattle.std.proofs.Common.{◌≡◌, ℕ, ◌+◌, ◌≤◌, nat_le, length, length-append, List, [], ◌∷◌, ◌++◌, Bool, true, false, None, Some, Ok, Err, if◌then◌else◌, refl, ap, ◌∙◌, subst, arith}
 use Rattle.std.proofs.lemmas.Bool.{leb-true}
 use Rattle.flume_tokens.specs.declared.token.Token.{Token}
+use Rattle.flume_tokens.specs.declared.keyword.Keyword.{Keyword}
 use Rattle.flume_tokens.specs.declared.keyword.Keyword.TheVariants as keyword
 use Rattle.flume_tokens.specs.declared.sign.Sign.TheVariants as sign
 use Rattle.flume_grammar.specs.declared.fault.ScriptKind.TheVariants.{TooDeep}
 use Rattle.flume_grammar.specs.declared.fault.Stop.TheVariants.{Fault}
+use Rattle.flume_grammar.specs.declared.start.LetStart.{LetStart}
+use Rattle.flume_grammar.specs.declared.start.LetStart.TheVariants as letting
+use Rattle.flume_grammar.specs.declared.start.OperationStart.TheVariants as starts
 use Rattle.flume_grammar.specs.declared.tree.Body.{Body}
 use Rattle.flume_grammar.specs.declared.tree.Form.{Form}
 use Rattle.flume_grammar.specs.declared.tree.Form.TheVariants as form
@@ -25,7 +29,8 @@ use Rattle.flume_grammar.proofs.SoundTypes.{sound_whole}
 use Rattle.flume_grammar.specs.Limits.{Limits}
 use Rattle.flume_grammar.proofs.Fair.{IsFair}
 use Rattle.flume_grammar.proofs.SoundBodies.{sound_block}
-use Rattle.flume_grammar.proofs.SoundOperations.{s_names, s_operation}
+use Rattle.flume_grammar.proofs.SoundOperations.{s_names, s_operation_after, begins, operation_key}
+use Rattle.flume_grammar.proofs.SoundRepeats.{s_repeat}
 
 module _ (limits : Limits) (fair : IsFair limits) where
   -- ---- statements
@@ -71,18 +76,49 @@ module _ (limits : Limits) (fair : IsFair limits) where
       (ap (λ z. key keyword.Input n ∷ z) (w.is ∙ ap (λ z. name a.got w.line ∷ z) m.is)) v.1 v.0
       (g.input y)
 
+  -- ---- lets
+
+  abbrev let_key : LetStart → Keyword
+  let_key (letting.Plain o) = operation_key limits fair o
+  let_key letting.Repeat = keyword.Repeat
+
+  is_let_key : (k : Keyword) (z : LetStart) → s.keyword_let k ≡ Some z → k ≡ let_key z
+  is_let_key keyword.Do z q = let e : letting.Plain starts.Do ≡ z = cc in ap let_key e
+  is_let_key keyword.Group z q = let e : letting.Plain starts.Group ≡ z = cc in ap let_key e
+  is_let_key keyword.Combine z q = let e : letting.Plain starts.Combine ≡ z = cc in ap let_key e
+  is_let_key keyword.Flatten z q = let e : letting.Plain starts.Flatten ≡ z = cc in ap let_key e
+  is_let_key keyword.Count z q = let e : letting.Plain starts.Count ≡ z = cc in ap let_key e
+  is_let_key keyword.Join z q = let e : letting.Plain starts.Join ≡ z = cc in ap let_key e
+  is_let_key keyword.Top z q = let e : letting.Plain starts.Top ≡ z = cc in ap let_key e
+  is_let_key keyword.Repeat z q = let e : letting.Repeat ≡ z = cc in ap let_key e
+  is_let_key _ z q = cc
+
+  -- a let whose right side begins so
+  s_after_let : (z : LetStart) (n k j : ℕ) (ts vs : List Token) (xs : List (List ℕ)) (x : Form)
+      (ws : List Token) → AreNames ts (mark sign.Assign k ∷ key (let_key z) j ∷ vs) xs
+      → s.after_let limits xs z vs ≡ Ok (x, ws) → StatementOf n (key keyword.Let n ∷ ts) ws x
+  s_after_let (letting.Plain o) n k j ts vs xs x ws e q =
+      let a = bound (s.after_begin limits o vs) _ x ws q in
+      let v = gave (form.Let xs a.got) x a.rest ws a.after in
+      moved_by (StatementOf n) (key keyword.Let n ∷ ts) _ a.rest ws (form.Let xs a.got) x refl
+      v.1 v.0 (g.let_ e (s_operation_after limits fair o j vs a.got a.rest a.part))
+  s_after_let letting.Repeat n k j ts vs xs x ws e q =
+      let a = bound (s.repeat_at limits vs) _ x ws q in
+      let v = gave (form.Repeat xs a.got) x a.rest ws a.after in
+      moved_by (StatementOf n) (key keyword.Let n ∷ ts) _ a.rest ws (form.Repeat xs a.got) x refl
+      v.1 v.0 (g.repeat e (s_repeat limits fair j vs a.got a.rest a.part))
+
   pub s_let_form : (n : ℕ) (ts : List Token) (x : Form) (us : List Token)
       → s.let_form limits ts ≡ Ok (x, us) → StatementOf n (key keyword.Let n ∷ ts) us x
   s_let_form n ts x us q =
       let a = bound (s.names ts) _ x us q in
       let c = bound (one (sign_at sign.Assign) a.rest) _ x us a.after in
       let m = marked sign.Assign c.got a.rest c.rest c.part in
-      let d = bound (s.operation_at limits c.rest) _ x us c.after in
-      let v = gave (form.Let a.got d.got) x d.rest us d.after in
-      let y : AreNames ts (mark sign.Assign m.line ∷ c.rest) a.got = subst
-      (λ z. AreNames ts z a.got) m.is (s_names ts a.got a.rest a.part) in
-      moved_by (StatementOf n) (key keyword.Let n ∷ ts) _ d.rest us (form.Let a.got d.got) x refl
-      v.1 v.0 (g.let_ y (s_operation limits fair c.rest d.got d.rest d.part))
+      let d = bound (one s.let_start c.rest) _ x us c.after in
+      let b = begins limits fair s.keyword_let let_key is_let_key d.got c.rest d.rest d.part in
+      s_after_let d.got n m.line b.line ts d.rest a.got x us
+      (subst (λ z. AreNames ts z a.got) (m.is ∙ ap (λ z. mark sign.Assign m.line ∷ z) b.is)
+      (s_names ts a.got a.rest a.part)) d.after
 
   pub s_output : (n : ℕ) (ts : List Token) (x : Form) (us : List Token) → s.output_form ts ≡ Ok
       (x, us)

@@ -73,11 +73,11 @@ module _ (limits : Limits) (fair : IsFair limits) where
   some_of t None a q = cc
 
   -- the keyword that a start is
-  record Begins {A : Type 0} (w : A → Keyword) (z : A) (ts us : List Token) : Type 0 where
-    line : ℕ
-    is : ts ≡ key (w z) line ∷ us
+  pub record Begins {A : Type 0} (w : A → Keyword) (z : A) (ts us : List Token) : Type 0 where
+    pub line : ℕ
+    pub is : ts ≡ key (w z) line ∷ us
 
-  begins : {A : Type 0} (f : Keyword → Option A) (w : A → Keyword)
+  pub begins : {A : Type 0} (f : Keyword → Option A) (w : A → Keyword)
       → ((k : Keyword) (z : A) → f k ≡ Some z → k ≡ w z) → (z : A) (ts us : List Token)
       → one (λ t. or_syntax t (s.of_keyword f t.kind)) ts ≡ Ok (z, us) → Begins w z ts us
   begins f w h z ts us q =
@@ -122,7 +122,7 @@ module _ (limits : Limits) (fair : IsFair limits) where
       ap combiner_key e
   is_combiner_key _ z q = cc
 
-  abbrev operation_key : OperationStart → Keyword
+  abbrev pub operation_key : OperationStart → Keyword
   operation_key starts.Do = keyword.Do
   operation_key starts.Group = keyword.Group
   operation_key starts.Combine = keyword.Combine
@@ -131,7 +131,7 @@ module _ (limits : Limits) (fair : IsFair limits) where
   operation_key starts.Join = keyword.Join
   operation_key starts.Top = keyword.Top
 
-  is_operation_key : (k : Keyword) (z : OperationStart) → s.keyword_operation k ≡ Some z
+  pub is_operation_key : (k : Keyword) (z : OperationStart) → s.keyword_operation k ≡ Some z
       → k ≡ operation_key z
   is_operation_key keyword.Do z q = let e : starts.Do ≡ z = cc in ap operation_key e
   is_operation_key keyword.Group z q = let e : starts.Group ≡ z = cc in ap operation_key e
@@ -207,7 +207,7 @@ module _ (limits : Limits) (fair : IsFair limits) where
       subst (λ z. NamesOf ts z us) v.0 (subst (NamesOf ts (xs ++ c.got ∷ [])) v.1
       (more_name ts vs a.rest c.rest xs c.got m.line e m.is c.part, omega (arith, m.fewer, n)))
 
-  s_operation_after : (z : OperationStart) (n : ℕ) (ts : List Token) (x : Operation)
+  pub s_operation_after : (z : OperationStart) (n : ℕ) (ts : List Token) (x : Operation)
       (us : List Token) → s.after_begin limits z ts ≡ Ok (x, us)
       → IsOperation limits (key (operation_key z) n ∷ ts) us x
   s_operation_after starts.Do n ts x us q =

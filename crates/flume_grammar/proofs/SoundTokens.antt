@@ -5,6 +5,7 @@ use Rattle.flume_tokens.specs.declared.token.Token.{Token}
 use Rattle.flume_tokens.specs.declared.token.TokenKind.{TokenKind}
 use Rattle.flume_tokens.specs.declared.token.TokenKind.TheVariants as kind
 use Rattle.flume_tokens.specs.declared.keyword.Keyword.{Keyword}
+use Rattle.flume_tokens.specs.declared.keyword.Keyword.TheVariants as keyword
 use Rattle.flume_tokens.specs.declared.sign.Sign.{Sign}
 use Rattle.flume_tokens.specs.declared.sign.Sign.TheVariants as sign
 use Rattle.flume_tokens.specs.contracts.keyword.Keyword as keyword_type
@@ -13,6 +14,7 @@ use denote.Enum.Bare.{same_true}
 use Rattle.flume_grammar.specs.declared.fault.Stop.{Stop}
 use Rattle.flume_grammar.specs.inner.Out.{give, bind, one, next}
 use Rattle.flume_grammar.specs.inner.Reading.{is_sign, is_keyword, sign_at, keyword_at, name_of, name_at, word_at, number_of, number_at, text_of, text_at, comma_at, or_syntax, is_at_keyword, numbered}
+use Rattle.flume_grammar.specs.inner.Statements.{line_of_let}
 use Rattle.flume_grammar.specs.Terminals.{word_of, key, mark, name, number, text}
 use Rattle.flume_grammar.specs.Grammar.{IsNumbered, absent, present}
 use Rattle.flume_grammar.proofs.Sound.{bound, gave, moved_by, one_token}
@@ -73,6 +75,21 @@ keyed k u ts us q =
           token_is p.token (kind.Keyword k) ts us p.is
           (keyword_kind k p.token.kind (chosen (is_keyword k p.token.kind) _ tt u p.gives));
     }
+
+given_is : {A : Type 0} (b : Bool) (s : Stop) (a c : A) → (if b then Ok a else Err s) ≡ Ok c
+    → a ≡ c
+given_is true s a c q = cc
+given_is false s a c q = cc
+
+-- the line on which a let begins
+pub let_read : (n : ℕ) (ts us : List Token) → one line_of_let ts ≡ Ok (n, us)
+    → ts ≡ key keyword.Let n ∷ us
+let_read n ts us q =
+    let p = one_token line_of_let ts n us q in
+    let test = is_keyword keyword.Let p.token.kind in
+    token_is p.token (kind.Keyword keyword.Let) ts us p.is
+    (keyword_kind keyword.Let p.token.kind (chosen test _ p.token.line n p.gives))
+    ∙ ap (λ m. key keyword.Let m ∷ us) (given_is test _ p.token.line n p.gives)
 
 some_of : {A : Type 0} (t : Token) (o : Option A) (a : A) → or_syntax t o ≡ Ok a → o ≡ Some a
 some_of t (Some b) a q = let p : b ≡ a = cc in ap Some p

@@ -20,6 +20,8 @@ use Rattle.flume_grammar.specs.declared.tree.Combiner.{Combiner}
 use Rattle.flume_grammar.specs.declared.tree.Combiner.TheVariants as combiner
 use Rattle.flume_grammar.specs.declared.tree.Operation.{Operation}
 use Rattle.flume_grammar.specs.declared.tree.Operation.TheVariants as operation
+use Rattle.flume_grammar.specs.declared.tree.TurnLet.{TurnLet}
+use Rattle.flume_grammar.specs.declared.tree.Repeat.{Repeat}
 use Rattle.flume_grammar.specs.declared.tree.Form.TheVariants as form
 use Rattle.flume_grammar.specs.declared.tree.Statement.{Statement}
 use Rattle.flume_grammar.specs.Terminals.{word_of, key, mark, name, number, text}
@@ -256,9 +258,31 @@ module _ (limits : Limits) where
         → IsOperation (key keyword.Top n ∷ number digits m ∷ name c k ∷ ts) ts
         (operation.Top digits c)
 
+  -- let = "let" name { "," name } "=" op
+  pub data IsLet : List Token → List Token → TurnLet → Type 0 where
+    let_ : {xs : List (List ℕ)} {n k : ℕ} {ts us vs : List Token} {o : Operation}
+        → AreNames ts (mark sign.Assign k ∷ us) xs → IsOperation us vs o
+        → IsLet (key keyword.Let n ∷ ts) vs (record { line = n; names = xs; by = o })
+
+  -- { let }
+  pub data AreLets : List Token → List Token → List TurnLet → Type 0 where
+    none_ : {ts : List Token} → AreLets ts ts []
+    some : {ts us vs : List Token} {l : TurnLet} {ls : List TurnLet} → AreLets ts us ls
+        → IsLet us vs l → AreLets ts vs (ls ++ l ∷ [])
+
+  -- repeat = "repeat" num "from" name { "," name } "as" name { "," name }
+  --          "{" { let } "give" name { "," name } "}"
+  pub data IsRepeat : List Token → List Token → Repeat → Type 0 where
+    repeat_ : {digits : List ℕ} {xs ys zs : List (List ℕ)} {ls : List TurnLet}
+        {n m k i j o p : ℕ} {ts us vs ws ps : List Token}
+        → AreNames ts (key keyword.As i ∷ us) xs → AreNames us (mark sign.OpenBrace j ∷ vs) ys
+        → AreLets vs (key keyword.Give o ∷ ws) ls → AreNames ws (mark sign.CloseBrace p ∷ ps) zs
+        → IsRepeat (key keyword.Repeat n ∷ number digits m ∷ key keyword.From k ∷ ts) ps
+        (record { turns = digits; from = xs; entering = ys; lets = ls; gives = zs })
+
   -- stmt = "type" name "=" type | "input" name ":" type "from" textlit
   --      | "fn" name "(" name ":" type ")" "->" type { "," type } [ "scale" num ] block
-  --      | "let" name { "," name } "=" op | "output" name "to" textlit
+  --      | "let" name { "," name } "=" ( op | repeat ) | "output" name "to" textlit
   pub data IsStatement : List Token → List Token → Statement → Type 0 where
     type_ : {x : List ℕ} {n m k : ℕ} {ts us : List Token} {t : Tree} → IsWholeType ts us t
         → IsStatement (key keyword.Type n ∷ name x m ∷ mark sign.Assign k ∷ ts) us
@@ -293,6 +317,9 @@ module _ (limits : Limits) where
     let_ : {xs : List (List ℕ)} {n k : ℕ} {ts us vs : List Token} {o : Operation}
         → AreNames ts (mark sign.Assign k ∷ us) xs → IsOperation us vs o
         → IsStatement (key keyword.Let n ∷ ts) vs (record { line = n; form = form.Let xs o })
+    repeat : {xs : List (List ℕ)} {n k : ℕ} {ts us vs : List Token} {r : Repeat}
+        → AreNames ts (mark sign.Assign k ∷ us) xs → IsRepeat us vs r
+        → IsStatement (key keyword.Let n ∷ ts) vs (record { line = n; form = form.Repeat xs r })
     output : {x f : List ℕ} {n m k i : ℕ} {ts : List Token}
         → IsStatement (key keyword.Output n ∷ name x m ∷ key keyword.To k ∷ text f i ∷ ts) ts
         (record { line = n; form = form.Output x f })

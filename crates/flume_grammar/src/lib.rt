@@ -22,5 +22,6 @@ mod tree;
 pub use fault::{ScriptFault, ScriptKind, Stop};
 pub use law::{answer_law, file_law, script_law};
 pub use tree::{
-    Ast, Binary, Body, Combiner, Expr, Form, Function, Operation, Side, Statement, Type, Unary,
+    Ast, Binary, Body, Combiner, Expr, Form, Function, Operation, Repeat, Side, Statement, TurnLet,
+    Type, Unary,
 };

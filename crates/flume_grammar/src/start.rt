@@ -24,6 +24,15 @@ pub enum OperationStart {
     Top,
 }
 
+/// How what stands behind the `=` of a let begins.
+#[derive(Clone, Copy, Debug)]
+pub enum LetStart {
+    /// an operation
+    Plain(OperationStart),
+    /// a repeat, whose number of turns is yet to come
+    Repeat,
+}
+
 /// How a combiner begins: `top` has a number yet to come.
 #[derive(Debug, Drop)]
 pub enum CombinerStart {

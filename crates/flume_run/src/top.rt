@@ -1,36 +1,45 @@
 // The top call.
-ghost use Rattle.std.specs.Prelude.{◌≡◌, drop, length, map, string_bytes};
+ghost use Rattle.std.specs.Prelude.{◌≡◌, ◌≤◌, drop, length, map, string_bytes};
 ghost use Rattle.crew.specs.Hosts.{account};
+ghost use Rattle.flume_run.specs.Lent.{lends};
+ghost use Rattle.flume_run.specs.Promises.{Promises};
+ghost use Rattle.outside.specs.Says.{HasLine};
 ghost use Rattle.outside.specs.Seen.{seen, seen_shelf};
-ghost use Rattle.run_course.specs.Lent.{lent_to};
-ghost use Rattle.run_course.specs.Promises.{Promises};
 ghost use Rattle.run_course.specs.World.{world};
+ghost use Rattle.run_texts.specs.Lines.{line_of};
+ghost use Rattle.run_texts.specs.declared.status.Status.TheVariants.{WantOfMemory};
 
+use command_words::workload_for;
+use made_course::make;
 use outside::{Host, Screen, Shelf, Source};
 use run_course::run;
-use run_texts::Status;
+use run_texts::{Status, tell};
 use std::alloc::Global;
 use std::thread::Threads;
 
 /// Runs the command that the words of a command line ask for, and answers how that ended.
 ///
-/// The words are the program's name, a command, which is `check`, `plan`, `direct` or `run`, and
-/// the name of a script. The script is loaded from the source, parsed and checked. `check` then
-/// says `ok`, and `plan` shows the execution graph and the plan. For `direct` and `run` each input
-/// that the script needs is loaded and decoded, in order of the script. `direct` works out the
-/// script's direct meaning; `run` has the tasks of the plan made by workers, each on a host that it
-/// is lent, the first hosts, in a thread of its own. An attempt of a task whose host is down, or
-/// that the drill names, is lost, and the task is tried again, as often as `--tries` says.
+/// The words are the program's name, a command, and what it needs. `make` needs two numbers: it
+/// writes a made input and its sums, which are worked out as a run works out its outputs, and asks
+/// the source for nothing. The others, `check`, `plan`, `direct` and `run`, need the name of a
+/// script. The script is loaded from the source, parsed and checked. `check` then says `ok`, and
+/// `plan` shows the execution graph and the plan. For `direct` and `run` each input that the script
+/// needs is loaded and decoded, in order of the script. `direct` works out the script's direct
+/// meaning; `run` has the tasks of the plan made by workers, each on a host that it is lent, the
+/// first hosts, in a thread of its own. An attempt of a task whose host is down, or that the drill
+/// names, is lost, and the task is tried again, as often as `--tries` says.
 ///
 /// Only then the output files are written to the shelf, in order of the output statements, and then
-/// the text of the screen: for `run` the execution graph and the plan, and for both the size of
-/// each needed collection, and `done`. Whatever the schedule of the workers and whichever attempts
-/// were lost, the files of `run` are those of `direct`. Where a call of a function traps, the
-/// answer is for `direct` the least of the traps. For `run` it is the trap, or the task that was
-/// given up, that comes first by phases and by tasks. Else it is the first refusal that is met, and
-/// the screen gets its line. Every growth comes before the shelf's first `begin`.
+/// the text of the screen: for `run` the execution graph and the plan, for `direct` and `run` the
+/// size of each needed collection, and `done`, and for `make` a line of its own. Whatever the
+/// schedule of the workers and whichever attempts were lost, the files of `run` are those of
+/// `direct`. Where a call of a function traps, the answer is for `direct` the least of the traps.
+/// For `run` it is the trap, or the task that was given up, that comes first by phases and by
+/// tasks. Else it is the first refusal that is met, and the screen gets its line. Every growth
+/// comes before the shelf's first `begin`.
 ///
-/// What is promised of each answer is a field of `Promises` (specs/Promises.antt of run_course).
+/// What is promised is `Promises` (specs/Promises.antt): for `make` the fields of `Makes`
+/// (specs/Makes.antt of made_course), and for the others those of the `Promises` of run_course.
 /// Hosts that are not lent are as they were.
 pub fn flume<X: Threads + Sync, R: Source, H: Host + Send, K: Shelf, P: Screen>(
     rt: &X,
@@ -50,8 +59,23 @@ pub fn flume<X: Threads + Sync, R: Source, H: Host + Send, K: Shelf, P: Screen>(
         (seen_shelf K.files K.begun K.left K.faults shelf.new) (seen P.text P.faults screen.new)
         (map (account H.notes H.losses) hosts.new))
         result }
-    ensures hosts { drop (lent_to (map string_bytes words.now)) hosts.new
-        ≡ drop (lent_to (map string_bytes words.now)) hosts.old }
+    ensures hosts { drop (lends (map string_bytes words.now)) hosts.new
+        ≡ drop (lends (map string_bytes words.now)) hosts.old }
 {
-    run(rt, alloc, words, source, hosts, shelf, screen)
+    match workload_for(alloc, words) {
+        Ok(Some(workload)) => make(rt, alloc, workload, hosts, shelf, screen),
+        Ok(None) => run(rt, alloc, words, source, hosts, shelf, screen),
+        Err(_) => no_memory(screen),
+    }
+}
+
+// What is answered where no memory was found for the words themselves.
+fn no_memory<P: Screen>(screen: &mut P) -> Status
+    ensures answer { result ≡ WantOfMemory }
+    ensures line { HasLine (line_of WantOfMemory) (seen P.text P.faults screen.old)
+        (seen P.text P.faults screen.new) }
+    ensures later { P.faults screen.old ≤ P.faults screen.new }
+{
+    tell(screen, &Status::WantOfMemory);
+    Status::WantOfMemory
 }

@@ -54,6 +54,9 @@ spelling keyword.Concat = codes "concat"
 spelling keyword.Number = codes "number"
 spelling keyword.Pick = codes "pick"
 spelling keyword.Empty = codes "empty"
+spelling keyword.Repeat = codes "repeat"
+spelling keyword.As = codes "as"
+spelling keyword.Give = codes "give"
 
 abbrev pub keywords : List Keyword
 keywords = keyword.Type ∷ keyword.Input ∷ keyword.Fn ∷ keyword.Let ∷ keyword.Output ∷ keyword.From ∷
@@ -64,7 +67,7 @@ keywords = keyword.Type ∷ keyword.Input ∷ keyword.Fn ∷ keyword.Let ∷ key
     keyword.Else ∷ keyword.For ∷ keyword.In ∷ keyword.Emit ∷ keyword.Case ∷ keyword.Left ∷
     keyword.Right ∷ keyword.True ∷ keyword.False ∷ keyword.And ∷ keyword.Or ∷ keyword.Not ∷
     keyword.Len ∷ keyword.Words ∷ keyword.Concat ∷ keyword.Number ∷ keyword.Pick ∷
-    keyword.Empty ∷ []
+    keyword.Empty ∷ keyword.Repeat ∷ keyword.As ∷ keyword.Give ∷ []
 
 -- the keyword that a word is
 unfoldable pub keyword_of : List ℕ → Option Keyword

@@ -54,9 +54,12 @@ pub enum Keyword {
     Number,
     Pick,
     Empty,
+    Repeat,
+    As,
+    Give,
 }
 
-const KEYWORDS: [Keyword; 48] = [
+const KEYWORDS: [Keyword; 51] = [
     Keyword::Type,
     Keyword::Input,
     Keyword::Fn,
@@ -105,6 +108,9 @@ const KEYWORDS: [Keyword; 48] = [
     Keyword::Number,
     Keyword::Pick,
     Keyword::Empty,
+    Keyword::Repeat,
+    Keyword::As,
+    Keyword::Give,
 ];
 
 impl Keyword {
@@ -161,6 +167,9 @@ impl Keyword {
             Keyword::Number => b"number",
             Keyword::Pick => b"pick",
             Keyword::Empty => b"empty",
+            Keyword::Repeat => b"repeat",
+            Keyword::As => b"as",
+            Keyword::Give => b"give",
         }
     }
 }

@@ -156,7 +156,7 @@ module _ (w : World) where
       ap (λ t. length ys ∷ t)
       (map-append (λ (vs : List Value). length vs) (step_lists w kids ys) (step_lists w rest xs))
 
-  emits_length : (f : Forest) (xs : List Value) → length (emits f xs) ≡ outputs_in f
+  pub emits_length : (f : Forest) (xs : List Value) → length (emits f xs) ≡ outputs_in f
   emits_length Bare xs = refl
   emits_length (Grow l kids rest) xs =
       let ys = flat_map (emitted w l) xs in
@@ -173,7 +173,7 @@ module _ (w : World) where
       ((λ i. emits_none kids i ++ emits_none rest i)
       ∙ zeros_append (outputs_in kids) (outputs_in rest))
 
-  emits_more : (f : Forest) (xs ys : List Value)
+  pub emits_more : (f : Forest) (xs ys : List Value)
       → emits f (xs ++ ys) ≡ plus (emits f xs) (emits f ys)
   emits_more Bare xs ys = refl
   emits_more (Grow l kids rest) xs ys =

@@ -39,6 +39,12 @@ module _ (w : World) (f : Forest) (bs : List Branch) (sizes : List ℕ) (start :
       (ap (λ g. run_each (run w sizes 0 g) xs start) (sym grows)
       ∙ sym (in_turn_each (run w sizes 0 (grown bs)) xs start) ∙ e)
 
+  pub gone_course : {E : Type 0} (xs : List Value) (r : Result Run E)
+      → IfOk r (λ end. in_turn (map (run w sizes 0 (grown bs)) xs) start ≡ end)
+      → IfOk r (IsCourse w (Some f) xs)
+  gone_course xs (Ok end) e = walked_course xs end e
+  gone_course xs (Err fault) e = tt
+
   pub walked_courses : {E : Type 0} (xs : List Value) (r : Result (Attempt Run) E)
       → IfOk r (IsMadeOf (λ end. in_turn (map (run w sizes 0 (grown bs)) xs) start ≡ end))
       → IfOk r (IsMadeOf (IsCourse w (Some f) xs))

@@ -18,50 +18,10 @@ use crate::ask::ask_all;
 use crate::walking::{Course, walk};
 use crew::{Attempt, Spot};
 use exec_graph::{Roots, count_outputs};
-use flume_value::{Pile, Value, copy_all};
-use forest_steps::{Borrowed, Functions, Outputs, Owned, sizes_of};
+use flume_value::{Pile, Value};
+use forest_steps::{Functions, Outputs, Owned, sizes_of};
 use outside::{Down, Host};
 use std::alloc::{AllocError, Global};
-
-/// Runs the steps on each of the elements in order, on a host. The elements stay where they are.
-/// Without steps the one output is given copies of them.
-pub fn run_borrowed<F: Functions, H: Host>(
-    alloc: Global,
-    functions: &F,
-    does: &Option<Roots>,
-    elements: &[Value],
-    host: &mut H,
-    spot: &Spot,
-    task: u32,
-) -> Result<Attempt<Course>, AllocError>
-    requires numbered { IsNumbered does.now }
-    requires safe { AllByRecursion (SafeOf (world_of (F.called functions.now))
-        (F.can_call functions.now) does.now) elements.now }
-    ensures value { IfOk result (IsMadeOf
-        (IsCourse (world_of (F.called functions.now)) does.now elements.now)) }
-    ensures asked { Asked (attempt_at spot.now task) (length elements.now)
-        (account H.notes H.losses host.old) (account H.notes H.losses host.new) result }
-{
-    match does {
-        None => run_whole(
-            alloc,
-            copy_all(alloc, elements)?.into_vec(),
-            host,
-            spot,
-            task,
-        ),
-        Some(roots) => {
-            let (sizes, outputs) = begin(alloc, roots)?;
-            let borrowed = Borrowed {
-                functions,
-                sizes: &sizes,
-                steps: roots.steps(),
-                elements,
-            };
-            walk(alloc, borrowed, outputs, host, spot, task)
-        }
-    }
-}
 
 /// Runs the steps on each of the elements in order, on a host. The elements are handed over.
 /// Without steps the one output is given all of them at once.
@@ -129,7 +89,8 @@ fn run_whole<H: Host>(
     }
 }
 
-fn whole(alloc: Global, elements: Vec<Value>) -> Result<Outputs, AllocError>
+/// The outputs of a task without steps, whose one output is given all elements.
+pub(crate) fn whole(alloc: Global, elements: Vec<Value>) -> Result<Outputs, AllocError>
     ensures lists { IfOk result (λ given. given.lists ≡ elements.items ∷ []) }
     ensures counts { IfOk result (λ given. given.counts ≡ []) }
 {

@@ -27,7 +27,7 @@ use Rattle.plan_rules.specs.Fitting.{HasFewOutputs, HasSourcesBelow, IsInBounds,
 use Rattle.graph_bounds.specs.Sources.{AreOfKinds, HasKinds, BringSuch, BringsSuch, OfSource}
 use Rattle.graph_bounds.proofs.Sourcing.{such_lifted, such_sunk}
 
-numbered_few : (m s : ℕ) (f : Forest) → HasFewOutputs m f → HasFewOutputs m (numbered s f)
+pub numbered_few : (m s : ℕ) (f : Forest) → HasFewOutputs m f → HasFewOutputs m (numbered s f)
 numbered_few m s Bare h = tt
 numbered_few m s (Grow l kids rest) h = (
   h.0,
@@ -180,7 +180,7 @@ narrow_fused n b can h =
     all_narrow (moved_to hs) n hs (all_left (cut_of b) n b.graph.nodes (few b can) h)
 
 -- ---- the bounds
-such_below : (n : ℕ) (es : List Entry) → AllByRecursion (λ e. IsSourceBelow n e.node) es
+pub such_below : (n : ℕ) (es : List Entry) → AllByRecursion (λ e. IsSourceBelow n e.node) es
     → BringSuch (OfSource (λ r. r.number < n)) es
 such_below n [] h = tt
 such_below n (e ∷ es) h = (node_such n e.node h.0, such_below n es h.1)
@@ -192,7 +192,7 @@ such_below n (e ∷ es) h = (node_such n e.node h.0, such_below n es h.1)
     node_such n (Gbk c o l k) i = tt
     node_such n (Barrier ins o l a) i = tt
 
-below_such : (n : ℕ) (es : List Entry) → BringSuch (OfSource (λ r. r.number < n)) es
+pub below_such : (n : ℕ) (es : List Entry) → BringSuch (OfSource (λ r. r.number < n)) es
     → AllByRecursion (λ e. IsSourceBelow n e.node) es
 below_such n [] h = tt
 below_such n (e ∷ es) h = (such_node n e.node h.0, below_such n es h.1)
@@ -221,7 +221,7 @@ sources_fused n b can h =
     (such_fused (OfSource (λ r. r.number < n)) b can (such_below n b.graph.nodes h))
 
 -- sources of one number are of one kind
-kinds_agree : (kind : ℕ → Bool) (g : Graph) → HasKinds kind g → SourcesAgree g.nodes
+pub kinds_agree : (kind : ℕ → Bool) (g : Graph) → HasKinds kind g → SourcesAgree g.nodes
 kinds_agree kind g h n m r s a b e =
     let P : Input ⊎ Act → Type 0 = OfSource (λ r. r.is_object ≡ kind r.number) in
     all_found (λ e. BringsSuch P e.node) g.nodes n (Source r) a h
@@ -241,11 +241,11 @@ kinds_lifted kind g h = such_lifted (OfSource (λ r. r.is_object ≡ kind r.numb
 -- ---- graphs without objects
 
 -- no source is an object, and there is no act
-abbrev IsFree : Input ⊎ Act → Type 0
+abbrev pub IsFree : Input ⊎ Act → Type 0
 IsFree (inl r) = r.is_object ≡ false
 IsFree (inr a) = ⊥
 
-free_such : (es : List Entry) → AllByRecursion (λ e. IsNodeFree e.node) es → BringSuch IsFree es
+pub free_such : (es : List Entry) → AllByRecursion (λ e. IsNodeFree e.node) es → BringSuch IsFree es
 free_such [] h = tt
 free_such (e ∷ es) h = (node_such e.node h.0, free_such es h.1)
   where
@@ -256,7 +256,7 @@ free_such (e ∷ es) h = (node_such e.node h.0, free_such es h.1)
     node_such (Gbk c o l k) i = tt
     node_such (Barrier ins o l a) i = i
 
-such_free : (es : List Entry) → BringSuch IsFree es → AllByRecursion (λ e. IsNodeFree e.node) es
+pub such_free : (es : List Entry) → BringSuch IsFree es → AllByRecursion (λ e. IsNodeFree e.node) es
 such_free [] h = tt
 such_free (e ∷ es) h = (such_node e.node h.0, such_free es h.1)
   where

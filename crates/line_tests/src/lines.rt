@@ -3,7 +3,7 @@ use csv_rows::RowKind;
 use flume_grammar::ScriptKind;
 use flume_value::{Pile, Str};
 use outside::{MemScreen, Phase};
-use run_texts::{Place, Status, tell};
+use run_texts::{Place, Status, made_line, tell};
 use std::alloc::{AllocError, Global};
 use std::process::Abort;
 use std::test::Fail;
@@ -98,4 +98,20 @@ fn tells_which_file_was_not_written(rt: HostRuntime) -> Result<(), Fail> {
         place: Place::File(name(alloc)?),
     };
     check(&rt, alloc, write, (7, b"write fault: \"in.csv\"\n"))
+}
+
+// Whether the line of a made workload is this one.
+fn is_made_line(alloc: Global, rows: u32, keys: usize, total: u64, line: &[u8]) -> bool {
+    match made_line(alloc, rows, keys, total) {
+        Ok(text) => text.as_slice() == line,
+        Err(_) => false,
+    }
+}
+
+#[test]
+fn tells_what_was_made(rt: HostRuntime) -> Result<(), Fail> {
+    let alloc = rt.alloc();
+    assert!(rt; is_made_line(alloc, 4, 4, 42, b"made 4 rows, 4 keys, total 42\n"));
+    assert!(rt; is_made_line(alloc, 0, 0, 0, b"made 0 rows, 0 keys, total 0\n"));
+    Ok(())
 }

@@ -3,12 +3,10 @@ use Rattle.std.proofs.Common.{◌≡◌, ◌<◌, ◌+◌, ℕ, List, [], ◌∷
 use Rattle.std.specs.List.{flat_map, slice_get}
 use Rattle.flume_value.specs.declared.value.Value.{Value}
 use Rattle.flume_collection.specs.Calls.{or_none}
-use Rattle.shuffle_parts.specs.declared.out.Sent.{Sent}
-use Rattle.shuffle_parts.specs.declared.out.Sent.TheVariants.{Passed}
 use Rattle.exec_plan.specs.declared.plan.Take.{Take}
 use Rattle.exec_plan.specs.declared.plan.OutChannel.{OutChannel}
-use Rattle.exec_plan.specs.declared.plan.OutChannel.TheVariants.{Group, Pass}
-use Rattle.task_lists.specs.Outs.{AreSentPairs, IsSent}
+use Rattle.map_shard.specs.declared.filling.Filling.{Filling}
+use Rattle.map_shard.specs.inner.Fillings.{IsFilled, IsFilling}
 use Rattle.map_shard.specs.inner.Sending.{CanSend, IsSendable, joined, left, taken, taken_by, takes_of}
 use Rattle.map_shard.proofs.Later.{drop_at}
 
@@ -50,11 +48,6 @@ left_on takes i lists next whole h rest goes =
     ∙ ap (λ ks. left ks lists) (sym (drop_at takes i no_take h)) ∙ goes
 
 -- ---- one channel after another
-sent_as : (p : ℕ) (F G : List Take → List Value) (c : OutChannel) (s : Sent)
-    → F (takes_of c) ≡ G (takes_of c) → IsSent p F c s → IsSent p G c s
-sent_as p F G (Pass k n) s same sent = sent ∙ ap Passed same
-sent_as p F G (Group g) s same sent = subst (AreSentPairs g.lifted p s) same sent
-
 module _ (m : ℕ) (lists : List (List Value)) (channels : List OutChannel) (i : ℕ) (c : OutChannel)
     (given : List (List Value)) (h : i < length channels) (is : c ≡ get_or channels i c)
     (so_far : given ≡ map (taken_by m lists) (flat_map takes_of (drop i channels))) where
@@ -73,9 +66,10 @@ module _ (m : ℕ) (lists : List (List Value)) (channels : List OutChannel) (i :
   pub sendable : CanSend m lists c → IsSendable c (joined (takes_of c) given)
   sendable can = subst (IsSendable c) (sym here) can
 
-  pub sent_here : (p : ℕ) (s : Sent) → IsSent p (λ takes. joined takes given) c s
-      → IsSent p (taken m lists) c s
-  sent_here p s sent = sent_as p (λ takes. joined takes given) (taken m lists) c s here sent
+  pub filled_here : (p : ℕ) (before : List Take → List Value) (f : Filling)
+      → IsFilling p c f (before (takes_of c) ++ joined (takes_of c) given)
+      → IsFilled p (λ takes. before takes ++ taken m lists takes) c f
+  filled_here p before f = subst (λ vs. IsFilling p c f (before (takes_of c) ++ vs)) here
 
   pub given_on : (now : List (List Value)) → now ≡ left (takes_of c) given
       → now ≡ map (taken_by m lists) (flat_map takes_of (drop (i + 1) channels))

@@ -1,7 +1,11 @@
-pub mod Taking
-pub mod Later
-pub mod Handing
-pub mod Sending
-pub mod Working
+pub mod Attempting
 pub mod CrossLemmas
+pub mod Filled
 pub mod Fitting
+pub mod Handing
+pub mod Later
+pub mod Legging
+pub mod Sending
+pub mod Singling
+pub mod Taking
+pub mod Working

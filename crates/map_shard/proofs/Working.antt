@@ -7,23 +7,22 @@ use Rattle.std.proofs.lemmas.Nat.{row_below_turned}
 use Rattle.std.proofs.Math.Nat.{mod-lt}
 use Rattle.flume_value.specs.declared.value.Value.{Value}
 use Rattle.flume_collection.specs.declared.trap.Trap.{Trap}
-use Rattle.flume_collection.specs.Calls.{Called}
 use Rattle.shards.specs.Shards.{shard}
 use Rattle.shuffle_parts.specs.declared.out.MapOut.{MapOut}
 use Rattle.exec_graph.specs.World.{World}
 use Rattle.exec_plan.specs.Wellformed.{IsNumbered}
 use Rattle.exec_plan.specs.declared.plan.InChannel.{InChannel}
+use Rattle.exec_plan.specs.declared.plan.OutChannel.{OutChannel}
 use Rattle.exec_plan.specs.declared.plan.Take.{Take}
-use Rattle.task_lists.specs.Runs.{kept_count}
+use Rattle.task_lists.specs.Runs.{all_given, kept_count}
 use Rattle.task_lists.specs.Outs.{IsMapValue, IsSent}
 use Rattle.task_lists.specs.Tasks.{Task, given_to, map_task, no_task}
-use Rattle.forest_courses.specs.Courses.{IsCourse}
-use Rattle.forest_steps.specs.Running.{Given}
 use Rattle.forest_steps.specs.Functions.{world_of}
 use Rattle.forest_steps.specs.Safety.{SafeOf}
 use Rattle.forest_courses.proofs.Worlds.{same_counts, same_gives, same_traps}
 use Rattle.map_shard.specs.Work.{Work, CanWork, IsReady, IsWorkValue, lists_of, shard_task, split_of, task_at, work_count}
-use Rattle.map_shard.specs.inner.Sending.{CanSend, taken}
+use Rattle.map_shard.specs.inner.Legs.{IsWholeOr}
+use Rattle.map_shard.specs.inner.Sending.{CanSend}
 use Rattle.map_shard.proofs.Taking.{can_send, sent_given}
 
 get_is : {X : Type 0} (xs : List X) (i : ℕ) (x : X) → i < length xs → x ≡ get_or xs i x
@@ -115,30 +114,47 @@ module _ {F : Type 0} {w : World} {takes : ℕ → Value → Type 0} {work : Wor
       ap (λ (t : Task). t.does)
       (of_channel work (k / work.shards) (k % work.shards) channel.0 channel.1)
 
-  -- ---- what its steps gave is fit for the output channels, and what those get is right
-  module _ (given : Given)
-      (course : IsCourse w (task_at work k).does (task_at work k).elements (Ok given))
-      (lists : List (List Value)) (same : lists ≡ given.lists) where
-    pub can_send_all : AllByRecursion (CanSend (k / work.shards) lists) work.stage.outputs
-    can_send_all =
-        can_send w work.stage.inputs (k / work.shards) channel.0 (task_at work k) channel.1
-        does_is channel.2 lists (same ∙ course.lists) work.stage.outputs ready.fit
+  -- ---- what its steps give is fit for the output channels, and what those get is right
+  abbrev Given : List (List Value)
+  Given = all_given w (task_at work k).does (task_at work k).elements
 
-    pub sent_out : (out : MapOut) → out.counts ≡ given.counts
-        → AllZip (IsSent work.partitions (taken (k / work.shards) lists)) work.stage.outputs
-        out.sent → IsWorkValue w.called work k (Ok out)
-    sent_out out count sent u alike =
-        same_out work (k / work.shards) (k % work.shards) w u (sym alike) (Ok out) (record {
-          calm = course.calm;
-          sent = sent_given w work.stage.inputs (k / work.shards) channel.0 (task_at work k)
-              channel.1 does_is channel.2 lists (same ∙ course.lists) work.partitions
-              work.stage.outputs out.sent ready.fit sent;
-          counts = count ∙ course.counts;
-        })
+  can_send_all : AllByRecursion (CanSend (k / work.shards) Given) work.stage.outputs
+  can_send_all =
+      can_send w work.stage.inputs (k / work.shards) channel.0 (task_at work k) channel.1
+      does_is channel.2 Given refl work.stage.outputs ready.fit
 
-pub trapped_out : {F : Type 0} (work : Work F) (called : ℕ → Value → Called) (k : ℕ) (trap : Trap)
-    → IsCourse (world_of called) (task_at work k).does (task_at work k).elements (Err trap)
-    → IsWorkValue called work k (Err trap)
-trapped_out work called k trap course u alike =
-    same_out work (k / work.shards) (k % work.shards) (world_of called) u (sym alike) (Err trap)
-    course
+  pub fit : {task : Task} → task_at work k ≡ task → (os : List OutChannel)
+      → os ≡ work.stage.outputs
+      → AllByRecursion (CanSend (k / work.shards) (all_given w task.does task.elements)) os
+  fit {task} is os same =
+      subst (AllByRecursion (CanSend (k / work.shards) (all_given w task.does task.elements)))
+      (sym same)
+      (subst (λ (t : Task). AllByRecursion
+      (CanSend (k / work.shards) (all_given w t.does t.elements)) work.stage.outputs) is
+      can_send_all)
+
+  whole_value : (out : Result MapOut Trap)
+      → IsWholeOr w work.partitions (k / work.shards) (task_at work k).does work.stage.outputs
+      (task_at work k).elements out
+      → IsWorkValue w.called work k out
+  whole_value (Ok out) whole u alike =
+      same_out work (k / work.shards) (k % work.shards) w u (sym alike) (Ok out) (record {
+        calm = whole.calm;
+        sent = sent_given w work.stage.inputs (k / work.shards) channel.0 (task_at work k)
+            channel.1 does_is channel.2 Given refl work.partitions work.stage.outputs out.sent
+            ready.fit whole.sent;
+        counts = whole.counts;
+      })
+  whole_value (Err trap) whole u alike =
+      same_out work (k / work.shards) (k % work.shards) w u (sym alike) (Err trap) whole
+
+  pub value_of : {task : Task} → task_at work k ≡ task → (os : List OutChannel)
+      → os ≡ work.stage.outputs → (out : Result MapOut Trap)
+      → IsWholeOr w work.partitions (k / work.shards) task.does os task.elements out
+      → IsWorkValue w.called work k out
+  value_of {task} is os same out whole =
+      whole_value out
+      (subst (λ (t : Task). IsWholeOr w work.partitions (k / work.shards) t.does
+      work.stage.outputs t.elements out) (sym is)
+      (subst (λ (cs : List OutChannel). IsWholeOr w work.partitions (k / work.shards) task.does cs
+      task.elements out) same whole))

@@ -1,1 +1,4 @@
+pub mod Fillings
+pub mod Legs
 pub mod Sending
+pub mod Single

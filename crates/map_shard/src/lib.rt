@@ -12,10 +12,14 @@
 //! collection, and `take_list` takes one of several lists away.
 #![tactic(auto)]
 
+mod filling;
+mod joining;
 mod laws;
+mod legs;
 mod lists;
 mod moving;
 mod send;
+mod single;
 mod tasks;
 
 pub use laws::map_tasks_law;

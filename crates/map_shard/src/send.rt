@@ -1,63 +1,129 @@
-// What a map task gives the output channels of its stage.
-ghost use Rattle.std.specs.Prelude.{◌≡◌, ◌<◌, IfOk, OnOk, ◌++◌, drop, slice_get};
+// What the output channels of a stage get of what the steps of a map task gave.
+ghost use Rattle.std.specs.Prelude.{◌≡◌, ◌<◌, ◌++◌, [], IfOk, IsSomeAnd, List, OnOk, drop, map, slice_get};
 ghost use Rattle.std.specs.List.{AllByRecursion, AllZip};
+ghost use Rattle.flume_value.specs.declared.value.Value.{Value as GhostValue};
 ghost use Rattle.flume_collection.specs.Calls.{or_none};
-ghost use Rattle.task_lists.specs.Outs.{AreSentPairs, IsSent};
-ghost use Rattle.task_lists.specs.Typing.{AreGroupable};
+ghost use Rattle.exec_plan.specs.declared.plan.Take.{Take as GhostTake};
+ghost use Rattle.map_shard.specs.inner.Fillings.{IsFilled, IsFilling, sent_of};
 ghost use Rattle.map_shard.specs.inner.Sending.{CanSend, IsSendable, joined, left, taken, takes_of};
 
+use crate::filling::{Filling, fill, finish, nothing, with_more};
 use crate::moving::{all_takes, taken_lists};
-use combine_table::Comb;
 use exec_plan::{OutChannel, Take};
 use flume_value::{Items, Pile, Value};
-use shuffle_parts::{Sent, combine_pairs, part};
+use shuffle_parts::Sent;
 use std::alloc::{AllocError, Global};
 use std::vec::IntoIter;
 
-/// What each output channel gets of input channel m, whose outputs were given these lists.
-pub(crate) fn send_all(
+/// What each output channel was given where that is nothing.
+pub(crate) fn nothing_sent(
+    alloc: Global,
+    channels: &[OutChannel],
+    partitions: u32,
+) -> Result<Vec<Filling>, AllocError>
+    ensures { IfOk result (λ fillings.
+        AllZip (IsFilled partitions (λ takes. [])) channels.now fillings.items) }
+{
+    let mut fillings = Vec::with_capacity(alloc, channels.len())?;
+    for channel in channels {
+        fillings.push(nothing(alloc, channel, partitions)?)?;
+    }
+    Ok(fillings)
+}
+
+/// What each output channel was given, with what it takes of input channel m, whose outputs were
+/// given these lists.
+pub(crate) fn send_more(
     alloc: Global,
     channels: &[OutChannel],
     m: u32,
     lists: Pile<Items>,
     partitions: u32,
-) -> Result<Pile<Sent>, AllocError>
+    fillings: Vec<Filling>,
+) -> Result<Vec<Filling>, AllocError>
     requires some { 0 < partitions }
     requires fit { AllByRecursion (CanSend m lists) channels.now }
-    ensures { IfOk result (AllZip (IsSent partitions (taken m lists)) channels.now) }
+    requires stands { (before : List GhostTake → List GhostValue)
+        × AllZip (IsFilled partitions before) channels.now fillings.items }
+    ensures { (before : List GhostTake → List GhostValue) →
+        AllZip (IsFilled partitions before) channels.now fillings.items →
+        IfOk result (λ more.
+        AllZip (IsFilled partitions (λ takes. before takes ++ taken m lists takes)) channels.now
+        more.items) }
 {
     let takes = all_takes(alloc, channels)?;
     let mut given = taken_lists(alloc, takes.as_slice(), m, lists)?.into_iter();
-    let mut sent = Vec::with_capacity(alloc, channels.len())?;
+    let mut old = fillings.into_iter();
+    let mut more = Vec::with_capacity(alloc, channels.len())?;
     for channel in channels {
-        sent.push(send(alloc, channel, &mut given, partitions)?)?;
+        let filling = next_filling(&mut old);
+        more.push(fill_next(alloc, channel, filling, &mut given, partitions)?)?;
+    }
+    Ok(more)
+}
+
+/// What each output channel gets that was given this.
+pub(crate) fn all_sent(alloc: Global, fillings: Vec<Filling>) -> Result<Pile<Sent>, AllocError>
+    ensures { IfOk result (λ sent. sent ≡ map sent_of fillings.items) }
+{
+    let mut sent = Vec::with_capacity(alloc, fillings.len())?;
+    for filling in fillings {
+        sent.push(finish(alloc, filling)?)?;
     }
     Ok(Pile::from_vec(sent))
 }
 
-// What a channel gets, for whose takes the next of these lists are.
-fn send(
+// What a channel was given, with the lists for its takes, which are the next of these.
+fn fill_next(
+    alloc: Global,
+    channel: &OutChannel,
+    filling: Option<Filling>,
+    given: &mut IntoIter<Items>,
+    partitions: u32,
+) -> Result<Filling, AllocError>
+    requires some { 0 < partitions }
+    requires fit { IsSendable channel.now (joined (takes_of channel.now) given.old.rest.items) }
+    requires stands { (done : List GhostValue)
+        × IsSomeAnd filling (λ f. IsFilling partitions channel.now f done) }
+    ensures more { (done : List GhostValue) →
+        IsSomeAnd filling (λ f. IsFilling partitions channel.now f done) →
+        IfOk result (λ more. IsFilling partitions channel.now more
+        (done ++ joined (takes_of channel.now) given.old.rest.items)) }
+    ensures left { OnOk result
+        (given.new.rest.items ≡ left (takes_of channel.now) given.old.rest.items) }
+{
+    match filling {
+        Some(filling) => {
+            let values = taken_values(alloc, channel, given)?;
+            let more = fill(alloc, channel, filling, values, partitions)?;
+            Ok(more)
+        }
+        None => unreachable!(),
+    }
+}
+
+// The next of these, where there is one.
+fn next_filling(fillings: &mut IntoIter<Filling>) -> Option<Filling>
+    ensures next { result ≡ slice_get fillings.old.rest.items 0 }
+    ensures rest { fillings.new.rest.items ≡ drop 1 fillings.old.rest.items }
+{
+    fillings.next()
+}
+
+// The lists of a channel's takes, which are next, one after another.
+fn taken_values(
     alloc: Global,
     channel: &OutChannel,
     given: &mut IntoIter<Items>,
-    partitions: u32,
-) -> Result<Sent, AllocError>
-    requires some { 0 < partitions }
-    requires fit { IsSendable channel.now (joined (takes_of channel.now) given.old.rest.items) }
-    ensures sent { IfOk result (IsSent partitions
-        (λ takes. joined takes given.old.rest.items) channel.now) }
+) -> Result<Vec<Value>, AllocError>
+    ensures all { IfOk result (λ values.
+        values.items ≡ joined (takes_of channel.now) given.old.rest.items) }
     ensures left { OnOk result
         (given.new.rest.items ≡ left (takes_of channel.now) given.old.rest.items) }
 {
     match channel {
-        OutChannel::Pass(take, _) => {
-            let values = joined(alloc, &[*take], given)?;
-            Ok(Sent::Passed(Pile::from_vec(values)))
-        }
-        OutChannel::Group(group) => {
-            let pairs = joined(alloc, group.takes.as_slice(), given)?;
-            send_pairs(alloc, group.lifted, pairs, partitions)
-        }
+        OutChannel::Pass(take, _) => joined(alloc, &[*take], given),
+        OutChannel::Group(group) => joined(alloc, group.takes.as_slice(), given),
     }
 }
 
@@ -85,38 +151,5 @@ fn next_list(alloc: Global, given: &mut IntoIter<Items>) -> Items
     match given.next() {
         Some(list) => list,
         None => Pile::new(alloc),
-    }
-}
-
-fn with_more(values: Vec<Value>, more: Items) -> Result<Vec<Value>, AllocError>
-    ensures { IfOk result (λ all. all.items ≡ values.items ++ more) }
-{
-    if values.is_empty() {
-        return Ok(more.into_vec());
-    }
-    let mut all = values;
-    for value in more.into_vec() {
-        all.push(value)?;
-    }
-    Ok(all)
-}
-
-// The pairs by partition; of a lifted channel accumulators that stand for them.
-fn send_pairs(
-    alloc: Global,
-    lifted: Option<Comb>,
-    pairs: Vec<Value>,
-    partitions: u32,
-) -> Result<Sent, AllocError>
-    requires some { 0 < partitions }
-    requires pairs { AreGroupable lifted pairs.items }
-    ensures { IfOk result (λ sent. AreSentPairs lifted partitions sent pairs.items) }
-{
-    match lifted {
-        None => Ok(Sent::Grouped(part(alloc, pairs, partitions)?)),
-        Some(comb) => {
-            let referred: Vec<&Value> = pairs.as_slice().iter().collect(alloc)?;
-            Ok(Sent::Combined(combine_pairs(alloc, comb, referred, partitions)?))
-        }
     }
 }

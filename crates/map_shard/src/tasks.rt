@@ -1,22 +1,17 @@
 // The map tasks of a stage.
-ghost use Rattle.std.specs.Prelude.{◌≡◌, ◌<◌, IfOk, Ok};
-ghost use Rattle.crew.specs.Attempts.{IsMadeOf};
-ghost use Rattle.crew.specs.Drills.{attempt_at};
-ghost use Rattle.crew.specs.Hosts.{account};
-ghost use Rattle.forest_courses.specs.Courses.{IsCourse};
-ghost use Rattle.forest_run.specs.Asked.{Asked};
+ghost use Rattle.std.specs.Prelude.{◌≡◌, ◌<◌, IfOk};
 ghost use Rattle.forest_steps.specs.Functions.{world_of};
-ghost use Rattle.map_shard.specs.Work.{CanWork, IsWorkValue, Work, task_at, work_count, work_places};
+ghost use Rattle.map_shard.specs.Work.{CanWork, IsWorkValue, task_at, work_count};
 
+use crate::legs::run_task;
 use crate::lists::list_of;
-use crate::send::send_all;
 use crew::{Attempt, Spot, Tasks};
 use exec_plan::Mscr;
 use flume_collection::Trap;
-use flume_value::{Items, Pile};
-use forest_run::{Course, run_borrowed};
-use forest_steps::{Functions, Outputs};
-use outside::Host;
+use flume_value::{Items, Pile, Value};
+use forest_run::ask_for;
+use forest_steps::Functions;
+use outside::{Down, Host};
 use shards::shard_of;
 use shuffle_parts::MapOut;
 use std::alloc::{AllocError, Global};
@@ -100,49 +95,34 @@ impl<'a, F: Functions> MapTasks<'a, F> {
         }
     }
 
-    // The steps of a task, on its elements.
-    fn run<H: Host>(
-        &self,
-        alloc: Global,
-        task: u32,
-        host: &mut H,
-        at: &Spot,
-    ) -> Result<Attempt<Course>, AllocError>
+    // The elements of a task.
+    fn elements_of(&self, task: u32) -> &[Value]
         requires { task < work_count self.now }
-        ensures value { IfOk result (IsMadeOf (IsCourse
-            (world_of (F.called self.now.functions))
-            (task_at self.now task).does (task_at self.now task).elements)) }
-        ensures asked { Asked (attempt_at at.now task) (work_places self.now task)
-            (account H.notes H.losses host.old) (account H.notes H.losses host.new) result }
+        ensures { result.now ≡ (task_at self.now task).elements }
+    {
+        let channel = &self.stage.inputs.as_slice()[(task / self.shards) as usize];
+        let list = list_of(self.sources, self.results, channel.reads);
+        shard_of(list, self.shards, task % self.shards)
+    }
+
+    // What a task comes to.
+    fn value_of(&self, alloc: Global, task: u32) -> Result<Result<MapOut, Trap>, AllocError>
+        requires { task < work_count self.now }
+        ensures { IfOk result (IsWorkValue (F.called self.now.functions) self.now task) }
     {
         let channel = &self.stage.inputs.as_slice()[(task / self.shards) as usize];
         let list = list_of(self.sources, self.results, channel.reads);
         let elements = shard_of(list, self.shards, task % self.shards);
-        run_borrowed(
+        let channels = self.stage.outputs.as_slice();
+        run_task(
             alloc,
             self.functions,
             &channel.does,
+            channels,
+            task / self.shards,
+            self.partitions,
             elements,
-            host,
-            at,
-            task,
         )
-    }
-
-    // What the output channels get of what the steps of a task gave, with its counts.
-    fn out_of(&self, alloc: Global, task: u32, given: Outputs) -> Result<MapOut, AllocError>
-        requires task { task < work_count self.now }
-        requires given { IsCourse (world_of (F.called self.now.functions))
-            (task_at self.now task).does (task_at self.now task).elements (Ok given) }
-        ensures { IfOk result (λ out.
-            IsWorkValue (F.called self.now.functions) self.now task (Ok out)) }
-    {
-        let (lists, counts) = given.into_parts();
-        let channels = self.stage.outputs.as_slice();
-        let lists = Pile::from_vec(lists);
-        let sent = send_all(alloc, channels, task / self.shards, lists, self.partitions)?;
-        let counts = Pile::from_vec(counts);
-        Ok(MapOut { sent, counts })
     }
 }
 
@@ -168,13 +148,11 @@ impl<'a, F: Functions + Sync> Tasks for MapTasks<'a, F> {
         host: &mut H,
         at: &Spot,
     ) -> Result<Attempt<Result<MapOut, Trap>>, AllocError> {
-        match self.run(alloc, task, host, at)? {
-            Attempt::Made(Ok(given)) => {
-                let out = self.out_of(alloc, task, given)?;
-                Ok(Attempt::Made(Ok(out)))
-            }
-            Attempt::Made(Err(trap)) => Ok(Attempt::Made(Err(trap))),
-            Attempt::Down => Ok(Attempt::Down),
+        match ask_for(self.elements_of(task), host, at, task) {
+            Ok(()) => {}
+            Err(Down) => return Ok(Attempt::Down),
         }
+        let out = self.value_of(alloc, task)?;
+        Ok(Attempt::Made(out))
     }
 }

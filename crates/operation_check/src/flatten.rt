@@ -52,7 +52,7 @@ fn flatten_of(
 }
 
 /// The collections of names, from the left.
-fn collections(
+pub fn collections(
     alloc: Global,
     line: u32,
     names: &[Str],
@@ -98,7 +98,8 @@ fn all_same(id: TypeId, sources: &[Operand], types: &Types) -> bool
     true
 }
 
-fn numbers(alloc: Global, sources: &[Operand]) -> Result<Pile<usize>, AllocError>
+/// The numbers of collections.
+pub fn numbers(alloc: Global, sources: &[Operand]) -> Result<Pile<usize>, AllocError>
     ensures { (types : List Ty) → IfOk result (λ numbers.
         numbers ≡ spec.numbers (map (operand_in types) sources.now)) }
 {

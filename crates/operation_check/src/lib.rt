@@ -3,7 +3,7 @@
 //! `made_by` answers the collections that an operation makes of those that a script has defined so
 //! far, one for each name, or the operation's first fault, exactly as `specs/Operations.antt`
 //! defines: how each is made, and the type of its members. `collection` finds a collection by its
-//! name.
+//! name, `collections` several, from the left, and `numbers` tells their numbers.
 #![tactic(auto)]
 
 mod combiner;
@@ -13,4 +13,5 @@ mod pairs;
 mod sides;
 mod top;
 
+pub use flatten::{collections, numbers};
 pub use operation::{collection, made_by};

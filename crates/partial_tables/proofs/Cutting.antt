@@ -1,5 +1,5 @@
 -- What accumulators come to depends neither on the cut nor on the order of merging.
-use Rattle.std.proofs.Common.{◌≡◌, List, ◌++◌, refl, sym, ap, ◌∙◌}
+use Rattle.std.proofs.Common.{◌≡◌, List, refl, sym, ap, ◌∙◌}
 use Rattle.flume_value.specs.declared.value.Value.{Value}
 use Rattle.flume_value.specs.Bag.{bag_of}
 use Rattle.flume_value.proofs.BagLemmas.{bag_of-IsPermutation}

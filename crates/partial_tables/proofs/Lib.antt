@@ -7,3 +7,4 @@ pub mod Keys
 pub mod Merged
 pub mod Regrouping
 pub mod Standing
+pub mod Tabling

@@ -1,14 +1,9 @@
 -- Accumulators that are merged in a table stand for what they stood for one by one.
-use Rattle.std.proofs.Common.{◌≡◌, true, false, cond, Bool, ◌||◌, List, [], ◌∷◌, ◌++◌, refl, sym, ap, ◌∙◌, subst, append_assoc, append-nil, map}
-use Rattle.std.specs.Prelude.{Option, Some, None, option_map, unwrap_or}
-use Rattle.std.specs.Borrow.{Bor}
-use Rattle.std.specs.List.{cons_option}
-use Rattle.std.proofs.lemmas.List.{map-append}
-use Rattle.std.proofs.lemmas.List.Elements.{All-from_recursion, filter_map-append, recursion_from_All}
+use Rattle.std.proofs.Common.{◌≡◌, true, false, cond, Bool, ◌||◌, [], ◌∷◌, ◌++◌, refl, sym, ap, ◌∙◌, subst, append-nil}
+use Rattle.std.proofs.lemmas.List.Elements.{All-from_recursion}
 use Rattle.flume_value.specs.declared.value.Value.{Value}
 use Rattle.flume_value.specs.Equality.{value_eq}
-use Rattle.flume_value.proofs.EachLemmas.{Each-append, Each-left, Each-right}
-use Rattle.bag_groups.specs.Pairs.{parts_of, pairs_of}
+use Rattle.flume_value.proofs.EachLemmas.{Each-append}
 use Rattle.bag_groups.proofs.PairOrder.{same-value_eq}
 use Rattle.combine_table.specs.declared.comb.Comb.{Comb}
 use Rattle.combine_table.specs.Accumulators.{accumulator, HasShape, merged}
@@ -16,7 +11,7 @@ use Rattle.combine_table.proofs.Merging.{merged-HasShape, merged-comm, merged-as
 use Rattle.partial_tables.specs.Tables.{Pairs, has_key, added, IsPartialOf, HaveShape}
 use Rattle.partial_tables.specs.Merges.{values_at, merged_all, StandFor}
 use Rattle.partial_tables.specs.inner.Regrouped.{Regrouped}
-use Rattle.partial_tables.proofs.Standing.{merged_all-HasShape, merged_all-append, values_at-cons, values_at-append, has_key-append, stands_more}
+use Rattle.partial_tables.proofs.Standing.{merged_all-HasShape, merged_all-append, values_at-cons, values_at-append, has_key-append}
 
 pub regrouped_stands : (c : Comb) (xs ys ps : Pairs) → Regrouped c xs ys → StandFor c xs ps
     → StandFor c ys ps
@@ -126,60 +121,6 @@ added_regroups c (p ∷ ps) k a h e =
       | false ↦ λ is. added_later c p (ps ++ (k, a) ∷ []) (added c ps k a) e.0
           (added_regroups c ps k a h e.1)
     ] refl
-
--- ---- a table, and what was taken of it before
-
-pub put_added : (c : Comb) (ws ps now : Pairs) (k a : Value) → HasShape c a
-    → now ≡ added c ps k a → HaveShape c (ws ++ ps)
-    → Regrouped c ((ws ++ ps) ++ (k, a) ∷ []) (ws ++ now)
-put_added c ws ps now k a h is e =
-    subst (λ l. Regrouped c l (ws ++ now)) (sym (append_assoc ws ps ((k, a) ∷ [])))
-    (subst (λ l. Regrouped c (ws ++ (ps ++ (k, a) ∷ [])) (ws ++ l)) (sym is)
-    (regrouped_behind c ws (ps ++ (k, a) ∷ []) (added c ps k a)
-    (Each-left (λ (p : Value × Value). HasShape c p.1) ws ps e)
-    (added_regroups c ps k a h (Each-right (λ (p : Value × Value). HasShape c p.1) ws ps e))))
-
-pub put_full : (c : Comb) (ws ps vs now : Pairs) (k a : Value) → HasShape c a → vs ≡ ws ++ ps
-    → now ≡ (k, a) ∷ [] → HaveShape c (ws ++ ps)
-    → Regrouped c ((ws ++ ps) ++ (k, a) ∷ []) (vs ++ now)
-put_full c ws ps vs now k a h v is e =
-    subst (λ l. Regrouped c ((ws ++ ps) ++ (k, a) ∷ []) (vs ++ l)) (sym is)
-    (subst (λ l. Regrouped c ((ws ++ ps) ++ (k, a) ∷ []) (l ++ (k, a) ∷ [])) (sym v)
-    (regrouped_itself c ((ws ++ ps) ++ (k, a) ∷ [])
-    (Each-append (λ (p : Value × Value). HasShape c p.1) (ws ++ ps) ((k, a) ∷ []) e (h, tt))))
-
--- a pair more
-parts_more : (c : Comb) (old now ps : Pairs) (k a : Value) (o : Option (Value × Value))
-    → StandFor c old ps
-    → option_map {U = Value × Value} (λ parts. (parts.0, accumulator c (parts.1 ∷ []))) o
-    ≡ Some (k, a)
-    → Regrouped c (old ++ (k, a) ∷ []) now → StandFor c now (ps ++ cons_option o [])
-parts_more c old now ps k a None s is r = cc
-parts_more c old now ps k a (Some parts) s is r =
-    let key : parts.0 ≡ k = ap (λ (q : Option (Value × Value)). (unwrap_or q (k, a)).0) is in
-    let acc : accumulator c (parts.1 ∷ []) ≡ a =
-    ap (λ (q : Option (Value × Value)). (unwrap_or q (k, a)).1) is in
-    regrouped_stands c (old ++ (parts.0, accumulator c (parts.1 ∷ [])) ∷ []) now
-    (ps ++ parts ∷ [])
-    (subst (λ (p : Value × Value). Regrouped c (old ++ p ∷ []) now) (λ i. (sym key i, sym acc i)) r)
-    (stands_more c old ps parts.0 parts.1 s)
-
--- the same, of pairs that are referred to
-pub borrowed_more : (c d : Comb) (old now : Pairs) (xs : List (Bor Value)) (pair : Bor Value)
-    (k v a : Value) → d ≡ c → StandFor c old (pairs_of (map (λ (x : Bor Value). x.now) xs))
-    → parts_of pair.now ≡ Some (k, v) → a ≡ accumulator c (v ∷ [])
-    → (HaveShape d old → Regrouped d (old ++ (k, a) ∷ []) now)
-    → StandFor c now (pairs_of (map (λ (x : Bor Value). x.now) (xs ++ pair ∷ [])))
-borrowed_more c d old now xs pair k v a is s parts made put =
-    let told = map (λ (x : Bor Value). x.now) xs in
-    subst (StandFor c now)
-    (sym (ap pairs_of (map-append (λ (x : Bor Value). x.now) xs (pair ∷ []))
-    ∙ filter_map-append parts_of told (pair.now ∷ [])))
-    (parts_more c old now (pairs_of told) k a (parts_of pair.now) s
-    (ap (option_map (λ ps. (ps.0, accumulator c (ps.1 ∷ [])))) parts
-    ∙ ap (λ b. Some (k, b)) (sym made))
-    (subst (λ e. HaveShape e old → Regrouped e (old ++ (k, a) ∷ []) now) is put
-    (recursion_from_All (IsPartialOf c) old s.shape)))
 
 -- an accumulator more
 pub merged_more : (c : Comb) (old now ps : Pairs) (k a : Value) → Regrouped c ps old

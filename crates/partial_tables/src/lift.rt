@@ -1,10 +1,12 @@
 // Accumulators of pairs, made in a table of bounded room that is emptied when it is full.
-ghost use Rattle.std.specs.Prelude.{◌≡◌, ◌≤◌, ◌++◌, ◌∷◌, [], All, Some, IfOk, OnOk, map};
+ghost use Rattle.std.specs.Prelude.{◌≡◌, ◌++◌, ◌∷◌, [], All, List, Some, IfOk, OnOk, map};
+ghost use Rattle.flume_value.specs.declared.value.Value.{Value as GhostValue};
 ghost use Rattle.bag_groups.specs.Pairs.{IsPair, pairs_of, parts_of};
-ghost use Rattle.combine_table.specs.Accumulators.{HasShape};
-ghost use Rattle.partial_tables.specs.Tables.{HaveShape};
+ghost use Rattle.combine_table.specs.Accumulators.{HasShape, accumulator};
+ghost use Rattle.partial_tables.specs.Lifted.{IsLifted, accumulators_of};
 ghost use Rattle.partial_tables.specs.Merges.{StandFor, IsCombinable};
-ghost use Rattle.partial_tables.specs.inner.Regrouped.{Regrouped};
+ghost use Rattle.partial_tables.specs.Runs.{AreTabled, AreTables, most_keys};
+ghost use Rattle.partial_tables.specs.Tables.{Pairs, holding};
 
 use crate::table::{AddFault, Partial, Partials};
 use combine_table::{Comb, lift};
@@ -14,28 +16,79 @@ use std::alloc::{AllocError, Global};
 /// How many keys the table has room for.
 const ROOM: u64 = 1024;
 
-/// Accumulators that stand for the pairs that are referred to. They are merged in a table of
-/// bounded room, which is emptied whenever it is full, so a key may have several. A key is copied
-/// where it is new in the table.
+/// Accumulators that stand for pairs which are put in one after another: those in a table of
+/// bounded room, and those that it had whenever it was full. So a key may have several.
+#[derive(Drop)]
+pub struct Lifting {
+    pub table: Partials,
+    pub others: Vec<Partial>,
+}
+
+impl Lifting {
+    /// Accumulators of no pairs. It takes no memory.
+    pub fn new(alloc: Global, comb: Comb) -> Lifting
+        ensures { IsLifted comb result [] }
+    {
+        let table = Partials::new(alloc, comb, ROOM);
+        let others = Vec::new(alloc);
+        Lifting { table, others }
+    }
+
+    /// Puts a pair in. Its key is copied where it is new in the table.
+    pub fn put(&mut self, alloc: Global, comb: Comb, pair: &Value) -> Result<(), AllocError>
+        requires pair { IsCombinable comb pair.now }
+        requires comb { self.old.table.comb ≡ comb }
+        requires room { self.old.table.room ≡ most_keys }
+        ensures { (pairs : List GhostValue) → IsLifted comb self.old pairs →
+            OnOk result (IsLifted comb self.new (pairs ++ pair.now ∷ [])) }
+    {
+        let (key, value) = parts(pair);
+        let acc = lift(alloc, comb, value)?;
+        put_copy(alloc, &mut self.table, &mut self.others, key, acc)?;
+        Ok(())
+    }
+
+    /// All the accumulators.
+    pub fn into_partials(self, alloc: Global) -> Result<Vec<Partial>, AllocError>
+        ensures { IfOk result (λ partials. partials.items ≡ accumulators_of self) }
+    {
+        let Lifting { table, others } = self;
+        let mut table = table;
+        let mut others = others;
+        let mut last = table.take(alloc)?;
+        others.append(&mut last)?;
+        Ok(others)
+    }
+}
+
+/// Accumulators that stand for the pairs that are referred to, as `Lifting` makes them.
 pub fn lift_borrowed(
     alloc: Global,
     comb: Comb,
     pairs: Vec<&Value>,
 ) -> Result<Vec<Partial>, AllocError>
     requires { All (λ pair. IsCombinable comb pair.now) pairs.items }
-    ensures { IfOk result (λ partials. StandFor comb partials.items
+    ensures stands { IfOk result (λ partials. StandFor comb partials.items
         (pairs_of (map (λ pair. pair.now) pairs.entry.items))) }
+    ensures tables { IfOk result (λ partials.
+        AreTabled comb (pairs_of (map (λ pair. pair.now) pairs.entry.items)) partials.items) }
 {
-    let mut table = Partials::new(alloc, comb, ROOM);
-    let mut partials = Vec::new(alloc);
-    for pair in pairs {
-        let (key, value) = parts(pair);
-        let acc = lift(alloc, comb, value)?;
-        put_copy(alloc, &mut table, &mut partials, key, acc)?;
-    }
-    let mut last = table.take(alloc)?;
-    partials.append(&mut last)?;
+    let lifting = lift_each(alloc, comb, pairs)?;
+    let partials = lifting.into_partials(alloc)?;
     Ok(partials)
+}
+
+// The pairs that are referred to, put in one after another.
+fn lift_each(alloc: Global, comb: Comb, pairs: Vec<&Value>) -> Result<Lifting, AllocError>
+    requires { All (λ pair. IsCombinable comb pair.now) pairs.items }
+    ensures { IfOk result (λ lifting.
+        IsLifted comb lifting (map (λ pair. pair.now) pairs.entry.items)) }
+{
+    let mut lifting = Lifting::new(alloc, comb);
+    for pair in pairs {
+        lifting.put(alloc, comb, pair)?;
+    }
+    Ok(lifting)
 }
 
 // The key of a pair and its value.
@@ -57,15 +110,15 @@ fn put_copy(
     key: &Value,
     acc: Value,
 ) -> Result<(), AllocError>
-    requires room { 1 ≤ table.old.room }
+    requires room { table.old.room ≡ most_keys }
     requires shape { HasShape table.old.comb acc }
     ensures comb { OnOk result (table.new.comb ≡ table.old.comb) }
     ensures room { OnOk result (table.new.room ≡ table.old.room) }
-    ensures regrouped { OnOk result
-        (HaveShape table.old.comb (others.old.items ++ table.old.partials) →
-        Regrouped table.old.comb
-        ((others.old.items ++ table.old.partials) ++ (key.now, acc) ∷ [])
-        (others.new.items ++ table.new.partials)) }
+    ensures tables { OnOk result ((pairs : Pairs) (value : GhostValue) →
+        acc ≡ accumulator table.old.comb (value ∷ []) →
+        AreTables table.old.comb pairs others.old.items table.old.partials →
+        AreTables table.old.comb (pairs ++ (key.now, value) ∷ []) others.new.items
+        table.new.partials) }
 {
     match table.add_copy(alloc, key, acc) {
         Ok(()) => Ok(()),
@@ -85,27 +138,37 @@ fn put(
     key: Value,
     acc: Value,
 ) -> Result<(), AllocError>
-    requires room { 1 ≤ table.old.room }
+    requires room { table.old.room ≡ most_keys }
     requires shape { HasShape table.old.comb acc }
     ensures comb { OnOk result (table.new.comb ≡ table.old.comb) }
     ensures room { OnOk result (table.new.room ≡ table.old.room) }
-    ensures regrouped { OnOk result
-        (HaveShape table.old.comb (others.old.items ++ table.old.partials) →
-        Regrouped table.old.comb
-        ((others.old.items ++ table.old.partials) ++ (key, acc) ∷ [])
-        (others.new.items ++ table.new.partials)) }
+    ensures tables { OnOk result ((pairs : Pairs) (value : GhostValue) →
+        acc ≡ accumulator table.old.comb (value ∷ []) →
+        AreTables table.old.comb pairs others.old.items table.old.partials →
+        AreTables table.old.comb (pairs ++ (key, value) ∷ []) others.new.items
+        table.new.partials) }
 {
     match table.add(alloc, key, acc) {
         Ok(()) => Ok(()),
         Err(AddFault::Memory) => Err(AllocError),
         Err(AddFault::Full { key, acc }) => {
-            let mut full = table.take(alloc)?;
-            others.append(&mut full)?;
-            match table.add(alloc, key, acc) {
-                Ok(()) => Ok(()),
-                Err(AddFault::Memory) => Err(AllocError),
-                Err(AddFault::Full { .. }) => unreachable!(),
-            }
+            table.move_behind(alloc, others)?;
+            put_first(alloc, table, key, acc)?;
+            Ok(())
         }
+    }
+}
+
+// Adds an accumulator to a table that has none.
+fn put_first(alloc: Global, table: &mut Partials, key: Value, acc: Value) -> Result<(), AllocError>
+    requires room { table.old.room ≡ most_keys }
+    requires none { table.old.partials ≡ [] }
+    requires shape { HasShape table.old.comb acc }
+    ensures { OnOk result (table.new ≡ holding table.old ((key, acc) ∷ [])) }
+{
+    match table.add(alloc, key, acc) {
+        Ok(()) => Ok(()),
+        Err(AddFault::Memory) => Err(AllocError),
+        Err(AddFault::Full { .. }) => unreachable!(),
     }
 }

@@ -81,18 +81,7 @@ impl Partials {
                     Err(AddFault::Memory)
                 }
             },
-            None => {
-                if self.table.len() as u64 >= self.room {
-                    return Err(AddFault::Full { key, acc });
-                }
-                match put_last(&mut self.table, key, acc) {
-                    Ok(()) => Ok(()),
-                    Err(AllocError) => {
-                        clear(alloc, &mut self.table);
-                        Err(AddFault::Memory)
-                    }
-                }
-            }
+            None => self.add_new(alloc, key, acc),
         }
     }
 
@@ -114,12 +103,33 @@ impl Partials {
                 }
             },
             None => match key.copy(alloc) {
-                Ok(key) => self.add(alloc, key, acc),
+                Ok(key) => self.add_new(alloc, key, acc),
                 Err(AllocError) => {
                     clear(alloc, &mut self.table);
                     Err(AddFault::Memory)
                 }
             },
+        }
+    }
+
+    // Adds an accumulator of a key that is known to be new, so that it is not looked up again.
+    fn add_new(&mut self, alloc: Global, key: Value, acc: Value) -> Result<(), AddFault>
+        requires shape { HasShape self.old.comb acc }
+        requires absent { IsFalse (has_key key self.old.partials) }
+        ensures added { OnOk result
+            (self.new ≡ holding self.old (added self.old.comb self.old.partials key acc)) }
+        ensures room { OnOk result (length self.old.partials < self.old.room) }
+        ensures refused { IfErr result (IsRefused self.old key acc self.new) }
+    {
+        if self.table.len() as u64 >= self.room {
+            return Err(AddFault::Full { key, acc });
+        }
+        match put_last(&mut self.table, key, acc) {
+            Ok(()) => Ok(()),
+            Err(AllocError) => {
+                clear(alloc, &mut self.table);
+                Err(AddFault::Memory)
+            }
         }
     }
 
@@ -133,6 +143,22 @@ impl Partials {
     {
         let table = replace(&mut self.table, IndexMap::new(alloc));
         listed(alloc, table)
+    }
+
+    /// Moves all that the table has behind others, in order. The table is empty afterwards, and has
+    /// its memory for as many keys again.
+    pub(crate) fn move_behind(
+        &mut self,
+        alloc: Global,
+        others: &mut Vec<Partial>,
+    ) -> Result<(), AllocError>
+        ensures moved { OnOk result
+            (others.new.items ≡ others.old.items ++ self.old.partials) }
+        ensures emptied { OnOk result (self.new ≡ holding self.old []) }
+    {
+        let empty = IndexMap::with_capacity(alloc, self.table.len())?;
+        let table = replace(&mut self.table, empty);
+        append_entries(table, others)
     }
 
     /// All that the table has, keys ascending.
@@ -173,6 +199,18 @@ fn merge_into(alloc: Global, comb: Comb, slot: &mut Value, acc: Value) -> Result
 {
     let old = replace(slot, Value::Bool(false));
     *slot = merge(alloc, comb, old, acc)?;
+    Ok(())
+}
+
+fn append_entries(
+    table: IndexMap<Value, Value>,
+    others: &mut Vec<Partial>,
+) -> Result<(), AllocError>
+    ensures { OnOk result (others.new.items ≡ others.old.items ++ table.entries) }
+{
+    for (key, acc) in table {
+        others.push((key, acc))?;
+    }
     Ok(())
 }
 

@@ -1,9 +1,9 @@
 -- What a phase comes to, by the numbers of its tasks, where an out may be a trap.
-use Rattle.std.specs.Prelude.{◌≡◌, ℕ, ◌+◌, ◌<◌, ◌≤◌, false, List, length, slice_get, Some, Result, Ok, Err, ⊤}
+use Rattle.std.specs.Prelude.{◌≡◌, ℕ, ◌+◌, ◌<◌, ◌≤◌, false, List, length, slice_get, slice_index, Some, Result, Ok, Err}
 use Rattle.flume_collection.specs.declared.trap.Trap.{Trap}
 use Rattle.crew.specs.Hosts.{Account, Passed, SomeHost, places_below}
 use Rattle.crew.specs.Drills.{Settings, attempt_in, is_drilled}
-use Rattle.crew.specs.Phases.{IsLostTask}
+use Rattle.crew.specs.Phases.{IsCut, IsLostTask, IsWork}
 use Rattle.phase_outs.specs.declared.made.PhaseOuts.{PhaseOuts}
 use Rattle.phase_outs.specs.declared.stop.PhaseStop.{PhaseStop}
 use Rattle.phase_outs.specs.declared.stop.PhaseStop.TheVariants as stop
@@ -19,28 +19,37 @@ pub record HasRun (s : Settings) (olds news : List Account) (task places attempt
 
 module _ (tasks : ℕ) (s : Settings) {O : Type 0} (is_value : ℕ → Result O Trap → Type 0)
     (places : ℕ → ℕ) (olds news : List Account) where
-  -- each task has made its out, and the attempt that is named has run
+  -- each task has made its out, and the attempt that is named has run: it has won the task, by the
+  -- board of the phase's work
   pub record AreMade (made : PhaseOuts O) : Type 0 where
     pub count : (length made.outs.items ≡ tasks) × (length made.attempts.items ≡ tasks)
     pub values : (task : ℕ) (out : O) → slice_get made.outs.items task ≡ Some out →
         is_value task (Ok out)
     pub attempts : (task attempt : ℕ) → slice_get made.attempts.items task ≡ Some attempt →
         HasRun s olds news task (places task) attempt
+    pub work : IsWork tasks s places made.attempts.items olds news
 
-  -- the task has made this out or has trapped so, and some attempt of it has run
-  pub record HasMade (task : ℕ) (out : Result O Trap) : Type 0 where
+  -- the task has made this out or has trapped so, and the attempt that has won it has run
+  pub record HasMade (won : List ℕ) (task : ℕ) (out : Result O Trap) : Type 0 where
     pub value : is_value task out
-    pub attempt : ℕ
-    pub ran : HasRun s olds news task (places task) attempt
+    pub ran : HasRun s olds news task (places task) (slice_index won task)
 
   -- each smaller task has made an out
-  abbrev pub AreMadeBelow : ℕ → Type 0
-  AreMadeBelow task = (k : ℕ) → k < task → (out : O) × HasMade k (Ok out)
+  abbrev pub AreMadeBelow : List ℕ → ℕ → Type 0
+  AreMadeBelow won task = (k : ℕ) → k < task → (out : O) × HasMade won k (Ok out)
 
-  -- each smaller task has made an out, and this one has trapped, or no attempt has won it
+  -- the phase has come to this task: by the work of the phase each task was won by this attempt, or
+  -- by none, and each smaller one has made an out
+  pub record HasComeTo (task : ℕ) (won : List ℕ) : Type 0 where
+    pub is_task : task < tasks
+    pub work : IsWork tasks s places won olds news
+    pub below : AreMadeBelow won task
+
+  -- the task to which the phase has come has trapped, or no attempt has won it
   abbrev pub IsStop : PhaseStop → Type 0
   IsStop (stop.Trap task trap) =
-      (task < tasks) × HasMade task (Err trap) × AreMadeBelow task
+      (won : List ℕ) × HasComeTo task won × HasMade won task (Err trap)
   IsStop (stop.GaveUp task) =
-      (task < tasks) × IsLostTask tasks s olds news task × AreMadeBelow task
-  IsStop stop.Memory = ⊤
+      (won : List ℕ) × HasComeTo task won × (slice_index won task ≡ 0)
+      × IsLostTask tasks s olds news task
+  IsStop stop.Memory = IsCut tasks s places olds news

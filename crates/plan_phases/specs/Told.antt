@@ -1,12 +1,12 @@
 -- What a run tells of its phases.
-use Rattle.std.specs.Prelude.{◌≡◌, ℕ, ◌<◌, List, [], ◌∷◌, ◌++◌, length, slice_get, take, Some, ⊤}
+use Rattle.std.specs.Prelude.{◌≡◌, ◌⊎◌, ℕ, ◌<◌, List, [], ◌∷◌, ◌++◌, length, map, slice_get, slice_index, take, Some, ⊤}
 use Rattle.std.specs.List.{AllByRecursion, AllZip}
 use Rattle.outside.specs.declared.host.Phase.{Phase}
 use Rattle.flume_collection.specs.declared.trap.Trap.{Trap}
 use Rattle.crew.specs.declared.drill.Entry.{Entry}
 use Rattle.crew.specs.Drills.{Settings}
 use Rattle.crew.specs.Hosts.{Account}
-use Rattle.crew.specs.Phases.{AreAskedOnce, CanFinish, IsLostTask}
+use Rattle.crew.specs.Phases.{AreAskedOnce, CanFinish, IsLostTask, IsWork, IsWorkSoFar}
 use Rattle.phase_outs.specs.Outs.{HasRun}
 use Rattle.exec_graph.specs.World.{World}
 use Rattle.task_lists.specs.Tasks.{Task, places}
@@ -42,31 +42,60 @@ pub record IsFirstOf (w : World) (phases : List PhaseTasks) (trap : Trap) : Type
 abbrev pub first_tasks : ℕ → PhaseTasks → PhaseTasks
 first_tasks n ph = record { stage = ph.stage; phase = ph.phase; tasks = take n ph.tasks }
 
+-- the attempts that have won the tasks, phase by phase
+abbrev pub attempts_of : List PhaseWinners → List (List ℕ)
+attempts_of winners = map (λ x. x.attempts) winners
+
+-- a task of the phase is asked at as many places as it has
+abbrev pub AsksAt : PhaseTasks → (ℕ → ℕ) → Type 0
+AsksAt ph asks = (k : ℕ) (task : Task) → slice_get ph.tasks k ≡ Some task → asks k ≡ places task
+
 -- how often each task of a run is tried, and the attempts that are lost on purpose
 module _ (tries : ℕ) (drill : List Entry) where
   -- how a phase of the run is run
   abbrev pub settings_of : PhaseTasks → Settings
   settings_of ph = record { stage = ph.stage; phase = ph.phase; tries = tries; drill = drill }
 
-  -- the hosts were asked for places of the phase alone, each task with as many as it has, and for
-  -- each of them at most once
-  pub record AreAsked (ph : PhaseTasks) (olds news : List Account) : Type 0 where
+  -- The hosts were asked for places of the phase alone, each task with as many as it has, and for
+  -- each of them at most once. They were asked in the work of the phase, to its end: by its board
+  -- each task was won by this attempt, or by none, where the number is 0.
+  pub record AreAsked (ph : PhaseTasks) (won : List ℕ) (olds news : List Account) : Type 0 where
     pub asks : ℕ → ℕ
-    pub each : (k : ℕ) (task : Task) → slice_get ph.tasks k ≡ Some task → asks k ≡ places task
+    pub each : AsksAt ph asks
     pub once : AreAskedOnce (length ph.tasks) (settings_of ph) asks olds news
+    pub work : IsWork (length ph.tasks) (settings_of ph) asks won olds news
 
-  -- the hosts were asked for these phases alone, one behind the other, and for each of them once
-  abbrev pub AskedInTurn : List PhaseTasks → List Account → List Account → Type 0
-  AskedInTurn [] olds news = olds ≡ news
-  AskedInTurn (ph ∷ phases) olds news =
-      (mids : List Account) × AreAsked ph olds mids × AskedInTurn phases mids news
+  -- the same, as far as the work came
+  pub record AreAskedSoFar (ph : PhaseTasks) (olds news : List Account) : Type 0 where
+    pub asks : ℕ → ℕ
+    pub each : AsksAt ph asks
+    pub once : AreAskedOnce (length ph.tasks) (settings_of ph) asks olds news
+    pub work : IsWorkSoFar (length ph.tasks) (settings_of ph) asks olds news
 
-  -- the same of a front of these phases, and the hosts were asked for none behind it
+  -- the hosts were asked for these phases alone, one behind the other, each in one work to its end,
+  -- with these winners
+  abbrev pub AskedInTurn : List PhaseTasks → List (List ℕ) → List Account → List Account → Type 0
+  AskedInTurn [] [] olds news = olds ≡ news
+  AskedInTurn [] (won ∷ wins) olds news = ⊥
+  AskedInTurn (ph ∷ phases) [] olds news = ⊥
+  AskedInTurn (ph ∷ phases) (won ∷ wins) olds news =
+      (mids : List Account) × AreAsked ph won olds mids × AskedInTurn phases wins mids news
+
+  -- the hosts were asked for nothing, or for the first of these phases, as far as its work came
+  abbrev pub AskedAtMost : List PhaseTasks → List Account → List Account → Type 0
+  AskedAtMost [] olds news = olds ≡ news
+  AskedAtMost (ph ∷ phases) olds news = (olds ≡ news) ⊎ AreAskedSoFar ph olds news
+
+  -- the hosts were asked for a front of these phases, in turn, and behind it for one more at most,
+  -- as far as its work came
   pub record AskedFront (phases : List PhaseTasks) (olds news : List Account) : Type 0 where
     pub before : List PhaseTasks
     pub behind : List PhaseTasks
     pub whole : before ++ behind ≡ phases
-    pub asked : AskedInTurn before olds news
+    pub wins : List (List ℕ)
+    pub mids : List Account
+    pub asked : AskedInTurn before wins olds mids
+    pub last : AskedAtMost behind mids news
 
   -- the winners are those of the phase: an attempt of each task, all of whose places some host has
   -- let through since
@@ -86,15 +115,16 @@ module _ (tries : ℕ) (drill : List Entry) where
     pub won : AllZip (AreWinners olds news) phases winners
 
   -- the phases have run through since, and their winners were told behind the others; the hosts
-  -- were asked for these phases alone, in turn
+  -- were asked for these phases alone, in turn, and the winners are those of the boards
   pub record HaveRun (w : World) (phases : List PhaseTasks) (olds news : List Account)
       (before after : List PhaseWinners) : Type 0 where
     pub through : RanThrough w phases olds news
     pub told : after ≡ before ++ through.winners
-    pub asked : AskedInTurn phases olds news
+    pub asked : AskedInTurn phases (attempts_of through.winners) olds news
 
   -- the run has come to this task of one of the phases: the phases before it have run through, and
-  -- so have the smaller tasks of its own; the hosts were asked for no phase behind it
+  -- so have the smaller tasks of its own; the hosts were asked for these phases in turn, and for
+  -- none behind them, and the winners are those of the boards
   pub record IsReached (w : World) (phases : List PhaseTasks) (olds news : List Account)
       (here : PhaseTasks) (task : ℕ) : Type 0 where
     pub before : List PhaseTasks
@@ -103,10 +133,13 @@ module _ (tries : ℕ) (drill : List Entry) where
     pub is_task : task < length here.tasks
     pub earlier : RanThrough w before olds news
     pub smaller : RanThrough w (first_tasks task here ∷ []) olds news
-    pub asked : AskedInTurn (before ++ here ∷ []) olds news
+    pub won : List ℕ
+    pub asked : AskedInTurn (before ++ here ∷ []) (attempts_of earlier.winners ++ won ∷ []) olds
+        news
+    pub winners : attempts_of smaller.winners ≡ take task won ∷ []
 
-  -- a task of one of the phases has trapped: the run has come to it, some attempt of it has run,
-  -- and this is its first trap
+  -- a task of one of the phases has trapped: the run has come to it, the attempt that has won it
+  -- has run, and this is its first trap
   pub record HasTrapped (w : World) (phases : List PhaseTasks) (olds news : List Account)
       (trap : Trap) : Type 0 where
     pub here : PhaseTasks
@@ -115,16 +148,17 @@ module _ (tries : ℕ) (drill : List Entry) where
     pub task : Task
     pub at : slice_get here.tasks number ≡ Some task
     pub is : IsFirstTrap w task trap
-    pub attempt : ℕ
-    pub ran : HasRun (settings_of here) olds news number (places task) attempt
+    pub ran : HasRun (settings_of here) olds news number (places task)
+        (slice_index reached.won number)
 
-  -- a task of one of the phases was given up: the run has come to it, and the drill and the losses
-  -- of the hosts since account for each of its tries
+  -- a task of one of the phases was given up: the run has come to it, no attempt has won it, and
+  -- the drill and the losses of the hosts since account for each of its tries
   pub record IsGivenUp (w : World) (phases : List PhaseTasks) (olds news : List Account)
       (stage : ℕ) (phase : Phase) (task : ℕ) : Type 0 where
     pub here : PhaseTasks
     pub named : (here.stage ≡ stage) × (here.phase ≡ phase)
     pub reached : IsReached w phases olds news here task
+    pub none : slice_index reached.won task ≡ 0
     pub lost : IsLostTask (length here.tasks) (settings_of here) olds news task
 
   -- the run of the phases has stopped: where no memory was found, behind some front of them

@@ -8,8 +8,9 @@
 //! Phases that have run tell of each task which attempt has won it (`HaveRun`, `PhaseWinners`), and
 //! where a run stops it names the first trap or the task that was given up (`IsStopped`,
 //! `RunFault`): all phases and tasks before have run without a trap (`IsReached`, specs/Told.antt).
-//! The hosts were asked for these phases alone, one behind the other (`AskedInTurn`), and for none
-//! behind the one where it stops (`AskedFront`).
+//! The hosts were asked for these phases alone, one behind the other, each in one work of the crew,
+//! whose board names the winners (`AskedInTurn`), and for none behind the one where it stops
+//! (`AskedFront`).
 #![tactic(auto)]
 
 mod fault;

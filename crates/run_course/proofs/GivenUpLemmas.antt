@@ -18,7 +18,7 @@ each_at P [] here behind all = all.0
 each_at P (x ∷ before) here behind all = each_at P before here behind all.1
 
 -- losses that rose so much rose by less
-risen_less : (m n : ℕ) (olds news : List Account) → m ≤ n → HaveRisen n olds news
+pub risen_less : (m n : ℕ) (olds news : List Account) → m ≤ n → HaveRisen n olds news
     → HaveRisen m olds news
 risen_less m n olds news less (inl risen) = inl (omega arith)
 risen_less m n olds news less (inr full) = inr full

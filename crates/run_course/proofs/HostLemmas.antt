@@ -1,5 +1,5 @@
 -- What a call asks hosts for, by what comes of it.
-use Rattle.std.proofs.Common.{◌≡◌, ℕ, zero, suc, inl, inr, List, [], ◌∷◌, drop, map, Result, Ok, Err, IfErr, refl, sym, ap, ◌∙◌, subst}
+use Rattle.std.proofs.Common.{◌≡◌, ℕ, zero, suc, inl, inr, List, [], ◌∷◌, drop, length, map, Result, Ok, Err, IfErr, refl, sym, ap, ◌∙◌, subst}
 use Rattle.command_words.specs.declared.words.Command.{Command}
 use Rattle.command_words.specs.declared.words.Command.TheVariants.{Run}
 use Rattle.crew.specs.Hosts.{Account}
@@ -52,11 +52,12 @@ module _ (s : RunSettings) (script : Script) (rows : List (List Value)) (plan : 
 pub run_asks : {T : Type 0} (s : RunSettings) (told : Told) (olds news : List Account)
     (script : Script) (rows : List (List Value)) (plan : Plan) (r : Result T Stop)
     → AllHaveRows told (inputs_of script) rows → IsScriptPlan script plan
+    → plan.sources ≡ length rows
     → IfErr r (IsRunStop s script rows plan (lent s olds) (lent s news))
     → AsksSomePhases s (phases_of s script rows plan) (lent s olds) (lent s news)
     → drop s.workers news ≡ drop s.workers olds
     → AsksHostsUntil (Run s) told script olds news r
-run_asks s told olds news script rows plan r have is stops asked others =
+run_asks s told olds news script rows plan r have is sources stops asked others =
     inr (
       may_stop s script rows plan (lent s olds) (lent s news) r stops,
       (
@@ -67,6 +68,7 @@ run_asks s told olds news script rows plan r have is stops asked others =
           plan = plan;
           inputs = have;
           is = is;
+          sources = sources;
           asked = asked;
           others = others;
         },

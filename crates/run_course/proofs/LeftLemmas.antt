@@ -34,21 +34,21 @@ none_left : (files : List NamedBytes) (left : ℕ) → left_after files false le
 none_left [] left = refl
 none_left (file ∷ files) left = refl
 
-begun_then : (files : List NamedBytes) (before after : SeenShelf) → before.begun ≡ false
+pub begun_then : (files : List NamedBytes) (before after : SeenShelf) → before.begun ≡ false
     → after.begun ≡ begun_after files before.begun → after.begun ≡ false
 begun_then files before after none is = is ∙ (ap (begun_after files) none ∙ none_begun files)
 
-left_then : (files : List NamedBytes) (before after : SeenShelf) → before.begun ≡ false
+pub left_then : (files : List NamedBytes) (before after : SeenShelf) → before.begun ≡ false
     → after.left ≡ left_after files before.begun before.left
     → after.left ≡ before.left
 left_then files before after none is = is ∙ (ap (λ b. left_after files b before.left) none
     ∙ none_left files before.left)
 
-same_begun : (before after : SeenShelf) → before.begun ≡ false → after ≡ before
+pub same_begun : (before after : SeenShelf) → before.begun ≡ false → after ≡ before
     → after.begun ≡ false
 same_begun before after none same = ap (λ (s : SeenShelf). s.begun) same ∙ none
 
-same_left : (before after : SeenShelf) → after ≡ before → after.left ≡ before.left
+pub same_left : (before after : SeenShelf) → after ≡ before → after.left ≡ before.left
 same_left before after same = ap (λ (s : SeenShelf). s.left) same
 
 pub ended : (words : Words) (before after : World) (status : Status) → before.shelf.begun ≡ false

@@ -1,5 +1,5 @@
 -- What a call asks hosts for.
-use Rattle.std.specs.Prelude.{◌≡◌, ◌⊎◌, ℕ, List, Option, drop, ⊤}
+use Rattle.std.specs.Prelude.{◌≡◌, ◌⊎◌, ℕ, List, Option, drop, length, ⊤}
 use Rattle.command_words.specs.declared.words.Command.TheVariants.{Run}
 use Rattle.crew.specs.Hosts.{Account}
 use Rattle.direct_meaning.specs.Inputs.{inputs_of}
@@ -16,15 +16,17 @@ use Rattle.script_run.specs.Runs.{AsksSomePhases, phases_of}
 use Rattle.run_course.specs.Asked.{Reads}
 use Rattle.run_course.specs.Lent.{lent}
 
--- The needed inputs of the script have rows. Of the phases of its plan over them some front was
--- asked for, one phase behind the other: the hosts that the run lends were asked for its places
--- alone, for each at most once, and the other hosts are as before.
+-- The needed inputs of the script have rows, and there is a list of them for each source of its
+-- plan. Of the phases of the plan over them some front was asked for, one phase behind the other:
+-- the hosts that the run lends were asked for its places alone, for each at most once, in the work
+-- of each phase, of which the last may have come not to its end; and the other hosts are as before.
 pub record AsksInRun (s : RunSettings) (told : Option (List File)) (script : Script)
     (before after : List Account) : Type 0 where
   pub rows : List (List Value)
   pub plan : Plan
   pub inputs : AllHaveRows told (inputs_of script) rows
   pub is : IsScriptPlan script plan
+  pub sources : plan.sources ≡ length rows
   pub asked : AsksSomePhases s (phases_of s script rows plan) (lent s before) (lent s after)
   pub others : drop s.workers after ≡ drop s.workers before
 

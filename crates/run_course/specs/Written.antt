@@ -80,12 +80,13 @@ ShowsPlan form script text =
 -- ---- runs
 
 -- each task of the plan was run over these rows: of each phase there are winners, and the hosts
--- were asked for these phases alone, one behind the other
+-- were asked for these phases alone, one behind the other, each in one work, by whose board these
+-- are the winners
 abbrev pub AllTasksRan : RunSettings → Script → List (List Value) → Plan → List Account
     → List Account → Type 0
 AllTasksRan s script rows plan olds news =
     (winners : List PhaseWinners) × WereRun s (phases_of s script rows plan) olds news winners
-    × AsksAllPhases s (phases_of s script rows plan) olds news
+    × AsksAllPhases s (phases_of s script rows plan) winners olds news
 
 -- What a run writes and leaves: the files of its script's direct meaning; its graph and its plan,
 -- the sizes of its collections and `done`. Each task of the plan was run on the lent hosts.

@@ -138,8 +138,8 @@ fn prepare<X: Threads + Sync, R: Source, H: Host + Send>(
     carried_out(rt, alloc, &asked.command, &program, source, hosts)
 }
 
-// Writes the files, and then the text of the screen.
-fn deliver<K: Shelf, P: Screen>(written: Written, shelf: &mut K, screen: &mut P) -> Status
+/// Writes the files, and then the text of the screen. It takes no memory.
+pub fn deliver<K: Shelf, P: Screen>(written: Written, shelf: &mut K, screen: &mut P) -> Status
     ensures delivered { Delivers (map output_file written.outputs.items) written.screen.items
         (seen_shelf K.files K.begun K.left K.faults shelf.old)
         (seen_shelf K.files K.begun K.left K.faults shelf.new)

@@ -16,5 +16,8 @@ mod running;
 mod showing;
 mod stop;
 
-pub use course::run;
+pub use course::{deliver, run};
+pub use files::{Written, file_of};
 pub use limits::TRIES;
+pub use running::ran_on;
+pub use showing::{ShownPlan, plan_shown};

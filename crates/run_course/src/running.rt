@@ -70,8 +70,8 @@ pub fn written_run<X: Threads + Sync, H: Host + Send>(
     }
 }
 
-// The run of a plan on the first hosts, one for each worker.
-fn ran_on<X: Threads + Sync, H: Host + Send>(
+/// The run of a plan on the first hosts, one for each worker.
+pub fn ran_on<X: Threads + Sync, H: Host + Send>(
     rt: &X,
     alloc: Global,
     program: &Program,

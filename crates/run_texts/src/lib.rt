@@ -2,9 +2,11 @@
 #![tactic(auto)]
 
 mod lines;
+mod made;
 mod sizes;
 mod status;
 
 pub use lines::{tell, tell_trap};
+pub use made::made_line;
 pub use sizes::push_size;
 pub use status::{Place, Status};

@@ -6,6 +6,7 @@ use csv_rows::RowKind;
 use flume_grammar::ScriptKind;
 use flume_value::{Kind, Str, Value};
 use outside::Phase;
+use std::alloc::AllocError;
 
 /// Where a write failed.
 #[derive(Debug, Drop)]
@@ -88,5 +89,16 @@ impl Status {
             Status::TooLong { .. } => 10,
             Status::NoFile { .. } => 11,
         }
+    }
+}
+
+impl From<AllocError> for Status {
+    ghost use Rattle.std.specs.Prelude.{◌≡◌};
+    ghost use Rattle.run_texts.specs.declared.status.Status.TheVariants.{WantOfMemory};
+
+    ghost from_gives = { λ _ status. status ≡ WantOfMemory };
+
+    fn from(_e: AllocError) -> Status {
+        Status::WantOfMemory
     }
 }

@@ -1,3 +1,6 @@
 pub mod CheckedLemmas
+pub mod FoundLemmas
 pub mod CountLemmas
+pub mod EntryLemmas
 pub mod NameLemmas
+pub mod TurnLemmas

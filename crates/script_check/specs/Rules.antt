@@ -1,17 +1,20 @@
 -- The rules of statements, each tried in order; the first fault with the line on which its
 -- statement begins.
-use Rattle.std.specs.Prelude.{◌+◌, ◌==◌, ℕ, List, [], ◌∷◌, ◌++◌, nat_le, nat_lt, not, Option}
-use Rattle.std.specs.Prelude.{Some, None, Ok, length}
+use Rattle.std.specs.Prelude.{◌+◌, ◌*◌, ◌==◌, ◌&&◌, ℕ, Bool, true, false, List, [], ◌∷◌, ◌++◌}
+use Rattle.std.specs.Prelude.{nat_le, nat_lt, not, Option, Some, None, Ok, length, map, drop}
 use Rattle.std.specs.List.{list_any}
 use Rattle.std.specs.Map.{keys_of}
 use Rattle.std.specs.Str.{bytes_eq}
 use Rattle.flume_types.specs.declared.types.Ty.{Ty}
 use Rattle.flume_types.specs.Columns.{columns_of, input_columns_of}
+use Rattle.flume_types.specs.Equality.{type_eq}
 use Rattle.flume_grammar.specs.declared.tree.Type as tree
 use Rattle.flume_grammar.specs.declared.tree.Form.{Form}
 use Rattle.flume_grammar.specs.declared.tree.Form.TheVariants as form
 use Rattle.flume_grammar.specs.declared.tree.Function.{Function as Written}
 use Rattle.flume_grammar.specs.declared.tree.Operation.{Operation}
+use Rattle.flume_grammar.specs.declared.tree.Repeat.{Repeat as WrittenRepeat}
+use Rattle.flume_grammar.specs.declared.tree.TurnLet.{TurnLet}
 use Rattle.flume_grammar.specs.declared.tree.Statement.{Statement}
 use Rattle.flume_grammar.specs.declared.fault.ScriptKind.TheVariants.{TooMany, NotFlat, NoOutput}
 use Rattle.flume_grammar.specs.declared.fault.ScriptKind.TheVariants.{BadNumber, Mistyped, Twice}
@@ -23,10 +26,12 @@ use Rattle.script_program.specs.Limits.{most_collections, most_files, most_funct
 use Rattle.script_program.specs.Limits.{most_outputs}
 use Rattle.script_program.specs.declared.made.Made.TheVariants as made
 use Rattle.expression_check.specs.Numbers.{number_within}
-use Rattle.script_program.specs.Script.{Making, Script, Signature, State, function_from, nothing}
-use Rattle.script_program.specs.Script.{script_from, with_function, with_node, with_nodes}
-use Rattle.script_program.specs.Script.{with_output, with_statement, with_type}
-use Rattle.operation_check.specs.Operations.{collection, made_by}
+use Rattle.script_program.specs.Script.{Making, Operand, Script, Signature, State, function_from}
+use Rattle.script_program.specs.Script.{nothing, script_from, with_copies, with_front}
+use Rattle.script_program.specs.Script.{with_function, with_given, with_hidden, with_node}
+use Rattle.script_program.specs.Script.{with_nodes, with_output, with_statement, with_type}
+use Rattle.operation_check.specs.Operations.{collection, collections_behind, made_by, numbers}
+use Rattle.script_check.specs.Repeats.{Repeat, last_gives, unrolled}
 
 -- each fault is told on this line
 module _ (line : ℕ) where
@@ -109,27 +114,146 @@ module _ (line : ℕ) where
     same ← unless line Mistyped (length makings == count)
     all_shallow makings
 
-  abbrev pub rule_let : List (List ℕ) → Operation → State → Checked State
-  rule_let names by s = do
-    few ← room (length names) most_collections s.nodes
+  -- a let, where there is room for what it names
+  abbrev pub named : List (List ℕ) → Operation → State → Checked State
+  named names by s = do
     new ← all_fresh (keys_of s.names) names
     makings ← made_by line by s
     fit ← all_fit (length names) makings
     Ok (with_nodes names makings s)
 
+  abbrev pub rule_let : List (List ℕ) → Operation → State → Checked State
+  rule_let names by s = do
+    few ← room (length names) most_collections s.nodes
+    named names by s
+
+-- ---- a let with repeat
+
+-- the lets of a body, each on its own line; whether there is room for its turns is told behind them
+abbrev pub all_named : List TurnLet → State → Checked State
+all_named [] s = Ok s
+all_named (it ∷ lets) s = do
+  next ← named it.line it.names it.by s
+  all_named lets next
+
+-- what enters a repeat's first turn, and how many turns it has
+pub record Entry : Type 0 where
+  pub from : List Operand
+  pub turns : ℕ
+
+-- what enters a turn is called so in the body: a collection of its own, which is that one
+abbrev pub entered : Operand → Making
+entered one = record { made = made.Flatten (one.number ∷ []); type = one.type }
+
+-- before the body: the let's names are taken, and what enters has its names
+abbrev pub with_entry : List (List ℕ) → List (List ℕ) → List Operand → State → State
+with_entry names entering from s =
+    with_nodes entering (map entered from) (with_hidden names s)
+
+-- as many names in each place as in front of the `=`
+abbrev pub as_many : ℕ → WrittenRepeat → Bool
+as_many count written =
+    length written.from == count
+    && (length written.entering == count && length written.gives == count)
+
+-- as many collections, each of the type of the other
+abbrev pub alike : List Operand → List Operand → Bool
+alike [] [] = true
+alike [] (other ∷ given) = false
+alike (one ∷ from) [] = false
+alike (one ∷ from) (other ∷ given) = type_eq one.type other.type && alike from given
+
+-- the repeat of what enters it and of what its body gives: so many collections stand outside it,
+-- and so many in front of the body's lets
+abbrev pub repeat_from : Entry → List ℕ → ℕ → ℕ → State → Repeat
+repeat_from entry gives outside front body = record {
+  outside = outside;
+  turns = entry.turns;
+  from = numbers entry.from;
+  body = drop front body.nodes;
+  gives = gives;
+}
+
+-- a repeat, and what is defined behind its body, but for the body's own collections
+pub record Repeated : Type 0 where
+  pub repeat : Repeat
+  pub behind : State
+
+-- Behind a repeat its turns stand in place of its body. Of the names from that place on the let's
+-- stand for what the last turn gives, and those of the body for nothing.
+abbrev pub with_repeat : Repeat → ℕ → State → State
+with_repeat repeat first s =
+    with_given first (last_gives repeat) (with_copies (unrolled repeat) s)
+
+-- each fault is told on this line, but for those of a body's lets
+module _ (line : ℕ) where
+  abbrev pub entry_of : List (List ℕ) → WrittenRepeat → State → Checked Entry
+  entry_of names written s = do
+    new ← all_fresh line (keys_of s.names) names
+    free ← all_fresh line (keys_of (with_hidden names s).names) written.entering
+    from ← collections_behind line [] written.from (with_hidden names s)
+    turns ← or_fault line BadNumber (number_within 1 256 written.turns)
+    many ← unless line Mistyped (as_many (length names) written)
+    Ok (record { from = from; turns = turns })
+
+  -- the collections of these names, each of the type of the one that enters
+  abbrev pub gives_of : List (List ℕ) → List Operand → State → Checked (List ℕ)
+  gives_of names from body = do
+    given ← collections_behind line [] names body
+    same ← unless line Mistyped (alike from given)
+    Ok (numbers given)
+
+  -- room for so many turns of so many lets
+  abbrev pub room_for : ℕ → ℕ → ℕ → Checked (Unit {0})
+  room_for outside turns lets =
+      unless line TooMany (nat_le (outside + turns * lets) most_collections)
+
+  abbrev pub repeat_of : List (List ℕ) → Entry → ℕ → ℕ → State → Checked Repeat
+  repeat_of names entry outside front body = do
+    gives ← gives_of names entry.from body
+    few ← room_for outside entry.turns (length (drop front body.nodes))
+    Ok (repeat_from entry gives outside front body)
+
+  -- behind what enters: the lets of the body, and what it gives
+  abbrev pub after_entry : List TurnLet → List (List ℕ) → Entry → ℕ → State → Checked Repeated
+  after_entry lets gives entry outside s = do
+    body ← all_named lets s
+    repeat ← repeat_of gives entry outside (length s.nodes) body
+    Ok (record { repeat = repeat; behind = with_front outside body })
+
+  -- the body of a repeat, behind what enters it
+  abbrev pub after_head : List (List ℕ) → WrittenRepeat → Entry → State → Checked Repeated
+  after_head names written entry s =
+      after_entry written.lets written.gives entry (length s.nodes)
+      (with_entry names written.entering entry.from s)
+
+  abbrev pub repeated : List (List ℕ) → WrittenRepeat → State → Checked Repeated
+  repeated names written s = do
+    entry ← entry_of names written s
+    after_head names written entry s
+
+  abbrev pub rule_repeat : List (List ℕ) → WrittenRepeat → State → Checked State
+  rule_repeat names written s = do
+    it ← repeated names written s
+    Ok (with_repeat it.repeat (length s.names) it.behind)
+
+-- ---- statements
+
+module _ (line : ℕ) where
   abbrev pub rule_output : List ℕ → List ℕ → State → Checked State
   rule_output name file s = do
-    few ← room 1 most_files s.outputs
+    few ← room line 1 most_files s.outputs
     one ← collection line name s
     columns ← or_fault line NotFlat (columns_of one.type)
     new ← fresh line file s.outputs
     Ok (with_output file (record { name = name; reads = one.number; columns = columns }) s)
 
   abbrev pub rule : Form → State → Checked State
-  rule (form.Type name type) s = rule_type name type s
-  rule (form.Input name type file) s = rule_input name type file s
-  rule (form.Function function) s = rule_function function s
-  rule (form.Let names by) s = rule_let names by s
+  rule (form.Type name type) s = rule_type line name type s
+  rule (form.Input name type file) s = rule_input line name type file s
+  rule (form.Function function) s = rule_function line function s
+  rule (form.Let names by) s = rule_let line names by s
+  rule (form.Repeat names written) s = rule_repeat line names written s
   rule (form.Output name file) s = rule_output name file s
 
 -- what statements define in order, behind those that made this state

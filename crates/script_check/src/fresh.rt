@@ -1,4 +1,5 @@
 // Two rules of each definition: there is room for it, and its name is new.
+ghost use Rattle.flume_grammar.specs.declared.fault.ScriptKind.TheVariants.{TooMany};
 ghost use Rattle.std.specs.Prelude.{◌≡◌, ◌+◌, false, nat_le, not, OnOk};
 ghost use Rattle.written_types.specs.Answer.{Gives, unless};
 
@@ -7,7 +8,7 @@ use written_types::refused;
 
 /// Room for so many more.
 pub fn room(line: u32, more: usize, count: usize, limit: usize) -> Result<(), ScriptFault>
-    ensures { Gives (λ _. tt) result (unless line ScriptKind.TooMany (nat_le (count + more) limit)) }
+    ensures { Gives (λ _. tt) result (unless line TooMany (nat_le (count + more) limit)) }
 {
     if count <= limit && more <= limit - count {
         Ok(())

@@ -3,23 +3,41 @@ ghost use Rattle.std.specs.Prelude.{◌≡◌, ◌<◌, ◌++◌, length, map, I
 ghost use Rattle.std.specs.List.{All, list_any};
 ghost use Rattle.std.specs.Map.{keys_of};
 ghost use Rattle.std.specs.Str.{bytes_eq};
+ghost use Rattle.type_table.specs.Table.{Extends};
 ghost use Rattle.written_types.specs.Answer.{Gives};
 ghost use Rattle.script_program.specs.Program.{making_in};
 ghost use Rattle.script_program.specs.Script.{with_nodes};
 ghost use Rattle.script_check.specs.Rules as spec;
 ghost use Rattle.script_check.specs.inner.Names.{AreNew};
 
-use crate::fresh::{fresh, room};
+use crate::fresh::fresh;
 use flume_grammar::{Operation, ScriptFault, ScriptKind};
 use flume_value::{Pile, Str};
 use operation_check::made_by;
-use script_program::{MOST_COLLECTIONS, Making, State};
+use script_program::{Making, State};
 use std::alloc::{AllocError, Global};
 use type_table::Types;
 use written_types::{refused, shallow};
 
+/// A let, where there is room for what it names.
+pub fn add_let(
+    alloc: Global,
+    line: u32,
+    names: Pile<Str>,
+    by: &Operation,
+    state: &mut State,
+) -> Result<(), ScriptFault>
+    ensures gives { Gives (λ _. state.new.state) result
+        (spec.named line names by.now state.old.state) }
+    ensures extends { Extends state.old.types state.new.types }
+{
+    let makings = makings_for(alloc, line, names.as_slice(), by, state)?;
+    add_all(alloc, names, makings, state)?;
+    Ok(())
+}
+
 /// The collections that these names may stand for, one for each.
-pub fn makings_for(
+fn makings_for(
     alloc: Global,
     line: u32,
     names: &[Str],
@@ -28,13 +46,13 @@ pub fn makings_for(
 ) -> Result<Pile<Making>, ScriptFault>
     ensures gives { Gives (λ makings. with_nodes names.now
         (map (making_in state.new.types) makings) state.old.state) result
-        (spec.rule_let line names.now by.now state.old.state) }
+        (spec.named line names.now by.now state.old.state) }
     ensures new { IfOk result (λ makings. AreNew names.now
         (map (making_in state.new.types) makings) state.old.state) }
     ensures within { IfOk result (All (λ making. making.ty < length state.new.types)) }
+    ensures extends { Extends state.old.types state.new.types }
     ensures state { state.new.state ≡ state.old.state }
 {
-    room(line, names.len(), state.node_count(), MOST_COLLECTIONS)?;
     all_fresh(line, names, state)?;
     let makings = made_by(alloc, line, by, state)?;
     all_fit(line, names.len(), makings.as_slice(), state.types())?;
@@ -50,8 +68,9 @@ pub fn add_all(
 ) -> Result<(), AllocError>
     requires new { AreNew names (map (making_in state.old.types) makings) state.old.state }
     requires within { All (λ making. making.ty < length state.old.types) makings }
-    ensures { OnOk result (state.new.state
+    ensures state { OnOk result (state.new.state
         ≡ with_nodes names (map (making_in state.old.types) makings) state.old.state) }
+    ensures types { state.new.types ≡ state.old.types }
 {
     for (name, making) in names.into_vec().into_iter().zip(makings.into_vec()) {
         state.add_node(alloc, name, making)?;
@@ -60,7 +79,7 @@ pub fn add_all(
 }
 
 /// Names that stand for nothing yet, none of them twice.
-fn all_fresh(line: u32, names: &[Str], state: &State) -> Result<(), ScriptFault>
+pub fn all_fresh(line: u32, names: &[Str], state: &State) -> Result<(), ScriptFault>
     ensures { Gives (λ _. tt) result
         (spec.all_fresh line (keys_of state.now.state.names) names.now) }
 {

@@ -4,6 +4,10 @@
 //! exactly as `specs/Rules.antt` defines: statement by statement, each by its rules in order. The
 //! rules of operations stand in operation_check, and those of types in written_types. What the
 //! statements define is a program of script_program.
+//!
+//! A repeat's body is checked once, behind the collections outside it and those that enter a turn.
+//! Its turns are collections of the script, a copy of the body for each, as `specs/Repeats.antt`
+//! defines: a program knows no repeat.
 #![tactic(auto)]
 
 mod checks;
@@ -11,9 +15,12 @@ mod fresh;
 mod inputs;
 mod lets;
 mod outputs;
+mod renumbering;
+mod repeats;
 mod rules;
 mod scales;
 mod signatures;
+mod turns;
 
 pub use checks::check;
 pub use script_program::{Function, Made, Node, Output, Program, Signature};

@@ -6,14 +6,15 @@ ghost use Rattle.written_types.specs.Named.{find};
 ghost use Rattle.script_program.specs.Script.{with_type};
 ghost use Rattle.script_check.specs.Rules as spec;
 
-use crate::fresh::fresh;
+use crate::fresh::{fresh, room};
 use crate::inputs::{rows_for, rows_of};
-use crate::lets::{add_all, makings_for};
+use crate::lets::add_let;
 use crate::outputs::{output_of, read_for};
+use crate::repeats::rule_repeat;
 use crate::signatures::checked;
 use flume_grammar::{Form, Function as Written, Operation, ScriptFault, Statement, Type};
 use flume_value::{Pile, Str};
-use script_program::State;
+use script_program::{MOST_COLLECTIONS, State};
 use std::alloc::Global;
 use type_table::TypeId;
 use written_types::shallow;
@@ -29,6 +30,7 @@ pub fn rule(alloc: Global, statement: Statement, state: &mut State) -> Result<()
         Form::Input(name, ty, file) => rule_input(alloc, line, name, &ty, file, state),
         Form::Function(function) => rule_function(alloc, line, function, state),
         Form::Let(names, by) => rule_let(alloc, line, names, &by, state),
+        Form::Repeat(names, written) => rule_repeat(alloc, line, names, written, state),
         Form::Output(name, file) => rule_output(alloc, line, name, file, state),
     }
 }
@@ -107,9 +109,8 @@ fn rule_let(
     ensures { Gives (λ _. state.new.state) result
         (spec.rule_let line names by.now state.old.state) }
 {
-    let makings = makings_for(alloc, line, names.as_slice(), by, state)?;
-    add_all(alloc, names, makings, state)?;
-    Ok(())
+    room(line, names.len(), state.node_count(), MOST_COLLECTIONS)?;
+    add_let(alloc, line, names, by, state)
 }
 
 fn rule_output(

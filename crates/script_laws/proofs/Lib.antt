@@ -1,8 +1,15 @@
 pub mod PlaceLemmas
+pub mod MemberLemmas
 pub mod TypeLemmas
 pub mod FitLemmas
+pub mod OperandLemmas
 pub mod OperationLemmas
 pub mod NewLemmas
 pub mod CallLemmas
+pub mod BodyLemmas
+pub mod StandLemmas
+pub mod FittingLemmas
+pub mod CopyLemmas
+pub mod RepeatLemmas
 pub mod RuleLemmas
 pub mod NeededLemmas

@@ -1,10 +1,9 @@
 -- Each statement's rules keep what is well formed so far.
-use Rattle.std.proofs.Common.{◌≡◌, ◌⊎◌, inl, inr, ℕ, ◌+◌, ◌<◌, ◌≤◌, eqb, nat_le, nat_lt, List, []}
+use Rattle.std.proofs.Common.{◌≡◌, ℕ, ◌+◌, ◌<◌, ◌≤◌, nat_le, nat_lt, List, []}
 use Rattle.std.proofs.Common.{◌∷◌, ◌++◌, length, map, Ok, refl, sym, ap, ◌∙◌, subst, arith}
 use Rattle.std.proofs.Common.{length-append}
 use Rattle.std.specs.List.{All}
-use Rattle.std.specs.Map.{keys_of}
-use Rattle.std.proofs.lemmas.Bool.{eqb-true, leb-true}
+use Rattle.std.proofs.lemmas.Bool.{leb-true}
 use Rattle.std.proofs.lemmas.List.{map-append}
 use Rattle.std.proofs.lemmas.Bool.Decides.{Decides-ltb}
 use Rattle.std.proofs.lemmas.List.Elements.{All-push, All-nil}
@@ -15,9 +14,9 @@ use Rattle.flume_grammar.specs.declared.tree.Form.{Form}
 use Rattle.flume_grammar.specs.declared.tree.Form.TheVariants as form
 use Rattle.flume_grammar.specs.declared.tree.Function.{Function as WrittenFunction}
 use Rattle.flume_grammar.specs.declared.tree.Operation.{Operation}
+use Rattle.flume_grammar.specs.declared.tree.Repeat.{Repeat as WrittenRepeat}
 use Rattle.flume_grammar.specs.declared.tree.Statement.{Statement}
 use Rattle.flume_grammar.specs.declared.fault.ScriptKind.TheVariants.{NotFlat, NoOutput, TooMany}
-use Rattle.flume_grammar.specs.declared.fault.ScriptKind.TheVariants.{Mistyped}
 use Rattle.written_types.specs.Answer.{unless, or_fault}
 use Rattle.written_types.specs.Named.{Named, fresh}
 use Rattle.written_types.specs.Written.{whole_type}
@@ -26,19 +25,22 @@ use Rattle.script_program.specs.Limits.{most_collections, most_files, most_funct
 use Rattle.script_program.specs.declared.made.Made.TheVariants as made
 use Rattle.script_program.specs.declared.made.Output.{Output}
 use Rattle.script_program.specs.Script.{Function, Making, Node, Script, Signature, State, nothing}
-use Rattle.script_program.specs.Script.{node_from, script_from, with_node, with_nodes}
+use Rattle.script_program.specs.Script.{node_from, script_from, with_node}
 use Rattle.script_program.specs.Script.{with_statement}
-use Rattle.operation_check.specs.Operations.{collection, made_by}
+use Rattle.operation_check.specs.Operations.{collection}
+use Rattle.script_check.specs.Repeats.{unrolled}
 use Rattle.script_check.specs.Rules as spec
 use Rattle.script_check.proofs.CheckedLemmas.{both, holds, there, ok-same}
 use Rattle.script_laws.specs.WellFormed.{Fits, AllFit, HasColumns, HasOutputs, IsCallOf, IsWellTyped}
 use Rattle.script_laws.specs.WellFormed.{IsWellFormed}
 use Rattle.script_laws.proofs.FitLemmas.{all-fit-more, fit-append, outputs-kept}
-use Rattle.script_laws.proofs.OperationLemmas.{IsAlone, AreOutputs, is-read, made-is}
-use Rattle.script_laws.proofs.NewLemmas.{named, how_made, how_making, nodes-are, functions-are}
-use Rattle.script_laws.proofs.NewLemmas.{outputs-are, named-few, named-made, alone-fits, outputs-fit}
-use Rattle.script_laws.proofs.CallLemmas.{Stands, CallsStand, calls-more, calls-push, calls-outputs}
-use Rattle.script_laws.proofs.CallLemmas.{other-no-call}
+use Rattle.script_laws.proofs.OperandLemmas.{is-read}
+use Rattle.script_laws.proofs.NewLemmas.{how_made}
+use Rattle.script_laws.proofs.BodyLemmas.{has-named}
+use Rattle.script_laws.proofs.CallLemmas.{Stands, CallsStand, calls-more, calls-push}
+use Rattle.script_laws.proofs.CopyLemmas.{calls-joined, turns-stand}
+use Rattle.script_laws.proofs.FittingLemmas.{unrolled-fits}
+use Rattle.script_laws.proofs.RepeatLemmas.{has-turns, turns-long}
 
 -- what is defined so far is well formed
 record IsGood (s : State) : Type 0 where
@@ -49,18 +51,21 @@ record IsGood (s : State) : Type 0 where
   pub outputs : All (λ (entry : List ℕ × Output). HasColumns s.nodes entry.1) s.outputs
   pub few : length s.nodes ≤ most_collections
 
--- what is as good as before, with more nodes, where there is room for them
-nodes-more : (line room_for : ℕ) (u : Unit {0}) (s after : State) (more : Named Node) → IsGood s
-    → spec.room line room_for most_collections s.nodes ≡ Ok u → length more ≤ room_for
-    → AllFit s.functions s.nodes more → CallsStand s.functions (map how_made (s.nodes ++ more))
+-- where there is room for so many more, there is
+has-room : {A : Type 0} (line more limit : ℕ) (names : Named A) (u : Unit {0})
+    → spec.room line more limit names ≡ Ok u → length names + more ≤ limit
+has-room line more limit names u room =
+    leb-true (length names + more) limit (holds line TooMany _ u room)
+
+-- what is as good as before, with more nodes, where they are not too many
+nodes-more : (s after : State) (more : Named Node) → IsGood s → AllFit s.functions s.nodes more
+    → CallsStand s.functions (map how_made s.nodes ++ map how_made more)
     → after.nodes ≡ s.nodes ++ more → after.functions ≡ s.functions → after.outputs ≡ s.outputs
-    → IsGood after
-nodes-more line room_for u s after more good room many fits calls nodes functions outputs =
-    let below =
-    leb-true (length s.nodes + room_for) most_collections
-    (holds line TooMany _ u room) in
+    → length after.nodes ≤ most_collections → IsGood after
+nodes-more s after more good fits calls nodes functions outputs few =
     let all = fit-append s.functions [] s.nodes more good.nodes fits in
     let kept = outputs-kept s.nodes more s.outputs good.outputs in
+    let mades = map-append how_made s.nodes more in
     record {
       functions =
           subst (All (λ (entry : List ℕ × Function). IsWellTyped entry.1)) (sym functions)
@@ -73,7 +78,8 @@ nodes-more line room_for u s after more good room many fits calls nodes function
           (subst (λ fs. AllFit fs [] (s.nodes ++ more)) (sym functions) all);
       calls =
           subst (λ all. CallsStand after.functions (map how_made all)) (sym nodes)
-          (subst (λ fs. CallsStand fs (map how_made (s.nodes ++ more))) (sym functions) calls);
+          (subst (λ fs. CallsStand fs (map how_made (s.nodes ++ more))) (sym functions)
+          (subst (CallsStand s.functions) (sym mades) calls));
       outputs =
           subst
           (λ all. All (λ (entry : List ℕ × Output). HasColumns all entry.1) after.outputs)
@@ -81,7 +87,7 @@ nodes-more line room_for u s after more good room many fits calls nodes function
           (subst
           (All (λ (entry : List ℕ × Output). HasColumns (s.nodes ++ more) entry.1))
           (sym outputs) kept);
-      few = omega (arith, below, many, length-append s.nodes more, ap length nodes);
+      few = few;
     }
 
 -- a function gives to as many outputs as types are written
@@ -123,12 +129,11 @@ module _ (line : ℕ) (s after : State) (good : IsGood s) where
       let fits : Fits s.functions s.nodes making.made making.type =
       there line NotFlat _ columns.part columns.first in
       let more : Named Node = (name, node_from s.statements making) ∷ [] in
+      let below = has-room line 1 most_collections s.nodes few.part few.first in
       subst IsGood (ok-same _ after columns.then)
-      (nodes-more line 1 few.part s (with_node name making s) more good few.first (omega arith)
-      (fits, tt)
-      (subst (CallsStand s.functions) (sym (map-append how_made s.nodes more))
-      (calls-push s.functions (map how_made s.nodes) making.made tt good.calls))
-      refl refl refl)
+      (nodes-more s (with_node name making s) more good (fits, tt)
+      (calls-push s.functions (map how_made s.nodes) making.made tt good.calls) refl refl refl
+      (omega (arith, below, length-append s.nodes more)))
 
   given-good : (function : WrittenFunction) (types : List Ty)
       → spec.types_given line function s.types ≡ Ok types
@@ -181,59 +186,33 @@ module _ (line : ℕ) (s after : State) (good : IsGood s) where
         few = good.few;
       })
 
-  -- a let, where what its operation makes fits and stands as it should
-  named-good : (names : List (List ℕ)) (makings : List Making) (u : Unit {0})
-      → spec.room line (length names) most_collections s.nodes ≡ Ok u
-      → length makings ≡ length names
-      → AllFit s.functions s.nodes (named s.statements names makings)
-      → CallsStand s.functions (map how_made s.nodes ++ map how_making makings)
-      → IsGood (with_nodes names makings s)
-  named-good names makings u room many fits calls =
-      let more = named s.statements names makings in
-      let all : map how_made (s.nodes ++ more) ≡ map how_made s.nodes ++ map how_making makings =
-      map-append how_made s.nodes more
-      ∙ ap (λ all. map how_made s.nodes ++ all) (named-made s.statements names makings many) in
-      nodes-more line (length names) u s (with_nodes names makings s) more good room
-      (named-few s.statements names makings) fits
-      (subst (CallsStand s.functions) (sym all) calls) (nodes-are names makings s)
-      (functions-are names makings s) (outputs-are names makings s)
-
-  made-good : (names : List (List ℕ)) (makings : List Making) (u : Unit {0})
-      → spec.room line (length names) most_collections s.nodes ≡ Ok u
-      → length makings ≡ length names
-      → IsAlone s.functions s.nodes makings ⊎ AreOutputs s.functions s.nodes makings
-      → IsGood (with_nodes names makings s)
-  made-good names makings u room many (inl alone) =
-      named-good names makings u room many
-      (alone-fits s.functions s.statements s.nodes names makings alone)
-      (subst (λ it. CallsStand s.functions (map how_made s.nodes ++ map how_making it))
-      (sym alone.are)
-      (calls-push s.functions (map how_made s.nodes) alone.making.made
-      (other-no-call alone.making.made alone.other) good.calls))
-  made-good names makings u room many (inr call) =
-      named-good names makings u room many
-      (outputs-fit s.functions s.statements s.nodes names makings call)
-      (subst (λ it. CallsStand s.functions (map how_made s.nodes ++ map how_making it))
-      (sym call.are)
-      (calls-outputs s.functions (map how_made s.nodes) call.source call.called call.function
-      call.calls good.calls))
-
   let-good : (names : List (List ℕ)) (by : Operation) → spec.rule_let line names by s ≡ Ok after
       → IsGood after
   let-good names by e =
       let few = both (spec.room line (length names) most_collections s.nodes) _ after e in
-      let new = both (spec.all_fresh line (keys_of s.names) names) _ after few.then in
-      let makings = both (made_by line by s) _ after new.then in
-      let fit = both (spec.all_fit line (length names) makings.part) _ after makings.then in
-      let same =
-      both (unless line Mistyped (eqb (length makings.part) (length names))) _ fit.part
-      fit.first in
-      let many =
-      eqb-true (length makings.part) (length names)
-      (holds line Mistyped _ same.part same.first) in
-      subst IsGood (ok-same _ after fit.then)
-      (made-good names makings.part few.part few.first many
-      (made-is line s by makings.part makings.first))
+      let below = has-room line (length names) most_collections s.nodes few.part few.first in
+      let it = has-named line s after names by few.then in
+      let has = it.has in
+      nodes-more s after has.lets good has.fit (has.calls (map how_made s.nodes) good.calls)
+      has.nodes has.functions has.outputs (omega (arith, below, it.few))
+
+  repeat-good : (names : List (List ℕ)) (written : WrittenRepeat)
+      → spec.rule_repeat line names written s ≡ Ok after → IsGood after
+  repeat-good names written e =
+      let it = both (spec.repeated line names written s) _ after e in
+      let repeat = it.part.repeat in
+      let first = length s.names in
+      let has = has-turns line names written s it.part first it.first in
+      let more = unrolled repeat in
+      let many = turns-long repeat repeat.turns 1 repeat.from repeat.outside in
+      let long = ap length has.nodes in
+      subst IsGood (ok-same _ after it.then)
+      (nodes-more s (spec.with_repeat repeat first it.part.behind) more good
+      (unrolled-fits s.functions s.nodes repeat has.fits)
+      (calls-joined s.functions (map how_made s.nodes) (map how_made more) good.calls
+      (turns-stand s.functions repeat has.calls repeat.turns 1 repeat.from repeat.outside))
+      has.nodes has.functions has.outputs
+      (omega (arith, has.few, many, long, length-append s.nodes more)))
 
   output-good : (name file : List ℕ) → spec.rule_output line name file s ≡ Ok after → IsGood after
   output-good name file e =
@@ -262,6 +241,7 @@ module _ (line : ℕ) (s after : State) (good : IsGood s) where
   rule-good (form.Input name type file) e = input-good name type file e
   rule-good (form.Function function) e = function-good function e
   rule-good (form.Let names by) e = let-good names by e
+  rule-good (form.Repeat names written) e = repeat-good names written e
   rule-good (form.Output name file) e = output-good name file e
 
 -- the same, behind one statement more

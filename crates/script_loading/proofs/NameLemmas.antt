@@ -1,10 +1,11 @@
 -- The files of an accepted script are named in UTF-8, where those of its statements are.
-use Rattle.std.proofs.Common.{◌≡◌, ◌⊎◌, inl, inr, ℕ, suc, nat_lt, List, [], ◌∷◌, length, Ok, sym}
-use Rattle.std.proofs.Common.{subst}
+use Rattle.std.proofs.Common.{◌≡◌, ◌⊎◌, inl, inr, ℕ, zero, suc, ◌+◌, nat_lt, List, [], ◌∷◌}
+use Rattle.std.proofs.Common.{length, map, take, get_or, Ok, sym, subst}
 use Rattle.std.specs.Prelude.{IsUtf8}
 use Rattle.std.specs.List.{All, AllByRecursion}
 use Rattle.std.specs.Map.{keys_of}
-use Rattle.std.proofs.lemmas.List.Elements.{All-nil, All-push, recursion_from_All}
+use Rattle.std.proofs.lemmas.List.Elements.{All-append, All-drop, All-map, All-nil, All-push}
+use Rattle.std.proofs.lemmas.List.Elements.{All-take, recursion_from_All}
 use Rattle.flume_types.specs.Columns.{columns_of, input_columns_of}
 use Rattle.flume_types.specs.declared.types.Ty.{Ty}
 use Rattle.flume_grammar.specs.Utf8.{IsUtf8Named}
@@ -13,7 +14,9 @@ use Rattle.flume_grammar.specs.declared.tree.Form.{Form}
 use Rattle.flume_grammar.specs.declared.tree.Form.TheVariants as form
 use Rattle.flume_grammar.specs.declared.tree.Function.{Function as WrittenFunction}
 use Rattle.flume_grammar.specs.declared.tree.Operation.{Operation}
+use Rattle.flume_grammar.specs.declared.tree.Repeat.{Repeat as WrittenRepeat}
 use Rattle.flume_grammar.specs.declared.tree.Statement.{Statement}
+use Rattle.flume_grammar.specs.declared.tree.TurnLet.{TurnLet}
 use Rattle.flume_grammar.specs.declared.fault.ScriptKind.TheVariants.{NotFlat, NoOutput}
 use Rattle.written_types.specs.Answer.{or_fault, unless}
 use Rattle.written_types.specs.Named.{Named, fresh}
@@ -23,11 +26,16 @@ use Rattle.script_program.specs.Limits.{most_collections, most_files}
 use Rattle.script_program.specs.declared.made.Made.{Made}
 use Rattle.script_program.specs.declared.made.Made.TheVariants as made
 use Rattle.script_program.specs.declared.made.Output.{Output}
-use Rattle.script_program.specs.Script.{Function, Making, Node, Script, State, nothing}
-use Rattle.script_program.specs.Script.{script_from, with_node, with_nodes, with_statement}
+use Rattle.script_program.specs.declared.made.Standing.TheVariants.{Hidden}
+use Rattle.script_program.specs.Script.{Function, Making, Node, Operand, Script, State, nothing}
+use Rattle.script_program.specs.Script.{script_from, with_hidden, with_name, with_node}
+use Rattle.script_program.specs.Script.{with_nodes, with_statement}
 use Rattle.operation_check.specs.Operations as op
+use Rattle.script_check.specs.Repeats.{Repeat, copied, nodes_left, renumbered, turn_gives}
+use Rattle.script_check.specs.Repeats.{turn_nodes, turn_to, unrolled}
 use Rattle.script_check.specs.Rules as spec
 use Rattle.script_check.proofs.CheckedLemmas.{both, ok-same}
+use Rattle.script_check.proofs.FoundLemmas.{before, found, own}
 use Rattle.script_laws.proofs.OperationLemmas.{IsOther, IsAlone, AreOutputs, made-is}
 use Rattle.script_loading.specs.Ready.{IsNamedMade}
 
@@ -83,6 +91,42 @@ nodes-named (name ∷ names) (making ∷ makings) s named all =
     (record { reads = All-push IsNamedNode s.nodes _ named.reads all.0; writes = named.writes })
     all.1
 
+-- ---- the lets of a body, and its turns
+
+abbrev AllNodes : Named Node → Type 0
+AllNodes nodes = All IsNamedNode nodes
+
+entered-named : (from : List Operand) → AllNamed (map spec.entered from)
+entered-named [] = tt
+entered-named (one ∷ from) = (tt, entered-named from)
+
+hidden-named : (names : List (List ℕ)) (s : State) → AreNamed s → AreNamed (with_hidden names s)
+hidden-named [] s named = named
+hidden-named (name ∷ names) s named =
+    hidden-named names (with_name name Hidden s)
+    (record { reads = named.reads; writes = named.writes })
+
+renumbered-named : (to : ℕ → ℕ) (how : Made) → IsNamedMade how → IsNamedMade (renumbered to how)
+renumbered-named to (made.Input file columns) named = named
+renumbered-named to (made.Do source function output) named = tt
+renumbered-named to (made.Group source) named = tt
+renumbered-named to (made.Combine source by) named = tt
+renumbered-named to (made.Flatten sources) named = tt
+renumbered-named to (made.Count source) named = tt
+renumbered-named to (made.Join left right) named = tt
+renumbered-named to (made.Top number source) named = tt
+
+turns-named : (repeat : Repeat) (left turn : ℕ) (entering : List ℕ) (start : ℕ)
+    → AllNodes repeat.body → AllNodes (nodes_left repeat left turn entering start)
+turns-named repeat zero turn entering start named = All-nil IsNamedNode
+turns-named repeat (suc left) turn entering start named =
+    let to = turn_to repeat entering start in
+    All-append IsNamedNode (turn_nodes repeat entering start turn) _
+    (All-map IsNamedNode (copied turn to) repeat.body
+    (λ k entry in_. renumbered-named to (get_or repeat.body k entry).1.made (named k entry in_)))
+    (turns-named repeat left (suc turn) (turn_gives repeat entering start)
+    (start + length repeat.body) named)
+
 -- ---- statements
 
 module _ (line : ℕ) (s after : State) (named : AreNamed s) where
@@ -110,10 +154,9 @@ module _ (line : ℕ) (s after : State) (named : AreNamed s) where
       (record { reads = named.reads; writes = named.writes })
 
   let-named : (names : List (List ℕ)) (by : Operation)
-      → spec.rule_let line names by s ≡ Ok after → AreNamed after
+      → spec.named line names by s ≡ Ok after → AreNamed after
   let-named names by e =
-      let few = both (spec.room line (length names) most_collections s.nodes) _ after e in
-      let new = both (spec.all_fresh line (keys_of s.names) names) _ after few.then in
+      let new = both (spec.all_fresh line (keys_of s.names) names) _ after e in
       let makings = both (op.made_by line by s) _ after new.then in
       let fit = both (spec.all_fit line (length names) makings.part) _ after makings.then in
       subst AreNamed (ok-same _ after fit.then)
@@ -140,13 +183,51 @@ module _ (line : ℕ) (s after : State) (named : AreNamed s) where
       subst AreNamed (ok-same _ after t.then)
       (record { reads = named.reads; writes = named.writes })
 
+lets-named : (lets : List TurnLet) (s after : State) → AreNamed s
+    → spec.all_named lets s ≡ Ok after → AreNamed after
+lets-named [] s after named e = subst AreNamed (ok-same s after e) named
+lets-named (it ∷ lets) s after named e =
+    let next = both (spec.named it.line it.names it.by s) _ after e in
+    lets-named lets next.part after
+    (let-named it.line s next.part named it.names it.by next.first) next.then
+
+module _ (line : ℕ) (s after : State) (named : AreNamed s) where
+  repeat-named : (names : List (List ℕ)) (written : WrittenRepeat)
+      → spec.rule_repeat line names written s ≡ Ok after → AreNamed after
+  repeat-named names written e =
+      let it = both (spec.repeated line names written s) _ after e in
+      let has = found line names written s it.part it.first in
+      let from = has.entry.from in
+      let front = before line names written s has.entry in
+      let repeat = own line names written s has.entry has.body has.gives in
+      let body =
+      lets-named written.lets front has.body
+      (nodes-named written.entering (map spec.entered from) (with_hidden names s)
+      (hidden-named names s named) (entered-named from)) has.lets in
+      let first = length s.names in
+      subst AreNamed (ok-same _ after it.then)
+      (subst (λ (r : Repeat). AreNamed (spec.with_repeat r first it.part.behind)) has.repeat
+      (subst (λ (behind : State). AreNamed (spec.with_repeat repeat first behind)) has.behind
+      (record {
+        reads =
+            All-append IsNamedNode (take (length s.nodes) has.body.nodes) (unrolled repeat)
+            (All-take IsNamedNode (length s.nodes) has.body.nodes body.reads)
+            (turns-named repeat repeat.turns 1 repeat.from repeat.outside
+            (All-drop IsNamedNode (length front.nodes) has.body.nodes body.reads));
+        writes = body.writes;
+      })))
+
   rule-named : (form : Form) → IsUtf8Named form → spec.rule line form s ≡ Ok after
       → AreNamed after
-  rule-named (form.Type name type) utf8 e = type-named name type e
-  rule-named (form.Input name type file) utf8 e = input-named name type file utf8 e
-  rule-named (form.Function function) utf8 e = function-named function e
-  rule-named (form.Let names by) utf8 e = let-named names by e
-  rule-named (form.Output name file) utf8 e = output-named name file utf8 e
+  rule-named (form.Type name type) utf8 e = type-named line s after named name type e
+  rule-named (form.Input name type file) utf8 e =
+      input-named line s after named name type file utf8 e
+  rule-named (form.Function function) utf8 e = function-named line s after named function e
+  rule-named (form.Let names by) utf8 e =
+      let few = both (spec.room line (length names) most_collections s.nodes) _ after e in
+      let-named line s after named names by few.then
+  rule-named (form.Repeat names written) utf8 e = repeat-named names written e
+  rule-named (form.Output name file) utf8 e = output-named line s after named name file utf8 e
 
 defined-named : (statements : List Statement) (s after : State) → AreNamed s
     → AllByRecursion (λ (s : Statement). IsUtf8Named s.form) statements

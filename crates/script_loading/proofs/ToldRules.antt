@@ -1,6 +1,6 @@
 -- Each script keeps all rules or has a first fault with its line.
-use Rattle.std.proofs.Common.{◌==◌, ℕ, ◌+◌, not, nat_le, nat_lt, Option, Some, None}
-use Rattle.std.proofs.Common.{List, [], ◌∷◌, ◌++◌, length}
+use Rattle.std.proofs.Common.{◌*◌, ◌==◌, ℕ, ◌+◌, not, nat_le, nat_lt, Option, Some, None}
+use Rattle.std.proofs.Common.{List, [], ◌∷◌, ◌++◌, drop, length}
 use Rattle.std.specs.List.{list_any}
 use Rattle.std.specs.Map.{keys_of}
 use Rattle.std.specs.Str.{bytes_eq}
@@ -19,14 +19,16 @@ use Rattle.flume_grammar.specs.declared.tree.Form.TheVariants as form
 use Rattle.flume_grammar.specs.declared.tree.Function.{Function as Written}
 use Rattle.flume_grammar.specs.declared.tree.Operation.{Operation}
 use Rattle.flume_grammar.specs.declared.tree.Operation.TheVariants as operation
+use Rattle.flume_grammar.specs.declared.tree.Repeat.{Repeat as WrittenRepeat}
 use Rattle.flume_grammar.specs.declared.tree.Statement.{Statement}
+use Rattle.flume_grammar.specs.declared.tree.TurnLet.{TurnLet}
 use Rattle.flume_grammar.specs.declared.tree.Type as tree
 use Rattle.body_check.specs.Bodies.{body_of}
 use Rattle.operation_check.specs.Operations as spec
 use Rattle.script_check.specs.Rules as rules
 use Rattle.script_program.specs.Limits.{most_collections, most_files, most_functions, most_outputs}
 use Rattle.script_program.specs.Script.{Callee, Making, Operand, State, nothing}
-use Rattle.script_program.specs.Script.{find_function, find_node, with_statement}
+use Rattle.script_program.specs.Script.{find_function, find_node, with_hidden, with_statement}
 use Rattle.written_types.specs.Answer.{Checked}
 use Rattle.written_types.specs.Named.{Named, fresh}
 use Rattle.written_types.specs.Written.{shallow, whole_type}
@@ -201,16 +203,21 @@ module _ (line : ℕ) where
       (λ it. told-then (body_of s.types function.argument it.takes it.gives function.body) _
       (told-body s.types function.argument it.takes it.gives function.body) (λ body. tt))
 
+  told-named : (names : List (List ℕ)) (by : Operation) (s : State)
+      → IsTold (rules.named line names by s)
+  told-named names by s =
+      told-then (rules.all_fresh line (keys_of s.names) names) _
+      (told-names (keys_of s.names) names)
+      (λ new. told-then (spec.made_by line by s) _ (told-made by s)
+      (λ makings. told-then (rules.all_fit line (length names) makings) _
+      (told-fit (length names) makings) (λ fit. tt)))
+
   told-let : (names : List (List ℕ)) (by : Operation) (s : State)
       → IsTold (rules.rule_let line names by s)
   told-let names by s =
       told-then (rules.room line (length names) most_collections s.nodes) _
       (told-room (length names) most_collections s.nodes)
-      (λ few. told-then (rules.all_fresh line (keys_of s.names) names) _
-      (told-names (keys_of s.names) names)
-      (λ new. told-then (spec.made_by line by s) _ (told-made by s)
-      (λ makings. told-then (rules.all_fit line (length names) makings) _
-      (told-fit (length names) makings) (λ fit. tt))))
+      (λ few. told-named names by s)
 
   told-output : (name file : List ℕ) (s : State) → IsTold (rules.rule_output line name file s)
   told-output name file s =
@@ -220,12 +227,65 @@ module _ (line : ℕ) where
       (λ columns. told-then (fresh line file s.outputs) _ (told-fresh line file s.outputs)
       (λ new. tt))))
 
+-- ---- repeats
+
+told-lets : (lets : List TurnLet) (s : State) → IsTold (rules.all_named lets s)
+told-lets [] s = tt
+told-lets (it ∷ lets) s =
+    told-then (rules.named it.line it.names it.by s) _ (told-named it.line it.names it.by s)
+    (λ next. told-lets lets next)
+
+module _ (line : ℕ) where
+  told-entry : (names : List (List ℕ)) (written : WrittenRepeat) (s : State)
+      → IsTold (rules.entry_of line names written s)
+  told-entry names written s =
+      let hidden = with_hidden names s in
+      told-then (rules.all_fresh line (keys_of s.names) names) _
+      (told-names line (keys_of s.names) names)
+      (λ new. told-then (rules.all_fresh line (keys_of hidden.names) written.entering) _
+      (told-names line (keys_of hidden.names) written.entering)
+      (λ free. told-then (spec.collections_behind line [] written.from hidden) _
+      (told-behind line [] written.from hidden)
+      (λ from. told-found line BadNumber (number_within 1 256 written.turns) _
+      (λ turns. told-kept line Mistyped (rules.as_many (length names) written) _
+      (λ many. tt)))))
+
+  told-gives : (names : List (List ℕ)) (from : List Operand) (body : State)
+      → IsTold (rules.gives_of line names from body)
+  told-gives names from body =
+      told-then (spec.collections_behind line [] names body) _ (told-behind line [] names body)
+      (λ given. told-kept line Mistyped (rules.alike from given) _ (λ same. tt))
+
+  told-repeat-of : (names : List (List ℕ)) (entry : rules.Entry) (outside front : ℕ) (body : State)
+      → IsTold (rules.repeat_of line names entry outside front body)
+  told-repeat-of names entry outside front body =
+      told-then (rules.gives_of line names entry.from body) _ (told-gives names entry.from body)
+      (λ gives. told-then
+      (rules.room_for line outside entry.turns (length (drop front body.nodes))) _
+      (told-test line TooMany
+      (nat_le (outside + entry.turns * length (drop front body.nodes)) most_collections))
+      (λ few. tt))
+
+  told-repeat : (names : List (List ℕ)) (written : WrittenRepeat) (s : State)
+      → IsTold (rules.rule_repeat line names written s)
+  told-repeat names written s =
+      told-then (rules.repeated line names written s) _
+      (told-then (rules.entry_of line names written s) _ (told-entry names written s)
+      (λ entry. let before = rules.with_entry names written.entering entry.from s in
+      told-then (rules.all_named written.lets before) _ (told-lets written.lets before)
+      (λ body. told-then
+      (rules.repeat_of line written.gives entry (length s.nodes) (length before.nodes) body) _
+      (told-repeat-of written.gives entry (length s.nodes) (length before.nodes) body)
+      (λ repeat. tt))))
+      (λ it. tt)
+
   told-rule : (it : Form) (s : State) → IsTold (rules.rule line it s)
-  told-rule (form.Type name type) s = told-type name type s
-  told-rule (form.Input name type file) s = told-input name type file s
-  told-rule (form.Function function) s = told-function function s
-  told-rule (form.Let names by) s = told-let names by s
-  told-rule (form.Output name file) s = told-output name file s
+  told-rule (form.Type name type) s = told-type line name type s
+  told-rule (form.Input name type file) s = told-input line name type file s
+  told-rule (form.Function function) s = told-function line function s
+  told-rule (form.Let names by) s = told-let line names by s
+  told-rule (form.Repeat names written) s = told-repeat names written s
+  told-rule (form.Output name file) s = told-output line name file s
 
 told-defined : (statements : List Statement) (s : State) → IsTold (rules.defined statements s)
 told-defined [] s = tt

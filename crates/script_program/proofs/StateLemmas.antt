@@ -1,12 +1,13 @@
 -- What is in memory, as contracts see it: look-ups, one more, and what stays as types are added.
-use Rattle.std.proofs.Common.{◌≡◌, ℕ, ◌≤◌, false, List, ◌∷◌, [], ◌++◌, length, map, take, get_or}
+use Rattle.std.proofs.Common.{◌≡◌, ℕ, ◌≤◌, false, List, ◌∷◌, [], ◌++◌, length, map, take, drop}
+use Rattle.std.proofs.Common.{get_or}
 use Rattle.std.proofs.Common.{Option, Some, None, is_some, refl, sym, ap, ◌∙◌, subst, arith}
-use Rattle.std.specs.List.{position, position_or_len}
+use Rattle.std.specs.List.{All, position, position_or_len}
 use Rattle.std.specs.Option.{option_map}
 use Rattle.std.specs.Str.{bytes_eq}
 use Rattle.std.specs.Map.{keys_of}
-use Rattle.std.proofs.lemmas.List.{length_push, take-append-le, map_push}
-use Rattle.std.proofs.lemmas.List.Elements.{All-push, All-same}
+use Rattle.std.proofs.lemmas.List.{length_push, take-append-le, map_push, drop-map, take-map}
+use Rattle.std.proofs.lemmas.List.Elements.{All-push, All-same, All-nil, All-take, All-drop}
 use Rattle.std.proofs.lemmas.Option.{cond_some}
 use Rattle.flume_types.specs.declared.types.Ty.{Ty}
 use Rattle.type_table.specs.Table.{type_at, Extends}
@@ -194,3 +195,36 @@ module _ (nodes after : Named HeldNode) (entry : List ℕ × HeldNode)
   pub nodes-push : (types : List Ty)
       → map (node_of types) after ≡ map (node_of types) nodes ++ node_of types entry ∷ []
   nodes-push types = ap (map (node_of types)) put ∙ map_push (node_of types) nodes entry
+
+-- ---- the collections in front of a place, and those behind one
+
+module _ (known : Known) (functions : Named HeldFunction) (nodes : Named HeldNode)
+    (held : AreHeld known functions nodes) where
+  abbrev IsHeld : List ℕ × HeldNode → Type 0
+  IsHeld entry = NodeIn known entry.1
+
+  pub held-front : (front : ℕ) (after : Named HeldNode) → after ≡ take front nodes
+      → AreHeld known functions after
+  held-front front after left = (
+    held.0,
+    All-same IsHeld after (take front nodes) left (All-take IsHeld front nodes held.1),
+  )
+
+  pub held-none : (after : Named HeldNode) → after ≡ [] → AreHeld known functions after
+  held-none after none = (held.0, All-same IsHeld after [] none (All-nil IsHeld))
+
+  pub held-behind : (body : ℕ) (rest : Named HeldNode) → rest ≡ drop body nodes
+      → All IsHeld rest
+  held-behind body rest is =
+      All-same IsHeld rest (drop body nodes) is (All-drop IsHeld body nodes held.1)
+
+  pub nodes-front : (types : List Ty) (front : ℕ) (after : Named HeldNode)
+      → after ≡ take front nodes
+      → map (node_of types) after ≡ take front (map (node_of types) nodes)
+  nodes-front types front after left =
+      ap (map (node_of types)) left ∙ sym (take-map (node_of types) front nodes)
+
+  pub nodes-behind : (types : List Ty) (body : ℕ) (rest : Named HeldNode)
+      → rest ≡ drop body nodes → map (node_of types) rest ≡ drop body (map (node_of types) nodes)
+  nodes-behind types body rest is =
+      ap (map (node_of types)) is ∙ sym (drop-map (node_of types) body nodes)

@@ -1,6 +1,6 @@
 -- What a script defines: functions, collections and outputs, in the order of their definitions.
-use Rattle.std.specs.Prelude.{ℕ, suc, List, [], ◌∷◌, ◌++◌, Option, None, slice_get, length}
-use Rattle.std.specs.Prelude.{option_and_then}
+use Rattle.std.specs.Prelude.{ℕ, suc, List, [], ◌∷◌, ◌++◌, Option, None, slice_get, length, map}
+use Rattle.std.specs.Prelude.{take, drop, option_and_then}
 use Rattle.std.specs.List.{position_or_len}
 use Rattle.std.specs.Option.{option_map}
 use Rattle.std.specs.Str.{bytes_eq}
@@ -147,6 +147,64 @@ with_statement s = record {
   names = s.names;
   outputs = s.outputs;
   statements = suc s.statements;
+}
+
+-- ---- the body of a repeat
+
+-- a name more, which stands for that
+abbrev pub with_name : List ℕ → Standing → State → State
+with_name name standing s = record {
+  types = s.types;
+  functions = s.functions;
+  nodes = s.nodes;
+  names = s.names ++ (name, standing) ∷ [];
+  outputs = s.outputs;
+  statements = s.statements;
+}
+
+-- names more, which are taken and stand for no collection
+abbrev pub with_hidden : List (List ℕ) → State → State
+with_hidden [] s = s
+with_hidden (name ∷ names) s = with_hidden names (with_name name Hidden s)
+
+-- the first so many collections alone
+abbrev pub with_front : ℕ → State → State
+with_front number s = record {
+  types = s.types;
+  functions = s.functions;
+  nodes = take number s.nodes;
+  names = s.names;
+  outputs = s.outputs;
+  statements = s.statements;
+}
+
+-- collections more, for which no name stands yet
+abbrev pub with_copies : Named Node → State → State
+with_copies nodes s = record {
+  types = s.types;
+  functions = s.functions;
+  nodes = s.nodes ++ nodes;
+  names = s.names;
+  outputs = s.outputs;
+  statements = s.statements;
+}
+
+-- the first names stand for the collections of these numbers, and those behind them for none
+abbrev pub given : List ℕ → Named Standing → Named Standing
+given [] names = map (λ entry. (entry.0, Hidden)) names
+given (number ∷ numbers) [] = []
+given (number ∷ numbers) (entry ∷ names) =
+    (entry.0, Collection number) ∷ given numbers names
+
+-- the same of the names from a place on
+abbrev pub with_given : ℕ → List ℕ → State → State
+with_given first numbers s = record {
+  types = s.types;
+  functions = s.functions;
+  nodes = s.nodes;
+  names = take first s.names ++ given numbers (drop first s.names);
+  outputs = s.outputs;
+  statements = s.statements;
 }
 
 -- ---- operands

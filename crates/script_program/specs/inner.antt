@@ -1,2 +1,3 @@
 pub mod Tables
 pub mod Flags
+pub mod Standings

@@ -1,4 +1,6 @@
 // What the statements of a script so far define, which takes one definition more at a time.
+mod body;
+
 ghost use Rattle.std.specs.Prelude.{◌≡◌, ◌≤◌, ◌<◌, [], length, map, false, is_some, IfOk, IfSome};
 ghost use Rattle.std.specs.Prelude.{◌-◌, ◌^◌, OnOk};
 ghost use Rattle.std.specs.Option.{option_map};
@@ -243,6 +245,13 @@ impl State {
         ensures { result ≡ length self.now.state.functions }
     {
         self.functions.len()
+    }
+
+    /// How many names of collections are taken.
+    pub fn name_count(&self) -> usize
+        ensures { result ≡ length self.now.state.names }
+    {
+        self.names.len()
     }
 
     /// How many collections there are.

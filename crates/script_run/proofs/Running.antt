@@ -17,6 +17,7 @@ use Rattle.flume_value.specs.declared.value.Value.{Value}
 use Rattle.direct_meaning.specs.Inputs.{HaveRows, Wanted}
 use Rattle.plan_phases.specs.Phases.{phases}
 use Rattle.plan_phases.specs.Told.{AskedFront}
+use Rattle.plan_phases.specs.declared.winners.PhaseWinners.{PhaseWinners}
 use Rattle.plan_phases.specs.declared.fault.RunFault.{RunFault}
 use Rattle.plan_phases.specs.declared.fault.RunFault.TheVariants as fault
 use Rattle.run_settings.specs.Settings.{RunSettings}
@@ -26,7 +27,7 @@ use Rattle.stage_exec.specs.declared.executed.Executed.{Executed}
 use Rattle.stage_phases.specs.Stages.{run_world}
 use Rattle.task_safety.specs.Stages.{IsTypedRun}
 use Rattle.task_safety.specs.Taking.{Takes}
-use Rattle.script_run.specs.Runs.{AsksSomePhases, IsRunFault, phases_of}
+use Rattle.script_run.specs.Runs.{AsksAllPhases, AsksSomePhases, IsRunFault, phases_of}
 
 rows_same : (inputs : List (List Value)) (r : ℕ)
     → or_none (slice_get inputs r) ≡ slice_index_or inputs r []
@@ -69,6 +70,15 @@ module _ (script : Script) (inputs : List (List Value)) where
         → IsExecuted s (world_of script inputs) plan nodes olds news it
     executed nodes it h =
         subst (λ w. IsExecuted s w plan nodes olds news it) same_world h
+
+    -- where the winners are the same
+    pub asked_as : (xs ys : List PhaseWinners) → ys ≡ xs
+        → AsksAllPhases s (phases_of s script inputs plan) xs olds news
+        → AsksAllPhases s (phases_of s script inputs plan) ys olds news
+    asked_as xs ys same h =
+        subst
+        (λ (l : List PhaseWinners).
+        AsksAllPhases s (phases_of s script inputs plan) l olds news) (sym same) h
 
     pub phases_asked : AskedFront s.tries s.drill (phases World_ (split_of s) plan) olds news
         → AsksSomePhases s (phases_of s script inputs plan) olds news

@@ -18,7 +18,7 @@ use Rattle.graph_build.specs.Graphs.{graph_of}
 use Rattle.outside.specs.declared.host.Phase.{Phase}
 use Rattle.plan_laws.specs.Operations.{SamePlan}
 use Rattle.plan_phases.specs.Phases.{PhaseTasks, phases}
-use Rattle.plan_phases.specs.Told.{AreWinners, AskedFront, AskedInTurn, HasTrapped, IsGivenUp}
+use Rattle.plan_phases.specs.Told.{AreWinners, AskedFront, AskedInTurn, HasTrapped, IsGivenUp, attempts_of}
 use Rattle.plan_phases.specs.declared.fault.RunFault.{RunFault}
 use Rattle.plan_phases.specs.declared.fault.RunFault.TheVariants as fault
 use Rattle.plan_phases.specs.declared.winners.PhaseWinners.{PhaseWinners}
@@ -53,11 +53,14 @@ abbrev pub WereRun : RunSettings → List PhaseTasks → List Account → List A
 WereRun s phases olds news winners =
     AllZip (AreWinners s.tries s.drill olds news) phases winners
 
--- the hosts were asked for all of these phases alone, one behind the other
-abbrev pub AsksAllPhases : RunSettings → List PhaseTasks → List Account → List Account → Type 0
-AsksAllPhases s phases olds news = AskedInTurn s.tries s.drill phases olds news
+-- the hosts were asked for all of these phases alone, one behind the other, each in one work; the
+-- winners are those of the works' boards
+abbrev pub AsksAllPhases : RunSettings → List PhaseTasks → List PhaseWinners → List Account
+    → List Account → Type 0
+AsksAllPhases s phases winners olds news =
+    AskedInTurn s.tries s.drill phases (attempts_of winners) olds news
 
--- the same of a front of them
+-- the hosts were asked for a front of these phases, of which the last may have come not to its end
 abbrev pub AsksSomePhases : RunSettings → List PhaseTasks → List Account → List Account → Type 0
 AsksSomePhases s phases olds news = AskedFront s.tries s.drill phases olds news
 
@@ -74,7 +77,7 @@ pub record IsRan (s : RunSettings) (script : Script) (inputs : List (List Value)
       it.outputs.items
   pub sizes : it.sizes.items ≡ sizes_of script made
   pub ran : WereRun s (phases_of s script inputs plan) olds news it.winners.items
-  pub asked : AsksAllPhases s (phases_of s script inputs plan) olds news
+  pub asked : AsksAllPhases s (phases_of s script inputs plan) it.winners.items olds news
 
 -- a trap of the script's meaning, the first of the tasks of the plan; its task has run, and all
 -- tasks before have run without a trap

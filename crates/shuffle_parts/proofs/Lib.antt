@@ -1,6 +1,6 @@
-pub mod Borrowed
 pub mod Finding
 pub mod Gathered
+pub mod Lifting
 pub mod Parting
 pub mod Passing
 pub mod Ranged

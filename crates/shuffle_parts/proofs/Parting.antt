@@ -1,5 +1,5 @@
 -- Pairs that are parted one after another.
-use Rattle.std.proofs.Common.{◌≡◌, ◌<◌, ◌+◌, ℕ, true, false, cond, List, [], ◌∷◌, ◌++◌, length, get_or, Some, sym, ap, ◌∙◌, subst, arith, append-nil}
+use Rattle.std.proofs.Common.{◌≡◌, ◌<◌, ◌+◌, ℕ, true, false, cond, List, [], ◌∷◌, ◌++◌, length, get_or, Some, sym, ap, ◌∙◌, subst, arith, append-nil, append_assoc}
 use Rattle.std.specs.Prelude.{slice_set, ◌==◌}
 use Rattle.std.specs.List.{AllZip}
 use Rattle.std.specs.Option.{option_map_or}
@@ -67,25 +67,19 @@ pub length-set_is : (parts : List (List Value)) (at n : ℕ) (new : List Value) 
     → length (slice_set parts at new) ≡ n
 length-set_is parts at n new e = length-set parts at new ∙ e
 
--- ---- accumulators of a part more
+-- ---- where none is left
+
+pub all_taken : (done rest whole : List Value) → done ++ rest ≡ whole → length rest ≡ 0
+    → done ≡ whole
+all_taken done [] whole e none = sym (append-nil done) ∙ e
+all_taken done (p ∷ rest) whole e none = absurd (omega arith)
+
+pub taken_on : (done rest next whole : List Value) (pair : Value) → rest ≡ pair ∷ next
+    → done ++ rest ≡ whole → (done ++ pair ∷ []) ++ next ≡ whole
+taken_on done rest next whole pair is e =
+    append_assoc done (pair ∷ []) next ∙ ap (λ l. done ++ l) (sym is) ∙ e
+
+-- ---- accumulators of a part
 
 abbrev pub Stands : Comb → Pairs → List Value → Type 0
 Stands c partials part = StandFor c partials (pairs_of part)
-
-zip_push : {A B : Type 0} (R : A → B → Type 0) (xs : List A) (ys : List B) (x : A) (y : B)
-    → AllZip R xs ys → R x y → AllZip R (xs ++ x ∷ []) (ys ++ y ∷ [])
-zip_push R [] [] x y z r = (r, z)
-zip_push R [] (b ∷ ys) x y z r = absurd z
-zip_push R (a ∷ xs) [] x y z r = absurd z
-zip_push R (a ∷ xs) (b ∷ ys) x y z r = (z.0, zip_push R xs ys x y z.1 r)
-
-pub combined_more : (c : Comb) (done : List Pairs) (parts : List (List Value))
-    (grown : List Pairs) (partials given : Pairs) (part values : List Value)
-    → AllZip (Stands c) done parts → grown ≡ done ++ partials ∷ [] → partials ≡ given
-    → values ≡ part → StandFor c given (pairs_of values)
-    → AllZip (Stands c) grown (parts ++ part ∷ [])
-combined_more c done parts grown partials given part values z g same moved s =
-    subst (λ l. AllZip (Stands c) l (parts ++ part ∷ [])) (sym g)
-    (zip_push (Stands c) done parts partials part z
-    (subst (λ l. StandFor c l (pairs_of part)) (sym same)
-    (subst (λ l. StandFor c given (pairs_of l)) moved s)))

@@ -1,14 +1,17 @@
-// Pairs parted by their keys, and combined within each partition.
-ghost use Rattle.std.specs.Prelude.{◌<◌, All, IfOk, map};
+// Pairs combined within the partitions of their keys, one pair after another.
+ghost use Rattle.std.specs.Prelude.{◌≡◌, ◌<◌, ◌++◌, ◌∷◌, [], All, IfOk, List, OnOk, map};
 ghost use Rattle.std.specs.List.{AllZip};
+ghost use Rattle.flume_value.specs.declared.value.Value.{Value as GhostValue};
 ghost use Rattle.bag_groups.specs.Pairs.{pairs_of};
+ghost use Rattle.partial_tables.specs.Lifted.{IsLifted, accumulators_of};
 ghost use Rattle.partial_tables.specs.Merges.{StandFor, IsCombinable};
+ghost use Rattle.partial_tables.specs.Runs.{AreTabled};
 ghost use Rattle.shuffle_parts.specs.Partitions.{parted};
 
-use crate::parts::part_borrowed;
+use bag_groups::key;
 use combine_table::Comb;
-use flume_value::{Pile, Value};
-use partial_tables::{Partial, lift_borrowed};
+use flume_value::{Pile, Value, partition};
+use partial_tables::{Lifting, Partial};
 use std::alloc::{AllocError, Global};
 
 /// For each partition accumulators that stand for those of the pairs that fall in it. The pairs
@@ -21,28 +24,99 @@ pub fn combine_pairs(
 ) -> Result<Pile<Pile<Partial>>, AllocError>
     requires some { 0 < partitions }
     requires pairs { All (λ pair. IsCombinable comb pair.now) pairs.items }
-    ensures { IfOk result (λ combined.
+    ensures stands { IfOk result (λ combined.
         AllZip (λ partials part. StandFor comb partials (pairs_of part)) combined
         (parted partitions (map (λ pair. pair.now) pairs.entry.items))) }
+    ensures tables { IfOk result (λ combined.
+        AllZip (λ partials part. AreTabled comb (pairs_of part) partials) combined
+        (parted partitions (map (λ pair. pair.now) pairs.entry.items))) }
 {
-    let parts = part_borrowed(alloc, pairs, partitions)?;
-    combine_each(alloc, comb, parts)
+    let parts = lift_referred(alloc, comb, pairs, partitions)?;
+    finish_each(alloc, parts)
 }
 
-// For each part accumulators that stand for its pairs.
-fn combine_each(
+/// For so many partitions accumulators of no pairs, into which pairs are put.
+pub fn none_lifted(alloc: Global, comb: Comb, partitions: u32) -> Result<Vec<Lifting>, AllocError>
+    ensures { IfOk result (λ parts. AllZip (IsLifted comb) parts.items (parted partitions [])) }
+{
+    let mut parts = Vec::new(alloc);
+    for _i in 0..partitions {
+        parts.push(Lifting::new(alloc, comb))?;
+    }
+    Ok(parts)
+}
+
+/// Puts more pairs in, each into the accumulators of the partition of its key, and lets it go.
+pub fn lift_more(
     alloc: Global,
     comb: Comb,
-    parts: Vec<Vec<&Value>>,
-) -> Result<Pile<Pile<Partial>>, AllocError>
-    requires { All (λ part. All (λ pair. IsCombinable comb pair.now) part.items) parts.items }
-    ensures { IfOk result (λ combined.
-        AllZip (λ partials part. StandFor comb partials (pairs_of part)) combined
-        (map (λ part. map (λ pair. pair.now) part.items) parts.entry.items)) }
+    mut parts: Vec<Lifting>,
+    pairs: Vec<Value>,
+    partitions: u32,
+) -> Result<Vec<Lifting>, AllocError>
+    requires some { 0 < partitions }
+    requires stands { (done : List GhostValue)
+        × AllZip (IsLifted comb) parts.items (parted partitions done) }
+    requires pairs { All (IsCombinable comb) pairs.items }
+    ensures { (done : List GhostValue) →
+        AllZip (IsLifted comb) parts.items (parted partitions done) →
+        IfOk result (λ all.
+        AllZip (IsLifted comb) all.items (parted partitions (done ++ pairs.items))) }
 {
-    let mut combined = Vec::new(alloc);
+    for pair in pairs {
+        lift_one(alloc, comb, &mut parts, &pair, partitions)?;
+    }
+    Ok(parts)
+}
+
+/// For each partition its accumulators.
+pub fn finish_each(alloc: Global, parts: Vec<Lifting>) -> Result<Pile<Pile<Partial>>, AllocError>
+    ensures { IfOk result (λ combined. combined ≡ map accumulators_of parts.items) }
+{
+    let mut combined = Vec::with_capacity(alloc, parts.len())?;
     for part in parts {
-        combined.push(Pile::from_vec(lift_borrowed(alloc, comb, part)?))?;
+        combined.push(Pile::from_vec(part.into_partials(alloc)?))?;
     }
     Ok(Pile::from_vec(combined))
+}
+
+// For each partition accumulators into which the pairs that fall in it were put.
+fn lift_referred(
+    alloc: Global,
+    comb: Comb,
+    pairs: Vec<&Value>,
+    partitions: u32,
+) -> Result<Vec<Lifting>, AllocError>
+    requires some { 0 < partitions }
+    requires pairs { All (λ pair. IsCombinable comb pair.now) pairs.items }
+    ensures { IfOk result (λ parts. AllZip (IsLifted comb) parts.items
+        (parted partitions (map (λ pair. pair.now) pairs.entry.items))) }
+{
+    let mut parts = none_lifted(alloc, comb, partitions)?;
+    for pair in pairs {
+        lift_one(alloc, comb, &mut parts, pair, partitions)?;
+    }
+    Ok(parts)
+}
+
+// Puts a pair into the accumulators of the partition of its key.
+fn lift_one(
+    alloc: Global,
+    comb: Comb,
+    parts: &mut Vec<Lifting>,
+    pair: &Value,
+    partitions: u32,
+) -> Result<(), AllocError>
+    requires some { 0 < partitions }
+    requires stands { (done : List GhostValue)
+        × AllZip (IsLifted comb) parts.old.items (parted partitions done) }
+    requires pair { IsCombinable comb pair.now }
+    ensures { (done : List GhostValue) →
+        AllZip (IsLifted comb) parts.old.items (parted partitions done) →
+        OnOk result (AllZip (IsLifted comb) parts.new.items
+        (parted partitions (done ++ pair.now ∷ []))) }
+{
+    let at = partition(key(pair), partitions);
+    parts[at as usize].put(alloc, comb, pair)?;
+    Ok(())
 }

@@ -1,5 +1,6 @@
-// Pairs parted by their keys, moved or referred to.
-ghost use Rattle.std.specs.Prelude.{◌≡◌, ◌<◌, [], All, IfOk, map};
+// Pairs parted by their keys.
+ghost use Rattle.std.specs.Prelude.{◌≡◌, ◌<◌, ◌++◌, [], All, IfOk, List};
+ghost use Rattle.flume_value.specs.declared.value.Value.{Value as GhostValue};
 ghost use Rattle.bag_groups.specs.Pairs.{IsPair};
 ghost use Rattle.shuffle_parts.specs.Partitions.{parted};
 
@@ -13,16 +14,13 @@ pub fn part(alloc: Global, pairs: Vec<Value>, partitions: u32) -> Result<Pile<It
     requires pairs { All IsPair pairs.items }
     ensures { IfOk result (λ parts. parts ≡ parted partitions pairs.items) }
 {
-    let mut parts = no_pairs(alloc, partitions)?;
-    for pair in pairs {
-        let at = partition(key(&pair), partitions);
-        parts[at as usize].push(pair)?;
-    }
+    let empty = no_pairs(alloc, partitions)?;
+    let parts = part_more(empty, pairs, partitions)?;
     Ok(Pile::from_vec(parts))
 }
 
-// So many empty lists.
-fn no_pairs(alloc: Global, partitions: u32) -> Result<Vec<Items>, AllocError>
+/// So many empty lists, which are those of no pairs.
+pub fn no_pairs(alloc: Global, partitions: u32) -> Result<Vec<Items>, AllocError>
     ensures { IfOk result (λ parts. parts.items ≡ parted partitions []) }
 {
     let mut parts = Vec::new(alloc);
@@ -32,33 +30,21 @@ fn no_pairs(alloc: Global, partitions: u32) -> Result<Vec<Items>, AllocError>
     Ok(parts)
 }
 
-/// The pairs that are referred to by the partition of their keys, as `part` parts them.
-pub(crate) fn part_borrowed<'a>(
-    alloc: Global,
-    pairs: Vec<&'a Value>,
+/// The pairs that were parted, and more behind them. It moves each pair into its partition.
+pub fn part_more(
+    mut parts: Vec<Items>,
+    pairs: Vec<Value>,
     partitions: u32,
-) -> Result<Vec<Vec<&'a Value>>, AllocError>
+) -> Result<Vec<Items>, AllocError>
     requires some { 0 < partitions }
-    requires pairs { All (λ pair. IsPair pair.now) pairs.items }
-    ensures { IfOk result (λ parts. map (λ part. map (λ pair. pair.now) part.items) parts.items
-        ≡ parted partitions (map (λ pair. pair.now) pairs.entry.items)) }
+    requires stands { (done : List GhostValue) × (parts.items ≡ parted partitions done) }
+    requires pairs { All IsPair pairs.items }
+    ensures { (done : List GhostValue) → parts.items ≡ parted partitions done →
+        IfOk result (λ all. all.items ≡ parted partitions (done ++ pairs.items)) }
 {
-    let mut parts = none_borrowed(alloc, partitions)?;
     for pair in pairs {
-        let at = partition(key(pair), partitions);
+        let at = partition(key(&pair), partitions);
         parts[at as usize].push(pair)?;
-    }
-    Ok(parts)
-}
-
-// So many empty lists of references.
-fn none_borrowed<'a>(alloc: Global, partitions: u32) -> Result<Vec<Vec<&'a Value>>, AllocError>
-    ensures { IfOk result (λ parts. map (λ part. map (λ pair. pair.now) part.items) parts.items
-        ≡ parted partitions []) }
-{
-    let mut parts = Vec::new(alloc);
-    for _i in 0..partitions {
-        parts.push(Vec::new(alloc))?;
     }
     Ok(parts)
 }

@@ -15,7 +15,7 @@ use Rattle.plan_phases.proofs.Asking.{asked_all, asked_then, front_before}
 use Rattle.plan_phases.proofs.Joining.{none_run, run_then, stopped_before, stopped_behind}
 use Rattle.plan_phases.proofs.Lasting.{all_grew_on}
 use Rattle.plan_phases.specs.Phases.{stage_phases}
-use Rattle.plan_phases.specs.Told.{AskedFront, HaveRun, IsStopped}
+use Rattle.plan_phases.specs.Told.{AskedFront, HaveRun, IsStopped, attempts_of}
 use Rattle.plan_phases.specs.declared.fault.RunFault.{RunFault}
 use Rattle.plan_phases.specs.declared.winners.PhaseWinners.{PhaseWinners}
 use Rattle.run_settings.specs.Settings.{RunSettings}
@@ -236,8 +236,10 @@ module _ (s : RunSettings) (called : ℕ → Value → Called) (takes : ℕ → 
         subst (λ ps. AskedFront s.tries s.drill ps us ws)
         (append_assoc a.ran here rest ∙ phases_left)
         (front_before s.tries s.drill (a.ran ++ here) rest us ws
-        (asked_all s.tries s.drill (a.ran ++ here) us ws
-        (asked_then s.tries s.drill a.ran here us vs ws a.have_run.asked ran.asked)))
+        (asked_all s.tries s.drill (a.ran ++ here)
+        (attempts_of a.have_run.through.winners ++ attempts_of ran.through.winners) us ws
+        (asked_then s.tries s.drill a.ran here (attempts_of a.have_run.through.winners)
+        (attempts_of ran.through.winners) us vs ws a.have_run.asked ran.asked)))
 
   -- what is read no more may be dropped
   pub along_fewer : (k : ℕ) (results fewer : List (List (List Value))) (first sizes : List ℕ)

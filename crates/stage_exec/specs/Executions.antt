@@ -7,7 +7,7 @@ use Rattle.exec_plan.specs.Meaning.{emitted_by, plan_collection, plan_traps}
 use Rattle.exec_plan.specs.declared.plan.Plan.{Plan}
 use Rattle.flume_value.specs.Bag.{bag_of}
 use Rattle.plan_phases.specs.Phases.{phases}
-use Rattle.plan_phases.specs.Told.{AreWinners, AskedInTurn, HasTrapped, IsGivenUp}
+use Rattle.plan_phases.specs.Told.{AreWinners, AskedInTurn, HasTrapped, IsGivenUp, attempts_of}
 use Rattle.plan_phases.specs.declared.fault.RunFault.{RunFault}
 use Rattle.plan_phases.specs.declared.fault.RunFault.TheVariants as fault
 use Rattle.run_settings.specs.Settings.{RunSettings}
@@ -23,7 +23,8 @@ split_of s = record { shards = s.shards; partitions = s.partitions }
 -- Nothing in the plan's meaning traps. The lists of outputs have the bags of what the plan writes
 -- out, and the counts are the sizes of the first so many script nodes. Of each phase of the plan
 -- there are winners: an attempt of each task, not in the drill, all of whose places some host has
--- let through since. The hosts were asked for these phases alone, in turn.
+-- let through since. The hosts were asked for these phases alone, in turn, each in one work, and
+-- the winners are those of the works' boards.
 pub record IsExecuted (s : RunSettings) (w : World) (p : Plan) (nodes : ℕ)
     (olds news : List Account) (it : Executed) : Type 0 where
   pub calm : plan_traps w p ≡ []
@@ -34,7 +35,8 @@ pub record IsExecuted (s : RunSettings) (w : World) (p : Plan) (nodes : ℕ)
       slice_get it.counts i ≡ Some (kept_count (length (emitted_by w p i)))
   pub ran : AllZip (AreWinners s.tries s.drill olds news) (phases w (split_of s) p)
       it.winners
-  pub asked : AskedInTurn s.tries s.drill (phases w (split_of s) p) olds news
+  pub asked : AskedInTurn s.tries s.drill (phases w (split_of s) p) (attempts_of it.winners) olds
+      news
 
 -- why a plan's execution stopped: by the first trap of its tasks, which is one of the plan's, at a
 -- task that has run; or at a task that was given up; all phases and tasks before have run without a

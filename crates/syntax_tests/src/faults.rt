@@ -5,7 +5,7 @@ use flume_syntax::ScriptKind;
 use std::test::Fail;
 
 /// Scripts with the first fault of each.
-static FAULTS: [(&[u8], Outcome); 20] = [
+static FAULTS: [(&[u8], Outcome); 29] = [
     (b"type type = int", Outcome::Refused(1, ScriptKind::Syntax)),
     (b"@", Outcome::Refused(1, ScriptKind::Token)),
     (b"\xff", Outcome::Refused(1, ScriptKind::Utf8)),
@@ -56,6 +56,43 @@ static FAULTS: [(&[u8], Outcome); 20] = [
     ),
     (
         b"let a\n, b, = do c f",
+        Outcome::Refused(2, ScriptKind::Syntax),
+    ),
+    // a repeat in a repeat, no give, nothing else in a body, and names that are reserved
+    (
+        b"let t = repeat 2 from a as c { let d =\nrepeat 2 from c as e { give e } give d }",
+        Outcome::Refused(2, ScriptKind::Syntax),
+    ),
+    (
+        b"let t = repeat 2 from a as c { let d = do c f\n}",
+        Outcome::Refused(2, ScriptKind::Syntax),
+    ),
+    (
+        b"let t = repeat\nfrom a as c { give c }",
+        Outcome::Refused(2, ScriptKind::Syntax),
+    ),
+    (
+        b"let t = repeat 2 from a\n{ give a }",
+        Outcome::Refused(2, ScriptKind::Syntax),
+    ),
+    (
+        b"let t = repeat 2 from a as c {\ntype r = int give c }",
+        Outcome::Refused(2, ScriptKind::Syntax),
+    ),
+    (
+        b"let t = repeat 2 from a as c { give c\nlet d = do c f }",
+        Outcome::Refused(2, ScriptKind::Syntax),
+    ),
+    (
+        b"let t = repeat 2 from\nas as c { give c }",
+        Outcome::Refused(2, ScriptKind::Syntax),
+    ),
+    (
+        b"let\ngive = do c f",
+        Outcome::Refused(2, ScriptKind::Syntax),
+    ),
+    (
+        b"let t = repeat 2 from a as c { give c\n",
         Outcome::Refused(2, ScriptKind::Syntax),
     ),
     // at the end of the tokens a fault is on the last line

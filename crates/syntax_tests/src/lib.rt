@@ -18,6 +18,8 @@ mod outcome;
 #[cfg(test)]
 mod parts;
 #[cfg(test)]
+mod repeats;
+#[cfg(test)]
 mod scripts;
 #[cfg(test)]
 mod statements;

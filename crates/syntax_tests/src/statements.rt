@@ -145,6 +145,7 @@ fn is_form(form: &Form, wanted: Wanted) -> bool {
                 && file.is(b"c.csv")
         }
         Form::Function(function) => is_function(function, wanted),
+        Form::Repeat(_, _) => false,
         Form::Output(name, file) => {
             matches!(wanted, Wanted::Output) && name.is(b"c") && file.is(b"d.csv")
         }

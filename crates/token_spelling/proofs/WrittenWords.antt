@@ -68,6 +68,9 @@ keyword_passes keyword.Concat = refl
 keyword_passes keyword.Number = refl
 keyword_passes keyword.Pick = refl
 keyword_passes keyword.Empty = refl
+keyword_passes keyword.Repeat = refl
+keyword_passes keyword.As = refl
+keyword_passes keyword.Give = refl
 
 word_from : (w : List ℕ) → passes w ≡ true → IsWord w
 word_from w e =

@@ -1,5 +1,5 @@
-//! Tests of values, of their types and of the ints that texts show: tables of cases over public
-//! calls.
+//! Tests of values, of their bytes and types, and of the ints that texts show: tables of cases over
+//! public calls.
 #![tactic(auto)]
 
 #[cfg(test)]
@@ -9,6 +9,8 @@ mod hashes;
 mod ints;
 #[cfg(test)]
 mod keys;
+#[cfg(test)]
+mod readings;
 #[cfg(test)]
 mod samples;
 #[cfg(test)]

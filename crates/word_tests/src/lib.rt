@@ -9,3 +9,5 @@ mod refused;
 mod taken;
 #[cfg(test)]
 mod texts;
+#[cfg(test)]
+mod workloads;

@@ -1,5 +1,5 @@
 -- Statements of a script.
-use Rattle.std.specs.Prelude.{ℕ, ◌+◌, length, is_some, List, [], ◌∷◌, ◌++◌, Bool, Option, Some, None, Result, Ok, Err}
+use Rattle.std.specs.Prelude.{ℕ, ◌+◌, length, is_some, List, [], ◌∷◌, ◌++◌, Bool, Option, Some, None, option_map, if◌then◌else◌, Result, Ok, Err}
 use Rattle.flume_tokens.specs.declared.keyword.Keyword.{Keyword}
 use Rattle.flume_tokens.specs.declared.keyword.Keyword.TheVariants as keyword
 use Rattle.flume_tokens.specs.declared.sign.Sign.TheVariants as sign
@@ -10,6 +10,8 @@ use Rattle.flume_grammar.specs.declared.fault.ScriptKind.TheVariants.{Syntax}
 use Rattle.flume_grammar.specs.declared.fault.Stop.{Stop}
 use Rattle.flume_grammar.specs.declared.start.OperationStart.{OperationStart}
 use Rattle.flume_grammar.specs.declared.start.OperationStart.TheVariants as begin
+use Rattle.flume_grammar.specs.declared.start.LetStart.{LetStart}
+use Rattle.flume_grammar.specs.declared.start.LetStart.TheVariants as letting
 use Rattle.flume_grammar.specs.declared.start.CombinerStart.{CombinerStart}
 use Rattle.flume_grammar.specs.declared.start.CombinerStart.TheVariants as combining
 use Rattle.flume_grammar.specs.declared.start.StatementStart.{StatementStart}
@@ -18,11 +20,13 @@ use Rattle.flume_grammar.specs.declared.tree.Combiner.{Combiner}
 use Rattle.flume_grammar.specs.declared.tree.Combiner.TheVariants as combiner
 use Rattle.flume_grammar.specs.declared.tree.Operation.{Operation}
 use Rattle.flume_grammar.specs.declared.tree.Operation.TheVariants as operation
+use Rattle.flume_grammar.specs.declared.tree.TurnLet.{TurnLet}
+use Rattle.flume_grammar.specs.declared.tree.Repeat.{Repeat}
 use Rattle.flume_grammar.specs.declared.tree.Form.{Form}
 use Rattle.flume_grammar.specs.declared.tree.Form.TheVariants as form
 use Rattle.flume_grammar.specs.declared.tree.Statement.{Statement}
 use Rattle.flume_grammar.specs.inner.Out.{Out, give, bind, at, one, next, all_of}
-use Rattle.flume_grammar.specs.inner.Reading.{sign_at, keyword_at, name_at, number_at, text_at, comma_at, or_syntax, numbered}
+use Rattle.flume_grammar.specs.inner.Reading.{sign_at, keyword_at, is_keyword, is_at_keyword, name_at, number_at, text_at, comma_at, or_syntax, numbered}
 use Rattle.flume_grammar.specs.Parts.{Tree}
 use Rattle.flume_grammar.specs.inner.Types.{at_comma, whole_type}
 use Rattle.flume_grammar.specs.inner.Bodies.{whole_block}
@@ -46,6 +50,14 @@ of_keyword f _ = None
 
 abbrev pub operation_start : Token → Result OperationStart Stop
 operation_start t = or_syntax t (of_keyword keyword_operation t.kind)
+
+-- what stands behind the `=` of a let: a repeat, or an operation
+abbrev pub keyword_let : Keyword → Option LetStart
+keyword_let keyword.Repeat = Some letting.Repeat
+keyword_let k = option_map letting.Plain (keyword_operation k)
+
+abbrev pub let_start : Token → Result LetStart Stop
+let_start t = or_syntax t (of_keyword keyword_let t.kind)
 
 abbrev pub keyword_combiner : Keyword → Option CombinerStart
 keyword_combiner keyword.Sum = Some (combining.Whole combiner.Sum)
@@ -105,6 +117,20 @@ next_name xs ts =
 abbrev pub names : List Token → Out (List (List ℕ))
 names ts = bind (one name_at ts) (λ x us. all_of at_comma next_name (x ∷ []) us)
 
+-- what enters a repeat's first turn, and its names in the body, behind the number of turns
+abbrev pub repeat_head : List Token → Out (List ℕ × List (List ℕ) × List (List ℕ))
+repeat_head ts =
+    bind (one number_at ts) (λ n us. bind (one (keyword_at keyword.From) us)
+    (λ _ vs. bind (names vs) (λ xs ws. bind (one (keyword_at keyword.As) ws)
+    (λ _ ps. bind (names ps) (λ ys qs. give (n, xs, ys) qs)))))
+
+-- the line on which a let begins
+abbrev pub line_of_let : Token → Result ℕ Stop
+line_of_let t = if is_keyword keyword.Let t.kind then Ok t.line else Err (at t Syntax)
+
+abbrev pub at_let : List TurnLet → List Token → Bool
+at_let ls ts = is_at_keyword keyword.Let (next ts)
+
 abbrev pub output_form : List Token → Out Form
 output_form ts =
     bind (one name_at ts) (λ x us. bind (one (keyword_at keyword.To) us)
@@ -136,6 +162,35 @@ module _ (limits : Limits) where
 
   abbrev pub operation_at : List Token → Out Operation
   operation_at ts = bind (one operation_start ts) (λ s us. after_begin s us)
+
+  -- ---- repeats
+
+  abbrev pub turn_let : List Token → Out TurnLet
+  turn_let ts =
+      bind (one line_of_let ts) (λ n us. bind (names us) (λ xs vs.
+      bind (one (sign_at sign.Assign) vs) (λ _ ws. bind (operation_at ws)
+      (λ o ps. give (record { line = n; names = xs; by = o }) ps))))
+
+  abbrev pub next_let : List TurnLet → List Token → Out (List TurnLet)
+  next_let ls ts = bind (turn_let ts) (λ l us. give (ls ++ l ∷ []) us)
+
+  -- the lets of a body
+  abbrev pub turn_lets : List Token → Out (List TurnLet)
+  turn_lets ts = all_of at_let next_let [] ts
+
+  -- the lets of a repeat's body, and what it gives
+  abbrev pub repeat_body : List Token → Out (List TurnLet × List (List ℕ))
+  repeat_body ts =
+      bind (one (sign_at sign.OpenBrace) ts)
+      (λ _ us. bind (turn_lets us) (λ ls vs. bind (one (keyword_at keyword.Give) vs)
+      (λ _ ws. bind (names ws) (λ xs ps. bind (one (sign_at sign.CloseBrace) ps)
+      (λ _ qs. give (ls, xs) qs)))))
+
+  -- what stands behind `repeat`
+  abbrev pub repeat_at : List Token → Out Repeat
+  repeat_at ts =
+      bind (repeat_head ts) (λ h us. bind (repeat_body us) (λ b vs.
+      give (record { turns = h.0; from = h.1; entering = h.2; lets = b.0; gives = b.1 }) vs))
 
   abbrev pub type_form : List Token → Out Form
   type_form ts =
@@ -183,10 +238,15 @@ module _ (limits : Limits) where
         body = b;
       })) xs))))
 
+  -- a let of these names, by what begins behind its `=`
+  abbrev pub after_let : List (List ℕ) → LetStart → List Token → Out Form
+  after_let xs (letting.Plain s) ts = bind (after_begin s ts) (λ o us. give (form.Let xs o) us)
+  after_let xs letting.Repeat ts = bind (repeat_at ts) (λ r us. give (form.Repeat xs r) us)
+
   abbrev pub let_form : List Token → Out Form
   let_form ts =
       bind (names ts) (λ xs us. bind (one (sign_at sign.Assign) us)
-      (λ _ vs. bind (operation_at vs) (λ o ws. give (form.Let xs o) ws)))
+      (λ _ vs. bind (one let_start vs) (λ s ws. after_let xs s ws)))
 
   abbrev pub form_at : StatementStart → List Token → Out Form
   form_at start.Type ts = type_form ts

@@ -12,7 +12,9 @@ returns c =
     ∙ ap₂ with_subcommand one (ap top c.in_ok-plan.ensures.app) in
     let three = c.in_ok-subcommand-3.ensures.shape c.in_ok-direct.ensures.local
     ∙ ap₂ with_subcommand two (ap top c.in_ok-direct.ensures.app) in
-    IfOk-weaker c.subcommand-4.result _ _
-    (λ line h. h.shape c.in_ok-run.ensures.local
-    ∙ ap₂ with_subcommand three (ap top c.in_ok-run.ensures.app))
-    c.subcommand-4.ensures
+    let four = c.in_ok-subcommand-4.ensures.shape c.in_ok-run.ensures.local
+    ∙ ap₂ with_subcommand three (ap top c.in_ok-run.ensures.app) in
+    IfOk-weaker c.subcommand-5.result _ _
+    (λ line h. h.shape c.in_ok-make.ensures.local
+    ∙ ap₂ with_subcommand four (ap top c.in_ok-make.ensures.app))
+    c.subcommand-5.ensures

@@ -1,6 +1,7 @@
-use Rattle.std.proofs.Common.{◌≡◌, ◌≢◌, ◌<◌, ℕ, List, get_or, length, map, sym, ap, ◌∙◌, subst, arith}
+use Rattle.std.proofs.Common.{◌≡◌, ◌≢◌, ◌<◌, ℕ, inl, List, get_or, length, map, refl, sym, ap, ◌∙◌, subst, arith}
 use Rattle.std.specs.List.Sorted.{IsPermutation}
 use Rattle.std.proofs.lemmas.List.{length-map}
+use Rattle.std.proofs.lemmas.Result.{err_from_is_err_and}
 use Rattle.claim_board.specs.Protocol.{IsGood}
 use Rattle.claim_board.specs.Boards.{Pass, Passes, Tally, AreOf, states_of}
 use Rattle.claim_board.specs.Told.{closing_state}
@@ -9,6 +10,7 @@ use Rattle.crew.specs.declared.kept.KeptOut.{KeptOut}
 use Rattle.crew.proofs.Accounts.{all_grew_not}
 use Rattle.crew.proofs.Lists.{lent_back}
 use Rattle.crew.proofs.Asking.{asked_not, asked_once}
+use Rattle.crew.proofs.Fronts.{took_so_far}
 use Rattle.crew.proofs.Ending.{can_start, length_fresh, settled, unsettled, cannot_finish}
 use Rattle.crew.proofs.phase.run_phase.Goals as goal
 
@@ -171,3 +173,30 @@ returns-in_err-kept-clause-asked g c =
     (λ i. (tasks i, tries i, back i)) c.close-tally.ensures.good in
     let asked = c.work_all-worked.ensures.asked in
     asked_once _ _ _ c.requires.tasks (closing_state told new) _ _ asked.0 good asked.1
+
+pub returns-in_err-board-clause-fault : goal.returns-in_err-board-clause-fault
+returns-in_err-board-clause-fault g c =
+    let p = err_from_is_err_and c.from_residual.result c.from_residual.ensures.1 in
+    rw (p.1, p.2) (inl refl)
+
+pub returns-in_err-kept-clause-fault : goal.returns-in_err-kept-clause-fault
+returns-in_err-kept-clause-fault g c =
+    let b = c.in_ok-board.board in
+    let old : List Pass = c.in_ok-board.passes.members in
+    let new : List Pass = c.work_all-worked.new.passes in
+    let value : length c.as_mut_slice.result.now ≡ length old =
+    ap length c.as_mut_slice.ensures.value in
+    let same = c.work_all-worked.auto.passes in
+    let size = c.in_ok-board.ensures.size in
+    let len : length old ≡ b.crew =
+    ap (λ (p : Passes). length p.members) c.in_ok-board.ensures.passes ∙ length_fresh b b.crew in
+    let back = lent_back (length old) old new (omega arith) in
+    let tasks = size.0 ∙ c.count-count.ensures in
+    let tries = size.1 ∙ c.tries.ensures in
+    let told : Tally = c.close-tally.result in
+    let good = subst
+    (λ (x : ℕ × ℕ × List Pass). IsGood x.0 x.1 (closing_state told x.2))
+    (λ i. (tasks i, tries i, back i)) c.close-tally.ensures.good in
+    let end = c.from_residual-in_err-kept in
+    let p = err_from_is_err_and end.result end.ensures.1 in
+    rw (p.1, p.2) (took_so_far _ _ _ _ _ told new good c.work_all-worked.ensures.asked)

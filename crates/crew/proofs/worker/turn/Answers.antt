@@ -1,5 +1,6 @@
-use Rattle.std.proofs.Common.{sym, ap, ◌∙◌}
+use Rattle.std.proofs.Common.{inl, sym, ap, ◌∙◌, subst}
 use Rattle.claim_board.specs.Protocol.{PassState, winning, losing}
+use Rattle.claim_board.specs.Boards.{AreBefore}
 use Rattle.crew.proofs.Accounts.{grew_not}
 use Rattle.crew.proofs.Turning.{names_of, took_early, turned_seen, turned_down, turned_drilled, turned_won, turned_lost}
 use Rattle.crew.proofs.worker.turn.Goals as goal
@@ -13,7 +14,7 @@ returns-in-Some-clause-turned g c =
     let n = names_of _ _ c.args.draw _ _ _ _ r.count r.tries r.some r.open c.task-task.ensures
     c.attempt-attempt.ensures in
     let s = c.in-Some.ensures.some in
-    rw s.2.gained (turned_seen _ _ _ _ s.2.place _ _ _ _ _ _ n s.0)
+    rw s.2.gained (turned_seen _ _ _ _ s.2.place _ _ _ _ _ _ n s.2.later s.0)
 
 pub returns-in-Down-clause-turned : goal.returns-in-Down-clause-turned
 returns-in-Down-clause-turned g c =
@@ -22,8 +23,8 @@ returns-in-Down-clause-turned g c =
     c.attempt-attempt.ensures in
     let ran = rw c.in-Down.is at c.in_ok-attempt-in-None.ensures.ran in
     let down = rw (c.spot.ensures c.task-task.result) at ran in
-    rw c.in-None.ensures.none.gained
-    (turned_down _ _ _ _ c.in-None.ensures.none.place _ _ _ _ _ _ n down)
+    let saw = c.in-None.ensures.none in
+    rw saw.gained (turned_down _ _ _ _ saw.place _ _ _ _ _ _ n saw.later down)
 
 pub returns-in-Ok-clause-turned : goal.returns-in-Ok-clause-turned
 returns-in-Ok-clause-turned g c =
@@ -38,8 +39,10 @@ returns-in-Ok-clause-turned g c =
     let saw = c.in-None.ensures.none in
     let wins = c.in-Ok.ensures.won in
     let won = wins.gained ∙ ap (λ (p : PassState). winning p wins.place d) saw.gained in
+    let behind = subst (AreBefore wins.place) saw.gained wins.later in
     rw (won, c.new.ensures)
-    (turned_won _ _ _ _ saw.place wins.place _ _ _ c.in-Made.out _ _ _ n through undrilled value)
+    (turned_won _ _ _ _ saw.place wins.place _ _ _ c.in-Made.out _ _ _ n saw.later behind through
+    undrilled value)
 
 pub returns-in-Err-clause-turned : goal.returns-in-Err-clause-turned
 returns-in-Err-clause-turned g c =
@@ -53,24 +56,27 @@ returns-in-Err-clause-turned g c =
     let loses = c.in-Err.ensures.lost.2 in
     let lost = loses.gained
     ∙ ap (λ (p : PassState). losing p loses.place d c.in-Err.field-0) saw.gained in
+    let undrilled = sym c.is_drilled.ensures ∙ c.if-is_drilled.false in
+    let behind = subst (AreBefore loses.place) saw.gained loses.later in
     rw lost (turned_lost _ _ _ _ saw.place loses.place d c.task-task.result
-    c.attempt-attempt.result c.in-Err.field-0 c.args.pass.now.state _ _ n through)
+    c.attempt-attempt.result c.in-Err.field-0 c.args.pass.now.state _ _ n saw.later behind through
+    undrilled)
 
 pub returns-in-Some-clause-asked : goal.returns-in-Some-clause-asked
 returns-in-Some-clause-asked g c =
-    let t = returns-in-Some-clause-turned g c in (t.turn, t.took)
+    let t = returns-in-Some-clause-turned g c in (t.turn, t.took, inl t.cause)
 
 pub returns-in-Down-clause-asked : goal.returns-in-Down-clause-asked
 returns-in-Down-clause-asked g c =
-    let t = returns-in-Down-clause-turned g c in (t.turn, t.took)
+    let t = returns-in-Down-clause-turned g c in (t.turn, t.took, inl t.cause)
 
 pub returns-in-Ok-clause-asked : goal.returns-in-Ok-clause-asked
 returns-in-Ok-clause-asked g c =
-    let t = returns-in-Ok-clause-turned g c in (t.turn, t.took)
+    let t = returns-in-Ok-clause-turned g c in (t.turn, t.took, inl t.cause)
 
 pub returns-in-Err-clause-asked : goal.returns-in-Err-clause-asked
 returns-in-Err-clause-asked g c =
-    let t = returns-in-Err-clause-turned g c in (t.turn, t.took)
+    let t = returns-in-Err-clause-turned g c in (t.turn, t.took, inl t.cause)
 
 pub returns-then-is_drilled-clause-turned : goal.returns-then-is_drilled-clause-turned
 returns-then-is_drilled-clause-turned g c =
@@ -81,11 +87,11 @@ returns-then-is_drilled-clause-turned g c =
     let through = rw (c.spot.ensures c.task-task.result) at ran in
     let drilled = sym c.is_drilled.ensures ∙ c.if-is_drilled.true in
     let saw = c.in-None.ensures.none in
-    rw saw.gained (turned_drilled _ _ _ _ saw.place _ _ _ _ _ _ n through drilled)
+    rw saw.gained (turned_drilled _ _ _ _ saw.place _ _ _ _ _ _ n saw.later through drilled)
 
 pub returns-then-is_drilled-clause-asked : goal.returns-then-is_drilled-clause-asked
 returns-then-is_drilled-clause-asked g c =
-    let t = returns-then-is_drilled-clause-turned g c in (t.turn, t.took)
+    let t = returns-then-is_drilled-clause-turned g c in (t.turn, t.took, inl t.cause)
 
 pub returns-in_err-attempt-in-None-clause-asked : goal.returns-in_err-attempt-in-None-clause-asked
 returns-in_err-attempt-in-None-clause-asked g c =
@@ -94,4 +100,4 @@ returns-in_err-attempt-in-None-clause-asked g c =
     c.attempt-attempt.ensures in
     let early = rw (c.spot.ensures c.task-task.result) at c.in_err-attempt-in-None.ensures.early in
     let saw = c.in-None.ensures.none in
-    rw saw.gained (took_early _ _ _ saw.place _ _ _ _ _ _ n early)
+    rw saw.gained (took_early _ _ _ saw.place _ _ _ _ _ _ n saw.later early)

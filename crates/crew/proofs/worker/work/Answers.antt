@@ -2,7 +2,7 @@ use Rattle.std.proofs.Common.{◌≡◌, ◌<◌, ◌*◌, ℕ, ◌≤◌, refl,
 use Rattle.claim_board.specs.Protocol.{PassState, limit, drawn}
 use Rattle.claim_board.specs.Boards.{Pass}
 use Rattle.crew.proofs.Accounts.{grew_not, grew_on}
-use Rattle.crew.proofs.Working.{falls, worked_not, worked_more, worked_end, took_then}
+use Rattle.crew.proofs.Working.{came_all, falls, worked_not, worked_more, worked_end, took_then}
 use Rattle.crew.proofs.worker.work.Goals as goal
 
 pub draws-init : goal.draws-init
@@ -32,7 +32,7 @@ draws-preserved g c =
       grew = grew_on _ _ _ i.grew c.turn.ensures.grew;
       worked = rw c.in_ok-add-in-Some.ensures
           (worked_more _ _ _ _ c.args.pass.now.state c.draws.pass.state c.draw.new.pass.state
-          c.turn.new.pass.state _ _ _ c.draws.kept _ d.place number i.worked i.grew
+          c.turn.new.pass.state _ _ _ c.draws.kept _ d.place number i.worked i.grew d.later
           (subst (λ (n : ℕ). number < n) same d.claimable.claimable.1) drew
           c.in_ok-won-in-Some.ensures.turned c.turn.ensures.grew);
     }
@@ -48,6 +48,7 @@ returns-in-None-clause-worked g c =
     (λ e. let d = c.in-None.ensures.none e in (
       d.place,
       d.number,
+      d.later,
       subst (λ (n : ℕ). n ≤ d.number) same d.past,
       d.gained ∙ ap (λ (n : ℕ). drawn n c.draws.pass.state d.place d.number) same,
     ))
@@ -68,7 +69,7 @@ returns-in_err-won-in-Some-clause-asked g c =
     ≡ g.T.Tasks.count_of c.args.tasks.now * c.args.phase.now.tries =
     λ i. c.requires.count i * c.requires.tries i in
     took_then _ _ _ _ c.args.pass.now.state c.draws.pass.state c.draw.new.pass.state
-    c.turn.new.pass.state _ _ _ c.draws.kept d.place number c.draws.invariant.worked
+    c.turn.new.pass.state _ _ _ c.draws.kept d.place number c.draws.invariant.worked d.later
     (subst (λ (n : ℕ). number < n) same d.claimable.claimable.1)
     (d.gained ∙ ap (λ (n : ℕ). drawn n c.draws.pass.state d.place number) same) c.turn.ensures.asked
 
@@ -80,10 +81,11 @@ returns-in_err-add-in-Some-clause-asked g c =
     ≡ g.T.Tasks.count_of c.args.tasks.now * c.args.phase.now.tries =
     λ i. c.requires.count i * c.requires.tries i in
     took_then _ _ _ _ c.args.pass.now.state c.draws.pass.state c.draw.new.pass.state
-    c.turn.new.pass.state _ _ _ c.draws.kept d.place number c.draws.invariant.worked
+    c.turn.new.pass.state _ _ _ c.draws.kept d.place number c.draws.invariant.worked d.later
     (subst (λ (n : ℕ). number < n) same d.claimable.claimable.1)
     (d.gained ∙ ap (λ (n : ℕ). drawn n c.draws.pass.state d.place number) same) c.turn.ensures.asked
 
 pub returns-in-None-clause-asked : goal.returns-in-None-clause-asked
 returns-in-None-clause-asked g c =
-    let w = returns-in-None-clause-worked g c in (w.turns, w.took)
+    let w = returns-in-None-clause-worked g c in
+    (w.turns, w.took, came_all _ _ _ _ w.turns w.causes)

@@ -1,7 +1,7 @@
 use Rattle.std.proofs.Common.{◌≡◌, ◌-◌}
 use Rattle.claim_board.specs.Protocol.{limit}
 use Rattle.crew.specs.Hosts.{account, Grew}
-use Rattle.crew.specs.Work.{Worked}
+use Rattle.crew.specs.inner.Turns.{WorkedSoFar}
 use Rattle.crew.proofs.Working.{high}
 use Rattle.crew.proofs.worker.work.Given as goal
 
@@ -10,7 +10,7 @@ invariant-draws g l = record {
   same : l.pass.board ≡ l.initial.pass.board;
   grew : Grew (account g.H.Host.notes g.H.Host.losses l.initial.host)
       (account g.H.Host.notes g.H.Host.losses l.host);
-  worked : Worked (g.T.Tasks.count_of l.tasks) l.phase (g.T.Tasks.is_value l.tasks)
+  worked : WorkedSoFar (g.T.Tasks.count_of l.tasks) l.phase (g.T.Tasks.is_value l.tasks)
       (g.T.Tasks.places l.tasks) l.initial.pass.state l.pass.state
       (account g.H.Host.notes g.H.Host.losses l.initial.host)
       (account g.H.Host.notes g.H.Host.losses l.host) l.kept;

@@ -54,6 +54,9 @@ reads keyword.Concat = refl
 reads keyword.Number = refl
 reads keyword.Pick = refl
 reads keyword.Empty = refl
+reads keyword.Repeat = refl
+reads keyword.As = refl
+reads keyword.Give = refl
 
 pub returns : goal.returns
 returns c = reads

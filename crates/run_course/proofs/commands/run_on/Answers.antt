@@ -1,4 +1,4 @@
-use Rattle.std.proofs.Common.{ℕ, inl, inr, map, refl, subst}
+use Rattle.std.proofs.Common.{ℕ, inl, inr, map, refl, sym, ◌∙◌, subst}
 use Rattle.std.proofs.lemmas.Result.{IfErr-weaker, err_from_is_err_and}
 use Rattle.crew.specs.Hosts.{account}
 use Rattle.crew.proofs.Accounts.{all_grew_not}
@@ -8,6 +8,7 @@ use Rattle.outside.specs.Seen.{seen}
 use Rattle.script_loading.specs.Causes.{IsInputsCause}
 use Rattle.outside.specs.Asked.{Asks, AsksFront}
 use Rattle.script_loading.specs.Loads.{file_names}
+use Rattle.script_run.proofs.Running.{as_many_rows}
 use Rattle.run_course.specs.Lent.{lent}
 use Rattle.run_course.proofs.AskLemmas.{inputs_with, none_with, run_until}
 use Rattle.run_course.proofs.CauseLemmas.{run_stop}
@@ -106,7 +107,10 @@ returns-clause-asked_hosts g c =
     (map (account g.H.Host.notes g.H.Host.losses) c.args.hosts.now)
     (map (account g.H.Host.notes g.H.Host.losses) c.written_run.new.hosts)
     c.args.program.now.script c.in_ok-inputs.inputs c.in_ok-shown.shown.plan c.written_run.result
-    c.in_ok-inputs.ensures.ok c.in_ok-shown.ensures.optimised c.written_run.ensures.stop
-    c.written_run.ensures.asked
+    c.in_ok-inputs.ensures.ok c.in_ok-shown.ensures.optimised
+    (c.in_ok-shown.ensures.of_script.sources
+    ∙ sym (as_many_rows (inputs_of c.args.program.now.script) c.in_ok-inputs.inputs
+    c.in_ok-inputs.ensures.typed))
+    c.written_run.ensures.stop c.written_run.ensures.asked
     (others_as (account g.H.Host.notes g.H.Host.losses) c.args.settings.now.workers
     c.args.hosts.now c.written_run.new.hosts c.written_run.ensures.hosts)

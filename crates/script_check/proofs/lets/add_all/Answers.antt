@@ -32,8 +32,8 @@ loop-name-preserved c =
           ∙ c.loop-name.invariant.added;
     }
 
-pub returns : goal.returns
-returns c =
+pub returns-clause-state : goal.returns-clause-state
+returns-clause-state c =
     let left = c.loop-name.name-iterator in
     let names = into_iter_items (zip_first left) in
     let makings = into_iter_items (zip_second left) in
@@ -43,3 +43,6 @@ returns c =
     (λ b. inr (nil_from_length makings (sym (zip_second left).rest.ok.0 ∙ b.1.0)))
     c.in-None.ensures.steps)
     ∙ c.loop-name.invariant.added
+
+pub returns-clause-types : goal.returns-clause-types
+returns-clause-types c = c.loop-name.invariant.types

@@ -5,7 +5,7 @@ use Rattle.build_law.specs.Worlds.{world_of}
 use Rattle.flume_value.specs.Bag.{bag_of}
 use Rattle.script_functions.proofs.Sharing.{functions_sync}
 use Rattle.direct_meaning.specs.Inputs.{inputs_of}
-use Rattle.script_run.proofs.Running.{as_many_rows, executed, faulted, phases_asked, typed_run}
+use Rattle.script_run.proofs.Running.{as_many_rows, asked_as, executed, faulted, phases_asked, typed_run}
 use Rattle.script_run.proofs.run.run_script.Goals as goal
 
 pub execute-requires-sync-F : goal.execute-requires-sync-F
@@ -83,7 +83,8 @@ returns-clause-ran g c =
           (c.plan_law.ensures.counts w script plan m.0 c.in_ok-done.done.counts is same
           (λ i below. done.counts i (rw c.node_count-nodes.ensures below)));
       ran = rw c.into_vec-2.ensures done.ran;
-      asked = done.asked;
+      asked = asked_as script c.args.inputs c.args.settings.now plan _ _ _ _ c.into_vec-2.ensures
+          done.asked;
     }
 
 -- ---- what hosts were asked for

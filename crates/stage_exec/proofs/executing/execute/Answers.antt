@@ -1,4 +1,4 @@
-use Rattle.std.proofs.Common.{◌∙◌, ◌++◌, ap, length, map, sym}
+use Rattle.std.proofs.Common.{◌∙◌, ◌++◌, List, ap, length, map, subst, sym}
 use Rattle.std.proofs.lemmas.Result.{err_from_is_err_and}
 use Rattle.crew.proofs.Accounts.{all_grew_not}
 use Rattle.crew.specs.Hosts.{account}
@@ -10,6 +10,8 @@ use Rattle.stage_exec.specs.Executions.{split_of}
 use Rattle.plan_phases.proofs.Asking.{asked_all, asked_none}
 use Rattle.plan_phases.proofs.Joining.{front_stopped}
 use Rattle.plan_phases.specs.Phases.{phases}
+use Rattle.plan_phases.specs.Told.{AskedInTurn, attempts_of}
+use Rattle.plan_phases.specs.declared.winners.PhaseWinners.{PhaseWinners}
 use Rattle.stage_exec.proofs.Finishing.{finishes}
 use Rattle.stage_exec.proofs.executing.execute.Goals as goal
 
@@ -72,14 +74,14 @@ returns-in_err-outputs-clause-asked g c =
     let s = c.args.settings.now in
     let w = run_world (g.F.Functions.called c.args.functions.now) c.args.sources.now in
     let ran = rw c.as_slice-stages.ensures at c.in_ok-results.ensures.ran in
-    asked_all s.tries s.drill (phases w (split_of s) c.args.plan.now) _ _ ran.asked
+    asked_all s.tries s.drill (phases w (split_of s) c.args.plan.now) _ _ _ ran.asked
 
 pub returns-clause-asked : goal.returns-clause-asked
 returns-clause-asked g c =
     let s = c.args.settings.now in
     let w = run_world (g.F.Functions.called c.args.functions.now) c.args.sources.now in
     let ran = rw c.as_slice-stages.ensures at c.in_ok-results.ensures.ran in
-    asked_all s.tries s.drill (phases w (split_of s) c.args.plan.now) _ _ ran.asked
+    asked_all s.tries s.drill (phases w (split_of s) c.args.plan.now) _ _ _ ran.asked
 
 pub returns-clause-done : goal.returns-clause-done
 returns-clause-done g c =
@@ -117,5 +119,10 @@ returns-clause-done g c =
           (c.tasks_law.ensures.sizes w (split_of s) p cut.0 cut.1 c.requires.object_free
           c.requires.plan none));
       ran = rw told ran.through.won;
-      asked = ran.asked;
+      asked = subst
+          (λ (l : List PhaseWinners).
+          AskedInTurn s.tries s.drill (phases w (split_of s) p) (attempts_of l)
+          (map (account g.H.Host.notes g.H.Host.losses) c.args.hosts.now)
+          (map (account g.H.Host.notes g.H.Host.losses) c.run_stages.new.hosts))
+          (sym told) ran.asked;
     }

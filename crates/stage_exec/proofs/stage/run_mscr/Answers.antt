@@ -26,4 +26,4 @@ returns-in-Ok-clause-grown g c =
 pub returns-in-Err-clause-stopped : goal.returns-in-Err-clause-stopped
 returns-in-Err-clause-stopped g c =
     let settings = c.args.inputs.now.settings.now in
-    asked_all settings.tries settings.drill _ _ _ c.in_ok-outs.ensures.ran.asked
+    asked_all settings.tries settings.drill _ _ _ _ c.in_ok-outs.ensures.ran.asked

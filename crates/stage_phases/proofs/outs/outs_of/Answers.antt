@@ -12,7 +12,8 @@ returns-in_ok-tell-in-Ok-clause-ran g c w ph p =
 pub returns-in_err-tell-in-Ok-clause-stopped : goal.returns-in_err-tell-in-Ok-clause-stopped
 returns-in_err-tell-in-Ok-clause-stopped g c w ph p =
     let e = err_from_is_err_and c.from_residual.result c.from_residual.ensures.1 in
-    rw (e.1, e.2) (phase_asked w ph _ _ _ _ _ _ p c.in-Ok.ensures.asked)
+    rw (e.1, e.2)
+    (phase_asked w ph _ _ _ _ _ _ p _ c.in-Ok.ensures.asked c.in-Ok.ensures.made.work)
 
 pub returns-in-Err-clause-stopped : goal.returns-in-Err-clause-stopped
 returns-in-Err-clause-stopped g c w ph p =

@@ -1,5 +1,5 @@
-use Rattle.std.proofs.Common.{refl, sym, ap, ◌∙◌, arith}
-use Rattle.partial_tables.proofs.Adding.{merged_in, is_there, shape_at, kept_none, kept_more, not_there, put_last_is}
+use Rattle.std.proofs.Common.{sym, ap}
+use Rattle.partial_tables.proofs.Adding.{merged_in, is_there, shape_at, kept_none, kept_more, not_there}
 use Rattle.partial_tables.proofs.table.Partials.add.Goals as goal
 
 pub merge_into-requires-clause-slot : goal.merge_into-requires-clause-slot
@@ -33,40 +33,7 @@ returns-in-Ok-clause-room c =
 pub invariant_of-self-in-Err : goal.invariant_of-self-in-Err
 invariant_of-self-in-Err c = kept_none c.self.inside.comb c.clear.new.table.entries c.clear.ensures
 
-pub returns-then-len-self-clause-refused : goal.returns-then-len-self-clause-refused
-returns-then-len-self-clause-refused c =
-    let i = c.self.inside in
-    rw (← c.self.view_is) (
-      refl,
-      refl,
-      not_there c.args.key i.table.entries (sym c.in-None.ensures.found),
-      omega (arith, c.if-len-self.true, c.len.ensures.len),
-      refl,
-    )
-
-pub put_last-requires : goal.put_last-requires
-put_last-requires c =
-    not_there c.args.key c.self.inside.table.entries (sym c.in-None.ensures.found)
-
-pub invariant_of-self-in-Ok-put_last : goal.invariant_of-self-in-Ok-put_last
-invariant_of-self-in-Ok-put_last c =
-    let i = c.self.inside in
-    kept_more i.comb i.table.entries _ c.args.key c.args.acc
-    (c.in-Ok-put_last.ensures
-    ∙ sym (put_last_is i.comb i.table.entries c.args.key c.args.acc
-    (not_there c.args.key i.table.entries (sym c.in-None.ensures.found))))
-    (rw (← c.self.view_is) at c.requires.shape) c.self.invariant
-
-pub returns-in-Ok-put_last-clause-added : goal.returns-in-Ok-put_last-clause-added
-returns-in-Ok-put_last-clause-added c =
-    let i = c.self.inside in
+pub add_new-requires-clause-absent : goal.add_new-requires-clause-absent
+add_new-requires-clause-absent c =
     rw (← c.self.view_is)
-    (ap (λ ps. record { comb = i.comb; room = i.room; partials = ps })
-    (c.in-Ok-put_last.ensures
-    ∙ sym (put_last_is i.comb i.table.entries c.args.key c.args.acc
-    (not_there c.args.key i.table.entries (sym c.in-None.ensures.found)))))
-
-pub invariant_of-self-in-Err-put_last : goal.invariant_of-self-in-Err-put_last
-invariant_of-self-in-Err-put_last c =
-    kept_none c.self.inside.comb c.clear-in-Err-put_last.new.table.entries
-    c.clear-in-Err-put_last.ensures
+    (not_there c.args.key c.self.inside.table.entries (sym c.in-None.ensures.found))

@@ -1,5 +1,7 @@
-use Rattle.std.proofs.Common.{ap}
-use Rattle.partial_tables.proofs.Adding.{merged_in, is_there, shape_at, kept_none, kept_more}
+use Rattle.std.proofs.Common.{◌≡◌, false, sym, ap, subst}
+use Rattle.flume_value.specs.declared.value.Value.{Value}
+use Rattle.partial_tables.specs.Tables.{has_key}
+use Rattle.partial_tables.proofs.Adding.{merged_in, is_there, shape_at, kept_none, kept_more, not_there}
 use Rattle.partial_tables.proofs.table.Partials.add_copy.Goals as goal
 
 pub merge_into-requires-clause-slot : goal.merge_into-requires-clause-slot
@@ -59,3 +61,10 @@ returns-in-Ok-clause-room c =
     (λ new.
     let old = is_there c.args.key.now c.self.inside.table.entries c.in-Some.at
     c.in-Some.ensures.index in cc)
+
+pub add_new-requires-clause-absent : goal.add_new-requires-clause-absent
+add_new-requires-clause-absent c =
+    rw (← c.self.view_is)
+    (subst (λ (k : Value). has_key k c.self.inside.table.entries ≡ false)
+    (sym c.in-Ok-copy.ensures)
+    (not_there c.args.key.now c.self.inside.table.entries (sym c.in-None.ensures.found)))

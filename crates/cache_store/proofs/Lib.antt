@@ -1,0 +1,4 @@
+pub mod EntryPlaces
+pub mod Fitting
+pub mod RoomLemmas
+pub mod SlotLemmas

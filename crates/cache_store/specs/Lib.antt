@@ -1,0 +1,4 @@
+pub mod Cause
+pub mod Entries
+pub mod Memory
+pub mod inner

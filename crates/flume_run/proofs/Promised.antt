@@ -1,0 +1,63 @@
+-- What a call promises, by what its words ask for.
+use Rattle.std.proofs.Common.{◌≡◌, ◌∙◌, ℕ, List, [], Option, Some, None, sym, ap, subst, inl}
+use Rattle.std.specs.Option.{option_map_or}
+use Rattle.command_words.specs.Words.{workload_for}
+use Rattle.command_words.specs.declared.workload.Workload.{Workload}
+use Rattle.made_course.proofs.Promised.{makes}
+use Rattle.made_course.specs.Makes.{Makes}
+use Rattle.outside.proofs.AskLemmas.{asks_none}
+use Rattle.outside.specs.Asked.{Asks}
+use Rattle.outside.specs.Seen.{Seen}
+use Rattle.run_course.proofs.PromiseLemmas.{promises}
+use Rattle.run_course.specs.Answers.{IsRefused}
+use Rattle.run_course.specs.Lent.{lent_to}
+use Rattle.run_course.specs.Promises.{Promises as ScriptPromises}
+use Rattle.run_course.specs.World.{Keeps, World, asks}
+use Rattle.run_settings.specs.Settings.{standard}
+use Rattle.run_texts.specs.declared.status.Status.{Status}
+use Rattle.run_texts.specs.declared.status.Status.TheVariants.{WantOfMemory}
+use Rattle.flume_run.specs.Lent.{lends}
+use Rattle.flume_run.specs.Promises.{Promises}
+
+module _ (words : List (List ℕ)) where
+  pub of_make : (before after : World) (status : Status) (w : Workload)
+      → Some w ≡ workload_for words → Makes w before after status
+      → Promises words before after status
+  of_make before after status w is made = record {
+    made = λ v other.
+        let both : Some w ≡ Some v = is ∙ other in
+        let same : w ≡ v = cc both in
+        subst (λ (x : Workload). Makes x before after status) same made;
+    others = λ none. let both : Some w ≡ None = is ∙ none in absurd (cc both);
+  }
+
+  pub of_script : (before after : World) (status : Status)
+      → ◌≡◌ {A = Option Workload} None (workload_for words)
+      → ScriptPromises words before after status → Promises words before after status
+  of_script before after status is kept = record {
+    made = λ v other.
+        let both : ◌≡◌ {A = Option Workload} None (Some v) = is ∙ other in absurd (cc both);
+    others = λ none. kept;
+  }
+
+  -- no memory was found for the words, and nothing was asked for
+  pub of_no_memory : (before after : World) → IsRefused WantOfMemory before after
+      → Keeps before after → after.source ≡ before.source → after.asked ≡ before.asked
+      → asks after ≡ asks before → after.hosts ≡ before.hosts
+      → Promises words before after WantOfMemory
+  of_no_memory before after refused kept source asked same hosts = record {
+    made = λ w is. makes w before after WantOfMemory refused kept source asked (inl (sym hosts));
+    others = λ none.
+        promises words before after WantOfMemory (tt, refused) kept
+        (inl (subst (λ (it : Seen (List (List ℕ))). Asks 0 [] (asks before) it) (sym same)
+        (asks_none 0 (asks before)))) (inl (sym hosts));
+  }
+
+  pub lends_made : (w : Workload) → Some w ≡ workload_for words → standard.workers ≡ lends words
+  lends_made w is = ap (λ (o : Option Workload). option_map_or (λ v. standard.workers) o
+      (lent_to words)) is
+
+  pub lends_other : ◌≡◌ {A = Option Workload} None (workload_for words)
+      → lent_to words ≡ lends words
+  lends_other is = ap (λ (o : Option Workload). option_map_or (λ v. standard.workers) o
+      (lent_to words)) is

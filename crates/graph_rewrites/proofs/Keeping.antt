@@ -1,0 +1,84 @@
+-- A rewrite keeps what a graph is good for.
+use Rattle.std.proofs.Common.{◌≡◌, ℕ, Bool, true, false, cond, ◌==◌, refl, ◌<◌, List, Some}
+use Rattle.std.specs.Prelude.{nat_lt}
+use Rattle.std.proofs.lemmas.Bool.{eqb-true}
+use Rattle.exec_graph.specs.Meaning.{KeepsMeaning, IsSound}
+use Rattle.exec_graph.specs.Typing.{KeepsTypes}
+use Rattle.exec_graph.specs.Wellformed.{IsGraphOk}
+use Rattle.exec_graph.specs.declared.graph.Blocked.{Blocked}
+use Rattle.exec_graph.specs.declared.graph.Graph.{Graph}
+use Rattle.exec_graph.proofs.Soundness.{IsSound-ok}
+use Rattle.graph_laws.specs.Kids.{CanKid, with_kid}
+use Rattle.graph_laws.specs.Lifting.{lift_of}
+use Rattle.graph_laws.proofs.Kids.{IsKept as IsRewritten, KeepsMeaning-then, kid_sound, sibling_sound}
+use Rattle.graph_laws.proofs.Lifting.{IsGraphOk-lifted_at, KeepsMeaning-remarked, KeepsTypes-remarked}
+use Rattle.sink_laws.proofs.Choosing.{IsKept-call, IsKept-nest}
+use Rattle.graph_rewrites.specs.Rewrites.{CanApply, CanBeKid, forest_at, input_at, kid_under, kid_under_other, pair, rewritten, swapped_at}
+use Rattle.graph_rewrites.specs.declared.rewrite.Rewrite.{Rewrite}
+use Rattle.graph_rewrites.specs.declared.rewrite.Rewrite.TheVariants.{Merge, Sink, Lift, Kid, Sibling, Mark}
+use Rattle.graph_rewrites.proofs.Exchange.{swapped_can, swapped_kept}
+
+-- The graph that a well-formed one becomes.
+pub record IsAsGood (g h : Graph) : Type 0 where
+  pub ok : IsGraphOk h
+  pub keeps : KeepsMeaning g h
+  pub types : KeepsTypes g h
+
+pub as_good : (g : Graph) → IsGraphOk g → IsAsGood g g
+as_good g ok = record {
+  ok = ok;
+  keeps = λ w m meets. (
+    m,
+    meets,
+    record { outputs = refl; own = λ i. refl; traps = refl },
+  );
+  types = λ s t. t;
+}
+
+pub good_then : (g h i : Graph) → IsAsGood g h → IsAsGood h i → IsAsGood g i
+good_then g h i a b = record {
+  ok = b.ok;
+  keeps = KeepsMeaning-then g h i a.keeps b.keeps;
+  types = λ s t. b.types s (a.types s t);
+}
+
+-- what the laws of kids and of siblings say
+rewritten_good : (g h : Graph) → IsGraphOk g → IsRewritten g h → IsAsGood g h
+rewritten_good g h ok a = record { ok = a.formed ok; keeps = a.keeps; types = a.types }
+
+kid_good : (g : Graph) (p k q : ℕ) (b : Bool) → IsGraphOk g → CanBeKid g p k q
+    → IsAsGood g (cond b (kid_under_other g p k q) (kid_under g p k q))
+kid_good g p k q true ok can =
+    let h : Graph = swapped_at g p k q in
+    let last : Graph = with_kid h q k p (input_at g p) (forest_at g p) (forest_at g q) in
+    let a : IsAsGood g h = rewritten_good g h ok
+    (swapped_kept g p k q (input_at g p) (forest_at g p) (forest_at g q) (IsSound-ok g ok) can) in
+    let b : IsAsGood h last = rewritten_good h last a.ok
+    (kid_sound h q k p (input_at g p) (forest_at g p) (forest_at g q) (IsSound-ok h a.ok)
+    (swapped_can g p k q (input_at g p) (forest_at g p) (forest_at g q) (IsSound-ok g ok) can)) in
+    good_then g h last a b
+kid_good g p k q false ok can =
+    rewritten_good g (kid_under g p k q) ok
+    (kid_sound g p k q (input_at g p) (forest_at g p) (forest_at g q) (IsSound-ok g ok) can)
+
+pub apply_good : (b : Blocked) (r : Rewrite) → IsGraphOk b.graph → CanApply b r
+    → IsAsGood b.graph (rewritten b.graph r)
+apply_good b (Merge outer inner) ok can =
+    let a = IsKept-nest b.graph (pair outer inner) ok can in
+    record { ok = a.good.ok; keeps = a.good.keeps; types = a.types }
+apply_good b (Sink flatten pdo) ok can =
+    let a = IsKept-call b.graph (pair flatten pdo) ok can.0 can.1 in
+    record { ok = a.good.ok; keeps = a.good.keeps; types = a.types }
+apply_good b (Lift group) ok can = record {
+  ok = IsGraphOk-lifted_at group b.graph ok;
+  keeps = KeepsMeaning-remarked (λ m k. cond (m == group) (lift_of b.graph group) k) b.graph;
+  types = KeepsTypes-remarked (λ m k. cond (m == group) (lift_of b.graph group) k) b.graph;
+}
+apply_good b (Kid keeper output reader) ok can =
+    kid_good b.graph keeper output reader (nat_lt reader keeper) ok can
+apply_good b (Sibling keeper other) ok can =
+    let g : Graph = b.graph in
+    rewritten_good g (rewritten g (Sibling keeper other)) ok
+    (sibling_sound g keeper other (input_at g keeper) (forest_at g keeper) (forest_at g other)
+    (IsSound-ok g ok) can.1)
+apply_good b (Mark node output) ok can = as_good b.graph ok

@@ -1,0 +1,7 @@
+pub mod Steady
+pub mod Narrow
+pub mod Passing
+pub mod Numbers
+pub mod Exchange
+pub mod Keeping
+pub mod Replaying

@@ -1,0 +1,177 @@
+-- Two numbers that are exchanged: what places, nodes, readers and sums become.
+use Rattle.std.proofs.Common.{◌≡◌, ℕ, Bool, true, false, cond, eqb, ◌||◌, List, [], ◌∷◌, map, Some, refl, sym, ap, ◌∙◌, subst}
+use Rattle.std.specs.List.{AllByRecursion as Each, flat_map}
+use Rattle.std.proofs.lemmas.Bool.{eqb-true, eq-eqb, false≢true}
+use Rattle.flume_collection.specs.Collection.{Collection, by_key, together}
+use Rattle.flume_collection.specs.Sets.{gather}
+use Rattle.flume_collection.proofs.Bagging.{Swaps, gather-gather}
+use Rattle.flume_types.specs.declared.types.Ty.{Ty}
+use Rattle.exec_graph.specs.Meaning.{FitsForest, Holds, gives, node_at, place, reads}
+use Rattle.exec_graph.specs.Objects.{act_result}
+use Rattle.exec_graph.specs.Readers.{among, calls_on, collects, same_place, uses}
+use Rattle.exec_graph.specs.Typing.{ActTyped, ForestTyped, NodeTyped, Signatures}
+use Rattle.exec_graph.specs.World.{World}
+use Rattle.exec_graph.specs.declared.graph.Place.{Place}
+use Rattle.exec_graph.specs.declared.graph.Node.{Node}
+use Rattle.exec_graph.specs.declared.graph.Node.TheVariants.{Source, Flatten, Pdo, Gbk, Barrier}
+use Rattle.exec_graph.specs.declared.graph.Entry.{Entry}
+use Rattle.exec_graph.proofs.Bools.{not_true}
+use Rattle.exec_graph.proofs.Entries.{entry}
+use Rattle.fusion_blocks.proofs.Marking.{is_same, same_is}
+use Rattle.graph_laws.specs.Joining.{reread, set_node, without}
+use Rattle.graph_laws.proofs.Changes.{node_at-without_other, sum_at, sum_set}
+use Rattle.graph_laws.proofs.Joining.{fits_moved, map_reread}
+use Rattle.graph_laws.proofs.TypedForests.{typed_moved}
+use Rattle.graph_laws.proofs.TypedGraphs.{types_reread}
+use Rattle.graph_laws.proofs.Wellness.{node_at-set_other}
+use Rattle.graph_rewrites.specs.Exchange.{exchanged, other_number}
+
+-- ---- numbers and places
+
+pub other_left : (p q : ℕ) → other_number p q p ≡ q
+other_left p q = rw (eq-eqb p p refl) refl
+
+pub other_right : (p q : ℕ) → (p ≡ q → ⊥) → other_number p q q ≡ p
+other_right p q apart =
+    rw (not_true (eqb q p) (λ i. apart (sym (eqb-true q p i))), eq-eqb q q refl) refl
+
+pub other_far : (p q n : ℕ) → (n ≡ p → ⊥) → (n ≡ q → ⊥) → other_number p q n ≡ n
+other_far p q n a b =
+    rw (not_true (eqb n p) (λ i. a (eqb-true n p i)), not_true (eqb n q) (λ i. b (eqb-true n q i)))
+    refl
+
+pub other_twice : (p q n : ℕ) → (p ≡ q → ⊥) → other_number p q (other_number p q n) ≡ n
+other_twice p q n apart = by (eqb n p) (eqb n q) refl refl
+  where
+    by : (a b : Bool) → eqb n p ≡ a → eqb n q ≡ b → other_number p q (cond a q (cond b p n)) ≡ n
+    by true b i j = other_right p q apart ∙ sym (eqb-true n p i)
+    by false true i j = other_left p q ∙ sym (eqb-true n q j)
+    by false false i j =
+        other_far p q n (λ e. false≢true (sym i ∙ eq-eqb n p e))
+        (λ e. false≢true (sym j ∙ eq-eqb n q e))
+
+pub exchanged_twice : (p q : ℕ) (c : Place) → (p ≡ q → ⊥) → exchanged p q (exchanged p q c) ≡ c
+exchanged_twice p q c apart = ap (λ (n : ℕ). place n c.out) (other_twice p q c.node apart)
+
+-- two tests that pass together
+same_tests : (a b : Bool) → (a ≡ true → b ≡ true) → (b ≡ true → a ≡ true) → a ≡ b
+same_tests true b f g = sym (f refl)
+same_tests false b f g = sym (not_true b (λ i. false≢true (g i)))
+
+same_exchanged : (p q : ℕ) → (p ≡ q → ⊥) → (y e : Place)
+    → same_place (exchanged p q y) (exchanged p q e) ≡ same_place y e
+same_exchanged p q apart y e =
+    same_tests (same_place (exchanged p q y) (exchanged p q e)) (same_place y e)
+    (λ i. is_same y e (sym (exchanged_twice p q y apart)
+    ∙ ap (exchanged p q) (same_is (exchanged p q y) (exchanged p q e) i)
+    ∙ exchanged_twice p q e apart))
+    (λ i. is_same (exchanged p q y) (exchanged p q e) (ap (exchanged p q) (same_is y e i)))
+
+-- ---- who reads
+pub among_exchanged : (p q : ℕ) → (p ≡ q → ⊥) → (y : Place) (cs : List Place)
+    → among (exchanged p q y) (map (exchanged p q) cs) ≡ among y cs
+among_exchanged p q apart y [] = refl
+among_exchanged p q apart y (e ∷ es) =
+    let i = among_exchanged p q apart y es in let j = same_exchanged p q apart y e in cc
+
+pub calls_exchanged : (p q : ℕ) → (p ≡ q → ⊥) → (y : Place) (z : Node)
+    → calls_on (exchanged p q y) (reread (exchanged p q) z) ≡ calls_on y z
+calls_exchanged p q apart y (Source s) = refl
+calls_exchanged p q apart y (Flatten ins) = refl
+calls_exchanged p q apart y (Pdo c f) = same_exchanged p q apart y c
+calls_exchanged p q apart y (Gbk c o l k) = refl
+calls_exchanged p q apart y (Barrier ins o l a) = refl
+
+pub collects_exchanged : (p q : ℕ) → (p ≡ q → ⊥) → (y : Place) (z : Node)
+    → collects (exchanged p q y) (reread (exchanged p q) z) ≡ collects y z
+collects_exchanged p q apart y (Source s) = refl
+collects_exchanged p q apart y (Flatten ins) = among_exchanged p q apart y ins
+collects_exchanged p q apart y (Pdo c f) = refl
+collects_exchanged p q apart y (Gbk c o l k) = same_exchanged p q apart y c
+collects_exchanged p q apart y (Barrier ins o l a) = among_exchanged p q apart y ins
+
+pub uses_exchanged : (p q : ℕ) → (p ≡ q → ⊥) → (y : Place) (z : Node)
+    → uses (exchanged p q y) (reread (exchanged p q) z) ≡ uses y z
+uses_exchanged p q apart y z =
+    λ i. calls_exchanged p q apart y z i || collects_exchanged p q apart y z i
+
+-- ---- sums
+without_set : (es : List Entry) (p q : ℕ) (z : Node) → (p ≡ q → ⊥)
+    → without (set_node es p z) q ≡ set_node (without es q) p z
+without_set [] p q z apart = refl
+without_set (e ∷ es) p q z apart =
+    by (eqb e.number p) (eqb e.number q) refl refl (without_set es p q z apart)
+  where
+    by : (a b : Bool) → eqb e.number p ≡ a → eqb e.number q ≡ b
+        → without (set_node es p z) q ≡ set_node (without es q) p z
+        → without (cond a (entry p z ∷ es) (e ∷ set_node es p z)) q
+        ≡ set_node (cond b es (e ∷ without es q)) p z
+    by true true i j s = absurd (apart (sym (eqb-true e.number p i) ∙ eqb-true e.number q j))
+    by true false i j s = rw (not_true (eqb p q) (λ k. apart (eqb-true p q k)), i) refl
+    by false true i j s = rw j refl
+    by false false i j s = rw (i, j) (ap (λ (l : List Entry). e ∷ l) s)
+
+pub sum_swapped : {Y B : Type 0} (s : Y → B → B) → Swaps s → (F : Entry → List Y) (es : List Entry)
+    (p q : ℕ) (x y : Node) (b : B) → node_at es p ≡ Some x → node_at es q ≡ Some y
+    → (p ≡ q → ⊥) → F (entry p y) ≡ F (entry q y) → F (entry q x) ≡ F (entry p x)
+    → gather s (flat_map F es) b
+    ≡ gather s (flat_map F (set_node (set_node es p y) q x)) b
+sum_swapped s sw F es p q x y b at_p at_q apart e i =
+    let once : List Entry = set_node es p y in
+    let rest : List Entry = without es q in
+    let at_once : node_at once q ≡ Some y =
+    node_at-set_other es p q y y (λ j. apart (sym j)) at_q in
+    let at_rest : node_at rest p ≡ Some x = node_at-without_other es q p x apart at_p in
+    sum_at s sw F es q y b at_q
+    ∙ ap (gather s (F (entry q y))) (sum_at s sw F rest p x b at_rest)
+    ∙ gather-gather s sw (F (entry q y)) (F (entry p x))
+    (gather s (flat_map F (without rest p)) b)
+    ∙ ap (λ l. gather s l (gather s (F (entry q y)) (gather s (flat_map F (without rest p)) b)))
+    (sym i)
+    ∙ ap (λ l. gather s (F (entry q x)) (gather s l (gather s (flat_map F (without rest p)) b)))
+    (sym e)
+    ∙ ap (gather s (F (entry q x))) (sym (sum_set s sw F rest p y x b at_rest)
+    ∙ ap (λ (l : List Entry). gather s (flat_map F l) b) (sym (without_set es p q y apart)))
+    ∙ sym (sum_set s sw F once q x y b at_once)
+
+-- ---- nodes of other numbers, which read elsewhere
+pub holds_moved : (w : World) (k m : Place → Collection) (r : Place → Place) (n i : ℕ) (z : Node)
+    → Each (λ c. k (r c) ≡ m c) (reads z) → ((j : ℕ) → k (place i j) ≡ m (place n j))
+    → Holds w m n z → Holds w k i (reread r z)
+holds_moved w k m r n i (Source s) a o h = o 0 ∙ h
+holds_moved w k m r n i (Flatten ins) a o h =
+    o 0 ∙ h ∙ ap together (sym (map_reread k m r ins a))
+holds_moved w k m r n i (Pdo c f) a o h =
+    subst (λ (v : Collection). FitsForest w k i v f) (sym a.0)
+    (fits_moved w m k n i (m c) f (λ j _. o j) h)
+holds_moved w k m r n i (Gbk c s l e) a o h = o 0 ∙ h ∙ ap by_key (sym a.0)
+holds_moved w k m r n i (Barrier ins s l e) a o h =
+    o 0 ∙ h ∙ ap (act_result w s e) (sym (map_reread k m r ins a))
+
+flat_moved : (types new : Place → Ty) (r : Place → Place) (t u : Ty) (cs : List Place) → u ≡ t
+    → Each (λ c. new (r c) ≡ types c) cs → Each (λ c. types c ≡ t) cs
+    → Each (λ c. new c ≡ u) (map r cs)
+flat_moved types new r t u [] e a b = tt
+flat_moved types new r t u (c ∷ cs) e a b =
+    (a.0 ∙ b.0 ∙ sym e, flat_moved types new r t u cs e a.1 b.1)
+
+pub typed_at : (s : Signatures) (types new : Place → Ty) (r : Place → Place) (n i : ℕ) (z : Node)
+    → Each (λ c. new (r c) ≡ types c) (reads z)
+    → ((j : ℕ) → new (place i j) ≡ types (place n j)) → NodeTyped s types n z
+    → NodeTyped s new i (reread r z)
+typed_at s types new r n i (Source x) a o h = o 0 ∙ h
+typed_at s types new r n i (Flatten ins) a o h =
+    flat_moved types new r (types (place n 0)) (new (place i 0)) ins (o 0) a h
+typed_at s types new r n i (Pdo c f) a o h =
+    subst (λ (t : Ty). ForestTyped s new i t f) (sym a.0)
+    (typed_moved s types new n i (types c) f (λ j _. o j) h)
+typed_at s types new r n i (Gbk c x l k) a o h = record {
+  key = h.key;
+  value = h.value;
+  takes = a.0 ∙ h.takes;
+  gives = o 0 ∙ h.gives;
+}
+typed_at s types new r n i (Barrier ins x l d) a o h =
+    subst (ActTyped s d (map new (map r ins))) (sym (o 0))
+    (subst (λ (ts : List Ty). ActTyped s d ts (types (place n 0)))
+    (sym (types_reread new types r ins a)) h)

@@ -1,0 +1,24 @@
+-- Two Pdos exchange their numbers, so that what comes of both has the lesser of them.
+use Rattle.std.specs.Prelude.{ℕ, ◌==◌, cond, map}
+use Rattle.exec_graph.specs.Forests.{Forest}
+use Rattle.exec_graph.specs.Meaning.{place}
+use Rattle.exec_graph.specs.declared.graph.Place.{Place}
+use Rattle.exec_graph.specs.declared.graph.Node.TheVariants.{Pdo}
+use Rattle.exec_graph.specs.declared.graph.Graph.{Graph}
+use Rattle.graph_laws.specs.Joining.{reread_entry, set_node}
+
+-- p in place of q, and q in place of p
+abbrev pub other_number : ℕ → ℕ → ℕ → ℕ
+other_number p q n = cond (n == p) q (cond (n == q) p n)
+
+-- what was an output of p is that of q, and the other way round
+abbrev pub exchanged : ℕ → ℕ → Place → Place
+exchanged p q c = place (other_number p q c.node) c.out
+
+-- the Pdos p of c with f and q of d with h have each other's number
+abbrev pub swapped : Graph → ℕ → ℕ → Place → Place → Forest → Forest → Graph
+swapped g p q c d f h = record {
+  nodes = map (reread_entry (exchanged p q)) (set_node (set_node g.nodes p (Pdo d h)) q (Pdo c f));
+  outputs = map (exchanged p q) g.outputs;
+  next = g.next;
+}

@@ -1,0 +1,118 @@
+-- What a call of `make` promises, from what its answer says.
+use Rattle.std.proofs.Common.{◌⊎◌, ◌≡◌, ◌≤◌, ◌+◌, ℕ, false, List, refl, subst, inl, inr, arith}
+use Rattle.command_words.specs.declared.workload.Workload.{Workload}
+use Rattle.crew.specs.Hosts.{Account, HaveRisen}
+use Rattle.outside.specs.declared.host.Phase.{Phase}
+use Rattle.run_course.proofs.GivenUpLemmas.{risen_less}
+use Rattle.run_course.proofs.LeftLemmas.{begun_then, left_then, same_begun, same_left}
+use Rattle.run_course.specs.Lent.{lent}
+use Rattle.run_course.specs.Promises.{IsEnded}
+use Rattle.run_course.specs.World.{Keeps, World}
+use Rattle.run_settings.specs.Settings.{standard}
+use Rattle.run_texts.specs.declared.status.Place.TheVariants.{File, Screen}
+use Rattle.run_texts.specs.declared.status.Status.{Status}
+use Rattle.run_texts.specs.declared.status.Status.TheVariants.{Done, GaveUp, Usage, ScriptRefused, InputRefused, Trap, ReadFault, WriteFault, WantOfMemory, TooLong, NoFile}
+use Rattle.made_course.specs.Answers.{Answers}
+use Rattle.made_course.specs.Files.{files_for}
+use Rattle.made_course.specs.Makes.{CanMake, IsAnswer, Makes}
+use Rattle.made_course.specs.Runs.{AsksHosts, WasGivenUp}
+
+only : (w : Workload) (before after : World) (status : Status) → Answers w before after status
+    → IsAnswer status
+only w before after Done is = tt
+only w before after (WriteFault place) is = tt
+only w before after (GaveUp stage phase task) is = tt
+only w before after WantOfMemory is = tt
+only w before after Usage is = absurd is
+only w before after (ScriptRefused line kind) is = absurd is
+only w before after (InputRefused name row column kind) is = absurd is
+only w before after (Trap origin kind element) is = absurd is
+only w before after (ReadFault name) is = absurd is
+only w before after (TooLong name limit) is = absurd is
+only w before after (NoFile name) is = absurd is
+
+-- hosts that are down less than twice lose no task
+not_given_up : (w : Workload) (olds news : List Account) (stage : ℕ) (phase : Phase) (task : ℕ)
+    → WasGivenUp w olds news stage phase task
+    → (HaveRisen 2 (lent standard olds) (lent standard news) → ⊥) → ⊥
+not_given_up w olds news stage phase task it calm =
+    let lost = it.2.lost in
+    let counted : 2 ≤ 0 + lost.losses = lost.counted in
+    calm (risen_less 2 lost.losses (lent standard olds) (lent standard news) (omega arith)
+    lost.risen)
+
+complete : (w : Workload) (before after : World) (status : Status) → Answers w before after status
+    → CanMake before after → (status ≡ WantOfMemory) ⊎ (status ≡ Done)
+complete w before after Done is can = inr refl
+complete w before after WantOfMemory is can = inl refl
+complete w before after (WriteFault (File name)) is can = absurd (can.shelf is.files.4.faults)
+complete w before after (WriteFault Screen) is can = absurd (can.screen is.text.faults)
+complete w before after (GaveUp stage phase task) is can =
+    absurd (not_given_up w before.hosts after.hosts stage phase task is.lost can.hosts)
+complete w before after Usage is can = absurd is
+complete w before after (ScriptRefused line kind) is can = absurd is
+complete w before after (InputRefused name row column kind) is can = absurd is
+complete w before after (Trap origin kind element) is can = absurd is
+complete w before after (ReadFault name) is can = absurd is
+complete w before after (TooLong name limit) is can = absurd is
+complete w before after (NoFile name) is can = absurd is
+
+ended : (w : Workload) (before after : World) (status : Status) → before.shelf.begun ≡ false
+    → Answers w before after status → IsEnded status after.shelf
+ended w before after Done none is =
+    begun_then (files_for w) before.shelf after.shelf none is.files.begun
+ended w before after WantOfMemory none is = same_begun before.shelf after.shelf none is.shelf
+ended w before after (WriteFault (File name)) none is = tt
+ended w before after (WriteFault Screen) none is =
+    begun_then (files_for w) before.shelf after.shelf none is.files.begun
+ended w before after (GaveUp stage phase task) none is =
+    same_begun before.shelf after.shelf none is.refused.shelf
+ended w before after Usage none is = absurd is
+ended w before after (ScriptRefused line kind) none is = absurd is
+ended w before after (InputRefused name row column kind) none is = absurd is
+ended w before after (Trap origin kind element) none is = absurd is
+ended w before after (ReadFault name) none is = absurd is
+ended w before after (TooLong name limit) none is = absurd is
+ended w before after (NoFile name) none is = absurd is
+
+left : (w : Workload) (before after : World) (status : Status) → before.shelf.begun ≡ false
+    → Answers w before after status → after.shelf.left ≡ before.shelf.left
+left w before after Done none is =
+    left_then (files_for w) before.shelf after.shelf none is.files.left
+left w before after WantOfMemory none is = same_left before.shelf after.shelf is.shelf
+left w before after (WriteFault (File name)) none is =
+    left_then (files_for w) before.shelf after.shelf none is.files.4.left
+left w before after (WriteFault Screen) none is =
+    left_then (files_for w) before.shelf after.shelf none is.files.left
+left w before after (GaveUp stage phase task) none is =
+    same_left before.shelf after.shelf is.refused.shelf
+left w before after Usage none is = absurd is
+left w before after (ScriptRefused line kind) none is = absurd is
+left w before after (InputRefused name row column kind) none is = absurd is
+left w before after (Trap origin kind element) none is = absurd is
+left w before after (ReadFault name) none is = absurd is
+left w before after (TooLong name limit) none is = absurd is
+left w before after (NoFile name) none is = absurd is
+
+pub makes : (w : Workload) (before after : World) (status : Status)
+    → Answers w before after status → Keeps before after → after.source ≡ before.source
+    → after.asked ≡ before.asked → AsksHosts w before.hosts after.hosts
+    → Makes w before after status
+makes w before after status answers kept source asked hosts =
+    let when : (other : Status) → status ≡ other → Answers w before after other
+    = λ other is. subst (λ (s : Status). Answers w before after s) is answers in
+    record {
+      done = when Done;
+      gave_up = λ stage phase task. when (GaveUp stage phase task);
+      file_fault = λ name. when (WriteFault (File name));
+      screen_fault = when (WriteFault Screen);
+      no_memory = when WantOfMemory;
+      only = only w before after status answers;
+      complete = complete w before after status answers;
+      source = source;
+      asked = asked;
+      asked_hosts = hosts;
+      kept = kept;
+      ended = λ none. ended w before after status none answers;
+      left = λ none. left w before after status none answers;
+    }

@@ -1,0 +1,5 @@
+pub mod Files
+pub mod Runs
+pub mod Answers
+pub mod Makes
+pub mod inner

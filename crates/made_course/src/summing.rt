@@ -1,0 +1,116 @@
+// The run of the script of the sums over made rows.
+ghost use Rattle.std.specs.Prelude.{◌≡◌, ◌∷◌, [], IfOk, drop, length, map};
+ghost use Rattle.std.specs.List.{AllZip};
+ghost use Rattle.command_words.specs.Workloads.{IsWithin};
+ghost use Rattle.crew.specs.Hosts.{Grew, account};
+ghost use Rattle.made_course.specs.Files.{rows_of};
+ghost use Rattle.made_course.specs.Runs.{AsksHosts};
+ghost use Rattle.made_course.specs.inner.Stops.{ComesTo};
+ghost use Rattle.made_rows.specs.Sums.{sums_script};
+ghost use Rattle.run_settings.specs.Settings.{standard};
+ghost use Rattle.script_laws.specs.WellFormed.{IsWellFormed};
+ghost use Rattle.script_loading.specs.Ready.{IsReady};
+ghost use Rattle.script_plans.specs.Plans.{IsScriptPlan};
+ghost use Rattle.script_run.specs.Runs.{IsPlanOf};
+
+use build_law::graph_law;
+use command_words::Workload;
+use exec_plan::Plan;
+use flume_value::{Items, Pile};
+use made_rows::{made_rows_law, rows_made, sums_law, sums_program};
+use outside::Host;
+use plan_phases::RunFault;
+use run_course::{ShownPlan, plan_shown, ran_on};
+use run_settings::Settings;
+use script_program::Program;
+use script_run::Ran;
+use std::alloc::{AllocError, Global};
+use std::thread::Threads;
+
+/// The program of the script of the sums, which is ready to be run.
+pub fn sums_ready(alloc: Global) -> Result<Program, AllocError>
+    ensures script { IfOk result (λ program. program.script ≡ sums_script) }
+    ensures well_formed { IfOk result (λ program. IsWellFormed program.script) }
+    ensures ready { IfOk result (λ program. IsReady program.script) }
+{
+    sums_law();
+    sums_program(alloc)
+}
+
+/// The run of the script over the rows of a workload, by the usual settings.
+pub fn sums_run<X: Threads + Sync, H: Host + Send>(
+    rt: &X,
+    alloc: Global,
+    program: &Program,
+    workload: Workload,
+    hosts: &mut [H],
+) -> Result<Ran, RunFault>
+    requires script { program.now.script ≡ sums_script }
+    requires well_formed { IsWellFormed program.now.script }
+    requires ready { IsReady program.now.script }
+    requires within { IsWithin workload }
+    requires sixteen { length hosts.old ≡ 16 }
+    ensures comes { ComesTo workload (map (account H.notes H.losses) hosts.old)
+        (map (account H.notes H.losses) hosts.new) result }
+    ensures asked { AsksHosts workload (map (account H.notes H.losses) hosts.old)
+        (map (account H.notes H.losses) hosts.new) }
+    ensures grew { AllZip Grew (map (account H.notes H.losses) hosts.old)
+        (map (account H.notes H.losses) hosts.new) }
+    ensures hosts { drop standard.workers hosts.new ≡ drop standard.workers hosts.old }
+{
+    let plan = sums_plan(alloc, program)?;
+    plan_run(rt, alloc, program, &plan, workload, hosts)
+}
+
+// The plan of the script.
+fn sums_plan(alloc: Global, program: &Program) -> Result<Plan, AllocError>
+    requires well_formed { IsWellFormed program.now.script }
+    requires ready { IsReady program.now.script }
+    ensures optimised { IfOk result (λ plan. IsScriptPlan program.now.script plan) }
+    ensures of_script { IfOk result (λ plan. IsPlanOf program.now.script plan) }
+{
+    graph_law();
+    let ShownPlan { plan, text: _ } = plan_shown(alloc, program)?;
+    Ok(plan)
+}
+
+// The run of the script's plan over the rows of a workload, by the usual settings.
+fn plan_run<X: Threads + Sync, H: Host + Send>(
+    rt: &X,
+    alloc: Global,
+    program: &Program,
+    plan: &Plan,
+    workload: Workload,
+    hosts: &mut [H],
+) -> Result<Ran, RunFault>
+    requires script { program.now.script ≡ sums_script }
+    requires well_formed { IsWellFormed program.now.script }
+    requires ready { IsReady program.now.script }
+    requires optimised { IsScriptPlan program.now.script plan.now }
+    requires of_script { IsPlanOf program.now.script plan.now }
+    requires within { IsWithin workload }
+    requires sixteen { length hosts.old ≡ 16 }
+    ensures comes { ComesTo workload (map (account H.notes H.losses) hosts.old)
+        (map (account H.notes H.losses) hosts.new) result }
+    ensures asked { AsksHosts workload (map (account H.notes H.losses) hosts.old)
+        (map (account H.notes H.losses) hosts.new) }
+    ensures grew { AllZip Grew (map (account H.notes H.losses) hosts.old)
+        (map (account H.notes H.losses) hosts.new) }
+    ensures hosts { drop standard.workers hosts.new ≡ drop standard.workers hosts.old }
+{
+    made_rows_law();
+    sums_law();
+    let inputs = inputs_made(alloc, workload)?;
+    let settings = Settings::standard(alloc);
+    ran_on(rt, alloc, program, plan, inputs, hosts, &settings)
+}
+
+// The rows of the script's one input.
+fn inputs_made(alloc: Global, workload: Workload) -> Result<Pile<Items>, AllocError>
+    requires { IsWithin workload }
+    ensures { IfOk result (λ inputs. inputs ≡ rows_of workload ∷ []) }
+{
+    let mut inputs = Pile::new(alloc);
+    inputs.push(rows_made(alloc, workload.start, workload.rows)?)?;
+    Ok(inputs)
+}

@@ -1,0 +1,49 @@
+-- A task in legs: what the steps give of some elements, and the counts of two legs together.
+use Rattle.std.specs.Prelude.{◌≡◌, ℕ, ◌+◌, ◌-◌, ◌^◌, min, drop, List, [], ◌∷◌, map, Option, Some, None, Result, Ok, Err, slice_get}
+use Rattle.std.specs.List.{AllZip}
+use Rattle.flume_value.specs.declared.value.Value.{Value}
+use Rattle.flume_collection.specs.declared.trap.Trap.{Trap}
+use Rattle.shuffle_parts.specs.declared.out.MapOut.{MapOut}
+use Rattle.exec_graph.specs.Forests.{Forest}
+use Rattle.exec_graph.specs.World.{World}
+use Rattle.exec_plan.specs.declared.plan.OutChannel.{OutChannel}
+use Rattle.task_lists.specs.Outs.{IsSent}
+use Rattle.task_lists.specs.Runs.{all_given, counts_of, kept_count, traps_of}
+use Rattle.map_shard.specs.declared.legs.Legs.{Legs}
+use Rattle.map_shard.specs.inner.Fillings.{IsFilled}
+use Rattle.map_shard.specs.inner.Sending.{taken}
+
+-- ---- counts
+
+-- each with the one at its place, where there is one
+abbrev pub each_with : {A B C : Type 0} → (A → Option B → C) → List A → List B → List C
+each_with f [] ys = []
+each_with f (x ∷ xs) ys = f x (slice_get ys 0) ∷ each_with f xs (drop 1 ys)
+
+abbrev pub count_with : ℕ → Option ℕ → ℕ
+count_with n None = n
+count_with n (Some m) = min (n + m) (2 ^ 64 - 1)
+
+-- ---- what the steps on some elements of input channel m give
+module _ (w : World) (p m : ℕ) (does : Option Forest) (os : List OutChannel)
+    (xs : List Value) where
+  -- nothing traps; what the output channels were given, and the counts
+  pub record AreLegs (legs : Legs) : Type 0 where
+    pub calm : traps_of w does xs ≡ []
+    pub filled : AllZip (IsFilled p (taken m (all_given w does xs))) os legs.fillings.items
+    pub counts : legs.counts.items ≡ map kept_count (counts_of w does xs)
+
+  -- that, or the first trap
+  abbrev pub AreLegsOr : Result Legs Trap → Type 0
+  AreLegsOr (Ok legs) = AreLegs legs
+  AreLegsOr (Err trap) = slice_get (traps_of w does xs) 0 ≡ Some trap
+
+  -- the same of what the channels get in the end
+  pub record IsWhole (out : MapOut) : Type 0 where
+    pub calm : traps_of w does xs ≡ []
+    pub sent : AllZip (IsSent p (taken m (all_given w does xs))) os out.sent
+    pub counts : out.counts ≡ map kept_count (counts_of w does xs)
+
+  abbrev pub IsWholeOr : Result MapOut Trap → Type 0
+  IsWholeOr (Ok out) = IsWhole out
+  IsWholeOr (Err trap) = slice_get (traps_of w does xs) 0 ≡ Some trap

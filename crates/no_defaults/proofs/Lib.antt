@@ -1,0 +1,4 @@
+pub mod GraphLemmas
+pub mod ReadingLemmas
+pub mod RecordLemmas
+pub mod ScriptLemmas

@@ -1,0 +1,4 @@
+pub mod Making
+pub mod Readings
+pub mod Records
+pub mod Steps

@@ -1,0 +1,50 @@
+-- What the equation of a collection of a script reads.
+use Rattle.std.specs.Prelude.{◌≡◌, ◌≤◌, ℕ, ◌-◌, IfSome, IsSomeAnd, IsTrue, List, Option, Some, slice_get}
+use Rattle.std.specs.List.{All}
+use Rattle.flume_value.specs.declared.value.Value.{Value}
+use Rattle.flume_types.specs.Cells.{are_filled, cells_of}
+use Rattle.bag_groups.specs.Pairs.{IsPair}
+use Rattle.keyed_steps.specs.Keyed.{IsGroup}
+use Rattle.flume_collection.specs.Collection.{Collection}
+use Rattle.script_program.specs.Needed.{made_of}
+use Rattle.script_program.specs.Script.{Function, Script}
+use Rattle.script_program.specs.declared.made.Made.{Made}
+use Rattle.script_program.specs.declared.made.Made.TheVariants as made
+use Rattle.script_program.specs.declared.made.Output.{Output}
+use Rattle.script_laws.specs.WellFormed.{function_at}
+use Rattle.direct_meaning.specs.Calls.{answer_of}
+use Rattle.direct_meaning.specs.Direct.{made_at}
+use Rattle.no_defaults.specs.Readings.{HasOutput}
+
+-- the members of the collection of that number are so, where it is made
+abbrev pub MembersAre : List (Option Collection) → (Value → Type 0) → ℕ → Type 0
+MembersAre table P number = IfSome (made_at table number) (λ c. All P c.bag)
+
+-- a call of the function has an answer, with a list for that output where it does not trap
+abbrev pub AnswersTo : Function → ℕ → Value → Type 0
+AnswersTo function output member = IsSomeAnd (answer_of function member) (HasOutput output)
+
+-- The collection of that number is an output of a call: the function answers on each member, and
+-- its first output is the collection that stands that many before.
+pub record IsCalled (script : Script) (table : List (Option Collection))
+    (number source called output : ℕ) : Type 0 where
+  pub function : Function
+  pub calls : function_at script.functions called ≡ Some function
+  pub answers : MembersAre table (AnswersTo function output) source
+  pub behind : output ≤ number
+  pub first : slice_get (made_of script) (number - output) ≡ Some (made.Do source called 0)
+
+-- all that the equation of the collection of that number reads is there
+abbrev pub HasAll : Script → List (Option Collection) → ℕ → Made → Type 0
+HasAll script table number (made.Do source called output) =
+    IsCalled script table number source called output
+HasAll script table number (made.Group source) = MembersAre table IsPair source
+HasAll script table number (made.Combine source comb) = MembersAre table (IsGroup comb) source
+HasAll script table number (made.Join left right) =
+    MembersAre table IsPair left × MembersAre table IsPair right
+HasAll script table number _ = Unit {0}
+
+-- the cells of each member that an output writes are those of its columns
+abbrev pub HasCells : List (Option Collection) → Output → Type 0
+HasCells table output =
+    MembersAre table (λ member. IsTrue (are_filled output.columns (cells_of member))) output.reads

@@ -1,0 +1,153 @@
+-- What is made of the same collections is the same, whatever their numbers are.
+use Rattle.std.proofs.Common.{◌≡◌, ℕ, ◌-◌, ◌<◌, List, [], ◌∷◌, map, Option, refl, sym, subst}
+use Rattle.std.proofs.Common.{ap, ◌∙◌, ⊎_elim}
+use Rattle.std.specs.List.{AllByRecursion as Each, Contains}
+use Rattle.std.specs.Option.{option_and_then, option_map}
+use Rattle.flume_collection.proofs.Members.{at_head, at_tail, head_or_tail, not_in_none}
+use Rattle.flume_collection.specs.Collection.{Collection, by_key, together}
+use Rattle.flume_value.specs.declared.value.Value.{Value}
+use Rattle.script_program.specs.declared.made.Made.{Made}
+use Rattle.script_program.specs.declared.made.Made.TheVariants as made
+use Rattle.script_program.specs.Needed.{operands}
+use Rattle.script_program.specs.Script.{Script}
+use Rattle.script_laws.specs.WellFormed.{function_at}
+use Rattle.direct_meaning.specs.Direct.{all_made, combined_by, counted_by, done_by, joined_by}
+use Rattle.direct_meaning.specs.Direct.{made_as, made_at, top_by}
+use Rattle.repeat_law.specs.Turns.{only}
+use Rattle.repeat_law.specs.Reading.{IsLet}
+use Rattle.script_check.specs.Repeats.{renumbered}
+
+-- from no file
+abbrev pub FromNoFile : Made → Type 0
+FromNoFile (made.Input file columns) = ⊥
+FromNoFile (made.Do source called output) = Unit {0}
+FromNoFile (made.Group source) = Unit {0}
+FromNoFile (made.Combine source by) = Unit {0}
+FromNoFile (made.Flatten sources) = Unit {0}
+FromNoFile (made.Count source) = Unit {0}
+FromNoFile (made.Join left right) = Unit {0}
+FromNoFile (made.Top many source) = Unit {0}
+
+module _ (to : ℕ → ℕ) (here there : List (Option Collection)) where
+  all_same : (numbers : List ℕ)
+      → ((n : ℕ) → Contains numbers n → made_at here (to n) ≡ made_at there n)
+      → all_made here (map to numbers) ≡ all_made there numbers
+  all_same [] same = refl
+  all_same (number ∷ numbers) same =
+      let first = same number (at_head number numbers) in
+      let rest = all_same numbers (λ n is. same n (at_tail number numbers n is)) in
+      λ i. option_and_then (λ c. option_map (λ cs. c ∷ cs) (rest i)) (first i)
+
+  -- over other numbers, which stand for the same collections
+  pub same_made : (script : Script) (number : ℕ) (how : Made) (inputs : List (List Value))
+      → FromNoFile how
+      → ((n : ℕ) → Contains (operands how) n → made_at here (to n) ≡ made_at there n)
+      → made_as script number (renumbered to how) inputs here
+      ≡ made_as (only script.functions) number how [] there
+  same_made script number (made.Input file columns) inputs none same = absurd none
+  same_made script number (made.Do source called output) inputs none same =
+      let first = same source (at_head source []) in
+      λ i. option_and_then
+      (λ function. option_and_then (done_by (number - output) output function) (first i))
+      (function_at script.functions called)
+  same_made script number (made.Group source) inputs none same =
+      ap (option_map by_key) (same source (at_head source []))
+  same_made script number (made.Combine source by) inputs none same =
+      ap (option_map (combined_by number by)) (same source (at_head source []))
+  same_made script number (made.Flatten sources) inputs none same =
+      ap (option_map together) (all_same sources same)
+  same_made script number (made.Count source) inputs none same =
+      ap (option_map (counted_by number)) (same source (at_head source []))
+  same_made script number (made.Join left right_) inputs none same =
+      let first = same left (at_head left (right_ ∷ [])) in
+      let second =
+      same right_ (at_tail left (right_ ∷ []) right_ (at_head right_ [])) in
+      λ i. option_and_then (λ a. option_map (joined_by a) (second i)) (first i)
+  same_made script number (made.Top many source) inputs none same =
+      ap (option_map (top_by many)) (same source (at_head source []))
+
+-- ---- under the numbers that stand there
+
+each_itself : (numbers : List ℕ) → map (λ n. n) numbers ≡ numbers
+each_itself [] = refl
+each_itself (number ∷ numbers) = ap (λ l. number ∷ l) (each_itself numbers)
+
+itself : (how : Made) → renumbered (λ n. n) how ≡ how
+itself (made.Input file columns) = refl
+itself (made.Do source called output) = refl
+itself (made.Group source) = refl
+itself (made.Combine source by) = refl
+itself (made.Flatten sources) = ap (λ l. made.Flatten l) (each_itself sources)
+itself (made.Count source) = refl
+itself (made.Join left right_) = refl
+itself (made.Top many source) = refl
+
+-- over a table that holds the same
+pub kept_made : (script : Script) (number : ℕ) (how : Made) (here there : List (Option Collection))
+    (inputs others : List (List Value)) → FromNoFile how
+    → ((n : ℕ) → Contains (operands how) n → made_at here n ≡ made_at there n)
+    → made_as script number how inputs here ≡ made_as script number how others there
+kept_made script number how here there inputs others none same =
+    ap (λ (m : Made). made_as script number m inputs here) (sym (itself how))
+    ∙ (same_made (λ n. n) here there script number how inputs none same
+    ∙ (sym (same_made (λ n. n) there there script number how others none (λ n is. refl))
+    ∙ ap (λ (m : Made). made_as script number m others there) (itself how)))
+
+-- ---- lets
+
+pub let_no_file : (place front : ℕ) (how : Made) → IsLet place front how → FromNoFile how
+let_no_file place front (made.Input file columns) is = absurd is
+let_no_file place front (made.Do source called output) is = tt
+let_no_file place front (made.Group source) is = tt
+let_no_file place front (made.Combine source by) is = tt
+let_no_file place front (made.Flatten sources) is = tt
+let_no_file place front (made.Count source) is = tt
+let_no_file place front (made.Join left right_) is = tt
+let_no_file place front (made.Top many source) is = tt
+
+pub renumbered_no_file : (to : ℕ → ℕ) (how : Made) → FromNoFile how
+    → FromNoFile (renumbered to how)
+renumbered_no_file to (made.Input file columns) is = absurd is
+renumbered_no_file to (made.Do source called output) is = tt
+renumbered_no_file to (made.Group source) is = tt
+renumbered_no_file to (made.Combine source by) is = tt
+renumbered_no_file to (made.Flatten sources) is = tt
+renumbered_no_file to (made.Count source) is = tt
+renumbered_no_file to (made.Join left right_) is = tt
+renumbered_no_file to (made.Top many source) is = tt
+
+pub renumbered_reads : (to : ℕ → ℕ) (how : Made)
+    → operands (renumbered to how) ≡ map to (operands how)
+renumbered_reads to (made.Input file columns) = refl
+renumbered_reads to (made.Do source called output) = refl
+renumbered_reads to (made.Group source) = refl
+renumbered_reads to (made.Combine source by) = refl
+renumbered_reads to (made.Flatten sources) = refl
+renumbered_reads to (made.Count source) = refl
+renumbered_reads to (made.Join left right_) = refl
+renumbered_reads to (made.Top many source) = refl
+
+each_has : (P : ℕ → Type 0) (xs : List ℕ) → Each P xs → (n : ℕ) → Contains xs n → P n
+each_has P [] each n is = absurd (not_in_none n is)
+each_has P (x ∷ xs) each n is =
+    ⊎_elim (λ (e : x ≡ n). subst P e each.0) (λ there. each_has P xs each.1 n there)
+    (head_or_tail x xs n is)
+
+-- what a let reads stands in front of it
+pub let_reads : (place front : ℕ) (how : Made) → IsLet place front how → (n : ℕ)
+    → Contains (operands how) n → n < front
+let_reads place front (made.Input file columns) is n reads = absurd is
+let_reads place front (made.Do source called output) is n reads =
+    each_has (λ n. n < front) (source ∷ []) (is.0, tt) n reads
+let_reads place front (made.Group source) is n reads =
+    each_has (λ n. n < front) (source ∷ []) (is, tt) n reads
+let_reads place front (made.Combine source by) is n reads =
+    each_has (λ n. n < front) (source ∷ []) (is, tt) n reads
+let_reads place front (made.Flatten sources) is n reads =
+    each_has (λ n. n < front) sources is n reads
+let_reads place front (made.Count source) is n reads =
+    each_has (λ n. n < front) (source ∷ []) (is, tt) n reads
+let_reads place front (made.Join left right_) is n reads =
+    each_has (λ n. n < front) (left ∷ right_ ∷ []) (is.0, (is.1, tt)) n reads
+let_reads place front (made.Top many source) is n reads =
+    each_has (λ n. n < front) (source ∷ []) (is, tt) n reads

@@ -1,0 +1,61 @@
+-- What the rules of a let with repeat that find no fault have found.
+use Rattle.std.proofs.Common.{◌≡◌, ℕ, List, length, drop, Ok, ap, ◌∙◌}
+use Rattle.flume_grammar.specs.declared.tree.Repeat.{Repeat as WrittenRepeat}
+use Rattle.script_program.specs.Script.{State, with_front}
+use Rattle.script_check.specs.Repeats.{Repeat}
+use Rattle.script_check.specs.Rules as spec
+use Rattle.script_check.proofs.CheckedLemmas.{both, ok-same}
+
+module _ (line : ℕ) (names : List (List ℕ)) (written : WrittenRepeat) (s : State) where
+  -- the state in front of the body, for what enters
+  abbrev pub before : spec.Entry → State
+  before entry = spec.with_entry names written.entering entry.from s
+
+  -- the repeat of what enters, of the state behind the body, and of what is given
+  abbrev pub own : spec.Entry → State → List ℕ → Repeat
+  own entry body gives =
+      spec.repeat_from entry gives (length s.nodes) (length (before entry).nodes) body
+
+  pub record HasFound (it : spec.Repeated) : Type 0 where
+    pub entry : spec.Entry
+    pub enters : spec.entry_of line names written s ≡ Ok entry
+    pub body : State
+    pub lets : spec.all_named written.lets (before entry) ≡ Ok body
+    pub gives : List ℕ
+    pub given : spec.gives_of line written.gives entry.from body ≡ Ok gives
+    pub few : Unit {0}
+    pub room : spec.room_for line (length s.nodes) entry.turns
+        (length (drop (length (before entry).nodes) body.nodes)) ≡ Ok few
+    pub repeat : own entry body gives ≡ it.repeat
+    pub behind : with_front (length s.nodes) body ≡ it.behind
+
+  pub found : (it : spec.Repeated) → spec.repeated line names written s ≡ Ok it → HasFound it
+  found it e =
+      let entry = both (spec.entry_of line names written s) _ it e in
+      let body = both (spec.all_named written.lets (before entry.part)) _ it entry.then in
+      let front = length (before entry.part).nodes in
+      let outside = length s.nodes in
+      let repeat =
+      both (spec.repeat_of line written.gives entry.part outside front body.part) _ it
+      body.then in
+      let gives =
+      both (spec.gives_of line written.gives entry.part.from body.part) _ repeat.part
+      repeat.first in
+      let room =
+      both
+      (spec.room_for line outside entry.part.turns (length (drop front body.part.nodes))) _
+      repeat.part gives.then in
+      let same = ok-same _ it repeat.then in
+      record {
+        entry = entry.part;
+        enters = entry.first;
+        body = body.part;
+        lets = body.first;
+        gives = gives.part;
+        given = gives.first;
+        few = room.part;
+        room = room.first;
+        repeat =
+            ok-same _ repeat.part room.then ∙ ap (λ (it : spec.Repeated). it.repeat) same;
+        behind = ap (λ (it : spec.Repeated). it.behind) same;
+      }

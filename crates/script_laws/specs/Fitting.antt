@@ -1,0 +1,40 @@
+-- When the types of a repeat fit, each let's by the rules that hold of each collection of a script.
+use Rattle.std.specs.Prelude.{◌≡◌, ℕ, suc, ◌≤◌, List, [], ◌∷◌, ◌++◌, Some, length, map, ⊤}
+use Rattle.std.specs.List.{AllZip}
+use Rattle.written_types.specs.Named.{Named}
+use Rattle.script_program.specs.declared.made.Made.{Made}
+use Rattle.script_program.specs.declared.made.Made.TheVariants as made
+use Rattle.script_program.specs.Script.{Function, Node}
+use Rattle.script_check.specs.Repeats.{Repeat}
+use Rattle.script_laws.specs.WellFormed.{AllFit, members_at}
+
+-- how the lets of a body are made, in order
+abbrev pub lets_of : Repeat → List Made
+lets_of repeat = map (λ entry. entry.1.made) repeat.body
+
+-- the collection of that number has members of the type of that entry
+abbrev pub IsOfType : Named Node → ℕ → List ℕ × Node → Type 0
+IsOfType nodes number entry = members_at nodes number ≡ Some entry.1.type
+
+-- a let at that place of a body reads no file, and stands behind the earlier outputs of its call
+abbrev pub IsInPlace : ℕ → Made → Type 0
+IsInPlace place (made.Input file columns) = ⊥
+IsInPlace place (made.Do source called output) = output ≤ place
+IsInPlace place _ = ⊤
+
+-- the same of each let, where the first has that place
+abbrev pub AreInPlace : ℕ → List Made → Type 0
+AreInPlace place [] = ⊤
+AreInPlace place (how ∷ lets) = IsInPlace place how × AreInPlace (suc place) lets
+
+-- A repeat fits behind these collections: what enters it has the types of some entries, its body
+-- fits behind those, and what a turn gives has the types of these entries again.
+pub record RepeatFits (functions : Named Function) (before : Named Node) (repeat : Repeat)
+    : Type 0 where
+  -- what enters a turn, under the names that it has there
+  pub entering : Named Node
+  pub many : length before ≡ repeat.outside
+  pub enter : AllZip (IsOfType before) repeat.from entering
+  pub in_place : AreInPlace 0 (lets_of repeat)
+  pub lets : AllFit functions (before ++ entering) repeat.body
+  pub given : AllZip (IsOfType (before ++ entering ++ repeat.body)) repeat.gives entering

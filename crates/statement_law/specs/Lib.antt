@@ -1,0 +1,2 @@
+pub mod Lineless
+pub mod Outlined
