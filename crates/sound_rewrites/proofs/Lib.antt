@@ -1,0 +1,5 @@
+pub mod Keeping
+pub mod Dropping
+pub mod Refilling
+pub mod Sinking
+pub mod Making
