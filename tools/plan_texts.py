@@ -13,13 +13,14 @@ def files_of(script):
 
 
 def node_of(line):
-    """A node of a graph: its number, kind, what it reads, and the rest of its line."""
+    """A node of a graph: its number, kind, what it takes and reads, and the rest of its line."""
     form = r"(\d+) (source|flatten|do|group|operate) ((?:(?:with )?\d+(?:\.\d+)? )*)(.*)"
     found = re.fullmatch(form, line)
     if not found:
         raise ValueError(f"no node of a graph: {line}")
-    reads = [it.partition(".")[0] for it in re.findall(r"[\d.]+", found[3])]
-    return {"number": found[1], "kind": found[2], "reads": reads, "does": found[4]}
+    takes = [it.partition(".")[0] for it in found[3].split()]
+    reads = [it for it in takes if it != "with"]
+    return {"number": found[1], "kind": found[2], "takes": takes, "reads": reads, "does": found[4]}
 
 
 def output_of(line):

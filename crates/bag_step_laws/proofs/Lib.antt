@@ -2,3 +2,4 @@ pub mod Counting
 pub mod GroupRows
 pub mod Sides
 pub mod Tops
+pub mod Wholes

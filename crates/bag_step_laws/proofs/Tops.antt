@@ -20,7 +20,7 @@ use Rattle.bag_steps.proofs.RunLemmas.{AreAll, distinct_bag-ahead}
 use Rattle.bag_step_laws.specs.Derived.{listed, under_zero}
 use Rattle.bag_step_laws.proofs.GroupRows.{combined-grouped, group_of-pair, map_map, traps-grouped}
 
-abbrev zero_key : Value
+abbrev pub zero_key : Value
 zero_key = value.Int (pos 0)
 
 abbrev parts_under : Value → Parts
@@ -35,7 +35,7 @@ all_zero [] = tt
 all_zero (x ∷ xs) = (refl, all_zero xs)
 
 -- one key, where there is a member
-keys-under : (x : Value) (xs : List Value)
+pub keys-under : (x : Value) (xs : List Value)
     → keys_of (pairs_of (map under_zero (x ∷ xs))) ≡ zero_key ∷ []
 keys-under x xs =
     let keys = map (λ (p : Parts). p.0) (map parts_under (x ∷ xs)) in
@@ -52,7 +52,7 @@ held-under : (xs : List Value) → map (λ (p : Parts). p.1) (map parts_under xs
 held-under [] = refl
 held-under (x ∷ xs) = ap (λ l. x ∷ l) (held-under xs)
 
-values-under : (xs : List Value)
+pub values-under : (xs : List Value)
     → values_of zero_key (pairs_of (map under_zero xs)) ≡ bag_of xs
 values-under xs =
     ap (values_of zero_key) (parts-under xs)

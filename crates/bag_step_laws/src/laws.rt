@@ -1,8 +1,9 @@
 // Laws of the steps over whole bags: each comes from groups, a combiner and single members.
-ghost use Rattle.std.specs.Prelude.{◌≡◌, ℕ, List, [], ◌++◌, Result, map};
+ghost use Rattle.std.specs.Prelude.{◌≡◌, ℕ, pos, List, [], ◌∷◌, ◌++◌, Result, map};
 ghost use Rattle.std.specs.List.{flat_map};
 ghost use Rattle.flume_value.specs.declared.fault.Kind.{Kind};
 ghost use Rattle.flume_value.specs.declared.value.Value.{Value};
+ghost use Rattle.flume_value.specs.declared.value.Value.TheVariants as value;
 ghost use Rattle.flume_value.specs.Bag.{bag_of};
 ghost use Rattle.bag_groups.specs.Pairs.{pairs_of};
 ghost use Rattle.bag_groups.specs.Groups.{grouped, keys_of, values_of};
@@ -46,6 +47,21 @@ pub fn top_law()
         ≡ greatest n (bag_of bag) }
     ensures through { (n : ℕ) (bag : List Value) →
         traps_of_each (combined (by.Top n)) (grouped (map under_zero bag)) ≡ [] }
+{}
+
+/// All members of a bag, each under one key, are one group: combined, they are one pair, or one trap
+/// that has the key. Where there are none there is no group.
+pub fn whole_law()
+    ensures pair { (f : List Value → Result Value Kind) (v : Value) (bag : List Value) →
+        combined_each f (grouped (map under_zero (v ∷ bag)))
+        ≡ combined_pair (value.Int (pos 0)) (f (bag_of (v ∷ bag))) }
+    ensures trap { (f : List Value → Result Value Kind) (v : Value) (bag : List Value) →
+        traps_of_each f (grouped (map under_zero (v ∷ bag)))
+        ≡ trapped_key (value.Int (pos 0)) (f (bag_of (v ∷ bag))) }
+    ensures no_pair { (f : List Value → Result Value Kind) →
+        combined_each f (grouped (map under_zero [])) ≡ [] }
+    ensures no_trap { (f : List Value → Result Value Kind) →
+        traps_of_each f (grouped (map under_zero [])) ≡ [] }
 {}
 
 /// What a function gives for the members of two bags together is what it gives for each bag,

@@ -93,6 +93,12 @@ module _ (limits : Limits) where
   operation_filled g.count p = (on (on p), _, g.count)
   operation_filled g.join p = (on (on (on (on p))), _, g.join)
   operation_filled g.top p = (on (on (on p)), _, g.top)
+  operation_filled (g.combine_all c) p =
+      let (q, d, y) = combiner_filled c (on (on (on p))) in (q, _, g.combine_all y)
+  operation_filled (g.operate h l) p =
+      let (q, ms, n, y) = names_filled h (on p) in
+      (on (on q), _, g.operate y (subst (λ k. k ≤ limits.inputs) (sym n) l))
+  operation_filled g.do_with p = (on (on (on (on (on p)))), _, g.do_with)
 
   let_filled : {ts us : List Token} {l : TurnLet} → g.IsLet limits ts us l → (p : Plan)
       → Filled (λ xs ys x. g.IsLet limits xs ys x) p ts us

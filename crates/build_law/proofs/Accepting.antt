@@ -1,5 +1,5 @@
 -- Accepted scripts put as many collections together as are written.
-use Rattle.std.proofs.Common.{◌≡◌, ℕ, zero, suc, ◌+◌, ◌≤◌, nat_lt, List, [], ◌∷◌, ◌++◌, length}
+use Rattle.std.proofs.Common.{◌≡◌, ℕ, zero, suc, ◌+◌, ◌≤◌, ◌&&◌, nat_lt, Bool, true, false, List, [], ◌∷◌, ◌++◌, length}
 use Rattle.std.proofs.Common.{map, take, drop, Ok, refl, sym, ap, subst, arith, length-append}
 use Rattle.std.specs.List.{AllByRecursion}
 use Rattle.std.specs.Map.{keys_of}
@@ -30,6 +30,7 @@ use Rattle.script_program.specs.declared.made.Made.TheVariants as made
 use Rattle.script_program.specs.Script.{Callee, Making, Node, Operand, Script, State, nothing}
 use Rattle.script_program.specs.Script.{script_from, with_hidden, with_node, with_nodes}
 use Rattle.script_program.specs.Script.{with_statement}
+use Rattle.operation_check.specs.Arguments.{are_plain, sole, takes_both, takes_members, takes_objects}
 use Rattle.operation_check.specs.Operations as spec
 use Rattle.script_check.specs.Repeats.{Repeat, copied, nodes_left, renumbered, turn_gives}
 use Rattle.script_check.specs.Repeats.{turn_nodes, turn_to, unrolled}
@@ -53,7 +54,7 @@ module _ (line : ℕ) (s : State) where
   do_short : (source : Operand) (function : Callee) (makings : List Making)
       → spec.do_of line source function ≡ Ok makings → AllShort makings
   do_short source function makings e =
-      let same = both (unless line Mistyped (type_eq source.type function.takes)) _ makings e in
+      let same = both (unless line Mistyped (takes_members source function.takes)) _ makings e in
       subst AllShort (ok-same _ makings same.then)
       (outputs_short source.number function.number 0 function.gives)
 
@@ -69,15 +70,17 @@ module _ (line : ℕ) (s : State) where
   group_short source making e =
       let one = both (spec.collection line source s) _ making e in
       let pair = both (spec.pair_of line one.part.type) _ making one.then in
-      subst (λ (n : Making). IsShort n.made) (ok-same _ making pair.then) tt
+      let members = both (spec.plain line one.part) _ making pair.then in
+      subst (λ (n : Making). IsShort n.made) (ok-same _ making members.then) tt
 
   combine_short : (source : Operand) (by : Comb) (making : Making)
       → spec.combine_of line source by ≡ Ok making → IsShort making.made
   combine_short source by making e =
       let pair = both (spec.pair_of line source.type) _ making e in
       let member = both (spec.member_of line pair.part.value) _ making pair.then in
+      let members = both (spec.plain line source) _ making member.then in
       let value =
-      both (or_fault line Mistyped (spec.combined_type by member.part)) _ making member.then in
+      both (or_fault line Mistyped (spec.combined_type by member.part)) _ making members.then in
       subst (λ (n : Making). IsShort n.made) (ok-same _ making value.then) tt
 
   join_short : (left right_ : Operand) (making : Making)
@@ -86,8 +89,34 @@ module _ (line : ℕ) (s : State) where
       let lefts = both (spec.pair_of line left.type) _ making e in
       let rights = both (spec.pair_of line right_.type) _ making lefts.then in
       let same =
-      both (unless line Mistyped (type_eq lefts.part.key rights.part.key)) _ making rights.then in
+      both
+      (unless line Mistyped (are_plain left right_ && type_eq lefts.part.key rights.part.key)) _
+      making rights.then in
       subst (λ (n : Making). IsShort n.made) (ok-same _ making same.then) tt
+
+  whole_short : (source : Operand) (by : Comb) (making : Making)
+      → spec.combine_all_of line source by ≡ Ok making → IsShort making.made
+  whole_short source by making e =
+      let members = both (spec.plain line source) _ making e in
+      let value =
+      both (or_fault line Mistyped (spec.combined_type by source.type)) _ making members.then in
+      subst (λ (n : Making). IsShort n.made) (ok-same _ making value.then) tt
+
+  operate_short : (objects : List Operand) (function : Callee) (making : Making)
+      → spec.operate_of line objects function ≡ Ok making → IsShort making.made
+  operate_short objects function making e =
+      let fit =
+      both (unless line Mistyped (takes_objects objects function.takes)) _ making e in
+      let value = both (or_fault line Mistyped (sole function.gives)) _ making fit.then in
+      subst (λ (n : Making). IsShort n.made) (ok-same _ making value.then) tt
+
+  beside_short : (source : Operand) (function : Callee) (object : Operand) (making : Making)
+      → spec.do_with_of line source function object ≡ Ok making → IsShort making.made
+  beside_short source function object making e =
+      let fit =
+      both (unless line Mistyped (takes_both source object function.takes)) _ making e in
+      let member = both (or_fault line Mistyped (sole function.gives)) _ making fit.then in
+      subst (λ (n : Making). IsShort n.made) (ok-same _ making member.then) tt
 
   as_many : (found : List Operand) (names : List (List ℕ)) (all : List Operand)
       → spec.collections_behind line found names s ≡ Ok all
@@ -137,7 +166,8 @@ module _ (line : ℕ) (s : State) where
       alone_short (spec.counted line source s) makings
       (λ making is.
       let one = both (spec.collection line source s) _ making is in
-      subst (λ (n : Making). IsShort n.made) (ok-same _ making one.then) tt) e
+      let members = both (spec.plain line one.part) _ making one.then in
+      subst (λ (n : Making). IsShort n.made) (ok-same _ making members.then) tt) e
   made_short (operation.Join left right_) makings short e =
       alone_short (spec.joined line left right_ s) makings
       (λ making is.
@@ -149,7 +179,27 @@ module _ (line : ℕ) (s : State) where
       (λ making is.
       let one = both (spec.collection line source s) _ making is in
       let number = both (spec.top_number line digits) _ making one.then in
-      subst (λ (n : Making). IsShort n.made) (ok-same _ making number.then) tt) e
+      let members = both (spec.plain line one.part) _ making number.then in
+      subst (λ (n : Making). IsShort n.made) (ok-same _ making members.then) tt) e
+  made_short (operation.CombineAll source combiner) makings short e =
+      alone_short (spec.combined_whole line source combiner s) makings
+      (λ making is.
+      let one = both (spec.collection line source s) _ making is in
+      let by = both (spec.comb_of line combiner) _ making one.then in
+      whole_short one.part by.part making by.then) e
+  made_short (operation.Operate objects function) makings short e =
+      alone_short (spec.operated line objects function s) makings
+      (λ making is.
+      let all = both (spec.collections_behind line [] objects s) _ making is in
+      let by = both (spec.callee line function s) _ making all.then in
+      operate_short all.part by.part making by.then) e
+  made_short (operation.DoWith source function object) makings short e =
+      alone_short (spec.done_beside line source function object s) makings
+      (λ making is.
+      let one = both (spec.collection line source s) _ making is in
+      let by = both (spec.callee line function s) _ making one.then in
+      let other = both (spec.collection line object s) _ making by.then in
+      beside_short one.part by.part other.part making other.then) e
 
 -- ---- statements
 
@@ -174,9 +224,13 @@ nodes_more (name ∷ names) (making ∷ makings) s fine short =
 abbrev IsFine : List ℕ × Node → Type 0
 IsFine entry = IsShort entry.1.made
 
+again_short : (object : Bool) (number : ℕ) → IsShort (rules_.again object number)
+again_short true number = tt
+again_short false number = omega arith
+
 entered_short : (from : List Operand) → AllShort (map rules_.entered from)
 entered_short [] = tt
-entered_short (one ∷ from) = (omega arith, entered_short from)
+entered_short (one ∷ from) = (again_short one.is_object one.number, entered_short from)
 
 fine_front : (n : ℕ) (nodes : Named Node) → AllByRecursion IsFine nodes
     → AllByRecursion IsFine (take n nodes)
@@ -201,6 +255,9 @@ renumbered_short to (made.Flatten sources) short =
 renumbered_short to (made.Count source) short = tt
 renumbered_short to (made.Join left right_) short = tt
 renumbered_short to (made.Top many source) short = tt
+renumbered_short to (made.CombineAll source by) short = tt
+renumbered_short to (made.Operate objects function) short = tt
+renumbered_short to (made.DoWith source function object) short = tt
 
 copies_fine : (turn : ℕ) (to : ℕ → ℕ) (nodes : Named Node) → AllByRecursion IsFine nodes
     → AllByRecursion IsFine (map (copied turn to) nodes)

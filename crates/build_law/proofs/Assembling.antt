@@ -176,6 +176,9 @@ module _ (script : Script) (inputs : List (List Value)) (made_ : List (Option Co
     other_by t (made.Count input) apart h = h
     other_by t (made.Join left right) apart h = h
     other_by t (made.Top many input) apart h = h
+    other_by t (made.CombineAll input k) apart h = h
+    other_by t (made.Operate objects f) apart h = h
+    other_by t (made.DoWith input f object) apart h = h
 
     fed : (t : ℕ) {mk : Made} → Kind mk → get_or (built script) t None ≡ Some mk → IsFed t mk
     fed t (called input f o) found =

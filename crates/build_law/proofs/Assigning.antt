@@ -70,6 +70,11 @@ rows_behind script all n source (made.Flatten inputs) rem table c ahead h = rw a
 rows_behind script all n source (made.Count input) rem table c ahead h = rw add-zero ahead
 rows_behind script all n source (made.Join left right) rem table c ahead h = rw add-zero ahead
 rows_behind script all n source (made.Top many input) rem table c ahead h = rw add-zero ahead
+rows_behind script all n source (made.CombineAll input k) rem table c ahead h =
+    rw add-zero ahead
+rows_behind script all n source (made.Operate objects f) rem table c ahead h = rw add-zero ahead
+rows_behind script all n source (made.DoWith input f object) rem table c ahead h =
+    rw add-zero ahead
 
 -- ---- all nodes
 

@@ -1,7 +1,9 @@
 -- What holds of each node of a script's graph: it is a source that is no object, a Flatten, a Pdo
--- of one step, a call of a function or a step with one output, or a Gbk that is not lifted.
+-- of one step, a call of a function or a step with one output, a Gbk that is not lifted, or a
+-- barrier.
 use Rattle.std.proofs.Common.{◌≡◌, ℕ, suc, Bool, List, [], ◌∷◌, get_or, Option, Some, None, subst, zero-add, sym}
 use Rattle.std.specs.List.{AllByRecursion}
+use Rattle.exec_graph.specs.declared.graph.Act.{Act}
 use Rattle.exec_graph.specs.declared.graph.Entry.{Entry}
 use Rattle.exec_graph.specs.declared.graph.Node.{Node}
 use Rattle.exec_graph.specs.declared.graph.Node.TheVariants.{Source, Flatten, Pdo, Gbk}
@@ -9,7 +11,7 @@ use Rattle.exec_graph.specs.declared.graph.Place.{Place}
 use Rattle.exec_graph.specs.declared.step.Does.{Does}
 use Rattle.graph_build.specs.Built.{built}
 use Rattle.graph_build.specs.Graphs.{graph_of}
-use Rattle.graph_build.specs.Nodes.{call_in, made_nodes, one_step, read_input}
+use Rattle.graph_build.specs.Nodes.{barrier, call_in, made_nodes, one_step, read_input}
 use Rattle.script_program.specs.declared.made.Made.{Made}
 use Rattle.script_program.specs.declared.made.Made.TheVariants as made
 use Rattle.script_program.specs.Script.{Script}
@@ -25,6 +27,7 @@ pub record HoldsOfKinds (script : Script) (P : Node → Type 0) : Type 0 where
   pub step :
       (c : Place) (origin : ℕ) (last : Bool) (does : Does) → P (Pdo c (one_step origin last does))
   pub group : (c : Place) (origin : ℕ) (last : Bool) → P (Gbk c origin last None)
+  pub whole : (origin : ℕ) (act : Act) (ins : List Place) → P (barrier origin act ins)
 
 module _ (script : Script) (P : Node → Type 0) (holds : HoldsOfKinds script P) where
   block_has : (t from n : ℕ) (mk : Made) → get_or (built script) t None ≡ Some mk
@@ -45,6 +48,12 @@ module _ (script : Script) (P : Node → Type 0) (holds : HoldsOfKinds script P)
     holds.step _ _ _ _,
     (holds.group _ _ _, (holds.step _ _ _ _, (holds.step _ _ _ _, tt))),
   )
+  block_has t from n (made.CombineAll input k) found = (
+    holds.step _ _ _ _,
+    (holds.group _ _ _, (holds.step _ _ _ _, (holds.whole _ _ _, tt))),
+  )
+  block_has t from n (made.Operate objects f) found = (holds.whole _ _ _, tt)
+  block_has t from n (made.DoWith input f object) found = (holds.whole _ _ _, tt)
 
   pub each_node : AllByRecursion (λ e. P e.node) (graph_of script).nodes
   each_node =

@@ -13,9 +13,11 @@ use Rattle.exec_graph.specs.declared.graph.Graph.{Graph}
 use Rattle.exec_graph.specs.declared.graph.Place.{Place}
 use Rattle.exec_graph.specs.declared.step.Does.{Does}
 use Rattle.graph_build.specs.Calls.{names_needed, needed_from, other_names}
-use Rattle.graph_build.specs.Nodes.{before_last, call_branch, entry, first_of, groups, last_step, made_nodes, one_step, step}
+use Rattle.graph_build.specs.Nodes.{barrier, before_last, call_branch, entry, first_of, groups, last_step, made_nodes, one_step, step}
 use Rattle.graph_build.specs.Wanted.{needed_at}
+use Rattle.combine_table.specs.declared.comb.Comb.{Comb}
 use Rattle.combine_table.specs.declared.comb.Comb.TheVariants as by
+use Rattle.exec_graph.specs.declared.graph.Act.TheVariants.{Singleton}
 use Rattle.exec_graph.specs.declared.graph.Node.TheVariants.{Flatten}
 use Rattle.exec_graph.specs.declared.step.Does.TheVariants as does
 use Rattle.script_program.specs.declared.made.Made.{Made}
@@ -94,6 +96,20 @@ module _ (g : Graph) where
         (or_left (same_place c c || false) false
         (or_left (same_place c c) false (same_self c)))
 
+    -- what is combined is read by the last of the nodes
+    whole_read : (input : ℕ) (k : Comb)
+        → any_uses (first_of (n + 2))
+        (made_nodes script gives origin source n (made.CombineAll input k)) ≡ true
+    whole_read input k =
+        let c = first_of (n + 2) in
+        any_behind (λ e. uses c e.node)
+        (entry n (step origin does.Solo (gives input))
+        ∷ entry (n + 1) (groups origin (first_of n))
+        ∷ entry (n + 2) (step origin (does.Combine k) (first_of (n + 1))) ∷ [])
+        (entry (n + 3) (barrier origin (Singleton k) (first_of (n + 2) ∷ [])) ∷ [])
+        (or_left (same_place c c || false) false
+        (or_left (same_place c c) false (same_self c)))
+
     -- its last node is read, or each output of its call that has a number
     abbrev pub IsLastRead : Made → Type 0
     IsLastRead (made.Do input f output) =
@@ -144,3 +160,12 @@ module _ (g : Graph) where
         ),
       ),
     )
+    block_ok (made.CombineAll input k) last inner fits = (
+      step_ok n _ _ _ (inner (first_of n) (or_right _ _ (or_left _ _ (same_self (first_of n))))),
+      (
+        tt,
+        (step_ok (n + 2) _ _ _ (inner (first_of (n + 2)) (whole_read input k)), (tt, tt)),
+      ),
+    )
+    block_ok (made.Operate objects f) last inner fits = (tt, tt)
+    block_ok (made.DoWith input f object) last inner fits = (tt, tt)

@@ -61,6 +61,10 @@ module _ (script : Script) (gives : ℕ → Place) (origin source n : ℕ) where
       ((refl, refl), ((refl, refl), ((refl, refl), ((refl, refl), ((refl, refl), tt)))))
   block_plain (made.Top many input) h =
       ((refl, refl), ((refl, refl), ((refl, refl), ((refl, refl), tt))))
+  block_plain (made.CombineAll input k) h =
+      ((refl, refl), ((refl, refl), ((refl, refl), ((refl, refl), tt))))
+  block_plain (made.Operate objects f) h = ((refl, refl), tt)
+  block_plain (made.DoWith input f object) h = ((refl, refl), tt)
 
   module _ (P : Place → Type 0) where
     -- each node of the collection is there
@@ -125,6 +129,19 @@ module _ (script : Script) (gives : ℕ → Place) (origin source n : ℕ) where
             ),
           ),
         )
+    block_low (made.CombineAll input k) there h =
+        let mk = made.CombineAll input k in (
+          (h.0, tt),
+          (
+            next mk there n (n + 1) (omega arith) (omega arith),
+            (
+              next mk there (n + 1) (n + 2) (omega arith) (omega arith),
+              (next mk there (n + 2) (n + 3) (omega arith) (omega arith), tt),
+            ),
+          ),
+        )
+    block_low (made.Operate objects f) there h = (all_low objects h, tt)
+    block_low (made.DoWith input f object) there h = ((h.0, (h.1.0, tt)), tt)
 
 -- ---- all nodes
 
@@ -149,6 +166,9 @@ module _ (script : Script) (well : IsWellFormed script) where
       by_other (made.Count input) h = tt
       by_other (made.Join left right) h = tt
       by_other (made.Top many input) h = tt
+      by_other (made.CombineAll input k) h = tt
+      by_other (made.Operate objects f) h = tt
+      by_other (made.DoWith input f object) h = tt
 
   pub plains : AllByRecursion IsPlain (nodes_of script)
   plains =

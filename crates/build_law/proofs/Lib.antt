@@ -2,6 +2,7 @@ pub mod Passing
 pub mod Counting
 pub mod Topping
 pub mod Joining
+pub mod Wholes
 pub mod Values
 pub mod MadeKinds
 pub mod Outputs
@@ -10,6 +11,7 @@ pub mod Blocks
 pub mod Meeting
 pub mod Settling
 pub mod Tables
+pub mod Operating
 pub mod Calling
 pub mod Naming
 pub mod Placing
@@ -20,12 +22,13 @@ pub mod Numbered
 pub mod Founded
 pub mod Fitting
 pub mod EachNode
-pub mod ObjectFree
+pub mod Objects
 pub mod WellFormed
 pub mod Owning
 pub mod Trapping
 pub mod Meanings
 pub mod Accepting
+pub mod TypedObjects
 pub mod TypedBlocks
 pub mod TypedGraphs
 pub mod OneStep

@@ -1,16 +1,15 @@
 -- The collections of a script meet their equations.
 use Rattle.std.proofs.Common.{◌≡◌, ℕ, ◌-◌, true, List, [], ◌∷◌, ◌++◌, map, drop, get_or, Option, Some, refl, sym, ap, ◌∙◌, subst, add-zero}
 use Rattle.std.specs.Prelude.{option_map, option_and_then}
-use Rattle.std.specs.List.{AllByRecursion, flat_map}
+use Rattle.std.specs.List.{AllByRecursion}
 use Rattle.flume_value.specs.declared.value.Value.{Value}
-use Rattle.flume_value.specs.Bag.{bag_of}
-use Rattle.flume_collection.specs.Traps.{trap_set}
-use Rattle.flume_collection.specs.Calls.{Called, emissions, passed, trap_of}
+use Rattle.flume_collection.specs.Calls.{Called, passed}
 use Rattle.flume_collection.specs.Collection.{Collection, by_key, together}
 use Rattle.combine_table.specs.declared.comb.Comb.{Comb}
 use Rattle.std.proofs.lemmas.List.{get_or-drop}
 use Rattle.exec_graph.specs.Calls.{called}
 use Rattle.exec_graph.specs.Meaning.{through}
+use Rattle.exec_graph.specs.Objects.{operated, side_input}
 use Rattle.exec_graph.specs.World.{World}
 use Rattle.exec_graph.specs.declared.step.Does.TheVariants as does
 use Rattle.script_program.specs.declared.made.Made.{Made}
@@ -18,30 +17,15 @@ use Rattle.script_program.specs.declared.made.Made.TheVariants as made
 use Rattle.script_program.specs.Script.{Script}
 use Rattle.script_laws.specs.WellFormed.{function_at}
 use Rattle.direct_meaning.specs.Calls.{answer_of, calls_on}
-use Rattle.direct_meaning.specs.Direct.{all_made, called_by, combined_by, counted_by, done_at, done_by, joined_at, joined_by, made_as, made_at, rows_as, top_by}
+use Rattle.direct_meaning.specs.Direct.{all_made, called_by, combined_by, counted_by, done_at, done_beside_at, done_by, joined_at, joined_by, made_as, made_at, operated_at, rows_as, top_by}
+use Rattle.direct_meaning.specs.Objects.{combined_whole, done_beside, operated_by}
 use Rattle.script_program.specs.Needed.{operands}
 use Rattle.build_law.specs.Worlds.{answered_by, or_silent, world_of}
 use Rattle.build_law.proofs.Meeting.{IsMadeBy, IsSettled}
+use Rattle.build_law.proofs.Operating.{beside_is, operate_is, passed_is}
 use Rattle.build_law.proofs.Passing.{call_label}
-use Rattle.build_law.proofs.Settling.{called_settled, combined_settled, counted_settled, groups_settled, joined_settled, rows_settled, together_settled, top_settled}
+use Rattle.build_law.proofs.Settling.{beside_settled, called_settled, combined_settled, counted_settled, groups_settled, joined_settled, operated_settled, rows_settled, together_settled, top_settled, whole_settled}
 use Rattle.build_law.proofs.Tables.{and_then_some, map_some}
-
--- ---- calls
-
-calls_mapped : (answer : Value → Option Called) (xs : List Value) (calls : List Called)
-    → calls_on answer xs ≡ Some calls → map (λ x. or_silent (answer x)) xs ≡ calls
-calls_mapped answer [] calls h = cc
-calls_mapped answer (x ∷ xs) calls h =
-    let (one, first, rest) =
-    and_then_some (λ called. option_map (λ calls. called ∷ calls) (calls_on answer xs)) (answer x)
-    calls h in
-    let (others, behind, same) = map_some (λ calls. one ∷ calls) (calls_on answer xs) calls rest in
-    (λ i. or_silent (first i) ∷ calls_mapped answer xs others behind i) ∙ same
-
-flat_mapped : {A B C : Type 0} (g : B → List C) (f : A → B) (xs : List A)
-    → flat_map g (map f xs) ≡ flat_map (λ x. g (f x)) xs
-flat_mapped g f [] = refl
-flat_mapped g f (x ∷ xs) = ap (λ ys. g (f x) ++ ys) (flat_mapped g f xs)
 
 -- what a function makes is what its step gives to the output
 call_is : (w : World) (n f output : ℕ) (answer : Value → Option Called) (c : Collection)
@@ -50,13 +34,7 @@ call_is : (w : World) (n f output : ℕ) (answer : Value → Option Called) (c :
     → called_by n output c.traps calls ≡ through w (call_label n f output) c
 unfolding called
 call_is w n f output answer c calls world h =
-    ap (called_by n output c.traps) (sym (calls_mapped answer c.bag calls h))
-    ∙ (λ i. record {
-      bag = bag_of (flat_mapped (emissions output) (λ x. or_silent (answer x)) c.bag i);
-      traps = trap_set (c.traps
-          ++ flat_mapped (trap_of n) (λ x. or_silent (answer x)) c.bag i);
-    })
-    ∙ (λ i. passed n output (sym world i) c)
+    passed_is n output answer c calls h ∙ (λ i. passed n output (sym world i) c)
 
 -- what is made of flattened collections
 all_at : (table : List (Option Collection)) (at : ℕ → Collection) (js : List ℕ)
@@ -191,6 +169,60 @@ module _ (script : Script) (all : List (List Value)) (at : ℕ → Collection)
         read = ((d, read), tt);
       }
 
+  by_whole : (input : ℕ) (k : Comb)
+      → option_map (combined_whole n k) (made_at table input) ≡ Some c
+      → Is (made.CombineAll input k)
+  by_whole input k h =
+      let (d, read, is) = map_some (combined_whole n k) (made_at table input) c h in
+      record {
+        is = here ∙ sym is ∙ ap (combined_whole n k) (sym (same input d read));
+        settled = subst IsSettled is (whole_settled n k d (settled input d read));
+        read = ((d, read), tt);
+      }
+
+  by_operating : (objects : List ℕ) (f : ℕ)
+      → option_and_then (λ function. operated_at n function objects table)
+      (function_at script.functions f) ≡ Some c
+      → Is (made.Operate objects f)
+  by_operating objects f h =
+      let w : World = world_of script all in
+      let (function, calls_it, done) =
+      and_then_some (λ function. operated_at n function objects table)
+      (function_at script.functions f) c h in
+      let (cs, read, done_cs) =
+      and_then_some (operated_by n (answer_of function)) (all_made table objects) c done in
+      let is : c ≡ operated w n f cs =
+      operate_is w n f (answer_of function) cs c (λ i x. answered_by (calls_it i) x) done_cs in
+      record {
+        is = here ∙ is ∙ ap (operated w n f) (sym (all_at table at objects cs same read));
+        settled = subst IsSettled (sym is) (operated_settled w n f cs);
+        read = all_are_made table objects cs read;
+      }
+
+  by_beside : (input f object : ℕ)
+      → option_and_then (λ function. done_beside_at n function input object table)
+      (function_at script.functions f) ≡ Some c
+      → Is (made.DoWith input f object)
+  by_beside input f object h =
+      let w : World = world_of script all in
+      let (function, calls_it, done) =
+      and_then_some (λ function. done_beside_at n function input object table)
+      (function_at script.functions f) c h in
+      let (d, read, rest) =
+      and_then_some (λ d. option_and_then (done_beside n (answer_of function) d)
+      (made_at table object)) (made_at table input) c done in
+      let (v, value_read, done_v) =
+      and_then_some (done_beside n (answer_of function) d) (made_at table object) c rest in
+      let is : c ≡ side_input w n f d v =
+      beside_is w n f (answer_of function) d v c (λ i x. answered_by (calls_it i) x) done_v in
+      record {
+        is = here ∙ is
+            ∙ (λ i. side_input w n f (sym (same input d read) i)
+            (sym (same object v value_read) i));
+        settled = subst IsSettled (sym is) (beside_settled w n f d v);
+        read = ((d, read), ((v, value_read), tt));
+      }
+
   pub is_made : (mk : Made) (rem : List (List Value)) → rem ≡ drop source all
       → made_as script n mk rem table ≡ Some c → Is mk
   is_made (made.Input file columns) [] ahead h = cc
@@ -208,3 +240,6 @@ module _ (script : Script) (all : List (List Value)) (at : ℕ → Collection)
   is_made (made.Count input) rem ahead h = by_counting input h
   is_made (made.Join left right) rem ahead h = by_joining left right h
   is_made (made.Top many input) rem ahead h = by_top many input h
+  is_made (made.CombineAll input k) rem ahead h = by_whole input k h
+  is_made (made.Operate objects f) rem ahead h = by_operating objects f h
+  is_made (made.DoWith input f object) rem ahead h = by_beside input f object h

@@ -22,6 +22,9 @@ kind_of (made.Flatten sources) = other (made.Flatten sources) tt
 kind_of (made.Count source) = other (made.Count source) tt
 kind_of (made.Join left right) = other (made.Join left right) tt
 kind_of (made.Top many source) = other (made.Top many source) tt
+kind_of (made.CombineAll source by) = other (made.CombineAll source by) tt
+kind_of (made.Operate objects function) = other (made.Operate objects function) tt
+kind_of (made.DoWith source function object) = other (made.DoWith source function object) tt
 
 pub none_emitted : (how : Made) → IsOther how → emitted_as how ≡ None
 none_emitted (made.Input file columns) h = refl
@@ -32,3 +35,6 @@ none_emitted (made.Flatten sources) h = refl
 none_emitted (made.Count source) h = refl
 none_emitted (made.Join left right) h = refl
 none_emitted (made.Top many source) h = refl
+none_emitted (made.CombineAll source by) h = refl
+none_emitted (made.Operate objects function) h = refl
+none_emitted (made.DoWith source function object) h = refl

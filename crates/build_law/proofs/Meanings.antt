@@ -205,6 +205,9 @@ module _ (script : Script) (inputs : List (List Value)) (made_ : List (Option Co
   own_node (made.Count input) has apart = tt
   own_node (made.Join left right) has apart = tt
   own_node (made.Top many input) has apart = tt
+  own_node (made.CombineAll input k) has apart = tt
+  own_node (made.Operate objects f) has apart = tt
+  own_node (made.DoWith input f object) has apart = tt
 
   own_of_call : (j input f o : ℕ) → get_or (wanted script) j None ≡ Some (made.Do input f o)
       → (n : IsNamed script well j input f o)

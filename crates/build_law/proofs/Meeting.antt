@@ -4,12 +4,16 @@ use Rattle.std.specs.List.{AllByRecursion}
 use Rattle.flume_value.specs.Bag.{bag_of}
 use Rattle.flume_collection.specs.Collection.{Collection, by_key, together}
 use Rattle.flume_collection.specs.Traps.{trap_set}
+use Rattle.combine_table.specs.declared.comb.Comb.{Comb}
 use Rattle.combine_table.specs.declared.comb.Comb.TheVariants as by
 use Rattle.exec_graph.specs.Meaning.{Holds, Meets, nothing, place, through}
+use Rattle.exec_graph.specs.Objects.{act_result, operated, side_input}
 use Rattle.exec_graph.specs.World.{World}
+use Rattle.exec_graph.specs.declared.graph.Act.TheVariants.{SideInput, Operate, Singleton}
 use Rattle.exec_graph.specs.declared.graph.Entry.{Entry}
 use Rattle.exec_graph.specs.declared.graph.Place.{Place}
 use Rattle.exec_graph.specs.declared.step.Does.TheVariants as does
+use Rattle.exec_graph.proofs.Barriers.{barrier_operate, barrier_side_input}
 use Rattle.graph_build.specs.Calls.{names_needed, needed_from, other_names}
 use Rattle.graph_build.specs.Graphs.{next_source}
 use Rattle.graph_build.specs.Nodes.{call_branch, first_of, made_nodes}
@@ -19,6 +23,7 @@ use Rattle.script_program.specs.declared.made.Made.{Made}
 use Rattle.script_program.specs.declared.made.Made.TheVariants as made
 use Rattle.script_program.specs.Script.{Script}
 use Rattle.direct_meaning.specs.Direct.{combined_by, counted_by, joined_by, top_by}
+use Rattle.direct_meaning.specs.Objects.{combined_whole}
 use Rattle.build_law.proofs.Blocks.{source_at}
 use Rattle.build_law.proofs.Passing.{call_label, only_label, through_combined}
 use Rattle.build_law.proofs.Counting.{count_is}
@@ -26,7 +31,8 @@ use Rattle.build_law.proofs.Joining.{join_is}
 use Rattle.build_law.proofs.Outputs.{EachName, buds_fit, kept}
 use Rattle.build_law.proofs.Placing.{all_rows}
 use Rattle.build_law.proofs.Topping.{top_is}
-use Rattle.build_law.proofs.Values.{inner_rows, ones, tagged, zeros, greatest_of}
+use Rattle.build_law.proofs.Values.{inner_rows, ones, tagged, zeros, greatest_of, whole_of}
+use Rattle.build_law.proofs.Wholes.{whole_is}
 
 -- a bag and a set
 pub record IsSettled (c : Collection) : Type 0 where
@@ -46,6 +52,12 @@ IsMadeBy w at origin source (made.Flatten inputs) = at origin ≡ together (map 
 IsMadeBy w at origin source (made.Count input) = at origin ≡ counted_by origin (at input)
 IsMadeBy w at origin source (made.Join left right) = at origin ≡ joined_by (at left) (at right)
 IsMadeBy w at origin source (made.Top many input) = at origin ≡ top_by many (at input)
+IsMadeBy w at origin source (made.CombineAll input comb) =
+    at origin ≡ combined_whole origin comb (at input)
+IsMadeBy w at origin source (made.Operate objects function) =
+    at origin ≡ operated w origin function (map at objects)
+IsMadeBy w at origin source (made.DoWith input function object) =
+    at origin ≡ side_input w origin function (at input) (at object)
 
 -- the equations of the collections that the nodes at `origin` give: of a call, of each name that is
 -- needed
@@ -174,6 +186,32 @@ module _ (script : Script) (w : World) (at : ℕ → Collection) (m : Place → 
           ),
         )
 
+    whole_holds : (input : ℕ) (k : Comb) → Facts (made.CombineAll input k)
+        → m (gives input) ≡ at input → at origin ≡ combined_whole origin k (at input)
+        → Meets w (made_nodes script gives origin source n (made.CombineAll input k)) m
+    whole_holds input k fact read is =
+        let solo = only_label origin false does.Solo in
+        let combine = only_label origin false (does.Combine k) in
+        let first : m (first_of n) ≡ zeros w origin (at input) = at_first (fact 0 0) in
+        let second : m (first_of (n + 1)) ≡ by_key (zeros w origin (at input)) = fact 1 0 in
+        let third : m (first_of (n + 2)) ≡ whole_of w origin k (at input) = fact 2 0 in
+        let fourth : m (first_of (n + 3)) ≡ at origin = fact 3 0 in (
+          (first ∙ ap (through w solo) (sym read), tt, tt),
+          (
+            second ∙ ap by_key (sym first),
+            (
+              (third ∙ ap (through w combine) (sym second), tt, tt),
+              (
+                fourth ∙ is
+                    ∙ sym (whole_is w origin k (at input) (settled input).set
+                    (settled input).bag)
+                    ∙ ap (λ c. act_result w origin (Singleton k) (c ∷ [])) (sym third),
+                tt,
+              ),
+            ),
+          ),
+        )
+
     pub block_holds : (made : Made) → Facts made → Reads made
         → IsBuiltBy script w at origin source made
         → Meets w (made_nodes script gives origin source n made) m
@@ -209,6 +247,18 @@ module _ (script : Script) (w : World) (at : ℕ → Collection) (m : Place → 
     block_holds (made.Join left right) fact reads is =
         join_holds left right fact reads.0 reads.1.0 is
     block_holds (made.Top many input) fact reads is = top_holds many input fact reads.0 is
+    block_holds (made.CombineAll input k) fact reads is = whole_holds input k fact reads.0 is
+    block_holds (made.Operate objects function) fact reads is = (
+      at_first (fact 0 0) ∙ is ∙ sym (barrier_operate w origin function (map at objects))
+          ∙ ap (act_result w origin (Operate function)) (sym (same_inputs objects reads)),
+      tt,
+    )
+    block_holds (made.DoWith input function object) fact reads is = (
+      at_first (fact 0 0) ∙ is ∙ sym (barrier_side_input w origin function (at input) (at object))
+          ∙ ap (act_result w origin (SideInput function))
+          (sym (same_inputs (input ∷ object ∷ []) reads)),
+      tt,
+    )
 
 module _ (w : World) (at : ℕ → Collection) (m : Place → Collection) (gives : ℕ → Place) where
   abbrev pub MadeAt : ℕ → ℕ → Option Made → Type 0

@@ -112,6 +112,9 @@ block_length script gives origin source n (made.Flatten inputs) = refl
 block_length script gives origin source n (made.Count input) = refl
 block_length script gives origin source n (made.Join left right) = refl
 block_length script gives origin source n (made.Top many input) = refl
+block_length script gives origin source n (made.CombineAll input k) = refl
+block_length script gives origin source n (made.Operate objects f) = refl
+block_length script gives origin source n (made.DoWith input f object) = refl
 
 block_counts : (script : Script) (gives : ℕ → Place) (origin source n : ℕ) (made : Made)
     → Counts n (made_nodes script gives origin source n made)
@@ -126,6 +129,10 @@ block_counts script gives origin source n (made.Join left right) =
     (refl, (omega arith, (omega arith, (omega arith, (omega arith, tt)))))
 block_counts script gives origin source n (made.Top many input) =
     (refl, (omega arith, (omega arith, (omega arith, tt))))
+block_counts script gives origin source n (made.CombineAll input k) =
+    (refl, (omega arith, (omega arith, (omega arith, tt))))
+block_counts script gives origin source n (made.Operate objects f) = (refl, tt)
+block_counts script gives origin source n (made.DoWith input f object) = (refl, tt)
 
 part_counts : (script : Script) (gives : ℕ → Place) (origin source n : ℕ)
     (made : Option Made) (ys : List Entry)
@@ -164,6 +171,9 @@ few_before (made.Flatten inputs) = omega arith
 few_before (made.Count input) = omega arith
 few_before (made.Join left right) = omega arith
 few_before (made.Top many input) = omega arith
+few_before (made.CombineAll input k) = omega arith
+few_before (made.Operate objects f) = omega arith
+few_before (made.DoWith input f object) = omega arith
 
 pub few_nodes : (script : Script) (gives : ℕ → Place) (origin source n : ℕ)
     (ws : List (Option Made))

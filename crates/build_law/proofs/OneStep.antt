@@ -40,6 +40,7 @@ graph_steps script P one =
       call = λ t input f o c found. one.call t input f o found;
       step = λ c origin last does. one.step origin last does;
       group = λ c origin last. tt;
+      whole = λ origin act ins. tt;
     })
 
 one_alone : (origin : ℕ) (last : Bool) (does : Does) → IsOneStep (one_step origin last does)

@@ -1,5 +1,5 @@
 -- The bag of a collection of the script is what its last node gives, or its call to its output.
-use Rattle.std.proofs.Common.{◌≡◌, ℕ, zero, suc, ◌+◌, ◌<◌, Bool, true, false, cond, List, [], ◌∷◌, ◌++◌, length, refl, sym, ap, ◌∙◌, subst, arith, add-zero, zero-add, append-nil}
+use Rattle.std.proofs.Common.{◌≡◌, ℕ, zero, suc, ◌+◌, ◌<◌, Bool, true, false, cond, List, [], ◌∷◌, ◌++◌, map, length, refl, sym, ap, ◌∙◌, subst, arith, add-zero, zero-add, append-nil}
 use Rattle.std.specs.Prelude.{◌==◌}
 use Rattle.std.specs.List.{flat_map}
 use Rattle.std.proofs.lemmas.Bool.{eq-eqb, eqb-true}
@@ -10,6 +10,9 @@ use Rattle.combine_table.specs.declared.comb.Comb.TheVariants as by
 use Rattle.exec_graph.specs.Calls.{emitted}
 use Rattle.exec_graph.specs.Meaning.{Meets, own, through}
 use Rattle.exec_graph.specs.World.{World}
+use Rattle.exec_graph.specs.Objects.{act_result}
+use Rattle.exec_graph.specs.declared.graph.Act.{Act}
+use Rattle.exec_graph.specs.declared.graph.Act.TheVariants.{SideInput, Operate, Singleton}
 use Rattle.exec_graph.specs.declared.graph.Entry.{Entry}
 use Rattle.exec_graph.specs.declared.graph.Place.{Place}
 use Rattle.exec_graph.specs.declared.step.Does.{Does}
@@ -93,6 +96,10 @@ module _ (script : Script) (w : World) (m : Place → Collection) (gives : ℕ �
     block_other i (made.Count input) differ = not_own _ _ (differs_zero origin i differ)
     block_other i (made.Join left right) differ = not_own _ _ (differs_zero origin i differ)
     block_other i (made.Top many input) differ = not_own _ _ (differs_zero origin i differ)
+    block_other i (made.CombineAll input k) differ = not_groups _ _ (differs origin i differ)
+    block_other i (made.Operate objects f) differ = not_groups _ _ (differs origin i differ)
+    block_other i (made.DoWith input f object) differ =
+        not_groups _ _ (differs origin i differ)
 
     pub by_other : (i : ℕ) (made : Made) → IsOther made → (origin ≡ i → ⊥) → Apart i made
     by_other i (made.Input file columns) apart differ = differ
@@ -103,6 +110,9 @@ module _ (script : Script) (w : World) (m : Place → Collection) (gives : ℕ �
     by_other i (made.Count input) apart differ = differ
     by_other i (made.Join left right) apart differ = differ
     by_other i (made.Top many input) apart differ = differ
+    by_other i (made.CombineAll input k) apart differ = differ
+    by_other i (made.Operate objects f) apart differ = differ
+    by_other i (made.DoWith input f object) apart differ = differ
 
     -- a call adds to each of its names what it gives to it
     pub call_adds : (i input f o k : ℕ) (c : Collection) → k < suc (other_names script f)
@@ -142,6 +152,17 @@ module _ (script : Script) (w : World) (m : Place → Collection) (gives : ℕ �
         (are_groups (origin == origin) (by_key (m (gives input))).bag (eq-eqb origin origin refl))
         ∙ ap (λ (x : Collection). bag_of x.bag) (sym holds ∙ is) ∙ settled.bag
 
+    -- so does what an act makes
+    act_adds : (k : ℕ) (act : Act) (cs : List Place) (d : Collection) → IsSettled d
+        → m (first_of k) ≡ act_result w origin act (map m cs) → m (first_of k) ≡ d
+        → bag_of (cond (origin == origin) (act_result w origin act (map m cs)).bag [] ++ [])
+        ≡ d.bag
+    act_adds k act cs d settled holds is =
+        ap bag_of
+        (are_groups (origin == origin) (act_result w origin act (map m cs)).bag
+        (eq-eqb origin origin refl))
+        ∙ ap (λ (x : Collection). bag_of x.bag) (sym holds ∙ is) ∙ settled.bag
+
     -- the nodes of a collection add what its last one gives
     pub block_here : (made : Made) (d : Collection) → HasOwnNode made → IsSettled d
         → Meets w (made_nodes script gives origin source n made) m
@@ -160,3 +181,9 @@ module _ (script : Script) (w : World) (m : Place → Collection) (gives : ℕ �
         step_adds (n + 4) does.Split (first_of (n + 3)) d h.1.1.1.1.0.0 is
     block_here (made.Top many input) d has settled h is =
         step_adds (n + 3) does.Spread (first_of (n + 2)) d h.1.1.1.0.0 is
+    block_here (made.CombineAll input k) d has settled h is =
+        act_adds (n + 3) (Singleton k) (first_of (n + 2) ∷ []) d settled h.1.1.1.0 is
+    block_here (made.Operate objects f) d has settled h is =
+        act_adds n (Operate f) (map gives objects) d settled h.0 (at_start is)
+    block_here (made.DoWith input f object) d has settled h is =
+        act_adds n (SideInput f) (gives input ∷ gives object ∷ []) d settled h.0 (at_start is)

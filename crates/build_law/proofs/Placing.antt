@@ -95,6 +95,9 @@ module _ {X : Type 0} (script : Script) (d : X) (at : ℕ → X)
   other_row t (made.Count input) h = refl
   other_row t (made.Join left right) h = refl
   other_row t (made.Top many input) h = refl
+  other_row t (made.CombineAll input by) h = refl
+  other_row t (made.Operate objects f) h = refl
+  other_row t (made.DoWith input f object) h = refl
 
   module _ (sized : (t : ℕ) (mk : Made) → get_or (built script) t None ≡ Some mk
       → length (inner t mk) ≡ before_last mk) where

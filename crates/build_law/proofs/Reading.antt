@@ -118,3 +118,10 @@ module _ (script : Script) (gives : ℕ → Place) (origin source n j : ℕ) whe
   block_uses (made.Join left right) is = joined_uses left right is
   block_uses (made.Top many input) is =
       calls_first (same_place (gives j) (gives input)) _ (same_input gives input j is)
+  block_uses (made.CombineAll input k) is =
+      calls_first (same_place (gives j) (gives input)) _ (same_input gives input j is)
+  block_uses (made.Operate objects f) is =
+      only_any (among (gives j) (map gives objects)) (among_places gives objects j is)
+  block_uses (made.DoWith input f object) is =
+      only_any (among (gives j) (gives input ∷ gives object ∷ []))
+      (among_places gives (input ∷ object ∷ []) j is)

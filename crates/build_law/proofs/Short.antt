@@ -22,6 +22,9 @@ operation_short (g.flatten names few) = omega arith
 operation_short g.count = tt
 operation_short g.join = tt
 operation_short g.top = tt
+operation_short (g.combine_all c) = tt
+operation_short (g.operate names few) = tt
+operation_short g.do_with = tt
 
 let_short : {ts us : List Token} {l : TurnLet} → g.IsLet the_limits ts us l
     → IsShortOperation l.by

@@ -34,7 +34,7 @@ members_listed (Some group) = sym (append-nil group.1)
 spread_listed : spread ≡ listed
 spread_listed = λ i x. members_listed (group_of x) i
 
-zeros_grouped : (bag : List Value)
+pub zeros_grouped : (bag : List Value)
     → grouped (bag_of (flat_map under_zero bag)) ≡ grouped (map zero_under bag)
 zeros_grouped bag =
     grouped-bag_of (flat_map under_zero bag) ∙ ap grouped (each_one zero_under bag)

@@ -1,6 +1,8 @@
 -- The traps of the nodes of a script's graph are those of the script.
 use Rattle.std.proofs.Common.{◌≡◌, ℕ, zero, suc, ◌+◌, Bool, true, false, List, [], ◌∷◌, ◌++◌, map, length, Option, Some, None, refl, sym, ap, ◌∙◌, subst, add-zero, append-nil, ⊎_elim}
 use Rattle.std.specs.List.{Contains, flat_map}
+use Rattle.std.specs.Option.{option_and_then}
+use Rattle.bag_groups.specs.Pairs.{value_of}
 use Rattle.std.proofs.lemmas.List.Elements.{Contains-append_cases, Contains-append_left, Contains-append_right}
 use Rattle.flume_collection.specs.Collection.{Collection, by_key, together}
 use Rattle.flume_collection.specs.Traps.{trap_le, trap_set}
@@ -11,6 +13,9 @@ use Rattle.combine_table.specs.declared.comb.Comb.TheVariants as by
 use Rattle.exec_graph.specs.Forests.{Branch, Label}
 use Rattle.exec_graph.specs.Meaning.{Meets, step_traps, through, total, traps}
 use Rattle.exec_graph.specs.World.{World}
+use Rattle.combine_table.specs.declared.comb.Comb.{Comb}
+use Rattle.exec_graph.specs.Objects.{act_result, none_of, or_of_nothing, only, unless_behind}
+use Rattle.exec_graph.specs.declared.graph.Act.TheVariants.{SideInput, Operate, Singleton}
 use Rattle.exec_graph.specs.declared.graph.Entry.{Entry}
 use Rattle.exec_graph.specs.declared.graph.Place.{Place}
 use Rattle.exec_graph.specs.declared.step.Does.TheVariants as does
@@ -47,6 +52,21 @@ then_in xs ys zs h k t is = k t (h t is)
 through_in : (w : World) (l : Label) (c : Collection) → AreIn c.traps (through w l c).traps
 through_in w l c t is =
     (set_members trap_le trap_order _ t).1 (Contains-append_left c.traps _ t is)
+
+-- what is behind pairs is behind the value of the only pair
+one_in : (ts : List Trap) (none some : Collection) → AreIn ts none.traps
+    → AreIn ts (unless_behind ts none some).traps
+one_in [] none some h = none_in some.traps
+one_in (t ∷ ts) none some h = h
+
+value_in : (w : World) (o : ℕ) (k : Comb) (c : Collection)
+    → AreIn c.traps (act_result w o (Singleton k) (c ∷ [])).traps
+unfolding act_result
+value_in w o k c =
+    one_in c.traps (none_of (c ∷ []))
+    (or_of_nothing o k (option_and_then value_of (only c.bag)))
+    (λ t is. (set_members trap_le trap_order (c.traps ++ []) t).1
+    (Contains-append_left c.traps [] t is))
 
 -- the list of one step's traps
 step_list : (xs zs : List Trap) → AreIn xs zs → AreIn (xs ++ []) zs
@@ -160,6 +180,38 @@ module _ (script : Script) (w : World) (m : Place → Collection) (gives : ℕ �
               (into_behind (most.traps ++ []) rest d.traps (same_in (sym same))));
         }
 
+    whole_traps : (input : ℕ) (k : Comb) (d : Collection)
+        → Meets w (made_nodes script gives origin source n (made.CombineAll input k)) m
+        → m (first_of (n + 3)) ≡ d
+        → SameTraps (made_nodes script gives origin source n (made.CombineAll input k)) d
+    whole_traps input k d h is =
+        let one : Collection = through w (only_label origin false does.Solo) (m (gives input)) in
+        let combine : Label = only_label origin false (does.Combine k) in
+        let whole : Collection = through w combine (m (first_of (n + 1))) in
+        let last : Collection = act_result w origin (Singleton k) (m (first_of (n + 2)) ∷ []) in
+        let end : Behind (first_of (n + 3)) d = same_in (ap (λ (x : Collection). x.traps) is) in
+        let third : Behind (first_of (n + 2)) d =
+        then_in (m (first_of (n + 2))).traps last.traps d.traps
+        (value_in w origin k (m (first_of (n + 2)))) (given_in (n + 3) last d h.1.1.1.0 end) in
+        let second : Behind (first_of (n + 1)) d =
+        step_behind (n + 2) combine (first_of (n + 1)) d h.1.1.0.0 third in
+        let first : Behind (first_of n) d = group_behind (n + 1) (first_of n) d h.1.0 second in
+        let same : last.traps ++ [] ≡ d.traps =
+        append-nil last.traps ∙ last_traps (n + 3) last d h.1.1.1.0 is in
+        let rest : List Trap = last.traps ++ [] in
+        let group : List Trap = (m (first_of n)).traps in
+        record {
+          from = both_in (one.traps ++ []) (group ++ ((whole.traps ++ []) ++ rest)) d.traps
+              (step_list one.traps d.traps (given_in n one d h.0.0 first))
+              (both_in group ((whole.traps ++ []) ++ rest) d.traps first
+              (both_in (whole.traps ++ []) rest d.traps
+              (step_list whole.traps d.traps (given_in (n + 2) whole d h.1.1.0.0 third))
+              (same_in same)));
+          into = into_behind (one.traps ++ []) (group ++ ((whole.traps ++ []) ++ rest)) d.traps
+              (into_behind group ((whole.traps ++ []) ++ rest) d.traps
+              (into_behind (whole.traps ++ []) rest d.traps (same_in (sym same))));
+        }
+
     -- the traps behind two collections together
     left_in : (a b : List Trap) → AreIn a (trap_set (a ++ (b ++ [])))
     left_in a b t is =
@@ -265,6 +317,16 @@ module _ (script : Script) (w : World) (m : Place → Collection) (gives : ℕ �
     block_traps (made.Count input) d apart h is = count_traps input d h is
     block_traps (made.Join left right) d apart h is = join_traps left right d h is
     block_traps (made.Top many input) d apart h is = top_traps many input d h is
+    block_traps (made.CombineAll input k) d apart h is = whole_traps input k d h is
+    block_traps (made.Operate objects f) d apart h is =
+        same_list _ d
+        (append-nil (act_result w origin (Operate f) (map m (map gives objects))).traps
+        ∙ ap (λ (x : Collection). x.traps) (sym h.0 ∙ at_start is))
+    block_traps (made.DoWith input f object) d apart h is =
+        same_list _ d
+        (append-nil
+        (act_result w origin (SideInput f) (m (gives input) ∷ m (gives object) ∷ [])).traps
+        ∙ ap (λ (x : Collection). x.traps) (sym h.0 ∙ at_start is))
 
 -- all traps behind what is made
 pub made_traps : (made : List (Option Collection)) (zs : List Trap)

@@ -23,6 +23,7 @@ use Rattle.script_program.specs.Script.{Function, Node, Script}
 use Rattle.written_types.specs.Named.{Named}
 use Rattle.script_laws.specs.WellFormed.{Fits, IsCombined, IsCounted, IsDone, IsGrouped, IsJoined, IsTop, function_at, members_at}
 use Rattle.build_law.proofs.Outputs.{EachName, buds, kept}
+use Rattle.build_law.proofs.TypedObjects.{beside_typed, operate_typed, types_read, whole_typed}
 
 module _ (functions : Named Function) (before : Named Node) where
   -- the types of the nodes before the last
@@ -42,6 +43,11 @@ module _ (functions : Named Function) (before : Named Node) where
   inner_types (made.Top many input) t fit =
       table_of type.Int t ∷ table_of type.Int (type.List t)
       ∷ table_of type.Int (type.List t) ∷ []
+  inner_types (made.CombineAll input k) t fit =
+      table_of type.Int fit.member ∷ table_of type.Int (type.List fit.member)
+      ∷ table_of type.Int t ∷ []
+  inner_types (made.Operate objects f) t fit = []
+  inner_types (made.DoWith input f object) t fit = []
 
   abbrev pub inner_rows_of : (made : Made) (t : Ty) → Fits functions before made t → List (List Ty)
   inner_rows_of made t fit = map (λ u. u ∷ []) (inner_types made t fit)
@@ -56,6 +62,9 @@ module _ (functions : Named Function) (before : Named Node) where
   inner_count (made.Count input) t fit = refl
   inner_count (made.Join left right) t fit = refl
   inner_count (made.Top many input) t fit = refl
+  inner_count (made.CombineAll input k) t fit = refl
+  inner_count (made.Operate objects f) t fit = refl
+  inner_count (made.DoWith input f object) t fit = refl
 
 -- ---- types of places
 
@@ -369,3 +378,18 @@ module _ (script : Script) (s : Signatures) (functions : Named Function) (before
         join_typed left right t fit fact known.0 known.1.0
     block_typed (made.Top many input) t fit fact input_ known names =
         top_typed many input t fit fact known.0
+    block_typed (made.CombineAll input k) t fit fact input_ known names =
+        whole_typed s τ script gives origin source n input k fit.member t fit.suits
+        (known.0 fit.member fit.reads) (at_start (fact 0 0)) (fact 1 0) (fact 2 0) (fact 3 0)
+    block_typed (made.Operate objects f) t fit fact input_ known names =
+        let call = calls f fit.function fit.calls in
+        operate_typed s τ script gives origin source n f fit.function call.0 call.1 objects
+        fit.types t fit.takes fit.gives
+        (types_read τ gives (λ j u. members_at before j ≡ Some u) objects fit.types known
+        fit.reads)
+        (at_start (fact 0 0))
+    block_typed (made.DoWith input f object) t fit fact input_ known names =
+        let call = calls f fit.function fit.calls in
+        beside_typed s τ script gives origin source n f fit.function call.0 call.1 input object
+        fit.member fit.value t fit.takes fit.gives (known.0 fit.member fit.reads)
+        (known.1.0 fit.value fit.reads_object) (at_start (fact 0 0))

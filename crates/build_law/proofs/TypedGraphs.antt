@@ -47,6 +47,9 @@ as_many_inputs (made.Flatten inputs) t = refl
 as_many_inputs (made.Count input) t = refl
 as_many_inputs (made.Join left right) t = refl
 as_many_inputs (made.Top many input) t = refl
+as_many_inputs (made.CombineAll input k) t = refl
+as_many_inputs (made.Operate objects f) t = refl
+as_many_inputs (made.DoWith input f object) t = refl
 
 module _ (script : Script) where
   abbrev inputs_from : ℕ → Named Node → List Wanted
@@ -288,6 +291,9 @@ module _ (script : Script) (well : IsWellFormed script) where
     row_is (made.Count input) = ap (λ u. u ∷ []) typ_is
     row_is (made.Join left right) = ap (λ u. u ∷ []) typ_is
     row_is (made.Top many input) = ap (λ u. u ∷ []) typ_is
+    row_is (made.CombineAll input k) = ap (λ u. u ∷ []) typ_is
+    row_is (made.Operate objects g) = ap (λ u. u ∷ []) typ_is
+    row_is (made.DoWith input g object) = ap (λ u. u ∷ []) typ_is
 
     names_of : {how : Made} → Kind how → get_or (built script) t None ≡ Some how
         → HasNames script (signatures_of script) script.functions f.it.before τ (gives script) typ
@@ -309,6 +315,9 @@ module _ (script : Script) (well : IsWellFormed script) where
         none (made.Count input) h = tt
         none (made.Join left right) h = tt
         none (made.Top many input) h = tt
+        none (made.CombineAll input k) h = tt
+        none (made.Operate objects g) h = tt
+        none (made.DoWith input g object) h = tt
 
     input_of : (how : Made) → get_or (built script) t None ≡ Some how
         → HasInput script (signatures_of script) script.functions f.it.before τ (gives script) typ
@@ -325,6 +334,9 @@ module _ (script : Script) (well : IsWellFormed script) where
     input_of (made.Count input) at = tt
     input_of (made.Join left right) at = tt
     input_of (made.Top many input) at = tt
+    input_of (made.CombineAll input k) at = tt
+    input_of (made.Operate objects g) at = tt
+    input_of (made.DoWith input g object) at = tt
 
     the_typed : AllByRecursion (λ e. NodeTyped (signatures_of script) τ e.number e.node)
         (made_nodes script (gives script) t (source script t) (start script t) the)

@@ -4,6 +4,7 @@ use Rattle.std.proofs.Common.{◌≡◌, ℕ, zero, suc, ◌+◌, false, List, [
 use Rattle.std.proofs.Math.Seq.{get_or-append_seam}
 use Rattle.std.proofs.lemmas.List.{get_or-append-add}
 use Rattle.flume_collection.specs.Collection.{Collection, by_key, together}
+use Rattle.combine_table.specs.declared.comb.Comb.{Comb}
 use Rattle.combine_table.specs.declared.comb.Comb.TheVariants as by
 use Rattle.exec_graph.specs.Meaning.{nothing, through}
 use Rattle.exec_graph.specs.World.{World}
@@ -27,9 +28,13 @@ tagged w origin a b =
 abbrev pub zeros : World → ℕ → Collection → Collection
 zeros w origin c = through w (only_label origin false does.Solo) c
 
+-- the pair of 0 and what a combiner makes of all members, where there are some
+abbrev pub whole_of : World → ℕ → Comb → Collection → Collection
+whole_of w origin k c =
+    through w (only_label origin false (does.Combine k)) (by_key (zeros w origin c))
+
 abbrev pub greatest_of : World → ℕ → ℕ → Collection → Collection
-greatest_of w origin many c =
-    through w (only_label origin false (does.Combine (by.Top many))) (by_key (zeros w origin c))
+greatest_of w origin many c = whole_of w origin (by.Top many) c
 
 -- ---- collections
 
@@ -52,6 +57,12 @@ module _ (w : World) (at : ℕ → Collection) where
       zeros w origin (at input)
       ∷ by_key (zeros w origin (at input))
       ∷ greatest_of w origin many (at input) ∷ []
+  inner_of origin (made.CombineAll input comb) =
+      zeros w origin (at input)
+      ∷ by_key (zeros w origin (at input))
+      ∷ whole_of w origin comb (at input) ∷ []
+  inner_of origin (made.Operate objects function) = []
+  inner_of origin (made.DoWith input function object) = []
 
   abbrev pub inner_rows : ℕ → Made → List (List Collection)
   inner_rows origin made = map (λ c. c ∷ []) (inner_of origin made)
@@ -66,6 +77,9 @@ module _ (w : World) (at : ℕ → Collection) where
   inner_length origin (made.Count input) = refl
   inner_length origin (made.Join left right) = refl
   inner_length origin (made.Top many input) = refl
+  inner_length origin (made.CombineAll input comb) = refl
+  inner_length origin (made.Operate objects function) = refl
+  inner_length origin (made.DoWith input function object) = refl
 
 -- the number that is so many behind a list
 pub behind_list : {A : Type 0} (xs ys : List A) (n k : ℕ) (d : A) → length xs ≡ n

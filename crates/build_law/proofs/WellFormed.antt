@@ -29,7 +29,7 @@ use Rattle.build_law.proofs.Blocks.{any_block, each_block}
 use Rattle.build_law.proofs.Calling.{built_as, built_call, how_wanted, needed_as, other_built, other_wanted, parts, wanted_here}
 use Rattle.build_law.proofs.Naming.{IsNamed, call_built, name_wanted, named}
 use Rattle.build_law.proofs.MadeKinds.{IsOther, Kind, called, kind_of, other}
-use Rattle.build_law.proofs.ObjectFree.{have_objects}
+use Rattle.build_law.proofs.Objects.{have_objects}
 use Rattle.build_law.proofs.Outputs.{IsAt, where_out}
 use Rattle.build_law.proofs.Placing.{call_place, gives, other_place, source, start}
 use Rattle.build_law.proofs.Fitting.{FlattenFits, IsLastRead, block_ok}
@@ -134,6 +134,9 @@ module _ (script : Script) (well : IsWellFormed script) where
   other_read t (made.Count input) apart h = h
   other_read t (made.Join left right) apart h = h
   other_read t (made.Top many input) apart h = h
+  other_read t (made.CombineAll input k) apart h = h
+  other_read t (made.Operate objects f) apart h = h
+  other_read t (made.DoWith input f object) apart h = h
 
   last_read : (t : ℕ) {mk : Made} → Kind mk → get_or (built script) t None ≡ Some mk
       → LastRead t mk
@@ -208,6 +211,9 @@ module _ (script : Script) (well : IsWellFormed script) where
   flatten_fits before (made.Count input) type fit short = tt
   flatten_fits before (made.Join left right) type fit short = tt
   flatten_fits before (made.Top many input) type fit short = tt
+  flatten_fits before (made.CombineAll input k) type fit short = tt
+  flatten_fits before (made.Operate objects f) type fit short = tt
+  flatten_fits before (made.DoWith input f object) type fit short = tt
 
   fits_short : (before nodes : Named Node) (i : ℕ) (made : Made)
       → AllFit script.functions before nodes
@@ -243,7 +249,7 @@ module _ (script : Script) (well : IsWellFormed script) where
     is_graph_ok = record {
       founded = is_founded;
       nodes = nodes_ok;
-      objects = have_objects script;
+      objects = have_objects script well;
       few =
           let sizes = one_each (nodes_of script) (plains script well) in
           let few = few_nodes script (gives script) 0 0 0 (built script) in

@@ -10,15 +10,16 @@ use Rattle.script_program.specs.declared.made.Made.TheVariants as made
 use Rattle.script_program.specs.Script.{Script}
 use Rattle.direct_meaning.specs.Direct.{made_at, traps_of}
 
--- all but inputs, and collections together, are made by calls, groups or combinations of their own
+-- all but inputs, and collections together, are made by calls, groups, combinations or barriers of
+-- their own
 abbrev pub HasOwn : Made → Type 0
 HasOwn (made.Input file columns) = ⊥
 HasOwn (made.Flatten sources) = ⊥
 HasOwn _ = Unit {0}
 
 -- In the world, the graph means the collections that the script means: outputs are the collections
--- that the script's outputs read, the bag of each collection that has its own calls, groups or
--- combinations is theirs, and the traps are all those of the script.
+-- that the script's outputs read, the bag of each collection that has its own calls, groups,
+-- combinations or barriers is theirs, and the traps are all those of the script.
 pub record IsMeaning (w : World) (script : Script) (made : List (Option Collection))
     (g : Graph) : Type 0 where
   pub outputs :

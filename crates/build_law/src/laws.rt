@@ -5,7 +5,6 @@ ghost use Rattle.flume_collection.specs.Collection.{Collection};
 ghost use Rattle.flume_grammar.specs.Answer.{Accepts};
 ghost use Rattle.flume_grammar.specs.declared.tree.Ast.{Ast};
 ghost use Rattle.flume_grammar.specs.declared.tree.Statement.{Statement};
-ghost use Rattle.exec_graph.specs.ObjectFree.{IsObjectFree};
 ghost use Rattle.exec_graph.specs.Typing.{IsTyped};
 ghost use Rattle.exec_graph.specs.Wellformed.{IsGraphOk};
 ghost use Rattle.script_check.specs.Rules.{script_of};
@@ -39,11 +38,6 @@ pub fn one_step_law()
     ensures unfused { (script : Script) → IsUnfused (graph_of script) }
     ensures narrow { (script : Script) → IsWellFormed script →
         HasNarrowSteps (graph_of script) }
-{}
-
-/// A script's graph has no objects: no source is one, and none is made.
-pub fn object_free_law()
-    ensures { (script : Script) → IsObjectFree (graph_of script) }
 {}
 
 /// The graph of a well-formed script means what the script means, over all rows of its inputs.

@@ -6,6 +6,8 @@ mod barriers;
 #[cfg(test)]
 mod graph_texts;
 #[cfg(test)]
+mod objects;
+#[cfg(test)]
 mod outputs;
 #[cfg(test)]
 mod steps;

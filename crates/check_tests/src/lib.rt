@@ -7,6 +7,8 @@ mod bodies;
 #[cfg(test)]
 mod limits;
 #[cfg(test)]
+mod objects;
+#[cfg(test)]
 mod operations;
 #[cfg(test)]
 mod order;

@@ -138,10 +138,13 @@ const DEEP: &[u8] = b"type d = list<list<list<list<list<int>>>>> input a: {n: in
 
 const COMBINED: &[u8] = b"let c = combine g by top 2";
 
-static TOO_DEEP: [Faulty<'static>; 3] = [
+const WHOLE: &[u8] = b"let c = combineall g by max";
+
+static TOO_DEEP: [Faulty<'static>; 4] = [
     (b"\nlet h = group g", 2, ScriptKind::TooDeep),
     (b"\nlet j = join t, t", 2, ScriptKind::TooDeep),
     (b"\nlet c = count g", 2, ScriptKind::TooDeep),
+    (b"\nlet c = combineall g by top 2", 2, ScriptKind::TooDeep),
 ];
 
 /// A result that is deeper than a value may be: groups and joins of tables that are 7 and 8 deep.
@@ -149,6 +152,7 @@ static TOO_DEEP: [Faulty<'static>; 3] = [
 fn results_too_deep(rt: HostRuntime) -> Result<(), Fail> {
     let alloc = rt.alloc();
     assert_eq!(rt; told_of(alloc, DEEP, COMBINED), Outcome::Accepted);
+    assert_eq!(rt; told_of(alloc, DEEP, WHOLE), Outcome::Accepted);
     assert_eq!(rt; first_other(alloc, DEEP, &TOO_DEEP), None);
     Ok(())
 }

@@ -21,6 +21,11 @@ let j = join p, f
 let t = top 7 c
 fn both(x: r) -> int, r { emit to 2 x emit x.k }
 let m, n = do a both
+let u = combineall c by count
+fn one(x: int) -> int { emit x }
+let o = operate u by one
+fn beside(x: {m: r, n: int}) -> int { emit x.n }
+let w = do a beside with o
 output t to \"out.csv\"
 output a to \"copy.csv\"";
 
@@ -75,10 +80,12 @@ fn is_part(program: &Program, part: Part) -> bool {
 }
 
 /// The names of the collections.
-static NAMES: [&[u8]; 10] = [b"a", b"p", b"g", b"s", b"f", b"c", b"j", b"t", b"m", b"n"];
+static NAMES: [&[u8]; 13] = [
+    b"a", b"p", b"g", b"s", b"f", b"c", b"j", b"t", b"m", b"n", b"u", b"o", b"w",
+];
 
 /// The numbers of the statements that make them.
-static STATEMENTS: [usize; 10] = [1, 4, 5, 6, 7, 8, 9, 10, 12, 12];
+static STATEMENTS: [usize; 13] = [1, 4, 5, 6, 7, 8, 9, 10, 12, 12, 13, 15, 17];
 
 /// Whether the collections have these names, and each is made as the script says.
 fn are_collections(program: &Program, names: &[&[u8]]) -> bool {
@@ -120,6 +127,23 @@ fn is_made(number: usize, made: &Made) -> bool {
         Made::Count { source } => number == 5 && *source == 4,
         Made::Join { left, right } => number == 6 && *left == 1 && *right == 4,
         Made::Top { number: of, source } => number == 7 && *of == 7 && *source == 5,
+        Made::CombineAll { source, by } => number == 10 && *source == 5 && *by == Comb::Count,
+        Made::Operate { objects, function } => {
+            number == 11 && is_one(objects.as_slice(), 10) && *function == 3
+        }
+        Made::DoWith {
+            source,
+            function,
+            object,
+        } => number == 12 && *source == 0 && *function == 4 && *object == 11,
+    }
+}
+
+/// Whether there is one object, of this number.
+fn is_one(objects: &[usize], number: usize) -> bool {
+    match objects {
+        [only] => *only == number,
+        _ => false,
     }
 }
 
@@ -142,10 +166,12 @@ fn are_both(sources: &[usize], number: usize) -> bool {
 }
 
 fn are_functions(program: &Program) -> bool {
-    program.function_count() == 3
+    program.function_count() == 5
         && is_called(program, 0, b"pair", 1, 300)
         && is_called(program, 1, b"same", 1, 100)
         && is_called(program, 2, b"both", 2, 100)
+        && is_called(program, 3, b"one", 1, 100)
+        && is_called(program, 4, b"beside", 1, 100)
 }
 
 /// Whether the function of this number has this name, so many outputs and this scale.
@@ -167,7 +193,7 @@ fn is_function(function: &Function, outputs: usize, scale: u32) -> bool {
 
 /// Whether the first function gives pairs of the rows that it takes, and the second the rows.
 fn are_rows_and_pairs(program: &Program) -> bool {
-    if program.function_count() != 3 || program.node_count() <= 1 {
+    if program.function_count() != 5 || program.node_count() <= 1 {
         return false;
     }
     let pairs = program.node(1).ty;

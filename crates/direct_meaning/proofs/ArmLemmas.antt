@@ -21,6 +21,7 @@ use Rattle.script_program.specs.declared.made.Made.TheVariants as made
 use Rattle.script_program.specs.Script.{Function, Script}
 use Rattle.script_laws.specs.WellFormed.{members_at}
 use Rattle.direct_meaning.proofs.CallLemmas.{calls_answered}
+use Rattle.direct_meaning.specs.Calls.{answer_of}
 use Rattle.direct_meaning.proofs.MakeLemmas.{well_typed}
 use Rattle.direct_meaning.proofs.KeepLemmas.{GoesThrough, called_kept, called_own, by_key_kept, by_key_own, combined_kept, combined_own, counted_kept, counted_own, joined_kept, joined_own, own_combined, top_kept, top_own, all_stand, together_kept, together_own}
 use Rattle.direct_meaning.proofs.StandLemmas.{Source, keeps}
@@ -45,7 +46,7 @@ module _ {script : Script} {inputs left : List (List Value)} {number : ℕ}
   pub input_goes : (file : List ℕ) (columns : List Column)
       → (here : Here script inputs left number kept traps (made.Input file columns))
       → (rows : List Value) (more : List (List Value))
-      → left ≡ rows ∷ more → (result : Kept) → result.members.items ≡ bag_of rows
+      → left ≡ rows ∷ more → (result : Kept) → result.members ≡ bag_of rows
       → result.trapped ≡ false → Stands script inputs (number + 1) more
       (kept ++ Some result ∷ []) traps
   input_goes file columns here rows more first result members trapped =
@@ -76,8 +77,8 @@ module _ {script : Script} {inputs left : List (List Value)} {number : ℕ}
       → (here : Here script inputs left number kept traps (made.Do source called output))
       → (held : Kept) → slice_get kept source ≡ Some (Some held) → (result : Kept)
       (after : List Trap)
-      → IsDoneBy (number - output) output (do_read source called output here).function held result
-      traps after
+      → IsDoneBy (number - output) output
+      (answer_of (do_read source called output here).function) held result traps after
       → Stands script inputs (number + 1) left (kept ++ Some result ∷ []) after
   do_goes source called output here held held_at result after done =
       let m = made.Do source called output in
@@ -97,10 +98,11 @@ module _ {script : Script} {inputs left : List (List Value)} {number : ℕ}
       ∙ (ap (option_and_then (done_by origin output f)) from.made
       ∙ ap (option_map (called_by origin output c.traps)) all.are))
       result
-      (called_kept origin output f all.calls result held c traps after held_keeps all.are done)
-      (traps_on origin f held.members.items)
-      (called_own here.stands.table source origin output f all.calls held c from.made held_keeps
-      all.are))
+      (called_kept origin output (answer_of f) all.calls result held c traps after held_keeps
+      all.are done)
+      (traps_on origin (answer_of f) held.members)
+      (called_own here.stands.table source origin output (answer_of f) all.calls held c from.made
+      held_keeps all.are))
 
   -- ---- groups
 
@@ -120,7 +122,7 @@ module _ {script : Script} {inputs left : List (List Value)} {number : ℕ}
       → (here : Here script inputs left number kept traps (made.Group source))
       → (held : Kept)
       → slice_get kept source ≡ Some (Some held) → (result : Kept)
-      → result.members.items ≡ unless_behind held.trapped (grouped held.members.items)
+      → result.members ≡ unless_behind held.trapped (grouped held.members)
       → result.trapped ≡ held.trapped → Stands script inputs (number + 1) left
       (kept ++ Some result ∷ []) traps
   group_goes source here held held_at result members trapped =
@@ -152,10 +154,10 @@ module _ {script : Script} {inputs left : List (List Value)} {number : ℕ}
   pub combine_goes : (source : ℕ) (by : Comb)
       → (here : Here script inputs left number kept traps (made.Combine source by))
       → (held : Kept) → slice_get kept source ≡ Some (Some held) → (result : Kept)
-      → result.members.items ≡ combined_each (combined by) held.members.items
-      → result.trapped ≡ (held.trapped || has_traps (own_combined number by held.members.items))
+      → result.members ≡ combined_each (combined by) held.members
+      → result.trapped ≡ (held.trapped || has_traps (own_combined number by held.members))
       → Stands script inputs (number + 1) left
-      (kept ++ Some result ∷ []) (traps ++ own_combined number by held.members.items)
+      (kept ++ Some result ∷ []) (traps ++ own_combined number by held.members)
   combine_goes source by here held held_at result members trapped =
       let it = combine_read source by here in
       let from = it.source.from in
@@ -165,7 +167,7 @@ module _ {script : Script} {inputs left : List (List Value)} {number : ℕ}
       goes_so (made.Combine source by) here (combined_by number by from.collection)
       (ap (option_map (combined_by number by)) from.made) result
       (combined_kept number by result held from.collection held_keeps members trapped)
-      (own_combined number by held.members.items)
+      (own_combined number by held.members)
       (combined_own here.stands.table source number by held from.collection from.made held_keeps)
 
   -- ---- collections together
@@ -184,14 +186,14 @@ module _ {script : Script} {inputs left : List (List Value)} {number : ℕ}
   pub flatten_goes : (sources : List ℕ)
       → (here : Here script inputs left number kept traps (made.Flatten sources))
       → (result : Kept)
-      → result.members.items
+      → result.members
       ≡ bag_of (flat_map (λ source. members_of (kept_in kept source)) sources)
       → result.trapped ≡ list_any (λ source. is_trapped (kept_in kept source)) sources
       → Stands script inputs (number + 1) left
       (kept ++ Some result ∷ []) traps
   flatten_goes sources here result members trapped =
-      let stood = all_stand kept here.stands.table here.node.entry.1.type sources
-      (flatten_read sources here) in
+      let stood = all_stand kept here.stands.table sources
+      (λ n is. (here.node.entry.1.type, flatten_read sources here n is)) in
       goes_quietly (made.Flatten sources) here (together stood.collections)
       (ap (option_map together) stood.made) result
       (together_kept kept here.stands.table sources stood result members trapped)
@@ -213,7 +215,7 @@ module _ {script : Script} {inputs left : List (List Value)} {number : ℕ}
       → (here : Here script inputs left number kept traps (made.Count source))
       → (held : Kept)
       → slice_get kept source ≡ Some (Some held) → (result : Kept)
-      → result.members.items ≡ unless_behind held.trapped (counted held.members.items)
+      → result.members ≡ unless_behind held.trapped (counted held.members)
       → result.trapped ≡ held.trapped → GoesThrough held → Stands script inputs (number + 1) left
       (kept ++ Some result ∷ []) traps
   count_goes source here held held_at result members trapped through =
@@ -253,8 +255,8 @@ module _ {script : Script} {inputs left : List (List Value)} {number : ℕ}
 
     pub join_goes : (held more : Kept) → slice_get kept one ≡ Some (Some held)
         → slice_get kept other ≡ Some (Some more) → (result : Kept)
-        → result.members.items ≡ unless_behind (held.trapped || more.trapped)
-        (joined held.members.items more.members.items)
+        → result.members ≡ unless_behind (held.trapped || more.trapped)
+        (joined held.members more.members)
         → result.trapped ≡ (held.trapped || more.trapped) → Stands script inputs (number + 1) left
         (kept ++ Some result ∷ []) traps
     join_goes held more held_at more_at result members trapped =
@@ -290,8 +292,8 @@ module _ {script : Script} {inputs left : List (List Value)} {number : ℕ}
       → (here : Here script inputs left number kept traps (made.Top many source))
       → (held : Kept)
       → slice_get kept source ≡ Some (Some held) → (result : Kept)
-      → result.members.items
-      ≡ unless_behind held.trapped (greatest many (bag_of held.members.items))
+      → result.members
+      ≡ unless_behind held.trapped (greatest many (bag_of held.members))
       → result.trapped ≡ held.trapped → Stands script inputs (number + 1) left
       (kept ++ Some result ∷ []) traps
   top_goes many source here held held_at result members trapped =

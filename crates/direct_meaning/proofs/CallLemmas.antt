@@ -165,7 +165,7 @@ trapped_all origin answer (x ∷ elements) calls is =
 
 -- ---- types
 
-emitted_has : (gives : List Ty) (output : ℕ) (type : Ty) → slice_get gives output ≡ Some type
+pub emitted_has : (gives : List Ty) (output : ℕ) (type : Ty) → slice_get gives output ≡ Some type
     → (called : Called) → CalledOf gives called → Each (Has type) (emissions output called)
 emitted_has gives output type at (Ok lists) have =
     let list = zip_at AllHave gives lists have output type at in
@@ -207,22 +207,31 @@ calls_answered function typed elements have =
     each_answers (x ∷ xs) each =
         (answers function typed x each.0, each_answers xs each.1)
 
+-- where calls are answered the same, the same is done
+pub done_same : (origin output : ℕ) (one other : Value → Option Called)
+    → ((x : Value) → one x ≡ other x) → (source result : Kept) (before after : List Trap)
+    → result.members ≡ bag_of (flat_map (λ x. emitted_by output (one x)) source.members)
+    → after ≡ before ++ flat_map (λ x. trapped_by origin (one x)) source.members
+    → result.trapped
+    ≡ (source.trapped || has_traps (flat_map (λ x. trapped_by origin (one x)) source.members))
+    → IsDoneBy origin output other source result before after
+done_same origin output one other same source result before after members found trapped = record {
+  members = members
+      ∙ (λ i. bag_of (flat_map (λ x. emitted_by output (same x i)) source.members));
+  found = found ∙ (λ i. before ++ flat_map (λ x. trapped_by origin (same x i)) source.members);
+  trapped = trapped ∙ (λ i. source.trapped || has_traps
+      (flat_map (λ x. trapped_by origin (same x i)) source.members));
+}
+
 -- what is done by slots is done by names
 pub done_by_slots : (origin output : ℕ) (fun : Fun) (function : Function) → Does fun function
     → (source result : Kept) (before after : List Trap)
-    → result.members.items
-    ≡ bag_of (flat_map (λ x. emitted_by output (slots_answer fun x)) source.members.items)
-    → after ≡ before ++ flat_map (λ x. trapped_by origin (slots_answer fun x)) source.members.items
+    → result.members
+    ≡ bag_of (flat_map (λ x. emitted_by output (slots_answer fun x)) source.members)
+    → after ≡ before ++ flat_map (λ x. trapped_by origin (slots_answer fun x)) source.members
     → result.trapped ≡ (source.trapped || has_traps
-    (flat_map (λ x. trapped_by origin (slots_answer fun x)) source.members.items))
-    → IsDoneBy origin output function source result before after
-done_by_slots origin output fun function does source result before after members found trapped =
-    let same = λ (x : Value). sym (same_answer fun function does x) in
-    record {
-      members = members ∙ (λ i.
-          bag_of (flat_map (λ x. emitted_by output (same x i)) source.members.items));
-      found = found ∙ (λ i.
-          before ++ flat_map (λ x. trapped_by origin (same x i)) source.members.items);
-      trapped = trapped ∙ (λ i. source.trapped || has_traps
-          (flat_map (λ x. trapped_by origin (same x i)) source.members.items));
-    }
+    (flat_map (λ x. trapped_by origin (slots_answer fun x)) source.members))
+    → IsDoneBy origin output (answer_of function) source result before after
+done_by_slots origin output fun function does =
+    done_same origin output (slots_answer fun) (answer_of function)
+    (λ x. sym (same_answer fun function does x))

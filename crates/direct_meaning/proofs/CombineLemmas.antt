@@ -1,6 +1,7 @@
 -- Groups combined one after another.
-use Rattle.std.proofs.Common.{◌≡◌, ◌++◌, ◌+◌, ◌<◌, ℕ, List, [], ◌∷◌, get_or, length, map, take, sym, ap, ◌∙◌, append_assoc}
+use Rattle.std.proofs.Common.{◌≡◌, ◌++◌, ◌+◌, ◌<◌, ℕ, List, [], ◌∷◌, get_or, length, map, take, sym, ap, ◌∙◌, append_assoc, append-nil}
 use Rattle.std.proofs.lemmas.List.{map-append, take_more}
+use Rattle.std.proofs.lemmas.List.Concat.{flat_map-append}
 use Rattle.flume_value.proofs.BagLemmas.{bag_of-sum, bag_of-twice}
 use Rattle.flume_value.specs.Bag.{bag_of}
 use Rattle.flume_value.specs.declared.fault.Kind.{Kind}
@@ -26,6 +27,15 @@ one_further : (groups : List Value) (i : ℕ) (group : Value) → i < length gro
     → group ≡ get_or groups i group → take (i + 1) groups ≡ take i groups ++ group ∷ []
 one_further groups i group below at =
     take_more groups i group below ∙ ap (λ (g : Value). take i groups ++ g ∷ []) (sym at)
+
+-- what is made of each of some values, and of the next
+pub flat_further : {B : Type 0} (f : Value → List B) (xs : List Value) (i : ℕ) (x : Value)
+    → i < length xs → x ≡ get_or xs i x
+    → flat_map f (take i xs) ++ f x ≡ flat_map f (take (i + 1) xs)
+flat_further f xs i x below at =
+    ap (λ l. flat_map f (take i xs) ++ l) (sym (append-nil (f x)))
+    ∙ (sym (flat_map-append f (take i xs) (x ∷ []))
+    ∙ ap (flat_map f) (sym (one_further xs i x below at)))
 
 pub values_further : (f : Combines) (groups values : List Value) (i : ℕ) (group : Value)
     → i < length groups → group ≡ get_or groups i group

@@ -99,7 +99,7 @@ ends script inputs left number kept traps last stands =
 
 bag_told : (kept : List (Option Kept)) (number : ℕ) (held : Kept)
     → slice_get kept number ≡ Some (Some held)
-    → bag_at (map bag_kept kept) number ≡ Some held.members.items
+    → bag_at (map bag_kept kept) number ≡ Some held.members
 bag_told [] number held at = cc
 bag_told (made ∷ kept) zero held at = let same : made ≡ Some held = cc in ap bag_kept same
 bag_told (made ∷ kept) (suc number) held at = bag_told kept number held at

@@ -19,15 +19,16 @@ use Rattle.flume_collection.specs.Calls.{Called, trap_named, trap_of}
 use Rattle.flume_collection.specs.Collection.{Collection, by_key, together, unless_trapped}
 use Rattle.flume_collection.specs.Traps.{trap_set}
 use Rattle.flume_collection.specs.declared.trap.Trap.{Trap}
-use Rattle.script_program.specs.Script.{Function}
 use Rattle.direct_meaning.proofs.CallLemmas.{emitted_all, trapped_all}
 use Rattle.direct_meaning.proofs.StandLemmas.{HasOwn, Source, all_traps, some_made}
 use Rattle.direct_meaning.proofs.TrapLemmas.{AreAmong, absorbed, among-append, known_all, traps-append, traps-set, unless-same}
-use Rattle.direct_meaning.specs.Calls.{answer_of, calls_on}
+use Rattle.direct_meaning.specs.Calls.{calls_on}
 use Rattle.direct_meaning.specs.Direct.{all_made, called_by, combined_by, counted_by, counts_behind, joined_by, made_at, top_by, traps_behind}
 use Rattle.direct_meaning.specs.Made.{IsCollectionOf}
 use Rattle.direct_meaning.specs.declared.kept.Kept.{Kept}
 use Rattle.direct_meaning.specs.inner.Kept.{Keeps, has_traps, is_trapped, kept_in, members_of, unless_behind}
+use Rattle.direct_meaning.specs.Objects.{only, value_of, values_of}
+use Rattle.direct_meaning.specs.inner.Objects.{value_kept, values_in}
 use Rattle.direct_meaning.specs.inner.Slots.{IsDoneBy, emitted_by, traps_on}
 
 -- ---- the traps of what is made are known
@@ -49,7 +50,7 @@ among_made table number c is =
     among_at table number c (some_made (slice_get table number) c is)
 
 -- a collection that has known traps alone
-known_own : (table : List (Option Collection)) (c : Collection)
+pub known_own : (table : List (Option Collection)) (c : Collection)
     → AreAmong (all_traps table) c.traps → HasOwn table [] c
 known_own table c among =
     known_all (all_traps table) c.traps among
@@ -64,7 +65,7 @@ set_own table behind own traps among is =
     ∙ absorbed (all_traps table) behind own among
 
 -- one that has a set of known traps alone
-set_known_own : (table : List (Option Collection)) (behind traps : List Trap)
+pub set_known_own : (table : List (Option Collection)) (behind traps : List Trap)
     → AreAmong (all_traps table) behind → traps ≡ trap_set behind
     → trap_set (all_traps table ++ traps) ≡ trap_set (all_traps table ++ [])
 set_known_own table behind traps among is =
@@ -74,14 +75,14 @@ set_known_own table behind traps among is =
 -- ---- steps on one collection
 
 unless_kept : (f : List Value → List Value) (result held : Kept) (c : Collection) → Keeps held c
-    → result.members.items ≡ unless_behind held.trapped (f held.members.items)
-    → result.members.items ≡ unless_trapped c.traps (f c.bag)
+    → result.members ≡ unless_behind held.trapped (f held.members)
+    → result.members ≡ unless_trapped c.traps (f c.bag)
 unless_kept f result held c keeps is =
     is ∙ ((λ i. unless_behind (keeps.trapped i) (f (keeps.members i)))
     ∙ unless-same c.traps (f c.bag))
 
 pub by_key_kept : (result held : Kept) (c : Collection) → Keeps held c
-    → result.members.items ≡ unless_behind held.trapped (grouped held.members.items)
+    → result.members ≡ unless_behind held.trapped (grouped held.members)
     → result.trapped ≡ held.trapped → Keeps result (by_key c)
 by_key_kept result held c keeps members trapped = record {
   members = unless_kept grouped result held c keeps members;
@@ -94,8 +95,8 @@ by_key_own table number c made = known_own table (by_key c) (among_made table nu
 
 pub top_kept : (number : ℕ) (type : Ty) (result held : Kept) (c : Collection) → Keeps held c
     → IsCollectionOf type c
-    → result.members.items
-    ≡ unless_behind held.trapped (greatest number (bag_of held.members.items))
+    → result.members
+    ≡ unless_behind held.trapped (greatest number (bag_of held.members))
     → result.trapped ≡ held.trapped → Keeps result (top_by number c)
 top_kept number type result held c keeps is members trapped = record {
   members = unless_kept (λ bag. greatest number (bag_of bag)) result held c keeps members
@@ -112,7 +113,7 @@ top_own table number many c made =
 -- ---- counts
 
 counts_kept : (origin : ℕ) (traps : List Trap) (bag : List Value) (result : Kept)
-    → result.members.items ≡ unless_behind (has_traps traps) (counted bag)
+    → result.members ≡ unless_behind (has_traps traps) (counted bag)
     → result.trapped ≡ has_traps traps → (has_traps traps ≡ false → counted_traps bag ≡ [])
     → Keeps result (counts_behind origin traps bag)
 counts_kept origin [] bag result members trapped through = record {
@@ -127,7 +128,7 @@ counts_kept origin (trap ∷ traps) bag result members trapped through = record 
 }
 
 abbrev pub GoesThrough : Kept → Type 0
-GoesThrough held = held.trapped ≡ false → counted_traps held.members.items ≡ []
+GoesThrough held = held.trapped ≡ false → counted_traps held.members ≡ []
 
 goes_through : (held : Kept) (c : Collection) → Keeps held c → GoesThrough held
     → has_traps c.traps ≡ false → counted_traps c.bag ≡ []
@@ -135,7 +136,7 @@ goes_through held c keeps through none =
     ap counted_traps (sym keeps.members) ∙ through (keeps.trapped ∙ none)
 
 pub counted_kept : (origin : ℕ) (result held : Kept) (c : Collection) → Keeps held c
-    → result.members.items ≡ unless_behind held.trapped (counted held.members.items)
+    → result.members ≡ unless_behind held.trapped (counted held.members)
     → result.trapped ≡ held.trapped → GoesThrough held → Keeps result (counted_by origin c)
 counted_kept origin result held c keeps members trapped through =
     counts_kept origin c.traps c.bag result
@@ -163,8 +164,8 @@ counted_own table number origin held c made keeps through =
 -- ---- joins
 
 pub joined_kept : (result left right : Kept) (a b : Collection) → Keeps left a → Keeps right b
-    → result.members.items ≡ unless_behind (left.trapped || right.trapped)
-    (joined left.members.items right.members.items)
+    → result.members ≡ unless_behind (left.trapped || right.trapped)
+    (joined left.members right.members)
     → result.trapped ≡ (left.trapped || right.trapped) → Keeps result (joined_by a b)
 joined_kept result left right a b lefts rights members trapped =
     let either : (left.trapped || right.trapped) ≡ has_traps (a.traps ++ b.traps)
@@ -191,8 +192,8 @@ abbrev pub own_combined : ℕ → Comb → List Value → List Trap
 own_combined origin comb bag = map (trap_named origin) (traps_of_each (combined comb) bag)
 
 pub combined_kept : (origin : ℕ) (comb : Comb) (result held : Kept) (c : Collection)
-    → Keeps held c → result.members.items ≡ combined_each (combined comb) held.members.items
-    → result.trapped ≡ (held.trapped || has_traps (own_combined origin comb held.members.items))
+    → Keeps held c → result.members ≡ combined_each (combined comb) held.members
+    → result.trapped ≡ (held.trapped || has_traps (own_combined origin comb held.members))
     → Keeps result (combined_by origin comb c)
 combined_kept origin comb result held c keeps members trapped = record {
   members = members ∙ ap (combined_each (combined comb)) keeps.members;
@@ -204,15 +205,21 @@ combined_kept origin comb result held c keeps members trapped = record {
 
 pub combined_own : (table : List (Option Collection)) (number origin : ℕ) (comb : Comb)
     (held : Kept) (c : Collection) → made_at table number ≡ Some c → Keeps held c
-    → HasOwn table (own_combined origin comb held.members.items) (combined_by origin comb c)
+    → HasOwn table (own_combined origin comb held.members) (combined_by origin comb c)
 combined_own table number origin comb held c made keeps =
-    set_own table c.traps (own_combined origin comb held.members.items)
+    set_own table c.traps (own_combined origin comb held.members)
     (trap_set (c.traps ++ own_combined origin comb c.bag)) (among_made table number c made)
     (λ i. trap_set (c.traps ++ own_combined origin comb (sym keeps.members i)))
 
 -- ---- collections together
 
--- what is kept of the collections of these numbers, of one type, stands for them
+-- the value of an object is kept
+pub value_same : (held : Kept) (c : Collection) → Keeps held c → value_kept held ≡ value_of c
+value_same held c keeps =
+    (λ i. only (unless_behind (keeps.trapped i) (keeps.members i)))
+    ∙ ap (λ (bag : List Value). only bag) (unless-same c.traps c.bag)
+
+-- what is kept of the collections of these numbers stands for them
 pub record Stood (kept : List (Option Kept)) (table : List (Option Collection))
     (numbers : List ℕ) : Type 0 where
   pub collections : List Collection
@@ -221,25 +228,27 @@ pub record Stood (kept : List (Option Kept)) (table : List (Option Collection))
       ≡ flat_map (λ c. c.bag) collections
   pub trapped : list_any (λ number. is_trapped (kept_in kept number)) numbers
       ≡ has_traps (flat_map (λ c. c.traps) collections)
+  pub values : values_in kept numbers ≡ values_of collections
   pub known : AreAmong (all_traps table) (flat_map (λ c. c.traps) collections)
 
-nothing_among : (known : List Trap) → AreAmong known []
+pub nothing_among : (known : List Trap) → AreAmong known []
 nothing_among known trap is = let below = is.1 in absurd (omega arith)
 
-pub all_stand : (kept : List (Option Kept)) (table : List (Option Collection)) (type : Ty)
+pub all_stand : (kept : List (Option Kept)) (table : List (Option Collection))
     (numbers : List ℕ)
-    → ((number : ℕ) → Contains numbers number → Source kept table number type)
+    → ((number : ℕ) → Contains numbers number → (type : Ty) × Source kept table number type)
     → Stood kept table numbers
-all_stand kept table type [] each = record {
+all_stand kept table [] each = record {
   collections = [];
   made = refl;
   members = refl;
   trapped = refl;
+  values = refl;
   known = nothing_among (all_traps table);
 }
-all_stand kept table type (number ∷ numbers) each =
-    let first = each number (at_head number numbers) in
-    let rest = all_stand kept table type numbers (λ n is. each n (at_tail number numbers n is)) in
+all_stand kept table (number ∷ numbers) each =
+    let first = (each number (at_head number numbers)).1 in
+    let rest = all_stand kept table numbers (λ n is. each n (at_tail number numbers n is)) in
     let c = first.from.collection in
     record {
       collections = c ∷ rest.collections;
@@ -252,6 +261,10 @@ all_stand kept table type (number ∷ numbers) each =
           || list_any (λ n. is_trapped (kept_in kept n)) numbers)
           ∙ ((λ i. first.keeps.trapped i || rest.trapped i)
           ∙ sym (traps-append c.traps (flat_map (λ (d : Collection). d.traps) rest.collections)));
+      values = (λ i. option_and_then (λ v. option_map (λ vs. v ∷ vs) (values_in kept numbers))
+          (option_and_then value_kept (option_flatten (first.at i))))
+          ∙ (λ i. option_and_then (λ v. option_map (λ vs. v ∷ vs) (rest.values i))
+          (value_same first.held c first.keeps i));
       known = among-append (all_traps table) c.traps
           (flat_map (λ (d : Collection). d.traps) rest.collections)
           (among_made table number c first.from.made) rest.known;
@@ -259,7 +272,7 @@ all_stand kept table type (number ∷ numbers) each =
 
 pub together_kept : (kept : List (Option Kept)) (table : List (Option Collection))
     (numbers : List ℕ) (stood : Stood kept table numbers) (result : Kept)
-    → result.members.items
+    → result.members
     ≡ bag_of (flat_map (λ number. members_of (kept_in kept number)) numbers)
     → result.trapped ≡ list_any (λ number. is_trapped (kept_in kept number)) numbers
     → Keeps result (together stood.collections)
@@ -279,14 +292,13 @@ together_own kept table numbers stood =
 
 -- ---- calls
 
-pub called_kept : (origin output : ℕ) (function : Function) (calls : List Called)
+pub called_kept : (origin output : ℕ) (answer : Value → Option Called) (calls : List Called)
     (result held : Kept) (c : Collection) (before after : List Trap) → Keeps held c
-    → calls_on (answer_of function) c.bag ≡ Some calls
-    → IsDoneBy origin output function held result before after
+    → calls_on answer c.bag ≡ Some calls
+    → IsDoneBy origin output answer held result before after
     → Keeps result (called_by origin output c.traps calls)
-called_kept origin output function calls result held c before after keeps are done =
-    let answer = answer_of function in
-    let own = (λ i. traps_on origin function (keeps.members i))
+called_kept origin output answer calls result held c before after keeps are done =
+    let own = (λ i. traps_on origin answer (keeps.members i))
     ∙ trapped_all origin answer c.bag calls are in
     record {
       members = done.members
@@ -299,15 +311,14 @@ called_kept origin output function calls result held c before after keeps are do
     }
 
 pub called_own : (table : List (Option Collection)) (number origin output : ℕ)
-    (function : Function) (calls : List Called) (held : Kept) (c : Collection)
-    → made_at table number ≡ Some c → Keeps held c
-    → calls_on (answer_of function) c.bag ≡ Some calls
-    → HasOwn table (traps_on origin function held.members.items)
+    (answer : Value → Option Called) (calls : List Called) (held : Kept) (c : Collection)
+    → made_at table number ≡ Some c → Keeps held c → calls_on answer c.bag ≡ Some calls
+    → HasOwn table (traps_on origin answer held.members)
     (called_by origin output c.traps calls)
-called_own table number origin output function calls held c made keeps are =
-    let own : flat_map (trap_of origin) calls ≡ traps_on origin function held.members.items
-    = sym ((λ i. traps_on origin function (keeps.members i))
-    ∙ trapped_all origin (answer_of function) c.bag calls are) in
-    set_own table c.traps (traps_on origin function held.members.items)
+called_own table number origin output answer calls held c made keeps are =
+    let own : flat_map (trap_of origin) calls ≡ traps_on origin answer held.members
+    = sym ((λ i. traps_on origin answer (keeps.members i))
+    ∙ trapped_all origin answer c.bag calls are) in
+    set_own table c.traps (traps_on origin answer held.members)
     (trap_set (c.traps ++ flat_map (trap_of origin) calls)) (among_made table number c made)
     (λ i. trap_set (c.traps ++ own i))

@@ -12,6 +12,7 @@ use Rattle.script_program.specs.declared.made.Output.{Output}
 use Rattle.script_program.specs.Script.{Node, Script}
 use Rattle.script_laws.proofs.NeededLemmas.{needed_law}
 use Rattle.script_laws.specs.WellFormed.{AllFit, IsWellFormed}
+use Rattle.direct_meaning.proofs.KindLemmas.{objects_read}
 use Rattle.direct_meaning.proofs.MakeLemmas.{makes, rows_behind}
 use Rattle.direct_meaning.proofs.PlaceLemmas.{at_end}
 use Rattle.direct_meaning.proofs.TableLemmas.{as_many, more_made}
@@ -144,13 +145,14 @@ module _ (script : Script) (well : IsWellFormed script) where
       let same = as_many script before table are in
       let it = makes script before table are well.functions (length table) m entry.1.type inputs
       wanted fit.0 rows
-      (reads_needed script well before rest entry split needed) in
+      (reads_needed script well before rest entry split needed)
+      (objects_read script well before rest entry split fit.0) in
       let behind = rows_behind m entry.1.type inputs wanted rows in
       let longer = one_longer before entry in
       let on = goes (before ++ entry ∷ [])
       (append_assoc before (entry ∷ []) rest ∙ split) fit.1 (inputs_behind m inputs)
       (table ++ Some it.collection ∷ [])
-      (more_made script before table are entry (Some it.collection) it.is (sym needed))
+      (more_made script before table are entry (Some it.collection) it.is it.object (sym needed))
       (subst (λ (n : ℕ). HaveRows (wanted_from script n rest) (inputs_behind m inputs))
       (sym longer) behind) in
       record {
@@ -173,7 +175,7 @@ module _ (script : Script) (well : IsWellFormed script) where
       let longer = one_longer before entry in
       let on = goes (before ++ entry ∷ [])
       (append_assoc before (entry ∷ []) rest ∙ split) fit.1 inputs (table ++ None ∷ [])
-      (more_made script before table are entry None tt (sym unneeded))
+      (more_made script before table are entry None tt tt (sym unneeded))
       (subst (λ (n : ℕ). HaveRows (wanted_from script n rest) inputs) (sym longer) rows) in
       record {
         made = on.made;
@@ -201,4 +203,4 @@ module _ (script : Script) (well : IsWellFormed script) where
       → Meant script script.nodes script.nodes inputs []
   has_meaning inputs have =
       goes_on script.nodes [] refl well.nodes inputs []
-      (record { each = tt; needed = λ number below. absurd (omega arith) }) have
+      (record { each = tt; objects = tt; needed = λ number below. absurd (omega arith) }) have

@@ -51,28 +51,28 @@ module _ (kept : List (Option Kept)) (table : List (Option Collection)) (number 
   module _ (held : Kept) (at : slice_get kept number ≡ Some (Some held)) where
     pub called_read : (script : Script) (called output : ℕ) (it : CalledRead script called output)
         → (f : Function) → function_at script.functions called ≡ Some f
-        → AllHave f.signature.takes held.members.items
+        → AllHave f.signature.takes held.members
     called_read script called output it f f_at =
         let both : Some it.function ≡ Some f = sym it.at ∙ f_at in
         let same : it.function ≡ f = cc in
-        subst (λ (g : Function). AllHave g.signature.takes held.members.items) same
+        subst (λ (g : Function). AllHave g.signature.takes held.members) same
         (held_typed kept table number it.function.signature.takes it.source held at)
 
-    pub pairs_read : TableRead → All IsPair held.members.items
+    pub pairs_read : TableRead → All IsPair held.members
     pairs_read it =
-        all_pairs it.key it.value held.members.items
+        all_pairs it.key it.value held.members
         (held_typed kept table number (table_of it.key it.value) it.source held at)
 
-    pub table_ascending : TableRead → IsSorted value_cmp held.members.items
+    pub table_ascending : TableRead → IsSorted value_cmp held.members
     table_ascending it =
         held_ascending kept table number (table_of it.key it.value) it.source held at
 
-    pub any_ascending : AnyRead → IsSorted value_cmp held.members.items
+    pub any_ascending : AnyRead → IsSorted value_cmp held.members
     any_ascending it = held_ascending kept table number it.type it.source held at
 
-    pub groups_read : (by : Comb) → GroupsRead by → All (IsGroup by) held.members.items
+    pub groups_read : (by : Comb) → GroupsRead by → All (IsGroup by) held.members
     groups_read by it =
-        all_suited by it.key it.member held.members.items (taken by it.member it.value it.suits).0
+        all_suited by it.key it.member held.members (taken by it.member it.value it.suits).0
         (held_typed kept table number (table_of it.key (ty.List it.member)) it.source held at)
 
 pub function_within : (functions : Named Function) (number : ℕ) (function : Function)

@@ -49,7 +49,7 @@ none_left : (nodes : Named Node) → sizes_kept nodes [] ≡ []
 none_left [] = refl
 none_left (entry ∷ nodes) = refl
 
-all_dropped : {A : Type 0} (xs : List A) (n : ℕ) → n ≡ length xs → drop n xs ≡ []
+pub all_dropped : {A : Type 0} (xs : List A) (n : ℕ) → n ≡ length xs → drop n xs ≡ []
 all_dropped [] zero end = refl
 all_dropped [] (suc n) end = absurd (omega arith)
 all_dropped (x ∷ xs) zero end = absurd (omega arith)

@@ -17,6 +17,7 @@ use Rattle.script_program.specs.Program.{node_in}
 use Rattle.script_program.specs.Script.{Node, Script}
 use Rattle.script_program.specs.declared.made.Node.{Node as HeldNode}
 use Rattle.script_laws.specs.WellFormed.{AllFit, Fits, IsWellFormed, members_at}
+use Rattle.direct_meaning.proofs.KindLemmas.{objects_read}
 use Rattle.direct_meaning.proofs.MakeLemmas.{Makes, makes, read, rows_behind}
 use Rattle.direct_meaning.proofs.MeaningLemmas.{next_needed, next_unneeded, reads_needed, wanted_needed, wanted_unneeded}
 use Rattle.direct_meaning.proofs.PlaceLemmas.{mapped, zip_back, zip_more}
@@ -24,7 +25,7 @@ use Rattle.direct_meaning.proofs.TableLemmas.{IsMadeAt, as_many, more_made}
 use Rattle.direct_meaning.proofs.TrapLemmas.{same_front}
 use Rattle.direct_meaning.specs.Direct.{collections, inputs_behind, made_as, meaning, traps_behind, traps_of}
 use Rattle.direct_meaning.specs.Inputs.{HaveRows, wanted_by}
-use Rattle.direct_meaning.specs.Made.{IsCollectionOf}
+use Rattle.direct_meaning.specs.Made.{IsCollectionOf, IsObjectFor}
 use Rattle.script_program.specs.Needed.{is_needed, operands}
 use Rattle.direct_meaning.specs.declared.kept.Kept.{Kept}
 use Rattle.direct_meaning.specs.inner.Kept.{Keeps, KeepsAny}
@@ -106,11 +107,11 @@ module _ (kept : List (Option Kept)) (table : List (Option Collection)) (number 
   pub keeps : Keeps held source.from.collection
   keeps = subst (λ (k : Kept). Keeps k source.from.collection) same_held source.keeps
 
-  pub held_typed : AllHave type held.members.items
+  pub held_typed : AllHave type held.members
   held_typed =
       subst (λ (bag : List Value). AllHave type bag) (sym keeps.members) source.from.is.typed
 
-  pub held_ascending : IsSorted value_cmp held.members.items
+  pub held_ascending : IsSorted value_cmp held.members
   held_ascending =
       subst (λ (bag : List Value). IsSorted value_cmp bag) (sym keeps.members)
       source.from.is.ascending
@@ -186,7 +187,7 @@ module _ (script : Script) (well : IsWellFormed script) (inputs left : List (Lis
     count = counted;
     fit = fit.1;
     table = stands.table ++ None ∷ [];
-    are = more_made script stands.before stands.table stands.are entry None tt
+    are = more_made script stands.before stands.table stands.are entry None tt tt
         (sym (ap (is_needed script) stands.count ∙ unneeded));
     ahead = sym (next_unneeded script entry behind.others left stands.table
         (ap (is_needed script) tabled ∙ unneeded)) ∙ ahead;
@@ -208,13 +209,22 @@ module _ (script : Script) (well : IsWellFormed script) (inputs left : List (Lis
     made = makes script stands.before stands.table stands.are well.functions number entry.1.made
         entry.1.type left
         (wanted_from script (suc number) behind.others) fit.0 own_rows reads
+        (objects_read script well stands.before behind.others entry split fit.0)
+
+    same_made : (c : Collection) → made_as script number entry.1.made left stands.table ≡ Some c
+        → made.collection ≡ c
+    same_made c is =
+        let both : Some made.collection ≡ Some c = sym made.made ∙ is in
+        cc
 
     is_of : (c : Collection) → made_as script number entry.1.made left stands.table ≡ Some c
         → IsCollectionOf entry.1.type c
-    is_of c is =
-        let both : Some made.collection ≡ Some c = sym made.made ∙ is in
-        let same : made.collection ≡ c = cc in
-        subst (IsCollectionOf entry.1.type) same made.is
+    is_of c is = subst (IsCollectionOf entry.1.type) (same_made c is) made.is
+
+    object_of : (c : Collection) → made_as script number entry.1.made left stands.table ≡ Some c
+        → IsObjectFor entry (Some c)
+    object_of c is =
+        subst (λ (d : Collection). IsObjectFor entry (Some d)) (same_made c is) made.object
 
     -- behind a node that is needed, where what it makes is kept
     pub goes : (c : Collection) → made_as script number entry.1.made left stands.table ≡ Some c
@@ -229,7 +239,7 @@ module _ (script : Script) (well : IsWellFormed script) (inputs left : List (Lis
       fit = fit.1;
       table = stands.table ++ Some c ∷ [];
       are = more_made script stands.before stands.table stands.are entry (Some c) (is_of c is)
-          (sym (ap (is_needed script) stands.count ∙ needed));
+          (object_of c is) (sym (ap (is_needed script) stands.count ∙ needed));
       ahead = sym (next_needed script entry behind.others left stands.table c
           (ap (is_needed script) tabled ∙ needed)
           (ap (λ (n : ℕ). made_as script n entry.1.made left stands.table) tabled ∙ is)) ∙ ahead;

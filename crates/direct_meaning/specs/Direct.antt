@@ -10,7 +10,7 @@ use Rattle.combine_table.specs.Combinations.{combined, greatest}
 use Rattle.combine_table.specs.declared.comb.Comb.{Comb}
 use Rattle.bag_steps.specs.Counts.{counted, counted_traps}
 use Rattle.bag_steps.specs.Joins.{joined}
-use Rattle.flume_collection.specs.Calls.{Called, emissions, trap_named, trap_of}
+use Rattle.flume_collection.specs.Calls.{trap_named}
 use Rattle.flume_collection.specs.Collection.{Collection, by_key, together, unless_trapped}
 use Rattle.flume_collection.specs.Traps.{trap_set}
 use Rattle.flume_collection.specs.declared.trap.Trap.{Trap}
@@ -20,6 +20,8 @@ use Rattle.script_program.specs.declared.made.Made.TheVariants as made
 use Rattle.script_program.specs.Script.{Function, Node, Script}
 use Rattle.script_laws.specs.WellFormed.{function_at}
 use Rattle.direct_meaning.specs.Calls.{answer_of, calls_on}
+pub use Rattle.direct_meaning.specs.Calls.{called_by}
+use Rattle.direct_meaning.specs.Objects.{combined_whole, done_beside, operated_by}
 use Rattle.script_program.specs.Needed.{is_needed}
 
 -- ---- one equation for each way in which a collection is made
@@ -27,13 +29,6 @@ use Rattle.script_program.specs.Needed.{is_needed}
 -- from the rows of an input
 abbrev pub rows_as : List Value → Collection
 rows_as rows = record { bag = bag_of rows; traps = [] }
-
--- what calls give to the output of that place, behind these traps
-abbrev pub called_by : ℕ → ℕ → List Trap → List Called → Collection
-called_by origin output traps calls = record {
-  bag = bag_of (flat_map (emissions output) calls);
-  traps = trap_set (traps ++ flat_map (trap_of origin) calls);
-}
 
 -- what a function, called on each member, gives to its output of that place: what the calls emit
 -- to it that do not trap. The origin is the number of the statement's first name.
@@ -97,6 +92,18 @@ abbrev pub joined_at : ℕ → ℕ → List (Option Collection) → Option Colle
 joined_at left right table =
     option_and_then (λ a. option_map (joined_by a) (made_at table right)) (made_at table left)
 
+-- what a function makes of the objects of these numbers
+abbrev pub operated_at : ℕ → Function → List ℕ → List (Option Collection) → Option Collection
+operated_at origin function objects table =
+    option_and_then (operated_by origin (answer_of function)) (all_made table objects)
+
+-- what a function makes of the collection of a number beside the object of another
+abbrev pub done_beside_at : ℕ → Function → ℕ → ℕ → List (Option Collection) → Option Collection
+done_beside_at origin function source object table =
+    option_and_then (λ c.
+    option_and_then (done_beside origin (answer_of function) c) (made_at table object))
+    (made_at table source)
+
 -- what the node of that number makes of the rows of the inputs to come and of the collections made
 -- before it; there is none where it reads what is not made, or where a call has no answer
 abbrev pub made_as : Script → ℕ → Made → List (List Value) → List (Option Collection)
@@ -117,6 +124,14 @@ made_as script number (made.Count source) inputs table =
 made_as script number (made.Join left right) inputs table = joined_at left right table
 made_as script number (made.Top many source) inputs table =
     option_map (top_by many) (made_at table source)
+made_as script number (made.CombineAll source by) inputs table =
+    option_map (combined_whole number by) (made_at table source)
+made_as script number (made.Operate objects called) inputs table =
+    option_and_then (λ function. operated_at number function objects table)
+    (function_at script.functions called)
+made_as script number (made.DoWith source called object) inputs table =
+    option_and_then (λ function. done_beside_at number function source object table)
+    (function_at script.functions called)
 
 -- the inputs to come behind a node
 abbrev pub inputs_behind : Made → List (List Value) → List (List Value)
@@ -129,6 +144,9 @@ inputs_behind (made.Flatten sources) inputs = inputs
 inputs_behind (made.Count source) inputs = inputs
 inputs_behind (made.Join left right) inputs = inputs
 inputs_behind (made.Top many source) inputs = inputs
+inputs_behind (made.CombineAll source by) inputs = inputs
+inputs_behind (made.Operate objects called) inputs = inputs
+inputs_behind (made.DoWith source called object) inputs = inputs
 
 -- nodes in order, behind those that made this table: one that is not needed makes nothing
 abbrev pub collections : Script → Named Node → List (List Value) → List (Option Collection)

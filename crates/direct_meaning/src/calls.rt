@@ -31,7 +31,7 @@ pub(crate) fn done(
     requires few { number < 2 ^ 32 }
     requires below { function < length program.now.script.functions }
     requires typed { (f : Function_) → function_at program.now.script.functions function ≡ Some f
-        → AllHave f.signature.takes source.now.members.items }
+        → AllHave f.signature.takes source.now.members }
     ensures { (f : Function_) → function_at program.now.script.functions function ≡ Some f
         → IsDone (number - output) output f source.now traps.old.items result traps.new.items }
 {
@@ -56,19 +56,19 @@ fn called(
     source: &Kept,
     traps: &mut Vec<Trap>,
 ) -> Result<Kept, AllocError>
-    requires { All (Accepts fun.now) source.now.members.items }
-    ensures members { IfOk result (λ kept. kept.members.items ≡ bag_of (flat_map
-        (λ element. emitted_by output (slots_answer fun.now element)) source.now.members.items)) }
+    requires { All (Accepts fun.now) source.now.members }
+    ensures members { IfOk result (λ kept. kept.members ≡ bag_of (flat_map
+        (λ element. emitted_by output (slots_answer fun.now element)) source.now.members)) }
     ensures traps { OnOk result (traps.new.items ≡ traps.old.items ++ flat_map
-        (λ element. trapped_by origin (slots_answer fun.now element)) source.now.members.items) }
+        (λ element. trapped_by origin (slots_answer fun.now element)) source.now.members) }
     ensures trapped { IfOk result (λ kept. kept.trapped ≡ (source.now.trapped || has_traps (flat_map
         (λ element. trapped_by origin (slots_answer fun.now element))
-        source.now.members.items))) }
+        source.now.members))) }
 {
     let before = traps.len();
     let values = call_all(alloc, origin, fun, output, source.members.as_slice(), traps)?;
     Ok(Kept {
-        members: sorted(values)?,
+        members: Pile::from_vec(sorted(values)?),
         trapped: source.trapped || before < traps.len(),
     })
 }
@@ -129,7 +129,7 @@ fn call_one(
 }
 
 /// What was emitted to the output of that number, if there is one.
-fn emitted(alloc: Global, lists: Lists, output: usize) -> Items
+pub(crate) fn emitted(alloc: Global, lists: Lists, output: usize) -> Items
     ensures { result ≡ or_none (slice_get lists output) }
 {
     let (first, mut others) = lists.into_parts();

@@ -10,7 +10,7 @@ ghost use Rattle.direct_meaning.specs.inner.Kept.{has_traps};
 use crate::kept::Kept;
 use combine_table::Comb;
 use flume_collection::Trap;
-use flume_value::{Value, sorted};
+use flume_value::{Pile, Value, sorted};
 use keyed_steps::{KeyFault, combine_group};
 use std::alloc::{AllocError, Global};
 
@@ -22,18 +22,18 @@ pub(crate) fn combined(
     source: &Kept,
     traps: &mut Vec<Trap>,
 ) -> Result<Kept, AllocError>
-    requires { All (IsGroup by) source.now.members.items }
-    ensures members { IfOk result (λ kept. kept.members.items
-        ≡ combined_each (combined_of by) source.now.members.items) }
+    requires { All (IsGroup by) source.now.members }
+    ensures members { IfOk result (λ kept. kept.members
+        ≡ combined_each (combined_of by) source.now.members) }
     ensures traps { OnOk result (traps.new.items ≡ traps.old.items
-        ++ map (trap_named origin) (traps_of_each (combined_of by) source.now.members.items)) }
+        ++ map (trap_named origin) (traps_of_each (combined_of by) source.now.members)) }
     ensures trapped { IfOk result (λ kept. kept.trapped ≡ (source.now.trapped || has_traps
-        (map (trap_named origin) (traps_of_each (combined_of by) source.now.members.items)))) }
+        (map (trap_named origin) (traps_of_each (combined_of by) source.now.members)))) }
 {
     let before = traps.len();
     let values = combine_all(alloc, origin, by, source.members.as_slice(), traps)?;
     Ok(Kept {
-        members: sorted(values)?,
+        members: Pile::from_vec(sorted(values)?),
         trapped: source.trapped || before < traps.len(),
     })
 }

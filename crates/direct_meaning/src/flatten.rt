@@ -5,7 +5,7 @@ ghost use Rattle.flume_value.specs.Bag.{bag_of};
 ghost use Rattle.direct_meaning.specs.inner.Kept.{is_trapped as trapped_in, kept_in, members_of};
 
 use crate::kept::{Kept, find};
-use flume_value::{Value, copy_all, sorted};
+use flume_value::{Pile, Value, copy_all, sorted};
 use std::alloc::{AllocError, Global};
 
 /// The members of the collections of these numbers, each as often as its number is there. It sorts
@@ -15,7 +15,7 @@ pub(crate) fn together(
     table: &[Option<Kept>],
     sources: &[usize],
 ) -> Result<Kept, AllocError>
-    ensures members { IfOk result (λ kept. kept.members.items
+    ensures members { IfOk result (λ kept. kept.members
         ≡ bag_of (flat_map (λ source. members_of (kept_in table.now source)) sources.now)) }
     ensures trapped { IfOk result (λ kept. kept.trapped
         ≡ list_any (λ source. trapped_in (kept_in table.now source)) sources.now) }
@@ -25,9 +25,16 @@ pub(crate) fn together(
         append_members(alloc, table, *source, &mut all)?;
     }
     Ok(Kept {
-        members: sorted(all)?,
-        trapped: sources.iter().any(|source| is_trapped(table, *source)),
+        members: Pile::from_vec(sorted(all)?),
+        trapped: any_trapped(table, sources),
     })
+}
+
+/// Whether a trap is behind any of the collections of these numbers.
+pub(crate) fn any_trapped(table: &[Option<Kept>], sources: &[usize]) -> bool
+    ensures { result ≡ list_any (λ source. trapped_in (kept_in table.now source)) sources.now }
+{
+    sources.iter().any(|source| is_trapped(table, *source))
 }
 
 /// Puts copies of the members of a collection behind others.

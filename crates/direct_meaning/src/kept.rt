@@ -4,12 +4,12 @@ ghost use Rattle.std.specs.Option.{option_copied};
 ghost use Rattle.direct_meaning.specs.inner.Kept.{kept_in};
 ghost use Rattle.direct_meaning.specs.declared.kept.Kept.{Kept as Kept_};
 
-use flume_value::Value;
+use flume_value::Items;
 
 /// A collection: its members, ascending, and whether a trap is behind them.
 #[derive(Debug, Drop)]
 pub(crate) struct Kept {
-    pub members: Vec<Value>,
+    pub members: Items,
     pub trapped: bool,
 }
 

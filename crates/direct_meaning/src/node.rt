@@ -7,13 +7,16 @@ ghost use Rattle.script_laws.specs.WellFormed.{IsWellFormed};
 ghost use Rattle.script_program.specs.Needed.{is_needed};
 ghost use Rattle.direct_meaning.specs.inner.Stands.{Stands};
 
+use crate::beside::done_beside;
 use crate::calls::done;
 use crate::combining::combined;
 use crate::flatten::together;
 use crate::kept::{Kept, kept_at};
+use crate::objects::combined_whole;
+use crate::operate::operated;
 use crate::steps::{counted, grouped, joined, topped};
 use flume_collection::Trap;
-use flume_value::{Items, sorted};
+use flume_value::{Items, Pile, sorted};
 use script_check::{Made, Program};
 use std::alloc::{AllocError, Global};
 use std::vec::IntoIter;
@@ -59,6 +62,22 @@ pub(crate) fn make(
         Made::Count { source } => counted(alloc, kept_at(table, *source)),
         Made::Join { left, right } => joined(alloc, kept_at(table, *left), kept_at(table, *right)),
         Made::Top { number, source } => topped(alloc, *number, kept_at(table, *source)),
+        Made::CombineAll { source, by } => {
+            combined_whole(alloc, number as u32, *by, kept_at(table, *source), traps)
+        }
+        Made::Operate { objects, function } => {
+            let objects = objects.as_slice();
+            operated(alloc, program, number, table, objects, *function, traps)
+        }
+        Made::DoWith {
+            source,
+            function,
+            object,
+        } => {
+            let source = kept_at(table, *source);
+            let object = kept_at(table, *object);
+            done_beside(alloc, program, number, *function, source, object, traps)
+        }
     }
 }
 
@@ -67,12 +86,12 @@ fn rows(inputs: &mut IntoIter<Items>) -> Result<Kept, AllocError>
     requires { 0 < length (into_iter_items inputs.old) }
     ensures members { IfOk result (λ kept. (rows : List Value_)
         × (into_iter_items inputs.old ≡ rows ∷ into_iter_items inputs.new)
-        × (kept.members.items ≡ bag_of rows)) }
+        × (kept.members ≡ bag_of rows)) }
     ensures trapped { IfOk result (λ kept. kept.trapped ≡ false) }
 {
     match inputs.next() {
         Some(rows) => Ok(Kept {
-            members: sorted(rows.into_vec())?,
+            members: Pile::from_vec(sorted(rows.into_vec())?),
             trapped: false,
         }),
         None => unreachable!(),

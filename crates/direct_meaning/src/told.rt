@@ -5,7 +5,7 @@ ghost use Rattle.direct_meaning.specs.inner.Kept.{bag_kept, size_kept, size_line
 
 use crate::kept::Kept;
 use flume_collection::{Trap, trap_set};
-use flume_value::{Items, Pile, Str};
+use flume_value::{Items, Str};
 use script_check::Program;
 use std::alloc::{AllocError, Global};
 
@@ -96,7 +96,7 @@ fn bag(kept: Option<Kept>) -> Option<Items>
     ensures { result ≡ bag_kept kept }
 {
     match kept {
-        Some(kept) => Some(Pile::from_vec(kept.members)),
+        Some(kept) => Some(kept.members),
         None => None,
     }
 }

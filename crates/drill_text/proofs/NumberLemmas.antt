@@ -38,7 +38,7 @@ both false b h = cc h
 pub at_most : (m n : ℕ) → nat_le m n ≡ true → m ≤ n
 at_most m n h = grind (arith, nat_tests)
 
--- a number has digits, at least one of them and at most six
+-- a number has digits, at least one of them and not too many
 pub record IsShort (bs : List ℕ) : Type 0 where
   pub digits : all_ascii_digits bs ≡ true
   pub some : 0 < length bs

@@ -1,5 +1,4 @@
--- Plans without objects: no stage operates on one, and no channel calls its steps beside one. These
--- are the plans that can be carried out so far.
+-- Plans without objects: no stage operates on one, and no channel calls its steps beside one.
 use Rattle.std.specs.Prelude.{◌≡◌, None}
 use Rattle.std.specs.List.{AllByRecursion}
 use Rattle.exec_plan.specs.declared.plan.Stage.{Stage}

@@ -1,5 +1,5 @@
 -- Operations and repeats of the grammar are read.
-use Rattle.std.proofs.Common.{◌≡◌, ℕ, ◌≤◌, ◌<◌, length, length-append, List, [], ◌∷◌, ◌++◌, true, false, Some, Ok, refl, ap, ◌∙◌, arith}
+use Rattle.std.proofs.Common.{◌≡◌, ℕ, ◌≤◌, ◌<◌, length, length-append, List, [], ◌∷◌, ◌++◌, true, false, Some, None, Ok, if◌then◌else◌, refl, ap, ◌∙◌, arith}
 use Rattle.flume_tokens.specs.declared.token.Token.{Token}
 use Rattle.flume_tokens.specs.declared.keyword.Keyword.TheVariants as keyword
 use Rattle.flume_tokens.specs.declared.sign.Sign.TheVariants as sign
@@ -56,6 +56,11 @@ complete_list {ts} {us} {xs} x h =
     went (one name_at ts) (λ y ws. all_of at_comma s.next_name (y ∷ []) ws) z vs _ q
     (reaches_end at_comma s.next_name _ xs us r h)
 
+-- what ends an operation stands next: neither a comma nor `with`
+abbrev pub IsSettled : List Token → Type 0
+IsSettled ts = (is_at_sign sign.Comma (next ts) ≡ false)
+    × (is_at_keyword keyword.With (next ts) ≡ false)
+
 module _ (limits : Limits) (fair : IsFair limits) where
   -- ---- operations
 
@@ -83,25 +88,50 @@ module _ (limits : Limits) (fair : IsFair limits) where
       → length xs ≤ limits.inputs
   few_inputs xs x h = let j = length-append xs (x ∷ []) in omega (arith, h, j)
 
-  -- an operation, before what is no comma
-  pub complete_operation : {ts us : List Token} {o : Operation} → IsOperation limits ts us o
-      → is_at_sign sign.Comma (next us) ≡ false → s.operation_at limits ts ≡ Ok (o, us)
-  complete_operation g.do_ h = refl
-  complete_operation g.group h = refl
-  complete_operation (g.combine {c} {n} {m} {k} {ts} {us} {b = z} x) h =
-      went (one (keyword_at keyword.By) (key keyword.By k ∷ ts))
-      (λ _ vs. bind (s.combiner_at vs) (λ w ws. give (operation.Combine c w) ws)) tt ts _
-      (same_key keyword.By k ts) (went (s.combiner_at ts) _ z us _ (complete_combiner x) refl)
-  complete_operation (g.flatten {n} {ts} {us} {xs} x l) h =
+  -- at most as many names as the limit, before what is no comma
+  complete_inputs : {ts us : List Token} {xs : List (List ℕ)} → AreNames ts us xs
+      → length xs ≤ limits.inputs → is_at_sign sign.Comma (next us) ≡ false
+      → s.inputs limits ts ≡ Ok (xs, us)
+  complete_inputs {ts} {us} {xs} x l h =
       let (z, vs, q, r) = complete_names (s.next_input limits) (λ ys. length ys ≤ limits.inputs)
       few_inputs next_input x l in
-      went (one name_at ts) (λ y ws. bind (all_of at_comma (s.next_input limits) (y ∷ []) ws)
-      (λ ys xs. give (operation.Flatten ys) xs)) z vs _ q
-      (went (all_of at_comma (s.next_input limits) (z ∷ []) vs) _ xs us _
-      (reaches_end at_comma (s.next_input limits) _ xs us r h) refl)
+      went (one name_at ts) (λ y ws. all_of at_comma (s.next_input limits) (y ∷ []) ws) z vs _ q
+      (reaches_end at_comma (s.next_input limits) _ xs us r h)
+
+  complete_combined : {ts us : List Token} {z : Combiner} (c : List ℕ) (m k : ℕ)
+      → IsCombiner ts us z
+      → s.by_combiner (name c m ∷ key keyword.By k ∷ ts) ≡ Ok ((c, z), us)
+  complete_combined {ts} {us} {z} c m k x =
+      went (one (keyword_at keyword.By) (key keyword.By k ∷ ts))
+      (λ _ vs. bind (s.combiner_at vs) (λ w ws. give (c, w) ws)) tt ts _
+      (same_key keyword.By k ts) (went (s.combiner_at ts) _ z us _ (complete_combiner x) refl)
+
+  -- an operation, before what ends it
+  pub complete_operation : {ts us : List Token} {o : Operation} → IsOperation limits ts us o
+      → IsSettled us → s.operation_at limits ts ≡ Ok (o, us)
+  complete_operation (g.do_ {c} {f} {n} {m} {k} {ts}) h =
+      went (s.beside ts) (λ o us. give (s.applied c f o) us) None ts _
+      (ap (λ t. if t then bind (one (keyword_at keyword.With) ts) (λ _ us. s.object us) else give
+      None ts) h.1) refl
+  complete_operation g.group h = refl
+  complete_operation (g.combine {c} {n} {m} {k} {ts} {us} {b = z} x) h =
+      went (s.by_combiner (name c m ∷ key keyword.By k ∷ ts))
+      (λ y vs. give (operation.Combine y.0 y.1) vs) (c, z) us _ (complete_combined c m k x) refl
+  complete_operation (g.flatten {n} {ts} {us} {xs} x l) h =
+      went (s.inputs limits ts) (λ ys vs. give (operation.Flatten ys) vs) xs us _
+      (complete_inputs x l h.0) refl
   complete_operation g.count h = refl
   complete_operation g.join h = refl
   complete_operation g.top h = refl
+  complete_operation (g.combine_all {c} {n} {m} {k} {ts} {us} {b = z} x) h =
+      went (s.by_combiner (name c m ∷ key keyword.By k ∷ ts))
+      (λ y vs. give (operation.CombineAll y.0 y.1) vs) (c, z) us _ (complete_combined c m k x)
+      refl
+  complete_operation (g.operate {f} {n} {m} {k} {ts} {us} {xs} x l) h =
+      went (s.inputs limits ts) (λ ys vs. bind (one (keyword_at keyword.By) vs)
+      (λ _ ws. bind (one name_at ws) (λ z ps. give (operation.Operate ys z) ps))) xs
+      (key keyword.By m ∷ name f k ∷ us) _ (complete_inputs x l refl) refl
+  complete_operation g.do_with h = refl
 
   pub shorter_names : {ts us : List Token} {xs : List (List ℕ)} → AreNames ts us xs
       → length us < length ts
@@ -129,11 +159,14 @@ module _ (limits : Limits) (fair : IsFair limits) where
   shorter_operation g.count = omega arith
   shorter_operation g.join = omega arith
   shorter_operation g.top = omega arith
+  shorter_operation (g.combine_all x) = let h = shorter_combiner x in omega (arith, h)
+  shorter_operation (g.operate x l) = let h = shorter_names x in omega (arith, h)
+  shorter_operation g.do_with = omega arith
 
   -- ---- repeats
 
   complete_turn_let : {ts us : List Token} {x : TurnLet} → IsLet limits ts us x
-      → is_at_sign sign.Comma (next us) ≡ false → s.turn_let limits ts ≡ Ok (x, us)
+      → IsSettled us → s.turn_let limits ts ≡ Ok (x, us)
   complete_turn_let (g.let_ {xs} {n} {k} {ts} {us} {vs} {o} x w) h =
       went (s.names ts) (λ ys ws. bind (one (sign_at sign.Assign) ws)
       (λ _ ps. bind (s.operation_at limits ps)
@@ -148,11 +181,11 @@ module _ (limits : Limits) (fair : IsFair limits) where
       omega (arith, h, i)
 
   let_begins : {ts us : List Token} {x : TurnLet} → IsLet limits ts us x
-      → (is_at_sign sign.Comma (next ts) ≡ false) × (is_at_keyword keyword.Let (next ts) ≡ true)
-  let_begins (g.let_ x w) = (refl, refl)
+      → IsSettled ts × (is_at_keyword keyword.Let (next ts) ≡ true)
+  let_begins (g.let_ x w) = ((refl, refl), refl)
 
   complete_lets : {ts us : List Token} {ls : List TurnLet} → AreLets limits ts us ls
-      → is_at_sign sign.Comma (next us) ≡ false
+      → IsSettled us
       → Reaches s.at_let (s.next_let limits) (all_of s.at_let (s.next_let limits) [] ts) ls us
   complete_lets (g.none_ {ts}) h = reaches_start s.at_let (s.next_let limits) [] ts
   complete_lets (g.some {ts} {us} {vs} {l} {ls} y z) h =
@@ -181,7 +214,7 @@ module _ (limits : Limits) (fair : IsFair limits) where
       (λ _ os. bind (s.names os) (λ zs qs. bind (one (sign_at sign.CloseBrace) qs)
       (λ _ ps. give (rs, zs) ps)))) ls (key keyword.Give o ∷ us) _
       (reaches_end s.at_let (s.next_let limits) _ ls (key keyword.Give o ∷ us)
-      (complete_lets x refl) refl)
+      (complete_lets x (refl, refl)) refl)
       (went (s.names us) (λ zs qs. bind (one (sign_at sign.CloseBrace) qs)
       (λ _ ps. give (ls, zs) ps)) xs (mark sign.CloseBrace p ∷ vs) _ (complete_list y refl) refl)
 
@@ -211,6 +244,8 @@ module _ (limits : Limits) (fair : IsFair limits) where
   plain_key starts.Count = refl
   plain_key starts.Join = refl
   plain_key starts.Top = refl
+  plain_key starts.CombineAll = refl
+  plain_key starts.Operate = refl
 
   -- where an operation begins, the right side of a let does
   plain_start : (ts : List Token) (z : OperationStart) (us : List Token)

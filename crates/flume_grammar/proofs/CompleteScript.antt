@@ -20,7 +20,7 @@ use Rattle.flume_grammar.proofs.Complete.{went, same_comma, shorter_numbered, sh
 use Rattle.flume_grammar.specs.Limits.{Limits}
 use Rattle.flume_grammar.proofs.Fair.{IsFair}
 use Rattle.flume_grammar.proofs.CompleteBodies.{shorter_block, complete_whole_block}
-use Rattle.flume_grammar.proofs.CompleteLets.{complete_list, complete_operation, complete_plain, complete_repeat, shorter_names, shorter_operation, shorter_repeat}
+use Rattle.flume_grammar.proofs.CompleteLets.{IsSettled, complete_list, complete_operation, complete_plain, complete_repeat, shorter_names, shorter_operation, shorter_repeat}
 
 module _ (limits : Limits) (fair : IsFair limits) where
   -- ---- statements
@@ -48,7 +48,7 @@ module _ (limits : Limits) (fair : IsFair limits) where
       (omega (arith, k))
 
   complete_statement : {ts us : List Token} {x : Statement} → IsStatement limits ts us x
-      → is_at_sign sign.Comma (next us) ≡ false → s.statement_at limits ts ≡ Ok (x, us)
+      → IsSettled us → s.statement_at limits ts ≡ Ok (x, us)
   complete_statement (g.type_ {x} {n} {m} {k} {ts} {us} {t} w) h =
       went (s.type_form limits (name x m ∷ mark sign.Assign k ∷ ts))
       (λ f vs. give (record { line = n; form = f }) vs) (form.Type x t) us _
@@ -142,16 +142,16 @@ module _ (limits : Limits) (fair : IsFair limits) where
   shorter_statement g.output = omega arith
 
   statement_begins : {ts us : List Token} {x : Statement} → IsStatement limits ts us x
-      → (is_at_sign sign.Comma (next ts) ≡ false) × ((ss : List Statement) → s.is_more ss ts ≡ true)
-  statement_begins (g.type_ w) = (refl, (λ ss. refl))
-  statement_begins (g.input w) = (refl, (λ ss. refl))
-  statement_begins (g.fn_ u v w e f q l) = (refl, (λ ss. refl))
-  statement_begins (g.let_ x w) = (refl, (λ ss. refl))
-  statement_begins (g.repeat x w) = (refl, (λ ss. refl))
-  statement_begins g.output = (refl, (λ ss. refl))
+      → IsSettled ts × ((ss : List Statement) → s.is_more ss ts ≡ true)
+  statement_begins (g.type_ w) = ((refl, refl), (λ ss. refl))
+  statement_begins (g.input w) = ((refl, refl), (λ ss. refl))
+  statement_begins (g.fn_ u v w e f q l) = ((refl, refl), (λ ss. refl))
+  statement_begins (g.let_ x w) = ((refl, refl), (λ ss. refl))
+  statement_begins (g.repeat x w) = ((refl, refl), (λ ss. refl))
+  statement_begins g.output = ((refl, refl), (λ ss. refl))
 
   complete_statements : {ts us : List Token} {ss : List Statement} → AreStatements limits ts us ss
-      → is_at_sign sign.Comma (next us) ≡ false
+      → IsSettled us
       → Reaches s.is_more (s.next_statement limits)
       (all_of s.is_more (s.next_statement limits) [] ts) ss us
   complete_statements (g.none_ {ts}) h = reaches_start s.is_more (s.next_statement limits) [] ts
@@ -166,4 +166,4 @@ module _ (limits : Limits) (fair : IsFair limits) where
   pub complete_script : (ts : List Token) (ss : List Statement) → IsScript limits ts ss
       → s.script_at limits ts ≡ Ok (ss, [])
   complete_script ts ss x = reaches_end s.is_more (s.next_statement limits) _ ss []
-      (complete_statements x refl) refl
+      (complete_statements x (refl, refl)) refl

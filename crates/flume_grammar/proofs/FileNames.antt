@@ -132,6 +132,9 @@ module _ (limits : Limits) where
   rest_operation g.count h = h.1.1
   rest_operation g.join h = h.1.1.1.1
   rest_operation g.top h = h.1.1.1
+  rest_operation (g.combine_all c) h = rest_combiner c h.1.1.1
+  rest_operation (g.operate n l) h = (rest_names n h.1).1.1
+  rest_operation g.do_with h = h.1.1.1.1.1
 
   rest_let : {ts us : List Token} {l : TurnLet} → g.IsLet limits ts us l → Texts ts → Texts us
   rest_let (g.let_ x o) h = rest_operation o (rest_names x h.1).1

@@ -28,6 +28,7 @@ pub mod Operands
 pub mod Pair
 pub mod PairBodies
 pub mod PairExpr
+pub mod PairLets
 pub mod PairParts
 pub mod PairScript
 pub mod PairSuffixes

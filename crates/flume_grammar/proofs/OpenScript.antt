@@ -17,12 +17,12 @@ use Rattle.flume_grammar.specs.declared.tree.Statement.{Statement}
 use Rattle.flume_grammar.specs.inner.Out.{give, bind, one, all_of}
 use Rattle.flume_grammar.specs.inner.Reading.{sign_at, is_keyword, is_at_keyword, name_at, number_at, comma_at, numbered}
 use Rattle.flume_grammar.specs.Parts.{Tree}
-use Rattle.flume_grammar.specs.inner.Types.{at_comma, whole_type}
+use Rattle.flume_grammar.specs.inner.Types.{whole_type}
 use Rattle.flume_grammar.specs.inner.Bodies.{whole_block}
 use Rattle.flume_grammar.specs.inner.Statements as s
 use Rattle.flume_grammar.specs.Terminals.{key}
 use Rattle.flume_grammar.proofs.Sound.{bound}
-use Rattle.flume_grammar.proofs.Open.{Class, Behind, any, free, within, IsOpenAt, IsComplete, no_longer}
+use Rattle.flume_grammar.proofs.Open.{Class, Behind, any, Sub, free, within, IsOpenAt, IsComplete, no_longer}
 use Rattle.flume_grammar.proofs.OpenSmallest.{Owns, given}
 use Rattle.flume_grammar.proofs.OpenThen.{then_}
 use Rattle.flume_grammar.proofs.OpenNarrow.{wider}
@@ -31,7 +31,7 @@ use Rattle.flume_grammar.proofs.OpenTokens.{owns_ok, owns_fault, owns_if, owns_o
 use Rattle.flume_grammar.proofs.OpenTypes.{complete_whole}
 use Rattle.flume_grammar.specs.Limits.{Limits}
 use Rattle.flume_grammar.proofs.Fair.{IsFair}
-use Rattle.flume_grammar.proofs.OpenBodies.{optional_in, other_than, unscaled, o_numbered, opening, complete_body}
+use Rattle.flume_grammar.proofs.OpenBodies.{optional, optional_in, other_than, unscaled, o_numbered, opening, complete_body}
 
 -- ---- names
 
@@ -59,9 +59,35 @@ pub owns_let : (t : Token) → Owns t (s.line_of_let t)
 owns_let t =
     owns_if t (is_keyword keyword.Let t.kind) _ _ (owns_ok t t.line) (owns_fault t Syntax)
 
--- before what is neither `let` nor a comma
+-- before what is neither `with` nor a comma: what may stand behind an operation
+abbrev pub settled : Class
+settled k = other_than keyword.With k × no_comma k
+
+pub no_more : Sub settled no_comma
+no_more = within settled no_comma (λ k i. i.1)
+
+o_beside : IsComplete (other_than keyword.With) (other_than keyword.With) s.beside
+o_beside =
+    let x = name_then any (other_than keyword.With) _ tt
+    (λ o. given any (other_than keyword.With) (Some o) (free (other_than keyword.With))) in
+    optional keyword.With (λ _ us. s.object us) None
+    (keyword_then any (other_than keyword.With) keyword.With _ tt (λ _. x)) (λ _. x.open_)
+
+o_settled : IsComplete settled settled s.beside
+o_settled = optional_in keyword.With (λ _ us. s.object us) None settled
+    (within settled (other_than keyword.With) (λ k i. i.0)) o_beside
+
+pub o_apply : IsComplete any settled s.apply
+o_apply =
+    name_then any settled _ tt
+    (λ c. name_then any settled _ tt
+    (λ f. wider settled any settled _ (free settled)
+    (then_ settled settled settled s.beside _ o_settled
+    (λ o _. given settled settled _ (λ rs i. i)))))
+
+-- before what is none of `let`, `with` and a comma
 abbrev pub in_turn : Class
-in_turn k = other_than keyword.Let k × no_comma k
+in_turn k = other_than keyword.Let k × settled k
 
 pub no_let : (ls : List TurnLet) (ts : List Token) → Behind in_turn ts → s.at_let ls ts ≡ false
 no_let ls [] i = refl
@@ -74,43 +100,47 @@ module _ (limits : Limits) (fair : IsFair limits) where
   o_combiner (combining.Whole c) = given any any c (free any)
   o_combiner combining.Top = number_then any any _ tt (λ n. given any any _ (free any))
 
-  pub o_combine : IsComplete any no_comma s.combine
-  o_combine =
-      name_then any no_comma _ tt (λ c. keyword_then any no_comma keyword.By _ tt
-      (λ _. then_ any any no_comma s.combiner_at _
+  pub o_combined : IsComplete any any s.by_combiner
+  o_combined =
+      name_then any any _ tt (λ c. keyword_then any any keyword.By _ tt
+      (λ _. then_ any any any s.combiner_at _
       (then_ any any any (one s.combiner_start) _
       (token any s.combiner_start (λ t. owns_option t (s.of_keyword s.keyword_combiner t.kind))
       (key keyword.Sum 1) _ refl tt) (λ k _. o_combiner k))
-      (λ k _. given any no_comma _ (free no_comma))))
+      (λ k _. given any any _ (free any))))
 
-  pub o_flatten : IsComplete any no_comma (s.flatten limits)
-  o_flatten =
+  pub o_inputs : IsComplete any no_comma (s.inputs limits)
+  o_inputs =
       name_then any no_comma _ tt (λ x. wider no_comma any no_comma _ (free no_comma)
-      (then_ no_comma no_comma no_comma (all_of at_comma (s.next_input limits) (x ∷ [])) _
       (commas no_comma any (s.next_input limits) (free no_comma) (λ k i. i)
       (λ xs. takes_token any (comma_at (length xs) limits.inputs) _
       (λ _. (o_name xs).open_))
-      (λ xs. comma_then any (length xs) limits.inputs _ (λ _. o_name xs)) (x ∷ []))
-      (λ xs _. given no_comma no_comma _ (λ rs i. i))))
+      (λ xs. comma_then any (length xs) limits.inputs _ (λ _. o_name xs)) (x ∷ [])))
 
-  pub o_begin : (o : OperationStart) → IsComplete any no_comma (s.after_begin limits o)
-  o_begin starting.Do =
-      name_then any no_comma _ tt
-      (λ c. name_then any no_comma _ tt (λ f. given any no_comma _ (free no_comma)))
-  o_begin starting.Group = name_then any no_comma _ tt (λ c. given any no_comma _ (free no_comma))
-  o_begin starting.Combine = o_combine
-  o_begin starting.Flatten = o_flatten
-  o_begin starting.Count = name_then any no_comma _ tt (λ c. given any no_comma _ (free no_comma))
+  pub o_begin : (o : OperationStart) → IsComplete any settled (s.after_begin limits o)
+  o_begin starting.Do = o_apply
+  o_begin starting.Group = name_then any settled _ tt (λ c. given any settled _ (free settled))
+  o_begin starting.Combine = then_ any any settled s.by_combiner _ o_combined
+      (λ x _. given any settled _ (free settled))
+  o_begin starting.Flatten = then_ any no_comma settled (s.inputs limits) _ o_inputs
+      (λ xs _. given no_comma settled _ no_more)
+  o_begin starting.Count = name_then any settled _ tt (λ c. given any settled _ (free settled))
   o_begin starting.Join =
-      name_then any no_comma _ tt (λ x. sign_then any no_comma sign.Comma _ tt
-      (λ _. name_then any no_comma _ tt (λ y. given any no_comma _ (free no_comma))))
+      name_then any settled _ tt (λ x. sign_then any settled sign.Comma _ tt
+      (λ _. name_then any settled _ tt (λ y. given any settled _ (free settled))))
   o_begin starting.Top =
-      number_then any no_comma _ tt
-      (λ n. name_then any no_comma _ tt (λ c. given any no_comma _ (free no_comma)))
+      number_then any settled _ tt
+      (λ n. name_then any settled _ tt (λ c. given any settled _ (free settled)))
+  o_begin starting.CombineAll = then_ any any settled s.by_combiner _ o_combined
+      (λ x _. given any settled _ (free settled))
+  o_begin starting.Operate =
+      then_ any no_comma settled (s.inputs limits) _ o_inputs
+      (λ xs _. keyword_then no_comma settled keyword.By _ refl
+      (λ _. name_then any settled _ tt (λ f. given any settled _ (free settled))))
 
-  pub o_operation : IsComplete any no_comma (s.operation_at limits)
+  pub o_operation : IsComplete any settled (s.operation_at limits)
   o_operation =
-      then_ any any no_comma (one s.operation_start) _
+      then_ any any settled (one s.operation_start) _
       (token any s.operation_start
       (λ t. owns_option t (s.of_keyword s.keyword_operation t.kind)) (key keyword.Group 1) _
       refl tt) (λ o _. o_begin o)
@@ -118,39 +148,39 @@ module _ (limits : Limits) (fair : IsFair limits) where
   -- ---- repeats
 
   pub o_own : (n : ℕ)
-      → IsComplete {A = TurnLet} any no_comma
+      → IsComplete {A = TurnLet} any settled
       (λ ts. bind (s.names ts) (λ xs us. bind (one (sign_at sign.Assign) us)
       (λ _ vs. bind (s.operation_at limits vs)
       (λ o ws. give (record { line = n; names = xs; by = o }) ws))))
   o_own n =
-      then_ any no_comma no_comma s.names _ o_names (λ xs _. sign_then no_comma no_comma
+      then_ any no_comma settled s.names _ o_names (λ xs _. sign_then no_comma settled
       sign.Assign _ refl
-      (λ _. then_ any no_comma no_comma (s.operation_at limits) _ o_operation
-      (λ o _. given no_comma no_comma _ (λ rs i. i))))
+      (λ _. then_ any settled settled (s.operation_at limits) _ o_operation
+      (λ o _. given settled settled _ (λ rs i. i))))
 
-  pub o_turn_let : IsComplete any no_comma (s.turn_let limits)
+  pub o_turn_let : IsComplete any settled (s.turn_let limits)
   o_turn_let =
-      then_ any any no_comma (one s.line_of_let) _
+      then_ any any settled (one s.line_of_let) _
       (token any s.line_of_let owns_let (key keyword.Let 1) 1 refl tt) (λ n _. o_own n)
 
-  pub o_next_let : (ls : List TurnLet) → IsComplete any no_comma (s.next_let limits ls)
-  o_next_let ls = then_ any no_comma no_comma (s.turn_let limits) _ o_turn_let
-      (λ l _. given no_comma no_comma _ (λ rs i. i))
+  pub o_next_let : (ls : List TurnLet) → IsComplete any settled (s.next_let limits ls)
+  o_next_let ls = then_ any settled settled (s.turn_let limits) _ o_turn_let
+      (λ l _. given settled settled _ (λ rs i. i))
 
   pub t_let : (ls rs : List TurnLet) (ts us : List Token)
       → s.next_let limits ls ts ≡ Ok (rs, us) → length us < length ts
   t_let ls rs ts us e =
       let a = bound (s.turn_let limits ts) _ rs us e in
-      let i = takes_token no_comma s.line_of_let _ (λ n. (o_own n).open_) ts a.got a.rest a.part in
-      let j = no_longer no_comma (give (ls ++ a.got ∷ [])) a.rest rs us
-      ((given no_comma no_comma (ls ++ a.got ∷ []) (λ k l. l)).open_ a.rest) a.after in
+      let i = takes_token settled s.line_of_let _ (λ n. (o_own n).open_) ts a.got a.rest a.part in
+      let j = no_longer settled (give (ls ++ a.got ∷ [])) a.rest rs us
+      ((given settled settled (ls ++ a.got ∷ []) (λ k l. l)).open_ a.rest) a.after in
       omega (arith, i, j)
 
   pub o_lets : (ls : List TurnLet)
       → IsComplete in_turn in_turn (all_of s.at_let (s.next_let limits) ls)
   o_lets ls =
-      loops in_turn no_comma s.at_let (s.next_let limits) (λ rs. Unit {0})
-      (within in_turn no_comma (λ k i. i.1)) no_let
+      loops in_turn settled s.at_let (s.next_let limits) (λ rs. Unit {0})
+      (within in_turn settled (λ k i. i.1)) no_let
       (λ rs ts us e. ap (is_at_keyword keyword.Let) e)
       (λ rs ts ps us i m e. t_let rs ps ts us e) (λ rs ts i m. (o_next_let rs).open_ ts)
       (λ rs ts ps us i e. tt) ls tt
@@ -160,23 +190,23 @@ module _ (limits : Limits) (fair : IsFair limits) where
       sign_then no_comma any sign.OpenBrace _ refl
       (λ _. wider in_turn any any _ (free in_turn)
       (then_ in_turn in_turn any (s.turn_lets limits) _ (o_lets [])
-      (λ ls _. keyword_then in_turn any keyword.Give _ (refl, refl)
+      (λ ls _. keyword_then in_turn any keyword.Give _ (refl, (refl, refl))
       (λ _. then_ any no_comma any s.names _ o_names
       (λ xs _. sign_then no_comma any sign.CloseBrace _ refl
       (λ _. given any any _ (free any)))))))
 
-  pub o_repeat : IsComplete any no_comma (s.repeat_at limits)
+  pub o_repeat : IsComplete any settled (s.repeat_at limits)
   o_repeat =
-      then_ any no_comma no_comma s.repeat_head _ o_head
-      (λ h _. then_ no_comma any no_comma (s.repeat_body limits) _ o_inside
-      (λ b _. given any no_comma _ (free no_comma)))
+      then_ any no_comma settled s.repeat_head _ o_head
+      (λ h _. then_ no_comma any settled (s.repeat_body limits) _ o_inside
+      (λ b _. given any settled _ (free settled)))
 
   pub o_let : (xs : List (List ℕ)) (z : LetStart)
-      → IsComplete any no_comma (s.after_let limits xs z)
-  o_let xs (letting.Plain o) = then_ any no_comma no_comma (s.after_begin limits o) _ (o_begin o)
-      (λ y _. given no_comma no_comma _ (λ rs i. i))
-  o_let xs letting.Repeat = then_ any no_comma no_comma (s.repeat_at limits) _ o_repeat
-      (λ r _. given no_comma no_comma _ (λ rs i. i))
+      → IsComplete any settled (s.after_let limits xs z)
+  o_let xs (letting.Plain o) = then_ any settled settled (s.after_begin limits o) _ (o_begin o)
+      (λ y _. given settled settled _ (λ rs i. i))
+  o_let xs letting.Repeat = then_ any settled settled (s.repeat_at limits) _ o_repeat
+      (λ r _. given settled settled _ (λ rs i. i))
 
   -- ---- statements
 
@@ -210,67 +240,67 @@ module _ (limits : Limits) (fair : IsFair limits) where
       (then_ no_comma no_comma no_comma (s.more_types limits) _ o_more_types
       (λ cs _. given no_comma no_comma _ (λ rs i. i))))))))))
 
-  pub o_function : IsComplete any no_comma (s.function_form limits)
+  pub o_function : IsComplete any settled (s.function_form limits)
   o_function =
-      name_then any no_comma _ tt
-      (λ f. then_ any no_comma no_comma (s.signature limits) _ o_signature
-      (λ g _. wider unscaled no_comma no_comma _ (within unscaled no_comma (λ k i. i.1))
-      (then_ unscaled unscaled no_comma (numbered keyword.Scale) _ o_scale (λ n _.
-      then_ unscaled any no_comma (whole_block limits) _
+      name_then any settled _ tt
+      (λ f. then_ any no_comma settled (s.signature limits) _ o_signature
+      (λ g _. wider unscaled no_comma settled _ (within unscaled no_comma (λ k i. i.1))
+      (then_ unscaled unscaled settled (numbered keyword.Scale) _ o_scale (λ n _.
+      then_ unscaled any settled (whole_block limits) _
       (wider opening unscaled any (whole_block limits) (within opening unscaled (λ k i. i.1))
-      (complete_body limits fair)) (λ x _. given any no_comma _ (free no_comma))))))
+      (complete_body limits fair)) (λ x _. given any settled _ (free settled))))))
 
-  pub o_form : (x : StatementStart) → IsComplete any no_comma (s.form_at limits x)
+  pub o_form : (x : StatementStart) → IsComplete any settled (s.form_at limits x)
   o_form stating.Type =
-      name_then any no_comma _ tt (λ x. sign_then any no_comma sign.Assign _ tt
-      (λ _. then_ any any no_comma (whole_type limits) _ (complete_whole limits fair)
-      (λ t _. given any no_comma _ (free no_comma))))
+      name_then any settled _ tt (λ x. sign_then any settled sign.Assign _ tt
+      (λ _. then_ any any settled (whole_type limits) _ (complete_whole limits fair)
+      (λ t _. given any settled _ (free settled))))
   o_form stating.Input =
-      name_then any no_comma _ tt (λ x. sign_then any no_comma sign.Colon _ tt
-      (λ _. then_ any any no_comma (whole_type limits) _ (complete_whole limits fair)
-      (λ t _. keyword_then any no_comma keyword.From _ tt (λ _.
-      text_then any no_comma _ tt (λ f. given any no_comma _ (free no_comma))))))
+      name_then any settled _ tt (λ x. sign_then any settled sign.Colon _ tt
+      (λ _. then_ any any settled (whole_type limits) _ (complete_whole limits fair)
+      (λ t _. keyword_then any settled keyword.From _ tt (λ _.
+      text_then any settled _ tt (λ f. given any settled _ (free settled))))))
   o_form stating.Function = o_function
   o_form stating.Let =
-      then_ any no_comma no_comma s.names _ o_names (λ xs _. sign_then no_comma no_comma
+      then_ any no_comma settled s.names _ o_names (λ xs _. sign_then no_comma settled
       sign.Assign _ refl
-      (λ _. then_ any any no_comma (one s.let_start) _
+      (λ _. then_ any any settled (one s.let_start) _
       (token any s.let_start (λ t. owns_option t (s.of_keyword s.keyword_let t.kind))
       (key keyword.Group 1) _ refl tt) (λ z _. o_let xs z)))
   o_form stating.Output =
-      name_then any no_comma _ tt (λ x. keyword_then any no_comma keyword.To _ tt
-      (λ _. text_then any no_comma _ tt (λ f. given any no_comma _ (free no_comma))))
+      name_then any settled _ tt (λ x. keyword_then any settled keyword.To _ tt
+      (λ _. text_then any settled _ tt (λ f. given any settled _ (free settled))))
 
   pub owns_statement : (t : Token) (o : Option StatementStart) → Owns t (s.with_line t o)
   owns_statement t (Some x) = owns_ok t (x, t.line)
   owns_statement t None = owns_fault t Syntax
 
   pub o_named : (x : StatementStart × ℕ)
-      → IsComplete {A = Statement} any no_comma
+      → IsComplete {A = Statement} any settled
       (λ ts. bind (s.form_at limits x.0 ts) (λ f us. give (record { line = x.1; form = f }) us))
-  o_named x = then_ any no_comma no_comma (s.form_at limits x.0) _ (o_form x.0)
-      (λ f _. given no_comma no_comma _ (λ rs i. i))
+  o_named x = then_ any settled settled (s.form_at limits x.0) _ (o_form x.0)
+      (λ f _. given settled settled _ (λ rs i. i))
 
-  pub o_statement : IsComplete any no_comma (s.statement_at limits)
+  pub o_statement : IsComplete any settled (s.statement_at limits)
   o_statement =
-      then_ any any no_comma (one s.statement_start) _
+      then_ any any settled (one s.statement_start) _
       (token any s.statement_start
       (λ t. owns_statement t (s.of_keyword s.keyword_statement t.kind)) (key keyword.Output 1) _
       refl tt) (λ x _. o_named x)
 
   pub o_next_statement : (ss : List Statement)
-      → IsComplete any no_comma (s.next_statement limits ss)
-  o_next_statement ss = then_ any no_comma no_comma (s.statement_at limits) _ o_statement
-      (λ x _. given no_comma no_comma _ (λ rs i. i))
+      → IsComplete any settled (s.next_statement limits ss)
+  o_next_statement ss = then_ any settled settled (s.statement_at limits) _ o_statement
+      (λ x _. given settled settled _ (λ rs i. i))
 
   pub t_statement : (ss rs : List Statement) (ts us : List Token)
       → s.next_statement limits ss ts ≡ Ok (rs, us) → length us < length ts
   t_statement ss rs ts us e =
       let a = bound (s.statement_at limits ts) _ rs us e in
-      let i = takes_token no_comma s.statement_start _ (λ x. (o_named x).open_) ts a.got a.rest
+      let i = takes_token settled s.statement_start _ (λ x. (o_named x).open_) ts a.got a.rest
       a.part in
-      let j = no_longer no_comma (give (ss ++ a.got ∷ [])) a.rest rs us
-      ((given no_comma no_comma (ss ++ a.got ∷ []) (λ k l. l)).open_ a.rest) a.after in
+      let j = no_longer settled (give (ss ++ a.got ∷ [])) a.rest rs us
+      ((given settled settled (ss ++ a.got ∷ []) (λ k l. l)).open_ a.rest) a.after in
       omega (arith, i, j)
 
   -- before nothing but the end
@@ -280,8 +310,8 @@ module _ (limits : Limits) (fair : IsFair limits) where
   pub complete_from : (ss : List Statement)
       → IsComplete nothing nothing (all_of s.is_more (s.next_statement limits) ss)
   complete_from ss =
-      loops nothing no_comma s.is_more (s.next_statement limits) (λ ss. Unit {0})
-      (within nothing no_comma (λ k i. absurd i)) ends (λ ss ts us e. ap is_some e)
+      loops nothing settled s.is_more (s.next_statement limits) (λ ss. Unit {0})
+      (within nothing settled (λ k i. absurd i)) ends (λ ss ts us e. ap is_some e)
       (λ ss ts rs us i m e. t_statement ss rs ts us e)
       (λ ss ts i m. (o_next_statement ss).open_ ts) (λ ss ts rs us i e. tt) ss tt
     where

@@ -90,6 +90,9 @@ module _ (limits : Limits) (fair : IsFair limits) where
   is_let_key keyword.Count z q = let e : letting.Plain starts.Count ≡ z = cc in ap let_key e
   is_let_key keyword.Join z q = let e : letting.Plain starts.Join ≡ z = cc in ap let_key e
   is_let_key keyword.Top z q = let e : letting.Plain starts.Top ≡ z = cc in ap let_key e
+  is_let_key keyword.Combineall z q = let e : letting.Plain starts.CombineAll ≡ z = cc in
+      ap let_key e
+  is_let_key keyword.Operate z q = let e : letting.Plain starts.Operate ≡ z = cc in ap let_key e
   is_let_key keyword.Repeat z q = let e : letting.Repeat ≡ z = cc in ap let_key e
   is_let_key _ z q = cc
 

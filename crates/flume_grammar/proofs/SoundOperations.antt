@@ -1,5 +1,5 @@
 -- Combiners and operations that are read are in the grammar.
-use Rattle.std.proofs.Common.{◌≡◌, ℕ, ◌≤◌, length, length-append, List, [], ◌∷◌, ◌++◌, Option, Some, None, Ok, refl, sym, ap, ◌∙◌, subst, arith}
+use Rattle.std.proofs.Common.{◌≡◌, ℕ, ◌≤◌, length, length-append, List, [], ◌∷◌, ◌++◌, Bool, true, false, Option, Some, None, Ok, if◌then◌else◌, refl, sym, ap, ◌∙◌, subst, arith}
 use Rattle.flume_tokens.specs.declared.token.Token.{Token}
 use Rattle.flume_tokens.specs.declared.token.TokenKind.{TokenKind}
 use Rattle.flume_tokens.specs.declared.token.TokenKind.TheVariants as kind
@@ -14,8 +14,8 @@ use Rattle.flume_grammar.specs.declared.tree.Combiner.{Combiner}
 use Rattle.flume_grammar.specs.declared.tree.Combiner.TheVariants as combiner
 use Rattle.flume_grammar.specs.declared.tree.Operation.{Operation}
 use Rattle.flume_grammar.specs.declared.tree.Operation.TheVariants as operation
-use Rattle.flume_grammar.specs.inner.Out.{one, all_of}
-use Rattle.flume_grammar.specs.inner.Reading.{sign_at, keyword_at, name_at, number_at, comma_at, or_syntax}
+use Rattle.flume_grammar.specs.inner.Out.{bind, give, next, one}
+use Rattle.flume_grammar.specs.inner.Reading.{sign_at, keyword_at, name_at, number_at, comma_at, or_syntax, is_at_keyword}
 use Rattle.flume_grammar.specs.inner.Types.{at_comma}
 use Rattle.flume_grammar.specs.inner.Statements as s
 use Rattle.flume_grammar.specs.Grammar as g
@@ -130,6 +130,8 @@ module _ (limits : Limits) (fair : IsFair limits) where
   operation_key starts.Count = keyword.Count
   operation_key starts.Join = keyword.Join
   operation_key starts.Top = keyword.Top
+  operation_key starts.CombineAll = keyword.Combineall
+  operation_key starts.Operate = keyword.Operate
 
   pub is_operation_key : (k : Keyword) (z : OperationStart) → s.keyword_operation k ≡ Some z
       → k ≡ operation_key z
@@ -140,6 +142,9 @@ module _ (limits : Limits) (fair : IsFair limits) where
   is_operation_key keyword.Count z q = let e : starts.Count ≡ z = cc in ap operation_key e
   is_operation_key keyword.Join z q = let e : starts.Join ≡ z = cc in ap operation_key e
   is_operation_key keyword.Top z q = let e : starts.Top ≡ z = cc in ap operation_key e
+  is_operation_key keyword.Combineall z q = let e : starts.CombineAll ≡ z = cc in
+      ap operation_key e
+  is_operation_key keyword.Operate z q = let e : starts.Operate ≡ z = cc in ap operation_key e
   is_operation_key _ z q = cc
 
   -- a combiner that is one keyword, as the first token told
@@ -207,6 +212,78 @@ module _ (limits : Limits) (fair : IsFair limits) where
       subst (λ z. NamesOf ts z us) v.0 (subst (NamesOf ts (xs ++ c.got ∷ [])) v.1
       (more_name ts vs a.rest c.rest xs c.got m.line e m.is c.part, omega (arith, m.fewer, n)))
 
+  s_inputs : (ts : List Token) (xs : List (List ℕ)) (us : List Token)
+      → s.inputs limits ts ≡ Ok (xs, us) → NamesOf ts xs us
+  s_inputs ts xs us q =
+      let a = bound (one name_at ts) _ xs us q in
+      let w = name_read a.got ts a.rest a.part in
+      let i : NamesOf ts (a.got ∷ []) a.rest = (
+        subst (λ z. AreNames z a.rest (a.got ∷ []))
+            (sym w.is) g.one,
+        fair.inputs,
+      ) in
+      kept_all at_comma (s.next_input limits) (NamesOf ts)
+      (λ p vs r ws t k e. s_input ts p vs r ws k e) (a.got ∷ []) a.rest xs us i a.after
+
+  -- a collection and a combiner
+  abbrev Combined : Type 0
+  Combined = List ℕ × Combiner
+
+  record CombinedBy (ts us : List Token) (x : Combined) : Type 0 where
+    n : ℕ
+    m : ℕ
+    vs : List Token
+    start : ts ≡ name x.0 n ∷ key keyword.By m ∷ vs
+    by_ : IsCombiner vs us x.1
+
+  s_combined : (ts : List Token) (x : Combined) (us : List Token)
+      → s.by_combiner ts ≡ Ok (x, us) → CombinedBy ts us x
+  s_combined ts x us q =
+      let a = bound (one name_at ts) _ x us q in
+      let w = name_read a.got ts a.rest a.part in
+      let c = bound (one (keyword_at keyword.By) a.rest) _ x us a.after in
+      let m = keyed keyword.By c.got a.rest c.rest c.part in
+      let d = bound (s.combiner_at c.rest) _ x us c.after in
+      let v = gave (a.got, d.got) x d.rest us d.after in
+      record {
+        n = w.line;
+        m = m.line;
+        vs = c.rest;
+        start = w.is ∙ ap (λ z. name a.got w.line ∷ z) m.is
+            ∙ ap (λ (z : Combined). name z.0 w.line ∷ key keyword.By m.line ∷ c.rest) v.0;
+        by_ = subst (λ (z : Combined). IsCombiner c.rest us z.1) v.0
+            (subst (λ z. IsCombiner c.rest z d.got) v.1
+            (s_combiner c.rest d.got d.rest d.part));
+      }
+
+  -- what stands behind the names of a collection and a function
+  s_beside : (n m k : ℕ) (c f : List ℕ) (ts : List Token) (o : Option (List ℕ)) (us : List Token)
+      → s.beside ts ≡ Ok (o, us)
+      → IsOperation limits (key keyword.Do n ∷ name c m ∷ name f k ∷ ts) us (s.applied c f o)
+  s_beside n m k c f ts o us q = by (is_at_keyword keyword.With (next ts)) q
+    where
+      by : (t : Bool)
+          → (if t then bind (one (keyword_at keyword.With) ts) (λ _ vs. s.object vs) else give None
+          ts) ≡ Ok (o, us)
+          → IsOperation limits (key keyword.Do n ∷ name c m ∷ name f k ∷ ts) us (s.applied c f o)
+      by true p =
+          let a = bound (one (keyword_at keyword.With) ts) (λ _ vs. s.object vs) o us p in
+          let i = keyed keyword.With a.got ts a.rest a.part in
+          let d = bound (one name_at a.rest) (λ z ws. give (Some z) ws) o us a.after in
+          let w = name_read d.got a.rest d.rest d.part in
+          let v = gave (Some d.got) o d.rest us d.after in
+          moved_by (IsOperation limits)
+          (key keyword.Do n ∷ name c m ∷ name f k ∷ key keyword.With i.line ∷ name d.got w.line ∷
+          d.rest) (key keyword.Do n ∷ name c m ∷ name f k ∷ ts) d.rest us
+          (operation.DoWith c f d.got) (s.applied c f o)
+          (ap (λ z. key keyword.Do n ∷ name c m ∷ name f k ∷ z) (i.is
+          ∙ ap (λ z. key keyword.With i.line ∷ z) w.is)) v.1 (ap (s.applied c f) v.0) g.do_with
+      by false p =
+          let v = gave None o ts us p in
+          moved_by (IsOperation limits) (key keyword.Do n ∷ name c m ∷ name f k ∷ ts)
+          (key keyword.Do n ∷ name c m ∷ name f k ∷ ts) ts us (operation.Do c f)
+          (s.applied c f o) refl v.1 (ap (s.applied c f) v.0) g.do_
+
   pub s_operation_after : (z : OperationStart) (n : ℕ) (ts : List Token) (x : Operation)
       (us : List Token) → s.after_begin limits z ts ≡ Ok (x, us)
       → IsOperation limits (key (operation_key z) n ∷ ts) us x
@@ -215,11 +292,13 @@ module _ (limits : Limits) (fair : IsFair limits) where
       let w = name_read a.got ts a.rest a.part in
       let c = bound (one name_at a.rest) _ x us a.after in
       let o = name_read c.got a.rest c.rest c.part in
-      let v = gave (operation.Do a.got c.got) x c.rest us c.after in
+      let d = bound (s.beside c.rest) _ x us c.after in
+      let v = gave (s.applied a.got c.got d.got) x d.rest us d.after in
       moved_by (IsOperation limits)
-      (key keyword.Do n ∷ name a.got w.line ∷ name c.got o.line ∷ c.rest) _ c.rest us
-      (operation.Do a.got c.got) x (ap (λ z. key keyword.Do n ∷ z) (w.is
-      ∙ ap (λ z. name a.got w.line ∷ z) o.is)) v.1 v.0 g.do_
+      (key keyword.Do n ∷ name a.got w.line ∷ name c.got o.line ∷ c.rest) _ d.rest us
+      (s.applied a.got c.got d.got) x (ap (λ z. key keyword.Do n ∷ z) (w.is
+      ∙ ap (λ z. name a.got w.line ∷ z) o.is)) v.1 v.0
+      (s_beside n w.line o.line a.got c.got c.rest d.got d.rest d.part)
   s_operation_after starts.Group n ts x us q =
       let a = bound (one name_at ts) _ x us q in
       let w = name_read a.got ts a.rest a.part in
@@ -227,31 +306,19 @@ module _ (limits : Limits) (fair : IsFair limits) where
       moved_by (IsOperation limits) (key keyword.Group n ∷ name a.got w.line ∷ a.rest) _ a.rest us
       (operation.Group a.got) x (ap (λ z. key keyword.Group n ∷ z) w.is) v.1 v.0 g.group
   s_operation_after starts.Combine n ts x us q =
-      let a = bound (one name_at ts) _ x us q in
-      let w = name_read a.got ts a.rest a.part in
-      let c = bound (one (keyword_at keyword.By) a.rest) _ x us a.after in
-      let m = keyed keyword.By c.got a.rest c.rest c.part in
-      let d = bound (s.combiner_at c.rest) _ x us c.after in
-      let v = gave (operation.Combine a.got d.got) x d.rest us d.after in
+      let a = bound (s.by_combiner ts) _ x us q in
+      let c = s_combined ts a.got a.rest a.part in
+      let v = gave (operation.Combine a.got.0 a.got.1) x a.rest us a.after in
       moved_by (IsOperation limits)
-      (key keyword.Combine n ∷ name a.got w.line ∷ key keyword.By m.line ∷ c.rest) _ d.rest us
-      (operation.Combine a.got d.got) x
-      (ap (λ z. key keyword.Combine n ∷ z) (w.is ∙ ap (λ z. name a.got w.line ∷ z) m.is)) v.1 v.0
-      (g.combine (s_combiner c.rest d.got d.rest d.part))
+      (key keyword.Combine n ∷ name a.got.0 c.n ∷ key keyword.By c.m ∷ c.vs) _ a.rest us
+      (operation.Combine a.got.0 a.got.1) x (ap (λ z. key keyword.Combine n ∷ z) c.start) v.1 v.0
+      (g.combine c.by_)
   s_operation_after starts.Flatten n ts x us q =
-      let a = bound (one name_at ts) _ x us q in
-      let w = name_read a.got ts a.rest a.part in
-      let c = bound (all_of at_comma (s.next_input limits) (a.got ∷ []) a.rest) _ x us a.after in
-      let i : NamesOf ts (a.got ∷ []) a.rest = (
-        subst (λ z. AreNames z a.rest (a.got ∷ []))
-            (sym w.is) g.one,
-        fair.inputs,
-      ) in
-      let f = kept_all at_comma (s.next_input limits) (NamesOf ts)
-      (λ p vs r ws t k e. s_input ts p vs r ws k e) (a.got ∷ []) a.rest c.got c.rest i c.part in
-      let v = gave (operation.Flatten c.got) x c.rest us c.after in
-      moved_by (IsOperation limits) (key keyword.Flatten n ∷ ts) _ c.rest us
-      (operation.Flatten c.got) x refl v.1 v.0 (g.flatten f.0 f.1)
+      let a = bound (s.inputs limits ts) _ x us q in
+      let f = s_inputs ts a.got a.rest a.part in
+      let v = gave (operation.Flatten a.got) x a.rest us a.after in
+      moved_by (IsOperation limits) (key keyword.Flatten n ∷ ts) _ a.rest us
+      (operation.Flatten a.got) x refl v.1 v.0 (g.flatten f.0 f.1)
   s_operation_after starts.Count n ts x us q =
       let a = bound (one name_at ts) _ x us q in
       let w = name_read a.got ts a.rest a.part in
@@ -280,6 +347,26 @@ module _ (limits : Limits) (fair : IsFair limits) where
       moved_by (IsOperation limits) (key keyword.Top n ∷ number a.got w.line ∷ name c.got o.line ∷
       c.rest) _ c.rest us (operation.Top a.got c.got) x (ap (λ z. key keyword.Top n ∷ z) (w.is
       ∙ ap (λ z. number a.got w.line ∷ z) o.is)) v.1 v.0 g.top
+  s_operation_after starts.CombineAll n ts x us q =
+      let a = bound (s.by_combiner ts) _ x us q in
+      let c = s_combined ts a.got a.rest a.part in
+      let v = gave (operation.CombineAll a.got.0 a.got.1) x a.rest us a.after in
+      moved_by (IsOperation limits)
+      (key keyword.Combineall n ∷ name a.got.0 c.n ∷ key keyword.By c.m ∷ c.vs) _ a.rest us
+      (operation.CombineAll a.got.0 a.got.1) x (ap (λ z. key keyword.Combineall n ∷ z) c.start)
+      v.1 v.0 (g.combine_all c.by_)
+  s_operation_after starts.Operate n ts x us q =
+      let a = bound (s.inputs limits ts) _ x us q in
+      let f = s_inputs ts a.got a.rest a.part in
+      let c = bound (one (keyword_at keyword.By) a.rest) _ x us a.after in
+      let m = keyed keyword.By c.got a.rest c.rest c.part in
+      let d = bound (one name_at c.rest) _ x us c.after in
+      let o = name_read d.got c.rest d.rest d.part in
+      let v = gave (operation.Operate a.got d.got) x d.rest us d.after in
+      let names : AreNames ts (key keyword.By m.line ∷ name d.got o.line ∷ d.rest) a.got
+      = subst (λ z. AreNames ts z a.got) (m.is ∙ ap (λ z. key keyword.By m.line ∷ z) o.is) f.0 in
+      moved_by (IsOperation limits) (key keyword.Operate n ∷ ts) _ d.rest us
+      (operation.Operate a.got d.got) x refl v.1 v.0 (g.operate names f.1)
 
   pub s_operation : (ts : List Token) (x : Operation) (us : List Token)
       → s.operation_at limits ts ≡ Ok (x, us) → IsOperation limits ts us x

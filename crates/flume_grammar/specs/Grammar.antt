@@ -236,8 +236,9 @@ module _ (limits : Limits) where
       some : {a b : ℕ} {ts us vs : List Token} {s : Body} {ss : List Body} → AreBodies ts us ss a
           → IsBody us vs s b → AreBodies ts vs (ss ++ s ∷ []) (max a b)
 
-  -- op = "do" name name | "group" name | "combine" name "by" comb | "flatten" name { "," name }
-  --    | "count" name | "join" name "," name | "top" num name
+  -- op = "do" name name [ "with" name ] | "group" name | "combine" name "by" comb
+  --    | "flatten" name { "," name } | "count" name | "join" name "," name | "top" num name
+  --    | "combineall" name "by" comb | "operate" name { "," name } "by" name
   pub data IsOperation : List Token → List Token → Operation → Type 0 where
     do_ : {c f : List ℕ} {n m k : ℕ} {ts : List Token}
         → IsOperation (key keyword.Do n ∷ name c m ∷ name f k ∷ ts) ts (operation.Do c f)
@@ -257,6 +258,16 @@ module _ (limits : Limits) where
     top : {digits c : List ℕ} {n m k : ℕ} {ts : List Token}
         → IsOperation (key keyword.Top n ∷ number digits m ∷ name c k ∷ ts) ts
         (operation.Top digits c)
+    combine_all : {c : List ℕ} {n m k : ℕ} {ts us : List Token} {b : Combiner}
+        → IsCombiner ts us b
+        → IsOperation (key keyword.Combineall n ∷ name c m ∷ key keyword.By k ∷ ts) us
+        (operation.CombineAll c b)
+    operate : {f : List ℕ} {n m k : ℕ} {ts us : List Token} {xs : List (List ℕ)}
+        → AreNames ts (key keyword.By m ∷ name f k ∷ us) xs → length xs ≤ limits.inputs
+        → IsOperation (key keyword.Operate n ∷ ts) us (operation.Operate xs f)
+    do_with : {c f o : List ℕ} {n m k i j : ℕ} {ts : List Token}
+        → IsOperation (key keyword.Do n ∷ name c m ∷ name f k ∷ key keyword.With i ∷ name o j ∷ ts)
+        ts (operation.DoWith c f o)
 
   -- let = "let" name { "," name } "=" op
   pub data IsLet : List Token → List Token → TurnLet → Type 0 where

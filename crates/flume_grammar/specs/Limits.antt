@@ -2,7 +2,8 @@
 use Rattle.std.specs.Prelude.{ℕ, ◌+◌, ◌<◌}
 
 -- how deep a function's tree and a type as it is written may be, and how many fields of a record,
--- members of a list literal, inputs of a flatten and outputs of a function there may be
+-- members of a list literal, inputs of a flatten, which are as many as objects of an operate, and
+-- outputs of a function there may be
 pub record Limits : Type 0 where
   pub depth : ℕ
   pub fields : ℕ

@@ -9,7 +9,7 @@ pub const MAX_FIELDS: usize = 16;
 /// The greatest number of members of a list literal.
 pub const MAX_MEMBERS: usize = 64;
 
-/// The greatest number of inputs of a flatten.
+/// The greatest number of inputs of a flatten, and of objects of an operate.
 pub const MAX_INPUTS: usize = 256;
 
 /// The greatest number of outputs of a function.

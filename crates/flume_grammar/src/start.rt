@@ -15,6 +15,7 @@ pub enum StatementStart {
 /// How an operation begins.
 #[derive(Clone, Copy, Debug)]
 pub enum OperationStart {
+    /// with an object or without one
     Do,
     Group,
     Combine,
@@ -22,6 +23,8 @@ pub enum OperationStart {
     Count,
     Join,
     Top,
+    CombineAll,
+    Operate,
 }
 
 /// How what stands behind the `=` of a let begins.

@@ -57,6 +57,9 @@ spelling keyword.Empty = codes "empty"
 spelling keyword.Repeat = codes "repeat"
 spelling keyword.As = codes "as"
 spelling keyword.Give = codes "give"
+spelling keyword.Combineall = codes "combineall"
+spelling keyword.Operate = codes "operate"
+spelling keyword.With = codes "with"
 
 abbrev pub keywords : List Keyword
 keywords = keyword.Type ∷ keyword.Input ∷ keyword.Fn ∷ keyword.Let ∷ keyword.Output ∷ keyword.From ∷
@@ -67,7 +70,8 @@ keywords = keyword.Type ∷ keyword.Input ∷ keyword.Fn ∷ keyword.Let ∷ key
     keyword.Else ∷ keyword.For ∷ keyword.In ∷ keyword.Emit ∷ keyword.Case ∷ keyword.Left ∷
     keyword.Right ∷ keyword.True ∷ keyword.False ∷ keyword.And ∷ keyword.Or ∷ keyword.Not ∷
     keyword.Len ∷ keyword.Words ∷ keyword.Concat ∷ keyword.Number ∷ keyword.Pick ∷
-    keyword.Empty ∷ keyword.Repeat ∷ keyword.As ∷ keyword.Give ∷ []
+    keyword.Empty ∷ keyword.Repeat ∷ keyword.As ∷ keyword.Give ∷ keyword.Combineall ∷
+    keyword.Operate ∷ keyword.With ∷ []
 
 -- the keyword that a word is
 unfoldable pub keyword_of : List ℕ → Option Keyword

@@ -57,9 +57,12 @@ pub enum Keyword {
     Repeat,
     As,
     Give,
+    Combineall,
+    Operate,
+    With,
 }
 
-const KEYWORDS: [Keyword; 51] = [
+const KEYWORDS: [Keyword; 54] = [
     Keyword::Type,
     Keyword::Input,
     Keyword::Fn,
@@ -111,6 +114,9 @@ const KEYWORDS: [Keyword; 51] = [
     Keyword::Repeat,
     Keyword::As,
     Keyword::Give,
+    Keyword::Combineall,
+    Keyword::Operate,
+    Keyword::With,
 ];
 
 impl Keyword {
@@ -170,6 +176,9 @@ impl Keyword {
             Keyword::Repeat => b"repeat",
             Keyword::As => b"as",
             Keyword::Give => b"give",
+            Keyword::Combineall => b"combineall",
+            Keyword::Operate => b"operate",
+            Keyword::With => b"with",
         }
     }
 }

@@ -97,7 +97,7 @@ input_filled : (t : Ty-F Ty) (columns : List Column) → input_at t ≡ Some col
 input_filled (Ty-F.Rec fields) columns e cells = cells_under-are_filled [] fields columns e cells
 input_filled _ columns e cells = cc
 
--- a record has an input's type exactly where its fields are_filled the columns
+-- a record has an input's type exactly where its fields fill the columns
 pub has_type-input : (t : Ty) (columns : List Column) (cells : List Value) → input_columns_of t
     ≡ Some columns → has_type (variant.Rec cells) t ≡ are_filled columns cells
 has_type-input t columns cells e =

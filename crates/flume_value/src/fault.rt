@@ -12,7 +12,7 @@ pub enum Kind {
     BadIndex,
     /// A text that is no number in range.
     BadNumber,
-    /// Where one value is wanted, none or several. No call gives it yet.
+    /// Where one value is wanted, none or several.
     NotOne,
 }
 

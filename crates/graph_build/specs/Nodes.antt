@@ -4,10 +4,13 @@
 use Rattle.std.specs.Prelude.{ℕ, ◌+◌, Bool, true, false, List, [], ◌∷◌, map, Option, Some, None}
 use Rattle.std.proofs.Common.{suc}
 use Rattle.combine_table.specs.declared.comb.Comb.TheVariants as by
+use Rattle.combine_table.specs.declared.comb.Comb.{Comb}
+use Rattle.exec_graph.specs.declared.graph.Act.{Act}
+use Rattle.exec_graph.specs.declared.graph.Act.TheVariants.{SideInput, Operate, Singleton}
 use Rattle.exec_graph.specs.declared.graph.Entry.{Entry}
 use Rattle.exec_graph.specs.declared.graph.Input.{Input}
 use Rattle.exec_graph.specs.declared.graph.Node.{Node}
-use Rattle.exec_graph.specs.declared.graph.Node.TheVariants.{Source, Flatten, Pdo, Gbk}
+use Rattle.exec_graph.specs.declared.graph.Node.TheVariants.{Source, Flatten, Pdo, Gbk, Barrier}
 use Rattle.exec_graph.specs.declared.graph.Place.{Place}
 use Rattle.exec_graph.specs.declared.step.Does.{Does}
 use Rattle.exec_graph.specs.declared.step.Does.TheVariants as does
@@ -69,6 +72,10 @@ call_in script origin function input =
 abbrev pub groups : ℕ → Place → Node
 groups origin input = Gbk input origin false None
 
+-- what the act makes of collections that it takes whole, which is what the collection is
+abbrev pub barrier : ℕ → Act → List Place → Node
+barrier origin act inputs = Barrier inputs origin true act
+
 -- what node n gives
 abbrev pub first_of : ℕ → Place
 first_of n = place n 0
@@ -99,6 +106,15 @@ top_nodes many origin n input =
     ∷ entry (n + 2) (step origin (does.Combine (by.Top many)) (first_of (n + 1)))
     ∷ entry (n + 3) (last_step origin does.Spread (first_of (n + 2))) ∷ []
 
+-- all members under one key, in one group, combined, and the value of the one pair that there is;
+-- where there is none, what the combiner makes of nothing
+abbrev pub whole_nodes : Comb → ℕ → ℕ → Place → List Entry
+whole_nodes comb origin n input =
+    entry n (step origin does.Solo input)
+    ∷ entry (n + 1) (groups origin (first_of n))
+    ∷ entry (n + 2) (step origin (does.Combine comb) (first_of (n + 1)))
+    ∷ entry (n + 3) (barrier origin (Singleton comb) (first_of (n + 2) ∷ [])) ∷ []
+
 -- ---- the nodes of any collection
 
 -- how many nodes stand before the last of a collection
@@ -111,6 +127,9 @@ before_last (made.Flatten sources) = 0
 before_last (made.Count source) = 2
 before_last (made.Join left right) = 4
 before_last (made.Top number source) = 3
+before_last (made.CombineAll source by) = 3
+before_last (made.Operate objects function) = 0
+before_last (made.DoWith source function object) = 0
 
 -- how many sources a collection has
 abbrev pub inputs_of : Made → ℕ
@@ -135,3 +154,9 @@ made_nodes script gives origin source n (made.Join left right) =
     join_nodes origin n (gives left) (gives right)
 made_nodes script gives origin source n (made.Top many input) =
     top_nodes many origin n (gives input)
+made_nodes script gives origin source n (made.CombineAll input by) =
+    whole_nodes by origin n (gives input)
+made_nodes script gives origin source n (made.Operate objects function) =
+    entry n (barrier origin (Operate function) (map gives objects)) ∷ []
+made_nodes script gives origin source n (made.DoWith input function object) =
+    entry n (barrier origin (SideInput function) (gives input ∷ gives object ∷ [])) ∷ []

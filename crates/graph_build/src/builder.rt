@@ -1,28 +1,22 @@
 // The graph of a program, built collection by collection in the order of the script.
-ghost use Rattle.std.specs.Prelude.{◌≡◌, ◌<◌, ◌^◌, [], ◌∷◌, ◌++◌, Some, length, map, IfOk, OnOk};
-ghost use Rattle.exec_graph.specs.declared.graph.Node.TheVariants.{Flatten};
+ghost use Rattle.std.specs.Prelude.{◌≡◌, ◌<◌, ◌^◌, [], ◌∷◌, ◌++◌, true, None, Some, length, map, IfOk, OnOk};
+ghost use Rattle.exec_graph.specs.declared.graph.Node.TheVariants.{Flatten, Gbk};
+ghost use Rattle.exec_graph.specs.declared.step.Does.TheVariants as does;
 ghost use Rattle.graph_build.specs.Built.{built, built_at as built_in};
 ghost use Rattle.graph_build.specs.Graphs as spec;
 ghost use Rattle.graph_build.specs.Nodes.{call_in, entry, last_step as last_step_of, made_nodes};
 
 use crate::built::built_at;
 use crate::nodes::{call, last_step, push_node, read_input};
-use crate::numbers::{ahead_of, before_last, inputs_of, number_of};
+use crate::numbers::{Start, ahead_of, before_last, inputs_of, number_of};
+use crate::objects::{push_beside, push_operate, push_whole};
 use crate::operations::{push_count, push_join, push_top};
-use crate::places::{place_in, places};
+use crate::places::{place_in, places, places_in};
+use combine_table::Comb;
 use exec_graph::{Does, Entry, Graph, Node, Place};
 use flume_value::Pile;
 use script_program::{Made, Program};
 use std::alloc::{AllocError, Global};
-
-/// Where the nodes of a collection begin: its number, that of the next input, and that of the next
-/// node.
-#[derive(Clone, Copy)]
-struct Start {
-    origin: u32,
-    source: u32,
-    node: u32,
-}
 
 /// The execution graph of a program.
 pub fn build(alloc: Global, program: &Program) -> Result<Graph, AllocError>
@@ -134,44 +128,28 @@ fn push_operation(
         ++ made_nodes program.now.script (spec.place_in places.now) start.origin start.source
         start.node made.now) }
 {
-    let Start {
-        origin,
-        source,
-        node,
-    } = start;
     match made {
-        Made::Input { .. } => push_node(nodes, node, read_input(source)),
+        Made::Input { .. } => push_node(nodes, start.node, read_input(start.source)),
         Made::Do {
             source,
             function,
             ..
-        } => {
-            let input = place_in(places, *source);
-            push_call(alloc, program, start, *function, input, nodes)
+        } => push_call(alloc, program, places, start, *source, *function, nodes),
+        Made::Group { source } => push_groups(places, start, *source, nodes),
+        Made::Combine { source, by } => push_combine(alloc, places, start, *source, *by, nodes),
+        Made::Flatten { sources } => push_flatten(alloc, places, start, sources.as_slice(), nodes),
+        Made::Count { source } => push_count(alloc, places, start, *source, nodes),
+        Made::Join { left, right } => push_join(alloc, places, start, *left, *right, nodes),
+        Made::Top { number, source } => push_top(alloc, places, start, *number, *source, nodes),
+        Made::CombineAll { source, by } => push_whole(alloc, places, start, *source, *by, nodes),
+        Made::Operate { objects, function } => {
+            push_operate(alloc, places, start, objects.as_slice(), *function, nodes)
         }
-        Made::Group { source } => {
-            let input = place_in(places, *source);
-            push_node(nodes, node, Node::Gbk(input, origin, true, None))
-        }
-        Made::Combine { source, by } => {
-            let input = place_in(places, *source);
-            push_last_step(alloc, start, Does::Combine(*by), input, nodes)
-        }
-        Made::Flatten { sources } => {
-            push_flatten(alloc, places, sources.as_slice(), node, nodes)
-        }
-        Made::Count { source } => {
-            push_count(alloc, origin, node, place_in(places, *source), nodes)
-        }
-        Made::Join { left, right } => {
-            let left = place_in(places, *left);
-            let right = place_in(places, *right);
-            push_join(alloc, origin, node, left, right, nodes)
-        }
-        Made::Top { number, source } => {
-            let input = place_in(places, *source);
-            push_top(alloc, *number, origin, node, input, nodes)
-        }
+        Made::DoWith {
+            source,
+            function,
+            object,
+        } => push_beside(alloc, places, start, *source, *function, *object, nodes),
     }
 }
 
@@ -179,30 +157,54 @@ fn push_operation(
 fn push_call(
     alloc: Global,
     program: &Program,
+    places: &[Place],
     start: Start,
+    source: usize,
     function: usize,
-    input: Place,
     nodes: &mut Pile<Entry>,
 ) -> Result<(), AllocError>
     ensures { OnOk result (nodes.new ≡ nodes.old
-        ++ entry start.node (call_in program.now.script start.origin function input) ∷ []) }
+        ++ entry start.node
+        (call_in program.now.script start.origin function (spec.place_in places.now source)) ∷ []) }
 {
+    let input = place_in(places, source);
     let node = call(alloc, program, start.origin, function, input)?;
     push_node(nodes, start.node, node)
 }
 
-/// Adds the one step of a collection.
-fn push_last_step(
-    alloc: Global,
+/// Adds the groups of a collection.
+fn push_groups(
+    places: &[Place],
     start: Start,
-    does: Does,
-    input: Place,
+    source: usize,
     nodes: &mut Pile<Entry>,
 ) -> Result<(), AllocError>
     ensures { OnOk result (nodes.new ≡ nodes.old
-        ++ entry start.node (last_step_of start.origin does input) ∷ []) }
+        ++ entry start.node (Gbk (spec.place_in places.now source) start.origin true None) ∷ []) }
 {
-    let node = last_step(alloc, start.origin, does, input)?;
+    let input = place_in(places, source);
+    push_node(
+        nodes,
+        start.node,
+        Node::Gbk(input, start.origin, true, None),
+    )
+}
+
+/// Adds the step that combines the list of each group.
+fn push_combine(
+    alloc: Global,
+    places: &[Place],
+    start: Start,
+    source: usize,
+    by: Comb,
+    nodes: &mut Pile<Entry>,
+) -> Result<(), AllocError>
+    ensures { OnOk result (nodes.new ≡ nodes.old
+        ++ entry start.node
+        (last_step_of start.origin (does.Combine by) (spec.place_in places.now source)) ∷ []) }
+{
+    let input = place_in(places, source);
+    let node = last_step(alloc, start.origin, Does::Combine(by), input)?;
     push_node(nodes, start.node, node)
 }
 
@@ -210,26 +212,15 @@ fn push_last_step(
 fn push_flatten(
     alloc: Global,
     places: &[Place],
+    start: Start,
     sources: &[usize],
-    number: u32,
     nodes: &mut Pile<Entry>,
 ) -> Result<(), AllocError>
     ensures { OnOk result (nodes.new ≡ nodes.old
-        ++ entry number (Flatten (map (spec.place_in places.now) sources.now)) ∷ []) }
+        ++ entry start.node (Flatten (map (spec.place_in places.now) sources.now)) ∷ []) }
 {
     let inputs = places_in(alloc, places, sources)?;
-    push_node(nodes, number, Node::Flatten(inputs))
-}
-
-/// The places of the collections of these numbers.
-fn places_in(alloc: Global, places: &[Place], sources: &[usize]) -> Result<Pile<Place>, AllocError>
-    ensures { IfOk result (λ inputs. inputs ≡ map (spec.place_in places.now) sources.now) }
-{
-    let mut inputs = Pile::new(alloc);
-    for source in sources {
-        inputs.push(place_in(places, *source))?;
-    }
-    Ok(inputs)
+    push_node(nodes, start.node, Node::Flatten(inputs))
 }
 
 /// The places of the collections that are written out.

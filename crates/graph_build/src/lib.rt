@@ -2,8 +2,9 @@
 //!
 //! `build` makes the graph of a program exactly as `graph_of` (specs/Graphs.antt) defines it: for
 //! each needed collection, in the order of the script, the nodes that make it (specs/Nodes.antt),
-//! numbered one after another from 0. Counts, joins and greatest members are made of steps, groups
-//! and combinations; of each of these the last node alone gives what the collection is.
+//! numbered one after another from 0. Counts, joins, greatest members and all members as one value
+//! are made of steps, groups and combinations; of each of these the last node alone gives what the
+//! collection is. What takes objects is a barrier, and so is what makes one.
 //!
 //! A call of a function is one node, at the first of its names (specs/Built.antt), where one of
 //! them is needed. It has an output for each name, in order; those that are needed have numbers,
@@ -15,6 +16,7 @@ mod built;
 mod built_for;
 mod nodes;
 mod numbers;
+mod objects;
 mod operations;
 mod outputs;
 mod places;

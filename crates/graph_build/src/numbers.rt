@@ -9,6 +9,15 @@ use exec_graph::Place;
 use script_program::{Made, Program};
 use std::alloc::{AllocError, Global};
 
+/// Where the nodes of a collection begin: its number, that of the next input, and that of the next
+/// node.
+#[derive(Clone, Copy)]
+pub(crate) struct Start {
+    pub(crate) origin: u32,
+    pub(crate) source: u32,
+    pub(crate) node: u32,
+}
+
 /// The number in 32 bits: as many nodes as those can't count are more than memory holds.
 pub(crate) fn number_of(number: usize) -> Result<u32, AllocError>
     ensures { IfOk result (λ n. n ≡ number) }
@@ -37,6 +46,7 @@ pub(crate) fn before_last(made: &Made) -> u32
         Made::Count { .. } => 2,
         Made::Join { .. } => 4,
         Made::Top { .. } => 3,
+        Made::CombineAll { .. } => 3,
         _ => 0,
     }
 }

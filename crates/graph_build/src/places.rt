@@ -1,5 +1,5 @@
 // The places of collections in the graph.
-ghost use Rattle.std.specs.Prelude.{◌≡◌, ◌+◌, ◌<◌, ◌^◌, [], ◌∷◌, IfOk, length, slice_index};
+ghost use Rattle.std.specs.Prelude.{◌≡◌, ◌+◌, ◌<◌, ◌^◌, [], ◌∷◌, IfOk, length, map, slice_index};
 ghost use Rattle.graph_build.specs.Calls.{emitted_as};
 ghost use Rattle.graph_build.specs.Graphs as spec;
 ghost use Rattle.graph_build.specs.Wanted.{wanted_at as wanted_in};
@@ -8,6 +8,7 @@ use crate::numbers::{first_of, giving};
 use crate::outputs::count_needed;
 use crate::wanted::wanted_at;
 use exec_graph::Place;
+use flume_value::Pile;
 use script_program::{Made, Program};
 use std::alloc::{AllocError, Global};
 
@@ -91,4 +92,19 @@ pub(crate) fn place_in(places: &[Place], number: usize) -> Place
         Some(place) => *place,
         None => first_of(0),
     }
+}
+
+/// The places of the collections of these numbers.
+pub(crate) fn places_in(
+    alloc: Global,
+    places: &[Place],
+    sources: &[usize],
+) -> Result<Pile<Place>, AllocError>
+    ensures { IfOk result (λ inputs. inputs ≡ map (spec.place_in places.now) sources.now) }
+{
+    let mut inputs = Pile::new(alloc);
+    for source in sources {
+        inputs.push(place_in(places, *source))?;
+    }
+    Ok(inputs)
 }

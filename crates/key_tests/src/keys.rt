@@ -79,7 +79,9 @@ let both = flatten kept, passed
 output both to \"both.csv\"
 ";
 
-static OTHERS: [(&[u8], &[u8], bool); 14] = [
+type Bytes = &'static [u8];
+
+static OTHERS: [(Bytes, Bytes, bool); 14] = [
     (SPACED, b"kept", true),
     (SPACED, b"passed", true),
     (SPACED, b"both", true),
@@ -96,7 +98,75 @@ static OTHERS: [(&[u8], &[u8], bool); 14] = [
     (REPEATED, b"both", false),
 ];
 
-type Bytes = &'static [u8];
+/// A script with objects.
+const OBJECTS: &[u8] = b"type row = {k: int}
+input logs: row from \"logs.csv\"
+input more: row from \"more.csv\"
+fn k_of(r: row) -> int { emit r.k }
+fn twice(n: int) -> int { emit n * 2 }
+fn part(p: {r: row, n: int}) -> row { emit p.r }
+let numbers = do more k_of
+let total = combineall numbers by sum
+let double = operate total by twice
+let parts = do logs part with double
+output parts to \"parts.csv\"
+";
+
+/// Another combiner of `total`.
+const OTHER_COMBINER: &[u8] = b"type row = {k: int}
+input logs: row from \"logs.csv\"
+input more: row from \"more.csv\"
+fn k_of(r: row) -> int { emit r.k }
+fn twice(n: int) -> int { emit n * 2 }
+fn part(p: {r: row, n: int}) -> row { emit p.r }
+let numbers = do more k_of
+let total = combineall numbers by max
+let double = operate total by twice
+let parts = do logs part with double
+output parts to \"parts.csv\"
+";
+
+/// Another body of what `double` is operated by.
+const OTHER_OPERATED: &[u8] = b"type row = {k: int}
+input logs: row from \"logs.csv\"
+input more: row from \"more.csv\"
+fn k_of(r: row) -> int { emit r.k }
+fn twice(n: int) -> int { emit n + n }
+fn part(p: {r: row, n: int}) -> row { emit p.r }
+let numbers = do more k_of
+let total = combineall numbers by sum
+let double = operate total by twice
+let parts = do logs part with double
+output parts to \"parts.csv\"
+";
+
+/// Another body of what is called beside `double`.
+const OTHER_PART: &[u8] = b"type row = {k: int}
+input logs: row from \"logs.csv\"
+input more: row from \"more.csv\"
+fn k_of(r: row) -> int { emit r.k }
+fn twice(n: int) -> int { emit n * 2 }
+fn part(p: {r: row, n: int}) -> row { emit {k: p.n} }
+let numbers = do more k_of
+let total = combineall numbers by sum
+let double = operate total by twice
+let parts = do logs part with double
+output parts to \"parts.csv\"
+";
+
+static OTHER_OBJECTS: [(Bytes, Bytes, bool); 11] = [
+    (OBJECTS, b"parts", true),
+    (OTHER_COMBINER, b"numbers", true),
+    (OTHER_COMBINER, b"total", false),
+    (OTHER_COMBINER, b"double", false),
+    (OTHER_COMBINER, b"parts", false),
+    (OTHER_OPERATED, b"total", true),
+    (OTHER_OPERATED, b"double", false),
+    (OTHER_OPERATED, b"parts", false),
+    (OTHER_PART, b"total", true),
+    (OTHER_PART, b"double", true),
+    (OTHER_PART, b"parts", false),
+];
 
 /// The bytes of two files.
 static FILES: [(Bytes, Bytes); 2] = [(b"logs.csv", b"k\n1\n"), (b"more.csv", b"k\n2\n")];
@@ -153,21 +223,27 @@ fn key(alloc: Global, script: &[u8], files: &[File], name: &[u8]) -> Option<Vec<
 /// Whether two scripts with their files give a collection one key.
 fn is_same(
     alloc: Global,
-    other: &[u8],
+    own: &[u8],
     files: &[File],
+    other: &[u8],
     changed: &[File],
     name: &[u8],
 ) -> Option<bool> {
-    let own = key(alloc, SCRIPT, files, name)?;
+    let own = key(alloc, own, files, name)?;
     let other = key(alloc, other, changed, name)?;
     Some(own.as_slice() == other.as_slice())
 }
 
-/// The place of the first case of the scripts that is otherwise.
-fn first_other_script(alloc: Global, files: &[File]) -> Option<usize> {
-    for place in 0..OTHERS.len() {
-        let (other, name, same) = OTHERS[place];
-        if is_same(alloc, other, files, files, name) != Some(same) {
+/// The place of the first of these cases, which are beside this script, that is otherwise.
+fn first_other_script(
+    alloc: Global,
+    files: &[File],
+    own: &[u8],
+    others: &[(Bytes, Bytes, bool)],
+) -> Option<usize> {
+    for place in 0..others.len() {
+        let (other, name, same) = others[place];
+        if is_same(alloc, own, files, other, files, name) != Some(same) {
             return Some(place);
         }
     }
@@ -178,7 +254,7 @@ fn first_other_script(alloc: Global, files: &[File]) -> Option<usize> {
 fn first_other_file(alloc: Global, files: &[File], changed: &[File]) -> Option<usize> {
     for place in 0..CHANGED.len() {
         let (name, same) = CHANGED[place];
-        if is_same(alloc, SCRIPT, files, changed, name) != Some(same) {
+        if is_same(alloc, SCRIPT, files, SCRIPT, changed, name) != Some(same) {
             return Some(place);
         }
     }
@@ -189,7 +265,14 @@ fn first_other_file(alloc: Global, files: &[File], changed: &[File]) -> Option<u
 fn keys_of_other_scripts(rt: HostRuntime) -> Result<(), Fail> {
     let alloc = rt.alloc();
     let files = files_of(alloc, &FILES)?;
-    assert_eq!(rt; first_other_script(alloc, files.as_slice()), None);
+    assert_eq!(rt;
+        first_other_script(alloc, files.as_slice(), SCRIPT, &OTHERS),
+        None
+    );
+    assert_eq!(rt;
+        first_other_script(alloc, files.as_slice(), OBJECTS, &OTHER_OBJECTS),
+        None
+    );
     Ok(())
 }
 

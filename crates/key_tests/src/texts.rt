@@ -6,7 +6,7 @@ use std::alloc::{AllocError, Global};
 use std::test::Fail;
 
 /// A script, and each text of its statements with a line end behind it.
-static TEXTS: [(&[u8], &[u8]); 6] = [
+static TEXTS: [(&[u8], &[u8]); 7] = [
     (b"", b""),
     (b"# none\n 12 } {", b""),
     (
@@ -22,6 +22,10 @@ static TEXTS: [(&[u8], &[u8]); 6] = [
         b"fn f ( x : text ) -> text { let y = \"a\\n\\\"\\\\\" emit y }\nlet z = count y\n",
     ),
     (b"} = let a = count b", b"let a = count b\n"),
+    (
+        b"let a=combineall b by\nsum let c=operate a,a by f let d=do b g with c",
+        b"let a = combineall b by sum\nlet c = operate a , a by f\nlet d = do b g with c\n",
+    ),
 ];
 
 fn lines(alloc: Global, texts: &[Str]) -> Result<Vec<u8>, AllocError> {

@@ -1,5 +1,5 @@
 -- How a task has asked its host that asks for all its places at once.
-use Rattle.std.proofs.Common.{◌≡◌, ◌+◌, ℕ, arith, subst}
+use Rattle.std.proofs.Common.{◌+◌, ℕ, arith}
 use Rattle.crew.specs.declared.drill.Entry.{Entry}
 use Rattle.crew.specs.Attempts.{Ran, StoppedEarly}
 use Rattle.crew.specs.Hosts.{Account}

@@ -15,11 +15,12 @@ use Rattle.exec_plan.specs.declared.plan.Stage.TheVariants.{Mscr}
 use Rattle.exec_plan.specs.declared.plan.Take.{Take}
 use Rattle.exec_plan.specs.Wellformed.{Exists, IsLiftOk}
 use Rattle.task_lists.specs.Outs.{AreMapOuts, IsMapOut}
-use Rattle.task_lists.specs.Tasks.{Task, given_to, map_task_of}
+use Rattle.task_lists.specs.Tasks.{Task, given_to, map_task_of, world_for}
 use Rattle.task_lists.specs.Typing.{AreGroupable}
 use Rattle.forest_steps.specs.Functions.{world_of}
 use Rattle.forest_steps.specs.Safety.{SafeOf}
 use Rattle.task_safety.specs.Stages.{CanRunStage}
+use Rattle.task_safety.specs.Taking.{taking}
 use Rattle.task_safety.proofs.Fitting.{IsOutSomewhere, each_placed, few_tasks, out_at}
 use Rattle.map_shard.specs.Tables.{split, table}
 use Rattle.map_shard.specs.Work.{CanWork, IsFit, IsWorkValue, Work, work_of}
@@ -66,8 +67,8 @@ module _ {F : Type 0} (functions : F) (sources : List (List Value))
         (λ r c at. fit_at m i r c at (out_at s.inputs false 0 s.outputs ready.ok.channels r c at))
 
     pub can_work : 0 < shards → shards ≤ 1024 → 0 < partitions
-        → ((m i : ℕ) → Each (SafeOf (world_of called) takes (task_of m i).does)
-        (task_of m i).elements)
+        → ((m i : ℕ) → Each (SafeOf (world_for (world_of called) (task_of m i))
+        (taking (task_of m i).beside takes) (task_of m i).does) (task_of m i).elements)
         → CanWork (world_of called) takes Work_
     can_work some few some_partitions safe =
         let inputs = ready.ok.few_inputs in record {

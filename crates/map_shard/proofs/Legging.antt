@@ -1,7 +1,7 @@
 -- What the legs of a task come to together.
 use Rattle.std.proofs.Common.{◌≡◌, ◌+◌, ◌-◌, ◌^◌, ℕ, zero, suc, true, false, cond, Bool, ◌&&◌, ◌||◌, not, List, [], ◌∷◌, ◌++◌, length, map, Option, Some, None, refl, sym, ap, ◌∙◌, subst, arith, append-nil, append_assoc}
 use Rattle.std.specs.Prelude.{◌==◌, All, Ok, drop, min, slice_get}
-use Rattle.std.specs.List.{AllByRecursion, AllZip, flat_map, list_all, list_any}
+use Rattle.std.specs.List.{AllByRecursion, AllZip, list_all, list_any}
 use Rattle.std.proofs.lemmas.Grind.{flat_map-append}
 use Rattle.std.proofs.lemmas.List.Elements.{All-from_recursion, recursion_from_All}
 use Rattle.flume_value.specs.declared.value.Value.{Value}
@@ -27,7 +27,7 @@ use Rattle.map_shard.specs.declared.filling.Filling.{Filling}
 use Rattle.map_shard.specs.declared.legs.Legs.{Legs}
 use Rattle.map_shard.specs.inner.Fillings.{IsFilled, IsFilling}
 use Rattle.map_shard.specs.inner.Legs.{AreLegs, count_with, each_with}
-use Rattle.map_shard.specs.inner.Sending.{CanSend, taken, taken_by, takes_of}
+use Rattle.map_shard.specs.inner.Sending.{CanSend, taken, takes_of}
 use Rattle.map_shard.specs.inner.Single.{is_single, takes_once}
 
 and_left : (x y : Bool) → (x && y) ≡ true → x ≡ true

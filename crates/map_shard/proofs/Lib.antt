@@ -6,6 +6,7 @@ pub mod Handing
 pub mod Later
 pub mod Legging
 pub mod Sending
+pub mod Siding
 pub mod Singling
 pub mod Taking
 pub mod Working

@@ -16,7 +16,7 @@ use Rattle.exec_plan.specs.declared.plan.OutChannel.{OutChannel}
 use Rattle.exec_plan.specs.declared.plan.OutChannel.TheVariants.{Group, Pass}
 use Rattle.task_lists.specs.Runs.{all_given, gives}
 use Rattle.task_lists.specs.Outs.{AreSentPairs, IsSent}
-use Rattle.task_lists.specs.Tasks.{Task, given_to, task_gives}
+use Rattle.task_lists.specs.Tasks.{Task, given_to, task_gives, world_for}
 use Rattle.forest_courses.proofs.Numbering.{from_numbered, outs_ups, ups}
 use Rattle.task_lists.specs.Typing.{AreGroupable}
 use Rattle.map_shard.specs.Work.{IsFit}
@@ -56,7 +56,8 @@ at_number F (Some f) j is h =
 -- ---- what is taken is what the task gives
 module _ (w : World) (ins : List InChannel) (m : ℕ) (c : InChannel) (task : Task)
     (is : slice_get ins m ≡ Some c) (does : task.does ≡ c.does) (numbered : IsNumbered c.does)
-    (lists : List (List Value)) (made : lists ≡ all_given w task.does task.elements) where
+    (lists : List (List Value))
+    (made : lists ≡ all_given (world_for w task) task.does task.elements) where
   one_taken : (k : Take) → Exists ins k
       → taken_by m lists k ≡ cond (k.channel == m) (task_gives w task k.out) []
   one_taken k there = elim (k.channel == m) as
@@ -65,7 +66,7 @@ module _ (w : World) (ins : List InChannel) (m : ℕ) (c : InChannel) (task : Ta
         | true ↦ λ e. let same : k.channel ≡ m = grind (arith, e) in
             let found : slice_get ins k.channel ≡ Some c = ap (slice_get ins) same ∙ is in
             ap (λ l. or_none (slice_get l k.out)) made
-            ∙ at_number (λ j. gives w task.does task.elements j) task.does k.out
+            ∙ at_number (λ j. gives (world_for w task) task.does task.elements j) task.does k.out
             (subst IsNumbered (sym does) numbered)
             (subst (λ d. k.out < outs d) (sym does)
             (subst (λ o. k.out < outs_at o) found there))

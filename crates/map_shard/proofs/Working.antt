@@ -1,5 +1,5 @@
 -- A map task by its number.
-use Rattle.std.proofs.Common.{◌≡◌, ◌<◌, ◌≤◌, ◌/◌, ◌%◌, ℕ, zero, suc, cond, List, [], ◌∷◌, length, get_or, map, Some, refl, sym, ap, ◌∙◌, subst, arith}
+use Rattle.std.proofs.Common.{◌≡◌, ◌<◌, ◌≤◌, ◌/◌, ◌%◌, ℕ, zero, suc, cond, List, [], ◌∷◌, length, get_or, map, Option, Some, refl, sym, ap, ◌∙◌, subst, arith}
 use Rattle.std.specs.Prelude.{◌==◌, slice_get, Result, Ok, Err}
 use Rattle.std.specs.List.{AllByRecursion, AllZip, flat_map}
 use Rattle.std.specs.Option.{option_map_or}
@@ -16,10 +16,11 @@ use Rattle.exec_plan.specs.declared.plan.OutChannel.{OutChannel}
 use Rattle.exec_plan.specs.declared.plan.Take.{Take}
 use Rattle.task_lists.specs.Runs.{all_given, kept_count}
 use Rattle.task_lists.specs.Outs.{IsMapValue, IsSent}
-use Rattle.task_lists.specs.Tasks.{Task, given_to, map_task, no_task}
-use Rattle.forest_steps.specs.Functions.{world_of}
+use Rattle.task_lists.specs.Tasks.{Task, elements_beside, given_to, map_task, no_task, value_beside, world_for}
 use Rattle.forest_steps.specs.Safety.{SafeOf}
 use Rattle.forest_courses.proofs.Worlds.{same_counts, same_gives, same_traps}
+use Rattle.task_safety.specs.Taking.{taking}
+use Rattle.task_safety.proofs.Taken.{same_beside}
 use Rattle.map_shard.specs.Work.{Work, CanWork, IsReady, IsWorkValue, lists_of, shard_task, split_of, task_at, work_count}
 use Rattle.map_shard.specs.inner.Legs.{IsWholeOr}
 use Rattle.map_shard.specs.inner.Sending.{CanSend}
@@ -38,12 +39,16 @@ found P (x ∷ xs) zero all h = (x, refl, all.0)
 found P (x ∷ xs) (suc i) all h = found P xs i all.1 (omega arith)
 
 -- ---- the same in worlds in which functions answer alike
+same_for : (v w : World) → v.called ≡ w.called → (task : Task)
+    → (world_for v task).called ≡ (world_for w task).called
+same_for v w same task = same_beside task.beside v w same
+
 pub same_given_to : (v w : World) → v.called ≡ w.called → (task : Task) (m : ℕ)
     → given_to v task m ≡ given_to w task m
 same_given_to v w same task m =
+    let gives = same_gives (world_for v task) (world_for w task) (same_for v w same task) in
     λ i takes. flat_map
-    (λ (k : Take). cond (k.channel == m) (same_gives v w same task.does task.elements k.out i) [])
-    takes
+    (λ (k : Take). cond (k.channel == m) (gives task.does task.elements k.out i) []) takes
 
 module _ {F : Type 0} (work : Work F) (m i : ℕ) where
   abbrev IsValue : World → Result MapOut Trap → Type 0
@@ -52,15 +57,20 @@ module _ {F : Type 0} (work : Work F) (m i : ℕ) where
   same_out : (v w : World) → v.called ≡ w.called → (out : Result MapOut Trap) → IsValue v out
       → IsValue w out
   same_out v w same (Ok out) is =
-      let task = shard_task work m i in record {
-        calm = sym (same_traps v w same task.does task.elements) ∙ is.calm;
+      let task = shard_task work m i in
+      let a : World = world_for v task in
+      let b : World = world_for w task in
+      let alike : a.called ≡ b.called = same_for v w same task in
+      record {
+        calm = sym (same_traps a b alike task.does task.elements) ∙ is.calm;
         sent = subst (λ given. AllZip (IsSent work.partitions given) work.stage.outputs out.sent)
             (same_given_to v w same task m) is.sent;
-        counts = is.counts ∙ ap (map kept_count) (same_counts v w same task.does task.elements);
+        counts = is.counts ∙ ap (map kept_count) (same_counts a b alike task.does task.elements);
       }
   same_out v w same (Err trap) is =
       let task = shard_task work m i in
-      ap (λ ts. slice_get ts 0) (sym (same_traps v w same task.does task.elements)) ∙ is
+      ap (λ ts. slice_get ts 0) (sym (same_traps (world_for v task) (world_for w task)
+      (same_for v w same task) task.does task.elements)) ∙ is
 
   of_channel : (c : InChannel) → slice_get work.stage.inputs m ≡ Some c
       → shard_task work m i ≡ map_task (split_of work) (lists_of work) c i
@@ -84,25 +94,31 @@ module _ {F : Type 0} {w : World} {takes : ℕ → Value → Type 0} {work : Wor
   ready : IsReady w takes work (k / work.shards) (k % work.shards)
   ready = can.ready (k / work.shards) (k % work.shards) channel_below (mod-lt k can.shards)
 
-  -- the channel that it reads, and its elements
+  -- the channel that it reads, its elements, and the value beside which its steps are called
   pub task_is : {inputs : List InChannel} {c : InChannel} {list elements : List Value}
-      → inputs ≡ work.stage.inputs → c ≡ get_or inputs (k / work.shards) c
-      → list ≡ lists_of work c.reads → elements ≡ shard work.shards (k % work.shards) list
-      → task_at work k ≡ record { elements = elements; does = c.does }
-  task_is {inputs} {c} {list} {elements} same is at e =
+      {object : Option Value} → inputs ≡ work.stage.inputs
+      → c ≡ get_or inputs (k / work.shards) c
+      → list ≡ elements_beside (lists_of work) c.beside (lists_of work c.reads)
+      → elements ≡ shard work.shards (k % work.shards) list
+      → object ≡ value_beside (lists_of work) c.beside
+      → task_at work k ≡ record { elements = elements; beside = object; does = c.does }
+  task_is {inputs} {c} {list} {elements} {object} same is at e valued =
       let i = k % work.shards in
       of_channel work (k / work.shards) i c
       (get_is work.stage.inputs (k / work.shards) c channel_below
       (is ∙ ap (λ (l : List InChannel). get_or l (k / work.shards) c) same))
       ∙ (λ j. record {
         elements = sym (e ∙ ap (shard work.shards i) at) j;
+        beside = sym valued j;
         does = c.does;
       })
 
   pub safe : {task : Task} → task_at work k ≡ task
-      → AllByRecursion (SafeOf w takes task.does) task.elements
+      → AllByRecursion (SafeOf (world_for w task) (taking task.beside takes) task.does)
+      task.elements
   safe is =
-      subst (λ (t : Task). AllByRecursion (SafeOf w takes t.does) t.elements) is ready.safe
+      subst (λ (t : Task). AllByRecursion (SafeOf (world_for w t) (taking t.beside takes) t.does)
+      t.elements) is ready.safe
 
   channel : (c : InChannel) × (slice_get work.stage.inputs (k / work.shards) ≡ Some c)
       × IsNumbered c.does
@@ -116,7 +132,8 @@ module _ {F : Type 0} {w : World} {takes : ℕ → Value → Type 0} {work : Wor
 
   -- ---- what its steps give is fit for the output channels, and what those get is right
   abbrev Given : List (List Value)
-  Given = all_given w (task_at work k).does (task_at work k).elements
+  Given =
+      all_given (world_for w (task_at work k)) (task_at work k).does (task_at work k).elements
 
   can_send_all : AllByRecursion (CanSend (k / work.shards) Given) work.stage.outputs
   can_send_all =
@@ -125,17 +142,19 @@ module _ {F : Type 0} {w : World} {takes : ℕ → Value → Type 0} {work : Wor
 
   pub fit : {task : Task} → task_at work k ≡ task → (os : List OutChannel)
       → os ≡ work.stage.outputs
-      → AllByRecursion (CanSend (k / work.shards) (all_given w task.does task.elements)) os
+      → AllByRecursion
+      (CanSend (k / work.shards) (all_given (world_for w task) task.does task.elements)) os
   fit {task} is os same =
-      subst (AllByRecursion (CanSend (k / work.shards) (all_given w task.does task.elements)))
+      subst (AllByRecursion
+      (CanSend (k / work.shards) (all_given (world_for w task) task.does task.elements)))
       (sym same)
       (subst (λ (t : Task). AllByRecursion
-      (CanSend (k / work.shards) (all_given w t.does t.elements)) work.stage.outputs) is
-      can_send_all)
+      (CanSend (k / work.shards) (all_given (world_for w t) t.does t.elements))
+      work.stage.outputs) is can_send_all)
 
   whole_value : (out : Result MapOut Trap)
-      → IsWholeOr w work.partitions (k / work.shards) (task_at work k).does work.stage.outputs
-      (task_at work k).elements out
+      → IsWholeOr (world_for w (task_at work k)) work.partitions (k / work.shards)
+      (task_at work k).does work.stage.outputs (task_at work k).elements out
       → IsWorkValue w.called work k out
   whole_value (Ok out) whole u alike =
       same_out work (k / work.shards) (k % work.shards) w u (sym alike) (Ok out) (record {
@@ -150,11 +169,12 @@ module _ {F : Type 0} {w : World} {takes : ℕ → Value → Type 0} {work : Wor
 
   pub value_of : {task : Task} → task_at work k ≡ task → (os : List OutChannel)
       → os ≡ work.stage.outputs → (out : Result MapOut Trap)
-      → IsWholeOr w work.partitions (k / work.shards) task.does os task.elements out
+      → IsWholeOr (world_for w task) work.partitions (k / work.shards) task.does os task.elements
+      out
       → IsWorkValue w.called work k out
   value_of {task} is os same out whole =
       whole_value out
-      (subst (λ (t : Task). IsWholeOr w work.partitions (k / work.shards) t.does
+      (subst (λ (t : Task). IsWholeOr (world_for w t) work.partitions (k / work.shards) t.does
       work.stage.outputs t.elements out) (sym is)
-      (subst (λ (cs : List OutChannel). IsWholeOr w work.partitions (k / work.shards) task.does cs
-      task.elements out) same whole))
+      (subst (λ (cs : List OutChannel). IsWholeOr (world_for w task) work.partitions
+      (k / work.shards) task.does cs task.elements out) same whole))

@@ -17,8 +17,9 @@ use Rattle.exec_plan.specs.declared.plan.Mscr.{Mscr}
 use Rattle.exec_plan.specs.declared.plan.Take.{Take}
 use Rattle.exec_plan.specs.contracts.plan.Mscr as stages
 use Rattle.task_lists.specs.Outs.{IsMapValue}
-use Rattle.task_lists.specs.Tasks.{Lists, Split, Task, given_to, map_count, map_task_of, places}
+use Rattle.task_lists.specs.Tasks.{Lists, Split, Task, given_to, map_count, map_task_of, places, world_for}
 use Rattle.task_lists.specs.Typing.{AreGroupable}
+use Rattle.task_safety.specs.Taking.{taking}
 use Rattle.forest_steps.specs.Safety.{SafeOf}
 use Rattle.map_shard.specs.Tables.{split, table}
 
@@ -91,11 +92,12 @@ IsFit ins given (Pass k number) = Exists ins k
 IsFit ins given (Group g) =
     AllByRecursion (Exists ins) g.takes × AreGroupable g.lifted (given g.takes)
 
--- the steps of shard i of input channel m may be called on its elements, and what they give is fit
--- for the output channels
+-- the steps of shard i of input channel m may be called on its elements, beside the value of its
+-- object where there is one, and what they give is fit for the output channels
 pub record IsReady {F : Type 0} (w : World) (takes : ℕ → Value → Type 0) (work : Work F) (m i : ℕ)
     : Type 0 where
-  pub safe : AllByRecursion (SafeOf w takes (shard_task work m i).does)
+  pub safe : AllByRecursion (SafeOf (world_for w (shard_task work m i))
+      (taking (shard_task work m i).beside takes) (shard_task work m i).does)
       (shard_task work m i).elements
   pub fit : AllByRecursion
       (IsFit work.stage.inputs (given_to w (shard_task work m i) m)) work.stage.outputs

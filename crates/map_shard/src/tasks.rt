@@ -3,8 +3,9 @@ ghost use Rattle.std.specs.Prelude.{◌≡◌, ◌<◌, IfOk};
 ghost use Rattle.forest_steps.specs.Functions.{world_of};
 ghost use Rattle.map_shard.specs.Work.{CanWork, IsWorkValue, task_at, work_count};
 
+use crate::beside::run_beside;
 use crate::legs::run_task;
-use crate::lists::list_of;
+use crate::reading::{called_on, object_value};
 use crew::{Attempt, Spot, Tasks};
 use exec_plan::Mscr;
 use flume_collection::Trap;
@@ -95,13 +96,13 @@ impl<'a, F: Functions> MapTasks<'a, F> {
         }
     }
 
-    // The elements of a task.
+    // The elements of a task, on which its steps are called.
     fn elements_of(&self, task: u32) -> &[Value]
         requires { task < work_count self.now }
         ensures { result.now ≡ (task_at self.now task).elements }
     {
         let channel = &self.stage.inputs.as_slice()[(task / self.shards) as usize];
-        let list = list_of(self.sources, self.results, channel.reads);
+        let list = called_on(self.sources, self.results, channel);
         shard_of(list, self.shards, task % self.shards)
     }
 
@@ -111,18 +112,30 @@ impl<'a, F: Functions> MapTasks<'a, F> {
         ensures { IfOk result (IsWorkValue (F.called self.now.functions) self.now task) }
     {
         let channel = &self.stage.inputs.as_slice()[(task / self.shards) as usize];
-        let list = list_of(self.sources, self.results, channel.reads);
+        let list = called_on(self.sources, self.results, channel);
         let elements = shard_of(list, self.shards, task % self.shards);
         let channels = self.stage.outputs.as_slice();
-        run_task(
-            alloc,
-            self.functions,
-            &channel.does,
-            channels,
-            task / self.shards,
-            self.partitions,
-            elements,
-        )
+        match object_value(self.sources, self.results, channel.beside) {
+            None => run_task(
+                alloc,
+                self.functions,
+                &channel.does,
+                channels,
+                task / self.shards,
+                self.partitions,
+                elements,
+            ),
+            Some(object) => run_beside(
+                alloc,
+                self.functions,
+                object,
+                &channel.does,
+                channels,
+                task / self.shards,
+                self.partitions,
+                elements,
+            ),
+        }
     }
 }
 

@@ -1,7 +1,7 @@
 -- What the equations of a script's collections read is there.
-use Rattle.std.proofs.Common.{◌≡◌, ℕ, zero, suc, ◌+◌, ◌-◌, ◌<◌, List, [], ◌∷◌, ◌++◌, length, Option, Some, None, Ok, Err, slice_get, refl, sym, ap, ◌∙◌, subst, arith}
+use Rattle.std.proofs.Common.{◌≡◌, ℕ, zero, suc, ◌+◌, ◌-◌, ◌<◌, true, List, [], ◌∷◌, ◌++◌, length, Option, Some, None, Ok, Err, slice_get, refl, sym, ap, ◌∙◌, subst, arith}
 use Rattle.std.specs.Prelude.{IfSome, IsSomeAnd, IsTrue}
-use Rattle.std.specs.List.{All}
+use Rattle.std.specs.List.{All, AllByRecursion as Each, AllZip}
 use Rattle.std.specs.Option.{option_map}
 use Rattle.std.proofs.lemmas.List.Elements.{All-weaker}
 use Rattle.flume_value.specs.declared.value.Value.{Value}
@@ -11,7 +11,8 @@ use Rattle.flume_types.specs.Typing.{AllHave, Has}
 use Rattle.flume_types.specs.declared.types.Ty.{Ty}
 use Rattle.flume_types.specs.declared.types.Ty.TheVariants as ty
 use Rattle.flume_types.proofs.CellLemmas.{cells_of-are_filled}
-use Rattle.bag_groups.specs.Pairs.{IsPair}
+use Rattle.bag_groups.specs.Pairs.{IsPair, pair}
+use Rattle.combine_table.specs.Combinations.{Suits}
 use Rattle.keyed_steps.specs.Keyed.{IsGroup}
 use Rattle.keyed_steps.proofs.TypedFacts.{all_pairs, all_suited}
 use Rattle.flume_collection.specs.Calls.{Called}
@@ -22,17 +23,23 @@ use Rattle.script_program.specs.Script.{Function, Node, Script}
 use Rattle.script_program.specs.declared.made.Made.{Made}
 use Rattle.script_program.specs.declared.made.Made.TheVariants as made
 use Rattle.script_program.specs.declared.made.Output.{Output}
-use Rattle.script_laws.specs.WellFormed.{HasColumns, IsCallOf, IsDone, IsWellFormed, function_at, members_at}
+use Rattle.script_laws.specs.WellFormed.{HasColumns, IsArgument, IsCallOf, IsDone, IsWellFormed, function_at, members_at, object_at}
+use Rattle.script_laws.specs.WellFormed.{IsDoneWith as DoesWith, IsOperated as Operates}
 use Rattle.direct_meaning.specs.Calls.{answer_of}
-use Rattle.direct_meaning.specs.Direct.{made_at}
-use Rattle.direct_meaning.specs.Made.{AreMade}
+use Rattle.direct_meaning.specs.Direct.{all_made, made_at}
+use Rattle.direct_meaning.specs.Objects.{IsObject, argument_of}
+use Rattle.direct_meaning.specs.Made.{AreMade, IsCollectionOf}
 use Rattle.direct_meaning.proofs.CallLemmas.{Answers, CalledOf, answers}
+use Rattle.direct_meaning.proofs.KindLemmas.{AreObjects, objects_at}
 use Rattle.direct_meaning.proofs.MakeLemmas.{well_typed}
+use Rattle.direct_meaning.proofs.ObjectTypes.{all_suit, argument_has, record_has, value_has, values_have}
 use Rattle.direct_meaning.proofs.PlaceLemmas.{mapped, within, zip_length}
+use Rattle.direct_meaning.proofs.TableLemmas.{made_object}
 use Rattle.direct_meaning.proofs.TypeLemmas.{taken}
 use Rattle.build_law.proofs.Naming.{FitsAt, fits_at}
+use Rattle.build_law.proofs.Tables.{and_then_some, map_some}
 use Rattle.bag_laws.proofs.ListLemmas.{made_for}
-use Rattle.no_defaults.specs.Making.{AnswersTo, HasAll, HasCells, IsCalled, MembersAre}
+use Rattle.no_defaults.specs.Making.{AnswersTo, HasAll, HasCells, IsCalled, IsDoneWith, IsOperated, MembersAre, ObjectIs}
 use Rattle.no_defaults.specs.Readings.{HasOutput}
 
 -- ---- places
@@ -66,6 +73,13 @@ one_function : (o : Option Function) (f g : Function) → o ≡ Some f → o ≡
 one_function None f g first second = cc
 one_function (Some h) f g first second = cc
 
+-- objects that a function takes are one at least
+some_objects : (R : ℕ → Ty → Type 0) (objects : List ℕ) (types : List Ty)
+    → AllZip R objects types → (takes : Ty) → IsArgument types takes → 0 < length objects
+some_objects R [] [] zipped takes is = absurd is
+some_objects R [] (t ∷ types) zipped takes is = absurd zipped
+some_objects R (n ∷ objects) types zipped takes is = omega arith
+
 -- ---- calls
 
 has_output : (gives : List Ty) (output : ℕ) (type : Ty) → slice_get gives output ≡ Some type
@@ -87,12 +101,16 @@ module _ (script : Script) (well : IsWellFormed script) (table : List (Option Co
     (are : AreMade script script.nodes table) where
   -- ---- the members of what is made have its type
 
+  is_of : (n : ℕ) (t : Ty) (c : Collection) → members_at script.nodes n ≡ Some t
+      → made_at table n ≡ Some c → IsCollectionOf t c
+  is_of n t c reads at =
+      let (entry, there, it) = made_for script script.nodes table n c are at in
+      subst (λ (u : Ty). IsCollectionOf u c)
+      (one_entry (slice_get script.nodes n) entry t there reads) it
+
   typed_at : (n : ℕ) (t : Ty) (c : Collection) → members_at script.nodes n ≡ Some t
       → made_at table n ≡ Some c → AllHave t c.bag
-  typed_at n t c reads at =
-      let (entry, there, it) = made_for script script.nodes table n c are at in
-      subst (λ (u : Ty). AllHave u c.bag)
-      (one_entry (slice_get script.nodes n) entry t there reads) it.typed
+  typed_at n t c reads at = (is_of n t c reads at).typed
 
   module _ (P : Value → Type 0) (n : ℕ) (t : Ty) (reads : members_at script.nodes n ≡ Some t)
       (all : (bag : List Value) → AllHave t bag → All P bag) where
@@ -140,6 +158,99 @@ module _ (script : Script) (well : IsWellFormed script) (table : List (Option Co
               (call.outputs 0 some);
         }
 
+    where_object : (n : ℕ) → object_at script.nodes n ≡ Some true → (o : Option Collection)
+        → made_at table n ≡ o → IfSome o IsObject
+    where_object n kind None at = tt
+    where_object n kind (Some c) at = made_object script script.nodes table are n c kind at
+
+    is_object : (n : ℕ) → object_at script.nodes n ≡ Some true → ObjectIs table n
+    is_object n kind = where_object n kind (made_at table n) refl
+
+    all_objects : (numbers : List ℕ) → AreObjects script.nodes numbers
+        → Each (ObjectIs table) numbers
+    all_objects [] kinds = tt
+    all_objects (n ∷ numbers) kinds = (is_object n kinds.0, all_objects numbers kinds.1)
+
+    -- a function of one output answers on what it takes
+    answers_one : (called : ℕ) (function : Function) (type : Ty)
+        → function_at script.functions called ≡ Some function
+        → function.signature.gives ≡ type ∷ [] → (x : Value) → Has function.signature.takes x
+        → AnswersTo function 0 x
+    answers_one called function type calls gives x has =
+        answers_to function 0 type (ap (λ (ts : List Ty). slice_get ts 0) gives) x
+        (answers function (well_typed script well.functions called function calls) x has)
+
+    -- what is made of several collections has their types
+    all_typed : (before rest : Named Node) → script.nodes ≡ before ++ rest → (numbers : List ℕ)
+        (types : List Ty)
+        → AllZip (λ (n : ℕ) (t : Ty). members_at before n ≡ Some t) numbers types
+        → (cs : List Collection) → all_made table numbers ≡ Some cs
+        → AllZip IsCollectionOf types cs
+    all_typed before rest is [] [] zipped cs made =
+        let same : [] ≡ cs = cc in
+        subst (AllZip IsCollectionOf []) same tt
+    all_typed before rest is [] (t ∷ types) zipped cs made = absurd zipped
+    all_typed before rest is (n ∷ numbers) [] zipped cs made = absurd zipped
+    all_typed before rest is (n ∷ numbers) (t ∷ types) zipped cs made =
+        let (c, at, others) =
+        and_then_some (λ c. option_map (λ ds. c ∷ ds) (all_made table numbers)) (made_at table n)
+        cs made in
+        let (ds, tail, whole) = map_some (λ ds. c ∷ ds) (all_made table numbers) cs others in
+        subst (AllZip IsCollectionOf (t ∷ types)) whole (
+          is_of n t c (type_in_front script.nodes before rest is n t zipped.0) at,
+          all_typed before rest is numbers types zipped.1 ds tail,
+        )
+
+    operated : (objects : List ℕ) (called : ℕ)
+        → FitsAt script well number (made.Operate objects called)
+        → slice_get (made_of script) number ≡ Some (made.Operate objects called)
+        → IsOperated script table objects called
+    operated objects called f found =
+        let fit : Operates script.functions f.before objects called f.type = f.fit in
+        let function = fit.function in
+        record {
+          some = some_objects _ objects fit.types fit.reads function.signature.takes fit.takes;
+          are_objects = all_objects objects
+              (objects_at script well number (made.Operate objects called) found);
+          function = function;
+          calls = fit.calls;
+          answers = λ cs values made is.
+              answers_one called function f.type fit.calls fit.gives (argument_of values)
+              (argument_has fit.types function.signature.takes values fit.takes
+              (values_have fit.types cs
+              (all_typed f.before f.rest f.is objects fit.types fit.reads cs made) values is));
+        }
+
+    done_with : (source called object : ℕ)
+        → FitsAt script well number (made.DoWith source called object)
+        → slice_get (made_of script) number ≡ Some (made.DoWith source called object)
+        → IsDoneWith script table source called object
+    done_with source called object f found =
+        let fit : DoesWith script.functions f.before source called object f.type = f.fit in
+        let function = fit.function in
+        let takes = function.signature.takes in
+        let kinds = objects_at script well number (made.DoWith source called object) found in
+        record {
+          is_object = is_object object kinds.0;
+          function = function;
+          calls = fit.calls;
+          answers = λ c v made is.
+              members (λ x. AnswersTo function 0 (pair x v)) source fit.member
+              (type_in_front script.nodes f.before f.rest f.is source fit.member fit.reads)
+              (All-weaker (Has fit.member) (λ x. AnswersTo function 0 (pair x v))
+              (λ x has. answers_one called function f.type fit.calls fit.gives (pair x v)
+              (record_has (fit.member ∷ fit.value ∷ []) takes (x ∷ v ∷ []) fit.takes (
+                has,
+                (
+                  value_has fit.value c
+                      (is_of object fit.value c
+                      (type_in_front script.nodes f.before f.rest f.is object fit.value fit.reads_object)
+                      made) v is,
+                  tt,
+                ),
+              ))));
+        }
+
     has_all : (how : Made) → FitsAt script well number how
         → slice_get (made_of script) number ≡ Some how → HasAll script table number how
     has_all (made.Input file columns) f found = tt
@@ -171,6 +282,13 @@ module _ (script : Script) (well : IsWellFormed script) (table : List (Option Co
               (all_pairs fit.key fit.right_value),
         )
     has_all (made.Top many source) f found = tt
+    has_all (made.CombineAll source comb) f found =
+        let fit = f.fit in
+        members (Suits comb) source fit.member
+        (type_in_front script.nodes f.before f.rest f.is source fit.member fit.reads)
+        (λ bag typed. all_suit comb fit.member bag (taken comb fit.member f.type fit.suits).0 typed)
+    has_all (made.Operate objects called) f found = operated objects called f found
+    has_all (made.DoWith source called object) f found = done_with source called object f found
 
   pub reads_all : (number : ℕ) (how : Made) → slice_get (made_of script) number ≡ Some how
       → HasAll script table number how

@@ -11,8 +11,9 @@ ghost use Rattle.no_defaults.specs.Making.{HasAll, HasCells};
 /// In the collections that a well-formed script means (`meaning_law` of direct_meaning) each
 /// equation finds what it reads: calls answer with a list for the output that a collection is, and
 /// their first output stands as many collections before it as that output has before it; groups
-/// and joins are of pairs alone, and combinations of groups whose members suit. What an output
-/// writes of a member are cells of its columns' kinds. There is a place for each collection.
+/// and joins are of pairs alone, and combinations of members that suit. What is taken for an object
+/// is one, and what is made of the values of objects is made of one at least. What an output writes
+/// of a member are cells of its columns' kinds. There is a place for each collection.
 pub fn script_law()
     ensures reads { (script : Script) (made : List (Option Collection)) (number : ℕ)
         (how : Made) → IsWellFormed script → AreMade script script.nodes made →

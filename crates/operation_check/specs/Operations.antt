@@ -1,7 +1,7 @@
 -- What operations make, one collection for each name, each by its rules in order; the first fault
 -- with its line.
 use Rattle.std.specs.Prelude.{ℕ, suc, Bool, List, [], ◌∷◌, ◌++◌, ◌&&◌, Option, Some, None, Ok, Err}
-use Rattle.std.specs.Prelude.{if◌then◌else◌, codes, map}
+use Rattle.std.specs.Prelude.{if◌then◌else◌, codes, map, not}
 use Rattle.std.specs.List.{list_all}
 use Rattle.std.specs.Str.{bytes_eq}
 use Rattle.flume_types.specs.declared.types.Ty.{Ty, Ty-F, out-Ty}
@@ -23,6 +23,8 @@ use Rattle.written_types.specs.Answer.{Checked, ◌>>=◌, unless, or_fault}
 use Rattle.script_program.specs.declared.made.Made.TheVariants as made
 use Rattle.expression_check.specs.Numbers.{number_within}
 use Rattle.script_program.specs.Script.{Making, State, Operand, find_node, Callee, find_function}
+use Rattle.operation_check.specs.Arguments.{are_plain, sole, takes_both, takes_members}
+use Rattle.operation_check.specs.Arguments.{takes_objects}
 
 -- ---- parts of types
 
@@ -66,9 +68,9 @@ combined_type comb.Distinct member = Some (ty.List member)
 abbrev pub numbers : List Operand → List ℕ
 numbers sources = map (λ source. source.number) sources
 
--- whether all have this type
+-- whether all have this type and none is an object
 abbrev pub all_same : Ty → List Operand → Bool
-all_same t sources = list_all (λ source. type_eq t source.type) sources
+all_same t sources = list_all (λ source. not source.is_object && type_eq t source.type) sources
 
 -- ---- operations that have no rules of their own
 
@@ -136,11 +138,15 @@ module _ (line : ℕ) where
   abbrev pub member_of : Ty → Checked Ty
   member_of t = or_fault line NotTable (member_in (out-Ty t))
 
+  -- a collection that is no object
+  abbrev pub plain : Operand → Checked (Unit {0})
+  plain source = unless line Mistyped (not source.is_object)
+
   -- the one type of some collections
   abbrev pub one_type : List Operand → Checked Ty
   one_type [] = Err (Refused line Mistyped)
   one_type (first ∷ others) = do
-    same ← unless line Mistyped (all_same first.type others)
+    same ← unless line Mistyped (all_same first.type (first ∷ others))
     Ok first.type
 
   -- ---- operations on them
@@ -148,18 +154,20 @@ module _ (line : ℕ) where
   -- what a function emits from each member, to each of its outputs in order
   abbrev pub do_of : Operand → Callee → Checked (List Making)
   do_of source function = do
-    same ← unless line Mistyped (type_eq source.type function.takes)
+    same ← unless line Mistyped (takes_members source function.takes)
     Ok (outputs_from source.number function.number 0 function.gives)
 
   abbrev pub group_of : Operand → Checked Making
   group_of source = do
     pair ← pair_of source.type
+    members ← plain source
     Ok (record { made = made.Group source.number; type = table_of pair.key (ty.List pair.value) })
 
   abbrev pub combine_of : Operand → Comb → Checked Making
   combine_of source by = do
     pair ← pair_of source.type
     member ← member_of pair.value
+    members ← plain source
     value ← or_fault line Mistyped (combined_type by member)
     Ok (record { made = made.Combine source.number by; type = table_of pair.key value })
 
@@ -172,10 +180,36 @@ module _ (line : ℕ) where
   join_of left right = do
     lefts ← pair_of left.type
     rights ← pair_of right.type
-    same ← unless line Mistyped (type_eq lefts.key rights.key)
+    same ← unless line Mistyped (are_plain left right && type_eq lefts.key rights.key)
     Ok (record {
       made = made.Join left.number right.number;
       type = table_of lefts.key (sides_of lefts.value rights.value);
+    })
+
+  -- ---- operations with objects
+
+  -- what a combiner makes of all members
+  abbrev pub combine_all_of : Operand → Comb → Checked Making
+  combine_all_of source by = do
+    members ← plain source
+    value ← or_fault line Mistyped (combined_type by source.type)
+    Ok (record { made = made.CombineAll source.number by; type = value })
+
+  -- what a function emits, called on the values of objects
+  abbrev pub operate_of : List Operand → Callee → Checked Making
+  operate_of objects function = do
+    fit ← unless line Mistyped (takes_objects objects function.takes)
+    value ← or_fault line Mistyped (sole function.gives)
+    Ok (record { made = made.Operate (numbers objects) function.number; type = value })
+
+  -- what a function emits from each member beside the value of an object
+  abbrev pub do_with_of : Operand → Callee → Operand → Checked Making
+  do_with_of source function object = do
+    fit ← unless line Mistyped (takes_both source object function.takes)
+    member ← or_fault line Mistyped (sole function.gives)
+    Ok (record {
+      made = made.DoWith source.number function.number object.number;
+      type = member;
     })
 
   -- ---- operations as they are written
@@ -207,6 +241,7 @@ module _ (line : ℕ) where
   abbrev pub counted : List ℕ → State → Checked Making
   counted source s = do
     one ← collection source s
+    members ← plain one
     Ok (count_of one)
 
   abbrev pub joined : List ℕ → List ℕ → State → Checked Making
@@ -220,7 +255,30 @@ module _ (line : ℕ) where
   greatest digits source s = do
     one ← collection source s
     number ← top_number digits
+    members ← plain one
     Ok (top_of number one)
+
+  -- what this combiner makes of all members of this collection
+  abbrev pub combined_whole : List ℕ → Combiner → State → Checked Making
+  combined_whole source combiner s = do
+    one ← collection source s
+    by ← comb_of combiner
+    combine_all_of one by
+
+  -- what this function emits, called on the values of these objects
+  abbrev pub operated : List (List ℕ) → List ℕ → State → Checked Making
+  operated names function s = do
+    all ← collections_behind [] names s
+    by ← callee function s
+    operate_of all by
+
+  -- what this function emits from each member of this collection beside the value of this object
+  abbrev pub done_beside : List ℕ → List ℕ → List ℕ → State → Checked Making
+  done_beside source function object s = do
+    one ← collection source s
+    by ← callee function s
+    other ← collection object s
+    do_with_of one by other
 
   -- the collections that an operation makes, one for each name
   abbrev pub made_by : Operation → State → Checked (List Making)
@@ -231,3 +289,7 @@ module _ (line : ℕ) where
   made_by (operation.Count source) s = alone (counted source s)
   made_by (operation.Join left right) s = alone (joined left right s)
   made_by (operation.Top digits source) s = alone (greatest digits source s)
+  made_by (operation.CombineAll source combiner) s = alone (combined_whole source combiner s)
+  made_by (operation.Operate objects function) s = alone (operated objects function s)
+  made_by (operation.DoWith source function object) s =
+      alone (done_beside source function object s)

@@ -79,19 +79,20 @@ fn one_type(line: u32, sources: &[Operand], types: &Types) -> Result<TypeId, Scr
     ensures within { IfOk result (λ id. id < length types.now) }
 {
     match sources {
-        [first, others @ ..] if all_same(first.ty, others, types) => Ok(first.ty),
+        [first, _others @ ..] if all_same(first.ty, sources, types) => Ok(first.ty),
         _ => Err(refused(line, ScriptKind::Mistyped)),
     }
 }
 
+/// Whether all have this type and none is an object.
 fn all_same(id: TypeId, sources: &[Operand], types: &Types) -> bool
     requires first { id < length types.now }
-    requires others { All (λ source. source.ty < length types.now) sources.now }
+    requires sources { All (λ source. source.ty < length types.now) sources.now }
     ensures { result
         ≡ spec.all_same (type_at types.now id) (map (operand_in types.now) sources.now) }
 {
     for source in sources {
-        if !types.same(id, source.ty) {
+        if source.is_object || !types.same(id, source.ty) {
             return false;
         }
     }

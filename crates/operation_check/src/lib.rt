@@ -8,6 +8,7 @@
 
 mod combiner;
 mod flatten;
+mod objects;
 mod operation;
 mod pairs;
 mod sides;

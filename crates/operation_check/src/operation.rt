@@ -1,9 +1,9 @@
 // The check of each operation: the collections that it makes, or its first fault.
-ghost use Rattle.std.specs.Prelude.{◌≡◌, ℕ, ◌<◌, List, length, map, IfOk};
+ghost use Rattle.std.specs.Prelude.{◌≡◌, ℕ, ◌<◌, List, length, map, not, IfOk};
 ghost use Rattle.std.specs.List.{All};
 ghost use Rattle.flume_types.specs.declared.types.Ty.{Ty};
 ghost use Rattle.type_table.specs.Table.{type_at, Extends};
-ghost use Rattle.written_types.specs.Answer.{Checked, Gives};
+ghost use Rattle.written_types.specs.Answer.{Checked, Gives, unless};
 ghost use Rattle.expression_types.specs.Held.{AreTypes};
 ghost use Rattle.operation_check.specs.Operations as spec;
 ghost use Rattle.script_program.specs.Program.{HasTypes, making_in};
@@ -12,6 +12,7 @@ ghost use Rattle.script_program.specs.Script.{Making as Meant};
 
 use crate::combiner::{comb_of, combined};
 use crate::flatten::flatten;
+use crate::objects::{combined_whole, done_beside, operated};
 use crate::pairs::{member_of, pair_of};
 use crate::sides::sides;
 use crate::top::top_number;
@@ -48,6 +49,18 @@ pub fn made_by(
         Operation::Count(source) => alone(alloc, counted(alloc, line, source, state)),
         Operation::Join(left, right) => alone(alloc, joined(alloc, line, left, right, state)),
         Operation::Top(digits, source) => alone(alloc, greatest(line, digits, source, state)),
+        Operation::CombineAll(source, combiner) => {
+            alone(alloc, combined_whole(line, source, combiner, state))
+        }
+        Operation::Operate(objects, function) => {
+            alone(
+                alloc,
+                operated(alloc, line, objects.as_slice(), function, state),
+            )
+        }
+        Operation::DoWith(source, function, object) => {
+            alone(alloc, done_beside(line, source, function, object, state))
+        }
     }
 }
 
@@ -77,8 +90,19 @@ pub fn collection(line: u32, name: &Str, state: &State) -> Result<Operand, Scrip
     }
 }
 
+/// A collection that is no object: whether it is one is told.
+pub fn plain(line: u32, is_object: bool) -> Result<(), ScriptFault>
+    ensures { Gives (λ _. tt) result (unless line ScriptKind.Mistyped (not is_object)) }
+{
+    if is_object {
+        Err(refused(line, ScriptKind::Mistyped))
+    } else {
+        Ok(())
+    }
+}
+
 /// The function of a name.
-fn callee<'a>(line: u32, name: &Str, state: &'a State) -> Result<Callee<'a>, ScriptFault>
+pub fn callee<'a>(line: u32, name: &Str, state: &'a State) -> Result<Callee<'a>, ScriptFault>
     ensures gives { Gives (callee_in state.now.types) result
         (spec.callee line name.now state.now.state) }
     ensures within { IfOk result (λ callee. HasTypes state.now.types callee.signature.now) }
@@ -120,7 +144,7 @@ fn do_of(
         (operand_in state.now.types source) (callee_in state.now.types function.entry)) }
     ensures within { IfOk result (All (λ making. making.ty < length state.now.types)) }
 {
-    if !state.types().same(source.ty, function.signature.takes) {
+    if source.is_object || !state.types().same(source.ty, function.signature.takes) {
         return Err(refused(line, ScriptKind::Mistyped));
     }
     let gives = function.signature.gives.as_slice();
@@ -192,6 +216,7 @@ fn counted(alloc: Global, line: u32, source: &Str, state: &mut State) -> Result<
     ensures state { state.new.state ≡ state.old.state }
 {
     let source = collection(line, source, state)?;
+    plain(line, source.is_object)?;
     let making = count_of(alloc, source, state)?;
     Ok(making)
 }
@@ -223,6 +248,7 @@ fn greatest(line: u32, digits: &Str, source: &Str, state: &State) -> Result<Maki
 {
     let source = collection(line, source, state)?;
     let number = top_number(line, digits)?;
+    plain(line, source.is_object)?;
     Ok(top_of(number, source))
 }
 
@@ -241,6 +267,7 @@ fn group_of(
     ensures state { state.new.state ≡ state.old.state }
 {
     let pair = pair_of(line, source.ty, state.types())?;
+    plain(line, source.is_object)?;
     let values = state.intern(Shape::List(pair.value))?;
     let ty = state.table(alloc, pair.key, values)?;
     let made = Made::Group {
@@ -266,6 +293,7 @@ fn combine_of(
 {
     let pair = pair_of(line, source.ty, state.types())?;
     let member = member_of(line, pair.value, state.types())?;
+    plain(line, source.is_object)?;
     let value = combined(line, by, member, state)?;
     let ty = state.table(alloc, pair.key, value)?;
     let made = Made::Combine {
@@ -310,7 +338,7 @@ fn join_of(
 {
     let lefts = pair_of(line, left.ty, state.types())?;
     let rights = pair_of(line, right.ty, state.types())?;
-    if !state.types().same(lefts.key, rights.key) {
+    if left.is_object || right.is_object || !state.types().same(lefts.key, rights.key) {
         return Err(refused(line, ScriptKind::Mistyped));
     }
     let sides = sides(alloc, lefts.value, rights.value, state)?;

@@ -1,20 +1,21 @@
 -- Phases that run after others.
-use Rattle.std.proofs.Common.{◌≡◌, ℕ, List, [], ◌∷◌, ◌++◌, append-nil, append_assoc, refl, sym, ap, ◌∙◌, subst}
+use Rattle.std.proofs.Common.{◌≡◌, ℕ, inl, inr, List, [], ◌∷◌, ◌++◌, append-nil, append_assoc, Some, slice_get, refl, sym, ap, ◌∙◌, subst}
 use Rattle.std.specs.List.{AllZip}
 use Rattle.std.specs.Prelude.{slice_index}
 use Rattle.std.proofs.lemmas.List.{map-append}
 use Rattle.flume_value.proofs.EachLemmas.{Each-append}
 use Rattle.crew.specs.declared.drill.Entry.{Entry}
 use Rattle.crew.specs.Hosts.{Account, Grew}
+use Rattle.flume_collection.specs.declared.trap.Trap.{Trap}
 use Rattle.exec_graph.specs.World.{World}
 use Rattle.plan_phases.specs.declared.fault.RunFault.{RunFault}
 use Rattle.plan_phases.specs.declared.fault.RunFault.TheVariants as fault
 use Rattle.plan_phases.specs.declared.winners.PhaseWinners.{PhaseWinners}
-use Rattle.plan_phases.specs.Phases.{PhaseTasks}
+use Rattle.plan_phases.specs.Phases.{OfAct, OfTasks, PhaseTasks, PlanPhase, with_tasks}
 use Rattle.task_lists.specs.Tasks.{places}
 use Rattle.phase_outs.specs.Outs.{HasRun}
 use Rattle.plan_phases.specs.Told.{AreWinners, AskedFront, AskedInTurn, HaveRun, IsCalmPhase, IsReached, IsStopped, RanThrough, attempts_of, first_tasks, settings_of}
-use Rattle.plan_phases.proofs.Asking.{asked_then, front_before, front_behind, front_to}
+use Rattle.plan_phases.proofs.Asking.{asked_all, asked_then, front_before, front_behind, front_to}
 use Rattle.plan_phases.proofs.Lasting.{lost_before, run_before, run_later}
 
 zip_weaker : {A B : Type 0} (P Q : A → B → Type 0) → ((a : A) (b : B) → P a b → Q a b)
@@ -30,6 +31,12 @@ zip_append P [] [] ys vs h k = k
 zip_append P [] (u ∷ us) ys vs h k = absurd h
 zip_append P (x ∷ xs) [] ys vs h k = absurd h
 zip_append P (x ∷ xs) (u ∷ us) ys vs h k = (h.0, zip_append P xs us ys vs h.1 k)
+
+-- the phases with tasks of some phases and of others
+pub tasks_both : (ps qs : List PlanPhase) → with_tasks (ps ++ qs) ≡ with_tasks ps ++ with_tasks qs
+tasks_both [] qs = refl
+tasks_both (OfTasks ph ∷ ps) qs = ap (λ l. ph ∷ l) (tasks_both ps qs)
+tasks_both (OfAct traps ∷ ps) qs = tasks_both ps qs
 
 attempts_both : (xs ys : List PhaseWinners)
     → attempts_of (xs ++ ys) ≡ attempts_of xs ++ attempts_of ys
@@ -70,25 +77,40 @@ module _ (tries : ℕ) (drill : List Entry) where
       zip_weaker (AreWinners tries drill vs ws) (AreWinners tries drill us ws)
       (winners_before us vs ws f g) ps xs h
 
+  -- the hosts were asked for some phases, and then for others
+  asked_both : (ps qs : List PlanPhase) (xs ys : List PhaseWinners) (us vs ws : List Account)
+      → AskedInTurn tries drill (with_tasks ps) (attempts_of xs) us vs
+      → AskedInTurn tries drill (with_tasks qs) (attempts_of ys) vs ws
+      → AskedInTurn tries drill (with_tasks (ps ++ qs)) (attempts_of (xs ++ ys)) us ws
+  asked_both ps qs xs ys us vs ws h k =
+      subst (λ (x : List PhaseTasks × List (List ℕ)). AskedInTurn tries drill x.0 x.1 us ws)
+      (λ i. (sym (tasks_both ps qs) i, sym (attempts_both xs ys) i))
+      (asked_then tries drill (with_tasks ps) (with_tasks qs) (attempts_of xs) (attempts_of ys) us
+      vs ws h k)
+
   module _ (w : World) where
     -- ---- phases that have run through
 
-    through_before : (ps : List PhaseTasks) (us vs ws : List Account) → AllZip Grew us vs
+    through_before : (ps : List PlanPhase) (us vs ws : List Account) → AllZip Grew us vs
         → AllZip Grew vs ws → RanThrough tries drill w ps vs ws → RanThrough tries drill w ps us ws
     through_before ps us vs ws f g h = record {
       calm = h.calm;
       winners = h.winners;
-      won = won_before us vs ws f g ps h.winners h.won;
+      won = won_before us vs ws f g (with_tasks ps) h.winners h.won;
     }
 
-    through_then : (ps qs : List PhaseTasks) (us vs ws : List Account)
+    through_then : (ps qs : List PlanPhase) (us vs ws : List Account)
         → RanThrough tries drill w ps us vs → RanThrough tries drill w qs vs ws
         → AllZip Grew us vs → AllZip Grew vs ws → RanThrough tries drill w (ps ++ qs) us ws
     through_then ps qs us vs ws h k f g = record {
       calm = Each-append (IsCalmPhase w) ps qs h.calm k.calm;
       winners = h.winners ++ k.winners;
-      won = zip_append (AreWinners tries drill us ws) ps h.winners qs k.winners
-          (won_later us vs ws g ps h.winners h.won) (won_before us vs ws f g qs k.winners k.won);
+      won = subst (λ (l : List PhaseTasks).
+          AllZip (AreWinners tries drill us ws) l (h.winners ++ k.winners))
+          (sym (tasks_both ps qs))
+          (zip_append (AreWinners tries drill us ws) (with_tasks ps) h.winners (with_tasks qs)
+          k.winners (won_later us vs ws g (with_tasks ps) h.winners h.won)
+          (won_before us vs ws f g (with_tasks qs) k.winners k.won));
     }
 
     -- ---- runs
@@ -101,8 +123,17 @@ module _ (tries : ℕ) (drill : List Entry) where
       asked = refl;
     }
 
+    -- an act that has not trapped
+    pub act_ran : (traps : List Trap) → traps ≡ [] → (us : List Account)
+        (before : List PhaseWinners) → HaveRun tries drill w (OfAct traps ∷ []) us us before before
+    act_ran traps none us before = record {
+      through = record { calm = (none, tt); winners = []; won = tt };
+      told = sym (append-nil before);
+      asked = refl;
+    }
+
     -- phases that ran, and then others
-    pub run_then : (ps qs : List PhaseTasks) (us vs ws : List Account)
+    pub run_then : (ps qs : List PlanPhase) (us vs ws : List Account)
         (first next last : List PhaseWinners) → HaveRun tries drill w ps us vs first next
         → HaveRun tries drill w qs vs ws next last → AllZip Grew us vs → AllZip Grew vs ws
         → HaveRun tries drill w (ps ++ qs) us ws first last
@@ -111,22 +142,20 @@ module _ (tries : ℕ) (drill : List Entry) where
       through = through_then ps qs us vs ws h.through k.through f g;
       told = k.told ∙ ap (λ l. l ++ k.through.winners) h.told
           ∙ append_assoc first h.through.winners k.through.winners;
-      asked = subst (λ (xs : List (List ℕ)). AskedInTurn tries drill (ps ++ qs) xs us ws)
-          (sym (attempts_both h.through.winners k.through.winners))
-          (asked_then tries drill ps qs (attempts_of h.through.winners)
-          (attempts_of k.through.winners) us vs ws h.asked k.asked);
+      asked = asked_both ps qs h.through.winners k.through.winners us vs ws h.asked k.asked;
     }
 
     -- ---- where a run stops
 
-    reached_before : (ps qs : List PhaseTasks) (us vs : List Account) (here : PhaseTasks)
+    reached_before : (ps qs : List PlanPhase) (us vs : List Account) (here : PhaseTasks)
         (task : ℕ) (h : IsReached tries drill w ps us vs here task)
         → (r : IsReached tries drill w (ps ++ qs) us vs here task) × (r.won ≡ h.won)
     reached_before ps qs us vs here task h = (
       record {
         before = h.before;
         behind = h.behind ++ qs;
-        whole = sym (append_assoc h.before (here ∷ h.behind) qs) ∙ ap (λ l. l ++ qs) h.whole;
+        whole = sym (append_assoc h.before (OfTasks here ∷ h.behind) qs)
+            ∙ ap (λ l. l ++ qs) h.whole;
         is_task = h.is_task;
         earlier = h.earlier;
         smaller = h.smaller;
@@ -137,9 +166,9 @@ module _ (tries : ℕ) (drill : List Entry) where
       refl,
     )
 
-    reached_behind : (ps qs : List PhaseTasks) (us vs ws : List Account) (here : PhaseTasks)
+    reached_behind : (ps qs : List PlanPhase) (us vs ws : List Account) (here : PhaseTasks)
         (task : ℕ) (ran : RanThrough tries drill w ps us vs)
-        → AskedInTurn tries drill ps (attempts_of ran.winners) us vs
+        → AskedInTurn tries drill (with_tasks ps) (attempts_of ran.winners) us vs
         → (h : IsReached tries drill w qs vs ws here task) → AllZip Grew us vs → AllZip Grew vs ws
         → (r : IsReached tries drill w (ps ++ qs) us ws here task) × (r.won ≡ h.won)
     unfolding through_before through_then
@@ -147,32 +176,49 @@ module _ (tries : ℕ) (drill : List Entry) where
       record {
         before = ps ++ h.before;
         behind = h.behind;
-        whole = append_assoc ps h.before (here ∷ h.behind) ∙ ap (λ l. ps ++ l) h.whole;
+        whole = append_assoc ps h.before (OfTasks here ∷ h.behind) ∙ ap (λ l. ps ++ l) h.whole;
         is_task = h.is_task;
         earlier = through_then ps h.before us vs ws ran h.earlier f g;
-        smaller = through_before (first_tasks task here ∷ []) us vs ws f g h.smaller;
+        smaller = through_before (OfTasks (first_tasks task here) ∷ []) us vs ws f g h.smaller;
         won = h.won;
         asked = subst
             (λ (x : List PhaseTasks × List (List ℕ)). AskedInTurn tries drill x.0 x.1 us ws)
             (λ i. (
-              sym (append_assoc ps h.before (here ∷ [])) i,
+              sym (ap (λ (l : List PhaseTasks). l ++ here ∷ []) (tasks_both ps h.before)
+                  ∙ append_assoc (with_tasks ps) (with_tasks h.before) (here ∷ [])) i,
               sym (ap (λ (l : List (List ℕ)). l ++ h.won ∷ [])
                   (attempts_both ran.winners h.earlier.winners)
                   ∙ append_assoc (attempts_of ran.winners) (attempts_of h.earlier.winners)
                   (h.won ∷ [])) i,
             ))
-            (asked_then tries drill ps (h.before ++ here ∷ []) (attempts_of ran.winners)
-            (attempts_of h.earlier.winners ++ h.won ∷ []) us vs ws asked h.asked);
+            (asked_then tries drill (with_tasks ps) (with_tasks h.before ++ here ∷ [])
+            (attempts_of ran.winners) (attempts_of h.earlier.winners ++ h.won ∷ []) us vs ws asked
+            h.asked);
         winners = h.winners;
       },
       refl,
     )
 
+    -- at an act that traps
+    pub act_stopped : (traps : List Trap) (us : List Account) (trap : Trap)
+        → slice_get traps 0 ≡ Some trap
+        → IsStopped tries drill w (OfAct traps ∷ []) us us (fault.Trap trap)
+    act_stopped traps us trap is = inr (record {
+      before = [];
+      traps = traps;
+      behind = [];
+      whole = refl;
+      earlier = record { calm = tt; winners = []; won = tt };
+      asked = refl;
+      is = is;
+    })
+
     -- where others come after
-    pub stopped_before : (ps qs : List PhaseTasks) (us vs : List Account) (e : RunFault)
+    pub stopped_before : (ps qs : List PlanPhase) (us vs : List Account) (e : RunFault)
         → IsStopped tries drill w ps us vs e → IsStopped tries drill w (ps ++ qs) us vs e
-    stopped_before ps qs us vs (fault.Trap trap) h =
-        let r = reached_before ps qs us vs h.here h.number h.reached in record {
+    stopped_before ps qs us vs (fault.Trap trap) (inl h) =
+        let r = reached_before ps qs us vs h.here h.number h.reached in
+        inl (record {
           here = h.here;
           number = h.number;
           reached = r.0;
@@ -183,7 +229,17 @@ module _ (tries : ℕ) (drill : List Entry) where
               (λ (l : List ℕ). HasRun (settings_of tries drill h.here) us vs h.number
               (places h.task) (slice_index l h.number))
               (sym r.1) h.ran;
-        }
+        })
+    stopped_before ps qs us vs (fault.Trap trap) (inr h) = inr (record {
+      before = h.before;
+      traps = h.traps;
+      behind = h.behind ++ qs;
+      whole = sym (append_assoc h.before (OfAct h.traps ∷ h.behind) qs)
+          ∙ ap (λ l. l ++ qs) h.whole;
+      earlier = h.earlier;
+      asked = h.asked;
+      is = h.is;
+    })
     stopped_before ps qs us vs (fault.GaveUp stage phase task) h =
         let r = reached_before ps qs us vs h.here task h.reached in record {
           here = h.here;
@@ -192,18 +248,21 @@ module _ (tries : ℕ) (drill : List Entry) where
           none = subst (λ (l : List ℕ). slice_index l task ≡ 0) (sym r.1) h.none;
           lost = h.lost;
         }
-    stopped_before ps qs us vs fault.Memory h = front_before tries drill ps qs us vs h
+    stopped_before ps qs us vs fault.Memory h =
+        subst (λ (l : List PhaseTasks). AskedFront tries drill l us vs) (sym (tasks_both ps qs))
+        (front_before tries drill (with_tasks ps) (with_tasks qs) us vs h)
 
     -- where others have run through before
-    pub stopped_behind : (ps qs : List PhaseTasks) (us vs ws : List Account) (e : RunFault)
+    pub stopped_behind : (ps qs : List PlanPhase) (us vs ws : List Account) (e : RunFault)
         (through : RanThrough tries drill w ps us vs)
-        → AskedInTurn tries drill ps (attempts_of through.winners) us vs
+        → AskedInTurn tries drill (with_tasks ps) (attempts_of through.winners) us vs
         → IsStopped tries drill w qs vs ws e
         → AllZip Grew us vs → AllZip Grew vs ws → IsStopped tries drill w (ps ++ qs) us ws e
-    stopped_behind ps qs us vs ws (fault.Trap trap) through asked h f g =
+    unfolding through_then
+    stopped_behind ps qs us vs ws (fault.Trap trap) through asked (inl h) f g =
         let s = settings_of tries drill h.here in
         let r = reached_behind ps qs us vs ws h.here h.number through asked h.reached f g in
-        record {
+        inl (record {
           here = h.here;
           number = h.number;
           reached = r.0;
@@ -215,7 +274,16 @@ module _ (tries : ℕ) (drill : List Entry) where
               (sym r.1)
               (run_before s us vs ws h.number (places h.task)
               (slice_index h.reached.won h.number) f h.ran g);
-        }
+        })
+    stopped_behind ps qs us vs ws (fault.Trap trap) through asked (inr h) f g = inr (record {
+      before = ps ++ h.before;
+      traps = h.traps;
+      behind = h.behind;
+      whole = append_assoc ps h.before (OfAct h.traps ∷ h.behind) ∙ ap (λ l. ps ++ l) h.whole;
+      earlier = through_then ps h.before us vs ws through h.earlier f g;
+      asked = asked_both ps h.before through.winners h.earlier.winners us vs ws asked h.asked;
+      is = h.is;
+    })
     stopped_behind ps qs us vs ws (fault.GaveUp stage phase task) through asked h f g =
         let r = reached_behind ps qs us vs ws h.here task through asked h.reached f g in record {
           here = h.here;
@@ -225,17 +293,27 @@ module _ (tries : ℕ) (drill : List Entry) where
           lost = lost_before _ (settings_of tries drill h.here) us vs ws task f h.lost g;
         }
     stopped_behind ps qs us vs ws fault.Memory through asked h f g =
-        front_behind tries drill ps qs (attempts_of through.winners) us vs ws asked h
+        subst (λ (l : List PhaseTasks). AskedFront tries drill l us ws) (sym (tasks_both ps qs))
+        (front_behind tries drill (with_tasks ps) (with_tasks qs) (attempts_of through.winners) us
+        vs ws asked h)
 
     -- where a run stopped, the hosts were asked for a front of its phases
-    pub front_stopped : (ps : List PhaseTasks) (us vs : List Account) (e : RunFault)
-        → IsStopped tries drill w ps us vs e → AskedFront tries drill ps us vs
-    front_stopped ps us vs (fault.Trap trap) h =
-        let r = h.reached in
-        front_to tries drill r.before r.behind ps h.here
-        (attempts_of r.earlier.winners ++ r.won ∷ []) us vs r.whole r.asked
+    front_reached : (ps : List PlanPhase) (us vs : List Account) (here : PhaseTasks) (task : ℕ)
+        → IsReached tries drill w ps us vs here task → AskedFront tries drill (with_tasks ps) us vs
+    front_reached ps us vs here task r =
+        front_to tries drill (with_tasks r.before) (with_tasks r.behind) (with_tasks ps) here
+        (attempts_of r.earlier.winners ++ r.won ∷ []) us vs
+        (sym (tasks_both r.before (OfTasks here ∷ r.behind)) ∙ ap with_tasks r.whole) r.asked
+
+    pub front_stopped : (ps : List PlanPhase) (us vs : List Account) (e : RunFault)
+        → IsStopped tries drill w ps us vs e → AskedFront tries drill (with_tasks ps) us vs
+    front_stopped ps us vs (fault.Trap trap) (inl h) =
+        front_reached ps us vs h.here h.number h.reached
+    front_stopped ps us vs (fault.Trap trap) (inr h) =
+        subst (λ (l : List PhaseTasks). AskedFront tries drill l us vs)
+        (sym (tasks_both h.before (OfAct h.traps ∷ h.behind)) ∙ ap with_tasks h.whole)
+        (front_before tries drill (with_tasks h.before) (with_tasks h.behind) us vs
+        (asked_all tries drill (with_tasks h.before) (attempts_of h.earlier.winners) us vs h.asked))
     front_stopped ps us vs (fault.GaveUp stage phase task) h =
-        let r = h.reached in
-        front_to tries drill r.before r.behind ps h.here
-        (attempts_of r.earlier.winners ++ r.won ∷ []) us vs r.whole r.asked
+        front_reached ps us vs h.here task h.reached
     front_stopped ps us vs fault.Memory h = h

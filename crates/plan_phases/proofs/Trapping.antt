@@ -1,4 +1,4 @@
--- The traps of phases, in order, are those of the tasks of their stages.
+-- The traps of phases, in order, are those of the tasks and acts of their stages.
 use Rattle.std.proofs.Common.{◌≡◌, ◌%◌, ℕ, suc, List, [], ◌∷◌, ◌++◌, Option, Some, None, refl, sym, ap, ◌∙◌, append-nil, slice_get}
 use Rattle.std.specs.List.{AllByRecursion as Each, flat_map}
 use Rattle.std.specs.Option.{option_map_or}
@@ -14,12 +14,12 @@ use Rattle.exec_plan.specs.declared.plan.Stage.{Stage}
 use Rattle.exec_plan.specs.declared.plan.Stage.TheVariants.{Mscr, Flatten, Operate}
 use Rattle.exec_plan.specs.declared.plan.Plan.{Plan}
 use Rattle.task_lists.specs.Runs.{traps_of}
-use Rattle.task_lists.specs.Tasks.{Split, Lists, Task, groupings, grouping_at, map_count, map_phase, map_task_at, no_task, reduce_count, reduce_phase, reduce_task, reduce_task_at}
-use Rattle.task_lists.specs.Lists.{result_lists, source_lists, with_lists}
+use Rattle.task_lists.specs.Tasks.{Split, Lists, Task, world_for, groupings, grouping_at, map_count, map_phase, map_task_at, no_task, reduce_count, reduce_phase, reduce_task, reduce_task_at}
+use Rattle.task_lists.specs.Lists.{object_made, result_lists, source_lists, with_lists}
 use Rattle.task_lists.specs.Outs.{IsCalm}
 use Rattle.task_lists.specs.Plans.{all_tasks, first_trap, stage_tasks, task_traps, tasks_from}
-use Rattle.plan_phases.specs.Phases.{PhaseTasks, map_phase_of, phase_traps, phases, phases_from, reduce_phase_of, reduce_phases, stage_phases, tasks_below}
-use Rattle.plan_phases.specs.Told.{IsCalmPhase, IsFirstOf}
+use Rattle.plan_phases.specs.Phases.{OfAct, OfTasks, PhaseTasks, PlanPhase, map_phase_of, phase_traps, phases, phases_from, reduce_phase_of, reduce_phases, stage_phases, tasks_below}
+use Rattle.plan_phases.specs.Told.{IsCalmPhase, IsFirstIn, IsFirstOf, IsFirstOfTasks}
 
 first_left : {A : Type 0} (e : A) (xs ys : List A) → slice_get xs 0 ≡ Some e
     → slice_get (xs ++ ys) 0 ≡ Some e
@@ -28,35 +28,45 @@ first_left e (x ∷ xs) ys h = h
 
 module _ (w : World) where
   abbrev traps_in : Task → List Trap
-  traps_in task = traps_of w task.does task.elements
+  traps_in task = traps_of (world_for w task) task.does task.elements
 
   calm_tasks : (tasks : List Task) → Each (IsCalm w) tasks → flat_map traps_in tasks ≡ []
   calm_tasks [] h = refl
   calm_tasks (t ∷ ts) h = λ i. h.0 i ++ calm_tasks ts h.1 i
 
-  calm_phases : (phs : List PhaseTasks) → Each (IsCalmPhase w) phs
+  calm_phases : (phs : List PlanPhase) → Each (IsCalmPhase w) phs
       → flat_map (phase_traps w) phs ≡ []
   calm_phases [] h = refl
-  calm_phases (ph ∷ phs) h = λ i. calm_tasks ph.tasks h.0 i ++ calm_phases phs h.1 i
+  calm_phases (OfTasks ph ∷ phs) h = λ i. calm_tasks ph.tasks h.0 i ++ calm_phases phs h.1 i
+  calm_phases (OfAct traps ∷ phs) h = λ i. h.0 i ++ calm_phases phs h.1 i
 
   -- the first trap stands behind nothing
-  pub first_of : (all : List PhaseTasks) (trap : Trap) → IsFirstOf w all trap
-      → slice_get (flat_map (phase_traps w) all) 0 ≡ Some trap
-  first_of all trap h =
+  first_task : (ph : PhaseTasks) (trap : Trap) → IsFirstOfTasks w ph trap
+      → slice_get (flat_map traps_in ph.tasks) 0 ≡ Some trap
+  first_task ph trap h =
       let here = traps_in h.task in
       let later = flat_map traps_in h.greater in
-      let behind = flat_map (phase_traps w) h.behind in
-      let in_phase : phase_traps w h.here ≡ here ++ later =
+      let in_phase : flat_map traps_in ph.tasks ≡ here ++ later =
       ap (flat_map traps_in) (sym h.tasks)
       ∙ flat_map-append traps_in h.smaller (h.task ∷ h.greater)
       ∙ ap (λ l. l ++ (here ++ later)) (calm_tasks h.smaller h.small) in
+      ap (λ l. slice_get l 0) in_phase ∙ first_left trap here later h.is
+
+  first_in : (ph : PlanPhase) (trap : Trap) → IsFirstIn w ph trap
+      → slice_get (phase_traps w ph) 0 ≡ Some trap
+  first_in (OfTasks ph) trap h = first_task ph trap h
+  first_in (OfAct traps) trap h = h
+
+  pub first_of : (all : List PlanPhase) (trap : Trap) → IsFirstOf w all trap
+      → slice_get (flat_map (phase_traps w) all) 0 ≡ Some trap
+  first_of all trap h =
+      let behind = flat_map (phase_traps w) h.behind in
       let in_all : flat_map (phase_traps w) all ≡ phase_traps w h.here ++ behind =
       ap (flat_map (phase_traps w)) (sym h.whole)
       ∙ flat_map-append (phase_traps w) h.before (h.here ∷ h.behind)
       ∙ ap (λ l. l ++ (phase_traps w h.here ++ behind)) (calm_phases h.before h.calm) in
       ap (λ l. slice_get l 0) in_all
-      ∙ first_left trap (phase_traps w h.here) behind
-      (ap (λ l. slice_get l 0) in_phase ∙ first_left trap here later h.is)
+      ∙ first_left trap (phase_traps w h.here) behind (first_in h.here trap h.is)
 
   -- a task that is no task has no traps
   with_grouping : (n : Split) (t : Lists) (s : Channels) (p : ℕ) (g : Option Grouping)
@@ -81,13 +91,14 @@ module _ (w : World) where
         (λ k. append-nil (traps_in (task k))) count
 
     map_traps : (k : ℕ) (t : Lists) (s : Channels)
-        → phase_traps w (map_phase_of k n t s) ≡ map_phase (task_traps w).maps n t s
+        → flat_map traps_in (map_phase_of k n t s).tasks ≡ map_phase (task_traps w).maps n t s
     map_traps k t s =
         below_traps (map_task_at n t s) (map_count n s)
         ∙ sym (maps_numbered (task_traps w).maps t s)
 
     reduce_traps : (k : ℕ) (t : Lists) (s : Channels)
-        → phase_traps w (reduce_phase_of w k n t s) ≡ reduce_phase (task_traps w).reduces w n t s
+        → flat_map traps_in (reduce_phase_of w k n t s).tasks
+        ≡ reduce_phase (task_traps w).reduces w n t s
     reduce_traps k t s =
         below_traps (reduce_task_at w n t s) (reduce_count n s)
         ∙ joined_same (λ j. traps_in (reduce_task_at w n t s j))
@@ -102,7 +113,7 @@ module _ (w : World) where
         ap (flat_map (λ g. joined
         (λ p. (task_traps w).reduces g (reduce_task w n t s.inputs g p)) n.partitions)) e
     by_groupings k t s (g ∷ gs) e =
-        append-nil (phase_traps w (reduce_phase_of w k n t s)) ∙ reduce_traps k t s
+        append-nil (flat_map traps_in (reduce_phase_of w k n t s).tasks) ∙ reduce_traps k t s
 
     stage_traps : (k : ℕ) (t : Lists) (s : Stage)
         → flat_map (phase_traps w) (stage_phases w k n t s) ≡ stage_tasks (task_traps w) w n t s
@@ -111,7 +122,7 @@ module _ (w : World) where
         let reduces = by_groupings k t s (groupings s.outputs) refl in
         λ i. maps i ++ reduces i
     stage_traps k t (Flatten takes) = refl
-    stage_traps k t (Operate takes o l a) = refl
+    stage_traps k t (Operate takes o l a) = append-nil (object_made w t o a takes).traps
 
     traps_from : (k : ℕ) (ss : List Stage) (t : Lists)
         → flat_map (phase_traps w) (phases_from w n k ss t) ≡ tasks_from (task_traps w) w n k ss t

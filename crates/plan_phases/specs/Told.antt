@@ -14,27 +14,37 @@ use Rattle.task_lists.specs.Outs.{IsCalm, IsFirstTrap}
 use Rattle.plan_phases.specs.declared.fault.RunFault.{RunFault}
 use Rattle.plan_phases.specs.declared.fault.RunFault.TheVariants as fault
 use Rattle.plan_phases.specs.declared.winners.PhaseWinners.{PhaseWinners}
-use Rattle.plan_phases.specs.Phases.{PhaseTasks}
+use Rattle.plan_phases.specs.Phases.{OfAct, OfTasks, PhaseTasks, PlanPhase, with_tasks}
 
 -- ---- traps
 
--- no task of the phase traps
-abbrev pub IsCalmPhase : World → PhaseTasks → Type 0
-IsCalmPhase w ph = AllByRecursion (IsCalm w) ph.tasks
+-- no task of the phase traps, and neither does its act
+abbrev pub IsCalmPhase : World → PlanPhase → Type 0
+IsCalmPhase w (OfTasks ph) = AllByRecursion (IsCalm w) ph.tasks
+IsCalmPhase w (OfAct traps) = traps ≡ []
 
--- the trap is that of the least trapping task of the first of the phases that has one
-pub record IsFirstOf (w : World) (phases : List PhaseTasks) (trap : Trap) : Type 0 where
-  pub before : List PhaseTasks
-  pub here : PhaseTasks
-  pub behind : List PhaseTasks
-  pub whole : before ++ here ∷ behind ≡ phases
-  pub calm : AllByRecursion (IsCalmPhase w) before
+-- the trap is that of the least trapping task of the phase
+pub record IsFirstOfTasks (w : World) (ph : PhaseTasks) (trap : Trap) : Type 0 where
   pub smaller : List Task
   pub task : Task
   pub greater : List Task
-  pub tasks : smaller ++ task ∷ greater ≡ here.tasks
+  pub tasks : smaller ++ task ∷ greater ≡ ph.tasks
   pub small : AllByRecursion (IsCalm w) smaller
   pub is : IsFirstTrap w task trap
+
+-- or it is that of its act
+abbrev pub IsFirstIn : World → PlanPhase → Trap → Type 0
+IsFirstIn w (OfTasks ph) trap = IsFirstOfTasks w ph trap
+IsFirstIn w (OfAct traps) trap = slice_get traps 0 ≡ Some trap
+
+-- the trap is the first of the first of the phases that has one
+pub record IsFirstOf (w : World) (phases : List PlanPhase) (trap : Trap) : Type 0 where
+  pub before : List PlanPhase
+  pub here : PlanPhase
+  pub behind : List PlanPhase
+  pub whole : before ++ here ∷ behind ≡ phases
+  pub calm : AllByRecursion (IsCalmPhase w) before
+  pub is : IsFirstIn w here trap
 
 -- ---- winners and lost tasks
 
@@ -107,40 +117,41 @@ module _ (tries : ℕ) (drill : List Entry) where
         slice_get winners.attempts k ≡ Some attempt →
         HasRun (settings_of ph) olds news k (places task) attempt
 
-  -- the phases have run through since: no task of them traps, and of each there are winners
-  pub record RanThrough (w : World) (phases : List PhaseTasks) (olds news : List Account)
+  -- the phases have run through since: no task and no act of them traps, and of each that has tasks
+  -- there are winners
+  pub record RanThrough (w : World) (phases : List PlanPhase) (olds news : List Account)
       : Type 0 where
     pub calm : AllByRecursion (IsCalmPhase w) phases
     pub winners : List PhaseWinners
-    pub won : AllZip (AreWinners olds news) phases winners
+    pub won : AllZip (AreWinners olds news) (with_tasks phases) winners
 
   -- the phases have run through since, and their winners were told behind the others; the hosts
   -- were asked for these phases alone, in turn, and the winners are those of the boards
-  pub record HaveRun (w : World) (phases : List PhaseTasks) (olds news : List Account)
+  pub record HaveRun (w : World) (phases : List PlanPhase) (olds news : List Account)
       (before after : List PhaseWinners) : Type 0 where
     pub through : RanThrough w phases olds news
     pub told : after ≡ before ++ through.winners
-    pub asked : AskedInTurn phases (attempts_of through.winners) olds news
+    pub asked : AskedInTurn (with_tasks phases) (attempts_of through.winners) olds news
 
   -- the run has come to this task of one of the phases: the phases before it have run through, and
   -- so have the smaller tasks of its own; the hosts were asked for these phases in turn, and for
   -- none behind them, and the winners are those of the boards
-  pub record IsReached (w : World) (phases : List PhaseTasks) (olds news : List Account)
+  pub record IsReached (w : World) (phases : List PlanPhase) (olds news : List Account)
       (here : PhaseTasks) (task : ℕ) : Type 0 where
-    pub before : List PhaseTasks
-    pub behind : List PhaseTasks
-    pub whole : before ++ here ∷ behind ≡ phases
+    pub before : List PlanPhase
+    pub behind : List PlanPhase
+    pub whole : before ++ OfTasks here ∷ behind ≡ phases
     pub is_task : task < length here.tasks
     pub earlier : RanThrough w before olds news
-    pub smaller : RanThrough w (first_tasks task here ∷ []) olds news
+    pub smaller : RanThrough w (OfTasks (first_tasks task here) ∷ []) olds news
     pub won : List ℕ
-    pub asked : AskedInTurn (before ++ here ∷ []) (attempts_of earlier.winners ++ won ∷ []) olds
-        news
+    pub asked : AskedInTurn (with_tasks before ++ here ∷ [])
+        (attempts_of earlier.winners ++ won ∷ []) olds news
     pub winners : attempts_of smaller.winners ≡ take task won ∷ []
 
   -- a task of one of the phases has trapped: the run has come to it, the attempt that has won it
   -- has run, and this is its first trap
-  pub record HasTrapped (w : World) (phases : List PhaseTasks) (olds news : List Account)
+  pub record TaskHasTrapped (w : World) (phases : List PlanPhase) (olds news : List Account)
       (trap : Trap) : Type 0 where
     pub here : PhaseTasks
     pub number : ℕ
@@ -151,9 +162,25 @@ module _ (tries : ℕ) (drill : List Entry) where
     pub ran : HasRun (settings_of here) olds news number (places task)
         (slice_index reached.won number)
 
+  -- the act of one of the phases has trapped: the phases before it have run through, and this is
+  -- its first trap; the hosts were asked for those phases in turn, and for none behind them
+  pub record ActHasTrapped (w : World) (phases : List PlanPhase) (olds news : List Account)
+      (trap : Trap) : Type 0 where
+    pub before : List PlanPhase
+    pub traps : List Trap
+    pub behind : List PlanPhase
+    pub whole : before ++ OfAct traps ∷ behind ≡ phases
+    pub earlier : RanThrough w before olds news
+    pub asked : AskedInTurn (with_tasks before) (attempts_of earlier.winners) olds news
+    pub is : slice_get traps 0 ≡ Some trap
+
+  abbrev pub HasTrapped : World → List PlanPhase → List Account → List Account → Trap → Type 0
+  HasTrapped w phases olds news trap =
+      TaskHasTrapped w phases olds news trap ⊎ ActHasTrapped w phases olds news trap
+
   -- a task of one of the phases was given up: the run has come to it, no attempt has won it, and
   -- the drill and the losses of the hosts since account for each of its tries
-  pub record IsGivenUp (w : World) (phases : List PhaseTasks) (olds news : List Account)
+  pub record IsGivenUp (w : World) (phases : List PlanPhase) (olds news : List Account)
       (stage : ℕ) (phase : Phase) (task : ℕ) : Type 0 where
     pub here : PhaseTasks
     pub named : (here.stage ≡ stage) × (here.phase ≡ phase)
@@ -162,11 +189,11 @@ module _ (tries : ℕ) (drill : List Entry) where
     pub lost : IsLostTask (length here.tasks) (settings_of here) olds news task
 
   -- the run of the phases has stopped: where no memory was found, behind some front of them
-  abbrev pub IsStopped : World → List PhaseTasks → List Account → List Account → RunFault → Type 0
+  abbrev pub IsStopped : World → List PlanPhase → List Account → List Account → RunFault → Type 0
   IsStopped w phases olds news (fault.Trap trap) = HasTrapped w phases olds news trap
   IsStopped w phases olds news (fault.GaveUp stage phase task) =
       IsGivenUp w phases olds news stage phase task
-  IsStopped w phases olds news fault.Memory = AskedFront phases olds news
+  IsStopped w phases olds news fault.Memory = AskedFront (with_tasks phases) olds news
 
   -- for each task of each phase some try is neither in the drill nor accounted for by the losses of
   -- the hosts

@@ -6,7 +6,7 @@ use std::alloc::AllocError;
 /// Why the run of a plan stopped.
 #[derive(Debug, Drop)]
 pub enum RunFault {
-    /// The first trap of the least trapping task of the first phase that has one.
+    /// The first trap of the least trapping task, or of the act, of the first phase that has one.
     Trap(Trap),
     /// The first task, by phases and by tasks, of which no attempt has won; none before it traps.
     GaveUp {

@@ -93,7 +93,7 @@ module _ (outs : List MapOut) (r p : ℕ) (g : Grouping) (unlifted : g.lifted �
         → IsValueOf called g.does groups out → IsReducedFrom called outs r p g out
     from_groups called out is w pairs alike gathered =
         subst (λ (l : List Value).
-        IsReduceValue w (record { elements = l; does = g.does }) out)
+        IsReduceValue w (record { elements = l; beside = None; does = g.does }) out)
         (are pairs (there pairs gathered).0) (is w alike)
 
     pub groups_reduced : {E : Type 0} (called : ℕ → Value → Called)
@@ -173,7 +173,7 @@ module _ (called : ℕ → Value → Called) (outs : List MapOut) (r p : ℕ) (g
       → IsReducedFrom called outs r p g out
   reduced_from out is w pairs alike gathered =
       subst (λ (d : Option Forest).
-      IsReduceValue w (record { elements = grouped pairs; does = d }) out) (sym does)
+      IsReduceValue w (record { elements = grouped pairs; beside = None; does = d }) out) (sym does)
       (is (grouped pairs) (answers_for pairs gathered) w alike)
 
   pub all_reduced : {E : Type 0} (a : Result (Attempt (Result ReduceOut Trap)) E)

@@ -139,7 +139,7 @@ module _ (w : World) (n : Split) (t : Lists) (s : Mscr) (outs : List MapOut) (r 
       → group_task g (pairs_at g p) ≡ reduce_task w n t s.inputs g p
   task_is g p =
       let groups = grouped-passing (is_in n.partitions p) (gathered w n t s.inputs g.takes) in
-      let of : List Value → Task = λ l. record { elements = l; does = g.does } in
+      let of : List Value → Task = λ l. record { elements = l; beside = None; does = g.does } in
       ap of groups
 
 -- not more channels group than there are

@@ -1,5 +1,5 @@
 -- What is right for a reduce task to give, in worlds in which functions answer alike.
-use Rattle.std.proofs.Common.{◌≡◌, ℕ, List, map, Option, sym, ap, ◌∙◌}
+use Rattle.std.proofs.Common.{◌≡◌, ℕ, List, map, Option, None, sym, ap, ◌∙◌}
 use Rattle.std.specs.Prelude.{Result, Ok, Err, slice_get}
 use Rattle.flume_value.specs.declared.value.Value.{Value}
 use Rattle.flume_collection.specs.declared.trap.Trap.{Trap}
@@ -15,8 +15,8 @@ use Rattle.reduce_part.specs.declared.out.ReduceOut.{ReduceOut}
 
 module _ (v w : World) (same : v.called ≡ w.called) (does : Option Forest) (xs : List Value) where
   same_value : (out : Result ReduceOut Trap)
-      → IsReduceValue v (record { elements = xs; does = does }) out
-      → IsReduceValue w (record { elements = xs; does = does }) out
+      → IsReduceValue v (record { elements = xs; beside = None; does = does }) out
+      → IsReduceValue w (record { elements = xs; beside = None; does = does }) out
   same_value (Ok out) is = record {
     calm = sym (same_traps v w same does xs) ∙ is.calm;
     outputs = is.outputs ∙ same_given v w same does xs;
@@ -28,7 +28,7 @@ module _ (v w : World) (same : v.called ≡ w.called) (does : Option Forest) (xs
 
 pub value_anywhere : (called : ℕ → Value → Called) (does : Option Forest) (xs : List Value)
     (out : Result ReduceOut Trap)
-    → IsReduceValue (world_of called) (record { elements = xs; does = does }) out
+    → IsReduceValue (world_of called) (record { elements = xs; beside = None; does = does }) out
     → IsValueOf called does xs out
 value_anywhere called does xs out is w alike =
     same_value (world_of called) w (sym alike) does xs out is

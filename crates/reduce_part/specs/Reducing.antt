@@ -125,9 +125,9 @@ abbrev pub IsReduceValue : World → Task → Result ReduceOut Trap → Type 0
 IsReduceValue w task (Ok out) = IsReduceOut w task out.outputs out.counts out.groups
 IsReduceValue w task (Err trap) = IsFirstTrap w task trap
 
--- the reducer on the groups of pairs
+-- the reducer on the groups of pairs, beside no object
 abbrev pub group_task : Grouping → List Value → Task
-group_task g pairs = record { elements = grouped pairs; does = g.does }
+group_task g pairs = record { elements = grouped pairs; beside = None; does = g.does }
 
 -- the value of the task of a partition of a grouping channel, in each world in which functions
 -- answer so, whichever pairs what is gathered there stands for

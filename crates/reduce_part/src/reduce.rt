@@ -1,5 +1,5 @@
 // A partition of a grouping channel.
-ghost use Rattle.std.specs.Prelude.{◌≡◌, ℕ, List, All, IfOk, IsSomeAnd, Option, Some, length};
+ghost use Rattle.std.specs.Prelude.{◌≡◌, ℕ, List, All, IfOk, IsSomeAnd, Option, Some, None, length};
 ghost use Rattle.std.specs.List.{AllByRecursion};
 ghost use Rattle.flume_value.specs.declared.value.Value.{Value as GhostValue};
 ghost use Rattle.bag_groups.specs.Groups.{grouped};
@@ -111,7 +111,7 @@ fn reduce_groups<F: Functions, H: Host>(
 pub(crate) fn reduced(course: Course, groups: usize) -> Reduced
     ensures { (w : World) (does : Option Forest) (xs : List GhostValue) → groups ≡ length xs →
         IsCourse w does xs course →
-        IsReduceValue w (record { elements = xs; does = does }) result }
+        IsReduceValue w (record { elements = xs; beside = None; does = does }) result }
 {
     let (outputs, counts) = course?.into_parts();
     Ok(ReduceOut {

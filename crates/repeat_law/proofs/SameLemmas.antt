@@ -13,6 +13,8 @@ use Rattle.script_program.specs.Script.{Script}
 use Rattle.script_laws.specs.WellFormed.{function_at}
 use Rattle.direct_meaning.specs.Direct.{all_made, combined_by, counted_by, done_by, joined_by}
 use Rattle.direct_meaning.specs.Direct.{made_as, made_at, top_by}
+use Rattle.direct_meaning.specs.Calls.{answer_of}
+use Rattle.direct_meaning.specs.Objects.{combined_whole, done_beside, operated_by}
 use Rattle.repeat_law.specs.Turns.{only}
 use Rattle.repeat_law.specs.Reading.{IsLet}
 use Rattle.script_check.specs.Repeats.{renumbered}
@@ -27,6 +29,9 @@ FromNoFile (made.Flatten sources) = Unit {0}
 FromNoFile (made.Count source) = Unit {0}
 FromNoFile (made.Join left right) = Unit {0}
 FromNoFile (made.Top many source) = Unit {0}
+FromNoFile (made.CombineAll source by) = Unit {0}
+FromNoFile (made.Operate objects called) = Unit {0}
+FromNoFile (made.DoWith source called object) = Unit {0}
 
 module _ (to : ℕ → ℕ) (here there : List (Option Collection)) where
   all_same : (numbers : List ℕ)
@@ -65,6 +70,21 @@ module _ (to : ℕ → ℕ) (here there : List (Option Collection)) where
       λ i. option_and_then (λ a. option_map (joined_by a) (second i)) (first i)
   same_made script number (made.Top many source) inputs none same =
       ap (option_map (top_by many)) (same source (at_head source []))
+  same_made script number (made.CombineAll source by) inputs none same =
+      ap (option_map (combined_whole number by)) (same source (at_head source []))
+  same_made script number (made.Operate objects called) inputs none same =
+      let each = all_same objects same in
+      λ i. option_and_then
+      (λ function. option_and_then (operated_by number (answer_of function)) (each i))
+      (function_at script.functions called)
+  same_made script number (made.DoWith source called object) inputs none same =
+      let first = same source (at_head source (object ∷ [])) in
+      let second =
+      same object (at_tail source (object ∷ []) object (at_head object [])) in
+      λ i. option_and_then
+      (λ function. option_and_then
+      (λ c. option_and_then (done_beside number (answer_of function) c) (second i)) (first i))
+      (function_at script.functions called)
 
 -- ---- under the numbers that stand there
 
@@ -81,6 +101,9 @@ itself (made.Flatten sources) = ap (λ l. made.Flatten l) (each_itself sources)
 itself (made.Count source) = refl
 itself (made.Join left right_) = refl
 itself (made.Top many source) = refl
+itself (made.CombineAll source by) = refl
+itself (made.Operate objects called) = ap (λ l. made.Operate l called) (each_itself objects)
+itself (made.DoWith source called object) = refl
 
 -- over a table that holds the same
 pub kept_made : (script : Script) (number : ℕ) (how : Made) (here there : List (Option Collection))
@@ -104,6 +127,9 @@ let_no_file place front (made.Flatten sources) is = tt
 let_no_file place front (made.Count source) is = tt
 let_no_file place front (made.Join left right_) is = tt
 let_no_file place front (made.Top many source) is = tt
+let_no_file place front (made.CombineAll source by) is = tt
+let_no_file place front (made.Operate objects called) is = tt
+let_no_file place front (made.DoWith source called object) is = tt
 
 pub renumbered_no_file : (to : ℕ → ℕ) (how : Made) → FromNoFile how
     → FromNoFile (renumbered to how)
@@ -115,6 +141,9 @@ renumbered_no_file to (made.Flatten sources) is = tt
 renumbered_no_file to (made.Count source) is = tt
 renumbered_no_file to (made.Join left right_) is = tt
 renumbered_no_file to (made.Top many source) is = tt
+renumbered_no_file to (made.CombineAll source by) is = tt
+renumbered_no_file to (made.Operate objects called) is = tt
+renumbered_no_file to (made.DoWith source called object) is = tt
 
 pub renumbered_reads : (to : ℕ → ℕ) (how : Made)
     → operands (renumbered to how) ≡ map to (operands how)
@@ -126,6 +155,9 @@ renumbered_reads to (made.Flatten sources) = refl
 renumbered_reads to (made.Count source) = refl
 renumbered_reads to (made.Join left right_) = refl
 renumbered_reads to (made.Top many source) = refl
+renumbered_reads to (made.CombineAll source by) = refl
+renumbered_reads to (made.Operate objects called) = refl
+renumbered_reads to (made.DoWith source called object) = refl
 
 each_has : (P : ℕ → Type 0) (xs : List ℕ) → Each P xs → (n : ℕ) → Contains xs n → P n
 each_has P [] each n is = absurd (not_in_none n is)
@@ -151,3 +183,9 @@ let_reads place front (made.Join left right_) is n reads =
     each_has (λ n. n < front) (left ∷ right_ ∷ []) (is.0, (is.1, tt)) n reads
 let_reads place front (made.Top many source) is n reads =
     each_has (λ n. n < front) (source ∷ []) (is, tt) n reads
+let_reads place front (made.CombineAll source by) is n reads =
+    each_has (λ n. n < front) (source ∷ []) (is, tt) n reads
+let_reads place front (made.Operate objects called) is n reads =
+    each_has (λ n. n < front) objects is n reads
+let_reads place front (made.DoWith source called object) is n reads =
+    each_has (λ n. n < front) (source ∷ object ∷ []) (is.0, (is.1, tt)) n reads

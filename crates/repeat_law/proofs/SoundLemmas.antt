@@ -27,7 +27,7 @@ zip_within nodes most long [] [] zipped = tt
 zip_within nodes most long [] (entry ∷ entries) zipped = absurd zipped
 zip_within nodes most long (number ∷ numbers) [] zipped = absurd zipped
 zip_within nodes most long (number ∷ numbers) (entry ∷ entries) zipped =
-    let below = read_at nodes number entry.1.type zipped.0 in
+    let below = read_at nodes number entry.1.type zipped.0.members in
     (omega arith, zip_within nodes most long numbers entries zipped.1)
 
 module _ (functions : Named Function) where
@@ -52,6 +52,17 @@ module _ (functions : Named Function) where
       )
   is_let place front (made.Top many source) type here fits =
       read_at front source type fits.reads
+  is_let place front (made.CombineAll source by) type here fits =
+      operand_before functions front (made.CombineAll source by) type fits source
+      (at_head source [])
+  is_let place front (made.Operate objects called) type here fits =
+      each_from (λ n. n < length front) objects
+      (operand_before functions front (made.Operate objects called) type fits)
+  is_let place front (made.DoWith source called object) type here fits =
+      let reads = operand_before functions front (made.DoWith source called object) type fits in (
+        reads source (at_head source (object ∷ [])),
+        reads object (at_tail source (object ∷ []) object (at_head object [])),
+      )
 
   are_lets : (lets : Named Node) (place number : ℕ) (front : Named Node) → length front ≡ number
       → AreInPlace place (map (λ entry. entry.1.made) lets) → AllFit functions front lets

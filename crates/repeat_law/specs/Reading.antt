@@ -29,6 +29,9 @@ IsLet place front (made.Flatten sources) = Each (λ source. source < front) sour
 IsLet place front (made.Count source) = source < front
 IsLet place front (made.Join left right) = left < front × right < front
 IsLet place front (made.Top many source) = source < front
+IsLet place front (made.CombineAll source by) = source < front
+IsLet place front (made.Operate objects called) = Each (λ object. object < front) objects
+IsLet place front (made.DoWith source called object) = source < front × object < front
 
 -- the same of each let, where the first has that place in the body
 abbrev pub AreLets : ℕ → ℕ → List Made → Type 0

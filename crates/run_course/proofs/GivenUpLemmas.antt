@@ -1,5 +1,5 @@
 -- Where hosts can finish each task of each phase, none is given up.
-use Rattle.std.proofs.Common.{ℕ, ◌+◌, ◌-◌, ◌≤◌, inl, inr, List, [], ◌∷◌, ◌++◌, sym, subst, arith}
+use Rattle.std.proofs.Common.{ℕ, ◌+◌, ◌-◌, ◌≤◌, ◌∙◌, ap, inl, inr, List, [], ◌∷◌, ◌++◌, sym, subst, arith}
 use Rattle.std.specs.List.{AllByRecursion}
 use Rattle.outside.specs.declared.host.Phase.{Phase}
 use Rattle.crew.specs.declared.drill.Entry.{Entry}
@@ -7,7 +7,8 @@ use Rattle.crew.specs.Drills.{drilled_tries}
 use Rattle.crew.specs.Hosts.{Account, HaveRisen}
 use Rattle.crew.specs.Phases.{CanFinish}
 use Rattle.exec_graph.specs.World.{World}
-use Rattle.plan_phases.specs.Phases.{PhaseTasks}
+use Rattle.plan_phases.proofs.Joining.{tasks_both}
+use Rattle.plan_phases.specs.Phases.{OfTasks, PhaseTasks, PlanPhase, with_tasks}
 use Rattle.plan_phases.specs.Told.{CanFinishAll, IsGivenUp, settings_of}
 use Rattle.std.proofs.Common.{length}
 
@@ -23,10 +24,10 @@ pub risen_less : (m n : ℕ) (olds news : List Account) → m ≤ n → HaveRise
 risen_less m n olds news less (inl risen) = inl (omega arith)
 risen_less m n olds news less (inr full) = inr full
 
-module _ (tries : ℕ) (drill : List Entry) (w : World) (phases : List PhaseTasks)
+module _ (tries : ℕ) (drill : List Entry) (w : World) (phases : List PlanPhase)
     (olds news : List Account) (stage : ℕ) (phase : Phase) (task : ℕ) where
   pub not_given_up : IsGivenUp tries drill w phases olds news stage phase task
-      → CanFinishAll tries drill phases olds news → ⊥
+      → CanFinishAll tries drill (with_tasks phases) olds news → ⊥
   not_given_up given all =
       let here = given.here in
       let reached = given.reached in
@@ -34,8 +35,10 @@ module _ (tries : ℕ) (drill : List Entry) (w : World) (phases : List PhaseTask
       let Ends : PhaseTasks → Type 0
       = λ ph. CanFinish (length ph.tasks) (settings_of tries drill ph) olds news in
       let can : Ends here
-      = each_at Ends reached.before here reached.behind
-      (subst (λ (l : List PhaseTasks). AllByRecursion Ends l) (sym reached.whole) all) in
+      = each_at Ends (with_tasks reached.before) here (with_tasks reached.behind)
+      (subst (λ (l : List PhaseTasks). AllByRecursion Ends l)
+      (ap with_tasks (sym reached.whole)
+      ∙ tasks_both reached.before (OfTasks here ∷ reached.behind)) all) in
       let counted : tries ≤ drilled_tries s task + given.lost.losses = given.lost.counted in
       let less : tries - drilled_tries s task ≤ given.lost.losses = omega arith in
       can task reached.is_task

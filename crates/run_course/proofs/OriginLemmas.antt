@@ -1,6 +1,6 @@
 -- Each trap of a script is of one of its collections.
 use Rattle.std.proofs.Common.{◌≡◌, ℕ, suc, zero, ◌+◌, ◌-◌, ◌<◌, ◌≤◌, Bool, true, false, List, [], ◌∷◌, ◌++◌, length, map, Option, Some, None, Ok, Err, if◌then◌else◌, sym, refl, subst, arith, ⊎_elim, length-append}
-use Rattle.std.specs.Prelude.{⊤, option_and_then}
+use Rattle.std.specs.Prelude.{⊤, Result, option_and_then, pos}
 use Rattle.std.specs.List.{Contains, flat_map}
 use Rattle.std.specs.Option.{option_map}
 use Rattle.std.proofs.lemmas.List.Elements.{Contains-append_cases}
@@ -9,17 +9,20 @@ use Rattle.bag_steps.specs.Counts.{counted_traps}
 use Rattle.combine_table.specs.Combinations.{combined}
 use Rattle.flume_collection.proofs.Members.{head_or_tail, not_in_none, set_members}
 use Rattle.flume_collection.proofs.Orders.{trap_order}
-use Rattle.flume_collection.specs.Calls.{Called, trap_named, trap_of}
+use Rattle.flume_collection.specs.Calls.{Called, emissions, trap_named, trap_of}
 use Rattle.flume_collection.specs.Collection.{Collection}
 use Rattle.flume_collection.specs.Traps.{trap_le, trap_set}
 use Rattle.flume_collection.specs.declared.trap.Trap.{Trap}
 use Rattle.flume_value.specs.declared.fault.Kind.{Kind}
+use Rattle.flume_value.specs.declared.fault.Kind.TheVariants as kind
 use Rattle.flume_value.specs.declared.value.Value.{Value}
+use Rattle.flume_value.specs.declared.value.Value.TheVariants as value
 use Rattle.direct_meaning.specs.Calls.{answer_of, calls_on}
 use Rattle.direct_meaning.specs.Direct as spec
+use Rattle.direct_meaning.specs.Objects.{answer_beside, answered_once, argument_of, done_on, nothing_behind, object_as, one_of, only, operated_on, value_of, values_of, whole_behind}
 use Rattle.script_program.specs.declared.made.Made.{Made}
 use Rattle.script_program.specs.declared.made.Made.TheVariants as made
-use Rattle.script_program.specs.Script.{Function, Node, Script}
+use Rattle.script_program.specs.Script.{Node, Script}
 use Rattle.script_laws.specs.WellFormed.{function_at}
 use Rattle.script_program.specs.Needed.{is_needed}
 use Rattle.written_types.specs.Named.{Named}
@@ -155,14 +158,65 @@ counts_below n [] bag all =
     (named_below (suc n) n (counted_traps bag) (omega arith))
 counts_below n (trap ∷ traps) bag all = all
 
-done_below : (n origin output : ℕ) (function : Function) (c d : Collection) → origin ≤ n
-    → Below (suc n) c.traps → spec.done_by origin output function c ≡ Some d → Own n d
-done_below n origin output function c d low all is =
-    let (calls, made, same) = mapped _ (calls_on (answer_of function) c.bag) d is in
+calls_below : (n origin output : ℕ) (answer : Value → Option Called) (c d : Collection)
+    → origin ≤ n → Below (suc n) c.traps
+    → option_map (spec.called_by origin output c.traps) (calls_on answer c.bag) ≡ Some d
+    → Own n d
+calls_below n origin output answer c d low all is =
+    let (calls, made, same) = mapped _ (calls_on answer c.bag) d is in
     let own = flat_map (trap_of origin) calls in
     as_own n _ d same
     (set_below (suc n) (c.traps ++ own) (both_below (suc n) c.traps own all
     (each_below (suc n) (trap_of origin) calls (call_below (suc n) origin (omega arith)))))
+
+-- ---- objects
+
+nothing_below : (n : ℕ) (cs : List Collection) → Below (suc n) (flat_map (λ c. c.traps) cs)
+    → Own n (nothing_behind cs)
+nothing_below n cs all = set_below (suc n) (flat_map (λ (c : Collection). c.traps) cs) all
+
+whole_below : (n : ℕ) (traps : List Trap) (whole : Result Value Kind) → Below (suc n) traps
+    → Own n (whole_behind n traps whole)
+whole_below n [] (Ok v) all = none_below (suc n)
+whole_below n [] (Err why) all =
+    one_below (suc n) (trap_named n (why, value.Int (pos 0))) [] (omega arith)
+    (none_below (suc n))
+whole_below n (trap ∷ traps) whole all = all
+
+one_of_below : (n : ℕ) (x : Value) (one : Option Value) → Own n (object_as (one_of n x one))
+one_of_below n x (Some v) = none_below (suc n)
+one_of_below n x None =
+    one_below (suc n) (trap_named n (kind.NotOne, x)) [] (omega arith) (none_below (suc n))
+
+once_below : (n : ℕ) (x : Value) (called : Called) → Own n (object_as (answered_once n x called))
+once_below n x (Ok outputs) = one_of_below n x (only (emissions 0 (Ok outputs)))
+once_below n x (Err trap) =
+    one_below (suc n) (trap_named n trap) [] (omega arith) (none_below (suc n))
+
+operated_below : (n : ℕ) (answer : Value → Option Called) (cs : List Collection)
+    (values : Option (List Value)) (d : Collection)
+    → Below (suc n) (flat_map (λ c. c.traps) cs) → operated_on n answer values cs ≡ Some d
+    → Own n d
+operated_below n answer cs (Some vs) d all is =
+    let (called, made, same) = mapped _ (answer (argument_of vs)) d is in
+    as_own n _ d same (once_below n (argument_of vs) called)
+operated_below n answer cs None d all is =
+    let same : nothing_behind cs ≡ d = cc in
+    as_own n (nothing_behind cs) d same (nothing_below n cs all)
+
+beside_below : (n : ℕ) (answer : Value → Option Called) (c object : Collection)
+    (v : Option Value) (d : Collection) → Below (suc n) c.traps → Below (suc n) object.traps
+    → done_on n answer v c object ≡ Some d → Own n d
+beside_below n answer c object (Some v) d first second is =
+    calls_below n n 0 (answer_beside answer v) c d (omega arith) first is
+beside_below n answer c object None d first second is =
+    let same : nothing_behind (c ∷ object ∷ []) ≡ d = cc in
+    as_own n (nothing_behind (c ∷ object ∷ [])) d same
+    (nothing_below n (c ∷ object ∷ [])
+    (both_below (suc n) c.traps (object.traps ++ []) first
+    (both_below (suc n) object.traps [] second (none_below (suc n)))))
+
+-- ---- by each way in which a collection is made
 
 own_below : (script : Script) (n : ℕ) (by : Made) (inputs : List (List Value)) (table : Table)
     (d : Collection) → AreBelow n table → spec.made_as script n by inputs table ≡ Some d
@@ -174,8 +228,8 @@ own_below script n (made.Input file columns) (rows ∷ inputs) table d all is =
 own_below script n (made.Do source called output) inputs table d all is =
     let (function, at, rest) = bound _ (function_at script.functions called) d is in
     let (c, found, does) = bound _ (spec.made_at table source) d rest in
-    done_below n (n - output) output function c d (omega arith) (behind_own n table source c all
-    found) does
+    calls_below n (n - output) output (answer_of function) c d (omega arith)
+    (behind_own n table source c all found) does
 own_below script n (made.Group source) inputs table d all is =
     let (c, found, same) = mapped _ (spec.made_at table source) d is in
     as_own n _ d same (behind_own n table source c all found)
@@ -202,6 +256,21 @@ own_below script n (made.Join left right) inputs table d all is =
 own_below script n (made.Top many source) inputs table d all is =
     let (c, found, same) = mapped _ (spec.made_at table source) d is in
     as_own n _ d same (behind_own n table source c all found)
+own_below script n (made.CombineAll source by) inputs table d all is =
+    let (c, found, same) = mapped _ (spec.made_at table source) d is in
+    as_own n _ d same
+    (whole_below n c.traps (combined by c.bag) (behind_own n table source c all found))
+own_below script n (made.Operate objects called) inputs table d all is =
+    let (function, at, rest) = bound _ (function_at script.functions called) d is in
+    let (cs, found, does) = bound _ (spec.all_made table objects) d rest in
+    operated_below n (answer_of function) cs (values_of cs) d
+    (all_below n table objects cs all found) does
+own_below script n (made.DoWith source called object) inputs table d all is =
+    let (function, at, rest) = bound _ (function_at script.functions called) d is in
+    let (c, found, more) = bound _ (spec.made_at table source) d rest in
+    let (o, other, does) = bound _ (spec.made_at table object) d more in
+    beside_below n (answer_of function) c o (value_of o) d (behind_own n table source c all found)
+    (behind_own n table object o all other) does
 
 -- ---- all collections
 

@@ -95,8 +95,8 @@ IsWriteFault Screen words before after = IsScreenFault words before after
 
 -- ---- what is not
 
--- It is the first trap of the tasks of the script's plan, as the settings split it: its task has
--- run, and all phases and tasks before have run without a trap.
+-- It is the first trap of the script's plan, as the settings split it: its task has run, or an object
+-- was to be made there; and all phases and tasks before have run without a trap.
 abbrev pub IsFirstOfTasks : RunSettings → Script → List (List Value) → List Account → List Account
     → TrapOf → Type 0
 IsFirstOfTasks s script rows olds news trap =

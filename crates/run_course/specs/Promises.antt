@@ -10,6 +10,7 @@ use Rattle.flume_value.specs.declared.value.Value.{Value}
 use Rattle.outside.specs.Cause.{Rose, RoseBy}
 use Rattle.outside.specs.Seen.{SeenShelf}
 use Rattle.outside.specs.declared.host.Phase.{Phase}
+use Rattle.plan_phases.specs.Phases.{with_tasks}
 use Rattle.plan_phases.specs.Told.{CanFinishAll}
 use Rattle.run_course.specs.Answers.{IsDone, IsFileFault, IsGaveUp, IsInputRefused, IsNoFile, IsReadFault, IsRefused, IsScreenFault, IsScriptRefused, IsTooLong, IsTrap, IsUsage}
 use Rattle.script_loading.specs.Loads.{AllHaveRows}
@@ -69,7 +70,8 @@ abbrev pub CanEnd : Command → Script → List (List Value) → List Account �
 CanEnd (Run s) script rows olds news =
     (plan : Plan) (table : Table) → IsScriptPlan script plan
     → meaning script rows ≡ Some table
-    → CanFinishAll s.tries s.drill (phases_of s script rows plan) (lent s olds) (lent s news)
+    → CanFinishAll s.tries s.drill (with_tasks (phases_of s script rows plan)) (lent s olds)
+    (lent s news)
 CanEnd _ script rows olds news = ⊤
 
 -- All is there that a command needs: files are told, the words ask for it on this script, the

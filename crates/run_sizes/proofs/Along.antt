@@ -52,6 +52,9 @@ rest_behind script rows n input (made.Flatten sources) left table c ahead h = ah
 rest_behind script rows n input (made.Count source) left table c ahead h = ahead
 rest_behind script rows n input (made.Join a b) left table c ahead h = ahead
 rest_behind script rows n input (made.Top many source) left table c ahead h = ahead
+rest_behind script rows n input (made.CombineAll source k) left table c ahead h = ahead
+rest_behind script rows n input (made.Operate objects f) left table c ahead h = ahead
+rest_behind script rows n input (made.DoWith source f object) left table c ahead h = ahead
 
 -- ---- one collection
 
@@ -76,6 +79,9 @@ module _ (script : Script) (rows : List (List Value)) (counts : List ℕ)
   one_size (made.Count source) n input left table c ahead h own = own tt
   one_size (made.Join a b) n input left table c ahead h own = own tt
   one_size (made.Top many source) n input left table c ahead h own = own tt
+  one_size (made.CombineAll source k) n input left table c ahead h own = own tt
+  one_size (made.Operate objects f) n input left table c ahead h own = own tt
+  one_size (made.DoWith source f object) n input left table c ahead h own = own tt
 
   made_here : (before nodes : Named Node) (entry : List ℕ × Node) (n : ℕ)
       → before ++ entry ∷ nodes ≡ script.nodes → length before ≡ n

@@ -100,3 +100,6 @@ few_behind (made.Flatten sources) input n few = omega arith
 few_behind (made.Count source) input n few = omega arith
 few_behind (made.Join a b) input n few = omega arith
 few_behind (made.Top many source) input n few = omega arith
+few_behind (made.CombineAll source k) input n few = omega arith
+few_behind (made.Operate objects f) input n few = omega arith
+few_behind (made.DoWith source f object) input n few = omega arith

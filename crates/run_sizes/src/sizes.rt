@@ -73,7 +73,10 @@ fn size_of(
         | Made::Combine { .. }
         | Made::Count { .. }
         | Made::Join { .. }
-        | Made::Top { .. } => count_at(counts, number),
+        | Made::Top { .. }
+        | Made::CombineAll { .. }
+        | Made::Operate { .. }
+        | Made::DoWith { .. } => count_at(counts, number),
     }
 }
 

@@ -7,7 +7,6 @@ use Rattle.std.proofs.lemmas.List.{length_push, length-take-le}
 use Rattle.flume_types.specs.declared.types.Ty.{Ty}
 use Rattle.flume_grammar.specs.declared.tree.Operation.{Operation}
 use Rattle.flume_grammar.specs.declared.tree.TurnLet.{TurnLet}
-use Rattle.flume_types.specs.Equality.{type_eq}
 use Rattle.flume_grammar.specs.declared.fault.ScriptFault.{ScriptFault}
 use Rattle.flume_grammar.specs.declared.fault.ScriptFault.TheVariants.{Refused, Memory}
 use Rattle.type_table.specs.Table.{Extends}
@@ -34,8 +33,12 @@ module _ (old new : List Ty) (more : Extends old new) (from : List HeldOperand) 
   pub operands-kept : All (IsIn old) from → map (operand_in new) from ≡ map (operand_in old) from
   operands-kept within =
       same-map (operand_in new) (operand_in old) (IsIn old)
-      (λ source in_ i. record { number = source.number; type = more.same source.ty in_ i }) from
-      within
+      (λ source in_ i. record {
+        number = source.number;
+        type = more.same source.ty in_ i;
+        is_object = source.is_object;
+      })
+      from within
 
   pub operands-within : All (IsIn old) from → All (IsIn new) from
   operands-within within = λ k source in_. omega (arith, within k source in_, more.longer)
@@ -98,7 +101,7 @@ not-alike [] [] other = absurd (other refl)
 not-alike [] (one ∷ given) other = refl
 not-alike (one ∷ from) [] other = refl
 not-alike (one ∷ from) (two ∷ given) other =
-    both-false (type_eq one.type two.type) (spec.alike from given)
+    both-false (spec.is_like one two) (spec.alike from given)
     (not-alike from given (λ same. other (ap suc same)))
 
 -- ---- the repeat behind its body

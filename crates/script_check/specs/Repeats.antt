@@ -42,6 +42,10 @@ renumbered to (made.Flatten sources) = made.Flatten (map to sources)
 renumbered to (made.Count source) = made.Count (to source)
 renumbered to (made.Join left right) = made.Join (to left) (to right)
 renumbered to (made.Top many source) = made.Top many (to source)
+renumbered to (made.CombineAll source by) = made.CombineAll (to source) by
+renumbered to (made.Operate objects called) = made.Operate (map to objects) called
+renumbered to (made.DoWith source called object) =
+    made.DoWith (to source) called (to object)
 
 -- the name of a let in a turn: `y@i`
 abbrev pub in_turn : ℕ → List ℕ → List ℕ

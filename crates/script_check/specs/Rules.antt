@@ -24,6 +24,8 @@ use Rattle.written_types.specs.Written.{shallow, whole_type}
 use Rattle.body_check.specs.Bodies.{body_of}
 use Rattle.script_program.specs.Limits.{most_collections, most_files, most_functions}
 use Rattle.script_program.specs.Limits.{most_outputs}
+use Rattle.combine_table.specs.declared.comb.Comb.TheVariants as comb
+use Rattle.script_program.specs.declared.made.Made.{Made}
 use Rattle.script_program.specs.declared.made.Made.TheVariants as made
 use Rattle.expression_check.specs.Numbers.{number_within}
 use Rattle.script_program.specs.Script.{Making, Operand, Script, Signature, State, function_from}
@@ -141,9 +143,14 @@ pub record Entry : Type 0 where
   pub from : List Operand
   pub turns : ℕ
 
+-- a collection again: an object as its own least value, any other as all of its members
+abbrev pub again : Bool → ℕ → Made
+again true number = made.CombineAll number comb.Min
+again false number = made.Flatten (number ∷ [])
+
 -- what enters a turn is called so in the body: a collection of its own, which is that one
 abbrev pub entered : Operand → Making
-entered one = record { made = made.Flatten (one.number ∷ []); type = one.type }
+entered one = record { made = again one.is_object one.number; type = one.type }
 
 -- before the body: the let's names are taken, and what enters has its names
 abbrev pub with_entry : List (List ℕ) → List (List ℕ) → List Operand → State → State
@@ -156,12 +163,21 @@ as_many count written =
     length written.from == count
     && (length written.entering == count && length written.gives == count)
 
--- as many collections, each of the type of the other
+-- both are objects, or none is
+abbrev pub same_kind : Bool → Bool → Bool
+same_kind true other = other
+same_kind false other = not other
+
+-- a collection of the type of another, and an object where that is one
+abbrev pub is_like : Operand → Operand → Bool
+is_like one other = type_eq one.type other.type && same_kind one.is_object other.is_object
+
+-- as many collections, each like the other
 abbrev pub alike : List Operand → List Operand → Bool
 alike [] [] = true
 alike [] (other ∷ given) = false
 alike (one ∷ from) [] = false
-alike (one ∷ from) (other ∷ given) = type_eq one.type other.type && alike from given
+alike (one ∷ from) (other ∷ given) = is_like one other && alike from given
 
 -- the repeat of what enters it and of what its body gives: so many collections stand outside it,
 -- and so many in front of the body's lets
@@ -196,7 +212,7 @@ module _ (line : ℕ) where
     many ← unless line Mistyped (as_many (length names) written)
     Ok (record { from = from; turns = turns })
 
-  -- the collections of these names, each of the type of the one that enters
+  -- the collections of these names, each of the type and the kind of the one that enters
   abbrev pub gives_of : List (List ℕ) → List Operand → State → Checked (List ℕ)
   gives_of names from body = do
     given ← collections_behind line [] names body

@@ -54,6 +54,26 @@ pub fn renumbered(
             number: *number,
             source: stands_for(outside, seen, *source),
         }),
+        Made::CombineAll { source, by } => Ok(Made::CombineAll {
+            source: stands_for(outside, seen, *source),
+            by: *by,
+        }),
+        Made::Operate { objects, function } => {
+            let objects = stand_for_all(alloc, outside, seen, objects.as_slice())?;
+            Ok(Made::Operate {
+                objects,
+                function: *function,
+            })
+        }
+        Made::DoWith {
+            source,
+            function,
+            object,
+        } => Ok(Made::DoWith {
+            source: stands_for(outside, seen, *source),
+            function: *function,
+            object: stands_for(outside, seen, *object),
+        }),
     }
 }
 

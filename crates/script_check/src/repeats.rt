@@ -15,6 +15,7 @@ ghost use Rattle.script_check.specs.inner.Names.{AreFree, AreNew};
 use crate::fresh::room;
 use crate::lets::{add_all, add_let, all_fresh};
 use crate::turns::{Repeat, unroll};
+use combine_table::Comb;
 use expression_check::number_within;
 use flume_grammar::{Repeat as Written, ScriptFault, ScriptKind, TurnLet};
 use flume_value::{Pile, Str};
@@ -181,12 +182,26 @@ fn entered_one(alloc: Global, source: &Operand) -> Result<Making, AllocError>
         making_in types making ≡ spec.entered (operand_in types source.now)) }
     ensures same { IfOk result (λ making. making.ty ≡ source.now.ty) }
 {
-    let mut sources = Pile::new(alloc);
-    sources.push(source.number)?;
+    let made = again(alloc, source.is_object, source.number)?;
     Ok(Making {
-        made: Made::Flatten { sources },
+        made,
         ty: source.ty,
     })
+}
+
+/// The collection of this number again.
+fn again(alloc: Global, is_object: bool, number: usize) -> Result<Made, AllocError>
+    ensures { IfOk result (λ made. made ≡ spec.again is_object number) }
+{
+    if is_object {
+        return Ok(Made::CombineAll {
+            source: number,
+            by: Comb::Min,
+        });
+    }
+    let mut sources = Pile::new(alloc);
+    sources.push(number)?;
+    Ok(Made::Flatten { sources })
 }
 
 /// The repeat whose lets and given names are these, behind what enters it.
@@ -276,7 +291,8 @@ fn repeat_for(
     })
 }
 
-/// The numbers of the collections of these names, each of the type of the one that enters.
+/// The numbers of the collections of these names, each of the type and the kind of the one that
+/// enters.
 fn gives_for(
     alloc: Global,
     line: u32,
@@ -295,7 +311,7 @@ fn gives_for(
     Ok(numbers(alloc, given.as_slice())?)
 }
 
-/// Whether these are as many collections, each of the type of the other.
+/// Whether these are as many collections, each like the other.
 fn alike(from: &[Operand], given: &[Operand], types: &Types) -> bool
     requires from { All (λ source. source.ty < length types.now) from.now }
     requires given { All (λ source. source.ty < length types.now) given.now }
@@ -306,11 +322,19 @@ fn alike(from: &[Operand], given: &[Operand], types: &Types) -> bool
         return false;
     }
     for place in 0..from.len() {
-        if !types.same(from[place].ty, given[place].ty) {
+        let like = same_kind(from[place].is_object, given[place].is_object);
+        if !types.same(from[place].ty, given[place].ty) || !like {
             return false;
         }
     }
     true
+}
+
+/// Whether both are objects or none is.
+fn same_kind(one: bool, other: bool) -> bool
+    ensures { result ≡ spec.same_kind one other }
+{
+    if one { other } else { !other }
 }
 
 /// Room for so many turns of so many lets.

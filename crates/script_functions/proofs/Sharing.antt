@@ -81,7 +81,7 @@ Function-sync : IsSync function.the_row
 Function-sync = search (sendable, parts, Body-sync, Fun-sync) depth 60
 
 Node-sync : IsSync node.the_row
-Node-sync = search (sendable, crosses, parts) depth 60
+Node-sync = search (sendable, crosses, parts) depth 60 fits 4000
 
 Output-sync : IsSync output.the_row
 Output-sync = search (sendable, crosses, parts) depth 60

@@ -10,7 +10,7 @@ use Rattle.flume_grammar.specs.declared.tree.Repeat.{Repeat}
 use Rattle.script_keys.specs.declared.outline.Outline.{Outline}
 use Rattle.script_keys.specs.declared.outline.Outline.TheVariants as outline
 
--- the collections that an operation reads, by their names
+-- the collections and objects that an operation reads, by their names
 abbrev pub operands : Operation → List (List ℕ)
 operands (operation.Do source function) = source ∷ []
 operands (operation.Group source) = source ∷ []
@@ -19,10 +19,15 @@ operands (operation.Flatten sources) = sources
 operands (operation.Count source) = source ∷ []
 operands (operation.Join left right) = left ∷ right ∷ []
 operands (operation.Top digits source) = source ∷ []
+operands (operation.CombineAll source by) = source ∷ []
+operands (operation.Operate objects function) = objects
+operands (operation.DoWith source function object) = source ∷ object ∷ []
 
 -- the function that it calls, if it calls one
 abbrev pub callees : Operation → List (List ℕ)
 callees (operation.Do source function) = function ∷ []
+callees (operation.Operate objects function) = function ∷ []
+callees (operation.DoWith source function object) = function ∷ []
 callees _ = []
 
 -- what a repeat reads: what enters its first turn, what its body names, and what it gives. No other

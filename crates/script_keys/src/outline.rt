@@ -109,7 +109,7 @@ fn called_in(alloc: Global, repeat: &Repeat) -> Result<Pile<Str>, AllocError>
     Ok(calls)
 }
 
-// Puts the collections that an operation reads behind others.
+// Puts the collections and objects that an operation reads behind others.
 fn add_operands(alloc: Global, by: &Operation, reads: &mut Pile<Str>) -> Result<(), AllocError>
     ensures { OnOk result (reads.new ≡ reads.old ++ spec.operands by.now) }
 {
@@ -121,6 +121,9 @@ fn add_operands(alloc: Global, by: &Operation, reads: &mut Pile<Str>) -> Result<
         Operation::Count(source) => with_name(alloc, reads, source),
         Operation::Join(left, right) => add_both(alloc, reads, left, right),
         Operation::Top(_, source) => with_name(alloc, reads, source),
+        Operation::CombineAll(source, _) => with_name(alloc, reads, source),
+        Operation::Operate(objects, _) => add_all(alloc, reads, objects.as_slice()),
+        Operation::DoWith(source, _, object) => add_both(alloc, reads, source, object),
     }
 }
 
@@ -138,6 +141,8 @@ fn add_callees(alloc: Global, by: &Operation, calls: &mut Pile<Str>) -> Result<(
 {
     match by {
         Operation::Do(_, function) => with_name(alloc, calls, function),
+        Operation::Operate(_, function) => with_name(alloc, calls, function),
+        Operation::DoWith(_, function, _) => with_name(alloc, calls, function),
         _ => Ok(()),
     }
 }

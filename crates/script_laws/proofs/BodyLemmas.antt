@@ -18,13 +18,14 @@ use Rattle.operation_check.specs.Operations.{made_by, outputs_from}
 use Rattle.script_check.specs.Rules as spec
 use Rattle.script_check.proofs.CheckedLemmas.{both, holds, ok-same}
 use Rattle.script_laws.specs.Fitting.{AreInPlace, IsInPlace}
-use Rattle.script_laws.specs.WellFormed.{AllFit}
+use Rattle.script_laws.specs.WellFormed.{AllFit, AllReadKinds}
 use Rattle.script_laws.proofs.CallLemmas.{CallsStand, calls-outputs, calls-push, other-no-call}
-use Rattle.script_laws.proofs.FitLemmas.{fit-append}
-use Rattle.script_laws.proofs.NewLemmas.{alone-fits, functions-are, how_made, how_making, named}
-use Rattle.script_laws.proofs.NewLemmas.{named-few, named-made, nodes-are, outputs-are}
-use Rattle.script_laws.proofs.NewLemmas.{outputs-fit}
-use Rattle.script_laws.proofs.OperationLemmas.{AreOutputs, IsAlone, IsOther, made-is}
+use Rattle.script_laws.proofs.FitLemmas.{fit-append, kinds-append}
+use Rattle.script_laws.proofs.MakingLemmas.{AreOutputs, IsAlone, IsOther}
+use Rattle.script_laws.proofs.NewLemmas.{alone-fits, alone-kinds, functions-are, how_made}
+use Rattle.script_laws.proofs.NewLemmas.{how_making, named, named-few, named-made, nodes-are}
+use Rattle.script_laws.proofs.NewLemmas.{outputs-are, outputs-fit, outputs-kinds}
+use Rattle.script_laws.proofs.OperationLemmas.{made-is}
 
 -- what lets add fits, and its calls stand as they should
 pub record HasLets (s after : State) : Type 0 where
@@ -33,6 +34,7 @@ pub record HasLets (s after : State) : Type 0 where
   pub functions : after.functions ≡ s.functions
   pub outputs : after.outputs ≡ s.outputs
   pub fit : AllFit s.functions s.nodes lets
+  pub kinds : AllReadKinds s.nodes lets
   pub in_place : (place : ℕ) → AreInPlace place (map how_made lets)
   pub calls : (all : List Made) → CallsStand s.functions all
       → CallsStand s.functions (all ++ map how_made lets)
@@ -46,6 +48,7 @@ no-lets s = record {
   functions = refl;
   outputs = refl;
   fit = tt;
+  kinds = tt;
   in_place = λ place. tt;
   calls = λ all stand. subst (CallsStand s.functions) (sym (append-nil all)) stand;
 }
@@ -87,6 +90,9 @@ module _ (s middle after : State) (first : HasLets s middle) (second : HasLets m
         fit-append s.functions s.nodes first.lets second.lets first.fit
         (subst (λ nodes. AllFit s.functions nodes second.lets) first.nodes
         (subst (λ fs. AllFit fs middle.nodes second.lets) first.functions second.fit));
+    kinds =
+        kinds-append s.nodes first.lets second.lets first.kinds
+        (subst (λ nodes. AllReadKinds nodes second.lets) first.nodes second.kinds);
     in_place =
         λ place. subst (AreInPlace place) both-made
         (places-append place firsts others (first.in_place place) second.in_place);
@@ -107,6 +113,9 @@ other-in-place place (made.Flatten sources) other = tt
 other-in-place place (made.Count source) other = tt
 other-in-place place (made.Join left right_) other = tt
 other-in-place place (made.Top many source) other = tt
+other-in-place place (made.CombineAll source by) other = tt
+other-in-place place (made.Operate objects called) other = tt
+other-in-place place (made.DoWith source called object) other = tt
 
 outputs-in-place : (source called place output : ℕ) (types : List Ty) → output ≤ place
     → AreInPlace place (map how_making (outputs_from source called output types))
@@ -119,11 +128,12 @@ outputs-in-place source called place output (t ∷ types) within = (
 module _ (s : State) (names : List (List ℕ)) (makings : List Making)
     (many : length makings ≡ length names) where
   made-lets : AllFit s.functions s.nodes (named s.statements names makings)
+      → AllReadKinds s.nodes (named s.statements names makings)
       → ((place : ℕ) → AreInPlace place (map how_making makings))
       → ((all : List Made) → CallsStand s.functions all
       → CallsStand s.functions (all ++ map how_making makings))
       → HasLets s (with_nodes names makings s)
-  made-lets fits places calls =
+  made-lets fits kinds places calls =
       let made = named-made s.statements names makings many in
       record {
         lets = named s.statements names makings;
@@ -131,6 +141,7 @@ module _ (s : State) (names : List (List ℕ)) (makings : List Making)
         functions = functions-are names makings s;
         outputs = outputs-are names makings s;
         fit = fits;
+        kinds = kinds;
         in_place = λ place. subst (AreInPlace place) (sym made) (places place);
         calls =
             λ all stand. subst (λ more. CallsStand s.functions (all ++ more)) (sym made)
@@ -141,6 +152,7 @@ module _ (s : State) (names : List (List ℕ)) (makings : List Making)
       → HasLets s (with_nodes names makings s)
   lets-made (inl alone) =
       made-lets (alone-fits s.functions s.statements s.nodes names makings alone)
+      (alone-kinds s.statements s.functions s.nodes names makings alone)
       (λ place. subst (λ it. AreInPlace place (map how_making it)) (sym alone.are)
       (other-in-place place alone.making.made alone.other, tt))
       (λ all stand. subst (λ it. CallsStand s.functions (all ++ map how_making it))
@@ -149,6 +161,7 @@ module _ (s : State) (names : List (List ℕ)) (makings : List Making)
       (other-no-call alone.making.made alone.other) stand))
   lets-made (inr call) =
       made-lets (outputs-fit s.functions s.statements s.nodes names makings call)
+      (outputs-kinds s.statements s.functions s.nodes names makings call)
       (λ place. subst (λ it. AreInPlace place (map how_making it)) (sym call.are)
       (outputs-in-place call.source call.called place 0 call.function.signature.gives
       (omega arith)))

@@ -10,7 +10,7 @@ use Rattle.script_program.specs.declared.made.Made.{Made}
 use Rattle.script_program.specs.declared.made.Made.TheVariants as made
 use Rattle.script_program.specs.Script.{Function, Making}
 use Rattle.script_laws.specs.WellFormed.{function_at}
-use Rattle.script_laws.proofs.OperationLemmas.{IsOther}
+use Rattle.script_laws.proofs.MakingLemmas.{IsOther}
 use Rattle.script_laws.proofs.NewLemmas.{how_making}
 use Rattle.script_laws.proofs.PlaceLemmas.{IsBehind, behind-is, front-kept, front-or-behind}
 use Rattle.script_laws.proofs.PlaceLemmas.{mapped-kept}
@@ -92,6 +92,9 @@ other-no-call (made.Flatten sources) other = tt
 other-no-call (made.Count source) other = tt
 other-no-call (made.Join left right) other = tt
 other-no-call (made.Top number source) other = tt
+other-no-call (made.CombineAll source by) other = tt
+other-no-call (made.Operate objects function) other = tt
+other-no-call (made.DoWith source function object) other = tt
 
 no-call : (how : Made) (source called output : ℕ) → IsNoCall how
     → how ≡ made.Do source called output → ⊥

@@ -34,6 +34,9 @@ call-from to (made.Flatten others) source called output e = cc
 call-from to (made.Count other) source called output e = cc
 call-from to (made.Join left right_) source called output e = cc
 call-from to (made.Top many other) source called output e = cc
+call-from to (made.CombineAll other by) source called output e = cc
+call-from to (made.Operate objects function) source called output e = cc
+call-from to (made.DoWith other function object) source called output e = cc
 
 copied-mades : (turn : ℕ) (to : ℕ → ℕ) (nodes : Named Node)
     → map how_made (map (copied turn to) nodes) ≡ map (renumbered to) (map how_made nodes)

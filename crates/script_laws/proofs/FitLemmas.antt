@@ -8,7 +8,7 @@ use Rattle.script_program.specs.declared.made.Made.{Made}
 use Rattle.script_program.specs.declared.made.Made.TheVariants as made
 use Rattle.script_program.specs.declared.made.Output.{Output}
 use Rattle.script_program.specs.Script.{Function, Node}
-use Rattle.script_laws.specs.WellFormed.{Fits, AllFit, HasColumns}
+use Rattle.script_laws.specs.WellFormed.{Fits, AllFit, AllReadKinds, HasColumns}
 use Rattle.script_laws.proofs.PlaceLemmas.{mapped-kept}
 
 fits-more : (functions more : Named Function) (nodes : Named Node) (made : Made) (type : Ty)
@@ -28,6 +28,29 @@ fits-more functions more nodes (made.Flatten sources) type fits = fits
 fits-more functions more nodes (made.Count source) type fits = fits
 fits-more functions more nodes (made.Join left right) type fits = fits
 fits-more functions more nodes (made.Top number source) type fits = fits
+fits-more functions more nodes (made.CombineAll source by) type fits = fits
+fits-more functions more nodes (made.Operate objects called) type fits = record {
+  function = fits.function;
+  calls =
+      mapped-kept (λ (entry : List ℕ × Function). entry.1) functions more called fits.function
+      fits.calls;
+  types = fits.types;
+  reads = fits.reads;
+  takes = fits.takes;
+  gives = fits.gives;
+}
+fits-more functions more nodes (made.DoWith source called object) type fits = record {
+  function = fits.function;
+  calls =
+      mapped-kept (λ (entry : List ℕ × Function). entry.1) functions more called fits.function
+      fits.calls;
+  member = fits.member;
+  value = fits.value;
+  reads = fits.reads;
+  reads_object = fits.reads_object;
+  takes = fits.takes;
+  gives = fits.gives;
+}
 
 pub all-fit-more : (functions more : Named Function) (before nodes : Named Node)
     → AllFit functions before nodes → AllFit (functions ++ more) before nodes
@@ -47,6 +70,17 @@ fit-append functions before (first ∷ nodes) more fit fits = (
   fit.0,
   fit-append functions (before ++ first ∷ []) nodes more fit.1
       (subst (λ nodes. AllFit functions nodes more) (simp append_assoc) fits),
+)
+
+-- and read objects where they should
+pub kinds-append : (before nodes more : Named Node) → AllReadKinds before nodes
+    → AllReadKinds (before ++ nodes) more → AllReadKinds before (nodes ++ more)
+kinds-append before [] more read reads =
+    subst (λ nodes. AllReadKinds nodes more) (append-nil before) reads
+kinds-append before (first ∷ nodes) more read reads = (
+  read.0,
+  kinds-append (before ++ first ∷ []) nodes more read.1
+      (subst (λ nodes. AllReadKinds nodes more) (simp append_assoc) reads),
 )
 
 columns-kept : (nodes more : Named Node) (output : Output) → HasColumns nodes output

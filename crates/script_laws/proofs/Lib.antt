@@ -3,11 +3,15 @@ pub mod MemberLemmas
 pub mod TypeLemmas
 pub mod FitLemmas
 pub mod OperandLemmas
+pub mod MakingLemmas
+pub mod ObjectLemmas
+pub mod OperandFits
 pub mod OperationLemmas
 pub mod NewLemmas
 pub mod CallLemmas
 pub mod BodyLemmas
 pub mod StandLemmas
+pub mod SightLemmas
 pub mod FittingLemmas
 pub mod CopyLemmas
 pub mod RepeatLemmas

@@ -4,7 +4,7 @@ use Rattle.std.proofs.Common.{◌≡◌, ℕ, zero, suc, ◌+◌, ◌<◌, Bool,
 use Rattle.std.proofs.Common.{◌∷◌, ◌++◌, length, map, drop, Option, Some, None, if◌then◌else◌}
 use Rattle.std.proofs.Common.{slice_get, IsSomeAnd, length-append, refl, sym, subst, arith, ⊎_elim}
 use Rattle.std.specs.Bool.{IsTrue}
-use Rattle.std.specs.List.{Contains, slice_index_or}
+use Rattle.std.specs.List.{AllZip, Contains, slice_index_or}
 use Rattle.std.specs.Option.{option_map}
 use Rattle.std.proofs.lemmas.Bool.{eqb-true, eq-eqb}
 use Rattle.std.proofs.lemmas.List.Elements.{Contains-append_left, Contains-append_right}
@@ -55,6 +55,17 @@ at_source : (before : Named Node) (source n : ℕ) (type : Ty) → members_at be
 at_source before source n type is reads =
     subst (λ m. m < length before) (only source n reads) (read_at before source type is)
 
+at_objects : (before : Named Node) (objects : List ℕ) (types : List Ty)
+    → AllZip (λ object t. members_at before object ≡ Some t) objects types → (n : ℕ)
+    → Contains objects n → n < length before
+at_objects before [] [] read n reads = let within = reads.1 in absurd (omega arith)
+at_objects before [] (t ∷ types) read n reads = absurd read
+at_objects before (object ∷ objects) [] read n reads = absurd read
+at_objects before (object ∷ objects) (t ∷ types) read n reads =
+    ⊎_elim (λ (here : Contains (object ∷ []) n). at_source before object n t read.0 here)
+    (λ there. at_objects before objects types read.1 n there)
+    (Contains-append_cases (object ∷ []) objects n reads)
+
 -- an operand of a collection is the number of one before it
 pub operand_before : (functions : Named Function) (before : Named Node) (how : Made) (type : Ty)
     → Fits functions before how type → (n : ℕ) → Contains (operands how) n → n < length before
@@ -77,6 +88,14 @@ operand_before functions before (made.Join left right_) type fits n reads =
     (Contains-append_cases (left ∷ []) (right_ ∷ []) n reads)
 operand_before functions before (made.Top number source) type fits n reads =
     at_source before source n _ fits.reads reads
+operand_before functions before (made.CombineAll source by) type fits n reads =
+    at_source before source n _ fits.reads reads
+operand_before functions before (made.Operate objects function) type fits n reads =
+    at_objects before objects fits.types fits.reads n reads
+operand_before functions before (made.DoWith source function object) type fits n reads =
+    ⊎_elim (λ (here : Contains (source ∷ []) n). at_source before source n _ fits.reads here)
+    (λ there. at_source before object n _ fits.reads_object there)
+    (Contains-append_cases (source ∷ []) (object ∷ []) n reads)
 
 -- ---- from what is read to the path
 

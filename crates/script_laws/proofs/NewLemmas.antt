@@ -1,6 +1,6 @@
 -- The collections that a let makes, behind those there are.
 use Rattle.std.proofs.Common.{◌≡◌, ℕ, zero, suc, ◌+◌, ◌≤◌, List, [], ◌∷◌, ◌++◌, length, map, Some}
-use Rattle.std.proofs.Common.{slice_get, refl, sym, ap, ◌∙◌, subst, arith, append_assoc}
+use Rattle.std.proofs.Common.{false, slice_get, refl, sym, ap, ◌∙◌, subst, arith, append_assoc}
 use Rattle.std.proofs.lemmas.List.{append-nil}
 use Rattle.flume_types.specs.declared.types.Ty.{Ty}
 use Rattle.written_types.specs.Named.{Named}
@@ -8,8 +8,9 @@ use Rattle.operation_check.specs.Operations.{outputs_from}
 use Rattle.script_program.specs.declared.made.Made.{Made}
 use Rattle.script_program.specs.Script.{Function, Making, Node, State, node_from, with_node}
 use Rattle.script_program.specs.Script.{with_nodes}
-use Rattle.script_laws.specs.WellFormed.{members_at, function_at, AllFit}
-use Rattle.script_laws.proofs.OperationLemmas.{IsAlone, AreOutputs}
+use Rattle.script_program.specs.Kinds.{gives_object}
+use Rattle.script_laws.specs.WellFormed.{members_at, function_at, object_at, AllFit, AllReadKinds}
+use Rattle.script_laws.proofs.MakingLemmas.{IsAlone, AreOutputs}
 use Rattle.script_laws.proofs.PlaceLemmas.{mapped-kept}
 
 -- what a statement of that number makes, under these names
@@ -117,3 +118,38 @@ module _ (functions : Named Function) (statement : ℕ) where
       (λ k t is.
       let here : k ≡ 0 + k = omega arith in
       subst (λ n. slice_get are.function.signature.gives n ≡ Some t) here is))
+
+-- ---- what is made reads objects where it should
+
+module _ (statement : ℕ) where
+  pub alone-kinds : (functions : Named Function) (nodes : Named Node) (names : List (List ℕ))
+      (makings : List Making) → IsAlone functions nodes makings
+      → AllReadKinds nodes (named statement names makings)
+  alone-kinds functions nodes names makings is =
+      subst (λ makings. AllReadKinds nodes (named statement names makings)) (sym is.are)
+      (at-names names)
+    where
+      at-names : (names : List (List ℕ))
+          → AllReadKinds nodes (named statement names (is.making ∷ []))
+      at-names [] = tt
+      at-names (name ∷ []) = (is.kinds, tt)
+      at-names (name ∷ other ∷ names) = (is.kinds, tt)
+
+  from-kinds : (source called : ℕ) (before : Named Node) (names : List (List ℕ)) (output : ℕ)
+      (types : List Ty) → object_at before source ≡ Some false
+      → AllReadKinds before (named statement names (outputs_from source called output types))
+  from-kinds source called before [] output types plain = tt
+  from-kinds source called before (name ∷ names) output [] plain = tt
+  from-kinds source called before (name ∷ names) output (t ∷ types) plain = (
+    record { members = (plain, tt); values = tt },
+    from-kinds source called (before ++ _ ∷ []) names (suc output) types
+        (mapped-kept (λ (entry : List ℕ × Node). gives_object entry.1.made) before _ source false
+        plain),
+  )
+
+  pub outputs-kinds : (functions : Named Function) (nodes : Named Node) (names : List (List ℕ))
+      (makings : List Making) → AreOutputs functions nodes makings
+      → AllReadKinds nodes (named statement names makings)
+  outputs-kinds functions nodes names makings are =
+      subst (λ makings. AllReadKinds nodes (named statement names makings)) (sym are.are)
+      (from-kinds are.source are.called nodes names 0 are.function.signature.gives are.plain)

@@ -7,10 +7,11 @@ use Rattle.flume_grammar.specs.declared.fault.ScriptKind.TheVariants.{Unknown}
 use Rattle.written_types.specs.Named.{Named, find}
 use Rattle.script_program.specs.Script.{Function, Node, State, Operand, Callee, place}
 use Rattle.script_program.specs.Script.{operand_at, operand_of}
+use Rattle.script_program.specs.Kinds.{gives_object}
 use Rattle.script_program.specs.declared.made.Standing.{Standing}
 use Rattle.script_program.specs.declared.made.Standing.TheVariants.{Collection, Hidden}
 use Rattle.operation_check.specs.Operations as spec
-use Rattle.script_laws.specs.WellFormed.{members_at, function_at}
+use Rattle.script_laws.specs.WellFormed.{members_at, function_at, object_at}
 use Rattle.script_check.proofs.CheckedLemmas.{there}
 use Rattle.script_laws.proofs.PlaceLemmas.{meaning, found-at}
 
@@ -46,17 +47,25 @@ pub record IsCallee (functions : Named Function) (callee : Callee) : Type 0 wher
   pub gives : callee.gives ≡ function.signature.gives
 
 -- an operand is the collection of its number
-abbrev pub IsRead : Named Node → Operand → Type 0
-IsRead nodes operand = members_at nodes operand.number ≡ Some operand.type
+pub record IsRead (nodes : Named Node) (operand : Operand) : Type 0 where
+  pub members : members_at nodes operand.number ≡ Some operand.type
+  pub kind : object_at nodes operand.number ≡ Some operand.is_object
 
 number-read : (nodes : Named Node) (number : ℕ) (operand : Operand)
     → operand_at nodes number ≡ Some operand → IsRead nodes operand
 number-read nodes number operand e =
     let found =
-    from (λ (entry : List ℕ × Node). record { number = number; type = entry.1.type })
+    from
+    (λ (entry : List ℕ × Node). record {
+      number = number;
+      type = entry.1.type;
+      is_object = gives_object entry.1.made;
+    })
     (slice_get nodes number) operand e in
-    subst (IsRead nodes) found.gives
-    (ap (option_map (λ (entry : List ℕ × Node). entry.1.type)) found.is)
+    subst (IsRead nodes) found.gives (record {
+      members = ap (option_map (λ (entry : List ℕ × Node). entry.1.type)) found.is;
+      kind = ap (option_map (λ (entry : List ℕ × Node). gives_object entry.1.made)) found.is;
+    })
 
 standing-read : (nodes : Named Node) (standing : Standing) (operand : Operand)
     → operand_of nodes standing ≡ Some operand → IsRead nodes operand

@@ -1,7 +1,7 @@
 -- What a let with repeat adds: the turns of a repeat that fits.
 use Rattle.std.proofs.Common.{◌≡◌, ℕ, zero, suc, ◌+◌, ◌*◌, ◌≤◌, eqb, ◌&&◌, List, [], ◌∷◌}
-use Rattle.std.proofs.Common.{◌++◌, length, map, take, drop, true, Ok, Some, refl, sym, ap, ◌∙◌, subst}
-use Rattle.std.proofs.Common.{arith, append_assoc, length-append, suc-mul}
+use Rattle.std.proofs.Common.{◌++◌, length, map, take, drop, Bool, true, false, Ok, Some, refl, sym}
+use Rattle.std.proofs.Common.{ap, ◌∙◌, subst, arith, append_assoc, length-append, suc-mul}
 use Rattle.std.specs.List.{All, AllByRecursion as Each, AllZip}
 use Rattle.std.specs.Map.{keys_of}
 use Rattle.std.proofs.lemmas.Bool.{eqb-true, leb-true}
@@ -15,6 +15,7 @@ use Rattle.flume_grammar.specs.declared.fault.ScriptKind.TheVariants.{BadNumber,
 use Rattle.written_types.specs.Answer.{or_fault, unless}
 use Rattle.written_types.specs.Named.{Named}
 use Rattle.expression_check.specs.Numbers.{number_within}
+use Rattle.script_program.specs.Kinds.{gives_object}
 use Rattle.script_program.specs.Limits.{most_collections}
 use Rattle.script_program.specs.declared.made.Standing.TheVariants.{Hidden}
 use Rattle.script_program.specs.Script.{Node, Operand, State, with_front, with_hidden, with_name}
@@ -26,7 +27,7 @@ use Rattle.script_check.proofs.CheckedLemmas.{both, holds, ok-same}
 use Rattle.script_check.proofs.EntryLemmas.{nodes-hidden}
 use Rattle.script_check.proofs.FoundLemmas.{before, found, own}
 use Rattle.script_laws.specs.Fitting.{AreInPlace, IsOfType, RepeatFits, lets_of}
-use Rattle.script_laws.specs.WellFormed.{AllFit}
+use Rattle.script_laws.specs.WellFormed.{AllFit, AllReadKinds}
 use Rattle.script_laws.proofs.BodyLemmas.{HasLets, has-all-named}
 use Rattle.script_laws.proofs.CallLemmas.{CallsStand}
 use Rattle.script_laws.proofs.NewLemmas.{functions-are, how_made, named, nodes-are, outputs-are}
@@ -47,6 +48,20 @@ outputs-hidden (name ∷ names) s = outputs-hidden names (with_name name Hidden 
 
 -- ---- what enters, and what is given
 
+kind-again : (is_object : Bool) (number : ℕ)
+    → gives_object (spec.again is_object number) ≡ is_object
+kind-again true number = refl
+kind-again false number = refl
+
+kind-entered : (one : Operand) → gives_object (spec.entered one).made ≡ one.is_object
+kind-entered one = kind-again one.is_object one.number
+
+kinds-same : (one other : Bool) → spec.same_kind one other ≡ true → one ≡ other
+kinds-same true true e = refl
+kinds-same true false e = cc
+kinds-same false true e = cc
+kinds-same false false e = refl
+
 module _ (nodes : Named Node) (statement : ℕ) where
   abbrev entries : List (List ℕ) → List Operand → Named Node
   entries names from = named statement names (map spec.entered from)
@@ -56,8 +71,13 @@ module _ (nodes : Named Node) (statement : ℕ) where
   enter-of [] [] same read = tt
   enter-of [] (one ∷ from) same read = absurd (omega arith)
   enter-of (name ∷ names) [] same read = absurd (omega arith)
-  enter-of (name ∷ names) (one ∷ from) same read =
-      (read.0, enter-of names from (omega arith) read.1)
+  enter-of (name ∷ names) (one ∷ from) same read = (
+    record {
+      members = read.0.members;
+      kind = read.0.kind ∙ ap Some (sym (kind-entered one));
+    },
+    enter-of names from (omega arith) read.1,
+  )
 
   given-of : (names : List (List ℕ)) (from given : List Operand) → length names ≡ length from
       → spec.alike from given ≡ true → Each (IsRead nodes) given
@@ -68,9 +88,16 @@ module _ (nodes : Named Node) (statement : ℕ) where
   given-of (name ∷ names) [] given same is read = absurd (omega arith)
   given-of (name ∷ names) (one ∷ from) [] same is read = cc
   given-of (name ∷ names) (one ∷ from) (other ∷ given) same is read =
-      let parts = both_true (type_eq one.type other.type) (spec.alike from given) is in
-      let types = same-types one.type other.type parts.0 in (
-        read.0 ∙ ap (λ t. Some t) (sym types),
+      let parts = both_true (spec.is_like one other) (spec.alike from given) is in
+      let own =
+      both_true (type_eq one.type other.type) (spec.same_kind one.is_object other.is_object)
+      parts.0 in
+      let types = same-types one.type other.type own.0 in
+      let kinds = kinds-same one.is_object other.is_object own.1 in (
+        record {
+          members = read.0.members ∙ ap (λ t. Some t) (sym types);
+          kind = read.0.kind ∙ ap Some (sym kinds ∙ sym (kind-entered one));
+        },
         given-of names from given (omega arith) parts.1 read.1,
       )
 
@@ -219,6 +246,9 @@ module _ (names : List (List ℕ)) (written : WrittenRepeat) (s : State)
             subst (AllFit s.functions (s.nodes ++ entering)) (sym lets-are)
             (subst (λ fs. AllFit fs (s.nodes ++ entering) has.lets) functions-front
             (subst (λ nodes. AllFit front.functions nodes has.lets) entering-are has.fit));
+        kinds =
+            subst (AllReadKinds (s.nodes ++ entering)) (sym lets-are)
+            (subst (λ nodes. AllReadKinds nodes has.lets) entering-are has.kinds);
         given =
             subst
             (λ (l : Named Node). AllZip (IsOfType (s.nodes ++ entering ++ l)) (numbers given)

@@ -31,15 +31,15 @@ use Rattle.operation_check.specs.Operations.{collection}
 use Rattle.script_check.specs.Repeats.{unrolled}
 use Rattle.script_check.specs.Rules as spec
 use Rattle.script_check.proofs.CheckedLemmas.{both, holds, there, ok-same}
-use Rattle.script_laws.specs.WellFormed.{Fits, AllFit, HasColumns, HasOutputs, IsCallOf, IsWellTyped}
-use Rattle.script_laws.specs.WellFormed.{IsWellFormed}
-use Rattle.script_laws.proofs.FitLemmas.{all-fit-more, fit-append, outputs-kept}
+use Rattle.script_laws.specs.WellFormed.{Fits, AllFit, AllReadKinds, HasColumns, HasOutputs}
+use Rattle.script_laws.specs.WellFormed.{IsCallOf, IsWellTyped, IsWellFormed}
+use Rattle.script_laws.proofs.FitLemmas.{all-fit-more, fit-append, kinds-append, outputs-kept}
 use Rattle.script_laws.proofs.OperandLemmas.{is-read}
 use Rattle.script_laws.proofs.NewLemmas.{how_made}
 use Rattle.script_laws.proofs.BodyLemmas.{has-named}
 use Rattle.script_laws.proofs.CallLemmas.{Stands, CallsStand, calls-more, calls-push}
 use Rattle.script_laws.proofs.CopyLemmas.{calls-joined, turns-stand}
-use Rattle.script_laws.proofs.FittingLemmas.{unrolled-fits}
+use Rattle.script_laws.proofs.FittingLemmas.{unrolled-fits, unrolled-kinds}
 use Rattle.script_laws.proofs.RepeatLemmas.{has-turns, turns-long}
 
 -- what is defined so far is well formed
@@ -47,6 +47,7 @@ record IsGood (s : State) : Type 0 where
   pub functions : All (λ (entry : List ℕ × Function). IsWellTyped entry.1) s.functions
   pub gives : All (λ (entry : List ℕ × Function). HasOutputs entry.1) s.functions
   pub nodes : AllFit s.functions [] s.nodes
+  pub kinds : AllReadKinds [] s.nodes
   pub calls : CallsStand s.functions (map how_made s.nodes)
   pub outputs : All (λ (entry : List ℕ × Output). HasColumns s.nodes entry.1) s.outputs
   pub few : length s.nodes ≤ most_collections
@@ -59,10 +60,11 @@ has-room line more limit names u room =
 
 -- what is as good as before, with more nodes, where they are not too many
 nodes-more : (s after : State) (more : Named Node) → IsGood s → AllFit s.functions s.nodes more
+    → AllReadKinds s.nodes more
     → CallsStand s.functions (map how_made s.nodes ++ map how_made more)
     → after.nodes ≡ s.nodes ++ more → after.functions ≡ s.functions → after.outputs ≡ s.outputs
     → length after.nodes ≤ most_collections → IsGood after
-nodes-more s after more good fits calls nodes functions outputs few =
+nodes-more s after more good fits kinds calls nodes functions outputs few =
     let all = fit-append s.functions [] s.nodes more good.nodes fits in
     let kept = outputs-kept s.nodes more s.outputs good.outputs in
     let mades = map-append how_made s.nodes more in
@@ -76,6 +78,9 @@ nodes-more s after more good fits calls nodes functions outputs few =
       nodes =
           subst (λ all. AllFit after.functions [] all) (sym nodes)
           (subst (λ fs. AllFit fs [] (s.nodes ++ more)) (sym functions) all);
+      kinds =
+          subst (AllReadKinds []) (sym nodes)
+          (kinds-append [] s.nodes more good.kinds kinds);
       calls =
           subst (λ all. CallsStand after.functions (map how_made all)) (sym nodes)
           (subst (λ fs. CallsStand fs (map how_made (s.nodes ++ more))) (sym functions)
@@ -113,6 +118,7 @@ module _ (line : ℕ) (s after : State) (good : IsGood s) where
         functions = good.functions;
         gives = good.gives;
         nodes = good.nodes;
+        kinds = good.kinds;
         calls = good.calls;
         outputs = good.outputs;
         few = good.few;
@@ -132,6 +138,7 @@ module _ (line : ℕ) (s after : State) (good : IsGood s) where
       let below = has-room line 1 most_collections s.nodes few.part few.first in
       subst IsGood (ok-same _ after columns.then)
       (nodes-more s (with_node name making s) more good (fits, tt)
+      (record { members = tt; values = tt }, tt)
       (calls-push s.functions (map how_made s.nodes) making.made tt good.calls) refl refl refl
       (omega (arith, below, length-append s.nodes more)))
 
@@ -181,6 +188,7 @@ module _ (line : ℕ) (s after : State) (good : IsGood s) where
             All-push (λ (entry : List ℕ × Function). HasOutputs entry.1) s.functions _
             good.gives (record { some = many.0; few = many.1 });
         nodes = all-fit-more s.functions _ [] s.nodes good.nodes;
+        kinds = good.kinds;
         calls = calls-more s.functions _ (map how_made s.nodes) good.calls;
         outputs = good.outputs;
         few = good.few;
@@ -193,7 +201,8 @@ module _ (line : ℕ) (s after : State) (good : IsGood s) where
       let below = has-room line (length names) most_collections s.nodes few.part few.first in
       let it = has-named line s after names by few.then in
       let has = it.has in
-      nodes-more s after has.lets good has.fit (has.calls (map how_made s.nodes) good.calls)
+      nodes-more s after has.lets good has.fit has.kinds
+      (has.calls (map how_made s.nodes) good.calls)
       has.nodes has.functions has.outputs (omega (arith, below, it.few))
 
   repeat-good : (names : List (List ℕ)) (written : WrittenRepeat)
@@ -209,6 +218,7 @@ module _ (line : ℕ) (s after : State) (good : IsGood s) where
       subst IsGood (ok-same _ after it.then)
       (nodes-more s (spec.with_repeat repeat first it.part.behind) more good
       (unrolled-fits s.functions s.nodes repeat has.fits)
+      (unrolled-kinds s.functions s.nodes repeat has.fits)
       (calls-joined s.functions (map how_made s.nodes) (map how_made more) good.calls
       (turns-stand s.functions repeat has.calls repeat.turns 1 repeat.from repeat.outside))
       has.nodes has.functions has.outputs
@@ -224,13 +234,14 @@ module _ (line : ℕ) (s after : State) (good : IsGood s) where
         functions = good.functions;
         gives = good.gives;
         nodes = good.nodes;
+        kinds = good.kinds;
         calls = good.calls;
         outputs =
             All-push (λ (entry : List ℕ × Output). HasColumns s.nodes entry.1) s.outputs _
             good.outputs
             (record {
               type = one.part.type;
-              reads = is-read line s name one.part one.first;
+              reads = (is-read line s name one.part one.first).members;
               columns = there line NotFlat _ columns.part columns.first;
             });
         few = good.few;
@@ -250,6 +261,7 @@ counted-good s good = record {
   functions = good.functions;
   gives = good.gives;
   nodes = good.nodes;
+  kinds = good.kinds;
   calls = good.calls;
   outputs = good.outputs;
   few = good.few;
@@ -269,6 +281,7 @@ nothing-good = record {
   functions = All-nil (λ (entry : List ℕ × Function). IsWellTyped entry.1);
   gives = All-nil (λ (entry : List ℕ × Function). HasOutputs entry.1);
   nodes = tt;
+  kinds = tt;
   calls = λ number source called output is. cc;
   outputs = All-nil (λ (entry : List ℕ × Output). HasColumns [] entry.1);
   few = omega arith;
@@ -290,6 +303,7 @@ well-formed-from s good some = record {
   functions = good.functions;
   gives = good.gives;
   nodes = good.nodes;
+  kinds = good.kinds;
   calls =
       λ number source called output is.
       call-from s number source called output (good.calls number source called output is);

@@ -14,7 +14,7 @@ use Rattle.operation_check.specs.Operations.{Pair, key_and_value, pair_in, membe
 pub same-types : (t u : Ty) → type_eq t u ≡ true → t ≡ u
 same-types t u e = (ty_eq-Decides t u).0 e
 
-out-same : (t u : Ty) → out-Ty t ≡ out-Ty u → t ≡ u
+pub out-same : (t u : Ty) → out-Ty t ≡ out-Ty u → t ≡ u
 out-same t u e = sym (roll-out-Ty t) ∙ ap roll-Ty e ∙ roll-out-Ty u
 
 -- ---- tables

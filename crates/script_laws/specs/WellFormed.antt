@@ -1,14 +1,17 @@
 -- Which scripts are well formed: each collection is made from collections that stand before it, of
--- types that fit, the outputs of a call stand one after another, each output of the script has the
--- columns of the collection that it reads, and each function's body is well typed.
+-- types that fit, and from objects just where their values are read, the outputs of a call stand
+-- one after another, each output of the script has the columns of the collection that it reads,
+-- and each function's body is well typed.
 use Rattle.std.specs.Prelude.{◌≡◌, ℕ, ◌+◌, ◌<◌, ◌≤◌, List, [], ◌∷◌, ◌++◌, Option, Some, Ok, length}
-use Rattle.std.specs.Prelude.{slice_get, ⊤}
-use Rattle.std.specs.List.{All}
+use Rattle.std.specs.Prelude.{slice_get, Bool, true, false, ⊤}
+use Rattle.std.specs.List.{All, AllByRecursion as Each, AllZip}
 use Rattle.std.specs.Option.{option_map}
 use Rattle.flume_types.specs.declared.types.Ty.{Ty}
 use Rattle.flume_types.specs.declared.types.Ty.TheVariants as ty
+use Rattle.flume_types.specs.declared.types.Field.{Field}
 use Rattle.flume_types.specs.Columns.{columns_of, input_columns_of}
 use Rattle.flume_types.specs.Tables.{table_of}
+use Rattle.flume_types.specs.Typing.{types_of}
 use Rattle.combine_table.specs.declared.comb.Comb.{Comb}
 use Rattle.written_types.specs.Named.{Named}
 use Rattle.body_check.specs.Bodies.{body_of}
@@ -16,6 +19,7 @@ use Rattle.script_program.specs.Limits.{most_collections, most_outputs}
 use Rattle.script_program.specs.declared.made.Made.{Made}
 use Rattle.script_program.specs.declared.made.Made.TheVariants as made
 use Rattle.script_program.specs.declared.made.Output.{Output}
+use Rattle.script_program.specs.Kinds.{gives_object, members_read, values_read}
 use Rattle.script_program.specs.Needed.{made_of}
 use Rattle.script_program.specs.Script.{Function, Node, Script}
 use Rattle.operation_check.specs.Operations.{sides_of, combined_type}
@@ -25,6 +29,11 @@ use Rattle.operation_check.specs.Operations.{sides_of, combined_type}
 -- the type of the members of the collection of a number, where there is one
 abbrev pub members_at : Named Node → ℕ → Option Ty
 members_at nodes number = option_map (λ entry. entry.1.type) (slice_get nodes number)
+
+-- whether the collection of a number is an object, where there is one
+abbrev pub object_at : Named Node → ℕ → Option Bool
+object_at nodes number =
+    option_map (λ entry. gives_object entry.1.made) (slice_get nodes number)
 
 -- the function of a number, where there is one
 abbrev pub function_at : Named Function → ℕ → Option Function
@@ -82,6 +91,47 @@ pub record IsTop (nodes : Named Node) (number source : ℕ) (type : Ty) : Type 0
   pub most : number ≤ 1000
   pub reads : members_at nodes source ≡ Some type
 
+-- as what a combiner makes of all members, which suit it
+pub record IsWhole (nodes : Named Node) (source : ℕ) (by : Comb) (type : Ty) : Type 0 where
+  pub member : Ty
+  pub reads : members_at nodes source ≡ Some member
+  pub suits : combined_type by member ≡ Some type
+
+-- the type of records of fields of these types, in order
+pub record IsRecord (types : List Ty) (t : Ty) : Type 0 where
+  pub fields : List (Field Ty)
+  pub record_of : t ≡ ty.Rec fields
+  pub in_order : types_of fields ≡ types
+
+-- what a function of objects takes: the type of the one object's value, or of the record of several
+abbrev pub IsArgument : List Ty → Ty → Type 0
+IsArgument [] t = ⊥
+IsArgument (one ∷ []) t = t ≡ one
+IsArgument (one ∷ other ∷ types) t = IsRecord (one ∷ other ∷ types) t
+
+-- by a function of one output that takes the values of objects
+pub record IsOperated (functions : Named Function) (nodes : Named Node)
+    (objects : List ℕ) (called : ℕ) (type : Ty) : Type 0 where
+  pub function : Function
+  pub calls : function_at functions called ≡ Some function
+  -- the types of the values
+  pub types : List Ty
+  pub reads : AllZip (λ object t. members_at nodes object ≡ Some t) objects types
+  pub takes : IsArgument types function.signature.takes
+  pub gives : function.signature.gives ≡ type ∷ []
+
+-- by a function of one output that takes the record of a member and of an object's value
+pub record IsDoneWith (functions : Named Function) (nodes : Named Node)
+    (source called object : ℕ) (type : Ty) : Type 0 where
+  pub function : Function
+  pub calls : function_at functions called ≡ Some function
+  pub member : Ty
+  pub value : Ty
+  pub reads : members_at nodes source ≡ Some member
+  pub reads_object : members_at nodes object ≡ Some value
+  pub takes : IsRecord (member ∷ value ∷ []) function.signature.takes
+  pub gives : function.signature.gives ≡ type ∷ []
+
 -- how a collection behind these nodes is made fits the type of its members
 abbrev pub Fits : Named Function → Named Node → Made → Ty → Type 0
 Fits functions nodes (made.Input file columns) type = input_columns_of type ≡ Some columns
@@ -93,6 +143,11 @@ Fits functions nodes (made.Flatten sources) type = IsFlattened nodes sources typ
 Fits functions nodes (made.Count source) type = IsCounted nodes source type
 Fits functions nodes (made.Join left right) type = IsJoined nodes left right type
 Fits functions nodes (made.Top number source) type = IsTop nodes number source type
+Fits functions nodes (made.CombineAll source by) type = IsWhole nodes source by type
+Fits functions nodes (made.Operate objects function) type =
+    IsOperated functions nodes objects function type
+Fits functions nodes (made.DoWith source function object) type =
+    IsDoneWith functions nodes source function object type
 
 -- each node fits where it stands, behind these nodes
 abbrev pub AllFit : Named Function → Named Node → Named Node → Type 0
@@ -100,6 +155,18 @@ AllFit functions before [] = ⊤
 AllFit functions before (entry ∷ nodes) =
     Fits functions before entry.1.made entry.1.type
     × AllFit functions (before ++ entry ∷ []) nodes
+
+-- A collection behind these nodes is made from objects where it reads their values, and from the
+-- members of others.
+pub record ReadsKinds (nodes : Named Node) (how : Made) : Type 0 where
+  pub members : Each (λ number. object_at nodes number ≡ Some false) (members_read how)
+  pub values : Each (λ number. object_at nodes number ≡ Some true) (values_read how)
+
+-- each node is where it stands, behind these nodes
+abbrev pub AllReadKinds : Named Node → Named Node → Type 0
+AllReadKinds before [] = ⊤
+AllReadKinds before (entry ∷ nodes) =
+    ReadsKinds before entry.1.made × AllReadKinds (before ++ entry ∷ []) nodes
 
 -- The collection of that number is an output of a call. The call's outputs stand one after another,
 -- as many as its function has; the first of them has the number `first`.
@@ -133,6 +200,7 @@ pub record IsWellFormed (script : Script) : Type 0 where
   pub functions : All (λ entry. IsWellTyped entry.1) script.functions
   pub gives : All (λ entry. HasOutputs entry.1) script.functions
   pub nodes : AllFit script.functions [] script.nodes
+  pub kinds : AllReadKinds [] script.nodes
   pub calls : (number source called output : ℕ)
       → slice_get (made_of script) number ≡ Some (made.Do source called output)
       → IsCallOf script number source called output

@@ -257,6 +257,9 @@ other_made (made.Flatten sources) type other = refl
 other_made (made.Count source) type other = refl
 other_made (made.Join left right) type other = refl
 other_made (made.Top many source) type other = refl
+other_made (made.CombineAll source by) type other = refl
+other_made (made.Operate objects function) type other = refl
+other_made (made.DoWith source function object) type other = refl
 
 pub other_wants : (entry : Entry) (node : Node) → entry.1 ≡ node
     → ((file : List ℕ) (columns : List Column) → node.made ≡ made.Input file columns

@@ -1,5 +1,6 @@
 -- The files of an accepted script are named in UTF-8, where those of its statements are.
-use Rattle.std.proofs.Common.{◌≡◌, ◌⊎◌, inl, inr, ℕ, zero, suc, ◌+◌, nat_lt, List, [], ◌∷◌}
+use Rattle.std.proofs.Common.{◌≡◌, ◌⊎◌, inl, inr, ℕ, zero, suc, ◌+◌, nat_lt, Bool, true, false}
+use Rattle.std.proofs.Common.{List, [], ◌∷◌}
 use Rattle.std.proofs.Common.{length, map, take, get_or, Ok, sym, subst}
 use Rattle.std.specs.Prelude.{IsUtf8}
 use Rattle.std.specs.List.{All, AllByRecursion}
@@ -36,7 +37,8 @@ use Rattle.script_check.specs.Repeats.{turn_nodes, turn_to, unrolled}
 use Rattle.script_check.specs.Rules as spec
 use Rattle.script_check.proofs.CheckedLemmas.{both, ok-same}
 use Rattle.script_check.proofs.FoundLemmas.{before, found, own}
-use Rattle.script_laws.proofs.OperationLemmas.{IsOther, IsAlone, AreOutputs, made-is}
+use Rattle.script_laws.proofs.MakingLemmas.{IsOther, IsAlone, AreOutputs}
+use Rattle.script_laws.proofs.OperationLemmas.{made-is}
 use Rattle.script_loading.specs.Ready.{IsNamedMade}
 
 abbrev IsNamedNode : List ℕ × Node → Type 0
@@ -67,6 +69,9 @@ other-named (made.Flatten sources) other = tt
 other-named (made.Count source) other = tt
 other-named (made.Join left right) other = tt
 other-named (made.Top number source) other = tt
+other-named (made.CombineAll source by) other = tt
+other-named (made.Operate objects function) other = tt
+other-named (made.DoWith source function object) other = tt
 
 outputs-named : (source called output : ℕ) (types : List Ty)
     → AllNamed (op.outputs_from source called output types)
@@ -96,9 +101,13 @@ nodes-named (name ∷ names) (making ∷ makings) s named all =
 abbrev AllNodes : Named Node → Type 0
 AllNodes nodes = All IsNamedNode nodes
 
+again-named : (is_object : Bool) (number : ℕ) → IsNamedMade (spec.again is_object number)
+again-named true number = tt
+again-named false number = tt
+
 entered-named : (from : List Operand) → AllNamed (map spec.entered from)
 entered-named [] = tt
-entered-named (one ∷ from) = (tt, entered-named from)
+entered-named (one ∷ from) = (again-named one.is_object one.number, entered-named from)
 
 hidden-named : (names : List (List ℕ)) (s : State) → AreNamed s → AreNamed (with_hidden names s)
 hidden-named [] s named = named
@@ -115,6 +124,9 @@ renumbered-named to (made.Flatten sources) named = tt
 renumbered-named to (made.Count source) named = tt
 renumbered-named to (made.Join left right) named = tt
 renumbered-named to (made.Top number source) named = tt
+renumbered-named to (made.CombineAll source by) named = tt
+renumbered-named to (made.Operate objects function) named = tt
+renumbered-named to (made.DoWith source function object) named = tt
 
 turns-named : (repeat : Repeat) (left turn : ℕ) (entering : List ℕ) (start : ℕ)
     → AllNodes repeat.body → AllNodes (nodes_left repeat left turn entering start)

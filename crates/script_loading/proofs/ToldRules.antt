@@ -1,5 +1,5 @@
 -- Each script keeps all rules or has a first fault with its line.
-use Rattle.std.proofs.Common.{◌*◌, ◌==◌, ℕ, ◌+◌, not, nat_le, nat_lt, Option, Some, None}
+use Rattle.std.proofs.Common.{◌*◌, ◌==◌, ◌&&◌, ℕ, ◌+◌, not, nat_le, nat_lt, Option, Some, None}
 use Rattle.std.proofs.Common.{List, [], ◌∷◌, ◌++◌, drop, length}
 use Rattle.std.specs.List.{list_any}
 use Rattle.std.specs.Map.{keys_of}
@@ -24,6 +24,8 @@ use Rattle.flume_grammar.specs.declared.tree.Statement.{Statement}
 use Rattle.flume_grammar.specs.declared.tree.TurnLet.{TurnLet}
 use Rattle.flume_grammar.specs.declared.tree.Type as tree
 use Rattle.body_check.specs.Bodies.{body_of}
+use Rattle.operation_check.specs.Arguments.{are_plain, sole, takes_both, takes_members}
+use Rattle.operation_check.specs.Arguments.{takes_objects}
 use Rattle.operation_check.specs.Operations as spec
 use Rattle.script_check.specs.Rules as rules
 use Rattle.script_program.specs.Limits.{most_collections, most_files, most_functions, most_outputs}
@@ -67,18 +69,20 @@ module _ (line : ℕ) where
 
   told-group : (source : Operand) → IsTold (spec.group_of line source)
   told-group source =
-      told-then (spec.pair_of line source.type) _ (told-pair source.type) (λ pair. tt)
+      told-then (spec.pair_of line source.type) _ (told-pair source.type)
+      (λ pair. told-kept line Mistyped (not source.is_object) _ (λ plain. tt))
 
   told-combine : (source : Operand) (by : Comb) → IsTold (spec.combine_of line source by)
   told-combine source by =
       told-then (spec.pair_of line source.type) _ (told-pair source.type)
       (λ pair. told-found line NotTable (spec.member_in (out-Ty pair.value)) _
-      (λ member. told-found line Mistyped (spec.combined_type by member) _ (λ value. tt)))
+      (λ member. told-kept line Mistyped (not source.is_object) _
+      (λ plain. told-found line Mistyped (spec.combined_type by member) _ (λ value. tt))))
 
   told-one : (sources : List Operand) → IsTold (spec.one_type line sources)
   told-one [] = tt
   told-one (first ∷ others) =
-      told-kept line Mistyped (spec.all_same first.type others) _ (λ same. tt)
+      told-kept line Mistyped (spec.all_same first.type (first ∷ others)) _ (λ same. tt)
 
   told-flatten : (sources : List Operand) → IsTold (spec.flatten_of line sources)
   told-flatten sources =
@@ -88,11 +92,29 @@ module _ (line : ℕ) where
   told-join left right_ =
       told-then (spec.pair_of line left.type) _ (told-pair left.type)
       (λ lefts. told-then (spec.pair_of line right_.type) _ (told-pair right_.type)
-      (λ rights. told-kept line Mistyped (type_eq lefts.key rights.key) _ (λ same. tt)))
+      (λ rights. told-kept line Mistyped (are_plain left right_ && type_eq lefts.key rights.key) _
+      (λ same. tt)))
 
   told-do : (source : Operand) (function : Callee) → IsTold (spec.do_of line source function)
   told-do source function =
-      told-kept line Mistyped (type_eq source.type function.takes) _ (λ same. tt)
+      told-kept line Mistyped (takes_members source function.takes) _ (λ same. tt)
+
+  told-whole-of : (source : Operand) (by : Comb) → IsTold (spec.combine_all_of line source by)
+  told-whole-of source by =
+      told-kept line Mistyped (not source.is_object) _
+      (λ plain. told-found line Mistyped (spec.combined_type by source.type) _ (λ value. tt))
+
+  told-operate : (objects : List Operand) (function : Callee)
+      → IsTold (spec.operate_of line objects function)
+  told-operate objects function =
+      told-kept line Mistyped (takes_objects objects function.takes) _
+      (λ fit. told-found line Mistyped (sole function.gives) _ (λ value. tt))
+
+  told-do-with : (source : Operand) (function : Callee) (object : Operand)
+      → IsTold (spec.do_with_of line source function object)
+  told-do-with source function object =
+      told-kept line Mistyped (takes_both source object function.takes) _
+      (λ fit. told-found line Mistyped (sole function.gives) _ (λ member. tt))
 
   told-alone : (r : Checked Making) → IsTold r → IsTold (spec.alone r)
   told-alone r told = told-then r _ told (λ one. tt)
@@ -117,7 +139,8 @@ module _ (line : ℕ) where
       (λ all. told-flatten all))
   told-made (operation.Count source) s =
       told-alone (spec.counted line source s)
-      (told-then (spec.collection line source s) _ (told-collection source s) (λ one. tt))
+      (told-then (spec.collection line source s) _ (told-collection source s)
+      (λ one. told-kept line Mistyped (not one.is_object) _ (λ plain. tt)))
   told-made (operation.Join left right_) s =
       told-alone (spec.joined line left right_ s)
       (told-then (spec.collection line left s) _ (told-collection left s)
@@ -126,7 +149,24 @@ module _ (line : ℕ) where
   told-made (operation.Top digits source) s =
       told-alone (spec.greatest line digits source s)
       (told-then (spec.collection line source s) _ (told-collection source s)
-      (λ one. told-found line BadNumber (number_within 1 1000 digits) _ (λ number. tt)))
+      (λ one. told-found line BadNumber (number_within 1 1000 digits) _
+      (λ number. told-kept line Mistyped (not one.is_object) _ (λ plain. tt))))
+  told-made (operation.CombineAll source by) s =
+      told-alone (spec.combined_whole line source by s)
+      (told-then (spec.collection line source s) _ (told-collection source s)
+      (λ one. told-then (spec.comb_of line by) _ (told-comb by)
+      (λ comb. told-whole-of one comb)))
+  told-made (operation.Operate objects function) s =
+      told-alone (spec.operated line objects function s)
+      (told-then (spec.collections_behind line [] objects s) _ (told-behind [] objects s)
+      (λ all. told-found line Unknown (find_function function s.functions) _
+      (λ by. told-operate all by)))
+  told-made (operation.DoWith source function object) s =
+      told-alone (spec.done_beside line source function object s)
+      (told-then (spec.collection line source s) _ (told-collection source s)
+      (λ one. told-found line Unknown (find_function function s.functions) _
+      (λ by. told-then (spec.collection line object s) _ (told-collection object s)
+      (λ other. told-do-with one by other))))
 
   -- ---- statements
 

@@ -58,6 +58,9 @@ module _ (script : Script) (gives : ℕ → Place) where
   block_below origin source n (made.Join left right) =
       (tt, (tt, (tt, (tt, (tt, tt)))))
   block_below origin source n (made.Top many input) = (tt, (tt, (tt, (tt, tt))))
+  block_below origin source n (made.CombineAll input k) = (tt, (tt, (tt, (tt, tt))))
+  block_below origin source n (made.Operate objects f) = (tt, tt)
+  block_below origin source n (made.DoWith input f object) = (tt, tt)
 
   block_next : (origin source n : ℕ) (mk : Made)
       → next_source source (Some mk) ≡ source + source_count
@@ -70,6 +73,9 @@ module _ (script : Script) (gives : ℕ → Place) where
   block_next origin source n (made.Count input) = refl
   block_next origin source n (made.Join left right) = refl
   block_next origin source n (made.Top many input) = refl
+  block_next origin source n (made.CombineAll input k) = refl
+  block_next origin source n (made.Operate objects f) = refl
+  block_next origin source n (made.DoWith input f object) = refl
 
   part_below : (origin source n : ℕ) (w : Option Made)
       → Below (source + source_count (nodes_at script gives origin source n w))
@@ -122,6 +128,9 @@ module _ (script : Script) (gives : ℕ → Place) where
   block_count origin source n (made.Count input) t = refl
   block_count origin source n (made.Join left right) t = refl
   block_count origin source n (made.Top many input) t = refl
+  block_count origin source n (made.CombineAll input k) t = refl
+  block_count origin source n (made.Operate objects f) t = refl
+  block_count origin source n (made.DoWith input f object) t = refl
 
   abbrev Numbered : Type 0
   Numbered = List (ℕ × (List ℕ × ScriptNode))

@@ -7,7 +7,7 @@ ghost use Rattle.script_check.specs.Rules.{script_of};
 ghost use Rattle.script_plans.specs.Plans.{IsScriptPlan};
 ghost use Rattle.script_program.specs.Script.{Script};
 
-use build_law::{graph_law, object_free_law, one_step_law};
+use build_law::{graph_law, one_step_law};
 use optimise::one_law;
 use script_laws::well_formed_law;
 
@@ -22,7 +22,6 @@ pub fn plan_law()
 {
     graph_law();
     one_step_law();
-    object_free_law();
     well_formed_law();
     one_law();
 }

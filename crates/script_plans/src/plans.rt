@@ -4,7 +4,6 @@ ghost use Rattle.direct_meaning.specs.Inputs.{inputs_of};
 ghost use Rattle.exec_graph.specs.Typing.{IsTyped, Signatures};
 ghost use Rattle.exec_graph.specs.Wellformed.{IsGraphOk};
 ghost use Rattle.exec_graph.specs.World.{World};
-ghost use Rattle.exec_plan.specs.ObjectFree.{IsPlanObjectFree};
 ghost use Rattle.exec_plan.specs.Typing.{IsPlanTyped};
 ghost use Rattle.exec_plan.specs.Wellformed.{IsPlanOk};
 ghost use Rattle.graph_build.specs.Graphs.{graph_of};
@@ -13,7 +12,7 @@ ghost use Rattle.script_laws.specs.WellFormed.{IsWellFormed};
 ghost use Rattle.script_plans.specs.Plans.{IsScriptPlan};
 
 use crate::scales::scales_of;
-use build_law::{object_free_law, one_step_law};
+use build_law::one_step_law;
 use exec_graph::Graph;
 use exec_plan::Plan;
 use optimise::optimise;
@@ -31,12 +30,10 @@ pub fn plan_of(alloc: Global, program: &Program, graph: Graph) -> Result<Plan, A
     ensures well_formed { IfOk result (λ plan. IsPlanOk plan) }
     ensures types { IfOk result (λ plan. (s : Signatures) →
         IsTyped s (graph_of program.now.script) → IsPlanTyped s plan) }
-    ensures object_free { IfOk result (λ plan. IsPlanObjectFree plan) }
     ensures sources { IfOk result (λ plan.
         plan.sources ≡ length (inputs_of program.now.script)) }
 {
     one_step_law();
-    object_free_law();
     let scales = scales_of(alloc, program)?;
     let plan = optimise(alloc, scales.as_slice(), graph)?;
     Ok(plan)

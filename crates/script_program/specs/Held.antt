@@ -13,7 +13,11 @@ pub record Checking : Type 0 where
 
 -- an operand in memory, with its type
 abbrev pub operand_in : List Ty → HeldOperand → Operand
-operand_in types held = record { number = held.number; type = type_at types held.ty }
+operand_in types held = record {
+  number = held.number;
+  type = type_at types held.ty;
+  is_object = held.is_object;
+}
 
 -- a function as an operand in memory, with its types
 abbrev pub callee_in : List Ty → HeldCallee → Callee

@@ -1,4 +1,5 @@
 pub mod Limits
+pub mod Kinds
 pub mod Script
 pub mod Program
 pub mod Needed

@@ -17,6 +17,9 @@ operands (made.Flatten sources) = sources
 operands (made.Count source) = source ∷ []
 operands (made.Join left right) = left ∷ right ∷ []
 operands (made.Top number source) = source ∷ []
+operands (made.CombineAll source by) = source ∷ []
+operands (made.Operate objects function) = objects
+operands (made.DoWith source function object) = source ∷ object ∷ []
 
 -- how a script's collections are made, in order
 abbrev pub made_of : Script → List Made

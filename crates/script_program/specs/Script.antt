@@ -1,6 +1,6 @@
 -- What a script defines: functions, collections and outputs, in the order of their definitions.
 use Rattle.std.specs.Prelude.{ℕ, suc, List, [], ◌∷◌, ◌++◌, Option, None, slice_get, length, map}
-use Rattle.std.specs.Prelude.{take, drop, option_and_then}
+use Rattle.std.specs.Prelude.{Bool, take, drop, option_and_then}
 use Rattle.std.specs.List.{position_or_len}
 use Rattle.std.specs.Option.{option_map}
 use Rattle.std.specs.Str.{bytes_eq}
@@ -13,6 +13,7 @@ use Rattle.script_program.specs.declared.made.Made.{Made}
 use Rattle.script_program.specs.declared.made.Output.{Output}
 use Rattle.script_program.specs.declared.made.Standing.{Standing}
 use Rattle.script_program.specs.declared.made.Standing.TheVariants.{Collection, Hidden}
+use Rattle.script_program.specs.Kinds.{gives_object}
 
 -- what a function takes, what it gives to each output, and how many emissions are expected of a
 -- hundred calls
@@ -213,15 +214,21 @@ with_given first numbers s = record {
 abbrev pub place : {A : Type 0} → List ℕ → Named A → ℕ
 place name names = position_or_len (bytes_eq name) (keys_of names)
 
--- a collection as an operand: its number, and the type of its members
+-- a collection as an operand: its number, the type of its members, and whether it is an object
 pub record Operand : Type 0 where
   pub number : ℕ
   pub type : Ty
+  pub is_object : Bool
 
 -- the collection of a number, where there is one
 abbrev pub operand_at : Named Node → ℕ → Option Operand
 operand_at nodes number =
-    option_map (λ entry. record { number = number; type = entry.1.type })
+    option_map
+    (λ entry. record {
+      number = number;
+      type = entry.1.type;
+      is_object = gives_object entry.1.made;
+    })
     (slice_get nodes number)
 
 -- what a name stands for, where it is a collection's

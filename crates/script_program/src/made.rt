@@ -1,4 +1,7 @@
 // What a script defines: how collections are made, functions and outputs.
+ghost use Rattle.std.specs.Prelude.{◌≡◌};
+ghost use Rattle.script_program.specs.Kinds.{gives_object};
+
 use combine_table::Comb;
 use dofn_eval::Fun;
 use flume_grammar::Body;
@@ -49,6 +52,34 @@ pub enum Made {
         number: u32,
         source: usize,
     },
+    /// As one value, an object: all members of a collection, by a combiner.
+    CombineAll {
+        source: usize,
+        by: Comb,
+    },
+    /// As one value, an object: what a function emits, called once on the values of these objects.
+    Operate {
+        objects: Pile<usize>,
+        function: usize,
+    },
+    /// By a function, from each member of a collection beside the value of an object.
+    DoWith {
+        source: usize,
+        function: usize,
+        object: usize,
+    },
+}
+
+impl Made {
+    /// Whether a collection that is made so is an object.
+    pub fn gives_object(&self) -> bool
+        ensures { result ≡ gives_object self.now }
+    {
+        match self {
+            Made::CombineAll { .. } | Made::Operate { .. } => true,
+            _ => false,
+        }
+    }
 }
 
 /// What a statement makes: how a collection is made, and the type of its members.

@@ -103,6 +103,19 @@ fn mark_operands(how: &Made, flags: &mut Vec<bool>)
             mark(*left, flags)
         }
         Made::Top { number: _, source } => mark(*source, flags),
+        Made::CombineAll { source, by: _ } => mark(*source, flags),
+        Made::Operate {
+            objects,
+            function: _,
+        } => mark_all(objects.as_slice(), flags),
+        Made::DoWith {
+            source,
+            function: _,
+            object,
+        } => {
+            mark(*object, flags);
+            mark(*source, flags)
+        }
     }
 }
 

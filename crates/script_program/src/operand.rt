@@ -2,11 +2,13 @@
 use crate::made::Signature;
 use type_table::TypeId;
 
-/// A collection that an operation reads: its number, and the type of its members.
+/// A collection that an operation reads: its number, the type of its members, and whether it is an
+/// object.
 #[derive(Clone, Copy)]
 pub struct Operand {
     pub number: usize,
     pub ty: TypeId,
+    pub is_object: bool,
 }
 
 /// A function that an operation calls: its number, and what it takes and gives.

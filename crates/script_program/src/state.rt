@@ -237,6 +237,7 @@ impl State {
         Some(Operand {
             number,
             ty: node.ty,
+            is_object: node.made.gives_object(),
         })
     }
 

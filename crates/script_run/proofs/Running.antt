@@ -15,7 +15,7 @@ use Rattle.flume_collection.specs.Collection.{Collection}
 use Rattle.flume_collection.specs.declared.trap.Trap.{Trap}
 use Rattle.flume_value.specs.declared.value.Value.{Value}
 use Rattle.direct_meaning.specs.Inputs.{HaveRows, Wanted}
-use Rattle.plan_phases.specs.Phases.{phases}
+use Rattle.plan_phases.specs.Phases.{phases, with_tasks}
 use Rattle.plan_phases.specs.Told.{AskedFront}
 use Rattle.plan_phases.specs.declared.winners.PhaseWinners.{PhaseWinners}
 use Rattle.plan_phases.specs.declared.fault.RunFault.{RunFault}
@@ -80,10 +80,12 @@ module _ (script : Script) (inputs : List (List Value)) where
         (λ (l : List PhaseWinners).
         AsksAllPhases s (phases_of s script inputs plan) l olds news) (sym same) h
 
-    pub phases_asked : AskedFront s.tries s.drill (phases World_ (split_of s) plan) olds news
+    pub phases_asked :
+        AskedFront s.tries s.drill (with_tasks (phases World_ (split_of s) plan)) olds news
         → AsksSomePhases s (phases_of s script inputs plan) olds news
     phases_asked h =
-        subst (λ w. AskedFront s.tries s.drill (phases w (split_of s) plan) olds news) same_world h
+        subst (λ w. AskedFront s.tries s.drill (with_tasks (phases w (split_of s) plan)) olds news)
+        same_world h
 
     faulted_here : (made : List (Option Collection)) → meaning script inputs ≡ Some made
         → ((trap : Trap) → Contains (plan_traps (world_of script inputs) plan) trap

@@ -7,7 +7,6 @@ use Rattle.crew.specs.Hosts.{Account}
 use Rattle.direct_meaning.specs.Direct.{meaning, sizes_of, traps_of}
 use Rattle.direct_meaning.specs.Inputs.{inputs_of}
 use Rattle.exec_graph.specs.World.{World}
-use Rattle.exec_plan.specs.ObjectFree.{IsPlanObjectFree}
 use Rattle.exec_plan.specs.Typing.{IsPlanTyped}
 use Rattle.exec_plan.specs.Wellformed.{IsPlanOk}
 use Rattle.exec_plan.specs.declared.plan.Plan.{Plan}
@@ -17,7 +16,7 @@ use Rattle.flume_value.specs.declared.value.Value.{Value}
 use Rattle.graph_build.specs.Graphs.{graph_of}
 use Rattle.outside.specs.declared.host.Phase.{Phase}
 use Rattle.plan_laws.specs.Operations.{SamePlan}
-use Rattle.plan_phases.specs.Phases.{PhaseTasks, phases}
+use Rattle.plan_phases.specs.Phases.{PlanPhase, phases, with_tasks}
 use Rattle.plan_phases.specs.Told.{AreWinners, AskedFront, AskedInTurn, HasTrapped, IsGivenUp, attempts_of}
 use Rattle.plan_phases.specs.declared.fault.RunFault.{RunFault}
 use Rattle.plan_phases.specs.declared.fault.RunFault.TheVariants as fault
@@ -29,11 +28,10 @@ use Rattle.task_lists.specs.Tasks.{Split}
 use Rattle.script_run.specs.Comes.{AreMembers}
 use Rattle.script_run.specs.declared.run.Ran.{Ran}
 
--- the plan is well-formed and typed, has no objects, and means what the script's graph means, over
--- any rows; it has a source for each input that the script needs
+-- the plan is well-formed and typed, and means what the script's graph means, over any rows; it has
+-- a source for each input that the script needs
 pub record IsPlanOf (script : Script) (plan : Plan) : Type 0 where
   pub well_formed : IsPlanOk plan
-  pub object_free : IsPlanObjectFree plan
   pub typed : IsPlanTyped (signatures_of script) plan
   pub same : (w : World) → SamePlan w (graph_of script) plan
   pub sources : plan.sources ≡ length (inputs_of script)
@@ -42,27 +40,29 @@ pub record IsPlanOf (script : Script) (plan : Plan) : Type 0 where
 abbrev pub split_of : RunSettings → Split
 split_of s = record { shards = s.shards; partitions = s.partitions }
 
--- the phases of a script's plan over the rows of its needed inputs
-abbrev pub phases_of : RunSettings → Script → List (List Value) → Plan → List PhaseTasks
+-- the phases of a script's plan over the rows of its needed inputs: those that have tasks, and
+-- between them the makings of objects
+abbrev pub phases_of : RunSettings → Script → List (List Value) → Plan → List PlanPhase
 phases_of s script inputs plan = phases (world_of script inputs) (split_of s) plan
 
--- Each task of the plan was run: of each phase there are winners, an attempt of each task that the
--- drill does not name, and some host has let all places of that attempt through.
-abbrev pub WereRun : RunSettings → List PhaseTasks → List Account → List Account
+-- Each task of the plan was run: of each phase that has tasks there are winners, an attempt of each
+-- task that the drill does not name, and some host has let all places of that attempt through.
+abbrev pub WereRun : RunSettings → List PlanPhase → List Account → List Account
     → List PhaseWinners → Type 0
 WereRun s phases olds news winners =
-    AllZip (AreWinners s.tries s.drill olds news) phases winners
+    AllZip (AreWinners s.tries s.drill olds news) (with_tasks phases) winners
 
--- the hosts were asked for all of these phases alone, one behind the other, each in one work; the
--- winners are those of the works' boards
-abbrev pub AsksAllPhases : RunSettings → List PhaseTasks → List PhaseWinners → List Account
+-- the hosts were asked for all of these phases that have tasks, and for nothing else, one behind
+-- the other, each in one work; the winners are those of the works' boards
+abbrev pub AsksAllPhases : RunSettings → List PlanPhase → List PhaseWinners → List Account
     → List Account → Type 0
 AsksAllPhases s phases winners olds news =
-    AskedInTurn s.tries s.drill phases (attempts_of winners) olds news
+    AskedInTurn s.tries s.drill (with_tasks phases) (attempts_of winners) olds news
 
--- the hosts were asked for a front of these phases, of which the last may have come not to its end
-abbrev pub AsksSomePhases : RunSettings → List PhaseTasks → List Account → List Account → Type 0
-AsksSomePhases s phases olds news = AskedFront s.tries s.drill phases olds news
+-- the hosts were asked for a front of these phases that have tasks, of which the last may have come
+-- not to its end
+abbrev pub AsksSomePhases : RunSettings → List PlanPhase → List Account → List Account → Type 0
+AsksSomePhases s phases olds news = AskedFront s.tries s.drill (with_tasks phases) olds news
 
 -- Nothing in the script's meaning traps, and these are the members that its outputs write and the
 -- sizes of its collections. Each task of the plan was run, and the hosts were asked for its phases
@@ -79,8 +79,8 @@ pub record IsRan (s : RunSettings) (script : Script) (inputs : List (List Value)
   pub ran : WereRun s (phases_of s script inputs plan) olds news it.winners.items
   pub asked : AsksAllPhases s (phases_of s script inputs plan) it.winners.items olds news
 
--- a trap of the script's meaning, the first of the tasks of the plan; its task has run, and all
--- tasks before have run without a trap
+-- a trap of the script's meaning, the first of the plan's phases: its task has run, or an object
+-- was to be made there; and all phases and tasks before have run without a trap
 pub record IsFirstOf (s : RunSettings) (script : Script) (inputs : List (List Value)) (plan : Plan)
     (olds news : List Account) (trap : Trap) : Type 0 where
   pub made : List (Option Collection)

@@ -1,11 +1,13 @@
 -- A plan's execution, from its beginning and at its end.
-use Rattle.std.proofs.Common.{◌≡◌, ◌<◌, ◌+◌, ℕ, zero, suc, List, [], ◌∷◌, ◌++◌, length, map, take, drop, Some, slice_get, slice_index, refl, sym, ap, ◌∙◌, arith}
-use Rattle.std.specs.List.{Contains}
+use Rattle.std.proofs.Common.{◌≡◌, ◌<◌, ◌+◌, ℕ, zero, suc, List, [], ◌∷◌, ◌++◌, length, map, take, drop, Bool, true, false, ◌&&◌, Some, slice_get, slice_index, refl, sym, ap, ◌∙◌, arith}
+use Rattle.std.specs.List.{AllByRecursion as Each, Contains}
 use Rattle.crew.specs.Hosts.{Account}
 use Rattle.exec_graph.specs.World.{World}
 use Rattle.exec_plan.specs.Meaning.{emitted_by, plan_collection, plan_traps}
-use Rattle.exec_plan.specs.ObjectFree.{IsPlanObjectFree}
-use Rattle.exec_plan.specs.Wellformed.{IsPlanOk}
+use Rattle.exec_graph.specs.Objects.{gives_object}
+use Rattle.exec_plan.specs.declared.plan.Stage.{Stage}
+use Rattle.exec_plan.specs.declared.plan.Stage.TheVariants.{Mscr, Flatten, Operate}
+use Rattle.exec_plan.specs.Wellformed.{IsPlanOk, has_objects}
 use Rattle.exec_plan.specs.declared.plan.Plan.{Plan}
 use Rattle.exec_plan.specs.declared.plan.PlanPlace.{PlanPlace}
 use Rattle.flume_collection.specs.declared.trap.Trap.{Trap}
@@ -28,13 +30,31 @@ use Rattle.stage_exec.proofs.Running.{all_dropped}
 use Rattle.task_safety.specs.Stages.{IsTypedRun}
 use Rattle.stage_exec.specs.Executions.{IsRunFault, split_of}
 use Rattle.stage_exec.specs.inner.Along.{CanGoOn}
+use Rattle.stage_exec.specs.inner.Objects.{GivesObject}
 use Rattle.stage_exec.specs.inner.Reads.{AgreeOn}
 
 -- ---- the beginning
 
+first_of : (a b : Bool) → a && b ≡ true → a ≡ true
+first_of true b e = refl
+first_of false b e = e
+
+gives : (objects : List ℕ) (all : List Stage) (s : Stage) → has_objects objects all s ≡ true
+    → GivesObject s
+gives objects all (Mscr m) e = tt
+gives objects all (Flatten takes) e = tt
+gives objects all (Operate takes o l a) e = first_of (gives_object a) _ e
+
+-- in a well-formed plan each Operate stage gives an object
+give_objects : (objects : List ℕ) (all stages : List Stage)
+    → Each (λ s. has_objects objects all s ≡ true) stages → Each GivesObject stages
+give_objects objects all [] h = tt
+give_objects objects all (s ∷ stages) h =
+    (gives objects all s h.0, give_objects objects all stages h.1)
+
 pub begins : (w : World) (takes : ℕ → Value → Type 0) (p : Plan) → IsPlanOk p
-    → IsPlanObjectFree p → IsTypedRun w takes p → CanGoOn w takes 1 p.stages (source_lists w)
-begins w takes p ok free run = record {
+    → IsTypedRun w takes p → CanGoOn w takes 1 p.stages (source_lists w)
+begins w takes p ok run = record {
   signatures = run.signatures;
   types = run.plan.0;
   sources = p.sources;
@@ -44,7 +64,7 @@ begins w takes p ok free run = record {
   lists = begin_typed run.signatures w run.plan.0 run.world run.plan.1.sources;
   typed = run.plan.1.stages;
   ok = ok.stages;
-  free = free;
+  objects = give_objects p.objects p.stages p.stages ok.objects;
 }
 
 -- ---- the end

@@ -1,5 +1,5 @@
 -- What stages come to stands on the lists that they read, and on no other.
-use Rattle.std.proofs.Common.{◌≡◌, ◌/◌, ◌%◌, ◌==◌, ℕ, zero, suc, cond, List, [], ◌∷◌, ◌++◌, map, length, refl, ap, ◌∙◌, subst, append_assoc}
+use Rattle.std.proofs.Common.{◌≡◌, ◌/◌, ◌%◌, ◌==◌, ℕ, zero, suc, cond, List, [], ◌∷◌, ◌++◌, map, length, None, Option, Some, refl, ap, ◌∙◌, subst, append_assoc}
 use Rattle.std.specs.List.{flat_map, slice_get}
 use Rattle.std.specs.Option.{option_map_or}
 use Rattle.flume_value.specs.declared.value.Value.{Value}
@@ -7,11 +7,13 @@ use Rattle.flume_value.specs.Bag.{bag_of}
 use Rattle.flume_collection.specs.Calls.{or_none}
 use Rattle.bag_groups.specs.Groups.{grouped}
 use Rattle.outside.specs.declared.host.Phase.TheVariants.{Map, Reduce}
-use Rattle.shards.specs.Shards.{joined}
+use Rattle.shards.specs.Shards.{joined, shard}
 use Rattle.shuffle_parts.specs.Partitions.{part_of}
-use Rattle.exec_graph.specs.Objects.{act_result}
+use Rattle.exec_graph.specs.Objects.{act_result, only}
 use Rattle.exec_graph.specs.World.{World}
+use Rattle.exec_graph.specs.declared.graph.Act.{Act}
 use Rattle.exec_plan.specs.Channels.{numbers}
+use Rattle.exec_plan.specs.Meaning.{in_reads, stage_reads, with_object}
 use Rattle.exec_plan.specs.declared.plan.PlanPlace.{PlanPlace}
 use Rattle.exec_plan.specs.declared.plan.PlanPlace.TheVariants as at
 use Rattle.exec_plan.specs.declared.plan.Grouping.{Grouping}
@@ -21,11 +23,11 @@ use Rattle.exec_plan.specs.declared.plan.OutChannel.{OutChannel}
 use Rattle.exec_plan.specs.declared.plan.OutChannel.TheVariants.{Group, Pass}
 use Rattle.exec_plan.specs.declared.plan.Stage.{Stage}
 use Rattle.exec_plan.specs.declared.plan.Stage.TheVariants.{Mscr, Flatten, Operate}
-use Rattle.plan_phases.specs.Phases.{phases_from, reduce_phases, stage_phases, tasks_below}
-use Rattle.task_lists.specs.Lists.{calm, given_lists, result_lists, run_lists, with_lists}
+use Rattle.plan_phases.specs.Phases.{OfAct, OfTasks, phases_from, reduce_phases, stage_phases, tasks_below}
+use Rattle.task_lists.specs.Lists.{calm, given_lists, object_made, result_lists, run_lists, with_lists}
 use Rattle.task_lists.specs.Plans.{Says, stage_tasks, tasks_from}
-use Rattle.task_lists.specs.Tasks.{Lists, Split, Task, gathered, given_to, grouping_at, groupings, map_count, map_task, map_task_of, no_task, reduce_count, reduce_task, task_gives}
-use Rattle.stage_exec.specs.inner.Reads.{AgreeOn, later_reads, reads_of}
+use Rattle.task_lists.specs.Tasks.{Lists, Split, Task, elements_beside, gathered, given_to, grouping_at, groupings, if_valued, map_count, map_task, map_task_of, no_task, reduce_count, reduce_task, task_gives, value_beside}
+use Rattle.stage_exec.specs.inner.Reads.{AgreeOn, later_reads}
 
 abbrev head_or : List (List Value) → List Value
 head_or [] = []
@@ -35,78 +37,133 @@ abbrev tail_of : List (List Value) → List (List Value)
 tail_of [] = []
 tail_of (x ∷ xs) = xs
 
+-- ---- tables that agree on several collections, one behind another
+
+agree_front : (t u : Lists) (first second : List PlanPlace) → AgreeOn (first ++ second) t u
+    → AgreeOn first t u
+agree_front t u [] second agree = refl
+agree_front t u (p ∷ first) second agree = λ j.
+    ap head_or agree j ∷ agree_front t u first second (ap tail_of agree) j
+
+agree_back : (t u : Lists) (first second : List PlanPlace) → AgreeOn (first ++ second) t u
+    → AgreeOn second t u
+agree_back t u [] second agree = agree
+agree_back t u (p ∷ first) second agree = agree_back t u first second (ap tail_of agree)
+
 module _ (w : World) (n : Split) (t u : Lists) where
   -- ---- the tasks of a stage
 
-  task_same : (ins : List InChannel) → AgreeOn (map (λ c. c.reads) ins) t u → (m i : ℕ)
+  value_same : (o : Option PlanPlace) → AgreeOn (with_object o) t u
+      → value_beside t o ≡ value_beside u o
+  value_same None agree = refl
+  value_same (Some object) agree = λ j. only (ap head_or agree j)
+
+  elements_same : (o : Option PlanPlace) → AgreeOn (with_object o) t u → (xs : List Value)
+      → elements_beside t o xs ≡ elements_beside u o xs
+  elements_same None agree xs = refl
+  elements_same (Some object) agree xs = λ j. if_valued (only (ap head_or agree j)) xs
+
+  -- the task of a shard of a channel
+  shard_same : (c : InChannel) → AgreeOn (in_reads c) t u → (i : ℕ)
+      → map_task n t c i ≡ map_task n u c i
+  shard_same c agree i =
+      let beside : AgreeOn (with_object c.beside) t u = ap tail_of agree in
+      let elements : elements_beside t c.beside (t c.reads) ≡ elements_beside u c.beside (u c.reads)
+      = elements_same c.beside beside (t c.reads)
+      ∙ ap (elements_beside u c.beside) (ap head_or agree) in
+      λ j. record {
+        elements = shard n.shards i (elements j);
+        beside = value_same c.beside beside j;
+        does = c.does;
+      }
+
+  task_same : (ins : List InChannel) → AgreeOn (flat_map in_reads ins) t u → (m i : ℕ)
       → map_task_of n t ins m i ≡ map_task_of n u ins m i
   task_same [] agree m i = refl
   task_same (c ∷ ins) agree zero i =
-      ap (λ l. map_task n (λ p. l) c i) (ap head_or agree)
-  task_same (c ∷ ins) agree (suc m) i = task_same ins (ap tail_of agree) m i
+      shard_same c (agree_front t u (in_reads c) (flat_map in_reads ins) agree) i
+  task_same (c ∷ ins) agree (suc m) i =
+      task_same ins (agree_back t u (in_reads c) (flat_map in_reads ins) agree) m i
 
-  tasks_same : (ins : List InChannel) → AgreeOn (map (λ c. c.reads) ins) t u
+  tasks_same : (ins : List InChannel) → AgreeOn (flat_map in_reads ins) t u
       → map_task_of n t ins ≡ map_task_of n u ins
   tasks_same ins agree = λ j m i. task_same ins agree m i j
 
-  gathered_same : (ins : List InChannel) → AgreeOn (map (λ c. c.reads) ins) t u
+  gathered_same : (ins : List InChannel) → AgreeOn (flat_map in_reads ins) t u
       → gathered w n t ins ≡ gathered w n u ins
   gathered_same ins agree = λ j takes.
       joined (λ m. joined (λ i. given_to w (tasks_same ins agree j m i) m takes) n.shards)
       (length ins)
 
-  reduce_same : (ins : List InChannel) → AgreeOn (map (λ c. c.reads) ins) t u
+  reduce_same : (ins : List InChannel) → AgreeOn (flat_map in_reads ins) t u
       → reduce_task w n t ins ≡ reduce_task w n u ins
   reduce_same ins agree = λ j g p. record {
     elements = part_of n.partitions p (grouped (gathered_same ins agree j g.takes));
+    beside = None;
     does = g.does;
   }
+
+  -- ---- the object of an act
+
+  calm_same : (places : List PlanPlace) → AgreeOn places t u
+      → map (calm t) places ≡ map (calm u) places
+  calm_same [] agree = refl
+  calm_same (p ∷ places) agree = λ j.
+      record { bag = bag_of (ap head_or agree j); traps = [] }
+      ∷ calm_same places (ap tail_of agree) j
+
+  object_same : (o : ℕ) (a : Act) (takes : List PlanPlace) → AgreeOn takes t u
+      → object_made w t o a takes ≡ object_made w u o a takes
+  object_same o a takes agree = λ j. act_result w o a (calm_same takes agree j)
 
   -- ---- phases
 
   map_phase_same : {Y : Type 0} (f : Task → List Y) (ins : List InChannel)
-      → AgreeOn (map (λ c. c.reads) ins) t u
+      → AgreeOn (flat_map in_reads ins) t u
       → flat_map (λ c. joined (λ i. f (map_task n t c i)) n.shards) ins
       ≡ flat_map (λ c. joined (λ i. f (map_task n u c i)) n.shards) ins
   map_phase_same f [] agree = refl
   map_phase_same f (c ∷ ins) agree = λ j.
-      joined (λ i. f (map_task n (λ p. ap head_or agree j) c i)) n.shards
-      ++ map_phase_same f ins (ap tail_of agree) j
+      joined (λ i. f
+      (shard_same c (agree_front t u (in_reads c) (flat_map in_reads ins) agree) i j)) n.shards
+      ++ map_phase_same f ins (agree_back t u (in_reads c) (flat_map in_reads ins) agree) j
 
-  pub stage_tasks_same : {Y : Type 0} (q : Says Y) (s : Stage) → AgreeOn (reads_of s) t u
+  pub stage_tasks_same : {Y : Type 0} (q : Says Y) (s : Stage) → AgreeOn (stage_reads s) t u
       → stage_tasks q w n t s ≡ stage_tasks q w n u s
   stage_tasks_same q (Mscr s) agree = λ j.
       map_phase_same q.maps s.inputs agree j
       ++ flat_map (λ g. joined (λ p. q.reduces g (reduce_same s.inputs agree j g p)) n.partitions)
       (groupings s.outputs)
   stage_tasks_same q (Flatten takes) agree = refl
-  stage_tasks_same q (Operate takes o l a) agree = refl
+  stage_tasks_same q (Operate takes o l a) agree = λ j.
+      q.objects o l (object_same o a takes agree j)
 
-  reduce_phases_same : (k : ℕ) (s : Channels) → AgreeOn (map (λ c. c.reads) s.inputs) t u
+  reduce_phases_same : (k : ℕ) (s : Channels) → AgreeOn (flat_map in_reads s.inputs) t u
       → (gs : List Grouping) → reduce_phases w k n t s gs ≡ reduce_phases w k n u s gs
   reduce_phases_same k s agree [] = refl
-  reduce_phases_same k s agree (g ∷ gs) = λ j. record {
+  reduce_phases_same k s agree (g ∷ gs) = λ j. OfTasks (record {
     stage = k;
     phase = Reduce;
     tasks = tasks_below (λ r. option_map_or
         (λ g. reduce_same s.inputs agree j g (r % n.partitions)) (grouping_at n s r) no_task)
         (reduce_count n s);
-  } ∷ []
+  }) ∷ []
 
-  pub stage_phases_same : (k : ℕ) (s : Stage) → AgreeOn (reads_of s) t u
+  pub stage_phases_same : (k : ℕ) (s : Stage) → AgreeOn (stage_reads s) t u
       → stage_phases w k n t s ≡ stage_phases w k n u s
-  stage_phases_same k (Mscr s) agree = λ j. record {
+  stage_phases_same k (Mscr s) agree = λ j. OfTasks (record {
     stage = k;
     phase = Map;
     tasks = tasks_below
         (λ r. tasks_same s.inputs agree j (r / n.shards) (r % n.shards)) (map_count n s);
-  } ∷ reduce_phases_same k s agree (groupings s.outputs) j
+  }) ∷ reduce_phases_same k s agree (groupings s.outputs) j
   stage_phases_same k (Flatten takes) agree = refl
-  stage_phases_same k (Operate takes o l a) agree = refl
+  stage_phases_same k (Operate takes o l a) agree = λ j.
+      OfAct (object_same o a takes agree j).traps ∷ []
 
   -- ---- results
 
-  given_same : (ins : List InChannel) → AgreeOn (map (λ c. c.reads) ins) t u → (c : OutChannel)
+  given_same : (ins : List InChannel) → AgreeOn (flat_map in_reads ins) t u → (c : OutChannel)
       → given_lists w n t ins c ≡ given_lists w n u ins c
   given_same ins agree (Group g) = λ j.
       map (λ o. joined (λ p. task_gives w (reduce_same ins agree j g p) o) n.partitions)
@@ -119,19 +176,12 @@ module _ (w : World) (n : Split) (t u : Lists) where
   flat_same (p ∷ places) agree = λ j.
       ap head_or agree j ++ flat_same places (ap tail_of agree) j
 
-  calm_same : (places : List PlanPlace) → AgreeOn places t u
-      → map (calm t) places ≡ map (calm u) places
-  calm_same [] agree = refl
-  calm_same (p ∷ places) agree = λ j.
-      record { bag = bag_of (ap head_or agree j); traps = [] }
-      ∷ calm_same places (ap tail_of agree) j
-
-  pub results_same : (s : Stage) → AgreeOn (reads_of s) t u
+  pub results_same : (s : Stage) → AgreeOn (stage_reads s) t u
       → result_lists w n t s ≡ result_lists w n u s
   results_same (Mscr s) agree = λ j. flat_map (λ c. given_same s.inputs agree c j) s.outputs
   results_same (Flatten takes) agree = λ j. flat_same takes agree j ∷ []
   results_same (Operate takes o l a) agree = λ j.
-      (act_result w o a (calm_same takes agree j)).bag ∷ []
+      (object_same o a takes agree j).bag ∷ []
 
 -- ---- stage after stage
 
@@ -147,24 +197,13 @@ with_agree k ls t u (at.Result stage number ∷ places) agree = λ j.
     cond (stage == k) (result_at ls number) (ap head_or agree j)
     ∷ with_agree k ls t u places (ap tail_of agree) j
 
-agree_front : (t u : Lists) (first second : List PlanPlace) → AgreeOn (first ++ second) t u
-    → AgreeOn first t u
-agree_front t u [] second agree = refl
-agree_front t u (p ∷ first) second agree = λ j.
-    ap head_or agree j ∷ agree_front t u first second (ap tail_of agree) j
-
-agree_back : (t u : Lists) (first second : List PlanPlace) → AgreeOn (first ++ second) t u
-    → AgreeOn second t u
-agree_back t u [] second agree = agree
-agree_back t u (p ∷ first) second agree = agree_back t u first second (ap tail_of agree)
-
 module _ (w : World) (n : Split) (outputs : List PlanPlace) where
   module _ (k : ℕ) (s : Stage) (stages : List Stage) (t u : Lists)
       (agree : AgreeOn (later_reads (s ∷ stages) outputs) t u) where
-    here : AgreeOn (reads_of s) t u
+    here : AgreeOn (stage_reads s) t u
     here =
-        agree_front t u (reads_of s) (flat_map reads_of stages)
-        (agree_front t u (reads_of s ++ flat_map reads_of stages) outputs agree)
+        agree_front t u (stage_reads s) (flat_map stage_reads stages)
+        (agree_front t u (stage_reads s ++ flat_map stage_reads stages) outputs agree)
 
     abbrev after : Lists → Lists
     after v = with_lists k (result_lists w n v s) v
@@ -172,9 +211,9 @@ module _ (w : World) (n : Split) (outputs : List PlanPlace) where
     next : AgreeOn (later_reads stages outputs) (after t) (after u)
     next =
         let places = later_reads stages outputs in
-        let back : AgreeOn places t u = agree_back t u (reads_of s) places
+        let back : AgreeOn places t u = agree_back t u (stage_reads s) places
         (subst (λ l. AgreeOn l t u)
-        (append_assoc (reads_of s) (flat_map reads_of stages) outputs) agree) in
+        (append_assoc (stage_reads s) (flat_map stage_reads stages) outputs) agree) in
         with_agree k (result_lists w n t s) t u places back
         ∙ ap (λ ls. map (with_lists k ls u) places) (results_same w n t u s here)
 

@@ -12,9 +12,9 @@ use Rattle.exec_graph.specs.World.{World}
 use Rattle.exec_plan.specs.declared.plan.Stage.{Stage}
 use Rattle.map_shard.specs.Tables.{table}
 use Rattle.plan_phases.proofs.Asking.{asked_all, asked_then, front_before}
-use Rattle.plan_phases.proofs.Joining.{none_run, run_then, stopped_before, stopped_behind}
+use Rattle.plan_phases.proofs.Joining.{none_run, run_then, stopped_before, stopped_behind, tasks_both}
 use Rattle.plan_phases.proofs.Lasting.{all_grew_on}
-use Rattle.plan_phases.specs.Phases.{stage_phases}
+use Rattle.plan_phases.specs.Phases.{stage_phases, with_tasks}
 use Rattle.plan_phases.specs.Told.{AskedFront, HaveRun, IsStopped, attempts_of}
 use Rattle.plan_phases.specs.declared.fault.RunFault.{RunFault}
 use Rattle.plan_phases.specs.declared.winners.PhaseWinners.{PhaseWinners}
@@ -29,6 +29,7 @@ use Rattle.stage_phases.specs.Stages.{run_world}
 use Rattle.task_safety.specs.Stages.{CanRunStage}
 use Rattle.stage_exec.specs.Executions.{split_of}
 use Rattle.stage_exec.specs.inner.Along.{Along, CanGoOn, counted_on, lists_after, phases_on}
+use Rattle.stage_exec.specs.inner.Objects.{GivesObject}
 use Rattle.stage_exec.specs.inner.Reads.{AgreeOn, later_reads}
 use Rattle.map_shard.proofs.Later.{behind}
 use Rattle.stage_exec.proofs.Reading.{outputs_same, phases_from_same, tasks_from_same}
@@ -120,8 +121,10 @@ module _ (s : RunSettings) (called : ℕ → Value → Called) (takes : ℕ → 
           sources = r.sources;
           before = r.before;
           ok = r.ok.0;
-          free = r.free.0;
         })
+
+    pub object_ready : GivesObject stage
+    object_ready = ready_here.objects.0
 
     ready_next : CanGoOn World_ takes (suc (suc k)) (drop (suc k) stages) Next
     ready_next =
@@ -135,10 +138,10 @@ module _ (s : RunSettings) (called : ℕ → Value → Called) (takes : ℕ → 
           calls = r.calls;
           lists =
               table_typed r.signatures World_ r.world r.types (split_of s) Found r.lists (suc k)
-              r.sources r.before stage r.free.0 r.typed.0 r.ok.0;
+              r.sources r.before stage r.typed.0 r.ok.0;
           typed = r.typed.1;
           ok = r.ok.1;
-          free = r.free.1;
+          objects = r.objects.1;
         }
 
     -- what is left of all phases, of the counts
@@ -229,16 +232,21 @@ module _ (s : RunSettings) (called : ℕ → Value → Called) (takes : ℕ → 
     pub stage_asked : (ws : List Account) (later : List PhaseWinners)
         → HaveRun s.tries s.drill World_ (stage_phases World_ (k + 1) (split_of s) Found stage)
         vs ws told later
-        → AskedFront s.tries s.drill (phases_on s World_ 1 stages (source_lists World_)) us ws
+        → AskedFront s.tries s.drill
+        (with_tasks (phases_on s World_ 1 stages (source_lists World_))) us ws
     stage_asked ws later ran =
         let here = stage_phases World_ (k + 1) (split_of s) Found stage in
         let rest = phases_on s World_ (suc (suc k)) (drop (suc k) stages) Next in
+        let first = with_tasks a.ran in
+        let next = with_tasks here in
         subst (λ ps. AskedFront s.tries s.drill ps us ws)
-        (append_assoc a.ran here rest ∙ phases_left)
-        (front_before s.tries s.drill (a.ran ++ here) rest us ws
-        (asked_all s.tries s.drill (a.ran ++ here)
+        (append_assoc first next (with_tasks rest)
+        ∙ (ap (λ ps. first ++ ps) (sym (tasks_both here rest))
+        ∙ (sym (tasks_both a.ran (here ++ rest)) ∙ ap with_tasks phases_left)))
+        (front_before s.tries s.drill (first ++ next) (with_tasks rest) us ws
+        (asked_all s.tries s.drill (first ++ next)
         (attempts_of a.have_run.through.winners ++ attempts_of ran.through.winners) us ws
-        (asked_then s.tries s.drill a.ran here (attempts_of a.have_run.through.winners)
+        (asked_then s.tries s.drill first next (attempts_of a.have_run.through.winners)
         (attempts_of ran.through.winners) us vs ws a.have_run.asked ran.asked)))
 
   -- what is read no more may be dropped
@@ -271,7 +279,7 @@ module _ (s : RunSettings) (called : ℕ → Value → Called) (takes : ℕ → 
           lists = λ q. typed (r.types q) q (r.lists q);
           typed = r.typed;
           ok = r.ok;
-          free = r.free;
+          objects = r.objects;
         };
         lists = outputs_same World_ (split_of s) outputs (suc k) rest t u agree ∙ a.lists;
         counted = a.counted;

@@ -1,12 +1,15 @@
 -- Collections among those that stages read.
-use Rattle.std.proofs.Common.{◌≡◌, Bool, true, false, ◌||◌, List, [], ◌∷◌, ◌++◌, map, refl, ap, ◌∙◌, sym, append_assoc}
+use Rattle.std.proofs.Common.{◌≡◌, Bool, true, false, ◌||◌, List, [], ◌∷◌, ◌++◌, refl, ap, ◌∙◌, sym, append_assoc}
 use Rattle.std.specs.List.{flat_map, list_any}
 use Rattle.std.proofs.lemmas.List.Folds.{list_any-append}
 
-pub any_mapped : {A B : Type 0} (p : B → Bool) (f : A → B) (xs : List A)
-    → list_any (λ x. p (f x)) xs ≡ list_any p (map f xs)
-any_mapped p f [] = refl
-any_mapped p f (x ∷ xs) = ap (λ b. p (f x) || b) (any_mapped p f xs)
+-- among the members of lists, one behind another
+pub any_inside : {A B : Type 0} (p : B → Bool) (f : A → List B) (xs : List A)
+    → list_any (λ x. list_any p (f x)) xs ≡ list_any p (flat_map f xs)
+any_inside p f [] = refl
+any_inside p f (x ∷ xs) =
+    ap (λ b. list_any p (f x) || b) (any_inside p f xs)
+    ∙ sym (list_any-append p (f x) (flat_map f xs))
 
 or_or : (a b c : Bool) → (a || b) || c ≡ a || (b || c)
 or_or true b c = refl

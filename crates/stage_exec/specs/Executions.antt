@@ -6,7 +6,7 @@ use Rattle.exec_graph.specs.World.{World}
 use Rattle.exec_plan.specs.Meaning.{emitted_by, plan_collection, plan_traps}
 use Rattle.exec_plan.specs.declared.plan.Plan.{Plan}
 use Rattle.flume_value.specs.Bag.{bag_of}
-use Rattle.plan_phases.specs.Phases.{phases}
+use Rattle.plan_phases.specs.Phases.{phases, with_tasks}
 use Rattle.plan_phases.specs.Told.{AreWinners, AskedInTurn, HasTrapped, IsGivenUp, attempts_of}
 use Rattle.plan_phases.specs.declared.fault.RunFault.{RunFault}
 use Rattle.plan_phases.specs.declared.fault.RunFault.TheVariants as fault
@@ -22,9 +22,9 @@ split_of s = record { shards = s.shards; partitions = s.partitions }
 
 -- Nothing in the plan's meaning traps. The lists of outputs have the bags of what the plan writes
 -- out, and the counts are the sizes of the first so many script nodes. Of each phase of the plan
--- there are winners: an attempt of each task, not in the drill, all of whose places some host has
--- let through since. The hosts were asked for these phases alone, in turn, each in one work, and
--- the winners are those of the works' boards.
+-- that has tasks there are winners: an attempt of each task, not in the drill, all of whose places
+-- some host has let through since. The hosts were asked for these phases alone, in turn, each in
+-- one work, and the winners are those of the works' boards.
 pub record IsExecuted (s : RunSettings) (w : World) (p : Plan) (nodes : ℕ)
     (olds news : List Account) (it : Executed) : Type 0 where
   pub calm : plan_traps w p ≡ []
@@ -33,14 +33,14 @@ pub record IsExecuted (s : RunSettings) (w : World) (p : Plan) (nodes : ℕ)
   pub count : length it.counts ≡ nodes
   pub counts : (i : ℕ) → i < nodes →
       slice_get it.counts i ≡ Some (kept_count (length (emitted_by w p i)))
-  pub ran : AllZip (AreWinners s.tries s.drill olds news) (phases w (split_of s) p)
+  pub ran : AllZip (AreWinners s.tries s.drill olds news) (with_tasks (phases w (split_of s) p))
       it.winners
-  pub asked : AskedInTurn s.tries s.drill (phases w (split_of s) p) (attempts_of it.winners) olds
-      news
+  pub asked : AskedInTurn s.tries s.drill (with_tasks (phases w (split_of s) p))
+      (attempts_of it.winners) olds news
 
--- why a plan's execution stopped: by the first trap of its tasks, which is one of the plan's, at a
--- task that has run; or at a task that was given up; all phases and tasks before have run without a
--- trap. Want of memory comes at any time
+-- why a plan's execution stopped: by its first trap, which is one of the plan's, at a task that has
+-- run, or where an object was to be made; or at a task that was given up; all phases and tasks
+-- before have run without a trap. Want of memory comes at any time
 abbrev pub IsRunFault : RunSettings → World → Plan → List Account → List Account → RunFault
     → Type 0
 IsRunFault s w p olds news (fault.Trap trap) =

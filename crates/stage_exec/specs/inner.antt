@@ -1,3 +1,4 @@
 pub mod Along
+pub mod Objects
 pub mod Places
 pub mod Reads

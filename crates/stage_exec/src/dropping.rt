@@ -3,10 +3,11 @@ ghost use Rattle.std.specs.Prelude.{◌≡◌, length};
 ghost use Rattle.std.specs.List.{list_any};
 ghost use Rattle.flume_types.specs.Typing.{AllHave};
 ghost use Rattle.flume_types.specs.declared.types.Ty.{Ty as GhostTy};
+ghost use Rattle.exec_plan.specs.Meaning.{in_reads, stage_reads, with_object};
 ghost use Rattle.exec_plan.specs.declared.plan.PlanPlace.{PlanPlace as GhostPlace};
 ghost use Rattle.map_shard.specs.Tables.{table};
 ghost use Rattle.stage_exec.specs.inner.Places as spec;
-ghost use Rattle.stage_exec.specs.inner.Reads.{AgreeOn, later_reads, reads_of};
+ghost use Rattle.stage_exec.specs.inner.Reads.{AgreeOn, later_reads};
 
 use crate::taking::{is_among, is_same, taken_result};
 use exec_plan::{InChannel, PlanPlace, Stage};
@@ -64,7 +65,29 @@ fn drop_inputs(
     ensures count { length results.new.items ≡ length results.old.items }
 {
     for input in inputs {
-        drop_unread(alloc, sources, results, input.reads, later, outputs);
+        drop_input(alloc, sources, results, input, later, outputs);
+    }
+}
+
+// Drops what an input channel has read, and the object beside it.
+fn drop_input(
+    alloc: Global,
+    sources: &[Items],
+    results: &mut Vec<Pile<Items>>,
+    input: &InChannel,
+    later: &[Stage],
+    outputs: &[PlanPlace],
+)
+    ensures others { AgreeOn (later_reads later.now outputs.now)
+        (table sources.now results.new.items) (table sources.now results.old.items) }
+    ensures typed { (type : GhostTy) (q : GhostPlace) →
+        AllHave type (table sources.now results.old.items q) →
+        AllHave type (table sources.now results.new.items q) }
+    ensures count { length results.new.items ≡ length results.old.items }
+{
+    drop_unread(alloc, sources, results, input.reads, later, outputs);
+    if let Some(object) = input.beside {
+        drop_unread(alloc, sources, results, object, later, outputs);
     }
 }
 
@@ -101,13 +124,13 @@ fn is_read(later: &[Stage], outputs: &[PlanPlace], place: PlanPlace) -> bool
 
 fn any_reads(stages: &[Stage], place: PlanPlace) -> bool
     ensures { result
-        ≡ list_any (λ s. list_any (λ q. spec.is_same q place) (reads_of s)) stages.now }
+        ≡ list_any (λ s. list_any (λ q. spec.is_same q place) (stage_reads s)) stages.now }
 {
     stages.iter().any(|stage| reads(stage, place))
 }
 
 fn reads(stage: &Stage, place: PlanPlace) -> bool
-    ensures { result ≡ list_any (λ q. spec.is_same q place) (reads_of stage.now) }
+    ensures { result ≡ list_any (λ q. spec.is_same q place) (stage_reads stage.now) }
 {
     match stage {
         Stage::Mscr(stage) => has_input(stage.inputs.as_slice(), place),
@@ -118,7 +141,24 @@ fn reads(stage: &Stage, place: PlanPlace) -> bool
 }
 
 fn has_input(inputs: &[InChannel], place: PlanPlace) -> bool
-    ensures { result ≡ list_any (λ c. spec.is_same c.reads place) inputs.now }
+    ensures { result
+        ≡ list_any (λ c. list_any (λ q. spec.is_same q place) (in_reads c)) inputs.now }
 {
-    inputs.iter().any(|input| is_same(input.reads, place))
+    inputs.iter().any(|input| takes_in(input, place))
+}
+
+// Whether an input channel reads a collection, or calls its steps beside it.
+fn takes_in(input: &InChannel, place: PlanPlace) -> bool
+    ensures { result ≡ list_any (λ q. spec.is_same q place) (in_reads input.now) }
+{
+    is_same(input.reads, place) || is_beside(input.beside, place)
+}
+
+fn is_beside(beside: Option<PlanPlace>, place: PlanPlace) -> bool
+    ensures { result ≡ list_any (λ q. spec.is_same q place) (with_object beside) }
+{
+    match beside {
+        None => false,
+        Some(object) => is_same(object, place),
+    }
 }

@@ -2,11 +2,10 @@
 ghost use Rattle.std.specs.Prelude.{◌≡◌, ◌<◌, ◌≤◌, IfErr, IfOk, length, map};
 ghost use Rattle.std.specs.List.{AllZip};
 ghost use Rattle.crew.specs.Hosts.{account, Grew};
-ghost use Rattle.exec_plan.specs.ObjectFree.{IsPlanObjectFree};
 ghost use Rattle.exec_plan.specs.Wellformed.{IsPlanOk};
 ghost use Rattle.forest_steps.specs.Fresh.{zeros};
 ghost use Rattle.map_shard.specs.Tables.{table};
-ghost use Rattle.plan_phases.specs.Phases.{phases};
+ghost use Rattle.plan_phases.specs.Phases.{phases, with_tasks};
 ghost use Rattle.plan_phases.specs.Told.{AskedFront, CanFinishAll, IsNotGivenUp};
 ghost use Rattle.stage_exec.specs.Executions.{IsExecuted, IsRunFault, split_of};
 ghost use Rattle.stage_phases.specs.Stages.{run_world};
@@ -24,13 +23,14 @@ use run_settings::Settings;
 use stage_phases::Inputs;
 use std::alloc::{AllocError, Global};
 use std::thread::Threads;
-use task_lists::tasks_law;
+use task_lists::{tasks_law, typed_law};
 
-/// Executes a plan without objects over the rows of its sources, one list for each, with a worker
-/// on each of the hosts. It counts for the first so many script nodes.
+/// Executes a plan over the rows of its sources, one list for each, with a worker on each of the
+/// hosts. It counts for the first so many script nodes.
 ///
 /// It stops at the first task, by phases in order and by tasks in order within one, that traps or
-/// of which no attempt has won: with its first trap, or naming it.
+/// of which no attempt has won: with its first trap, or naming it. What gives an object is made
+/// between the phases, and traps as a phase by itself.
 pub fn execute<R: Threads + Sync, F: Functions + Sync, H: Host + Send>(
     rt: &R,
     alloc: Global,
@@ -42,7 +42,6 @@ pub fn execute<R: Threads + Sync, F: Functions + Sync, H: Host + Send>(
     settings: &Settings,
 ) -> Result<Executed, RunFault>
     requires plan { IsPlanOk plan.now }
-    requires object_free { IsPlanObjectFree plan.now }
     requires sources { length sources.now ≡ plan.now.sources }
     requires typed { IsTypedRun (run_world (F.called functions.now) sources.now)
         (F.can_call functions.now) plan.now }
@@ -51,8 +50,8 @@ pub fn execute<R: Threads + Sync, F: Functions + Sync, H: Host + Send>(
     ensures grew { AllZip Grew
         (map (account H.notes H.losses) hosts.old) (map (account H.notes H.losses) hosts.new) }
     // However it ends, no phase is made twice, and none behind the one where it stops.
-    ensures asked { AskedFront settings.now.tries settings.now.drill
-        (phases (run_world (F.called functions.now) sources.now) (split_of settings.now) plan.now)
+    ensures asked { AskedFront settings.now.tries settings.now.drill (with_tasks
+        (phases (run_world (F.called functions.now) sources.now) (split_of settings.now) plan.now))
         (map (account H.notes H.losses) hosts.old) (map (account H.notes H.losses) hosts.new) }
     ensures done { IfOk result (IsExecuted settings.now
         (run_world (F.called functions.now) sources.now) plan.now nodes
@@ -62,13 +61,14 @@ pub fn execute<R: Threads + Sync, F: Functions + Sync, H: Host + Send>(
         (map (account H.notes H.losses) hosts.old) (map (account H.notes H.losses) hosts.new)) }
     // No task is given up, where each has a try that is neither in the drill nor accounted for by
     // the losses of the hosts.
-    ensures complete { CanFinishAll settings.now.tries settings.now.drill
-        (phases (run_world (F.called functions.now) sources.now) (split_of settings.now) plan.now)
+    ensures complete { CanFinishAll settings.now.tries settings.now.drill (with_tasks
+        (phases (run_world (F.called functions.now) sources.now) (split_of settings.now) plan.now))
         (map (account H.notes H.losses) hosts.old) (map (account H.notes H.losses) hosts.new)
         → IfErr result IsNotGivenUp }
 {
     cut_law(settings);
     tasks_law();
+    typed_law();
     phases_law();
     let inputs = Inputs {
         functions,

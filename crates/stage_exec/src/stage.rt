@@ -7,6 +7,7 @@ ghost use Rattle.exec_plan.specs.declared.plan.Stage.TheVariants as stages;
 ghost use Rattle.map_shard.specs.Tables.{split, table};
 ghost use Rattle.plan_phases.specs.Phases.{stage_phases};
 ghost use Rattle.plan_phases.specs.Told.{HaveRun, IsStopped};
+ghost use Rattle.stage_exec.specs.inner.Objects.{GivesObject};
 ghost use Rattle.stage_phases.specs.Outs.{AreReduceOuts};
 ghost use Rattle.stage_phases.specs.Stages.{run_world};
 ghost use Rattle.task_safety.specs.Stages.{CanRunStage};
@@ -17,6 +18,7 @@ ghost use Rattle.task_lists.specs.Plans.{stage_tasks, task_counts};
 ghost use Rattle.task_lists.specs.Tasks.{Lists};
 
 use crate::flatten::flatten_lists;
+use crate::objects::object_lists;
 use crate::phases::{StageOuts, stage_outs};
 use exec_plan::{Mscr, PlanPlace, Stage};
 use flume_value::{Items, Pile};
@@ -46,6 +48,7 @@ pub(crate) fn run_stage<R: Threads + Sync, F: Functions + Sync, H: Host + Send>(
         (run_world (F.called inputs.now.functions.now) inputs.now.sources.now)
         (F.can_call inputs.now.functions.now) number (table inputs.now.sources.now results.now)
         stage.now }
+    requires object { GivesObject stage.now }
     ensures grew { AllZip Grew
         (map (account H.notes H.losses) hosts.old) (map (account H.notes H.losses) hosts.new) }
     ensures lists { IfOk result (λ lists. lists ≡ result_lists
@@ -81,7 +84,9 @@ pub(crate) fn run_stage<R: Threads + Sync, F: Functions + Sync, H: Host + Send>(
             Ok(lists) => Ok(lists),
             Err(AllocError) => Err(RunFault::Memory),
         },
-        Stage::Operate(_, _, _, _) => unreachable!(),
+        Stage::Operate(takes, origin, last, act) => object_lists(
+            alloc, inputs, results, takes, *origin, *last, *act, number, sizes,
+        ),
     }
 }
 

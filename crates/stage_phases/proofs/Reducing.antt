@@ -24,7 +24,7 @@ use Rattle.run_settings.specs.Settings.{RunSettings}
 use Rattle.reduce_part.specs.declared.out.ReduceOut.{ReduceOut}
 use Rattle.reduce_part.specs.Reducing.{AreGroupsFirst, IsGathered, IsReducingValue, IsReduceValue, Reducing, group_count, group_task, reducing_count, reducing_places}
 use Rattle.map_shard.specs.Tables.{split}
-use Rattle.plan_phases.specs.Phases.{reduce_phase_of, reduce_phases, tasks_below}
+use Rattle.plan_phases.specs.Phases.{OfTasks, reduce_phase_of, reduce_phases, tasks_below}
 use Rattle.stage_phases.specs.Outs.{AreReduceOuts, IsOutOf}
 use Rattle.stage_phases.specs.inner.Channels.{is_group}
 use Rattle.stage_phases.specs.inner.Tasks.{AreValues, IsPhaseOf}
@@ -46,7 +46,7 @@ some_groupings (Group g ∷ cs) e = omega arith
 some_groupings (Pass k n ∷ cs) e = some_groupings cs e
 
 pub one_phase : (w : World) (k : ℕ) (n : Split) (t : Lists) (s : Channels) (gs : List Grouping)
-    → 0 < length gs → reduce_phases w k n t s gs ≡ reduce_phase_of w k n t s ∷ []
+    → 0 < length gs → reduce_phases w k n t s gs ≡ OfTasks (reduce_phase_of w k n t s) ∷ []
 one_phase w k n t s [] h = absurd (omega arith)
 one_phase w k n t s (g ∷ gs) h = refl
 

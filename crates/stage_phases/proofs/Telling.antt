@@ -15,7 +15,7 @@ use Rattle.phase_outs.proofs.Placing.{some_at}
 use Rattle.task_lists.specs.Outs.{IsCalm}
 use Rattle.task_lists.specs.Tasks.{Task, places}
 use Rattle.plan_phases.specs.declared.winners.PhaseWinners.{PhaseWinners}
-use Rattle.plan_phases.specs.Phases.{PhaseTasks}
+use Rattle.plan_phases.specs.Phases.{OfTasks, PhaseTasks}
 use Rattle.plan_phases.specs.Told.{AreAsked, AskedAtMost, AskedFront, HaveRun, IsReached, IsStopped, RanThrough, attempts_of, first_tasks, settings_of}
 use Rattle.plan_phases.proofs.Asking.{asked_all, asked_last, asked_one}
 use Rattle.task_safety.proofs.Fitting.{each_placed}
@@ -89,7 +89,7 @@ module _ (w : World) (ph : PhaseTasks) (s : Settings) (tasks : ℕ) {O : Type 0}
   -- the tasks below one that stopped the phase have run through
   run_below : (n : ℕ) → n < length ph.tasks → (won : List ℕ) → n ≤ length won
       → AreMadeBelow tasks s is_value asked us vs won n
-      → (r : RanThrough s.tries s.drill w (first_tasks n ph ∷ []) us vs)
+      → (r : RanThrough s.tries s.drill w (OfTasks (first_tasks n ph) ∷ []) us vs)
       × (attempts_of r.winners ≡ take n won ∷ [])
   run_below n below won long made =
       let count = length-take-le n ph.tasks (omega arith) in
@@ -123,7 +123,7 @@ module _ (w : World) (ph : PhaseTasks) (s : Settings) (tasks : ℕ) {O : Type 0}
       → AreMade tasks s is_value asked us vs made → AreAskedOnce tasks s asked us vs
       → after ≡ before
       ++ record { stage = s.stage; phase = s.phase; attempts = made.attempts.items }
-      ∷ [] → HaveRun s.tries s.drill w (ph ∷ []) us vs before after
+      ∷ [] → HaveRun s.tries s.drill w (OfTasks ph ∷ []) us vs before after
   has_run before after made m once told = record {
     through = record {
       calm = (
@@ -153,7 +153,7 @@ module _ (w : World) (ph : PhaseTasks) (s : Settings) (tasks : ℕ) {O : Type 0}
 
   reached : (task : ℕ) (won : List ℕ) → HasComeTo tasks s is_value asked us vs task won
       → AreAskedOnce tasks s asked us vs
-      → (r : IsReached s.tries s.drill w (ph ∷ []) us vs ph task) × (r.won ≡ won)
+      → (r : IsReached s.tries s.drill w (OfTasks ph ∷ []) us vs ph task) × (r.won ≡ won)
   reached task won come once =
       let small = come.is_task in
       let below = subst (λ n. task < n) (sym p.count) small in
@@ -176,11 +176,11 @@ module _ (w : World) (ph : PhaseTasks) (s : Settings) (tasks : ℕ) {O : Type 0}
 
   pub has_stopped : (e : PhaseStop) → IsStop tasks s is_value asked us vs e
       → AreAskedOnce tasks s asked us vs
-      → IsStopped s.tries s.drill w (ph ∷ []) us vs (fault_at s.stage s.phase e)
+      → IsStopped s.tries s.drill w (OfTasks ph ∷ []) us vs (fault_at s.stage s.phase e)
   has_stopped (stop.Trap task trap) h once =
       let here = some_at ph.tasks task (subst (λ n. task < n) (sym p.count) h.1.is_task) in
       let r = reached task h.0 h.1 once in
-      record {
+      inl (record {
         here = ph;
         number = task;
         reached = r.0;
@@ -191,7 +191,7 @@ module _ (w : World) (ph : PhaseTasks) (s : Settings) (tasks : ℕ) {O : Type 0}
             (λ (l : List ℕ). HasRun (settings_of s.tries s.drill ph) us vs task (places here.0)
             (slice_index l task))
             (sym r.1) (run_of task (slice_index h.0 task) here.0 here.1 h.2.ran);
-      }
+      })
   has_stopped (stop.GaveUp task) h once =
       let r = reached task h.0 h.1 once in
       record {

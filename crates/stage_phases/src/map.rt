@@ -6,7 +6,7 @@ ghost use Rattle.exec_plan.specs.declared.plan.Stage.TheVariants as stages;
 ghost use Rattle.task_lists.specs.Outs.{AreMapOuts};
 ghost use Rattle.map_shard.specs.Tables.{split, table};
 ghost use Rattle.map_shard.specs.Work.{work_count};
-ghost use Rattle.plan_phases.specs.Phases.{map_phase_of};
+ghost use Rattle.plan_phases.specs.Phases.{OfTasks, map_phase_of};
 ghost use Rattle.plan_phases.specs.Told.{HaveRun, IsStopped};
 ghost use Rattle.stage_phases.specs.Stages.{run_world};
 ghost use Rattle.task_safety.specs.Stages.{CanRunStage};
@@ -49,17 +49,17 @@ pub fn map_outs<R: Threads + Sync, F: Functions + Sync, H: Host + Send>(
     ensures ran { OnOk result (HaveRun
         inputs.now.settings.now.tries inputs.now.settings.now.drill
         (run_world (F.called inputs.now.functions.now) inputs.now.sources.now)
-        (map_phase_of number
+        (OfTasks (map_phase_of number
         (split inputs.now.settings.now.shards inputs.now.settings.now.partitions)
-        (table inputs.now.sources.now results.now) stage.now ∷ [])
+        (table inputs.now.sources.now results.now) stage.now) ∷ [])
         (map (account H.notes H.losses) hosts.old) (map (account H.notes H.losses) hosts.new)
         winners.old.items winners.new.items) }
     ensures stopped { IfErr result (IsStopped
         inputs.now.settings.now.tries inputs.now.settings.now.drill
         (run_world (F.called inputs.now.functions.now) inputs.now.sources.now)
-        (map_phase_of number
+        (OfTasks (map_phase_of number
         (split inputs.now.settings.now.shards inputs.now.settings.now.partitions)
-        (table inputs.now.sources.now results.now) stage.now ∷ [])
+        (table inputs.now.sources.now results.now) stage.now) ∷ [])
         (map (account H.notes H.losses) hosts.old) (map (account H.notes H.losses) hosts.new)) }
 {
     let tasks = map_tasks(inputs, results, stage, number);

@@ -3,7 +3,7 @@ ghost use Rattle.std.specs.Prelude.{◌≡◌, ◌*◌, ◌^◌, ◌<◌, ◌≤
 ghost use Rattle.std.specs.List.{AllZip};
 ghost use Rattle.crew.specs.Hosts.{account, Grew};
 ghost use Rattle.exec_graph.specs.World.{World};
-ghost use Rattle.plan_phases.specs.Phases.{PhaseTasks};
+ghost use Rattle.plan_phases.specs.Phases.{OfTasks, PhaseTasks};
 ghost use Rattle.plan_phases.specs.Told.{HaveRun, IsStopped};
 ghost use Rattle.stage_phases.specs.inner.Tasks.{AreValues, IsPhaseOf, fault_at};
 
@@ -41,12 +41,12 @@ pub(crate) fn outs_of<
         AreValues (T.count_of tasks.now) (T.is_value tasks.now) outs.items) }
     ensures ran { (w : World) (ph : PhaseTasks) → IsPhaseOf w ph phase.now
         (T.count_of tasks.now) (T.is_value tasks.now) (T.places tasks.now) →
-        OnOk result (HaveRun phase.now.tries phase.now.drill w (ph ∷ [])
+        OnOk result (HaveRun phase.now.tries phase.now.drill w (OfTasks ph ∷ [])
         (map (account H.notes H.losses) hosts.old) (map (account H.notes H.losses) hosts.new)
         winners.old.items winners.new.items) }
     ensures stopped { (w : World) (ph : PhaseTasks) → IsPhaseOf w ph phase.now
         (T.count_of tasks.now) (T.is_value tasks.now) (T.places tasks.now) →
-        IfErr result (IsStopped phase.now.tries phase.now.drill w (ph ∷ [])
+        IfErr result (IsStopped phase.now.tries phase.now.drill w (OfTasks ph ∷ [])
         (map (account H.notes H.losses) hosts.old) (map (account H.notes H.losses) hosts.new)) }
 {
     match run_to_end(rt, alloc, tasks, hosts, phase) {

@@ -188,3 +188,23 @@ module _ (limits : Limits) where
     moved = plain refl (plain refl (plain refl stop));
     is = g.top;
   }
+  go_operation (g.combine_all {c} x) d vs =
+      let by = go_combiner x d vs in
+      record {
+        without = key keyword.Combineall 0 ∷ name c 0 ∷ key keyword.By 0 ∷ by.without;
+        moved = plain refl (plain refl (plain refl by.moved));
+        is = g.combine_all by.is;
+      }
+  go_operation (g.operate {f} x l) d vs =
+      let names = go_names x d (key keyword.By 0 ∷ name f 0 ∷ vs) in
+      record {
+        without = key keyword.Operate 0 ∷ names.without;
+        moved = plain refl (join names.moved (plain refl (plain refl stop)));
+        is = g.operate names.is l;
+      }
+  go_operation (g.do_with {c} {f} {o}) d vs = record {
+    without =
+        key keyword.Do 0 ∷ name c 0 ∷ name f 0 ∷ key keyword.With 0 ∷ name o 0 ∷ vs;
+    moved = plain refl (plain refl (plain refl (plain refl (plain refl stop))));
+    is = g.do_with;
+  }

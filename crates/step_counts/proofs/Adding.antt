@@ -1,11 +1,16 @@
 -- What counts add to sizes, owner by owner.
-use Rattle.std.proofs.Common.{◌≡◌, ◌⊎◌, ℕ, ◌+◌, ◌-◌, ◌<◌, ◌^◌, ◌==◌, Bool, true, false, cond, List, [], ◌∷◌, map, Option, Some, None, ◌&&◌, refl, ap, ◌∙◌, ⊎_elim, arith, length, slice_index}
+use Rattle.std.proofs.Common.{◌≡◌, ◌⊎◌, ℕ, ◌+◌, ◌-◌, ◌<◌, ◌^◌, ◌==◌, Bool, true, false, cond, List, [], ◌∷◌, map, Option, Some, None, ◌&&◌, refl, sym, ap, ◌∙◌, ⊎_elim, arith, length, slice_index, sum}
+use Rattle.std.proofs.lemmas.List.Sums.{sum_by-cons}
+use Rattle.exec_graph.specs.World.{World}
+use Rattle.flume_collection.specs.Collection.{Collection}
 use Rattle.exec_graph.specs.Calls.{is_own}
 use Rattle.exec_graph.specs.Forests.{Label}
+use Rattle.task_lists.specs.Plans.{task_counts}
 use Rattle.task_lists.specs.Runs.{kept_count, own_count}
 use Rattle.step_counts.specs.Owners.{owner}
 use Rattle.step_counts.specs.Sizes.{HaveGrown}
-use Rattle.step_counts.specs.inner.Owned.{more_at, owned}
+use Rattle.step_counts.specs.inner.Owned.{more_at, object_owner, owned}
+use Rattle.step_counts.proofs.Growing.{grown_as}
 
 no_counts : (i : ℕ) (os : List (Option ℕ)) → owned i os [] ≡ 0
 no_counts i [] = refl
@@ -66,3 +71,24 @@ steps_grown olds news owners counts ls ns few e f h = record {
       ∙ (λ j. kept_count (slice_index olds i + owned i (e j) (f j)))
       ∙ owned_is i (slice_index olds i) ls ns (omega arith);
 }
+
+-- ---- an object
+
+one_sum : (n : ℕ) → sum (n ∷ []) ≡ n
+one_sum n = let e = sum_by-cons (λ (x : ℕ). x) n [] in omega (arith, e)
+
+object_more : (i o n : ℕ) (last : Bool)
+    → more_at i (object_owner o last) n ≡ sum (cond (last && (o == i)) n 0 ∷ [])
+object_more i o n true = sym (one_sum (cond (o == i) n 0))
+object_more i o n false = sym (one_sum 0)
+
+-- its members make the size of its script node
+pub object_grown : (olds news : List ℕ) (origin : ℕ) (last : Bool) (members : ℕ) (w : World)
+    (object : Collection) → members ≡ length object.bag
+    → HaveGrown (λ i. more_at i (object_owner origin last) members) olds news
+    → HaveGrown (λ i. sum ((task_counts w i).objects origin last object)) olds news
+object_grown olds news origin last members w object many h =
+    grown_as (λ i. more_at i (object_owner origin last) members)
+    (λ i. sum ((task_counts w i).objects origin last object)) olds news
+    (λ i. object_more i origin members last
+    ∙ ap (λ n. sum (cond (last && (origin == i)) n 0 ∷ [])) many) h

@@ -4,12 +4,15 @@
 //! output that is the last of its script node is that node's own bag, so its counts make the node's
 //! size. `Owners` says of the outputs of a channel's steps whose own bags they are; it is made once
 //! a channel, and `add_steps` adds by it what a task has counted. `add_groups` adds the groups of a
-//! reduce task. Sizes stop at the last value of a u64 (`HaveGrown`, specs/Sizes.antt).
+//! reduce task, and `add_object` the member of an object. Sizes stop at the last value of a u64
+//! (`HaveGrown`, specs/Sizes.antt).
 #![tactic(auto)]
 
 mod groups;
+mod objects;
 mod owners;
 mod sizes;
 
 pub use groups::add_groups;
+pub use objects::add_object;
 pub use owners::Owners;

@@ -20,10 +20,11 @@ fn told(alloc: Global, text: &[u8]) -> Cut {
     }
 }
 
-static CUTS: [(&[u8], Cut); 10] = [
+static CUTS: [(&[u8], Cut); 11] = [
     (b"", Cut::Tokens(0, 1)),
     (b"let x = a->b<=12 # no ; @\n\"q\\n\"\n", Cut::Tokens(9, 3)),
     (b"a==b=>=c", Cut::Tokens(6, 1)),
+    (b"combineall operate with combine", Cut::Tokens(4, 1)),
     (b"a\n@", Cut::Refused(2, Refusal::Token)),
     (b"\n\"a\n\"", Cut::Refused(2, Refusal::Token)),
     (b"\"a\\r\"", Cut::Refused(1, Refusal::Token)),
@@ -57,16 +58,21 @@ enum Wanted {
     Sign(Sign),
 }
 
-const LINES: &[u8] = b"in inx 007 <= \"a\\\"\"\n<";
+const LINES: &[u8] = b"in inx 007 <= \"a\\\"\"\n< combineall combine withs operate with";
 
 /// The tokens of these lines, each with its line.
-static TOKENS: [(Wanted, u32); 6] = [
+static TOKENS: [(Wanted, u32); 11] = [
     (Wanted::Keyword(Keyword::In), 1),
     (Wanted::Name(b"inx"), 1),
     (Wanted::Number(b"007"), 1),
     (Wanted::Sign(Sign::AtMost), 1),
     (Wanted::Text(b"a\""), 1),
     (Wanted::Sign(Sign::Less), 2),
+    (Wanted::Keyword(Keyword::Combineall), 2),
+    (Wanted::Keyword(Keyword::Combine), 2),
+    (Wanted::Name(b"withs"), 2),
+    (Wanted::Keyword(Keyword::Operate), 2),
+    (Wanted::Keyword(Keyword::With), 2),
 ];
 
 fn is_kind(kind: &TokenKind, wanted: Wanted) -> bool {

@@ -5,7 +5,7 @@ use flume_syntax::ScriptKind;
 use std::test::Fail;
 
 /// Scripts with the first fault of each.
-static FAULTS: [(&[u8], Outcome); 29] = [
+static FAULTS: [(&[u8], Outcome); 42] = [
     (b"type type = int", Outcome::Refused(1, ScriptKind::Syntax)),
     (b"@", Outcome::Refused(1, ScriptKind::Token)),
     (b"\xff", Outcome::Refused(1, ScriptKind::Utf8)),
@@ -95,6 +95,59 @@ static FAULTS: [(&[u8], Outcome); 29] = [
         b"let t = repeat 2 from a as c { give c\n",
         Outcome::Refused(2, ScriptKind::Syntax),
     ),
+    // operations with objects that lack a part or have another, and names that are reserved
+    (
+        b"let t = combineall\nby sum",
+        Outcome::Refused(2, ScriptKind::Syntax),
+    ),
+    (
+        b"let t = combineall c\nsum",
+        Outcome::Refused(2, ScriptKind::Syntax),
+    ),
+    (
+        b"let t = combineall c by\nf",
+        Outcome::Refused(2, ScriptKind::Syntax),
+    ),
+    (
+        b"let t = combineall c,\nd by sum",
+        Outcome::Refused(1, ScriptKind::Syntax),
+    ),
+    (
+        b"let t = operate o,\nby f",
+        Outcome::Refused(2, ScriptKind::Syntax),
+    ),
+    (
+        b"let t = operate o, p\nf",
+        Outcome::Refused(2, ScriptKind::Syntax),
+    ),
+    (
+        b"let t = operate o by\nsum",
+        Outcome::Refused(2, ScriptKind::Syntax),
+    ),
+    (
+        b"let t = do c f with\n",
+        Outcome::Refused(2, ScriptKind::Syntax),
+    ),
+    (
+        b"let t = do c f with o\n, p",
+        Outcome::Refused(2, ScriptKind::Syntax),
+    ),
+    (
+        b"let t = do c f with o\nwith p",
+        Outcome::Refused(2, ScriptKind::Syntax),
+    ),
+    (
+        b"let t = group c\nwith o",
+        Outcome::Refused(2, ScriptKind::Syntax),
+    ),
+    (
+        b"let\nwith = do c f",
+        Outcome::Refused(2, ScriptKind::Syntax),
+    ),
+    (
+        b"let t = do\noperate f",
+        Outcome::Refused(2, ScriptKind::Syntax),
+    ),
     // at the end of the tokens a fault is on the last line
     (b"type r =", Outcome::Refused(1, ScriptKind::Syntax)),
     (b"type r =\n", Outcome::Refused(2, ScriptKind::Syntax)),
@@ -112,7 +165,7 @@ const EMIT: &[u8] = b"fn f(x: r) -> r { emit ";
 
 /// One part or one level more than there may be: the token that needs it stands on line 2, all that
 /// is before it on line 1.
-static ONE_TOO_MANY: [(Repeated<'static>, Outcome); 8] = [
+static ONE_TOO_MANY: [(Repeated<'static>, Outcome); 9] = [
     (
         (b"type r = {a: int", b",a: int", 15, b"\n, a: int}"),
         Outcome::Refused(2, ScriptKind::TooMany),
@@ -123,6 +176,10 @@ static ONE_TOO_MANY: [(Repeated<'static>, Outcome); 8] = [
     ),
     (
         (b"let a = flatten b", b",b", 255, b"\n, b"),
+        Outcome::Refused(2, ScriptKind::TooMany),
+    ),
+    (
+        (b"let a = operate b", b",b", 255, b"\n, b by f"),
         Outcome::Refused(2, ScriptKind::TooMany),
     ),
     (

@@ -16,15 +16,25 @@ pub enum Operated {
     Join(&'static [u8]),
     /// of this number
     Top(&'static [u8]),
-    // combinations
+    Combine(By),
+    CombineAll(By),
+    /// of these objects, by this function
+    Operate(&'static [&'static [u8]], &'static [u8]),
+    /// by this function, with this object
+    DoWith(&'static [u8], &'static [u8]),
+}
+
+/// A combiner.
+#[derive(Clone, Copy)]
+pub enum By {
     Sum,
-    Counts,
+    Count,
     Min,
     Max,
     All,
     Any,
     /// of this number
-    Tops(&'static [u8]),
+    Top(&'static [u8]),
     Mean,
     Distinct,
 }
@@ -36,7 +46,9 @@ pub fn is_operation(operation: &Operation, wanted: Operated) -> bool {
             name.is(b"c") && matches!(wanted, Operated::Do(f) if function.is(f))
         }
         Operation::Group(name) => name.is(b"c") && matches!(wanted, Operated::Group),
-        Operation::Combine(name, combiner) => name.is(b"c") && is_combiner(combiner, wanted),
+        Operation::Combine(name, combiner) => {
+            name.is(b"c") && matches!(wanted, Operated::Combine(by) if is_combiner(combiner, by))
+        }
         Operation::Flatten(names) => {
             matches!(wanted, Operated::Flatten(all) if are_words(names.as_slice(), all))
         }
@@ -47,19 +59,40 @@ pub fn is_operation(operation: &Operation, wanted: Operated) -> bool {
         Operation::Top(number, name) => {
             name.is(b"c") && matches!(wanted, Operated::Top(digits) if number.is(digits))
         }
+        Operation::CombineAll(_, _) | Operation::Operate(_, _) | Operation::DoWith(_, _, _) => {
+            is_with_objects(operation, wanted)
+        }
     }
 }
 
-fn is_combiner(combiner: &Combiner, wanted: Operated) -> bool {
+/// Whether it is the wanted one, of those that have objects.
+fn is_with_objects(operation: &Operation, wanted: Operated) -> bool {
+    match operation {
+        Operation::CombineAll(name, combiner) => {
+            name.is(b"c") && matches!(wanted, Operated::CombineAll(by) if is_combiner(combiner, by))
+        }
+        Operation::Operate(objects, function) => match wanted {
+            Operated::Operate(all, f) => are_words(objects.as_slice(), all) && function.is(f),
+            _ => false,
+        },
+        Operation::DoWith(name, function, object) => match wanted {
+            Operated::DoWith(f, o) => name.is(b"c") && function.is(f) && object.is(o),
+            _ => false,
+        },
+        _ => false,
+    }
+}
+
+fn is_combiner(combiner: &Combiner, wanted: By) -> bool {
     match combiner {
-        Combiner::Sum => matches!(wanted, Operated::Sum),
-        Combiner::Count => matches!(wanted, Operated::Counts),
-        Combiner::Min => matches!(wanted, Operated::Min),
-        Combiner::Max => matches!(wanted, Operated::Max),
-        Combiner::All => matches!(wanted, Operated::All),
-        Combiner::Any => matches!(wanted, Operated::Any),
-        Combiner::Top(number) => matches!(wanted, Operated::Tops(digits) if number.is(digits)),
-        Combiner::Mean => matches!(wanted, Operated::Mean),
-        Combiner::Distinct => matches!(wanted, Operated::Distinct),
+        Combiner::Sum => matches!(wanted, By::Sum),
+        Combiner::Count => matches!(wanted, By::Count),
+        Combiner::Min => matches!(wanted, By::Min),
+        Combiner::Max => matches!(wanted, By::Max),
+        Combiner::All => matches!(wanted, By::All),
+        Combiner::Any => matches!(wanted, By::Any),
+        Combiner::Top(number) => matches!(wanted, By::Top(digits) if number.is(digits)),
+        Combiner::Mean => matches!(wanted, By::Mean),
+        Combiner::Distinct => matches!(wanted, By::Distinct),
     }
 }

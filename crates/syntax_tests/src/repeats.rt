@@ -1,6 +1,6 @@
 //! The trees of lets with repeat.
 
-use crate::operations::{Operated, is_operation};
+use crate::operations::{By, Operated, is_operation};
 use crate::parts::{are_words, read, sole};
 use flume_syntax::{Ast, Form, Repeat, TurnLet};
 use flume_value::Str;
@@ -21,7 +21,7 @@ struct Wanted {
     gives: &'static [&'static [u8]],
 }
 
-static REPEATS: [(&[u8], Wanted); 4] = [
+static REPEATS: [(&[u8], Wanted); 5] = [
     (
         b"let t = repeat 3 from a as c { let d = do c f give d }",
         Wanted {
@@ -58,6 +58,24 @@ static REPEATS: [(&[u8], Wanted); 4] = [
                 (4, &[b"w"], Operated::Group),
             ],
             gives: &[b"y", b"z"],
+        },
+    ),
+    // objects in a body; behind an operation another let stands, or `give`
+    (
+        b"let t = repeat 2 from a as c { let n = combineall c by max let d = do c f with n\n\
+            let e = do c f let g = operate n, n by h give g }",
+        Wanted {
+            names: &[b"t"],
+            turns: b"2",
+            from: &[b"a"],
+            entering: &[b"c"],
+            lets: &[
+                (1, &[b"n"], Operated::CombineAll(By::Max)),
+                (1, &[b"d"], Operated::DoWith(b"f", b"n")),
+                (2, &[b"e"], Operated::Do(b"f")),
+                (2, &[b"g"], Operated::Operate(&[b"n", b"n"], b"h")),
+            ],
+            gives: &[b"g"],
         },
     ),
     // how many names there are is no matter of the grammar

@@ -6,7 +6,7 @@ use std::alloc::Global;
 use std::test::Fail;
 
 /// Scripts, and how many statements each has.
-static SMALL: [(&[u8], Outcome); 4] = [
+static SMALL: [(&[u8], Outcome); 6] = [
     (b"", Outcome::Statements(0)),
     (
         b"type r = {type: int, fn: either<table<r, list<bool>>, text>}\n\
@@ -30,12 +30,23 @@ static SMALL: [(&[u8], Outcome); 4] = [
           let b, c = do a f let d = flatten b, b let e, g = group c",
         Outcome::Statements(4),
     ),
+    (
+        b"let t = combineall b by sum let u = operate t by f\n\
+          let v = operate t, u by g let c = do b h with v let d = do c k output d to \"o\"",
+        Outcome::Statements(6),
+    ),
+    // words that are reserved may name fields
+    (
+        b"fn f(r: {with: int, operate: int}) -> int { \
+          emit r.with - {combineall: r.operate}.combineall }",
+        Outcome::Statements(1),
+    ),
 ];
 
 const EMIT: &[u8] = b"fn f(x: r) -> r { emit ";
 
 /// As many parts and levels as there may be.
-static MOST: [(Repeated<'static>, Outcome); 9] = [
+static MOST: [(Repeated<'static>, Outcome); 10] = [
     ((EMIT, b"1+", 30, b"1}"), Outcome::Statements(1)),
     (
         (
@@ -52,6 +63,10 @@ static MOST: [(Repeated<'static>, Outcome); 9] = [
     ),
     (
         (b"let a = flatten b", b",b", 255, b""),
+        Outcome::Statements(1),
+    ),
+    (
+        (b"let a = operate b", b",b", 255, b" by f"),
         Outcome::Statements(1),
     ),
     (

@@ -1,7 +1,7 @@
 //! The trees of statements: types, operations, inputs, outputs and a function with a scale.
 
 use crate::bodies::has_head;
-use crate::operations::{Operated, is_operation};
+use crate::operations::{By, Operated, is_operation};
 use crate::parts::{Leaf, are_words, is_leaf, read, sole};
 use flume_syntax::{Ast, Form, Function, Operation, Type};
 use flume_value::{Held, Str};
@@ -39,7 +39,7 @@ enum Wanted {
     Output,
 }
 
-static STATEMENTS: [(&[u8], Wanted); 29] = [
+static STATEMENTS: [(&[u8], Wanted); 24] = [
     (b"type t = int", Wanted::Type(Written::Leaf(Leaf::Int))),
     (b"type t = bool", Wanted::Type(Written::Leaf(Leaf::Bool))),
     (b"type t = text", Wanted::Type(Written::Leaf(Leaf::Text))),
@@ -60,22 +60,6 @@ static STATEMENTS: [(&[u8], Wanted); 29] = [
         b"type t = {type: int, b: text}",
         Wanted::Type(Written::Record(&[b"type", b"b"])),
     ),
-    // combiners
-    (b"let l = combine c by sum", Wanted::Let(Operated::Sum)),
-    (b"let l = combine c by count", Wanted::Let(Operated::Counts)),
-    (b"let l = combine c by min", Wanted::Let(Operated::Min)),
-    (b"let l = combine c by max", Wanted::Let(Operated::Max)),
-    (b"let l = combine c by all", Wanted::Let(Operated::All)),
-    (b"let l = combine c by any", Wanted::Let(Operated::Any)),
-    (b"let l = combine c by mean", Wanted::Let(Operated::Mean)),
-    (
-        b"let l = combine c by distinct",
-        Wanted::Let(Operated::Distinct),
-    ),
-    (
-        b"let l = combine c by top 3",
-        Wanted::Let(Operated::Tops(b"3")),
-    ),
     // operations
     (b"let l = group c", Wanted::Let(Operated::Group)),
     (b"let l = count c", Wanted::Let(Operated::Count)),
@@ -94,10 +78,40 @@ static STATEMENTS: [(&[u8], Wanted); 29] = [
         b"let a, b, a = flatten c, d",
         Wanted::Lets(&[b"a", b"b", b"a"], Operated::Flatten(&[b"c", b"d"])),
     ),
+    // operations with objects
+    (
+        b"let l = operate c by f",
+        Wanted::Let(Operated::Operate(&[b"c"], b"f")),
+    ),
+    (
+        b"let l = operate c, d, c by f",
+        Wanted::Let(Operated::Operate(&[b"c", b"d", b"c"], b"f")),
+    ),
+    (
+        b"let l = do c f with d",
+        Wanted::Let(Operated::DoWith(b"f", b"d")),
+    ),
+    (
+        b"let a, b = do c f with c",
+        Wanted::Lets(&[b"a", b"b"], Operated::DoWith(b"f", b"c")),
+    ),
     (b"fn f(x: int) -> bool scale 20 {}", Wanted::Function(b"20")),
     (b"fn f(x: int) -> bool, text, int {}", Wanted::Outputs),
     (b"input c: int from \"c.csv\"", Wanted::Input),
     (b"output c to \"d.csv\"", Wanted::Output),
+];
+
+/// Combinations of the collection `c`.
+static COMBINATIONS: [(&[u8], By); 9] = [
+    (b"sum", By::Sum),
+    (b"count", By::Count),
+    (b"min", By::Min),
+    (b"max", By::Max),
+    (b"all", By::All),
+    (b"any", By::Any),
+    (b"mean", By::Mean),
+    (b"distinct", By::Distinct),
+    (b"top 3", By::Top(b"3")),
 ];
 
 fn is_type(ty: &Type, written: Written) -> bool {
@@ -185,9 +199,9 @@ fn has_form(ast: &Ast, wanted: Wanted) -> bool {
     matches!(sole(ast), Some(form) if is_form(form, wanted))
 }
 
-/// Whether the script is read as the wanted statement.
-fn is_read(alloc: Global, script: &[u8], wanted: Wanted) -> bool {
-    match read(alloc, b"", script, b"") {
+/// Whether the two parts of a script are read as the wanted statement.
+fn is_read(alloc: Global, before: &[u8], script: &[u8], wanted: Wanted) -> bool {
+    match read(alloc, before, script, b"") {
         Ok(ast) => has_form(&ast, wanted),
         Err(_) => false,
     }
@@ -197,7 +211,22 @@ fn is_read(alloc: Global, script: &[u8], wanted: Wanted) -> bool {
 fn first_other(alloc: Global, table: &[(&[u8], Wanted)]) -> Option<usize> {
     for place in 0..table.len() {
         let (script, wanted) = table[place];
-        if !is_read(alloc, script, wanted) {
+        if !is_read(alloc, b"", script, wanted) {
+            return Some(place);
+        }
+    }
+    None
+}
+
+/// The place of the first combiner that is read otherwise.
+fn first_other_combiner(alloc: Global) -> Option<usize> {
+    for place in 0..COMBINATIONS.len() {
+        let (word, by) = COMBINATIONS[place];
+        let one = Wanted::Let(Operated::Combine(by));
+        let whole = Wanted::Let(Operated::CombineAll(by));
+        if !is_read(alloc, b"let l = combine c by ", word, one)
+            || !is_read(alloc, b"let l = combineall c by ", word, whole)
+        {
             return Some(place);
         }
     }
@@ -207,5 +236,6 @@ fn first_other(alloc: Global, table: &[(&[u8], Wanted)]) -> Option<usize> {
 #[test]
 fn statements(rt: HostRuntime) -> Result<(), Fail> {
     assert_eq!(rt; first_other(rt.alloc(), &STATEMENTS), None);
+    assert_eq!(rt; first_other_combiner(rt.alloc()), None);
     Ok(())
 }

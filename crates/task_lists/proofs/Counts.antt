@@ -1,5 +1,5 @@
 -- What tasks count is how many members their steps and groups gave.
-use Rattle.std.proofs.Common.{◌≡◌, ◌+◌, ℕ, zero, suc, true, false, cond, Bool, ◌&&◌, List, [], ◌∷◌, ◌++◌, length, length-append, map, Some, None, refl, sym, ap, ◌∙◌, arith}
+use Rattle.std.proofs.Common.{◌≡◌, ◌+◌, ℕ, zero, suc, true, false, cond, Bool, ◌&&◌, List, [], ◌∷◌, ◌++◌, length, length-append, map, Option, Some, None, refl, sym, ap, ◌∙◌, arith}
 use Rattle.std.specs.Prelude.{◌==◌, sum}
 use Rattle.std.specs.List.{flat_map}
 use Rattle.std.proofs.lemmas.List.{map-append}
@@ -14,14 +14,18 @@ use Rattle.exec_plan.specs.declared.plan.Grouping.{Grouping}
 use Rattle.exec_plan.specs.declared.plan.Stage.{Stage}
 use Rattle.exec_plan.specs.declared.plan.Stage.TheVariants.{Mscr, Flatten, Operate}
 use Rattle.task_lists.specs.Runs.{visits, visits_of, step_lists, counts_of, labels_in, labels_of, own_count}
-use Rattle.task_lists.specs.Tasks.{Split, Lists, Task, map_task, reduce_task, map_phase, reduce_phase, groupings}
-use Rattle.task_lists.specs.Lists.{result_lists, with_lists}
+use Rattle.task_lists.specs.Tasks.{Split, Lists, Task, world_for, map_task, reduce_task, map_phase, reduce_phase, groupings}
+use Rattle.task_lists.specs.Lists.{object_made, result_lists, with_lists}
 use Rattle.task_lists.specs.Plans.{Says, stage_tasks, tasks_from, task_counts, steps_count, groups_count}
 use Rattle.task_lists.proofs.Elements.{visits_split}
 use Rattle.task_lists.proofs.Says.{each_says, each_own, flat_if}
 
 sum_append : (xs ys : List ℕ) → sum (xs ++ ys) ≡ sum xs + sum ys
 sum_append xs ys = sum_by-append (λ n. n) xs ys
+
+length_if : (b : Bool) (xs : List Value) → length (cond b xs []) ≡ cond b (length xs) 0
+length_if true xs = refl
+length_if false xs = refl
 
 -- ---- of one task
 
@@ -44,16 +48,12 @@ module _ (w : World) (i : ℕ) where
   own_append (l ∷ ls) ks (n ∷ ns) ms e =
       let rest = own_append ls ks ns ms (omega (arith, e)) in omega (arith, rest)
 
-  length_if : (b : Bool) (xs : List Value) → length (cond b xs []) ≡ cond b (length xs) 0
-  length_if true xs = refl
-  length_if false xs = refl
-
   own_steps : (f : Forest) (xs : List Value)
       → own_count i (labels_in f) (map length (step_lists w f xs))
-      ≡ length (flat_map (visits w (each_own w i).steps f) xs)
+      ≡ length (flat_map (visits w ((each_own i).steps w) f) xs)
   own_steps Bare xs = sym (ap length (flat_map-nothing xs))
   own_steps (Grow l kids rest) xs =
-      let q = (each_own w i).steps in
+      let q = (each_own i).steps w in
       let ys : List Value = flat_map (emitted w l) xs in
       let all = flat_map (visits w q (Grow l kids rest)) xs in
       let own = flat_map (q l) xs in
@@ -74,17 +74,14 @@ module _ (w : World) (i : ℕ) where
         own_steps rest xs,
       )
 
-  task_steps : (task : Task) → steps_count w i task
-      ≡ length (flat_map (visits_of w (each_own w i).steps task.does) task.elements)
-  task_steps task =
-      elim task.does as (λ f. own_count i (labels_of f) (counts_of w f task.elements)
-      ≡ length (flat_map (visits_of w (each_own w i).steps f) task.elements)) [
-        | None ↦ sym (ap length (flat_map-nothing task.elements))
-        | Some f ↦ own_steps f task.elements
-      ]
+  steps_counted : (f : Option Forest) (xs : List Value)
+      → own_count i (labels_of f) (counts_of w f xs)
+      ≡ length (flat_map (visits_of w ((each_own i).steps w) f) xs)
+  steps_counted None xs = sym (ap length (flat_map-nothing xs))
+  steps_counted (Some f) xs = own_steps f xs
 
   task_groups : (g : Grouping) (task : Task) → groups_count i g task
-      ≡ length (flat_map ((each_own w i).groups g.origin g.last) task.elements)
+      ≡ length (flat_map ((each_own i).groups g.origin g.last) task.elements)
   task_groups g task =
       let own : Bool = g.last && (g.origin == i) in
       sym (ap length (flat_if own (λ x. x ∷ []) task.elements)
@@ -124,12 +121,13 @@ joined_counted a b h (suc n) =
 pub record Counts {Y : Type 0} (a : Says ℕ) (b : Says Y) : Type 0 where
   pub maps : IsCount a.maps b.maps
   pub reduces : (g : Grouping) → IsCount (a.reduces g) (b.reduces g)
+  pub objects : (o : ℕ) (l : Bool) → IsCount (a.objects o l) (b.objects o l)
 
 module _ {Y : Type 0} (a : Says ℕ) (b : Says Y) (counts : Counts a b) (w : World) (n : Split) where
   stage_counted : (t : Lists) (s : Stage)
       → sum (stage_tasks a w n t s) ≡ length (stage_tasks b w n t s)
   stage_counted t (Flatten takes) = refl
-  stage_counted t (Operate takes o l d) = refl
+  stage_counted t (Operate takes o l d) = counts.objects o l (object_made w t o d takes)
   stage_counted t (Mscr s) =
       omega (
         arith,
@@ -163,13 +161,21 @@ module _ {Y : Type 0} (a : Says ℕ) (b : Says Y) (counts : Counts a b) (w : Wor
 sum_one : (n : ℕ) → sum (n ∷ []) ≡ n
 sum_one n = let e : 0 + n ≡ n = omega arith in e
 
-pub own_counts : (w : World) (i : ℕ) → Counts (task_counts w i) (each_says w (each_own w i))
+task_steps : (w : World) (i : ℕ) (task : Task) → steps_count w i task
+    ≡ length (flat_map
+    (visits_of (world_for w task) ((each_own i).steps (world_for w task)) task.does) task.elements)
+task_steps w i task = steps_counted (world_for w task) i task.does task.elements
+
+pub own_counts : (w : World) (i : ℕ) → Counts (task_counts w i) (each_says w (each_own i))
 own_counts w i = record {
   maps = λ task. sum_one (steps_count w i task) ∙ task_steps w i task;
   reduces = λ g task.
       sum_one (groups_count i g task + steps_count w i task)
       ∙ (λ k. task_groups w i g task k + task_steps w i task k)
       ∙ sym (length-append
-      (flat_map ((each_own w i).groups g.origin g.last) task.elements)
-      (flat_map (visits_of w (each_own w i).steps task.does) task.elements));
+      (flat_map ((each_own i).groups g.origin g.last) task.elements)
+      (flat_map (visits_of (world_for w task) ((each_own i).steps (world_for w task)) task.does)
+      task.elements));
+  objects = λ o l c.
+      sum_one (cond (l && (o == i)) (length c.bag) 0) ∙ sym (length_if (l && (o == i)) c.bag);
 }

@@ -11,7 +11,7 @@ use Rattle.exec_plan.specs.declared.plan.Grouping.{Grouping}
 use Rattle.exec_plan.specs.declared.plan.Mscr.{Mscr as Channels}
 use Rattle.exec_plan.specs.declared.plan.Stage.TheVariants.{Mscr}
 use Rattle.task_lists.specs.Runs.{traps_of}
-use Rattle.task_lists.specs.Tasks.{Split, Lists, Task, no_task, map_task_at, map_count, map_phase, reduce_task, reduce_task_at, reduce_count, reduce_phase, grouping_at}
+use Rattle.task_lists.specs.Tasks.{Split, Lists, Task, world_for, no_task, map_task_at, map_count, map_phase, reduce_task, reduce_task_at, reduce_count, reduce_phase, grouping_at}
 use Rattle.task_lists.specs.Plans.{task_traps, stage_tasks}
 use Rattle.task_lists.specs.Outs.{IsCalm, IsFirstTrap}
 use Rattle.task_lists.proofs.Numbers.{joined_below, maps_numbered, reduces_numbered}
@@ -40,7 +40,7 @@ joined_first f (suc n) k e h calm first =
 module _ (w : World) (n : Split) (some_shards : 0 < n.shards) (some : 0 < n.partitions) (t : Lists)
     (s : Channels) where
   abbrev traps_in : Task → List Trap
-  traps_in task = traps_of w task.does task.elements
+  traps_in task = traps_of (world_for w task) task.does task.elements
 
   abbrev maps : List Trap
   maps = map_phase (task_traps w).maps n t s

@@ -1,7 +1,7 @@
 pub mod Elements
 pub mod Trapping
 pub mod Says
-pub mod Free
+pub mod Objects
 pub mod Maps
 pub mod Reduces
 pub mod Results
@@ -14,6 +14,8 @@ pub mod Numbers
 pub mod Least
 pub mod Answered
 pub mod Sending
+pub mod TypedSides
 pub mod Typed
+pub mod Emptied
 pub mod TypedResults
 pub mod Groupable

@@ -14,23 +14,29 @@ use Rattle.shards.specs.Shards.{joined, shard}
 use Rattle.shards.proofs.Alike.{Alike, alike_bag, alike_each, append_empty}
 use Rattle.shards.proofs.Joined.{joined_same, joined_alike, flat_map-joined, joined_each, joined_nothing, joined_if, joined_before, joined_at, shards_join}
 use Rattle.exec_graph.specs.World.{World}
-use Rattle.exec_graph.specs.Calls.{trapped}
+use Rattle.exec_graph.specs.Objects.{beside}
 use Rattle.exec_plan.specs.declared.plan.PlanPlace.{PlanPlace}
 use Rattle.exec_plan.specs.declared.plan.Take.{Take}
 use Rattle.exec_plan.specs.declared.plan.InChannel.{InChannel}
 use Rattle.exec_plan.specs.declared.plan.Mscr.{Mscr}
-use Rattle.exec_plan.specs.Channels.{Fed, channel_out, taken}
-use Rattle.exec_plan.specs.Meaning.{total_of, in_sum}
+use Rattle.exec_plan.specs.Channels.{Fed, channel_out, fed, output_of, taken, value_on, world_in}
 use Rattle.task_lists.specs.Runs.{output_at, visits_of, gives}
-use Rattle.task_lists.specs.Tasks.{Split, Lists, task_gives, no_task, map_task, map_task_of, given_to, gathered, map_phase}
-use Rattle.task_lists.proofs.Free.{alone}
-use Rattle.task_lists.proofs.Elements.{Agrees, each_step, none_agrees, visits_of_total, output_agrees}
-use Rattle.task_lists.proofs.Says.{Each, each_says, each_parts}
+use Rattle.task_lists.specs.Tasks.{Split, Lists, elements_beside, value_beside, task_gives, no_task, map_task, map_task_of, given_to, gathered, map_phase}
+use Rattle.task_lists.proofs.Elements.{Agrees, none_agrees, visits_of_total, output_agrees}
+use Rattle.task_lists.proofs.Objects.{side_agrees, world_same}
+use Rattle.task_lists.proofs.Says.{Each, each_in, each_says, each_trap}
+
+-- the world in which a channel's steps are called, and the elements on which they are
+abbrev pub world_at : World → Lists → InChannel → World
+world_at w t c = beside (value_beside t c.beside) w
+
+abbrev pub list_at : Lists → InChannel → List Value
+list_at t c = elements_beside t c.beside (t c.reads)
 
 -- what a channel gives to its output j of its whole list
 abbrev pub whole_out : World → Lists → Option InChannel → ℕ → List Value
 whole_out w t None j = []
-whole_out w t (Some c) j = gives w c.does (t c.reads) j
+whole_out w t (Some c) j = gives (world_at w t c) c.does (list_at t c) j
 
 -- what a channel gets that takes these
 abbrev pub whole : World → Lists → List InChannel → List Take → List Value
@@ -63,16 +69,18 @@ module _ (w : World) (n : Split) (some : 0 < n.shards) (t : Lists) where
       → joined (shard_gives o j) n.shards ≡ whole_out w t o j
   shards_whole None j = joined_nothing n.shards
   shards_whole (Some c) j =
-      sym (flat_map-joined (output_at w c.does j) (λ i. shard n.shards i (t c.reads)) n.shards)
-      ∙ ap (flat_map (output_at w c.does j)) (shards_join n.shards (t c.reads) some)
+      sym (flat_map-joined (output_at (world_at w t c) c.does j)
+      (λ i. shard n.shards i (list_at t c)) n.shards)
+      ∙ ap (flat_map (output_at (world_at w t c) c.does j))
+      (shards_join n.shards (list_at t c) some)
 
   says_whole : {Y : Type 0} (q : Each Y) (c : InChannel)
       → joined (λ i. (each_says w q).maps (map_task n t c i)) n.shards
-      ≡ flat_map (visits_of w q.steps c.does) (t c.reads)
+      ≡ flat_map (visits_of (world_at w t c) (q.steps (world_at w t c)) c.does) (list_at t c)
   says_whole q c =
-      sym (flat_map-joined (visits_of w q.steps c.does) (λ i. shard n.shards i (t c.reads))
-      n.shards)
-      ∙ ap (flat_map (visits_of w q.steps c.does)) (shards_join n.shards (t c.reads) some)
+      let visits = visits_of (world_at w t c) (q.steps (world_at w t c)) c.does in
+      sym (flat_map-joined visits (λ i. shard n.shards i (list_at t c)) n.shards)
+      ∙ ap (flat_map visits) (shards_join n.shards (list_at t c) some)
 
   -- ---- what a channel takes
 
@@ -111,68 +119,88 @@ module _ (w : World) (n : Split) (some : 0 < n.shards) (t : Lists) where
   -- ---- where the lists agree with the collections
 
   module _ (m : PlanPlace → Collection) (agree : (c : PlanPlace) → Agrees (t c) (m c)) where
+    -- the world of a channel's collection, and its members
+    abbrev world_of : InChannel → World
+    world_of c = world_in w (option_map m c.beside)
+
+    abbrev value_of : InChannel → Collection
+    value_of c = value_on (m c.reads) (option_map m c.beside)
+
+    same_world : (c : InChannel) → world_of c ≡ world_at w t c
+    same_world c = sym (world_same t m agree w c.beside)
+
+    pub channel_agree : (c : InChannel) → Agrees (list_at t c) (value_of c)
+    channel_agree c = side_agrees t m agree c.beside c.reads
+
+    said_alike : {Y : Type 0} (q : Each Y) (c : InChannel)
+        → Alike (flat_map (visits_of (world_at w t c) (q.steps (world_at w t c)) c.does)
+        (list_at t c)) (each_in w q (fed m c))
+    said_alike q c =
+        subst (λ (v : World). Alike (flat_map (visits_of v (q.steps v) c.does) (list_at t c))
+        (each_in w q (fed m c))) (same_world c)
+        (visits_of_total (world_of c) (q.steps (world_of c)) c.does (list_at t c) (value_of c)
+        (channel_agree c).same)
+
     pub maps_alike : {Y : Type 0} (q : Each Y) (s : Mscr)
         → Alike (map_phase (each_says w q).maps n t s)
-        (flat_map (in_sum w (each_parts q)) (map (alone m) s.inputs))
+        (flat_map (each_in w q) (map (fed m) s.inputs))
     maps_alike q s u =
         alike_each (λ c. joined (λ i. (each_says w q).maps (map_task n t c i)) n.shards)
-        (λ c. total_of w (each_step q.steps) (m c.reads) c.does)
-        (λ c v. ap (sum_by v) (says_whole q c)
-        ∙ visits_of_total w q.steps c.does (t c.reads) (m c.reads) (agree c.reads).same v) s.inputs
-        u
-        ∙ ap (sum_by u) (sym (flat_map-map (in_sum w (each_parts q)) (alone m) s.inputs))
+        (λ c. each_in w q (fed m c))
+        (λ c v. ap (sum_by v) (says_whole q c) ∙ said_alike q c v) s.inputs u
+        ∙ ap (sum_by u) (sym (flat_map-map (each_in w q) (fed m) s.inputs))
 
     channel_agrees : (o : Option InChannel) (j : ℕ)
-        → ((c : InChannel) → o ≡ Some c → total_of w (each_step (trapped w)) (m c.reads) c.does
-        ≡ [])
-        → Agrees (whole_out w t o j) (channel_out w (option_map (alone m) o) j)
+        → ((c : InChannel) → o ≡ Some c → each_in w each_trap (fed m c) ≡ [])
+        → Agrees (whole_out w t o j) (channel_out w (option_map (fed m) o) j)
     channel_agrees None j calm = none_agrees
     channel_agrees (Some c) j calm =
-        output_agrees w c.does j (t c.reads) (m c.reads) (agree c.reads) (calm c refl)
+        subst (λ (v : World).
+        Agrees (gives v c.does (list_at t c) j) (output_of (world_of c) (value_of c) c.does j))
+        (same_world c)
+        (output_agrees (world_of c) c.does j (list_at t c) (value_of c) (channel_agree c)
+        (calm c refl))
 
     -- and no map task traps
     module _ (ins : List InChannel)
-        (calm : flat_map (λ c. total_of w (each_step (trapped w)) (m c.reads) c.does) ins ≡ [])
-      where
-        pub taken_agrees : (k : Take)
-            → Agrees (whole_out w t (slice_get ins k.channel) k.out) (taken w (map (alone m) ins) k)
-        taken_agrees k =
-            subst (λ (o : Option Fed).
-            Agrees (whole_out w t (slice_get ins k.channel) k.out) (channel_out w o k.out))
-            (sym (slice_get-map (alone m) ins k.channel))
-            (channel_agrees (slice_get ins k.channel) k.out
-            (λ c e. flat_map-at (λ d. total_of w (each_step (trapped w)) (m d.reads) d.does) ins
-            k.channel
-            c calm e))
+        (calm : flat_map (λ (c : InChannel). each_in w each_trap (fed m c)) ins ≡ []) where
+      pub taken_agrees : (k : Take)
+          → Agrees (whole_out w t (slice_get ins k.channel) k.out) (taken w (map (fed m) ins) k)
+      taken_agrees k =
+          subst (λ (o : Option Fed).
+          Agrees (whole_out w t (slice_get ins k.channel) k.out) (channel_out w o k.out))
+          (sym (slice_get-map (fed m) ins k.channel))
+          (channel_agrees (slice_get ins k.channel) k.out
+          (λ c e. flat_map-at (λ d. each_in w each_trap (fed m d)) ins k.channel c calm e))
 
-        taken_calm : (takes : List Take)
-            → flat_map (λ (c : Collection). c.traps) (map (taken w (map (alone m) ins)) takes) ≡ []
-        taken_calm [] = refl
-        taken_calm (k ∷ ks) = λ i. (taken_agrees k).calm i ++ taken_calm ks i
+      taken_calm : (takes : List Take)
+          → flat_map (λ (c : Collection). c.traps) (map (taken w (map (fed m) ins)) takes) ≡ []
+      taken_calm [] = refl
+      taken_calm (k ∷ ks) = λ i. (taken_agrees k).calm i ++ taken_calm ks i
 
-        pub gathered_agrees : (takes : List Take)
-            → Agrees (gathered w n t ins takes) (together (map (taken w (map (alone m) ins)) takes))
-        gathered_agrees takes =
-            let given : Take → Collection = taken w (map (alone m) ins) in
-            let bags : List Value = flat_map (λ (c : Collection). c.bag) (map given takes) in
-            record {
-              same = λ u. gathered_whole ins takes u
-                  ∙ alike_each (λ k. whole_out w t (slice_get ins k.channel) k.out)
-                  (λ k. (given k).bag)
-                  (λ k. (taken_agrees k).same) takes u
-                  ∙ ap (sum_by u) (sym (flat_map-map (λ (c : Collection). c.bag) given takes))
-                  ∙ sym (alike_bag bags u);
-              calm = ap trap_set (taken_calm takes);
-              settled = bag_of-twice bags;
-            }
+      pub gathered_agrees : (takes : List Take)
+          → Agrees (gathered w n t ins takes) (together (map (taken w (map (fed m) ins)) takes))
+      gathered_agrees takes =
+          let given : Take → Collection = taken w (map (fed m) ins) in
+          let bags : List Value = flat_map (λ (c : Collection). c.bag) (map given takes) in
+          record {
+            same = λ u. gathered_whole ins takes u
+                ∙ alike_each (λ k. whole_out w t (slice_get ins k.channel) k.out)
+                (λ k. (given k).bag)
+                (λ k. (taken_agrees k).same) takes u
+                ∙ ap (sum_by u) (sym (flat_map-map (λ (c : Collection). c.bag) given takes))
+                ∙ sym (alike_bag bags u);
+            calm = ap trap_set (taken_calm takes);
+            settled = bag_of-twice bags;
+          }
 
-        -- what passes through alone
-        pub passed_agrees : (k : Take)
-            → Agrees (gathered w n t ins (k ∷ [])) (taken w (map (alone m) ins) k)
-        passed_agrees k = record {
-          same = λ u. gathered_whole ins (k ∷ []) u
-              ∙ ap (sum_by u) (append-nil (whole_out w t (slice_get ins k.channel) k.out))
-              ∙ (taken_agrees k).same u;
-          calm = (taken_agrees k).calm;
-          settled = (taken_agrees k).settled;
-        }
+      -- what passes through alone
+      pub passed_agrees : (k : Take)
+          → Agrees (gathered w n t ins (k ∷ [])) (taken w (map (fed m) ins) k)
+      passed_agrees k = record {
+        same = λ u. gathered_whole ins (k ∷ []) u
+            ∙ ap (sum_by u) (append-nil (whole_out w t (slice_get ins k.channel) k.out))
+            ∙ (taken_agrees k).same u;
+        calm = (taken_agrees k).calm;
+        settled = (taken_agrees k).settled;
+      }

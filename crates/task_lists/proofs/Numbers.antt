@@ -1,5 +1,5 @@
 -- Lists by number, and by two numbers.
-use Rattle.std.proofs.Common.{◌≡◌, ◌<◌, ◌+◌, ◌*◌, ◌/◌, ◌%◌, ℕ, zero, suc, List, [], ◌∷◌, ◌++◌, length, Option, Some, refl, sym, ap, ◌∙◌, subst, arith, append-nil, append_assoc}
+use Rattle.std.proofs.Common.{◌≡◌, ◌<◌, ◌+◌, ◌*◌, ◌/◌, ◌%◌, ℕ, zero, suc, List, [], ◌∷◌, ◌++◌, length, Option, None, Some, refl, sym, ap, ◌∙◌, subst, arith, append-nil, append_assoc}
 use Rattle.std.specs.List.{flat_map, slice_get, AllZip}
 use Rattle.std.specs.Option.{option_map_or, IsSomeAnd}
 use Rattle.std.proofs.lemmas.Nat.{div-mul-add, mod-mul-add}
@@ -8,7 +8,7 @@ use Rattle.exec_graph.specs.World.{World}
 use Rattle.exec_plan.specs.declared.plan.Grouping.{Grouping}
 use Rattle.exec_plan.specs.declared.plan.InChannel.{InChannel}
 use Rattle.exec_plan.specs.declared.plan.Mscr.{Mscr}
-use Rattle.task_lists.specs.Tasks.{Split, Lists, Task, no_task, map_task, map_task_of, map_task_at, map_count, map_phase, reduce_task, reduce_task_at, reduce_count, reduce_phase, grouping_at, groupings}
+use Rattle.task_lists.specs.Tasks.{Split, Lists, Task, world_for, no_task, map_task, map_task_of, map_task_at, map_count, map_phase, reduce_task, reduce_task_at, reduce_count, reduce_phase, grouping_at, groupings}
 
 pub joined_below : {A : Type 0} (f g : ℕ → List A) (n : ℕ) → ((i : ℕ) → i < n → f i ≡ g i)
     → joined f n ≡ joined g n
@@ -89,3 +89,13 @@ reduces_numbered {Y} f w n t s some =
     (λ g. f g (option_map_or (λ d. reduce_task w n t s.inputs d p) o no_task)) o [] in
     sym (joined_two (λ r p. at (slice_get gs r) p) (length gs) n.partitions some
     ∙ joined_places (λ o. joined (at o) n.partitions) gs)
+
+-- a reduce task stands beside no object
+pub reduce_world : (w : World) (n : Split) (t : Lists) (s : Mscr) (k : ℕ)
+    → world_for w (reduce_task_at w n t s k) ≡ w
+reduce_world w n t s k = by (grouping_at n s k)
+  where
+    by : (o : Option Grouping) → world_for w
+        (option_map_or (λ g. reduce_task w n t s.inputs g (k % n.partitions)) o no_task) ≡ w
+    by None = refl
+    by (Some g) = refl

@@ -22,17 +22,17 @@ use Rattle.exec_graph.specs.World.{World}
 use Rattle.exec_graph.specs.Calls.{trapped}
 use Rattle.exec_plan.specs.declared.plan.PlanPlace.{PlanPlace}
 use Rattle.exec_plan.specs.declared.plan.Grouping.{Grouping}
+use Rattle.exec_plan.specs.declared.plan.InChannel.{InChannel}
 use Rattle.exec_plan.specs.declared.plan.OutChannel.{OutChannel}
 use Rattle.exec_plan.specs.declared.plan.OutChannel.TheVariants.{Group, Pass}
 use Rattle.exec_plan.specs.declared.plan.Mscr.{Mscr}
-use Rattle.exec_plan.specs.Channels.{taken, groups, output_of}
+use Rattle.exec_plan.specs.Channels.{fed, taken, groups, output_of}
 use Rattle.exec_plan.specs.Meaning.{total_of, out_sum}
 use Rattle.task_lists.specs.Runs.{output_at, visits_of}
 use Rattle.task_lists.specs.Tasks.{Split, Lists, gathered, reduce_task, groupings, reduce_phase}
 use Rattle.task_lists.specs.Lists.{reduced}
-use Rattle.task_lists.proofs.Free.{alone}
 use Rattle.task_lists.proofs.Elements.{Agrees, each_step, visits_of_total, output_agrees}
-use Rattle.task_lists.proofs.Says.{Each, each_says, each_parts}
+use Rattle.task_lists.proofs.Says.{Each, each_in, each_says, each_parts, each_trap}
 use Rattle.task_lists.proofs.Maps.{gathered_agrees}
 
 -- ---- groups and their partitions
@@ -71,84 +71,83 @@ groupings_each f (Pass k number ∷ outs) = groupings_each f outs
 
 module _ (w : World) (n : Split) (some_shards : 0 < n.shards) (some : 0 < n.partitions) (t : Lists)
     (m : PlanPlace → Collection) (agree : (c : PlanPlace) → Agrees (t c) (m c)) (s : Mscr)
-    (calm : flat_map (λ c. total_of w (each_step (trapped w)) (m c.reads) c.does) s.inputs ≡ [])
-  where
-    abbrev gathers : Grouping → List Value
-    gathers g = gathered w n t s.inputs g.takes
+    (calm : flat_map (λ (c : InChannel). each_in w each_trap (fed m c)) s.inputs ≡ []) where
+  abbrev gathers : Grouping → List Value
+  gathers g = gathered w n t s.inputs g.takes
 
-    abbrev group_of : Grouping → Collection
-    group_of g = groups w (map (alone m) s.inputs) g
+  abbrev group_of : Grouping → Collection
+  group_of g = groups w (map (fed m) s.inputs) g
 
-    -- the groups of the list are those of the collection
-    pub groups_same : (g : Grouping) → grouped (gathers g) ≡ (group_of g).bag
-    groups_same g =
-        let given : Collection = together (map (taken w (map (alone m) s.inputs)) g.takes) in
-        let agrees = gathered_agrees w n some_shards t m agree s.inputs calm g.takes in
-        sym (grouped-bag_of (gathers g))
-        ∙ ap grouped (bag_alike (gathers g) given.bag agrees.same)
-        ∙ grouped-bag_of given.bag
-        ∙ sym (ap (λ traps. unless_trapped traps (grouped given.bag)) agrees.calm)
+  -- the groups of the list are those of the collection
+  pub groups_same : (g : Grouping) → grouped (gathers g) ≡ (group_of g).bag
+  groups_same g =
+      let given : Collection = together (map (taken w (map (fed m) s.inputs)) g.takes) in
+      let agrees = gathered_agrees w n some_shards t m agree s.inputs calm g.takes in
+      sym (grouped-bag_of (gathers g))
+      ∙ ap grouped (bag_alike (gathers g) given.bag agrees.same)
+      ∙ grouped-bag_of given.bag
+      ∙ sym (ap (λ traps. unless_trapped traps (grouped given.bag)) agrees.calm)
 
-    groups_agree : (g : Grouping) → Agrees (group_of g).bag (group_of g)
-    groups_agree g = record {
-      same = λ u. refl;
-      calm = (gathered_agrees w n some_shards t m agree s.inputs calm g.takes).calm;
-      settled = subst (λ b. bag_of b ≡ b) (groups_same g)
-          (bag_of-settled (grouped (gathers g)) (grouped-IsSorted (gathers g)));
-    }
+  groups_agree : (g : Grouping) → Agrees (group_of g).bag (group_of g)
+  groups_agree g = record {
+    same = λ u. refl;
+    calm = (gathered_agrees w n some_shards t m agree s.inputs calm g.takes).calm;
+    settled = subst (λ b. bag_of b ≡ b) (groups_same g)
+        (bag_of-settled (grouped (gathers g)) (grouped-IsSorted (gathers g)));
+  }
 
-    -- partition by partition, or all groups
-    reduced_whole : {Y : Type 0} (h : Value → List Y) (g : Grouping)
-        → Alike (joined (λ p. flat_map h (reduce_task w n t s.inputs g p).elements) n.partitions)
-        (flat_map h (group_of g).bag)
-    reduced_whole h g u =
-        let gs : List Value = grouped (gathers g) in
-        let parts = λ (p : ℕ). part_of n.partitions p gs in
-        ap (sum_by u) (sym (flat_map-joined h parts n.partitions))
-        ∙ alike_flat_map h (joined parts n.partitions) gs
-        (parts_alike n.partitions gs some (groups_paired (gathers g))) u
-        ∙ ap (λ l. sum_by u (flat_map h l)) (groups_same g)
+  -- partition by partition, or all groups
+  reduced_whole : {Y : Type 0} (h : Value → List Y) (g : Grouping)
+      → Alike (joined (λ p. flat_map h (reduce_task w n t s.inputs g p).elements) n.partitions)
+      (flat_map h (group_of g).bag)
+  reduced_whole h g u =
+      let gs : List Value = grouped (gathers g) in
+      let parts = λ (p : ℕ). part_of n.partitions p gs in
+      ap (sum_by u) (sym (flat_map-joined h parts n.partitions))
+      ∙ alike_flat_map h (joined parts n.partitions) gs
+      (parts_alike n.partitions gs some (groups_paired (gathers g))) u
+      ∙ ap (λ l. sum_by u (flat_map h l)) (groups_same g)
 
-    pub reduced_agrees : (g : Grouping) (j : ℕ)
-        → total_of w (each_step (trapped w)) (group_of g) g.does ≡ []
-        → Agrees (reduced w n t s.inputs g j) (output_of w (group_of g) g.does j)
-    reduced_agrees g j none =
-        let a = output_agrees w g.does j (group_of g).bag (group_of g) (groups_agree g) none in
-        record {
-          same = alike_then (reduced w n t s.inputs g j)
-              (flat_map (output_at w g.does j) (group_of g).bag)
-              (output_of w (group_of g) g.does j).bag
-              (reduced_whole (output_at w g.does j) g) a.same;
-          calm = a.calm;
-          settled = a.settled;
-        }
+  pub reduced_agrees : (g : Grouping) (j : ℕ)
+      → total_of w (each_step (trapped w)) (group_of g) g.does ≡ []
+      → Agrees (reduced w n t s.inputs g j) (output_of w (group_of g) g.does j)
+  reduced_agrees g j none =
+      let a = output_agrees w g.does j (group_of g).bag (group_of g) (groups_agree g) none in
+      record {
+        same = alike_then (reduced w n t s.inputs g j)
+            (flat_map (output_at w g.does j) (group_of g).bag)
+            (output_of w (group_of g) g.does j).bag
+            (reduced_whole (output_at w g.does j) g) a.same;
+        calm = a.calm;
+        settled = a.settled;
+      }
 
-    channel_alike : {Y : Type 0} (q : Each Y) (o : OutChannel)
-        → Alike (by_channel (λ g. joined (λ p. (each_says w q).reduces g
-        (reduce_task w n t s.inputs g p)) n.partitions) o)
-        (out_sum w (each_parts q) (map (alone m) s.inputs) o)
-    channel_alike q (Pass k number) = λ u. refl
-    channel_alike q (Group g) =
-        let gs : List Value = (group_of g).bag in
-        let both = λ (x : Value). q.groups g.origin g.last x ++ visits_of w q.steps g.does x in
-        let says = λ (p : ℕ). (each_says w q).reduces g (reduce_task w n t s.inputs g p) in
-        let one = λ (p : ℕ). flat_map both (reduce_task w n t s.inputs g p).elements in
-        λ u. joined_alike says one (λ p. alike_back (one p) (says p)
-        (alike_both (q.groups g.origin g.last) (visits_of w q.steps g.does)
-        (reduce_task w n t s.inputs g p).elements)) n.partitions u
-        ∙ reduced_whole both g u
-        ∙ alike_both (q.groups g.origin g.last) (visits_of w q.steps g.does) gs u
-        ∙ alike_append (flat_map (q.groups g.origin g.last) gs)
-        (flat_map (q.groups g.origin g.last) gs) (flat_map (visits_of w q.steps g.does) gs)
-        (total_of w (each_step q.steps) (group_of g) g.does) (λ v. refl)
-        (visits_of_total w q.steps g.does gs (group_of g) (λ v. refl)) u
+  channel_alike : {Y : Type 0} (q : Each Y) (o : OutChannel)
+      → Alike (by_channel (λ g. joined (λ p. (each_says w q).reduces g
+      (reduce_task w n t s.inputs g p)) n.partitions) o)
+      (out_sum w (each_parts w q) (map (fed m) s.inputs) o)
+  channel_alike q (Pass k number) = λ u. refl
+  channel_alike q (Group g) =
+      let gs : List Value = (group_of g).bag in
+      let both = λ (x : Value). q.groups g.origin g.last x ++ visits_of w (q.steps w) g.does x in
+      let says = λ (p : ℕ). (each_says w q).reduces g (reduce_task w n t s.inputs g p) in
+      let one = λ (p : ℕ). flat_map both (reduce_task w n t s.inputs g p).elements in
+      λ u. joined_alike says one (λ p. alike_back (one p) (says p)
+      (alike_both (q.groups g.origin g.last) (visits_of w (q.steps w) g.does)
+      (reduce_task w n t s.inputs g p).elements)) n.partitions u
+      ∙ reduced_whole both g u
+      ∙ alike_both (q.groups g.origin g.last) (visits_of w (q.steps w) g.does) gs u
+      ∙ alike_append (flat_map (q.groups g.origin g.last) gs)
+      (flat_map (q.groups g.origin g.last) gs) (flat_map (visits_of w (q.steps w) g.does) gs)
+      (total_of w (each_step (q.steps w)) (group_of g) g.does) (λ v. refl)
+      (visits_of_total w (q.steps w) g.does gs (group_of g) (λ v. refl)) u
 
-    pub reduces_alike : {Y : Type 0} (q : Each Y)
-        → Alike (reduce_phase (each_says w q).reduces w n t s)
-        (flat_map (out_sum w (each_parts q) (map (alone m) s.inputs)) s.outputs)
-    reduces_alike q u =
-        let says = λ (g : Grouping). joined (λ p. (each_says w q).reduces g
-        (reduce_task w n t s.inputs g p)) n.partitions in
-        ap (sum_by u) (groupings_each says s.outputs)
-        ∙ alike_each (by_channel says) (out_sum w (each_parts q) (map (alone m) s.inputs))
-        (channel_alike q) s.outputs u
+  pub reduces_alike : {Y : Type 0} (q : Each Y)
+      → Alike (reduce_phase (each_says w q).reduces w n t s)
+      (flat_map (out_sum w (each_parts w q) (map (fed m) s.inputs)) s.outputs)
+  reduces_alike q u =
+      let says = λ (g : Grouping). joined (λ p. (each_says w q).reduces g
+      (reduce_task w n t s.inputs g p)) n.partitions in
+      ap (sum_by u) (groupings_each says s.outputs)
+      ∙ alike_each (by_channel says) (out_sum w (each_parts w q) (map (fed m) s.inputs))
+      (channel_alike q) s.outputs u

@@ -1,7 +1,7 @@
 -- The first trap of a stage's tasks is one of the stage's, and a stage has none where no task
 -- traps.
-use Rattle.std.proofs.Common.{◌≡◌, ◌<◌, List, [], ◌∷◌, ◌++◌, map, Some, refl, ap, ◌∙◌, sym, subst}
-use Rattle.std.specs.List.{flat_map, slice_get, Contains}
+use Rattle.std.proofs.Common.{◌≡◌, ◌<◌, List, [], ◌∷◌, ◌++◌, map, Some, ap, ◌∙◌, sym, subst}
+use Rattle.std.specs.List.{AllByRecursion, flat_map, slice_get, Contains}
 use Rattle.flume_collection.specs.declared.trap.Trap.{Trap}
 use Rattle.flume_collection.specs.Collection.{Collection}
 use Rattle.shards.proofs.Alike.{alike_empty, append_empty}
@@ -10,70 +10,69 @@ use Rattle.exec_plan.specs.declared.plan.PlanPlace.{PlanPlace}
 use Rattle.exec_plan.specs.declared.plan.InChannel.{InChannel}
 use Rattle.exec_plan.specs.declared.plan.Stage.{Stage}
 use Rattle.exec_plan.specs.declared.plan.Stage.TheVariants.{Mscr, Flatten, Operate}
-use Rattle.exec_plan.specs.Channels.{Fed}
-use Rattle.exec_plan.specs.Meaning.{channels_sum, in_sum, out_sum, stage_sum, trap_parts}
-use Rattle.exec_plan.specs.ObjectFree.{IsStageFree}
+use Rattle.exec_plan.specs.Channels.{Fed, fed, value_on}
+use Rattle.exec_plan.specs.Meaning.{in_sum, out_sum, stage_sum, trap_parts}
 use Rattle.task_lists.specs.Tasks.{Split, Lists, map_phase, reduce_phase}
 use Rattle.task_lists.specs.Plans.{stage_tasks}
-use Rattle.task_lists.proofs.Free.{alone, fed_alone}
+use Rattle.task_lists.specs.Lists.{object_made}
 use Rattle.task_lists.proofs.Elements.{Agrees}
-use Rattle.task_lists.proofs.Says.{each_says, each_parts, each_trap}
+use Rattle.task_lists.proofs.Objects.{made_same, side_agrees}
+use Rattle.task_lists.proofs.Says.{each_in, each_says, each_parts, each_trap}
 use Rattle.task_lists.proofs.Maps.{maps_alike, gathered_agrees}
 use Rattle.task_lists.proofs.Reduces.{reduces_alike}
 use Rattle.task_lists.proofs.Results.{inputs_calm, flat_agrees}
 use Rattle.task_lists.proofs.Stepped.{inputs_have, outputs_have, inputs_quiet, outputs_quiet}
-use Rattle.task_lists.proofs.Trapping.{first_among, first_of_both}
+use Rattle.task_lists.proofs.Trapping.{first_among, first_in, first_of_both}
 
 module _ (w : World) (n : Split) (some_shards : 0 < n.shards) (some : 0 < n.partitions) (t : Lists)
     (m : PlanPlace → Collection) (agree : (c : PlanPlace) → Agrees (t c) (m c)) where
-  pub stage_trapped : (s : Stage) (e : Trap) → IsStageFree s
-      → slice_get (stage_tasks (each_says w (each_trap w)) w n t s) 0 ≡ Some e
+  pub stage_trapped : (s : Stage) (e : Trap)
+      → slice_get (stage_tasks (each_says w each_trap) w n t s) 0 ≡ Some e
       → Contains (stage_sum w (trap_parts w) m s) e
-  stage_trapped (Flatten takes) e free h = cc
-  stage_trapped (Operate takes o l a) e free h = absurd free
-  stage_trapped (Mscr s) e free h =
-      let traps = each_says w (each_trap w) in
-      let cs : List Fed = map (alone m) s.inputs in
+  stage_trapped (Flatten takes) e h = cc
+  stage_trapped (Operate takes o l a) e h =
+      subst (λ (c : Collection). Contains c.traps e) (made_same t m agree w o a takes)
+      (first_in e (object_made w t o a takes).traps h)
+  stage_trapped (Mscr s) e h =
+      let traps = each_says w each_trap in
+      let cs : List Fed = map (fed m) s.inputs in
       let maps : List Trap = map_phase traps.maps n t s in
       let reduces : List Trap = reduce_phase traps.reduces w n t s in
-      let inputs : List Trap = flat_map (in_sum w (each_parts (each_trap w))) cs in
-      let outputs : List Trap = flat_map (out_sum w (each_parts (each_trap w)) cs) s.outputs in
-      subst (λ (ds : List Fed). Contains (channels_sum w (trap_parts w) ds s.outputs) e)
-      (sym (fed_alone m s.inputs free))
-      (first_of_both e maps reduces (flat_map (in_sum w (trap_parts w)) cs)
+      let inputs : List Trap = flat_map (each_in w each_trap) cs in
+      let outputs : List Trap = flat_map (out_sum w (each_parts w each_trap) cs) s.outputs in
+      first_of_both e maps reduces (flat_map (in_sum w (trap_parts w)) cs)
       (flat_map (out_sum w (trap_parts w) cs) s.outputs)
-      (λ f first. inputs_have w f m s.inputs
-      (first_among f maps inputs (maps_alike w n some_shards t m agree (each_trap w) s) first))
+      (λ f first. inputs_have w f cs
+      (first_among f maps inputs (maps_alike w n some_shards t m agree each_trap s) first))
       (λ none f first. outputs_have w f cs s.outputs
       (first_among f reduces outputs
       (reduces_alike w n some_shards some t m agree s
-      (inputs_calm w n some_shards some t m agree s none) (each_trap w)) first)) h)
+      (inputs_calm w n some_shards some t m agree s none) each_trap) first)) h
 
-  behind : (ins : List InChannel) → flat_map (λ (c : InChannel). (m c.reads).traps) ins ≡ []
-  behind [] = refl
-  behind (c ∷ cs) = λ i. (agree c.reads).calm i ++ behind cs i
+  behind : (ins : List InChannel)
+      → AllByRecursion (λ (c : Fed). (value_on c.value c.beside).traps ≡ []) (map (fed m) ins)
+  behind [] = tt
+  behind (c ∷ cs) = ((side_agrees t m agree c.beside c.reads).calm, behind cs)
 
-  pub stage_quiet : (s : Stage) → IsStageFree s
-      → stage_tasks (each_says w (each_trap w)) w n t s ≡ []
+  pub stage_quiet : (s : Stage) → stage_tasks (each_says w each_trap) w n t s ≡ []
       → stage_sum w (trap_parts w) m s ≡ []
-  stage_quiet (Flatten takes) free none =
+  stage_quiet (Flatten takes) none =
       (flat_agrees w n some_shards some t m agree takes).calm
-  stage_quiet (Operate takes o l a) free none = absurd free
-  stage_quiet (Mscr s) free none =
-      let traps = each_says w (each_trap w) in
-      let cs : List Fed = map (alone m) s.inputs in
+  stage_quiet (Operate takes o l a) none =
+      sym (ap (λ (c : Collection). c.traps) (made_same t m agree w o a takes)) ∙ none
+  stage_quiet (Mscr s) none =
+      let traps = each_says w each_trap in
+      let cs : List Fed = map (fed m) s.inputs in
       let maps : List Trap = map_phase traps.maps n t s in
       let reduces : List Trap = reduce_phase traps.reduces w n t s in
-      let inputs : List Trap = flat_map (in_sum w (each_parts (each_trap w))) cs in
-      let outputs : List Trap = flat_map (out_sum w (each_parts (each_trap w)) cs) s.outputs in
+      let inputs : List Trap = flat_map (each_in w each_trap) cs in
+      let outputs : List Trap = flat_map (out_sum w (each_parts w each_trap) cs) s.outputs in
       let each = append_empty maps reduces none in
       let calm = inputs_calm w n some_shards some t m agree s each.0 in
-      let first = inputs_quiet w m s.inputs (behind s.inputs)
-      (alike_empty maps inputs (maps_alike w n some_shards t m agree (each_trap w) s) each.0) in
+      let first = inputs_quiet w cs (behind s.inputs)
+      (alike_empty maps inputs (maps_alike w n some_shards t m agree each_trap s) each.0) in
       let second = outputs_quiet w cs s.outputs
       (λ g. (gathered_agrees w n some_shards t m agree s.inputs calm g.takes).calm)
       (alike_empty reduces outputs
-      (reduces_alike w n some_shards some t m agree s calm (each_trap w)) each.1) in
-      ap (λ (ds : List Fed). channels_sum w (trap_parts w) ds s.outputs)
-      (fed_alone m s.inputs free)
-      ∙ (λ i. first i ++ second i)
+      (reduces_alike w n some_shards some t m agree s calm each_trap) each.1) in
+      λ i. first i ++ second i

@@ -38,7 +38,7 @@ found e (x ∷ xs) h =
       | false ↦ λ is more. at_tail x xs e (found e xs (omega arith))
     ] refl (subst (λ n. 0 < n) (sum_by-cons (weight e) x xs) h)
 
-first_in : (e : Trap) (xs : List Trap) → slice_get xs 0 ≡ Some e → Contains xs e
+pub first_in : (e : Trap) (xs : List Trap) → slice_get xs 0 ≡ Some e → Contains xs e
 first_in e [] h = cc
 first_in e (x ∷ xs) h = let is : x ≡ e = cc in subst (Contains (x ∷ xs)) is (at_head x xs)
 

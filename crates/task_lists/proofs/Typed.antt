@@ -16,6 +16,7 @@ use Rattle.shuffle_parts.specs.Partitions.{falls_in}
 use Rattle.exec_graph.specs.World.{World}
 use Rattle.exec_graph.specs.Calls.{emitted}
 use Rattle.exec_graph.specs.Forests.{Forest, Bare, Grow}
+use Rattle.exec_graph.specs.Objects.{beside, only}
 use Rattle.exec_graph.specs.Meaning.{is_out, has_out, place}
 use Rattle.exec_graph.specs.declared.graph.Place.{Place}
 use Rattle.exec_graph.specs.Typing.{Signatures, OutTyped, ForestTyped, IsWorldTyped}
@@ -26,12 +27,12 @@ use Rattle.exec_plan.specs.declared.plan.Take.{Take}
 use Rattle.exec_plan.specs.declared.plan.InChannel.{InChannel}
 use Rattle.exec_plan.specs.declared.plan.Grouping.{Grouping}
 use Rattle.exec_plan.specs.Wellformed.{Exists, outs_at, outs as outs_count}
-use Rattle.exec_plan.specs.Typing.{ChannelTyped, InTyped, InsTyped, take_type, types_from, GroupTyped}
+use Rattle.exec_plan.specs.Typing.{BesideTyped, ChannelTyped, InTyped, InsTyped, IsSideTyped, take_type, types_from, GroupTyped}
 use Rattle.task_lists.specs.Runs.{out_at, gives}
-use Rattle.task_lists.specs.Tasks.{Split, Lists, task_gives, no_task, map_task, map_task_of, given_to, gathered, reduce_task}
+use Rattle.task_lists.specs.Tasks.{Split, Lists, elements_beside, if_valued, value_beside, task_gives, no_task, map_task, map_task_of, given_to, gathered, reduce_task}
 use Rattle.task_lists.specs.Lists.{reduced}
-use Rattle.task_lists.proofs.Free.{AreFree}
-use Rattle.task_lists.specs.Typing.{AreListsTyped, IsTaskTyped}
+use Rattle.task_lists.specs.Typing.{AreListsTyped, IsTaskTyped, StepsTyped}
+use Rattle.task_lists.proofs.TypedSides.{only_has, side_emits, valued_have}
 
 -- ---- lists of a type
 
@@ -47,12 +48,20 @@ pub each_joined : (Q : Value → Type 0) (f : ℕ → List Value) → ((i : ℕ)
 each_joined Q f h zero = tt
 each_joined Q f h (suc n) = Each-append Q (joined f n) (f n) (each_joined Q f h n) (h n)
 
-each_shard : (Q : Value → Type 0) (s i : ℕ) (xs : List Value) → AllByRecursion Q xs
+pub each_shard : (Q : Value → Type 0) (s i : ℕ) (xs : List Value) → AllByRecursion Q xs
     → AllByRecursion Q (shard s i xs)
 unfolding shard
 each_shard Q s i xs h =
     Each-take Q (begins s (i + 1) (length xs) - begins s i (length xs))
     (drop (begins s i (length xs)) xs) (Each-drop Q (begins s i (length xs)) xs h)
+
+-- a shard of no elements has none
+nothing_there : (xs : List Value) → AllByRecursion (λ x. ⊥) xs → 0 < length xs → ⊥
+nothing_there [] a some = omega (arith, some)
+nothing_there (x ∷ xs) a some = a.0
+
+none_of_none : (s i : ℕ) → 0 < length (shard {A = Value} s i []) → ⊥
+none_of_none s i some = nothing_there (shard s i []) (each_shard (λ x. ⊥) s i [] tt) some
 
 -- a number of an output: the identity has one alone
 abbrev pub IsOutput : Option Forest → ℕ → Type 0
@@ -104,39 +113,103 @@ module _ (s : Signatures) (w : World) (world : IsWorldTyped s w) where
   gives_typed outs n t (Some f) j first typed xs h =
       each_flat (Has t) (Has (outs (place n j))) (out_at w f j) (out_typed outs n t f j typed) xs h
 
+  -- ---- the outputs of steps that are called beside a value
+
+  side_typed : (outs : Place → Ty) (n : ℕ) (t object : Ty) (v : Value) → Has object v
+      → (f : Forest) → IsSideTyped s outs n t object f → (j : ℕ) (x : Value) → Has t x
+      → AllByRecursion (Has (outs (place n j))) (out_at (beside (Some v) w) f j x)
+  side_typed outs n t object v held f typed j x h =
+      let b : World = beside (Some v) w in
+      let Q : Value → Type 0 = Has (outs (place n j)) in
+      let emits = side_emits s w world outs n t object v held f typed x h in
+      subst (λ (g : Forest). AllByRecursion Q (out_at b g j x)) (sym typed.alone)
+      (elim (is_out typed.label.out j) as
+      (λ c. is_out typed.label.out j ≡ c
+      → AllByRecursion Q (cond c (emitted b typed.label x) [])) [
+        | true ↦ λ e.
+            let same : 0 ≡ j = eqb-true 0 j
+            (subst (λ (o : Option ℕ). is_out o j ≡ true) typed.kept e) in
+            subst (λ (m : ℕ). AllByRecursion (Has (outs (place n m))) (emitted b typed.label x))
+            same emits
+        | false ↦ λ e. tt
+      ] refl)
+
+  gives_beside : (outs : Place → Ty) (n : ℕ) (t : Ty) (v : Option Value) (f : Option Forest)
+      (j : ℕ) → IsOutput f j → StepsTyped s outs n t v f → (xs : List Value)
+      → AllByRecursion (Has t) xs
+      → AllByRecursion (Has (outs (place n j))) (gives (beside v w) f xs j)
+  gives_beside outs n t None f j first typed xs h = gives_typed outs n t f j first typed xs h
+  gives_beside outs n t (Some v) None j first typed xs h = absurd typed.2
+  gives_beside outs n t (Some v) (Some f) j first typed xs h =
+      each_flat (Has t) (Has (outs (place n j))) (out_at (beside (Some v) w) f j)
+      (side_typed outs n t typed.0 v typed.1 f typed.2 j) xs h
+
+  -- of elements, if there are any
+  gives_each : (outs : Place → Ty) (n : ℕ) (t : Ty) (v : Option Value) (f : Option Forest)
+      (j : ℕ) → IsOutput f j → (xs : List Value)
+      → (0 < length xs → StepsTyped s outs n t v f) → AllByRecursion (Has t) xs
+      → AllByRecursion (Has (outs (place n j))) (gives (beside v w) f xs j)
+  gives_each outs n t v f j first [] typed h = tt
+  gives_each outs n t v f j first (x ∷ xs) typed h =
+      gives_beside outs n t v f j first (typed (omega arith)) (x ∷ xs) h
+
   -- ---- the map tasks of a stage
 
   module _ (types : PlanPlace → Ty) (n : Split) (t : Lists) (lists : AreListsTyped types t)
-      (ins : List InChannel) (outs : Place → Ty) (typed : InsTyped s types outs 0 ins)
-      (free : AreFree ins) where
-    ins_at : (cs : List InChannel) (k m : ℕ) (c : InChannel) → AreFree cs
-        → InsTyped s types outs k cs → slice_get cs m ≡ Some c
-        → ChannelTyped s outs (k + m) (types c.reads) c.does
-    ins_at [] k m c f a e = cc
-    ins_at (d ∷ cs) k zero c f a e =
+      (ins : List InChannel) (outs : Place → Ty) (typed : InsTyped s types outs 0 ins) where
+    abbrev IsChannelTyped : ℕ → InChannel → Type 0
+    IsChannelTyped k c = InTyped s types outs k (types c.reads) c.beside c.does
+
+    ins_at : (cs : List InChannel) (k m : ℕ) (c : InChannel) → InsTyped s types outs k cs
+        → slice_get cs m ≡ Some c → IsChannelTyped (k + m) c
+    ins_at [] k m c a e = cc
+    ins_at (d ∷ cs) k zero c a e =
         let same : d ≡ c = cc in
         let here : k + 0 ≡ k = omega arith in
-        let by : ChannelTyped s outs k (types d.reads) d.does =
-        subst (λ (o : Option PlanPlace). InTyped s types outs k (types d.reads) o d.does) f.0 a.0 in
-        subst (λ (x : InChannel). ChannelTyped s outs (k + 0) (types x.reads) x.does) same
-        (subst (λ l. ChannelTyped s outs l (types d.reads) d.does) (sym here) by)
-    ins_at (d ∷ cs) k (suc m) c f a e =
+        subst (λ (x : InChannel). IsChannelTyped (k + 0) x) same
+        (subst (λ l. IsChannelTyped l d) (sym here) a.0)
+    ins_at (d ∷ cs) k (suc m) c a e =
         let there : suc k + m ≡ k + suc m = omega arith in
-        subst (λ l. ChannelTyped s outs l (types c.reads) c.does) there
-        (ins_at cs (suc k) m c f.1 a.1 e)
+        subst (λ l. IsChannelTyped l c) there (ins_at cs (suc k) m c a.1 e)
 
-    channel_at : (m : ℕ) (c : InChannel) → slice_get ins m ≡ Some c
-        → ChannelTyped s outs m (types c.reads) c.does
+    channel_at : (m : ℕ) (c : InChannel) → slice_get ins m ≡ Some c → IsChannelTyped m c
     channel_at m c e =
         let here : 0 + m ≡ m = omega arith in
-        subst (λ l. ChannelTyped s outs l (types c.reads) c.does) here
-        (ins_at ins 0 m c free typed e)
+        subst (λ l. IsChannelTyped l c) here (ins_at ins 0 m c typed e)
+
+    -- the elements that a channel's steps are called on
+    abbrev list_on : InChannel → List Value
+    list_on c = elements_beside t c.beside (t c.reads)
+
+    on_typed : (o : Option PlanPlace) (c : PlanPlace)
+        → AllByRecursion (Has (types c)) (elements_beside t o (t c))
+    on_typed None c = each_from (Has (types c)) (t c) (lists c)
+    on_typed (Some d) c =
+        valued_have (Has (types c)) (only (t d)) (t c)
+        (each_from (Has (types c)) (t c) (lists c))
 
     elements_typed : (c : InChannel) (i : ℕ)
-        → AllByRecursion (Has (types c.reads)) (shard n.shards i (t c.reads))
+        → AllByRecursion (Has (types c.reads)) (shard n.shards i (list_on c))
     elements_typed c i =
-        each_shard (Has (types c.reads)) n.shards i (t c.reads)
-        (each_from (Has (types c.reads)) (t c.reads) (lists c.reads))
+        each_shard (Has (types c.reads)) n.shards i (list_on c) (on_typed c.beside c.reads)
+
+    -- they are called on those beside the value, where there are any
+    beside_typed : (k : ℕ) (u : Ty) (d : PlanPlace) (f : Option Forest) (i : ℕ) (xs : List Value)
+        → BesideTyped s outs k u (types d) f → (v : Option Value) → only (t d) ≡ v
+        → 0 < length (shard n.shards i (if_valued v xs)) → StepsTyped s outs k u v f
+    beside_typed k u d f i xs a None e some = absurd (none_of_none n.shards i some)
+    beside_typed k u d f i xs a (Some v) e some = (
+      types d,
+      only_has (Has (types d)) (t d) v (each_from (Has (types d)) (t d) (lists d)) e,
+      a,
+    )
+
+    steps_typed : (k : ℕ) (u : Ty) (o : Option PlanPlace) (f : Option Forest) (i : ℕ)
+        (xs : List Value) → InTyped s types outs k u o f
+        → 0 < length (shard n.shards i (elements_beside t o xs))
+        → StepsTyped s outs k u (value_beside t o) f
+    steps_typed k u None f i xs a some = a
+    steps_typed k u (Some d) f i xs a some = beside_typed k u d f i xs a (only (t d)) refl some
 
     pub map_typed : (m i : ℕ) → IsTaskTyped s (map_task_of n t ins m i)
     map_typed m i =
@@ -148,15 +221,16 @@ module _ (s : Signatures) (w : World) (world : IsWorldTyped s w) where
             outs = outs;
             node = 0;
             members = All-from_recursion (Has (outs (place 0 0))) [] tt;
-            steps = refl;
+            steps = λ some. refl;
           }
           | Some c ↦ λ e. record {
             element = types c.reads;
             outs = outs;
             node = m;
-            members = All-from_recursion (Has (types c.reads))
-                (shard n.shards i (t c.reads)) (elements_typed c i);
-            steps = channel_at m c e;
+            members = All-from_recursion (Has (types c.reads)) (shard n.shards i (list_on c))
+                (elements_typed c i);
+            steps = steps_typed m (types c.reads) c.beside c.does i (t c.reads)
+                (channel_at m c e);
           }
         ] refl
 
@@ -175,9 +249,11 @@ module _ (s : Signatures) (w : World) (world : IsWorldTyped s w) where
         → AllByRecursion (Has (take_type outs k))
         (task_gives w (option_map_or (λ c. map_task n t c i) o no_task) k.out)) [
           | None ↦ λ e below. tt
-          | Some c ↦ λ e below. gives_typed outs k.channel (types c.reads) c.does k.out
-              (is_output c.does k.out below) (channel_at k.channel c e)
-              (shard n.shards i (t c.reads)) (elements_typed c i)
+          | Some c ↦ λ e below. gives_each outs k.channel (types c.reads)
+              (value_beside t c.beside) c.does k.out (is_output c.does k.out below)
+              (shard n.shards i (list_on c))
+              (steps_typed k.channel (types c.reads) c.beside c.does i (t c.reads)
+              (channel_at k.channel c e)) (elements_typed c i)
         ] refl there
 
     given_typed : (pairs : Ty) (m i : ℕ) (takes : List Take) → AllByRecursion (Exists ins) takes
@@ -238,7 +314,7 @@ module _ (s : Signatures) (w : World) (world : IsWorldTyped s w) where
       node = 0;
       members = All-from_recursion (Has gt.groups) (reduce_task w n t ins g p).elements
           (groups_typed k g p gt there);
-      steps = gt.reduced;
+      steps = λ some. gt.reduced;
     }
 
     pub reduced_typed : (k : ℕ) (g : Grouping) (j : ℕ) → GroupTyped s types outs k g

@@ -12,24 +12,27 @@ use Rattle.exec_graph.specs.World.{World}
 use Rattle.exec_graph.specs.Forests.{Forest, Bare, Grow, after_out, after, new_out, numbered}
 use Rattle.exec_graph.specs.declared.graph.Place.{Place}
 use Rattle.exec_graph.specs.Typing.{Signatures, IsWorldTyped}
+use Rattle.exec_graph.proofs.Barriers.{barrier_typed}
 use Rattle.exec_plan.specs.declared.plan.PlanPlace.{PlanPlace}
 use Rattle.exec_plan.specs.declared.plan.PlanPlace.TheVariants as at
 use Rattle.exec_plan.specs.declared.plan.InChannel.{InChannel}
 use Rattle.exec_plan.specs.declared.plan.Grouping.{Grouping}
 use Rattle.exec_plan.specs.declared.plan.OutChannel.{OutChannel}
 use Rattle.exec_plan.specs.declared.plan.OutChannel.TheVariants.{Group, Pass}
+use Rattle.exec_plan.specs.declared.plan.Plan.{Plan}
 use Rattle.exec_plan.specs.declared.plan.Stage.{Stage}
 use Rattle.exec_plan.specs.declared.plan.Stage.TheVariants.{Mscr, Flatten, Operate}
 use Rattle.exec_plan.specs.Channels.{kept_out, outs_of, numbers}
-use Rattle.exec_plan.specs.ObjectFree.{IsStageFree}
-use Rattle.exec_plan.specs.Typing.{InsTyped, take_type, GroupTyped, OutTyped, StageTyped}
+use Rattle.exec_plan.specs.Typing.{AreStagesTyped, InTyped, InsTyped, IsPlanTyped, take_type, GroupTyped, OutTyped, StageTyped}
 use Rattle.exec_plan.specs.Wellformed.{AreOuts, Exists, IsNumbered, IsStageOk, is_pass, outs, width}
 use Rattle.exec_plan.proofs.Meeting.{map-length, outs_counted}
 use Rattle.task_lists.specs.Tasks.{Split, Lists, gathered}
-use Rattle.task_lists.specs.Lists.{reduced, given_lists, result_lists, source_lists, with_lists}
+use Rattle.task_lists.specs.Lists.{calm, reduced, given_lists, result_lists, source_lists, with_lists}
+use Rattle.task_lists.specs.Plans.{AreFirstBeside, AreSidesFirst, AreStageFirst}
+use Rattle.task_lists.specs.Runs.{labels_of}
 use Rattle.task_lists.specs.Typing.{AreListsTyped}
-use Rattle.task_lists.proofs.Free.{AreFree}
 use Rattle.task_lists.proofs.Typed.{IsOutput, gathered_typed, reduced_typed}
+use Rattle.task_lists.proofs.TypedSides.{calm_good}
 
 -- ---- the numbers of a forest's outputs
 
@@ -146,52 +149,52 @@ numbers_count (Some f) = outs_counted f
 module _ (s : Signatures) (w : World) (world : IsWorldTyped s w) (types : PlanPlace → Ty)
     (n : Split) (t : Lists) (lists : AreListsTyped types t) (k : ℕ) where
   module _ (ins : List InChannel) (given : Place → Ty) (typed : InsTyped s types given 0 ins)
-      (free : AreFree ins) where
-    lists_count : (o : OutChannel) → length (given_lists w n t ins o) ≡ width o
-    lists_count (Group g) =
-        map-length (reduced w n t ins g) (numbers g.does) ∙ numbers_count g.does
-    lists_count (Pass i number) = refl
+    where
+      lists_count : (o : OutChannel) → length (given_lists w n t ins o) ≡ width o
+      lists_count (Group g) =
+          map-length (reduced w n t ins g) (numbers g.does) ∙ numbers_count g.does
+      lists_count (Pass i number) = refl
 
-    outs_typed : (passed : Bool) (m : ℕ) (os : List OutChannel) → AreOuts ins passed m os
-        → AllByRecursion (OutTyped s types given k) os
-        → TypedFrom types k m (flat_map (given_lists w n t ins) os)
-    outs_typed passed m [] ok fit = tt
-    outs_typed passed m (Pass i number ∷ os) ok fit =
-        let here : AllByRecursion (Has (types (at.Result k m))) (gathered w n t ins (i ∷ [])) =
-        subst (λ r. AllByRecursion (Has r) (gathered w n t ins (i ∷ [])))
-        (sym fit.0 ∙ ap (λ (j : ℕ). types (at.Result k j)) ok.0.0)
-        (gathered_typed s w world types n t lists ins given typed free (take_type given i) (i ∷ [])
-        (ok.0.1, tt) (refl, tt)) in
-        let next : m + 1 ≡ suc m = omega arith in (
-          here,
-          subst (λ j. TypedFrom types k j (flat_map (given_lists w n t ins) os)) next
-              (outs_typed (passed || is_pass (Pass i number)) (m + 1) os ok.1 fit.1),
-        )
-    outs_typed passed m (Group g ∷ os) ok fit =
-        let each : (js : List ℕ) → AllByRecursion (IsOutput g.does) js
-        → AllByRecursion (λ j. AllByRecursion (Has (types (at.Result k (g.first + j))))
-        (reduced w n t ins g j)) js = all_reduced g fit.0 ok.0.takes in
-        let start : g.first + 0 ≡ m = omega (arith, ok.0.first) in
-        let here : TypedFrom types k m (given_lists w n t ins (Group g)) =
-        subst (λ j. TypedFrom types k j (given_lists w n t ins (Group g))) start
-        (typed_map types k g.first 0 (reduced w n t ins g) (numbers g.does)
-        (numbers_from g.does ok.0.steps) (each (numbers g.does) (numbers_are g.does))) in
-        typed_append types k m (given_lists w n t ins (Group g))
-        (flat_map (given_lists w n t ins) os) here
-        (subst (λ l. TypedFrom types k (m + l) (flat_map (given_lists w n t ins) os))
-        (sym (lists_count (Group g)))
-        (outs_typed (passed || is_pass (Group g)) (m + width (Group g)) os ok.1 fit.1))
-      where
-        all_reduced : (g : Grouping) → GroupTyped s types given k g
-            → AllByRecursion (Exists ins) g.takes → (js : List ℕ)
-            → AllByRecursion (IsOutput g.does) js
-            → AllByRecursion (λ j. AllByRecursion (Has (types (at.Result k (g.first + j))))
-            (reduced w n t ins g j)) js
-        all_reduced g gt there [] are = tt
-        all_reduced g gt there (j ∷ js) are = (
-          reduced_typed s w world types n t lists ins given typed free k g j gt there are.0,
-          all_reduced g gt there js are.1,
-        )
+      outs_typed : (passed : Bool) (m : ℕ) (os : List OutChannel) → AreOuts ins passed m os
+          → AllByRecursion (OutTyped s types given k) os
+          → TypedFrom types k m (flat_map (given_lists w n t ins) os)
+      outs_typed passed m [] ok fit = tt
+      outs_typed passed m (Pass i number ∷ os) ok fit =
+          let here : AllByRecursion (Has (types (at.Result k m))) (gathered w n t ins (i ∷ [])) =
+          subst (λ r. AllByRecursion (Has r) (gathered w n t ins (i ∷ [])))
+          (sym fit.0 ∙ ap (λ (j : ℕ). types (at.Result k j)) ok.0.0)
+          (gathered_typed s w world types n t lists ins given typed (take_type given i) (i ∷ [])
+          (ok.0.1, tt) (refl, tt)) in
+          let next : m + 1 ≡ suc m = omega arith in (
+            here,
+            subst (λ j. TypedFrom types k j (flat_map (given_lists w n t ins) os)) next
+                (outs_typed (passed || is_pass (Pass i number)) (m + 1) os ok.1 fit.1),
+          )
+      outs_typed passed m (Group g ∷ os) ok fit =
+          let each : (js : List ℕ) → AllByRecursion (IsOutput g.does) js
+          → AllByRecursion (λ j. AllByRecursion (Has (types (at.Result k (g.first + j))))
+          (reduced w n t ins g j)) js = all_reduced g fit.0 ok.0.takes in
+          let start : g.first + 0 ≡ m = omega (arith, ok.0.first) in
+          let here : TypedFrom types k m (given_lists w n t ins (Group g)) =
+          subst (λ j. TypedFrom types k j (given_lists w n t ins (Group g))) start
+          (typed_map types k g.first 0 (reduced w n t ins g) (numbers g.does)
+          (numbers_from g.does ok.0.steps) (each (numbers g.does) (numbers_are g.does))) in
+          typed_append types k m (given_lists w n t ins (Group g))
+          (flat_map (given_lists w n t ins) os) here
+          (subst (λ l. TypedFrom types k (m + l) (flat_map (given_lists w n t ins) os))
+          (sym (lists_count (Group g)))
+          (outs_typed (passed || is_pass (Group g)) (m + width (Group g)) os ok.1 fit.1))
+        where
+          all_reduced : (g : Grouping) → GroupTyped s types given k g
+              → AllByRecursion (Exists ins) g.takes → (js : List ℕ)
+              → AllByRecursion (IsOutput g.does) js
+              → AllByRecursion (λ j. AllByRecursion (Has (types (at.Result k (g.first + j))))
+              (reduced w n t ins g j)) js
+          all_reduced g gt there [] are = tt
+          all_reduced g gt there (j ∷ js) are = (
+            reduced_typed s w world types n t lists ins given typed k g j gt there are.0,
+            all_reduced g gt there js are.1,
+          )
 
   takes_typed : (takes : List PlanPlace)
       → AllByRecursion (λ c. types c ≡ types (at.Result k 0)) takes
@@ -202,19 +205,23 @@ module _ (s : Signatures) (w : World) (world : IsWorldTyped s w) (types : PlanPl
       (subst (λ r. AllByRecursion (Has r) (t c)) fit.0 (each_from (Has (types c)) (t c) (lists c)))
       (takes_typed cs fit.1)
 
-  results_typed : (sources : ℕ) (before : List Stage) (stage : Stage) → IsStageFree stage
+  results_typed : (sources : ℕ) (before : List Stage) (stage : Stage)
       → StageTyped s types k stage → IsStageOk sources before stage
       → TypedFrom types k 0 (result_lists w n t stage)
-  results_typed sources before (Mscr m) free fit ok =
-      outs_typed m.inputs fit.outs fit.inputs free false 0 m.outputs ok.channels fit.outputs
-  results_typed sources before (Flatten takes) free fit ok = (takes_typed takes fit, tt)
-  results_typed sources before (Operate takes o l a) free fit ok = absurd free
+  results_typed sources before (Mscr m) fit ok =
+      outs_typed m.inputs fit.outs fit.inputs false 0 m.outputs ok.channels fit.outputs
+  results_typed sources before (Flatten takes) fit ok = (takes_typed takes fit, tt)
+  results_typed sources before (Operate takes o l a) fit ok = (
+    barrier_typed s w world o a (map types takes) (types (at.Result k 0)) fit
+        (map (calm t) takes) (calm_good types t lists takes),
+    tt,
+  )
 
-  pub table_typed : (sources : ℕ) (before : List Stage) (stage : Stage) → IsStageFree stage
+  pub table_typed : (sources : ℕ) (before : List Stage) (stage : Stage)
       → StageTyped s types k stage → IsStageOk sources before stage
       → AreListsTyped types (with_lists k (result_lists w n t stage) t)
-  table_typed sources before stage free fit ok (at.Source r) = lists (at.Source r)
-  table_typed sources before stage free fit ok (at.Result j number) =
+  table_typed sources before stage fit ok (at.Source r) = lists (at.Source r)
+  table_typed sources before stage fit ok (at.Result j number) =
       elim (j == k) as
       (λ b. (j == k) ≡ b → AllHave (types (at.Result j number))
       (cond b (or_none (slice_get (result_lists w n t stage) number)) (t (at.Result j number)))) [
@@ -226,7 +233,7 @@ module _ (s : Signatures) (w : World) (world : IsWorldTyped s w) (types : PlanPl
             (subst (λ (l : ℕ). AllByRecursion (Has (types (at.Result l number))) xs) same
             (subst (λ (l : ℕ). AllByRecursion (Has (types (at.Result k l))) xs) here
             (typed_at types k 0 number (result_lists w n t stage)
-            (results_typed sources before stage free fit ok))))
+            (results_typed sources before stage fit ok))))
         | false ↦ λ e. lists (at.Result j number)
       ] refl
 
@@ -236,3 +243,31 @@ begin_typed s w types world fit (at.Source r) =
     subst (λ (u : Ty). AllHave u (w.rows r)) (sym (fit r)) (world.rows r)
 begin_typed s w types world fit (at.Result k number) =
     All-from_recursion (Has (types (at.Result k number))) [] tt
+
+-- ---- steps that are called beside an object emit to their first outputs
+
+module _ (s : Signatures) (types : PlanPlace → Ty) where
+  in_first : (outs : Place → Ty) (n : ℕ) (t : Ty) (o : Option PlanPlace) (f : Option Forest)
+      → InTyped s types outs n t o f → AreFirstBeside o f
+  in_first outs n t None f typed = tt
+  in_first outs n t (Some c) None typed = absurd typed
+  in_first outs n t (Some c) (Some f) typed =
+      subst (λ (g : Forest). AllByRecursion (λ l. l.at ≡ 0) (labels_of (Some g))) (sym typed.alone)
+      (typed.first, tt)
+
+  ins_first : (outs : Place → Ty) (n : ℕ) (ins : List InChannel) → InsTyped s types outs n ins
+      → AllByRecursion (λ c. AreFirstBeside c.beside c.does) ins
+  ins_first outs n [] typed = tt
+  ins_first outs n (c ∷ cs) typed =
+      (in_first outs n (types c.reads) c.beside c.does typed.0, ins_first outs (suc n) cs typed.1)
+
+  stages_first : (k : ℕ) (ss : List Stage) → AreStagesTyped s types k ss
+      → AllByRecursion AreStageFirst ss
+  stages_first k [] typed = tt
+  stages_first k (Mscr m ∷ ss) typed =
+      (ins_first typed.0.outs 0 m.inputs typed.0.inputs, stages_first (suc k) ss typed.1)
+  stages_first k (Flatten takes ∷ ss) typed = (tt, stages_first (suc k) ss typed.1)
+  stages_first k (Operate takes o l a ∷ ss) typed = (tt, stages_first (suc k) ss typed.1)
+
+pub sides_first : (s : Signatures) (p : Plan) → IsPlanTyped s p → AreSidesFirst p
+sides_first s p typed = stages_first s typed.0 1 p.stages typed.1.stages

@@ -9,6 +9,7 @@ use Rattle.flume_collection.specs.Collection.{Collection}
 use Rattle.shards.specs.Shards.{joined}
 use Rattle.exec_graph.specs.Objects.{act_result}
 use Rattle.exec_graph.specs.World.{World}
+use Rattle.exec_graph.specs.declared.graph.Act.{Act}
 use Rattle.exec_plan.specs.Channels.{numbers}
 use Rattle.exec_plan.specs.declared.plan.PlanPlace.{PlanPlace}
 use Rattle.exec_plan.specs.declared.plan.PlanPlace.TheVariants as at
@@ -34,11 +35,16 @@ given_lists w n t ins (Pass k number) = gathered w n t ins (k ∷ []) ∷ []
 abbrev pub calm : Lists → PlanPlace → Collection
 calm t c = record { bag = bag_of (t c); traps = [] }
 
--- the results of a stage, in order
+-- the object that a stage makes of these collections by an act, for script node o. It has no value
+-- where the act traps, or where an object that it reads has an empty list
+abbrev pub object_made : World → Lists → ℕ → Act → List PlanPlace → Collection
+object_made w t o a takes = act_result w o a (map (calm t) takes)
+
+-- the results of a stage, in order. That of an Operate is its one value, or it is empty
 abbrev pub result_lists : World → Split → Lists → Stage → List (List Value)
 result_lists w n t (Mscr s) = flat_map (given_lists w n t s.inputs) s.outputs
 result_lists w n t (Flatten takes) = flat_map t takes ∷ []
-result_lists w n t (Operate takes o l a) = (act_result w o a (map (calm t) takes)).bag ∷ []
+result_lists w n t (Operate takes o l a) = (object_made w t o a takes).bag ∷ []
 
 -- the lists with those of the results of stage k
 abbrev pub with_lists : ℕ → List (List Value) → Lists → Lists

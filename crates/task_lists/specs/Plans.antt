@@ -1,28 +1,32 @@
 -- What all tasks of a plan come to: the first trap, and the sizes that they count.
-use Rattle.std.specs.Prelude.{ℕ, cond, ◌==◌, ◌&&◌, ◌+◌, List, [], ◌∷◌, ◌++◌, sum, Option}
+use Rattle.std.specs.Prelude.{◌≡◌, ℕ, Bool, cond, ◌==◌, ◌&&◌, ◌+◌, List, [], ◌∷◌, ◌++◌, length, sum, Option, Some, None}
 use Rattle.std.proofs.Common.{suc}
-use Rattle.std.specs.List.{slice_get}
+use Rattle.std.specs.List.{AllByRecursion, slice_get}
 use Rattle.flume_collection.specs.declared.trap.Trap.{Trap}
+use Rattle.flume_collection.specs.Collection.{Collection}
 use Rattle.exec_graph.specs.World.{World}
+use Rattle.exec_graph.specs.Forests.{Forest}
 use Rattle.exec_plan.specs.declared.plan.Grouping.{Grouping}
 use Rattle.exec_plan.specs.declared.plan.Stage.{Stage}
 use Rattle.exec_plan.specs.declared.plan.Stage.TheVariants.{Mscr, Flatten, Operate}
 use Rattle.exec_plan.specs.declared.plan.Plan.{Plan}
 use Rattle.task_lists.specs.Runs.{traps_of, counts_of, labels_of, own_count}
-use Rattle.task_lists.specs.Tasks.{Split, Lists, Task, places, map_phase, reduce_phase}
-use Rattle.task_lists.specs.Lists.{result_lists, with_lists, source_lists}
+use Rattle.task_lists.specs.Tasks.{Split, Lists, Task, places, world_for, map_phase, reduce_phase}
+use Rattle.task_lists.specs.Lists.{object_made, result_lists, with_lists, source_lists}
 
--- what is said of a map task, and of a reduce task of a channel
+-- what is said of a map task, of a reduce task of a channel, and of the object that a stage makes
+-- for an origin, whose own bag it is or not
 pub record Says (Y : Type 0) : Type 0 where
   pub maps : Task → List Y
   pub reduces : Grouping → Task → List Y
+  pub objects : ℕ → Bool → Collection → List Y
 
 -- of the tasks of a stage: first those of the map phase, then those of the reduce phase. Other
--- stages have no tasks
+-- stages have no tasks; but an Operate makes an object, as a phase by itself
 abbrev pub stage_tasks : {Y : Type 0} → Says Y → World → Split → Lists → Stage → List Y
 stage_tasks q w n t (Mscr s) = map_phase q.maps n t s ++ reduce_phase q.reduces w n t s
 stage_tasks q w n t (Flatten takes) = []
-stage_tasks q w n t (Operate takes o l a) = []
+stage_tasks q w n t (Operate takes o l a) = q.objects o l (object_made w t o a takes)
 
 -- of the stages from number k on, each over the lists that it finds
 abbrev pub tasks_from : {Y : Type 0} → Says Y → World → Split → ℕ → List Stage → Lists → List Y
@@ -38,12 +42,13 @@ all_tasks q w n p = tasks_from q w n 1 p.stages (source_lists w)
 
 abbrev pub task_traps : World → Says Trap
 task_traps w = record {
-  maps = λ task. traps_of w task.does task.elements;
-  reduces = λ g task. traps_of w task.does task.elements;
+  maps = λ task. traps_of (world_for w task) task.does task.elements;
+  reduces = λ g task. traps_of (world_for w task) task.does task.elements;
+  objects = λ o l object. object.traps;
 }
 
--- the first trap of the least trapping task of the first phase that has one. A run ends there, and
--- no list after it counts
+-- the first trap of the least trapping task of the first phase that has one, where the making of an
+-- object is a phase. A run ends there, and no list after it counts
 abbrev pub first_trap : World → Split → Plan → Option Trap
 first_trap w n p = slice_get (all_tasks (task_traps w) w n p) 0
 
@@ -52,7 +57,7 @@ first_trap w n p = slice_get (all_tasks (task_traps w) w n p) 0
 -- what a task's steps count for script node i
 abbrev pub steps_count : World → ℕ → Task → ℕ
 steps_count w i task =
-    own_count i (labels_of task.does) (counts_of w task.does task.elements)
+    own_count i (labels_of task.does) (counts_of (world_for w task) task.does task.elements)
 
 -- a task's groups, where they are members of the bag of script node i
 abbrev pub groups_count : ℕ → Grouping → Task → ℕ
@@ -62,8 +67,30 @@ abbrev pub task_counts : World → ℕ → Says ℕ
 task_counts w i = record {
   maps = λ task. steps_count w i task ∷ [];
   reduces = λ g task. (groups_count i g task + steps_count w i task) ∷ [];
+  objects = λ o l object. cond (l && (o == i)) (length object.bag) 0 ∷ [];
 }
 
 -- how many members the tasks count for script node i
 abbrev pub size_of : World → Split → Plan → ℕ → ℕ
 size_of w n p i = sum (all_tasks (task_counts w i) w n p)
+
+-- ---- steps beside objects
+
+-- the steps emit to their first outputs alone
+abbrev pub AreFirst : Option Forest → Type 0
+AreFirst f = AllByRecursion (λ l. l.at ≡ 0) (labels_of f)
+
+-- those do that are called beside an object
+abbrev pub AreFirstBeside : {X : Type 0} → Option X → Option Forest → Type 0
+AreFirstBeside None f = Unit {0}
+AreFirstBeside (Some object) f = AreFirst f
+
+abbrev pub AreStageFirst : Stage → Type 0
+AreStageFirst (Mscr m) = AllByRecursion (λ c. AreFirstBeside c.beside c.does) m.inputs
+AreStageFirst (Flatten takes) = Unit {0}
+AreStageFirst (Operate takes o l a) = Unit {0}
+
+-- all of the plan do that are called beside an object, so that what they emit is of the script node
+-- that they are of
+abbrev pub AreSidesFirst : Plan → Type 0
+AreSidesFirst p = AllByRecursion AreStageFirst p.stages

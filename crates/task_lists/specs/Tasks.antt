@@ -7,6 +7,7 @@ use Rattle.bag_groups.specs.Groups.{grouped}
 use Rattle.shards.specs.Shards.{joined, shard}
 use Rattle.shuffle_parts.specs.Partitions.{part_of}
 use Rattle.exec_graph.specs.World.{World}
+use Rattle.exec_graph.specs.Objects.{beside, only}
 use Rattle.exec_graph.specs.Forests.{Forest}
 use Rattle.exec_plan.specs.declared.plan.PlanPlace.{PlanPlace}
 use Rattle.exec_plan.specs.declared.plan.Take.{Take}
@@ -26,10 +27,17 @@ pub record Split : Type 0 where
 abbrev pub Lists : Type 0
 Lists = PlanPlace → List Value
 
--- a task: its elements, in order, and the steps that run on each of them
+-- a task: its elements, in order, the value of an object beside which steps are called, where they
+-- are, and the steps that run on each of its elements
 pub record Task : Type 0 where
   pub elements : List Value
+  pub beside : Option Value
   pub does : Option Forest
+
+-- the world in which the steps of a task are called. Beside a value a call is on the record of an
+-- element and that value, and its trap names the element
+abbrev pub world_for : World → Task → World
+world_for w task = beside task.beside w
 
 -- a task asks its host before each of its elements
 abbrev pub places : Task → ℕ
@@ -37,16 +45,37 @@ places task = length task.elements
 
 -- what a task gives to its output j
 abbrev pub task_gives : World → Task → ℕ → List Value
-task_gives w task j = gives w task.does task.elements j
+task_gives w task j = gives (world_for w task) task.does task.elements j
 
 abbrev pub no_task : Task
-no_task = record { elements = []; does = None }
+no_task = record { elements = []; beside = None; does = None }
+
+-- ---- channels that call their steps beside an object
+
+-- the value of the object, which is the one member of its list
+abbrev pub value_beside : Lists → Option PlanPlace → Option Value
+value_beside t None = None
+value_beside t (Some object) = only (t object)
+
+-- a list where there is a value, and otherwise no element
+abbrev pub if_valued : Option Value → List Value → List Value
+if_valued None xs = []
+if_valued (Some v) xs = xs
+
+-- the elements of a list on which the steps are called: none where the object has no value
+abbrev pub elements_beside : Lists → Option PlanPlace → List Value → List Value
+elements_beside t None xs = xs
+elements_beside t (Some object) xs = if_valued (only (t object)) xs
 
 -- ---- map tasks: map task m * shards + i is shard i of input channel m
 
 -- shard i of an input channel
 abbrev pub map_task : Split → Lists → InChannel → ℕ → Task
-map_task n t c i = record { elements = shard n.shards i (t c.reads); does = c.does }
+map_task n t c i = record {
+  elements = shard n.shards i (elements_beside t c.beside (t c.reads));
+  beside = value_beside t c.beside;
+  does = c.does;
+}
 
 abbrev pub map_task_of : Split → Lists → List InChannel → ℕ → ℕ → Task
 map_task_of n t ins m i = option_map_or (λ c. map_task n t c i) (slice_get ins m) no_task
@@ -68,6 +97,7 @@ gathered w n t ins takes =
 abbrev pub reduce_task : World → Split → Lists → List InChannel → Grouping → ℕ → Task
 reduce_task w n t ins g p = record {
   elements = part_of n.partitions p (grouped (gathered w n t ins g.takes));
+  beside = None;
   does = g.does;
 }
 

@@ -1,5 +1,5 @@
 // Laws of the tasks of a plan: their lists, sizes, traps and types.
-ghost use Rattle.std.specs.Prelude.{◌≡◌, ◌<◌, ◌↔◌, ℕ, List, [], ◌∷◌, IsSomeAnd, Option, Some, None, length, map, slice_get};
+ghost use Rattle.std.specs.Prelude.{◌≡◌, ◌<◌, ◌↔◌, ℕ, Bool, List, [], ◌∷◌, IsSomeAnd, Option, Some, None, length, map, slice_get};
 ghost use Rattle.std.specs.List.{AllByRecursion, Contains};
 ghost use Rattle.std.specs.Option.{option_map_or};
 ghost use Rattle.flume_value.specs.declared.value.Value.{Value};
@@ -16,8 +16,10 @@ ghost use Rattle.shuffle_parts.specs.Outs.{all_passed, all_pairs, all_partials};
 ghost use Rattle.exec_graph.specs.Typing.{Signatures, IsWorldTyped};
 ghost use Rattle.exec_graph.specs.World.{World};
 ghost use Rattle.exec_graph.specs.Calls.{called};
+ghost use Rattle.exec_graph.specs.declared.graph.Act.TheVariants as act;
 ghost use Rattle.exec_graph.specs.declared.step.Does.TheVariants as does;
 ghost use Rattle.exec_plan.specs.declared.plan.Grouping.{Grouping};
+ghost use Rattle.exec_plan.specs.declared.plan.InChannel.{InChannel};
 ghost use Rattle.exec_plan.specs.declared.plan.Mscr.{Mscr};
 ghost use Rattle.exec_plan.specs.declared.plan.OutChannel.TheVariants.{Group, Pass};
 ghost use Rattle.exec_plan.specs.declared.plan.Plan.{Plan};
@@ -26,33 +28,33 @@ ghost use Rattle.exec_plan.specs.declared.plan.Stage.{Stage};
 ghost use Rattle.exec_plan.specs.declared.plan.Stage.TheVariants as stage;
 ghost use Rattle.exec_plan.specs.declared.plan.Take.{Take};
 ghost use Rattle.exec_plan.specs.Meaning.{plan_collection, emitted_by, plan_traps};
-ghost use Rattle.exec_plan.specs.ObjectFree.{IsPlanObjectFree, IsStageFree};
-ghost use Rattle.exec_plan.specs.Typing.{IsPlanTypedBy, MscrTyped, StageTyped};
+ghost use Rattle.exec_plan.specs.Typing.{IsPlanTyped, IsPlanTypedBy, MscrTyped, StageTyped};
 ghost use Rattle.exec_plan.specs.Wellformed.{Exists, IsLiftOk, IsPlanOk, IsStageOk};
-ghost use Rattle.task_lists.specs.Tasks.{Split, Lists, Task, given_to, map_task_of, gathered, reduce_task, map_phase, map_count, map_task_at, reduce_phase, reduce_count, reduce_task_at, grouping_at};
+ghost use Rattle.task_lists.specs.Tasks.{Split, Lists, Task, given_to, map_task, map_task_of, gathered, reduce_task, map_phase, map_count, map_task_at, reduce_phase, reduce_count, reduce_task_at, grouping_at};
 ghost use Rattle.task_lists.specs.Lists.{lists, result_lists, source_lists, with_lists};
-ghost use Rattle.task_lists.specs.Plans.{first_trap, size_of, stage_tasks, task_traps};
+ghost use Rattle.task_lists.specs.Plans.{AreSidesFirst, first_trap, size_of, stage_tasks, task_traps};
 ghost use Rattle.task_lists.specs.Outs.{answers_of, AreMapOuts, IsCalm, IsFirstTrap};
 ghost use Rattle.task_lists.specs.Typing.{AreGroupable, AreListsTyped, IsTaskTyped};
 
-/// The tasks of a plan without objects, for any number of shards and partitions. That the sizes and
-/// the traps are the plan's needs a well-formed plan, in which no stage reads what is made later.
+/// The tasks of a plan, for any number of shards and partitions. That the sizes and the traps are
+/// the plan's needs a well-formed plan, in which no stage reads what is made later. For the sizes,
+/// steps that are called beside an object are to emit to their first outputs alone, as they do in a
+/// plan whose types fit.
 pub fn tasks_law()
-    // Where no task traps, the list of each collection has its bag.
+    // Where no task and no making of an object traps, the list of each collection has its bag.
     ensures lists { (w : World) (n : Split) (p : Plan) → 0 < n.shards → 0 < n.partitions →
-        IsPlanObjectFree p → first_trap w n p ≡ None → (c : PlanPlace) →
+        first_trap w n p ≡ None → (c : PlanPlace) →
         bag_of (lists w n p c) ≡ (plan_collection w p c).bag }
     // Then the tasks count the members of each script node's bag.
     ensures sizes { (w : World) (n : Split) (p : Plan) → 0 < n.shards → 0 < n.partitions →
-        IsPlanObjectFree p → IsPlanOk p → first_trap w n p ≡ None → (i : ℕ) →
+        AreSidesFirst p → IsPlanOk p → first_trap w n p ≡ None → (i : ℕ) →
         size_of w n p i ≡ length (emitted_by w p i) }
-    // A task traps exactly where the plan has a trap.
+    // One of them traps exactly where the plan has a trap.
     ensures through { (w : World) (n : Split) (p : Plan) → 0 < n.shards → 0 < n.partitions →
-        IsPlanObjectFree p → IsPlanOk p →
-        (first_trap w n p ≡ None) ↔ (plan_traps w p ≡ []) }
-    // The first trap of the tasks is one of the plan's.
+        IsPlanOk p → (first_trap w n p ≡ None) ↔ (plan_traps w p ≡ []) }
+    // The first trap is one of the plan's.
     ensures trapped { (w : World) (n : Split) (p : Plan) (e : Trap) → 0 < n.shards →
-        0 < n.partitions → IsPlanObjectFree p → IsPlanOk p → first_trap w n p ≡ Some e →
+        0 < n.partitions → IsPlanOk p → first_trap w n p ≡ Some e →
         Contains (plan_traps w p) e }
 {}
 
@@ -120,33 +122,41 @@ pub fn outs_law()
         ≡ map (called w (does.Combine c)) (reduce_task w n t s.inputs g p).elements) }
 {}
 
-/// In a well-formed plan without objects whose types fit, over a typed world, the lists have their
-/// collections' types. So each task's elements are of a type that its steps take, and what a
-/// grouping channel is given is what it takes.
+/// Of an object whose list is empty nothing is made: the list of an Operate that reads it is empty,
+/// and the tasks of a channel beside it have no elements.
+pub fn empty_law()
+    ensures operate { (w : World) (n : Split) (t : Lists) (takes : List PlanPlace) (o f k : ℕ)
+        (l : Bool) (c : PlanPlace) → slice_get takes k ≡ Some c → t c ≡ [] →
+        result_lists w n t (stage.Operate takes o l (act.Operate f)) ≡ [] ∷ [] }
+    ensures beside { (n : Split) (t : Lists) (c : InChannel) (object : PlanPlace) (i : ℕ) →
+        c.beside ≡ Some object → t object ≡ [] → (map_task n t c i).elements ≡ [] }
+{}
+
+/// In a well-formed plan whose types fit, over a typed world, the lists have their collections'
+/// types. So each task's elements are of a type that its steps take, and what a grouping channel is
+/// given is what it takes.
 pub fn typed_law()
     ensures sources { (g : Signatures) (w : World) (p : Plan) (types : PlanPlace → Ty) →
         IsWorldTyped g w → IsPlanTypedBy g p types → AreListsTyped types (source_lists w) }
     // After a stage as well as before it.
     ensures results { (g : Signatures) (w : World) (n : Split) (types : PlanPlace → Ty) (t : Lists)
         (k sources : ℕ) (before : List Stage) (s : Stage) → IsWorldTyped g w →
-        AreListsTyped types t → IsStageFree s → StageTyped g types k s →
-        IsStageOk sources before s →
+        AreListsTyped types t → StageTyped g types k s → IsStageOk sources before s →
         AreListsTyped types (with_lists k (result_lists w n t s) t) }
     ensures maps { (g : Signatures) (w : World) (n : Split) (types : PlanPlace → Ty) (t : Lists)
         (k m i : ℕ) (s : Mscr) → IsWorldTyped g w → AreListsTyped types t →
-        IsStageFree (stage.Mscr s) → MscrTyped g types k s →
-        IsTaskTyped g (map_task_of n t s.inputs m i) }
+        MscrTyped g types k s → IsTaskTyped g (map_task_of n t s.inputs m i) }
     ensures reduces { (g : Signatures) (w : World) (n : Split) (types : PlanPlace → Ty) (t : Lists)
         (k r p : ℕ) (s : Mscr) (c : Grouping) → IsWorldTyped g w → AreListsTyped types t →
-        IsStageFree (stage.Mscr s) → MscrTyped g types k s →
-        slice_get s.outputs r ≡ Some (Group c) →
+        MscrTyped g types k s → slice_get s.outputs r ≡ Some (Group c) →
         AllByRecursion (Exists s.inputs) c.takes →
         IsTaskTyped g (reduce_task w n t s.inputs c p) }
     // A grouping channel is given pairs, and a lifted one pairs that its combiner takes.
     ensures given { (g : Signatures) (w : World) (n : Split) (types : PlanPlace → Ty) (t : Lists)
         (k r m i : ℕ) (s : Mscr) (c : Grouping) → IsWorldTyped g w → AreListsTyped types t →
-        IsStageFree (stage.Mscr s) → MscrTyped g types k s →
-        slice_get s.outputs r ≡ Some (Group c) →
+        MscrTyped g types k s → slice_get s.outputs r ≡ Some (Group c) →
         AllByRecursion (Exists s.inputs) c.takes → IsLiftOk c.lifted c.does →
         AreGroupable c.lifted (given_to w (map_task_of n t s.inputs m i) m c.takes) }
+    // Steps that are called beside an object emit to their first outputs alone.
+    ensures beside { (g : Signatures) (p : Plan) → IsPlanTyped g p → AreSidesFirst p }
 {}

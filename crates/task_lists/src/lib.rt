@@ -8,9 +8,14 @@
 //! in order of tasks (specs/Lists.antt).
 //!
 //! `tasks_law` ties the tasks to the plan's meaning: however many shards and partitions there are,
-//! the list of a collection has its bag, the tasks count the sizes of script nodes, and a task
-//! traps exactly where the plan has a trap, the first of them being one of the plan's
-//! (specs/Plans.antt). `numbers_law` and `first_law` say the same by the numbers of tasks.
+//! the list of a collection has its bag, the tasks count the sizes of script nodes, and a task or
+//! the making of an object traps exactly where the plan has a trap, the first of them being one of
+//! the plan's (specs/Plans.antt). `numbers_law` and `first_law` say the same by the numbers of
+//! tasks.
+//!
+//! A task of a channel beside an object has the object's value, and its steps are called beside it
+//! (`world_for`). A stage that makes an object has no tasks: its one list is the object's value. Of
+//! an object whose list is empty nothing is made (`empty_law`).
 //!
 //! Outs of map tasks (`IsMapOut`, specs/Outs.antt) may have accumulators in place of pairs.
 //! `outs_law` says what is gathered of them: what the reduce tasks need.
@@ -21,4 +26,4 @@
 
 mod laws;
 
-pub use laws::{first_law, numbers_law, outs_law, tasks_law, typed_law};
+pub use laws::{empty_law, first_law, numbers_law, outs_law, tasks_law, typed_law};

@@ -1,5 +1,5 @@
 -- The steps of a forest whose types fit may be called on the members of its type.
-use Rattle.std.proofs.Common.{ℕ, Option, Some, None, subst}
+use Rattle.std.proofs.Common.{ℕ, ◌<◌, List, [], ◌∷◌, length, Option, Some, None, sym, subst, arith}
 use Rattle.std.specs.List.{AllByRecursion}
 use Rattle.flume_value.specs.declared.value.Value.{Value}
 use Rattle.flume_value.proofs.EachLemmas.{each_from, Each-weaker}
@@ -13,14 +13,16 @@ use Rattle.exec_graph.specs.declared.step.Does.{Does}
 use Rattle.exec_graph.specs.declared.step.Does.TheVariants as does
 use Rattle.exec_graph.specs.Calls.{emitted}
 use Rattle.exec_graph.specs.Forests.{Forest, Bare, Grow}
+use Rattle.exec_graph.specs.Objects.{beside}
 use Rattle.exec_graph.specs.Typing.{Signatures, StepTyped, ForestTyped, IsCombined, IsWorldTyped}
 use Rattle.exec_graph.specs.World.{World}
 use Rattle.exec_graph.proofs.Typed.{step_typed}
-use Rattle.exec_plan.specs.Typing.{ChannelTyped}
+use Rattle.exec_plan.specs.Typing.{ChannelTyped, IsSideTyped}
 use Rattle.forest_steps.specs.Safety.{CanCall, Safe, SafeOf}
-use Rattle.task_lists.specs.Tasks.{Task}
-use Rattle.task_lists.specs.Typing.{IsTaskTyped}
-use Rattle.task_safety.specs.Taking.{Takes}
+use Rattle.task_lists.specs.Tasks.{Task, world_for}
+use Rattle.task_lists.specs.Typing.{IsTaskTyped, StepsTyped}
+use Rattle.task_lists.proofs.TypedSides.{side_takes}
+use Rattle.task_safety.specs.Taking.{Takes, taking}
 
 combine_taken : (c : Comb) (t u : Ty) → IsCombined c t u → (x : Value) → Has t x → IsGroup c x
 combine_taken c t u a x h =
@@ -56,9 +58,48 @@ module _ (s : Signatures) (w : World) (world : IsWorldTyped s w) where
   channel_safe outs n t None a x h = tt
   channel_safe outs n t (Some f) a x h = forest_safe outs n t f a x h
 
+  -- ---- beside a value
+
+  nothing_called : (v : World) (takes : ℕ → Value → Type 0) (xs : List Value)
+      → AllByRecursion (Safe v takes Bare) xs
+  nothing_called v takes [] = tt
+  nothing_called v takes (x ∷ xs) = (tt, nothing_called v takes xs)
+
+  side_safe : (outs : Place → Ty) (n : ℕ) (t object : Ty) (v : Value) → Has object v
+      → (f : Forest) → IsSideTyped s outs n t object f → (x : Value) → Has t x
+      → Safe (beside (Some v) w) (taking (Some v) (Takes s)) f x
+  side_safe outs n t object v held f typed x h =
+      let b : World = beside (Some v) w in
+      let takes : ℕ → Value → Type 0 = taking (Some v) (Takes s) in
+      subst (λ (g : Forest). Safe b takes g x) (sym typed.alone) (
+        subst (λ (d : Does). CanCall takes d x) (sym typed.calls)
+            (side_takes s w world outs n t object v held f typed x h),
+        nothing_called b takes (emitted b typed.label x),
+        tt,
+      )
+
+  steps_safe : (outs : Place → Ty) (n : ℕ) (t : Ty) (v : Option Value) (f : Option Forest)
+      → StepsTyped s outs n t v f → (x : Value) → Has t x
+      → SafeOf (beside v w) (taking v (Takes s)) f x
+  steps_safe outs n t None f a x h = channel_safe outs n t f a x h
+  steps_safe outs n t (Some v) None a x h = tt
+  steps_safe outs n t (Some v) (Some f) a x h =
+      side_safe outs n t a.0 v a.1 f a.2 x h
+
+  -- ---- of elements, if there are any
+
+  elements_safe : (outs : Place → Ty) (n : ℕ) (t : Ty) (v : Option Value) (f : Option Forest)
+      (xs : List Value) → (0 < length xs → StepsTyped s outs n t v f)
+      → AllByRecursion (Has t) xs
+      → AllByRecursion (SafeOf (beside v w) (taking v (Takes s)) f) xs
+  elements_safe outs n t v f [] a h = tt
+  elements_safe outs n t v f (x ∷ xs) a h =
+      Each-weaker (Has t) (SafeOf (beside v w) (taking v (Takes s)) f)
+      (steps_safe outs n t v f (a (omega arith))) (x ∷ xs) h
+
   pub task_safe : (task : Task) → IsTaskTyped s task
-      → AllByRecursion (SafeOf w (Takes s) task.does) task.elements
+      → AllByRecursion (SafeOf (world_for w task) (taking task.beside (Takes s)) task.does)
+      task.elements
   task_safe task a =
-      Each-weaker (Has a.element) (SafeOf w (Takes s) task.does)
-      (channel_safe a.outs a.node a.element task.does a.steps) task.elements
+      elements_safe a.outs a.node a.element task.beside task.does task.elements a.steps
       (each_from (Has a.element) task.elements a.members)

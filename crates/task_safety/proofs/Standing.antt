@@ -1,7 +1,6 @@
 -- Where a run of a plan stands before one of its stages.
 use Rattle.std.proofs.Common.{◌≡◌, ◌+◌, ℕ, zero, suc, inl, inr, List, [], ◌∷◌, ◌++◌, take, Some, slice_get, sym, subst, arith}
 use Rattle.std.specs.Prelude.{◌⊎◌}
-use Rattle.std.specs.List.{AllByRecursion as Each}
 use Rattle.std.proofs.lemmas.List.Elements.{All-nil}
 use Rattle.std.proofs.lemmas.Option.{none-some, same_Some}
 use Rattle.flume_value.specs.declared.value.Value.{Value}
@@ -12,7 +11,6 @@ use Rattle.exec_graph.specs.World.{World}
 use Rattle.exec_plan.specs.declared.plan.Plan.{Plan}
 use Rattle.exec_plan.specs.declared.plan.PlanPlace.{PlanPlace}
 use Rattle.exec_plan.specs.declared.plan.Stage.{Stage}
-use Rattle.exec_plan.specs.ObjectFree.{IsPlanObjectFree, IsStageFree}
 use Rattle.exec_plan.specs.Typing.{AreStagesTyped, StageTyped}
 use Rattle.exec_plan.specs.Wellformed.{AreStages, IsPlanOk, IsStageOk}
 use Rattle.task_lists.specs.Lists.{result_lists, run_lists, source_lists, with_lists}
@@ -29,14 +27,13 @@ module _ (signatures : Signatures) (w : World) (world : IsWorldTyped signatures 
     pub typed : StageTyped signatures types number s
     pub before : List Stage
     pub ok : IsStageOk sources before s
-    pub free : IsStageFree s
 
   here : (j : ℕ) (before stages : List Stage) (t : Lists) → AreListsTyped types t
       → AreStagesTyped signatures types j stages → AreStages sources before stages
-      → Each IsStageFree stages → (k : ℕ) (s : Stage) → slice_get stages k ≡ Some s
+      → (k : ℕ) (s : Stage) → slice_get stages k ≡ Some s
       → IsHere (j + k) s (run_lists w n j (take k stages) t)
-  here j before [] t lists typed ok free k s at = absurd (none-some s at)
-  here j before (x ∷ xs) t lists typed ok free zero s at =
+  here j before [] t lists typed ok k s at = absurd (none-some s at)
+  here j before (x ∷ xs) t lists typed ok zero s at =
       let first : j ≡ j + 0 = omega arith in
       let same = same_Some x s at in record {
         lists = lists;
@@ -44,15 +41,14 @@ module _ (signatures : Signatures) (w : World) (world : IsWorldTyped signatures 
             (subst (StageTyped signatures types j) same typed.0);
         before = before;
         ok = subst (IsStageOk sources before) same ok.0;
-        free = subst IsStageFree same free.0;
       }
-  here j before (x ∷ xs) t lists typed ok free (suc k) s at =
+  here j before (x ∷ xs) t lists typed ok (suc k) s at =
       let next : suc j + k ≡ j + suc k = omega arith in
       let results = result_lists w n t x in
       subst (λ i. IsHere i s (run_lists w n (suc j) (take k xs) (with_lists j results t))) next
       (here (suc j) (before ++ x ∷ []) xs (with_lists j results t)
-      (table_typed signatures w world types n t lists j sources before x free.0 typed.0 ok.0)
-      typed.1 ok.1 free.1 k s at)
+      (table_typed signatures w world types n t lists j sources before x typed.0 ok.0)
+      typed.1 ok.1 k s at)
 
 -- a list that was dropped has any type
 some_typed : (type : Ty) (xs ys : List Value) → (xs ≡ []) ⊎ (xs ≡ ys) → AllHave type ys
@@ -61,13 +57,13 @@ some_typed type xs ys (inl none) all = subst (AllHave type) (sym none) (All-nil 
 some_typed type xs ys (inr same) all = subst (AllHave type) (sym same) all
 
 pub can_run : (w : World) (takes : ℕ → Value → Type 0) (n : Split) (p : Plan) (k : ℕ) (s : Stage)
-    (t : Lists) → IsPlanOk p → IsPlanObjectFree p → IsTypedRun w takes p
+    (t : Lists) → IsPlanOk p → IsTypedRun w takes p
     → slice_get p.stages k ≡ Some s → AreSoFar w n p k t → CanRunStage w takes (k + 1) t s
-can_run w takes n p k s t ok free run at so_far =
+can_run w takes n p k s t ok run at so_far =
     let types = run.plan.0 in
     let it = here run.signatures w run.world types n p.sources 1 [] p.stages (source_lists w)
     (begin_typed run.signatures w types run.world run.plan.1.sources) run.plan.1.stages ok.stages
-    free k s at in
+    k s at in
     let number : 1 + k ≡ k + 1 = omega arith in record {
       signatures = run.signatures;
       types = types;
@@ -78,5 +74,4 @@ can_run w takes n p k s t ok free run at so_far =
       sources = p.sources;
       before = it.before;
       ok = it.ok;
-      free = it.free;
     }

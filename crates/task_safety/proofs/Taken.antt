@@ -1,15 +1,19 @@
 -- What may be called where functions take less, or answer alike.
-use Rattle.std.proofs.Common.{◌≡◌, ℕ, List, Option, Some, None}
+use Rattle.std.proofs.Common.{◌≡◌, ℕ, List, [], ◌∷◌, Option, Some, None, ap}
 use Rattle.std.specs.List.{AllByRecursion}
 use Rattle.flume_value.specs.declared.value.Value.{Value}
+use Rattle.flume_value.specs.declared.value.Value.TheVariants as value
 use Rattle.flume_value.proofs.EachLemmas.{Each-weaker}
+use Rattle.flume_collection.specs.Calls.{Called}
 use Rattle.exec_graph.specs.declared.step.Does.{Does}
 use Rattle.exec_graph.specs.declared.step.Does.TheVariants as does
 use Rattle.exec_graph.specs.Calls.{emitted}
 use Rattle.exec_graph.specs.Forests.{Forest, Bare, Grow}
+use Rattle.exec_graph.specs.Objects.{beside, naming}
 use Rattle.exec_graph.specs.World.{World}
 use Rattle.forest_steps.specs.Safety.{CanCall, Safe, SafeOf}
 use Rattle.forest_courses.proofs.Worlds.{same_safe_of}
+use Rattle.task_safety.specs.Taking.{taking}
 
 module _ (taken takes : ℕ → Value → Type 0) (more : (f : ℕ) (x : Value) → taken f x → takes f x)
   where
@@ -42,3 +46,27 @@ module _ (taken takes : ℕ → Value → Type 0) (more : (f : ℕ) (x : Value) 
     all_safe_more v w same f xs all =
         Each-weaker (SafeOf v taken f) (SafeOf w takes f)
         (λ x a. safe_of_more w f x (same_safe_of v w same taken f x a)) xs all
+
+-- ---- beside a value
+
+pub same_beside : (a : Option Value) (v w : World) → v.called ≡ w.called
+    → (beside a v).called ≡ (beside a w).called
+same_beside None v w same = same
+same_beside (Some a) v w same =
+    ap (λ (called : ℕ → Value → Called). λ (f : ℕ) (x : Value).
+    naming x (called f (value.Rec (x ∷ (a ∷ []))))) same
+
+more_beside : (a : Option Value) (taken takes : ℕ → Value → Type 0)
+    → ((f : ℕ) (x : Value) → taken f x → takes f x) → (f : ℕ) (x : Value)
+    → taking a taken f x → taking a takes f x
+more_beside None taken takes more f x h = more f x h
+more_beside (Some a) taken takes more f x h = more f (value.Rec (x ∷ (a ∷ []))) h
+
+pub all_safe_beside : (a : Option Value) (taken takes : ℕ → Value → Type 0)
+    → ((f : ℕ) (x : Value) → taken f x → takes f x) → (v w : World) → v.called ≡ w.called
+    → (f : Option Forest) (xs : List Value)
+    → AllByRecursion (SafeOf (beside a v) (taking a taken) f) xs
+    → AllByRecursion (SafeOf (beside a w) (taking a takes) f) xs
+all_safe_beside a taken takes more v w same f xs all =
+    all_safe_more (taking a taken) (taking a takes) (more_beside a taken takes more) (beside a v)
+    (beside a w) (same_beside a v w same) f xs all

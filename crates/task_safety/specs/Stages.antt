@@ -7,7 +7,6 @@ use Rattle.exec_graph.specs.World.{World}
 use Rattle.exec_plan.specs.declared.plan.Plan.{Plan}
 use Rattle.exec_plan.specs.declared.plan.PlanPlace.{PlanPlace}
 use Rattle.exec_plan.specs.declared.plan.Stage.{Stage}
-use Rattle.exec_plan.specs.ObjectFree.{IsStageFree}
 use Rattle.exec_plan.specs.Typing.{IsPlanTyped, StageTyped}
 use Rattle.exec_plan.specs.Wellformed.{IsStageOk}
 use Rattle.task_lists.specs.Lists.{run_lists, source_lists}
@@ -31,8 +30,6 @@ pub record CanRunStage (w : World) (takes : ℕ → Value → Type 0) (k : ℕ) 
   pub sources : ℕ
   pub before : List Stage
   pub ok : IsStageOk sources before s
-  -- and it needs no object
-  pub free : IsStageFree s
 
 -- ---- a run
 

@@ -10,6 +10,8 @@ use Rattle.combine_table.specs.declared.comb.Comb.{Comb}
 use Rattle.partial_tables.specs.Merges.{IsCombinable}
 use Rattle.shards.specs.Shards.{shard}
 use Rattle.shards.proofs.Alike.{flat_map-itself}
+use Rattle.flume_value.specs.declared.value.Value.TheVariants as value
+use Rattle.exec_graph.specs.Objects.{beside}
 use Rattle.exec_graph.specs.World.{World}
 use Rattle.exec_plan.specs.Wellformed.{Exists, IsNumbered, outs_at}
 use Rattle.exec_plan.specs.declared.plan.PlanPlace.TheVariants as at
@@ -18,11 +20,12 @@ use Rattle.exec_plan.specs.declared.plan.InChannel.{InChannel}
 use Rattle.exec_plan.specs.declared.plan.OutChannel.{OutChannel}
 use Rattle.exec_plan.specs.declared.plan.OutChannel.TheVariants.{Group, Pass}
 use Rattle.task_lists.specs.Runs.{gives}
-use Rattle.task_lists.specs.Tasks.{Lists, Split, given_to, map_task, map_task_of}
+use Rattle.task_lists.specs.Tasks.{Lists, Split, given_to, map_task, map_task_of, value_beside, world_for}
 use Rattle.task_lists.specs.Typing.{AreGroupable}
 use Rattle.forest_steps.specs.Safety.{Safe, SafeOf}
+use Rattle.task_safety.specs.Taking.{taking}
 use Rattle.map_shard.specs.Work.{CanWork, IsFit, Work, lists_of}
-use Rattle.task_tests.specs.Stages.{two_calls, plain_input, called_input, IsFirst, IsFitFor, first_take}
+use Rattle.task_tests.specs.Stages.{two_calls, plain_input, called_input, beside_input, IsFirst, IsFitFor, first_take}
 
 pub each_all : {A : Type 0} (P : A → Type 0) → ((x : A) → P x) → (xs : List A) → Each P xs
 each_all P h [] = tt
@@ -84,7 +87,9 @@ module _ (w : World) (takes : ℕ → Value → Type 0) (n : Split) (t : Lists)
   abbrev Ready : List InChannel → Type 0
   Ready ins =
       (m i : ℕ) → m < length ins
-      → Each (SafeOf w takes (map_task_of n t ins m i).does) (map_task_of n t ins m i).elements
+      → Each (SafeOf (world_for w (map_task_of n t ins m i))
+      (taking (map_task_of n t ins m i).beside takes) (map_task_of n t ins m i).does)
+      (map_task_of n t ins m i).elements
       × Each (IsFit ins (given_to w (map_task_of n t ins m i) m)) outs
 
   plain_at : Each (IsFitFor (t (at.Source 0))) outs → Ready (plain_input ∷ [])
@@ -113,6 +118,24 @@ called_at w takes n t all zero i h = (
   (omega arith, tt),
 )
 called_at w takes n t all (suc m) i h = absurd (omega (arith, h))
+
+-- beside a value too
+all_taken : (takes : ℕ → Value → Type 0) → ((f : ℕ) (x : Value) → takes f x) → (v : Option Value)
+    → (f : ℕ) (x : Value) → taking v takes f x
+all_taken takes all None f x = all f x
+all_taken takes all (Some v) f x = all f (value.Rec (x ∷ (v ∷ [])))
+
+beside_at : (w : World) (takes : ℕ → Value → Type 0) (n : Split) (t : Lists)
+    → ((f : ℕ) (x : Value) → takes f x)
+    → Ready w takes n t (Pass first_take 0 ∷ []) (beside_input ∷ [])
+beside_at w takes n t all zero i h =
+    let v : Option Value = value_beside t (Some (at.Source 1)) in (
+      each_all (SafeOf (beside v w) (taking v takes) (Some two_calls))
+          (safe_calls (beside v w) (taking v takes) (all_taken takes all v))
+          (map_task n t beside_input i).elements,
+      (omega arith, tt),
+    )
+beside_at w takes n t all (suc m) i h = absurd (omega (arith, h))
 
 can_work : {F : Type 0} (w : World) (takes : ℕ → Value → Type 0) (work : Work F) (c : InChannel)
     → 0 < work.shards → 0 < work.partitions → work.shards < 2 ^ 32
@@ -150,3 +173,13 @@ called_work w takes work all s p few e out =
     can_work w takes work called_input s p few e refl
     (subst (λ (os : List OutChannel). Ready w takes n (lists_of work) os (called_input ∷ []))
     (sym out) (called_at w takes n (lists_of work) all))
+
+pub beside_work : {F : Type 0} (w : World) (takes : ℕ → Value → Type 0) (work : Work F)
+    → ((f : ℕ) (x : Value) → takes f x) → 0 < work.shards → 0 < work.partitions
+    → work.shards < 2 ^ 32 → work.stage.inputs ≡ beside_input ∷ []
+    → work.stage.outputs ≡ Pass first_take 0 ∷ [] → CanWork w takes work
+beside_work w takes work all s p few e out =
+    let n : Split = record { shards = work.shards; partitions = work.partitions } in
+    can_work w takes work beside_input s p few e refl
+    (subst (λ (os : List OutChannel). Ready w takes n (lists_of work) os (beside_input ∷ []))
+    (sym out) (beside_at w takes n (lists_of work) all))

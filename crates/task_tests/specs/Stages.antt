@@ -45,6 +45,10 @@ plain_input = record { reads = at.Source 0; beside = None; does = None }
 abbrev pub called_input : InChannel
 called_input = record { reads = at.Source 0; beside = None; does = Some two_calls }
 
+-- the same, where the second source is an object, beside which the calls are made
+abbrev pub beside_input : InChannel
+beside_input = record { reads = at.Source 0; beside = Some (at.Source 1); does = Some two_calls }
+
 -- the one output of the one input channel
 abbrev pub IsFirst : Take → Type 0
 IsFirst k = (k.channel ≡ 0) × (k.out ≡ 0)

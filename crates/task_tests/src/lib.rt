@@ -7,6 +7,8 @@ mod called;
 #[cfg(test)]
 mod maps;
 #[cfg(test)]
+mod objects;
+#[cfg(test)]
 mod outs;
 #[cfg(test)]
 mod parts;

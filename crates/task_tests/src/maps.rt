@@ -6,7 +6,9 @@ ghost use Rattle.partial_tables.specs.Merges.{IsCombinable};
 ghost use Rattle.map_shard.specs.Work.{work_count};
 
 use crate::called::{Called, calm, trapping};
-use crate::stages::{calling, calling_tasks, groups, plain, plain_tasks, takes};
+use crate::stages::{
+    beside_tasks, calling, calling_beside, calling_tasks, groups, plain, plain_tasks, takes,
+};
 use crate::wanted::{Trapped, is_trap, is_wide};
 use bag_groups::pair;
 use combine_table::Comb;
@@ -292,5 +294,35 @@ fn the_first_element_that_traps_is_named(rt: HostRuntime) -> Result<(), Fail> {
     ] {
         assert!(rt; is_called(alloc, first, second, wanted)?);
     }
+    Ok(())
+}
+
+fn some_ints(alloc: Global, numbers: &[i64]) -> Result<Items, AllocError> {
+    let mut ints = Pile::new(alloc);
+    for n in numbers {
+        ints.push(Value::Int(*n))?;
+    }
+    Ok(ints)
+}
+
+// Whether the two calls make this of 1, 2 and 3 beside an object, whose list is this, where the
+// first traps on the record of an int and 9.
+fn is_beside(alloc: Global, bad: i64, object: &[i64], wanted: Wanted) -> Result<bool, AllocError> {
+    let record = pair(alloc, Value::Int(bad), Value::Int(9))?;
+    let functions = trapping(alloc, record, Value::Int(-1))?;
+    let mut sources = Vec::new(alloc);
+    sources.push(to_three(alloc)?)?;
+    sources.push(some_ints(alloc, object)?)?;
+    let stage = calling_beside(alloc)?;
+    let tasks = beside_tasks(&functions, &sources, &stage);
+    is_made(alloc, &tasks, 0, wanted)
+}
+
+#[test]
+fn a_trap_beside_an_object_names_the_element(rt: HostRuntime) -> Result<(), Fail> {
+    let alloc = rt.alloc();
+    assert!(rt; is_beside(alloc, 2, &[9], Wanted::Trap(Trapped::Int(1, 2)))?);
+    assert!(rt; is_beside(alloc, 2, &[8], Wanted::Out)?);
+    assert!(rt; is_beside(alloc, 2, &[], Wanted::Out)?);
     Ok(())
 }

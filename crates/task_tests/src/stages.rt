@@ -6,7 +6,7 @@ ghost use Rattle.exec_plan.specs.declared.plan.OutChannel.TheVariants.{Group, Pa
 ghost use Rattle.exec_plan.specs.declared.plan.PlanPlace.TheVariants.{Source};
 ghost use Rattle.map_shard.specs.Work.{work_count};
 ghost use Rattle.reduce_part.specs.Reducing.{reducing_count};
-ghost use Rattle.task_tests.specs.Stages.{two_calls, sums as sums_is, plain_input, called_input, IsFirst, IsFitFor, first_take, called_groups as called_groups_is, lifted_sums as lifted_sums_is, HavePairs, HaveSums};
+ghost use Rattle.task_tests.specs.Stages.{two_calls, sums as sums_is, plain_input, called_input, beside_input, IsFirst, IsFitFor, first_take, called_groups as called_groups_is, lifted_sums as lifted_sums_is, HavePairs, HaveSums};
 
 use crate::called::Called;
 use combine_table::Comb;
@@ -138,6 +138,20 @@ pub fn calling(alloc: Global) -> Result<Mscr, AllocError>
     Ok(stage)
 }
 
+/// A stage that passes what the two calls give of the first source beside the second.
+pub fn calling_beside(alloc: Global) -> Result<Mscr, AllocError>
+    ensures inputs { IfOk result (λ stage. stage.inputs ≡ beside_input ∷ []) }
+    ensures outputs { IfOk result (λ stage. stage.outputs ≡ Pass first_take 0 ∷ []) }
+{
+    let input = InChannel {
+        reads: PlanPlace::Source(0),
+        beside: Some(PlanPlace::Source(1)),
+        does: Some(calls(alloc)?),
+    };
+    let stage = stage(alloc, input, OutChannel::Pass(FIRST, 0))?;
+    Ok(stage)
+}
+
 /// A stage whose groups are given to the two calls.
 pub fn called_groups(alloc: Global) -> Result<Mscr, AllocError>
     ensures inputs { IfOk result (λ stage. stage.inputs ≡ plain_input ∷ []) }
@@ -181,6 +195,19 @@ pub fn calling_tasks<'a>(
     stage: &'a Mscr,
 ) -> MapTasks<'a, Called>
     requires inputs { stage.now.inputs ≡ called_input ∷ [] }
+    requires outputs { stage.now.outputs ≡ Pass first_take 0 ∷ [] }
+    ensures { work_count result ≡ 1 }
+{
+    MapTasks::new(functions, sources, &[], stage, 1, 1)
+}
+
+/// The one map task of a stage that gives the first source to the two calls beside the second.
+pub fn beside_tasks<'a>(
+    functions: &'a Called,
+    sources: &'a [Items],
+    stage: &'a Mscr,
+) -> MapTasks<'a, Called>
+    requires inputs { stage.now.inputs ≡ beside_input ∷ [] }
     requires outputs { stage.now.outputs ≡ Pass first_take 0 ∷ [] }
     ensures { work_count result ≡ 1 }
 {

@@ -71,6 +71,9 @@ keyword_passes keyword.Empty = refl
 keyword_passes keyword.Repeat = refl
 keyword_passes keyword.As = refl
 keyword_passes keyword.Give = refl
+keyword_passes keyword.Combineall = refl
+keyword_passes keyword.Operate = refl
+keyword_passes keyword.With = refl
 
 word_from : (w : List ℕ) → passes w ≡ true → IsWord w
 word_from w e =

@@ -12,14 +12,14 @@ abbrev pub has_traps : List Trap → Bool
 has_traps [] = false
 has_traps (trap ∷ traps) = true
 
--- these members, but none where a trap is behind them
-abbrev pub unless_behind : Bool → List Value → List Value
+-- these, but none where a trap is behind them
+abbrev pub unless_behind : {X : Type 0} → Bool → List X → List X
 unless_behind true members = []
 unless_behind false members = members
 
 -- its members are kept of a collection, and whether it has a trap
 pub record Keeps (kept : Kept) (c : Collection) : Type 0 where
-  pub members : kept.members.items ≡ c.bag
+  pub members : kept.members ≡ c.bag
   pub trapped : kept.trapped ≡ has_traps c.traps
 
 abbrev pub KeepsAny : Option Kept → Option Collection → Type 0
@@ -35,7 +35,7 @@ kept_in table number = option_flatten (slice_get table number)
 
 abbrev pub members_of : Option Kept → List Value
 members_of None = []
-members_of (Some kept) = kept.members.items
+members_of (Some kept) = kept.members
 
 abbrev pub is_trapped : Option Kept → Bool
 is_trapped None = false
@@ -44,11 +44,11 @@ is_trapped (Some kept) = kept.trapped
 -- the members are kept, where there are any
 abbrev pub bag_kept : Option Kept → Option (List Value)
 bag_kept None = None
-bag_kept (Some kept) = Some kept.members.items
+bag_kept (Some kept) = Some kept.members
 
 -- how many members are kept, as far as 64 bits count
 abbrev pub size_kept : Kept → ℕ
-size_kept kept = min (length kept.members.items) (2 ^ 64 - 1)
+size_kept kept = min (length kept.members) (2 ^ 64 - 1)
 
 -- the name and the size of a collection, where it is kept
 abbrev pub size_line : List ℕ → Option Kept → List (List ℕ × ℕ)

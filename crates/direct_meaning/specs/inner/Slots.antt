@@ -26,23 +26,22 @@ abbrev pub trapped_by : ℕ → Option Called → List Trap
 trapped_by origin None = []
 trapped_by origin (Some called) = trap_of origin called
 
--- the traps of the calls of a function on elements
-abbrev pub traps_on : ℕ → Function → List Value → List Trap
-traps_on origin function elements =
-    flat_map (λ x. trapped_by origin (answer_of function x)) elements
+-- the traps of calls on elements that are answered so
+abbrev pub traps_on : ℕ → (Value → Option Called) → List Value → List Trap
+traps_on origin answer elements = flat_map (λ x. trapped_by origin (answer x)) elements
 
--- What is kept is what the calls of a function on what was kept before emit to an output, and the
--- traps found are those before, and theirs.
-pub record IsDoneBy (origin output : ℕ) (function : Function) (source result : Kept)
+-- What is kept is what calls on what was kept before emit to an output, where they are answered so,
+-- and the traps found are those before, and theirs.
+pub record IsDoneBy (origin output : ℕ) (answer : Value → Option Called) (source result : Kept)
     (before after : List Trap) : Type 0 where
-  pub members : result.members.items
-      ≡ bag_of (flat_map (λ x. emitted_by output (answer_of function x)) source.members.items)
-  pub found : after ≡ before ++ traps_on origin function source.members.items
+  pub members : result.members
+      ≡ bag_of (flat_map (λ x. emitted_by output (answer x)) source.members)
+  pub found : after ≡ before ++ traps_on origin answer source.members
   pub trapped : result.trapped
-      ≡ (source.trapped || has_traps (traps_on origin function source.members.items))
+      ≡ (source.trapped || has_traps (traps_on origin answer source.members))
 
--- the same, where there is memory
+-- the same of a function, where there is memory
 abbrev pub IsDone : {E : Type 0} → ℕ → ℕ → Function → Kept → List Trap → Result Kept E → List Trap
     → Type 0
 IsDone origin output function source before result after =
-    IfOk result (λ kept. IsDoneBy origin output function source kept before after)
+    IfOk result (λ kept. IsDoneBy origin output (answer_of function) source kept before after)

@@ -42,6 +42,8 @@ keyword_operation keyword.Flatten = Some begin.Flatten
 keyword_operation keyword.Count = Some begin.Count
 keyword_operation keyword.Join = Some begin.Join
 keyword_operation keyword.Top = Some begin.Top
+keyword_operation keyword.Combineall = Some begin.CombineAll
+keyword_operation keyword.Operate = Some begin.Operate
 keyword_operation _ = None
 
 abbrev pub of_keyword : {A : Type 0} → (Keyword → Option A) → TokenKind → Option A
@@ -81,10 +83,29 @@ after_combiner combining.Top ts = bind (one number_at ts) (λ n us. give (combin
 abbrev pub combiner_at : List Token → Out Combiner
 combiner_at ts = bind (one combiner_start ts) (λ s us. after_combiner s us)
 
-abbrev pub combine : List Token → Out Operation
-combine ts =
+-- a collection, and the combiner behind it
+abbrev pub by_combiner : List Token → Out (List ℕ × Combiner)
+by_combiner ts =
     bind (one name_at ts) (λ c us. bind (one (keyword_at keyword.By) us)
-    (λ _ vs. bind (combiner_at vs) (λ k ws. give (operation.Combine c k) ws)))
+    (λ _ vs. bind (combiner_at vs) (λ k ws. give (c, k) ws)))
+
+abbrev pub object : List Token → Out (Option (List ℕ))
+object ts = bind (one name_at ts) (λ o us. give (Some o) us)
+
+-- the object behind `with`, where that stands next
+abbrev pub beside : List Token → Out (Option (List ℕ))
+beside ts = if is_at_keyword keyword.With (next ts) then bind (one (keyword_at keyword.With) ts)
+    (λ _ us. object us) else give None ts
+
+-- a function of a collection's members, beside an object or alone
+abbrev pub applied : List ℕ → List ℕ → Option (List ℕ) → Operation
+applied c f (Some o) = operation.DoWith c f o
+applied c f None = operation.Do c f
+
+abbrev pub apply : List Token → Out Operation
+apply ts =
+    bind (one name_at ts) (λ c us. bind (one name_at us)
+    (λ f vs. bind (beside vs) (λ o ws. give (applied c f o) ws)))
 
 abbrev pub join : List Token → Out Operation
 join ts =
@@ -144,21 +165,28 @@ module _ (limits : Limits) where
   next_input xs ts = bind (one (comma_at (length xs) limits.inputs) ts)
       (λ _ us. bind (one name_at us) (λ x vs. give (xs ++ x ∷ []) vs))
 
-  abbrev pub flatten : List Token → Out Operation
-  flatten ts =
-      bind (one name_at ts) (λ x us. bind (all_of at_comma next_input (x ∷ []) us)
-      (λ xs vs. give (operation.Flatten xs) vs))
+  -- one name or more, at most as many as the limit
+  abbrev pub inputs : List Token → Out (List (List ℕ))
+  inputs ts = bind (one name_at ts) (λ x us. all_of at_comma next_input (x ∷ []) us)
+
+  abbrev pub operate : List Token → Out Operation
+  operate ts =
+      bind (inputs ts) (λ xs us. bind (one (keyword_at keyword.By) us)
+      (λ _ vs. bind (one name_at vs) (λ f ws. give (operation.Operate xs f) ws)))
 
   abbrev pub after_begin : OperationStart → List Token → Out Operation
-  after_begin begin.Do ts =
-      bind (one name_at ts) (λ c us. bind (one name_at us) (λ f vs. give (operation.Do c f) vs))
+  after_begin begin.Do ts = apply ts
   after_begin begin.Group ts = bind (one name_at ts) (λ c us. give (operation.Group c) us)
-  after_begin begin.Combine ts = combine ts
-  after_begin begin.Flatten ts = flatten ts
+  after_begin begin.Combine ts =
+      bind (by_combiner ts) (λ x us. give (operation.Combine x.0 x.1) us)
+  after_begin begin.Flatten ts = bind (inputs ts) (λ xs us. give (operation.Flatten xs) us)
   after_begin begin.Count ts = bind (one name_at ts) (λ c us. give (operation.Count c) us)
   after_begin begin.Join ts = join ts
   after_begin begin.Top ts =
       bind (one number_at ts) (λ n us. bind (one name_at us) (λ c vs. give (operation.Top n c) vs))
+  after_begin begin.CombineAll ts =
+      bind (by_combiner ts) (λ x us. give (operation.CombineAll x.0 x.1) us)
+  after_begin begin.Operate ts = operate ts
 
   abbrev pub operation_at : List Token → Out Operation
   operation_at ts = bind (one operation_start ts) (λ s us. after_begin s us)

@@ -1,5 +1,5 @@
 -- Accumulators, merged by key, in place of groups.
-use Rattle.std.specs.Prelude.{◌≡◌, ℕ, List, Option, Result, map}
+use Rattle.std.specs.Prelude.{◌≡◌, ℕ, List, None, Option, Result, map}
 use Rattle.std.specs.List.{AllByRecursion}
 use Rattle.flume_value.specs.declared.value.Value.{Value}
 use Rattle.flume_collection.specs.declared.trap.Trap.{Trap}
@@ -32,4 +32,4 @@ abbrev pub IsValueOf : (ℕ → Value → Called) → Option Forest → List Val
     → Type 0
 IsValueOf called does groups out =
     (w : World) → w.called ≡ called
-    → IsReduceValue w (record { elements = groups; does = does }) out
+    → IsReduceValue w (record { elements = groups; beside = None; does = does }) out

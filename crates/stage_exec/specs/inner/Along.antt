@@ -5,7 +5,6 @@ use Rattle.std.specs.List.{AllByRecursion, AllZip}
 use Rattle.crew.specs.Hosts.{Account, Grew}
 use Rattle.exec_graph.specs.Typing.{IsWorldTyped, Signatures}
 use Rattle.exec_graph.specs.World.{World}
-use Rattle.exec_plan.specs.ObjectFree.{IsStageFree}
 use Rattle.exec_plan.specs.Typing.{AreStagesTyped}
 use Rattle.exec_plan.specs.Wellformed.{AreStages}
 use Rattle.exec_plan.specs.declared.plan.PlanPlace.{PlanPlace}
@@ -13,7 +12,7 @@ use Rattle.exec_plan.specs.declared.plan.Stage.{Stage}
 use Rattle.flume_types.specs.declared.types.Ty.{Ty}
 use Rattle.flume_value.specs.declared.value.Value.{Value}
 use Rattle.map_shard.specs.Tables.{table}
-use Rattle.plan_phases.specs.Phases.{PhaseTasks, phases_from}
+use Rattle.plan_phases.specs.Phases.{PlanPhase, phases_from}
 use Rattle.plan_phases.specs.Told.{HaveRun}
 use Rattle.plan_phases.specs.declared.winners.PhaseWinners.{PhaseWinners}
 use Rattle.run_settings.specs.Settings.{RunSettings}
@@ -24,6 +23,7 @@ use Rattle.task_lists.specs.Tasks.{Lists}
 use Rattle.task_lists.specs.Typing.{AreListsTyped}
 use Rattle.task_safety.specs.Taking.{Takes}
 use Rattle.stage_exec.specs.Executions.{split_of}
+use Rattle.stage_exec.specs.inner.Objects.{GivesObject}
 use Rattle.stage_exec.specs.inner.Reads.{AgreeOn}
 
 -- the stages from number k on can be run, one after another, over the lists that they find
@@ -38,7 +38,7 @@ pub record CanGoOn (w : World) (takes : ℕ → Value → Type 0) (k : ℕ) (sta
   pub lists : AreListsTyped types t
   pub typed : AreStagesTyped signatures types k stages
   pub ok : AreStages sources before stages
-  pub free : AllByRecursion IsStageFree stages
+  pub objects : AllByRecursion GivesObject stages
 
 module _ (s : RunSettings) (w : World) where
   -- the lists of all collections, when the stages from number k on have run over these
@@ -46,7 +46,7 @@ module _ (s : RunSettings) (w : World) where
   lists_after k stages t = run_lists w (split_of s) k stages t
 
   -- the phases of these stages
-  abbrev pub phases_on : ℕ → List Stage → Lists → List PhaseTasks
+  abbrev pub phases_on : ℕ → List Stage → Lists → List PlanPhase
   phases_on k stages t = phases_from w (split_of s) k stages t
 
   -- what their tasks count for script node i
@@ -70,7 +70,7 @@ module _ (s : RunSettings) (w : World) where
     pub counts : (i : ℕ)
         → counted i + counted_on (suc k) (drop k stages) (table sources results) i
         ≡ counted_on 1 stages (source_lists w) i
-    pub ran : List PhaseTasks
+    pub ran : List PlanPhase
     pub have_run : HaveRun s.tries s.drill w ran olds news before told
     pub phases : ran ++ phases_on (suc k) (drop k stages) (table sources results)
         ≡ phases_on 1 stages (source_lists w)

@@ -1,5 +1,5 @@
 -- Counts by owner, and owners step by step.
-use Rattle.std.specs.Prelude.{ℕ, ◌+◌, ◌==◌, cond, List, [], ◌∷◌, ◌++◌, Option, Some, None}
+use Rattle.std.specs.Prelude.{ℕ, ◌+◌, ◌==◌, Bool, cond, List, [], ◌∷◌, ◌++◌, Option, Some, None}
 use Rattle.std.proofs.Common.{suc}
 use Rattle.exec_graph.specs.Forests.{Branch, Twig}
 use Rattle.exec_plan.specs.declared.plan.Grouping.{Grouping}
@@ -21,6 +21,10 @@ owner_at b at = cond b.last (Some (kept_count (b.origin + at))) None
 
 abbrev pub group_owner : Grouping → Option ℕ
 group_owner g = cond g.last (Some g.origin) None
+
+-- of an object of script node o, which is its own bag or not
+abbrev pub object_owner : ℕ → Bool → Option ℕ
+object_owner o last = cond last (Some o) None
 
 -- the owners of a step's outputs from place n on, and of the steps on them
 abbrev pub twigs_owners : Branch → ℕ → List Twig → List (Option ℕ)

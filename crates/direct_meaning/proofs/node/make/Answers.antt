@@ -7,9 +7,12 @@ use Rattle.flume_collection.specs.declared.trap.Trap.{Trap}
 use Rattle.script_program.specs.declared.made.Made.TheVariants as made
 use Rattle.direct_meaning.proofs.ArmLemmas.{combine_goes, combine_read, count_goes, count_read, do_goes, do_read, flatten_goes, group_goes, group_read, input_goes, input_left, join_goes, left_read, right_read, top_goes, top_read}
 use Rattle.direct_meaning.proofs.HereLemmas.{here_at}
+use Rattle.direct_meaning.proofs.ObjectArms.{beside_goes, beside_read, beside_typed, operate_goes, operate_read, operate_typed, whole_goes, whole_read, whole_suits}
 use Rattle.direct_meaning.proofs.ReadLemmas.{any_ascending, called_read, function_within, groups_read, pairs_read, table_ascending}
 use Rattle.direct_meaning.proofs.ResultLemmas.{if_all, if_both}
+use Rattle.direct_meaning.specs.Calls.{answer_of}
 use Rattle.direct_meaning.specs.inner.Kept.{is_trapped, kept_in, members_of}
+use Rattle.direct_meaning.specs.inner.Objects.{IsOperated, values_in}
 use Rattle.direct_meaning.specs.inner.Stands.{Stands}
 use Rattle.direct_meaning.proofs.node.make.Goals as goal
 
@@ -273,3 +276,121 @@ returns-in-Do c rows stands =
     do_goes c.in-Do.source c.in-Do.function c.in-Do.output here c.kept_at-source.result.now
     c.kept_at-source.ensures kept c.done.new.traps.items done)
     (c.done.ensures it.function it.at)
+
+-- ---- all members combined
+
+pub kept_at-requires-in-CombineAll : goal.kept_at-requires-in-CombineAll
+kept_at-requires-in-CombineAll c =
+    let here = here_at c.args.program.now.known.types c.node.result.now
+    (made.CombineAll c.in-CombineAll.source c.in-CombineAll.by) c.requires.well_formed
+    c.requires.stands.1 c.requires.needed c.node.ensures.is c.in-CombineAll.is in
+    let it = (whole_read c.in-CombineAll.source c.in-CombineAll.by here).from in (it.held, it.at)
+
+pub combined_whole-requires : goal.combined_whole-requires
+combined_whole-requires c =
+    let here = here_at c.args.program.now.known.types c.node.result.now
+    (made.CombineAll c.in-CombineAll.source c.in-CombineAll.by) c.requires.well_formed
+    c.requires.stands.1 c.requires.needed c.node.ensures.is c.in-CombineAll.is in
+    whole_suits c.in-CombineAll.source c.in-CombineAll.by here
+    c.kept_at-in-CombineAll.result.now c.kept_at-in-CombineAll.ensures
+
+pub returns-in-CombineAll : goal.returns-in-CombineAll
+returns-in-CombineAll c rows stands =
+    let here = here_at c.args.program.now.known.types c.node.result.now
+    (made.CombineAll c.in-CombineAll.source c.in-CombineAll.by) c.requires.well_formed stands
+    c.requires.needed c.node.ensures.is c.in-CombineAll.is in
+    if_all c.combined_whole.result _ _ _ _
+    (λ kept members trapped found.
+    whole_goes c.in-CombineAll.source c.in-CombineAll.by here
+    c.kept_at-in-CombineAll.result.now c.kept_at-in-CombineAll.ensures kept
+    c.combined_whole.new.traps.items members trapped found)
+    c.combined_whole.ensures.members c.combined_whole.ensures.trapped
+    c.combined_whole.ensures.traps
+
+-- ---- a call on objects
+
+pub operated-requires-clause-below : goal.operated-requires-clause-below
+operated-requires-clause-below c =
+    let here = here_at c.args.program.now.known.types c.node.result.now
+    (made.Operate c.in-Operate.objects c.in-Operate.function) c.requires.well_formed
+    c.requires.stands.1 c.requires.needed c.node.ensures.is c.in-Operate.is in
+    let it = operate_read c.in-Operate.objects c.in-Operate.function here in
+    function_within c.args.program.now.script.functions c.in-Operate.function it.function it.at
+
+pub operated-requires-clause-typed : goal.operated-requires-clause-typed
+operated-requires-clause-typed c f vs at is =
+    let here = here_at c.args.program.now.known.types c.node.result.now
+    (made.Operate c.in-Operate.objects c.in-Operate.function) c.requires.well_formed
+    c.requires.stands.1 c.requires.needed c.node.ensures.is c.in-Operate.is in
+    operate_typed c.in-Operate.objects c.in-Operate.function here f vs at
+    (ap (λ (l : List ℕ). values_in c.args.table.now l) (sym c.as_slice-objects.ensures) ∙ is)
+
+pub returns-in-Operate : goal.returns-in-Operate
+returns-in-Operate c rows stands =
+    let here = here_at c.args.program.now.known.types c.node.result.now
+    (made.Operate c.in-Operate.objects c.in-Operate.function) c.requires.well_formed stands
+    c.requires.needed c.node.ensures.is c.in-Operate.is in
+    let it = operate_read c.in-Operate.objects c.in-Operate.function here in
+    IfOk-weaker c.operated.result _ _
+    (λ kept done.
+    operate_goes c.in-Operate.objects c.in-Operate.function here kept
+    c.operated.new.traps.items
+    (subst
+    (λ (l : List ℕ). IsOperated c.args.number (answer_of it.function) c.args.table.now l kept
+    c.args.traps.now.items c.operated.new.traps.items)
+    c.as_slice-objects.ensures done))
+    (c.operated.ensures it.function it.at)
+
+-- ---- calls beside an object
+
+pub kept_at-source-requires-in-DoWith : goal.kept_at-source-requires-in-DoWith
+kept_at-source-requires-in-DoWith c =
+    let here = here_at c.args.program.now.known.types c.node.result.now
+    (made.DoWith c.in-DoWith.source c.in-DoWith.function c.in-DoWith.object)
+    c.requires.well_formed c.requires.stands.1 c.requires.needed c.node.ensures.is
+    c.in-DoWith.is in
+    let it = (beside_read c.in-DoWith.source c.in-DoWith.function c.in-DoWith.object here).from in
+    (it.held, it.at)
+
+pub kept_at-object-requires : goal.kept_at-object-requires
+kept_at-object-requires c =
+    let here = here_at c.args.program.now.known.types c.node.result.now
+    (made.DoWith c.in-DoWith.source c.in-DoWith.function c.in-DoWith.object)
+    c.requires.well_formed c.requires.stands.1 c.requires.needed c.node.ensures.is
+    c.in-DoWith.is in
+    let it = (beside_read c.in-DoWith.source c.in-DoWith.function c.in-DoWith.object here).beside
+    in
+    (it.held, it.at)
+
+pub done_beside-requires-clause-below : goal.done_beside-requires-clause-below
+done_beside-requires-clause-below c =
+    let here = here_at c.args.program.now.known.types c.node.result.now
+    (made.DoWith c.in-DoWith.source c.in-DoWith.function c.in-DoWith.object)
+    c.requires.well_formed c.requires.stands.1 c.requires.needed c.node.ensures.is
+    c.in-DoWith.is in
+    let it = beside_read c.in-DoWith.source c.in-DoWith.function c.in-DoWith.object here in
+    function_within c.args.program.now.script.functions c.in-DoWith.function it.function it.at
+
+pub done_beside-requires-clause-typed : goal.done_beside-requires-clause-typed
+done_beside-requires-clause-typed c =
+    let here = here_at c.args.program.now.known.types c.node.result.now
+    (made.DoWith c.in-DoWith.source c.in-DoWith.function c.in-DoWith.object)
+    c.requires.well_formed c.requires.stands.1 c.requires.needed c.node.ensures.is
+    c.in-DoWith.is in
+    beside_typed c.in-DoWith.source c.in-DoWith.function c.in-DoWith.object here
+    c.kept_at-source-in-DoWith.result.now c.kept_at-object.result.now
+    c.kept_at-source-in-DoWith.ensures c.kept_at-object.ensures
+
+pub returns-in-DoWith : goal.returns-in-DoWith
+returns-in-DoWith c rows stands =
+    let here = here_at c.args.program.now.known.types c.node.result.now
+    (made.DoWith c.in-DoWith.source c.in-DoWith.function c.in-DoWith.object)
+    c.requires.well_formed stands c.requires.needed c.node.ensures.is c.in-DoWith.is in
+    let it = beside_read c.in-DoWith.source c.in-DoWith.function c.in-DoWith.object here in
+    IfOk-weaker c.done_beside.result _ _
+    (λ kept done.
+    beside_goes c.in-DoWith.source c.in-DoWith.function c.in-DoWith.object here
+    c.kept_at-source-in-DoWith.result.now c.kept_at-object.result.now
+    c.kept_at-source-in-DoWith.ensures c.kept_at-object.ensures kept
+    c.done_beside.new.traps.items done)
+    (c.done_beside.ensures it.function it.at)

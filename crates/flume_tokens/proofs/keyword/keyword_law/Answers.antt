@@ -57,6 +57,9 @@ reads keyword.Empty = refl
 reads keyword.Repeat = refl
 reads keyword.As = refl
 reads keyword.Give = refl
+reads keyword.Combineall = refl
+reads keyword.Operate = refl
+reads keyword.With = refl
 
 pub returns : goal.returns
 returns c = reads

@@ -11,13 +11,13 @@ returns-clause-can_work g c w sources results s k shards partitions same some fe
     let t = table sources results in
     can_work c.args.functions.now sources results s shards partitions w called takes k same ready
     (λ r m i g at all lift. c.typed_law.ensures.given ready.signatures w n ready.types t k r m i s g
-    ready.world ready.lists ready.free ready.typed at all lift)
+    ready.world ready.lists ready.typed at all lift)
     some few parts
     (λ m i.
     let task = map_task_of n t s.inputs m i in
     let typed = c.typed_law.ensures.maps ready.signatures w n ready.types t k m i s
-    ready.world ready.lists ready.free ready.typed in
-    c.taken_law.ensures ready.signatures w task.does task.elements same ready.calls
+    ready.world ready.lists ready.typed in
+    c.taken_law.ensures ready.signatures w task.beside task.does task.elements same ready.calls
     (c.safe_law.ensures ready.signatures w task ready.world typed))
 
 pub returns-clause-outs : goal.returns-clause-outs

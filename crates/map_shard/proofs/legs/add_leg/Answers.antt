@@ -1,5 +1,4 @@
 use Rattle.std.proofs.Common.{subst}
-use Rattle.std.specs.Prelude.{Ok, Err}
 use Rattle.forest_steps.specs.Functions.{world_of}
 use Rattle.map_shard.specs.inner.Legs.{AreLegsOr}
 use Rattle.map_shard.proofs.Legging.{trap_before}

@@ -1,5 +1,4 @@
 use Rattle.std.proofs.Common.{◌++◌, List, sym, ap, ◌∙◌, subst}
-use Rattle.std.specs.Prelude.{Ok, Err}
 use Rattle.std.specs.List.{AllByRecursion, AllZip}
 use Rattle.flume_value.specs.declared.value.Value.{Value}
 use Rattle.task_lists.specs.Runs.{all_given}

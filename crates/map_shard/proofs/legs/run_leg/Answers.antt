@@ -1,5 +1,4 @@
 use Rattle.std.proofs.Common.{List, [], sym, subst}
-use Rattle.std.specs.Prelude.{Ok, Err}
 use Rattle.std.specs.List.{AllByRecursion}
 use Rattle.flume_value.specs.declared.value.Value.{Value}
 use Rattle.forest_courses.specs.Courses.{IsCourse, IsMade}

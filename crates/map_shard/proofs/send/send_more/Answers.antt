@@ -2,7 +2,7 @@ use Rattle.std.proofs.Common.{◌++◌}
 use Rattle.map_shard.specs.inner.Fillings.{IsFilled}
 use Rattle.map_shard.specs.inner.Sending.{CanSend, taken, takes_of}
 use Rattle.map_shard.proofs.Handing.{filled_here, given_on, sendable}
-use Rattle.map_shard.proofs.Sending.{member, next_one, next_ones, zip_all, zip_further}
+use Rattle.map_shard.proofs.Sending.{member, next_one, next_ones, zip_further}
 use Rattle.map_shard.proofs.send.send_more.Goals as goal
 
 pub fill_next-requires-clause-fit : goal.fill_next-requires-clause-fit

@@ -21,3 +21,17 @@ returns-in-Join-clause-within c =
 pub returns-in-Top-clause-within : goal.returns-in-Top-clause-within
 returns-in-Top-clause-within c =
     c.alone-in-Top.ensures.within (length c.args.state.now.types) c.greatest.ensures.within
+
+pub returns-in-CombineAll-clause-within : goal.returns-in-CombineAll-clause-within
+returns-in-CombineAll-clause-within c =
+    c.alone-in-CombineAll.ensures.within (length c.combined_whole.new.state.types)
+    c.combined_whole.ensures.within
+
+pub returns-in-Operate-clause-within : goal.returns-in-Operate-clause-within
+returns-in-Operate-clause-within c =
+    c.alone-in-Operate.ensures.within (length c.args.state.now.types) c.operated.ensures.within
+
+pub returns-in-DoWith-clause-within : goal.returns-in-DoWith-clause-within
+returns-in-DoWith-clause-within c =
+    c.alone-in-DoWith.ensures.within (length c.args.state.now.types)
+    c.done_beside.ensures.within

@@ -1,4 +1,4 @@
-use Rattle.std.proofs.Common.{false}
+use Rattle.std.proofs.Common.{None, false}
 use Rattle.forest_steps.specs.Functions.{world_of}
 use Rattle.task_lists.specs.Tasks.{reduce_task}
 use Rattle.task_safety.proofs.Fitting.{out_at}
@@ -17,8 +17,8 @@ returns g c = record {
       let task = reduce_task w n t s.inputs group p in
       let ok = (out_ok i _ at).ok in
       let typed = c.typed_law.ensures.reduces ready.signatures w n ready.types t k i p s group
-      ready.world ready.lists ready.free ready.typed at ok.takes in
-      c.taken_law.ensures ready.signatures w task.does task.elements same ready.calls
+      ready.world ready.lists ready.typed at ok.takes in
+      c.taken_law.ensures ready.signatures w None task.does task.elements same ready.calls
       (c.safe_law.ensures ready.signatures w task ready.world typed))
       some_partitions few ready.ok.few_outputs;
 }

@@ -6,7 +6,6 @@ returns-clause-of_script c =
     let script = c.args.program.now.script in
     record {
       well_formed = c.in_ok-plan.ensures.well_formed;
-      object_free = c.in_ok-plan.ensures.object_free;
       typed = c.in_ok-plan.ensures.types (signatures_of script)
           (c.types_law.ensures.well_formed script c.requires.well_formed);
       same = c.in_ok-plan.ensures.same;

@@ -9,8 +9,7 @@ returns-clause-some c statements script short e =
     (c.graph_law.ensures.accepted statements script short e)
     (c.one_step_law.ensures.unfused script)
     (c.one_step_law.ensures.narrow script
-    (c.well_formed_law.ensures.well_formed statements script e))
-    (c.object_free_law.ensures script))
+    (c.well_formed_law.ensures.well_formed statements script e)))
 
 pub returns-clause-one : goal.returns-clause-one
 returns-clause-one c statements script p q short e =
@@ -18,5 +17,4 @@ returns-clause-one c statements script p q short e =
     (c.graph_law.ensures.accepted statements script short e)
     (c.one_step_law.ensures.unfused script)
     (c.one_step_law.ensures.narrow script
-    (c.well_formed_law.ensures.well_formed statements script e))
-    (c.object_free_law.ensures script))
+    (c.well_formed_law.ensures.well_formed statements script e)))

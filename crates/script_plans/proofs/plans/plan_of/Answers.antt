@@ -1,6 +1,5 @@
 use Rattle.std.proofs.Common.{◌≡◌, ◌∙◌, subst, sym}
 use Rattle.exec_graph.specs.declared.graph.Graph.{Graph}
-use Rattle.exec_graph.specs.ObjectFree.{IsObjectFree}
 use Rattle.exec_graph.specs.Typing.{IsTyped, Signatures}
 use Rattle.exec_graph.specs.Wellformed.{IsGraphOk}
 use Rattle.exec_graph.specs.World.{World}
@@ -16,8 +15,7 @@ optimise-requires c =
     subst CanOptimise (sym c.requires.built) (can_optimise c.args.program.now.script
     (subst IsGraphOk c.requires.built c.requires.ok)
     (c.one_step_law.ensures.unfused c.args.program.now.script)
-    (c.one_step_law.ensures.narrow c.args.program.now.script c.requires.well_formed)
-    (c.object_free_law.ensures c.args.program.now.script))
+    (c.one_step_law.ensures.narrow c.args.program.now.script c.requires.well_formed))
 
 pub returns-clause-same : goal.returns-clause-same
 returns-clause-same c = λ w.
@@ -28,12 +26,6 @@ pub returns-clause-types : goal.returns-clause-types
 returns-clause-types c = λ s.
     subst (λ (g : Graph). IsTyped s g → IsPlanTyped s c.in_ok-plan.plan) c.requires.built
     (c.in_ok-plan.ensures.types s)
-
-pub returns-clause-object_free : goal.returns-clause-object_free
-returns-clause-object_free c =
-    c.in_ok-plan.ensures.object_free
-    (subst IsObjectFree (sym c.requires.built)
-    (c.object_free_law.ensures c.args.program.now.script))
 
 pub returns-clause-sources : goal.returns-clause-sources
 returns-clause-sources c =

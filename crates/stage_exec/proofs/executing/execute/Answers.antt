@@ -9,7 +9,7 @@ use Rattle.stage_exec.proofs.Ending.{bags_are, begins, counts_are, faulted, give
 use Rattle.stage_exec.specs.Executions.{split_of}
 use Rattle.plan_phases.proofs.Asking.{asked_all, asked_none}
 use Rattle.plan_phases.proofs.Joining.{front_stopped}
-use Rattle.plan_phases.specs.Phases.{phases}
+use Rattle.plan_phases.specs.Phases.{phases, with_tasks}
 use Rattle.plan_phases.specs.Told.{AskedInTurn, attempts_of}
 use Rattle.plan_phases.specs.declared.winners.PhaseWinners.{PhaseWinners}
 use Rattle.stage_exec.proofs.Finishing.{finishes}
@@ -22,14 +22,14 @@ pub returns-in_err-sizes-clause-asked : goal.returns-in_err-sizes-clause-asked
 returns-in_err-sizes-clause-asked g c =
     let s = c.args.settings.now in
     let w = run_world (g.F.Functions.called c.args.functions.now) c.args.sources.now in
-    asked_none s.tries s.drill (phases w (split_of s) c.args.plan.now) _
+    asked_none s.tries s.drill (with_tasks (phases w (split_of s) c.args.plan.now)) _
 
 pub run_stages-requires-clause-ready : goal.run_stages-requires-clause-ready
 run_stages-requires-clause-ready g c κs within =
     rw c.as_slice-stages.ensures
     (begins (run_world (g.F.Functions.called c.args.functions.now) c.args.sources.now)
     (g.F.Functions.can_call c.args.functions.now) c.args.plan.now c.requires.plan
-    c.requires.object_free c.requires.typed)
+    c.requires.typed)
 
 pub returns-in_err-results-clause-fault : goal.returns-in_err-results-clause-fault
 returns-in_err-results-clause-fault g c =
@@ -43,8 +43,7 @@ returns-in_err-results-clause-fault g c =
     rw (e.1, e.2)
     (faulted s w p _ _ c.in_err-results.field-0.0
     (λ trap is. c.phases_law.ensures.first w (split_of s) p trap cut.0 cut.1 is)
-    (λ trap is. c.tasks_law.ensures.trapped w (split_of s) p trap cut.0 cut.1
-    c.requires.object_free c.requires.plan is)
+    (λ trap is. c.tasks_law.ensures.trapped w (split_of s) p trap cut.0 cut.1 c.requires.plan is)
     (rw (← c.as_slice-stages.ensures) c.in_err-results.ensures.stopped))
 
 pub returns-in_err-results-clause-complete : goal.returns-in_err-results-clause-complete
@@ -74,14 +73,14 @@ returns-in_err-outputs-clause-asked g c =
     let s = c.args.settings.now in
     let w = run_world (g.F.Functions.called c.args.functions.now) c.args.sources.now in
     let ran = rw c.as_slice-stages.ensures at c.in_ok-results.ensures.ran in
-    asked_all s.tries s.drill (phases w (split_of s) c.args.plan.now) _ _ _ ran.asked
+    asked_all s.tries s.drill (with_tasks (phases w (split_of s) c.args.plan.now)) _ _ _ ran.asked
 
 pub returns-clause-asked : goal.returns-clause-asked
 returns-clause-asked g c =
     let s = c.args.settings.now in
     let w = run_world (g.F.Functions.called c.args.functions.now) c.args.sources.now in
     let ran = rw c.as_slice-stages.ensures at c.in_ok-results.ensures.ran in
-    asked_all s.tries s.drill (phases w (split_of s) c.args.plan.now) _ _ _ ran.asked
+    asked_all s.tries s.drill (with_tasks (phases w (split_of s) c.args.plan.now)) _ _ _ ran.asked
 
 pub returns-clause-done : goal.returns-clause-done
 returns-clause-done g c =
@@ -104,24 +103,23 @@ returns-clause-done g c =
     c.from_vec-2.ensures
     ∙ (ran.told ∙ ap (λ before. before ++ ran.through.winners) c.new-winners.ensures.items) in
     record {
-      calm = (c.tasks_law.ensures.through w (split_of s) p cut.0 cut.1 c.requires.object_free
-          c.requires.plan).0 none;
+      calm = (c.tasks_law.ensures.through w (split_of s) p cut.0 cut.1 c.requires.plan).0 none;
       outputs =
           ap (map bag_of)
           (rw c.as_slice-outputs.ensures at c.in_ok-outputs.ensures)
           ∙ bags_are s w p (table c.args.sources.now c.in_ok-results.results.items) p.outputs
-          lists (c.tasks_law.ensures.lists w (split_of s) p cut.0 cut.1
-          c.requires.object_free none);
+          lists (c.tasks_law.ensures.lists w (split_of s) p cut.0 cut.1 none);
       count = ap length counts ∙ (sizes.count ∙ zeros_many c.args.nodes);
       counts =
           rw counts
           (counts_are s w p c.args.nodes c.run_stages.new.sizes sizes
-          (c.tasks_law.ensures.sizes w (split_of s) p cut.0 cut.1 c.requires.object_free
+          (c.tasks_law.ensures.sizes w (split_of s) p cut.0 cut.1
+          (c.typed_law.ensures.beside c.requires.typed.signatures p c.requires.typed.plan)
           c.requires.plan none));
       ran = rw told ran.through.won;
       asked = subst
           (λ (l : List PhaseWinners).
-          AskedInTurn s.tries s.drill (phases w (split_of s) p) (attempts_of l)
+          AskedInTurn s.tries s.drill (with_tasks (phases w (split_of s) p)) (attempts_of l)
           (map (account g.H.Host.notes g.H.Host.losses) c.args.hosts.now)
           (map (account g.H.Host.notes g.H.Host.losses) c.run_stages.new.hosts))
           (sym told) ran.asked;

@@ -1,7 +1,7 @@
 use Rattle.std.proofs.Common.{◌∷◌, []}
 use Rattle.std.proofs.lemmas.Result.{err_from_is_err_and}
 use Rattle.map_shard.specs.Tables.{split, table}
-use Rattle.plan_phases.specs.Phases.{map_phase_of, reduce_phases}
+use Rattle.plan_phases.specs.Phases.{OfTasks, map_phase_of, reduce_phases}
 use Rattle.plan_phases.proofs.Joining.{run_then, stopped_before, stopped_behind}
 use Rattle.plan_phases.proofs.Lasting.{all_grew_on}
 use Rattle.stage_phases.specs.Stages.{run_world}
@@ -18,7 +18,8 @@ returns-in_err-maps-clause-stopped g c =
     let stage = c.args.stage.now in
     let p = err_from_is_err_and c.from_residual.result c.from_residual.ensures.1 in
     rw (p.1, p.2)
-    (stopped_before settings.tries settings.drill w (map_phase_of c.args.number n t stage ∷ [])
+    (stopped_before settings.tries settings.drill w
+    (OfTasks (map_phase_of c.args.number n t stage) ∷ [])
     (reduce_phases w c.args.number n t stage (groupings stage.outputs)) _ _ _
     c.in_err-maps.ensures.stopped)
 
@@ -46,7 +47,8 @@ returns-in_err-reduces-clause-stopped g c =
     err_from_is_err_and c.from_residual-in_err-reduces.result
     c.from_residual-in_err-reduces.ensures.1 in
     rw (p.1, p.2)
-    (stopped_behind settings.tries settings.drill w (map_phase_of c.args.number n t stage ∷ [])
+    (stopped_behind settings.tries settings.drill w
+    (OfTasks (map_phase_of c.args.number n t stage) ∷ [])
     (reduce_phases w c.args.number n t stage (groupings stage.outputs)) _ _ _ _
     c.in_ok-maps.ensures.ran.through c.in_ok-maps.ensures.ran.asked
     (c.in_err-reduces.ensures.stopped t
@@ -70,7 +72,8 @@ returns-clause-ran g c =
     let n = split settings.shards settings.partitions in
     let t = table inputs.sources.now c.args.results.now in
     let stage = c.args.stage.now in
-    run_then settings.tries settings.drill w (map_phase_of c.args.number n t stage ∷ [])
+    run_then settings.tries settings.drill w
+    (OfTasks (map_phase_of c.args.number n t stage) ∷ [])
     (reduce_phases w c.args.number n t stage (groupings stage.outputs)) _ _ _ _ _ _
     c.in_ok-maps.ensures.ran
     (c.in_ok-reduces.ensures.ran t (rw c.deref.ensures.value c.in_ok-maps.ensures.outs))

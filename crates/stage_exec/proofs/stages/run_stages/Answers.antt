@@ -2,7 +2,7 @@ use Rattle.std.proofs.Common.{◌+◌, arith, map}
 use Rattle.std.proofs.lemmas.Result.{err_from_is_err_and}
 use Rattle.crew.specs.Hosts.{account}
 use Rattle.plan_phases.proofs.Lasting.{all_grew_on}
-use Rattle.stage_exec.proofs.Running.{along_fewer, along_more, along_none, end_lists, end_run, run_stops, stage_asked, stage_ready}
+use Rattle.stage_exec.proofs.Running.{along_fewer, along_more, along_none, end_lists, end_run, object_ready, run_stops, stage_asked, stage_ready}
 use Rattle.stage_exec.proofs.stages.run_stages.Goals as goal
 
 pub loop-k-init : goal.loop-k-init
@@ -26,6 +26,16 @@ run_stage-requires-clause-ready g c κs within =
     c.loop-k.results.items c.args.sizes.now c.loop-k.sizes _ _ c.args.winners.now.items
     c.loop-k.winners.items c.loop-k.invariant c.index-stages-k.result c.loop-k-test.true
     c.index-stages-k.is)
+
+pub run_stage-requires-clause-object : goal.run_stage-requires-clause-object
+run_stage-requires-clause-object g c κs within =
+    let inputs = c.args.inputs.now in
+    object_ready inputs.settings.now (g.F.Functions.called inputs.functions.now)
+    (g.F.Functions.can_call inputs.functions.now) inputs.sources.now c.args.stages.now
+    c.args.outputs.now c.loop-k.k
+    c.loop-k.results.items c.args.sizes.now c.loop-k.sizes _ _ c.args.winners.now.items
+    c.loop-k.winners.items c.loop-k.invariant c.index-stages-k.result c.loop-k-test.true
+    c.index-stages-k.is
 
 pub returns-in_err-lists-clause-grew : goal.returns-in_err-lists-clause-grew
 returns-in_err-lists-clause-grew g c =

@@ -1,10 +1,10 @@
 use Rattle.forest_steps.specs.Functions.{world_of}
 use Rattle.task_safety.specs.Taking.{Takes}
-use Rattle.task_safety.proofs.Taken.{all_safe_more}
+use Rattle.task_safety.proofs.Taken.{all_safe_beside}
 use Rattle.task_safety.proofs.laws.taken_law.Goals as goal
 
 pub returns : goal.returns
-returns g c s w does xs same more all =
+returns g c s w v does xs same more all =
     let functions = c.args.functions.now in
-    all_safe_more (Takes s) (g.F.Functions.can_call functions) more w
+    all_safe_beside v (Takes s) (g.F.Functions.can_call functions) more w
     (world_of (g.F.Functions.called functions)) same does xs all

@@ -1,0 +1,110 @@
+// Objects, and what is made beside one: nodes that take collections whole.
+ghost use Rattle.std.specs.Prelude.{◌≡◌, ◌+◌, ◌<◌, ◌^◌, [], ◌∷◌, ◌++◌, IfOk, OnOk, map};
+ghost use Rattle.exec_graph.specs.declared.graph.Act.TheVariants.{Operate, SideInput, Singleton};
+ghost use Rattle.graph_build.specs.Graphs.{place_in as place_of};
+ghost use Rattle.graph_build.specs.Nodes as spec;
+
+use crate::nodes::{groups, push_node, step};
+use crate::numbers::{Start, first_of, number_of};
+use crate::places::{place_in, places_in};
+use combine_table::Comb;
+use exec_graph::{Act, Does, Entry, Node, Place};
+use flume_value::Pile;
+use std::alloc::{AllocError, Global};
+
+/// Adds the nodes of all members as one value.
+pub(crate) fn push_whole(
+    alloc: Global,
+    places: &[Place],
+    start: Start,
+    source: usize,
+    by: Comb,
+    nodes: &mut Pile<Entry>,
+) -> Result<(), AllocError>
+    requires { start.node + 3 < 2 ^ 32 }
+    ensures { OnOk result (nodes.new ≡ nodes.old
+        ++ spec.whole_nodes by start.origin start.node (place_of places.now source)) }
+{
+    let origin = start.origin;
+    let n = start.node;
+    let input = place_in(places, source);
+    push_node(nodes, n, step(alloc, origin, Does::Solo, input)?)?;
+    push_node(nodes, n + 1, groups(origin, first_of(n)))?;
+    let combined = Does::Combine(by);
+    push_node(
+        nodes,
+        n + 2,
+        step(alloc, origin, combined, first_of(n + 1))?,
+    )?;
+    push_node(
+        nodes,
+        n + 3,
+        only_value(alloc, by, origin, first_of(n + 2))?,
+    )?;
+    Ok(())
+}
+
+/// The value of the only pair of a collection.
+fn only_value(alloc: Global, by: Comb, origin: u32, pairs: Place) -> Result<Node, AllocError>
+    ensures { IfOk result (λ node. node ≡ spec.barrier origin (Singleton by) (pairs ∷ [])) }
+{
+    let mut inputs = Pile::new(alloc);
+    inputs.push(pairs)?;
+    Ok(barrier(origin, Act::Singleton(by), inputs))
+}
+
+/// Adds the call of a function on the values of the objects of these numbers.
+pub(crate) fn push_operate(
+    alloc: Global,
+    places: &[Place],
+    start: Start,
+    objects: &[usize],
+    function: usize,
+    nodes: &mut Pile<Entry>,
+) -> Result<(), AllocError>
+    ensures { OnOk result (nodes.new ≡ nodes.old
+        ++ spec.entry start.node
+        (spec.barrier start.origin (Operate function)
+        (map (place_of places.now) objects.now)) ∷ []) }
+{
+    let act = Act::Operate(number_of(function)?);
+    let inputs = places_in(alloc, places, objects)?;
+    push_node(nodes, start.node, barrier(start.origin, act, inputs))
+}
+
+/// Adds the calls of a function on each member of a collection beside the value of an object.
+pub(crate) fn push_beside(
+    alloc: Global,
+    places: &[Place],
+    start: Start,
+    source: usize,
+    function: usize,
+    object: usize,
+    nodes: &mut Pile<Entry>,
+) -> Result<(), AllocError>
+    ensures { OnOk result (nodes.new ≡ nodes.old
+        ++ spec.entry start.node
+        (spec.barrier start.origin (SideInput function)
+        (place_of places.now source ∷ place_of places.now object ∷ [])) ∷ []) }
+{
+    let act = Act::SideInput(number_of(function)?);
+    let inputs = both(alloc, place_in(places, source), place_in(places, object))?;
+    push_node(nodes, start.node, barrier(start.origin, act, inputs))
+}
+
+/// A collection, and the object beside it.
+fn both(alloc: Global, input: Place, object: Place) -> Result<Pile<Place>, AllocError>
+    ensures { IfOk result (λ inputs. inputs ≡ input ∷ object ∷ []) }
+{
+    let mut inputs = Pile::new(alloc);
+    inputs.push(input)?;
+    inputs.push(object)?;
+    Ok(inputs)
+}
+
+/// What an act makes of collections that it takes whole.
+fn barrier(origin: u32, act: Act, inputs: Pile<Place>) -> Node
+    ensures { result ≡ spec.barrier origin act inputs }
+{
+    Node::Barrier(inputs, origin, true, act)
+}

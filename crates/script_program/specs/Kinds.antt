@@ -1,0 +1,31 @@
+-- Which collections are objects, and which are read for their members and which for the value of an
+-- object.
+use Rattle.std.specs.Prelude.{ℕ, Bool, true, false, List, [], ◌∷◌}
+use Rattle.script_program.specs.declared.made.Made.{Made}
+use Rattle.script_program.specs.declared.made.Made.TheVariants as made
+
+-- a collection that is made so is an object: it is made as one value
+abbrev pub gives_object : Made → Bool
+gives_object (made.CombineAll source by) = true
+gives_object (made.Operate objects function) = true
+gives_object _ = false
+
+-- the numbers of the collections whose members one is made from
+abbrev pub members_read : Made → List ℕ
+members_read (made.Input file columns) = []
+members_read (made.Do source function output) = source ∷ []
+members_read (made.Group source) = source ∷ []
+members_read (made.Combine source by) = source ∷ []
+members_read (made.Flatten sources) = sources
+members_read (made.Count source) = source ∷ []
+members_read (made.Join left right) = left ∷ right ∷ []
+members_read (made.Top number source) = source ∷ []
+members_read (made.CombineAll source by) = source ∷ []
+members_read (made.Operate objects function) = []
+members_read (made.DoWith source function object) = source ∷ []
+
+-- the numbers of the objects whose values one is made from
+abbrev pub values_read : Made → List ℕ
+values_read (made.Operate objects function) = objects
+values_read (made.DoWith source function object) = object ∷ []
+values_read _ = []

@@ -1,0 +1,11 @@
+use Rattle.stage_exec.proofs.objects.made.Goals as goal
+
+pub called-requires : goal.called-requires
+called-requires g c = record { ready = rw c.in-Operate.is at c.requires.ready }
+
+pub returns-in-Operate : goal.returns-in-Operate
+returns-in-Operate g c = rw c.in-Operate.is c.called.ensures
+
+pub returns-in-Singleton : goal.returns-in-Singleton
+returns-in-Singleton g c =
+    rw c.in-Singleton.is (rw c.as_slice.ensures at c.single.ensures)
