@@ -5,7 +5,8 @@
 
 TIME says how long a build takes from nothing. The sources below the program, without tests and
 wrong edits, are copied to a folder outside of the repository and proved there by rt's own gate.
-That keeps beside the kit what it has proved: a build that was interrupted goes on where it stopped.
+Some kits keep what their gate has proved: then a build that was interrupted goes on where it
+stopped. With the others the next start begins anew.
 How far it is stands on standard error. Where two builds begin, the later one waits for the other,
 and then takes what that has made.
 """
@@ -178,6 +179,7 @@ def main(words):
         stands = "is of older sources" if os.path.isfile(program) else "is not built yet"
         say(f"the proved program {stands}: it is proved and built now")
         say(f"from nothing that takes {words[0]}; if it is stopped, the next start goes on")
+        say("where this kit keeps what it has proved, and else begins anew")
         say("for a result in a few minutes, without any proof: flume-try, with the same words")
         return 0 if build(program, crates) else 1
 

@@ -18,6 +18,7 @@ FILLS = {
     "pass": "#ffffff",
     "in": "#ffffff",
     "stage": "#f6f6f2",
+    "rewrites": "#ffffff",
 }
 
 

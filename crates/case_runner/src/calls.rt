@@ -5,7 +5,7 @@ use flume_run::flume;
 use std::alloc::{AllocError, Global};
 use std::thread::Threads;
 use worked_cases::{
-    Case, Command, Counts, Entry, Fault, Misread, Outcome, Report, When, push_name,
+    Case, Command, Counts, Entry, Fault, Misread, Outcome, Report, TextFile, When, push_name,
 };
 
 /// The page of a case: its name, and what came of each call, or the first mistake in it.
@@ -38,20 +38,21 @@ fn push_misread(page: &mut String, misread: &Misread) -> Result<(), AllocError> 
 }
 
 // Each command: with nothing more that fails, with each thing that is to, and with each two of
-// those.
+// those. What the first call put on the screen is kept for those behind it, where that is wanted.
 fn push_calls<X: Threads + Sync>(
     rt: &X,
     alloc: Global,
     case: &Case,
     report: &mut Report,
 ) -> Result<(), AllocError> {
+    let mut kept = Vec::new(alloc);
     for command in &case.commands {
-        push_call(rt, alloc, case, command, &[], report)?;
+        push_call(rt, alloc, case, command, &[], &mut kept, report)?;
         for when in &case.whens {
-            push_call(rt, alloc, case, command, &[when], report)?;
+            push_call(rt, alloc, case, command, &[when], &mut kept, report)?;
         }
         if case.has_pairs {
-            push_pairs(rt, alloc, case, command, report)?;
+            push_pairs(rt, alloc, case, command, &mut kept, report)?;
         }
     }
     Ok(())
@@ -62,11 +63,12 @@ fn push_pairs<X: Threads + Sync>(
     alloc: Global,
     case: &Case,
     command: &Command,
+    kept: &mut Vec<TextFile>,
     report: &mut Report,
 ) -> Result<(), AllocError> {
     for (k, one) in case.whens.iter().enumerate() {
         for other in case.whens.iter().skip(k).skip(1) {
-            push_call(rt, alloc, case, command, &[one, other], report)?;
+            push_call(rt, alloc, case, command, &[one, other], kept, report)?;
         }
     }
     Ok(())
@@ -79,11 +81,12 @@ fn push_call<X: Threads + Sync>(
     case: &Case,
     command: &Command,
     whens: &[&When],
+    kept: &mut Vec<TextFile>,
     report: &mut Report,
 ) -> Result<(), AllocError> {
     let head = head_of(alloc, command, whens)?;
     let faults = faults_of(alloc, case, whens)?;
-    let (outcome, counts) = called(rt, alloc, case, command, &faults)?;
+    let (outcome, counts) = called(rt, alloc, case, command, &faults, kept)?;
     report.push(&head, outcome, &counts)
 }
 
@@ -116,8 +119,9 @@ fn called<X: Threads + Sync>(
     case: &Case,
     command: &Command,
     faults: &[Fault],
+    kept: &mut Vec<TextFile>,
 ) -> Result<(Outcome, Counts), AllocError> {
-    let mut world = World::new(alloc, case, faults)?;
+    let mut world = World::new(alloc, case, kept, faults)?;
     let status = flume(
         rt,
         alloc,
@@ -129,5 +133,24 @@ fn called<X: Threads + Sync>(
     );
     let outcome = outcome_of(alloc, status.code(), &world)?;
     let counts = counts_of(alloc, case, &world)?;
+    keep(alloc, case, &world, kept)?;
     Ok((outcome, counts))
+}
+
+// Keeps the screen of the first call as a file, where the case names one.
+fn keep(
+    alloc: Global,
+    case: &Case,
+    world: &World,
+    kept: &mut Vec<TextFile>,
+) -> Result<(), AllocError> {
+    if !kept.is_empty() {
+        return Ok(());
+    }
+    if let Some(name) = &case.keeps {
+        let name = Vec::from_slice(alloc, name)?;
+        let bytes = Vec::from_slice(alloc, world.screen.text())?;
+        kept.push(TextFile { name, bytes })?;
+    }
+    Ok(())
 }

@@ -19,15 +19,20 @@ pub struct World {
 const HOSTS: u32 = 16;
 
 // The most bytes that a screen takes.
-const SCREEN: u64 = 1_000_000;
+const SCREEN: u64 = 2_000_000;
 
 impl World {
-    /// The world of a case, in which these calls fail.
-    pub fn new(alloc: Global, case: &Case, faults: &[Fault]) -> Result<World, AllocError>
+    /// The world of a case, with these files beside its own, in which these calls fail.
+    pub fn new(
+        alloc: Global,
+        case: &Case,
+        kept: &[TextFile],
+        faults: &[Fault],
+    ) -> Result<World, AllocError>
         ensures { IfOk result (λ world. vec_len world.hosts ≡ 16) }
     {
         Ok(World {
-            source: source_of(alloc, &case.files, faults)?,
+            source: source_of(alloc, &case.files, kept, faults)?,
             shelf: shelf_of(alloc, &case.before, case.room, faults)?,
             screen: MemScreen::new(alloc, screen_fails(alloc, faults)?, SCREEN)?,
             hosts: hosts_of(alloc, faults)?,
@@ -37,17 +42,28 @@ impl World {
 
 fn files_of(alloc: Global, texts: &[TextFile]) -> Result<Pile<File>, AllocError> {
     let mut files = Pile::new(alloc);
+    push_files(alloc, &mut files, texts)?;
+    Ok(files)
+}
+
+fn push_files(alloc: Global, files: &mut Pile<File>, texts: &[TextFile]) -> Result<(), AllocError> {
     for text in texts {
         files.push(File {
             name: Str::from_slice(alloc, &text.name)?,
             bytes: Str::from_slice(alloc, &text.bytes)?,
         })?;
     }
-    Ok(files)
+    Ok(())
 }
 
-fn source_of(alloc: Global, texts: &[TextFile], faults: &[Fault]) -> Result<MemSource, AllocError> {
-    let files = files_of(alloc, texts)?;
+fn source_of(
+    alloc: Global,
+    texts: &[TextFile],
+    kept: &[TextFile],
+    faults: &[Fault],
+) -> Result<MemSource, AllocError> {
+    let mut files = files_of(alloc, texts)?;
+    push_files(alloc, &mut files, kept)?;
     let fails = source_fails(alloc, faults)?;
     match step_of(faults) {
         Some(step) => MemSource::with_step(alloc, files, fails, step.max(1)),

@@ -9,7 +9,7 @@ use Rattle.command_words.specs.Words.{Asked, asked_at, asking, is_operand, plan_
 use Rattle.command_words.specs.Grammar.{AsksFor}
 use Rattle.command_words.specs.declared.words.Command.{Command}
 use Rattle.command_words.specs.declared.words.Command.TheVariants.{Check, Plan, Direct}
-use Rattle.command_words.specs.declared.words.PlanForm.TheVariants.{Text as AsText, Json}
+use Rattle.command_words.specs.declared.words.PlanForm.TheVariants.{Text as AsText, Json, Rewrites}
 use Rattle.command_words.proofs.OperandLemmas.{at_position, faults_from, operand_first, operand_taken, operand_walked}
 
 -- a command as it is built
@@ -75,32 +75,62 @@ plan_alone script is program =
     ap₂ (answer planned (codes "plan")) (planned_passes script is)
     (operand_walked planned.rules nothing_held 1 script is) ∙ asked (Plan AsText) script is
 
--- what is held behind the flag
-abbrev flag_held : Held
-flag_held = (walked planned.rules [] at_first (codes "--json")).held
+-- what is held behind a flag
+abbrev flag_held : Text → Held
+flag_held flag = (walked planned.rules [] at_first flag).held
 
-before_passes : (script : Text) → is_operand script ≡ true
+json_before_passes : (script : Text) → is_operand script ≡ true
     → faults_from planned at_first (codes "--json" ∷ script ∷ []) ≡ []
 unfolding clap_on_literals
-before_passes script is = operand_first planned flag_held 1 script [] is ∙ refl
+json_before_passes script is =
+    operand_first planned (flag_held (codes "--json")) 1 script [] is ∙ refl
 
 pub plan_json_before : (script : Text) → is_operand script ≡ true
     → AsksFor (codes "plan" ∷ codes "--json" ∷ script ∷ []) (Plan Json) script
 unfolding clap_on_literals
 plan_json_before script is program =
-    ap₂ (answer planned (codes "plan")) (before_passes script is)
-    (operand_walked planned.rules flag_held 1 script is) ∙ asked (Plan Json) script is
+    ap₂ (answer planned (codes "plan")) (json_before_passes script is)
+    (operand_walked planned.rules (flag_held (codes "--json")) 1 script is)
+    ∙ asked (Plan Json) script is
 
-behind_passes : (script : Text) → is_operand script ≡ true
+json_behind_passes : (script : Text) → is_operand script ≡ true
     → faults_from planned at_first (script ∷ codes "--json" ∷ []) ≡ []
 unfolding clap_on_literals
-behind_passes script is =
+json_behind_passes script is =
     operand_first planned nothing_held 1 script (codes "--json" ∷ []) is ∙ refl
 
 pub plan_json_behind : (script : Text) → is_operand script ≡ true
     → AsksFor (codes "plan" ∷ script ∷ codes "--json" ∷ []) (Plan Json) script
 unfolding clap_on_literals
 plan_json_behind script is program =
-    ap₂ (answer planned (codes "plan")) (behind_passes script is)
+    ap₂ (answer planned (codes "plan")) (json_behind_passes script is)
     (ap (λ w. walked planned.rules [] w (codes "--json"))
     (operand_walked planned.rules nothing_held 1 script is)) ∙ asked (Plan Json) script is
+
+rewrites_before_passes : (script : Text) → is_operand script ≡ true
+    → faults_from planned at_first (codes "--rewrites" ∷ script ∷ []) ≡ []
+unfolding clap_on_literals
+rewrites_before_passes script is =
+    operand_first planned (flag_held (codes "--rewrites")) 1 script [] is ∙ refl
+
+pub plan_rewrites_before : (script : Text) → is_operand script ≡ true
+    → AsksFor (codes "plan" ∷ codes "--rewrites" ∷ script ∷ []) (Plan Rewrites) script
+unfolding clap_on_literals
+plan_rewrites_before script is program =
+    ap₂ (answer planned (codes "plan")) (rewrites_before_passes script is)
+    (operand_walked planned.rules (flag_held (codes "--rewrites")) 1 script is)
+    ∙ asked (Plan Rewrites) script is
+
+rewrites_behind_passes : (script : Text) → is_operand script ≡ true
+    → faults_from planned at_first (script ∷ codes "--rewrites" ∷ []) ≡ []
+unfolding clap_on_literals
+rewrites_behind_passes script is =
+    operand_first planned nothing_held 1 script (codes "--rewrites" ∷ []) is ∙ refl
+
+pub plan_rewrites_behind : (script : Text) → is_operand script ≡ true
+    → AsksFor (codes "plan" ∷ script ∷ codes "--rewrites" ∷ []) (Plan Rewrites) script
+unfolding clap_on_literals
+plan_rewrites_behind script is program =
+    ap₂ (answer planned (codes "plan")) (rewrites_behind_passes script is)
+    (ap (λ w. walked planned.rules [] w (codes "--rewrites"))
+    (operand_walked planned.rules nothing_held 1 script is)) ∙ asked (Plan Rewrites) script is

@@ -16,8 +16,8 @@ use Rattle.drill_text.proofs.FirstLemmas.{BeginsWithDigit, drill_begins, number_
 use Rattle.drill_text.proofs.DrillLemmas.{neither}
 use Rattle.drill_text.proofs.NumberLemmas.{spelled_up_to}
 use Rattle.command_words.specs.Options.{drill_given, number_given}
-use Rattle.command_words.specs.Words.{dash, is_operand}
-use Rattle.command_words.specs.Parts.{AskForRun, Fail, Name, Part, Partitions, Script, Shards, Tries, Workers, id_of, value_of}
+use Rattle.command_words.specs.Words.{dash, is_operand, plan_given}
+use Rattle.command_words.specs.Parts.{AskForRun, Fail, Name, Part, Partitions, PlanFile, Script, Shards, Tries, Workers, id_of, value_of}
 use Rattle.command_words.proofs.RowLemmas.{is_named}
 use Rattle.crew.specs.declared.drill.Entry.{Entry}
 use Rattle.run_settings.specs.Settings.{RunSettings}
@@ -38,6 +38,7 @@ name_of id =
     else if bytes_eq id (codes "partitions") then Some Partitions
     else if bytes_eq id (codes "tries") then Some Tries
     else if bytes_eq id (codes "fail") then Some Fail
+    else if bytes_eq id (codes "plan") then Some PlanFile
     else None
 
 named_back : (name : Name) → name_of (id_of name) ≡ Some name
@@ -47,6 +48,7 @@ named_back Shards = refl
 named_back Partitions = refl
 named_back Tries = refl
 named_back Fail = refl
+named_back PlanFile = refl
 
 same_name : (m n : Name) → id_of m ≡ id_of n → m ≡ n
 same_name m n same =
@@ -98,6 +100,7 @@ names_itself Shards = refl
 names_itself Partitions = refl
 names_itself Tries = refl
 names_itself Fail = refl
+names_itself PlanFile = refl
 
 found_there : (part : Part) (parts seen : List Part) → list_any (is_named part.name) seen ≡ false
     → value_of part.name (seen ++ part ∷ parts) ≡ Some part.value
@@ -137,38 +140,54 @@ drill_operand (Some text) drill value given is =
     let same : text ≡ value = cc is in
     subst (λ (t : Text). is_operand t ≡ true) same (operand_by text (drill_begins text drill given))
 
+named_operand : (b : Bool) (text : Text) (from : Option Text)
+    → (if b then Some (Some text) else None) ≡ Some from → b ≡ true
+named_operand true text from given = refl
+named_operand false text from given = cc given
+
+plan_operand : (option from : Option Text) (value : Text) → plan_given option ≡ Some from
+    → option ≡ Some value → is_operand value ≡ true
+plan_operand None from value given is = cc is
+plan_operand (Some text) from value given is =
+    let same : text ≡ value = cc is in
+    subst (λ (t : Text). is_operand t ≡ true) same
+    (named_operand (is_operand text) text from given)
+
 -- the value of a part among them is a word that is no option
 operand_of : (parts : List Part) (script : Text) (settings : RunSettings)
-    → is_operand script ≡ true → AskForRun parts script settings → (name : Name) (value : Text)
-    → value_of name parts ≡ Some value → is_operand value ≡ true
-operand_of parts script settings is asks Script value there =
+    (from : Option Text) → is_operand script ≡ true → AskForRun parts script settings from
+    → (name : Name) (value : Text) → value_of name parts ≡ Some value → is_operand value ≡ true
+operand_of parts script settings from is asks Script value there =
     let same : Some script ≡ Some value = sym asks.for_script ∙ there in
     let also : script ≡ value = cc same in
     subst (λ (t : Text). is_operand t ≡ true) also is
-operand_of parts script settings is asks Workers value there =
+operand_of parts script settings from is asks Workers value there =
     number_operand _ _ _ _ value asks.for_workers there
-operand_of parts script settings is asks Shards value there =
+operand_of parts script settings from is asks Shards value there =
     number_operand _ _ _ _ value asks.for_shards there
-operand_of parts script settings is asks Partitions value there =
+operand_of parts script settings from is asks Partitions value there =
     number_operand _ _ _ _ value asks.for_partitions there
-operand_of parts script settings is asks Tries value there =
+operand_of parts script settings from is asks Tries value there =
     number_operand _ _ _ _ value asks.for_tries there
-operand_of parts script settings is asks Fail value there =
+operand_of parts script settings from is asks Fail value there =
     drill_operand _ _ value asks.for_drill there
+operand_of parts script settings from is asks PlanFile value there =
+    plan_operand _ _ value asks.for_plan there
 
 operands_from : (parts seen whole : List Part) (script : Text) (settings : RunSettings)
-    → is_operand script ≡ true → AskForRun whole script settings → seen ++ parts ≡ whole
-    → Fresh seen parts → AreOperands parts
-operands_from [] seen whole script settings is asks all new = tt
-operands_from (part ∷ parts) seen whole script settings is asks all new =
+    (from : Option Text) → is_operand script ≡ true → AskForRun whole script settings from
+    → seen ++ parts ≡ whole → Fresh seen parts → AreOperands parts
+operands_from [] seen whole script settings from is asks all new = tt
+operands_from (part ∷ parts) seen whole script settings from is asks all new =
     let there : value_of part.name whole ≡ Some part.value =
     ap (value_of part.name) (sym all) ∙ found_there part parts seen new.0 in (
-      operand_of whole script settings is asks part.name part.value there,
-      operands_from parts (seen ++ part ∷ []) whole script settings is asks
+      operand_of whole script settings from is asks part.name part.value there,
+      operands_from parts (seen ++ part ∷ []) whole script settings from is asks
           (append_assoc seen (part ∷ []) parts ∙ all) new.1,
     )
 
 pub are_operands : (parts : List Part) (script : Text) (settings : RunSettings)
-    → is_operand script ≡ true → AskForRun parts script settings → AreOperands parts
-are_operands parts script settings is asks =
-    operands_from parts [] parts script settings is asks refl (fresh parts [] asks.apart)
+    (from : Option Text) → is_operand script ≡ true → AskForRun parts script settings from
+    → AreOperands parts
+are_operands parts script settings from is asks =
+    operands_from parts [] parts script settings from is asks refl (fresh parts [] asks.apart)

@@ -18,7 +18,7 @@ use Rattle.clap.specs.declared.parser.matches.ValueSource.{ValueSource}
 use Rattle.clap.specs.declared.parser.matches.ValueSource.TheVariants.{CommandLine}
 use Rattle.drill_text.proofs.DrillLemmas.{neither}
 use Rattle.drill_text.proofs.NumberLemmas.{both}
-use Rattle.command_words.specs.Parts.{Fail, Name, Part, Partitions, Script, Shards, Tries, Workers, id_of, value_of}
+use Rattle.command_words.specs.Parts.{Fail, Name, Part, Partitions, PlanFile, Script, Shards, Tries, Workers, id_of, value_of}
 use Rattle.command_words.proofs.StepLemmas.{rules, running, script, waiting_fault, with_part}
 
 -- ---- the rows of parts
@@ -91,6 +91,7 @@ used_rows Shards value rows none = new_row _ _ _ _ rows none
 used_rows Partitions value rows none = new_row _ _ _ _ rows none
 used_rows Tries value rows none = new_row _ _ _ _ rows none
 used_rows Fail value rows none = new_row _ _ _ _ rows none
+used_rows PlanFile value rows none = new_row _ _ _ _ rows none
 
 no_repeat : (b : Bool) → b ≡ false
     → or_else (if b && not false then ArgumentConflict ∷ [] else []) [] ≡ []
@@ -109,6 +110,7 @@ use_passes Shards value rows skip none = no_repeat (has_row (id_of Shards) rows)
 use_passes Partitions value rows skip none = no_repeat (has_row (id_of Partitions) rows) none
 use_passes Tries value rows skip none = no_repeat (has_row (id_of Tries) rows) none
 use_passes Fail value rows skip none = no_repeat (has_row (id_of Fail) rows) none
+use_passes PlanFile value rows skip none = no_repeat (has_row (id_of PlanFile) rows) none
 
 pub holds_more : (seen : List Part) (h : Held) (part : Part) → Holds seen h
     → list_any (is_named part.name) seen ≡ false

@@ -1,6 +1,6 @@
 -- What the words behind `run` ask for, by the definitions of `clap`.
 use Rattle.std.proofs.Common.{◌≡◌, ◌∙◌, ◌||◌, ◌++◌, ℕ, true, false, List, [], ◌∷◌, Option, Some, None, map, refl, sym, ap, ap₂, subst, append_assoc, arith, codes, true≢false}
-use Rattle.std.specs.Prelude.{fold, if◌then◌else◌, is_some, option_map}
+use Rattle.std.specs.Prelude.{fold, if◌then◌else◌, is_some}
 use Rattle.std.specs.List.{flat_map, list_any}
 use Rattle.std.proofs.lemmas.List.{append-nil}
 use Rattle.std.proofs.lemmas.List.Folds.{list_any-append}
@@ -16,9 +16,10 @@ use Rattle.run_settings.specs.Limits.{most_partitions, most_shards, most_tries, 
 use Rattle.drill_text.specs.Drills.{◌>>=◌}
 use Rattle.drill_text.proofs.DrillLemmas.{neither}
 use Rattle.command_words.specs.Options.{drill_given, number_given, settings_given}
-use Rattle.command_words.specs.Words.{Asked, asked_at, asked_for, asked_of, asking, flume_app, is_operand}
-use Rattle.command_words.specs.Parts.{AskForRun, Fail, Name, Part, Partitions, Script, Shards, Tries, Workers, words_of}
+use Rattle.command_words.specs.Words.{Asked, asked_at, asked_for, asked_of, asking, flume_app, is_operand, plan_given, run_of, run_with}
+use Rattle.command_words.specs.Parts.{AskForRun, Fail, Name, Part, Partitions, PlanFile, Script, Shards, Tries, Workers, words_of}
 use Rattle.command_words.specs.Grammar.{AsksFor}
+use Rattle.command_words.specs.declared.words.Command.{Command}
 use Rattle.command_words.specs.declared.words.Command.TheVariants.{Run}
 use Rattle.command_words.proofs.GrammarLemmas.{answer, asked, at_first}
 use Rattle.command_words.proofs.OperandLemmas.{at_position, faults_from, last_fault}
@@ -40,6 +41,7 @@ at_place Shards seen position placed new = tt
 at_place Partitions seen position placed new = tt
 at_place Tries seen position placed new = tt
 at_place Fail seen position placed new = tt
+at_place PlanFile seen position placed new = tt
 
 placed_behind : (name : Name) (value : Text) (seen : List Part) (position : ℕ)
     → IsPlaced seen position
@@ -58,6 +60,7 @@ placed_behind name value seen position placed none = behind name
     behind Partitions apart = placed apart.0
     behind Tries apart = placed apart.0
     behind Fail apart = placed apart.0
+    behind PlanFile apart = placed apart.0
 
 -- where the walk comes to over the words of parts, and the faults from there on
 record IsWalked (seen parts : List Part) (h : Held) (position : ℕ) : Type 0 where
@@ -109,9 +112,9 @@ settings_by fail workers shards partitions tries = do
   t ← number_given standard.tries most_tries tries
   Some (record { workers = w; shards = s; partitions = p; tries = t; drill = drill })
 
-settings_are : (parts : List Part) (script : Text) (settings : RunSettings)
-    → AskForRun parts script settings → settings_given (map row parts) ≡ Some settings
-settings_are parts script settings asks =
+settings_are : (parts : List Part) (script : Text) (settings : RunSettings) (from : Option Text)
+    → AskForRun parts script settings from → settings_given (map row parts) ≡ Some settings
+settings_are parts script settings from asks =
     rw (
       first_value Fail parts,
       first_value Workers parts,
@@ -122,15 +125,21 @@ settings_are parts script settings asks =
     (rw (asks.for_drill, asks.for_workers, asks.for_shards, asks.for_partitions, asks.for_tries)
     refl)
 
-asked_there : (parts : List Part) (script : Text) (settings : RunSettings)
-    → is_operand script ≡ true → AskForRun parts script settings
+run_is : (parts : List Part) (script : Text) (settings : RunSettings) (from : Option Text)
+    → AskForRun parts script settings from → run_of (map row parts) ≡ Some (Run settings from)
+run_is parts script settings from asks =
+    ap₂ run_with (settings_are parts script settings from asks)
+    (ap plan_given (first_value PlanFile parts) ∙ asks.for_plan)
+
+asked_there : (parts : List Part) (script : Text) (settings : RunSettings) (from : Option Text)
+    → is_operand script ≡ true → AskForRun parts script settings from
     → asked_at (codes "run") (map row parts)
-    ≡ Some (record { command = Run settings; script = script })
-asked_there parts script settings is asks =
-    ap₂ (λ (given : Option RunSettings) (word : Option Text).
-    option_map Run given >>= (λ command. asking command word))
-    (settings_are parts script settings asks) (first_value Script parts ∙ asks.for_script)
-    ∙ asked (Run settings) script is
+    ≡ Some (record { command = Run settings from; script = script })
+asked_there parts script settings from is asks =
+    ap₂ (λ (given : Option Command) (word : Option Text).
+    given >>= (λ command. asking command word))
+    (run_is parts script settings from asks) (first_value Script parts ∙ asks.for_script)
+    ∙ asked (Run settings from) script is
 
 -- ---- the whole command line
 
@@ -201,10 +210,10 @@ run_entered program words =
 
 -- ---- the words of parts
 
-nothing_fails : (parts : List Part) (script : Text) (settings : RunSettings) (h : Held) (place : ℕ)
-    → AskForRun parts script settings → Holds parts h
+nothing_fails : (parts : List Part) (script : Text) (settings : RunSettings) (from : Option Text)
+    (h : Held) (place : ℕ) → AskForRun parts script settings from → Holds parts h
     → last_fault running (at_position h place) ≡ []
-nothing_fails parts script settings h place asks holds =
+nothing_fails parts script settings from h place asks holds =
     let rows = nothing_added h ∙ holds.rows in
     let checked = ap (λ (found : List Row). check_fault running found false) rows
     ∙ checks_pass parts script asks.for_script in
@@ -212,22 +221,24 @@ nothing_fails parts script settings h place asks holds =
     (check_fault running (finished rules h) false))) holds.fault
     ∙ ap₂ or_else (defaults_pass (settled rules h).rows) checked
 
-pub run_asked : (script : Text) (parts : List Part) (settings : RunSettings)
-    → is_operand script ≡ true → AskForRun parts script settings
-    → AsksFor (codes "run" ∷ flat_map words_of parts) (Run settings) script
-run_asked script parts settings is asks program =
+pub run_asked : (script : Text) (parts : List Part) (settings : RunSettings) (from : Option Text)
+    → is_operand script ≡ true → AskForRun parts script settings from
+    → AsksFor (codes "run" ∷ flat_map words_of parts) (Run settings from) script
+run_asked script parts settings from is asks program =
     let end = walks parts [] nothing_held 1 holds_none (fresh parts [] asks.apart)
-    (are_operands parts script settings is asks) (λ none. refl) in
+    (are_operands parts script settings from is asks) (λ none. refl) in
     run_entered program (flat_map words_of parts)
     ∙ ap₂ (answer running (codes "run"))
-    (end.faults ∙ nothing_fails parts script settings end.held end.place asks end.holds) end.walk_is
+    (end.faults ∙ nothing_fails parts script settings from end.held end.place asks end.holds)
+    end.walk_is
     ∙ ap (asked_at (codes "run")) (nothing_added end.held ∙ end.holds.rows)
-    ∙ asked_there parts script settings is asks
+    ∙ asked_there parts script settings from is asks
 
 -- a script alone
 pub run_alone : (script : Text) → is_operand script ≡ true
-    → AsksFor (codes "run" ∷ script ∷ []) (Run standard) script
-run_alone script is = run_asked script (record { name = Script; value = script } ∷ []) standard is
+    → AsksFor (codes "run" ∷ script ∷ []) (Run standard None) script
+run_alone script is =
+    run_asked script (record { name = Script; value = script } ∷ []) standard None is
     (record {
       apart = λ i j d less within. absurd (omega arith);
       for_script = refl;
@@ -236,4 +247,5 @@ run_alone script is = run_asked script (record { name = Script; value = script }
       for_partitions = refl;
       for_tries = refl;
       for_drill = refl;
+      for_plan = refl;
     })

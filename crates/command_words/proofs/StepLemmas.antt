@@ -7,7 +7,7 @@ use Rattle.clap.specs.Faults.{settle_fault, turn_fault, walk_fault}
 use Rattle.clap.specs.Walk.{Held, Rule, Step, Text, Walk, after_step, is_pending, option, plain_word, pushed, settled, settled_rows, walked, word_met}
 use Rattle.clap.proofs.OnLiterals.{clap_on_literals}
 use Rattle.command_words.specs.Words.{dash, is_operand, run_app, script_rule}
-use Rattle.command_words.specs.Parts.{Fail, Name, Partitions, Script, Shards, Tries, Workers, id_of, words_for}
+use Rattle.command_words.specs.Parts.{Fail, Name, Partitions, PlanFile, Script, Shards, Tries, Workers, id_of, words_for}
 use Rattle.command_words.proofs.GrammarLemmas.{built_command}
 use Rattle.command_words.proofs.OperandLemmas.{at_position, faults_from, is_false, last_fault, operand_turn, operand_walked}
 
@@ -97,6 +97,7 @@ name_walked Shards h position is = refl
 name_walked Partitions h position is = refl
 name_walked Tries h position is = refl
 name_walked Fail h position is = refl
+name_walked PlanFile h position is = refl
 
 name_turn : (name : Name) (h : Held) (position : ℕ) → IsOption name
     → turn_fault running [] (at_position h position) (named name) ≡ waiting_fault h
@@ -107,6 +108,7 @@ name_turn Shards h position is = or_nothing (waiting_fault h)
 name_turn Partitions h position is = or_nothing (waiting_fault h)
 name_turn Tries h position is = or_nothing (waiting_fault h)
 name_turn Fail h position is = or_nothing (waiting_fault h)
+name_turn PlanFile h position is = or_nothing (waiting_fault h)
 
 value_met : (c : List Rule) (id : Text) (h : Held) (position : ℕ) (word : Text)
     → is_operand word ≡ true
@@ -134,6 +136,7 @@ value_taken Shards h position word = refl
 value_taken Partitions h position word = refl
 value_taken Tries h position word = refl
 value_taken Fail h position word = refl
+value_taken PlanFile h position word = refl
 
 value_walked : (name : Name) (h : Held) (position : ℕ) (word : Text) → is_operand word ≡ true
     → walked rules [] (at_value name h position) word ≡ at_position (with_part name word h) position
@@ -193,6 +196,8 @@ part_faults Tries h position value words at is none =
     option_part Tries h position value words tt is none
 part_faults Fail h position value words at is none =
     option_part Fail h position value words tt is none
+part_faults PlanFile h position value words at is none =
+    option_part PlanFile h position value words tt is none
 
 -- the walk over the words of a part
 pub part_fold : (name : Name) (h : Held) (position : ℕ) (value : Text) (words : List Text)
@@ -210,3 +215,5 @@ part_fold Partitions h position value words at is =
     option_fold Partitions h position value words tt is
 part_fold Tries h position value words at is = option_fold Tries h position value words tt is
 part_fold Fail h position value words at is = option_fold Fail h position value words tt is
+part_fold PlanFile h position value words at is =
+    option_fold PlanFile h position value words tt is

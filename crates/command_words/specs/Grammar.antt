@@ -1,5 +1,5 @@
 -- The words of the grammar, written out, and what they ask for.
-use Rattle.std.specs.Prelude.{◌≡◌, List, [], ◌∷◌, Some, codes}
+use Rattle.std.specs.Prelude.{◌≡◌, List, [], ◌∷◌, Option, Some, None, codes}
 use Rattle.std.specs.List.{flat_map}
 use Rattle.clap.specs.Words.{Text}
 use Rattle.run_settings.specs.Settings.{RunSettings, standard}
@@ -7,7 +7,7 @@ use Rattle.command_words.specs.Parts.{AskForRun, Part, words_of}
 use Rattle.command_words.specs.Words.{asked_for}
 use Rattle.command_words.specs.declared.words.Command.{Command}
 use Rattle.command_words.specs.declared.words.Command.TheVariants.{Check, Plan, Direct, Run}
-use Rattle.command_words.specs.declared.words.PlanForm.TheVariants.{Text as AsText, Json}
+use Rattle.command_words.specs.declared.words.PlanForm.TheVariants.{Text as AsText, Json, Rewrites}
 
 -- the words behind the program's name ask for a command on a script
 abbrev pub AsksFor : List Text → Command → Text → Type 0
@@ -15,14 +15,19 @@ AsksFor words command script =
     (program : Text) → asked_for (program ∷ words)
     ≡ Some (record { command = command; script = script })
 
--- a command and its script; for `plan` maybe the flag, before the script or behind it; for `run`
+-- a command and its script; for `plan` maybe a flag, before the script or behind it; for `run`
 -- options with their values, in any order and with the script among them
 pub record TakesGrammar (script : Text) : Type 0 where
   pub check : AsksFor (codes "check" ∷ script ∷ []) Check script
   pub plan : AsksFor (codes "plan" ∷ script ∷ []) (Plan AsText) script
   pub json_before : AsksFor (codes "plan" ∷ codes "--json" ∷ script ∷ []) (Plan Json) script
   pub json_behind : AsksFor (codes "plan" ∷ script ∷ codes "--json" ∷ []) (Plan Json) script
+  pub rewrites_before : AsksFor (codes "plan" ∷ codes "--rewrites" ∷ script ∷ []) (Plan Rewrites)
+      script
+  pub rewrites_behind : AsksFor (codes "plan" ∷ script ∷ codes "--rewrites" ∷ []) (Plan Rewrites)
+      script
   pub direct : AsksFor (codes "direct" ∷ script ∷ []) Direct script
-  pub run : AsksFor (codes "run" ∷ script ∷ []) (Run standard) script
-  pub options : (parts : List Part) (settings : RunSettings) → AskForRun parts script settings
-      → AsksFor (codes "run" ∷ flat_map words_of parts) (Run settings) script
+  pub run : AsksFor (codes "run" ∷ script ∷ []) (Run standard None) script
+  pub options : (parts : List Part) (settings : RunSettings) (from : Option Text)
+      → AskForRun parts script settings from
+      → AsksFor (codes "run" ∷ flat_map words_of parts) (Run settings from) script

@@ -6,7 +6,7 @@ use Rattle.clap.specs.Words.{Text}
 use Rattle.run_settings.specs.Settings.{RunSettings, standard}
 use Rattle.run_settings.specs.Limits.{most_partitions, most_shards, most_tries, most_workers}
 use Rattle.command_words.specs.Options.{drill_given, number_given}
-use Rattle.command_words.specs.Words.{dash}
+use Rattle.command_words.specs.Words.{dash, plan_given}
 
 -- what stands behind `run`: the script, and options
 pub data Name : Type 0 where
@@ -16,6 +16,7 @@ pub data Name : Type 0 where
   Partitions : Name
   Tries : Name
   Fail : Name
+  PlanFile : Name
 
 -- the name of its matches; an option's word has it behind two hyphens
 abbrev pub id_of : Name → Text
@@ -25,6 +26,7 @@ id_of Shards = codes "shards"
 id_of Partitions = codes "partitions"
 id_of Tries = codes "tries"
 id_of Fail = codes "fail"
+id_of PlanFile = codes "plan"
 
 -- a part of the words, with its value
 pub record Part : Type 0 where
@@ -44,9 +46,10 @@ abbrev pub value_of : Name → List Part → Option Text
 value_of name parts =
     option_map (λ part. part.value) (find (λ part. bytes_eq (id_of part.name) (id_of name)) parts)
 
--- parts that ask for a run of the script with these settings: none comes twice, the script is one
--- of them, and what is not there is as usual
-pub record AskForRun (parts : List Part) (script : Text) (settings : RunSettings) : Type 0 where
+-- parts that ask for a run of the script with these settings, of the plan of a file where one is
+-- named: none comes twice, the script is one of them, and what is not there is as usual
+pub record AskForRun (parts : List Part) (script : Text) (settings : RunSettings)
+    (from : Option Text) : Type 0 where
   pub apart : AllPairs (λ one other. one.name ≢ other.name) parts
   pub for_script : value_of Script parts ≡ Some script
   pub for_workers : number_given standard.workers most_workers (value_of Workers parts)
@@ -58,3 +61,4 @@ pub record AskForRun (parts : List Part) (script : Text) (settings : RunSettings
   pub for_tries : number_given standard.tries most_tries (value_of Tries parts)
       ≡ Some settings.tries
   pub for_drill : drill_given (value_of Fail parts) ≡ Some settings.drill
+  pub for_plan : plan_given (value_of PlanFile parts) ≡ Some from

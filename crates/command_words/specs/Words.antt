@@ -8,11 +8,12 @@ use Rattle.clap.specs.Walk.{is_empty}
 use Rattle.clap.specs.declared.builder.action.ArgAction.TheVariants.{Set, SetTrue}
 use Rattle.drill_text.specs.Drills.{◌>>=◌}
 use Rattle.drill_text.specs.Numbers.{number_in}
+use Rattle.run_settings.specs.Settings.{RunSettings}
 use Rattle.command_words.specs.Options.{settings_given}
 use Rattle.command_words.specs.declared.words.Command.{Command}
 use Rattle.command_words.specs.declared.words.Command.TheVariants.{Check, Plan, Direct, Run}
 use Rattle.command_words.specs.declared.words.PlanForm.{PlanForm}
-use Rattle.command_words.specs.declared.words.PlanForm.TheVariants.{Text as AsText, Json}
+use Rattle.command_words.specs.declared.words.PlanForm.TheVariants.{Text as AsText, Json, Rewrites}
 use Rattle.command_words.specs.declared.workload.Workload.{Workload}
 
 -- ---- the command line
@@ -25,17 +26,19 @@ operand_rule name = record (new_rule name) { required = true; action = Some Set 
 abbrev pub script_rule : Rule
 script_rule = operand_rule (codes "script")
 
--- the flag `--json`
-abbrev pub json_rule : Rule
-json_rule = record (new_rule (codes "json")) { long = Some (codes "json"); action = Some SetTrue }
+-- a flag, under the name that it has as a word
+abbrev pub flag_rule : Text → Rule
+flag_rule name = record (new_rule name) { long = Some name; action = Some SetTrue }
 
 -- a command that takes a script
 abbrev pub script_app : Text → App
 script_app name = with_rule (new_app name) script_rule
 
--- the command `plan`, which takes a flag too
+-- the command `plan`, which takes flags too
 abbrev pub plan_app : App
-plan_app = with_rule (script_app (codes "plan")) json_rule
+plan_app =
+    with_rule (with_rule (script_app (codes "plan")) (flag_rule (codes "json")))
+    (flag_rule (codes "rewrites"))
 
 -- an option with a value, under the name that it has as a word
 abbrev pub option_rule : Text → Rule
@@ -48,11 +51,13 @@ run_app =
     (with_rule
     (with_rule
     (with_rule
+    (with_rule
     (with_rule (script_app (codes "run")) (option_rule (codes "workers")))
     (option_rule (codes "shards")))
     (option_rule (codes "partitions")))
     (option_rule (codes "tries")))
-    (option_rule (codes "fail"))
+    (option_rule (codes "fail")))
+    (option_rule (codes "plan"))
 
 -- the command `make`, which takes two numbers
 abbrev pub make_app : App
@@ -137,18 +142,47 @@ pub record Asked : Type 0 where
   pub command : Command
   pub script : List ℕ
 
--- how a plan is shown, by the flag's text
-abbrev pub form_of : Option Text → PlanForm
-form_of flag = if option_map_or (λ text. bytes_eq text (codes "true")) flag false then Json else
-    AsText
+-- a flag is set, by its text
+abbrev pub is_set : Option Text → Bool
+is_set flag = option_map_or (λ text. bytes_eq text (codes "true")) flag false
+
+-- how a plan is shown, by the texts of the flags, of which one at most is set
+abbrev pub form_of : Option Text → Option Text → Option PlanForm
+form_of json rewrites =
+    if is_set json then (if is_set rewrites then None else Some Json)
+    else Some (if is_set rewrites then Rewrites else AsText)
+
+-- the command that shows a plan so
+abbrev pub plan_of : Option Text → Option Text → Option Command
+plan_of json rewrites = option_map Plan (form_of json rewrites)
+
+-- the name of a plan's file, where it names something
+abbrev pub plan_named : Text → Option (Option Text)
+plan_named name = if is_operand name then Some (Some name) else None
+
+-- the file of the plan that the option's text names; none where the option is not there
+abbrev pub plan_given : Option Text → Option (Option Text)
+plan_given option = option_map_or plan_named option (Some None)
+
+-- a run by settings, of the plan of a file or of the script's own
+abbrev pub run_with : Option RunSettings → Option (Option Text) → Option Command
+run_with given named = do
+  settings ← given
+  from ← named
+  Some (Run settings from)
+
+-- the run that the options give, where each option is what it has to be
+abbrev pub run_of : List Row → Option Command
+run_of rows = run_with (settings_given rows) (plan_given (first_of (codes "plan") rows))
 
 -- the command of a name, by the matches of its own arguments
 abbrev pub command_of : Text → List Row → Option Command
 command_of name rows =
     if bytes_eq name (codes "check") then Some Check
-    else if bytes_eq name (codes "plan") then Some (Plan (form_of (first_of (codes "json") rows)))
+    else if bytes_eq name (codes "plan")
+    then plan_of (first_of (codes "json") rows) (first_of (codes "rewrites") rows)
     else if bytes_eq name (codes "direct") then Some Direct
-    else if bytes_eq name (codes "run") then option_map Run (settings_given rows)
+    else if bytes_eq name (codes "run") then run_of rows
     else None
 
 -- a command on the script that a word names

@@ -34,15 +34,22 @@ fn program<'a>(alloc: Global) -> Command<'a>
         .disable_help_subcommand(true)
 }
 
-// The command `plan`, with its flag.
+// The command `plan`, with its flags.
 fn plan_command<'a>(alloc: Global) -> Result<Command<'a>, AllocError>
     ensures app { IfOk result (λ command. app_of command ≡ spec.plan_app) }
     ensures local { IfOk result (λ command. (out-Command command).has_globals ≡ false) }
 {
-    let json = Arg::new(alloc, "json")
-        .long("json")
-        .action(ArgAction::SetTrue);
-    script_command(alloc, "plan")?.arg(json)
+    script_command(alloc, "plan")?
+        .arg(flag(alloc, "json"))?
+        .arg(flag(alloc, "rewrites"))
+}
+
+// A flag, under the name that it has as a word.
+fn flag<'a>(alloc: Global, name: &'a str) -> Arg<'a>
+    ensures rule { rule_of result ≡ spec.flag_rule name.entry.now }
+    ensures local { result.global ≡ false }
+{
+    Arg::new(alloc, name).long(name).action(ArgAction::SetTrue)
 }
 
 // The command `run`, with its options.
@@ -55,7 +62,8 @@ fn run_command<'a>(alloc: Global) -> Result<Command<'a>, AllocError>
         .arg(option(alloc, "shards"))?
         .arg(option(alloc, "partitions"))?
         .arg(option(alloc, "tries"))?
-        .arg(option(alloc, "fail"))
+        .arg(option(alloc, "fail"))?
+        .arg(option(alloc, "plan"))
 }
 
 // An option with a value, under the name that it has as a word.

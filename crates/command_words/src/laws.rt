@@ -4,9 +4,9 @@ ghost use Rattle.command_words.specs.Grammar.{TakesGrammar};
 ghost use Rattle.command_words.specs.Words.{is_operand, most_made, workload, workload_for};
 
 /// Words of the grammar are never refused, and ask for what they say: each command with a script,
-/// `plan` with the flag before the script or behind it, and `run` with any of its options, each
-/// once and with a value of its kind, in any order and with the script among them. A script is a
-/// word that is not empty and does not begin with `-`.
+/// `plan` with one of its flags before the script or behind it, and `run` with any of its options,
+/// each once and with a value of its kind, in any order and with the script among them. A script,
+/// or the file of a plan, is a word that is not empty and does not begin with `-`.
 pub fn grammar_law(script: &str)
     requires { is_operand script.now ≡ true }
     ensures { TakesGrammar script.now }

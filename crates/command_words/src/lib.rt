@@ -1,11 +1,12 @@
 //! What the words of a command line ask for.
 //!
 //! `asked_for` reads them with `clap`: behind the program's name stand a command and a script, for
-//! `plan` maybe the flag `--json`, and for `run` maybe options, which say how the run is carried
-//! out. What the words ask for is said by the matches that `clap` defines (specs/Words.antt, and
-//! specs/Options.antt for the options). `grammar_law` says it in plain words (specs/Grammar.antt):
-//! the options of `run` and the script may come in any order (specs/Parts.antt). `make` has no
-//! script: `workload_for` reads its two numbers, and `make_law` says which words are taken.
+//! `plan` maybe one of its flags, and for `run` maybe options, which say how the run is carried
+//! out, and of which plan. What the words ask for is said by the matches that `clap` defines
+//! (specs/Words.antt, and specs/Options.antt for the options). `grammar_law` says it in plain words
+//! (specs/Grammar.antt): the options of `run` and the script may come in any order
+//! (specs/Parts.antt). `make` has no script: `workload_for` reads its two numbers, and `make_law`
+//! says which words are taken.
 #![tactic(auto)]
 
 mod command_line;

@@ -10,6 +10,7 @@ use crate::matches::text_of;
 use crate::options::settings_given;
 use clap::ArgMatches;
 use clap::error::ErrorKind;
+use outside::FileName;
 use run_settings::Settings;
 use std::alloc::{AllocError, Global};
 
@@ -20,6 +21,8 @@ pub enum PlanForm {
     Text,
     /// As JSON.
     Json,
+    /// As JSON, with the rewrites that lead to it.
+    Rewrites,
 }
 
 /// What a call is to do with a script.
@@ -31,8 +34,9 @@ pub enum Command {
     Plan(PlanForm),
     /// Write the files of its direct meaning.
     Direct,
-    /// Write the same files by a run with these settings, and show its plan.
-    Run(Settings),
+    /// Write the same files by a run with these settings, and show its plan: that of the file of
+    /// this name, or where none is named the script's own.
+    Run(Settings, Option<FileName>),
 }
 
 /// What the words of a command line ask for: a command, and the name of a script.
@@ -43,8 +47,8 @@ pub struct Asked<'a> {
 }
 
 /// What the words ask for, the program's name first: nothing where `clap` refuses them, where the
-/// script is empty or begins with `-`, or where an option is not what it has to be. Fails only
-/// where no memory is left.
+/// script or the file of a plan is empty or begins with `-`, or where an option is not what it has
+/// to be. Fails only where no memory is left.
 pub fn asked_for(alloc: Global, words: &[String]) -> Result<Option<Asked<'_>>, AllocError>
     ensures { IfOk result (λ asked. option_map asked_in asked
         ≡ spec.asked_for (map string_bytes words.now)) }
@@ -114,20 +118,76 @@ fn command_of(
 {
     match name {
         "check" => Ok(Some(Command::Check)),
-        "plan" => Ok(Some(Command::Plan(form_of(text_of(found, "json"))))),
+        "plan" => Ok(plan_shown(text_of(found, "json"), text_of(found, "rewrites"))),
         "direct" => Ok(Some(Command::Direct)),
-        "run" => Ok(settings_given(alloc, found)?.map(Command::Run)),
+        "run" => run_given(alloc, found),
         _ => Ok(None),
     }
 }
 
-// How a plan is shown, by the text of the flag.
-fn form_of(flag: Option<&str>) -> PlanForm
-    ensures { result ≡ spec.form_of (option_map (λ text. text.now) flag.entry) }
+// The run that the options ask for, where each is what it has to be.
+fn run_given(alloc: Global, found: &ArgMatches<'_>) -> Result<Option<Command>, AllocError>
+    ensures { IfOk result (λ command. command ≡ spec.run_of (rows_of (found_of found.now))) }
+{
+    let from = plan_given(alloc, text_of(found, "plan"))?;
+    let settings = settings_given(alloc, found)?;
+    Ok(run_with(settings, from))
+}
+
+// A run by settings, of the plan of a file or of the script's own.
+fn run_with(settings: Option<Settings>, from: Option<Option<FileName>>) -> Option<Command>
+    ensures { result ≡ spec.run_with settings from }
+{
+    let settings = settings?;
+    let from = from?;
+    Some(Command::Run(settings, from))
+}
+
+// The file of the plan that the option's text names, or none where the option is not there.
+fn plan_given(alloc: Global, option: Option<&str>) -> Result<Option<Option<FileName>>, AllocError>
+    ensures { IfOk result (λ from.
+        from ≡ spec.plan_given (option_map (λ text. text.now) option.entry)) }
+{
+    match option {
+        Some(text) => plan_named(alloc, text),
+        None => Ok(Some(None)),
+    }
+}
+
+// The name of a plan's file, where it names something.
+fn plan_named(alloc: Global, text: &str) -> Result<Option<Option<FileName>>, AllocError>
+    ensures { IfOk result (λ from. from ≡ spec.plan_named text.now) }
+{
+    if !is_operand(text) {
+        return Ok(None);
+    }
+    Ok(Some(Some(FileName::new(alloc, text)?)))
+}
+
+// The command that shows a plan, where one flag at most is set.
+fn plan_shown(json: Option<&str>, rewrites: Option<&str>) -> Option<Command>
+    ensures { result ≡ spec.plan_of (option_map (λ text. text.now) json.entry)
+        (option_map (λ text. text.now) rewrites.entry) }
+{
+    if is_set(json) {
+        if is_set(rewrites) {
+            return None;
+        }
+        return Some(Command::Plan(PlanForm::Json));
+    }
+    if is_set(rewrites) {
+        return Some(Command::Plan(PlanForm::Rewrites));
+    }
+    Some(Command::Plan(PlanForm::Text))
+}
+
+// Whether a flag is set, by its text.
+fn is_set(flag: Option<&str>) -> bool
+    ensures { result ≡ spec.is_set (option_map (λ text. text.now) flag.entry) }
 {
     match flag {
-        Some(text) if text == "true" => PlanForm::Json,
-        _ => PlanForm::Text,
+        Some(text) => text == "true",
+        None => false,
     }
 }
 

@@ -4,9 +4,9 @@
 //! of all others is that of run_course: the words are read, and the script is loaded, parsed and
 //! checked, which is all that `check` does; `plan` shows the script's graph and plan. For `direct`
 //! and `run` each input that the script needs is loaded and decoded; `direct` then works out the
-//! script's direct meaning, node by node, and `run` has the tasks of the script's plan made by
-//! workers on hosts. Only then the output files are written, and the screen's text. Each command
-//! takes every accepted script.
+//! script's direct meaning, node by node, and `run` has the tasks of the script's plan, or of that
+//! of a file, made by workers on hosts. Only then the output files are written, and the screen's
+//! text. Each command takes every accepted script.
 //!
 //! The contract of `flume` is `Promises` (specs/Promises.antt): for words of `make` it is `Makes`
 //! of made_course, and for the others `Promises` of run_course, each with a field for each answer.
@@ -14,15 +14,17 @@
 //! direct meaning, and the screen has the text of its command; for `run` each task of the plan was
 //! run. Each other field gives the cause of its answer, and what stands afterwards. Their words
 //! stand in the specs/ of the crates below: Words of command_words, Asked, Asks, Hosts, Lent,
-//! Written and Answers of run_course, Files, Runs and Answers of made_course, Rows, Sums and Keyed
-//! of made_rows for the made input, Accepted and Loads of script_loading for the scripts and their
-//! inputs, Direct of direct_meaning for the meaning, Told of plan_phases for the tasks of a run,
-//! Texts and Lines of run_texts for what is printed.
+//! Plans, Written and Answers of run_course, Files, Runs and Answers of made_course, Rows, Sums and
+//! Keyed of made_rows for the made input, Accepted and Loads of script_loading for the scripts and
+//! their inputs, Plans of outer_plans for the files of plans, Direct of direct_meaning for the
+//! meaning, Told of plan_phases for the tasks of a run, Texts and Lines of run_texts for what is
+//! printed.
 #![tactic(auto)]
 
 mod top;
 
 pub use flume_grammar::ScriptKind;
+pub use plan_faults::PlanKind;
 pub use run_texts::{Place, Status};
-pub use script_loading::{INPUT_LIMIT, SCRIPT_LIMIT};
+pub use script_loading::{INPUT_LIMIT, PLAN_LIMIT, SCRIPT_LIMIT};
 pub use top::flume;

@@ -27,7 +27,9 @@ use std::thread::Threads;
 /// needs is loaded and decoded, in order of the script. `direct` works out the script's direct
 /// meaning; `run` has the tasks of the plan made by workers, each on a host that it is lent, the
 /// first hosts, in a thread of its own. An attempt of a task whose host is down, or that the drill
-/// names, is lost, and the task is tried again, as often as `--tries` says.
+/// names, is lost, and the task is tried again, as often as `--tries` says. With `--plan` the plan
+/// is that of a file, which is loaded behind the inputs: it is run where its rewrites lead from the
+/// script's graph to it, and refused else.
 ///
 /// Only then the output files are written to the shelf, in order of the output statements, and then
 /// the text of the screen: for `run` the execution graph and the plan, for `direct` and `run` the

@@ -16,7 +16,7 @@ use Rattle.exec_graph.specs.Meaning.{place, node_at, reads, IsThere}
 use Rattle.exec_graph.specs.Readers.{among, any_node, calls_on, readers, same_place, those}
 use Rattle.exec_graph.proofs.Entries.{all_found}
 use Rattle.pardo_fuse.specs.Readers.{Cut, cut_of, is_pdo, is_unmarked}
-use Rattle.pardo_fuse.specs.Fusing.{fused, is_first}
+use Rattle.pardo_fuse.specs.Fusing.{fused_by_parents, is_first}
 use Rattle.pardo_fuse.specs.SingleFusing.{CanFuse, fused_by, joined_nodes}
 use Rattle.pardo_fuse.specs.Parting.{parted}
 use Rattle.pardo_fuse.specs.Wellformed.{IsFusible}
@@ -27,9 +27,11 @@ use Rattle.pardo_fuse.proofs.Once.{there_zero}
 use Rattle.pardo_fuse.proofs.Places.{and_left, pdo_is, place_is, same_is, same_self}
 use Rattle.pardo_fuse.proofs.Seeing.{any_at}
 use Rattle.fuse_chain.specs.Cuts.{IsNextKid, siblings_of}
+use Rattle.fuse_chain.specs.Numbers.{ReadsInner, after_kid, after_kids}
 use Rattle.fuse_chain.specs.Rewrites.{ByKids, InOrder, IsKid, Kid, Leads, Rewrite, is_sibling, other_of}
 use Rattle.fuse_chain.proofs.CutStates.{any_two}
-use Rattle.fuse_chain.proofs.KidSteps.{kid_of_cut}
+use Rattle.fuse_chain.proofs.KidSteps.{keeper_is, kid_of_cut}
+use Rattle.fuse_chain.proofs.LeastSteps.{IsNumbering, next_numbering}
 use Rattle.fuse_chain.proofs.Splits.{append_end, end, found_of, those_none, those_two}
 use Rattle.fuse_chain.proofs.States.{graph_of}
 
@@ -116,6 +118,9 @@ pub record KidsFrom (b : Blocked) (done rest : List Entry) : Type 0 where
   pub leads : Leads rewrites (cut_graph (later b done)) (cut_graph (later b b.graph.nodes))
   pub above : (low : ℕ) → Each (λ (d : Entry). d.number < b.graph.next → low < d.number) rest
       → Each (λ r. low < other_of r) rewrites
+  pub inner : Each (λ r. ReadsInner b (other_of r)) rewrites
+  pub numbered : (l : ℕ → ℕ) → IsNumbering (later b done) l
+      → IsNumbering (later b b.graph.nodes) (after_kids rewrites l)
 
 module _ (b : Blocked) (chain : CanChain b) where
   can : CanFuse (cut_of b)
@@ -184,6 +189,9 @@ module _ (b : Blocked) (chain : CanChain b) where
     leads = subst (λ (k : Cut). Leads i.rewrites (cut_graph k) (cut_graph (later b es)))
         (stays b done e h) i.leads;
     above = λ low a. i.above low a.1;
+    inner = i.inner;
+    numbered = λ l x. i.numbered l
+        (subst (λ (k : Cut). IsNumbering k l) (sym (stays b done e h)) x);
   }
 
   kids_more : (done rest : List Entry) (e : Entry) (d : Place) (f : Forest)
@@ -211,6 +219,25 @@ module _ (b : Blocked) (chain : CanChain b) where
           i.leads,
         );
         above = λ low a. (a.0 here, i.above low a.1);
+        inner = (
+          record {
+            source = d;
+            forest = f;
+            at = found_of es done rest e can.ok.differ split
+                ∙ ap (λ (x : Node). Some x) is;
+            inner = u;
+          },
+          i.inner,
+        );
+        numbered = λ l x. i.numbered (after_kid l step.0 e.number)
+            (subst (λ (k : Cut). IsNumbering k (after_kid l step.0 e.number))
+            (sym (grows b done e d f is zero u))
+            (subst (λ (s : ℕ). IsNumbering (more_inner (later b done) d.node)
+            (after_kid l s e.number))
+            (sym (keeper_is (later b done) d.node e.number (can_later b done can)
+            (more_of done rest e d f split is u none)))
+            (next_numbering (later b done) d.node e.number (can_later b done can)
+            (more_of done rest e d f split is u none) l x)));
       }
 
   kids_node : (done rest : List Entry) (e : Entry) → es ≡ done ++ (e ∷ rest)
@@ -244,6 +271,9 @@ module _ (b : Blocked) (chain : CanChain b) where
     order = tt;
     leads = ap (λ (l : List Entry). cut_graph (later b l)) (sym (split ∙ append-nil done));
     above = λ low a. tt;
+    inner = tt;
+    numbered = λ l x. subst (λ (ds : List Entry). IsNumbering (later b ds) l)
+        (sym (split ∙ append-nil done)) x;
   }
   kids_from done (e ∷ rest) split = kids_node done rest e split e.node refl
       (kids_from (end done e) rest (split ∙ append_end done e rest))
@@ -257,9 +287,12 @@ module _ (b : Blocked) (chain : CanChain b) where
       by true false = refl
       by false a = refl
 
-  kids_last : ByKids (cut_graph (siblings_of b)) (cut_graph (cut_of b))
+  all_kids : KidsFrom b [] es
+  all_kids = kids_from [] es refl
+
+  pub kids_last : ByKids (cut_graph (siblings_of b)) (cut_graph (cut_of b))
   kids_last =
-      let i : KidsFrom b [] es = kids_from [] es refl in
+      let i : KidsFrom b [] es = all_kids in
       record {
         rewrites = i.rewrites;
         all = i.all;
@@ -268,12 +301,23 @@ module _ (b : Blocked) (chain : CanChain b) where
             last_cut i.leads;
       }
 
+  pub kids_numbered : (l : ℕ → ℕ) → IsNumbering (later b []) l
+      → IsNumbering (cut_of b) (after_kids kids_last.rewrites l)
+  unfolding kids_last all_kids
+  kids_numbered l x =
+      subst (λ (k : Cut). IsNumbering k (after_kids all_kids.rewrites l)) last_cut
+      (all_kids.numbered l x)
+
+  pub kids_inner : Each (λ r. ReadsInner b (other_of r)) kids_last.rewrites
+  unfolding kids_last all_kids
+  kids_inner = all_kids.inner
+
   pub kids_by : ByKids (cut_graph (siblings_of b)) (fused_by (cut_of b)).graph
   unfolding fused_by
   kids_by = kids_last
 
 pub kids_lead : (b : Blocked) → IsFusible b
-    → ByKids (fused_by (siblings_of (parted b))).graph (fused b).graph
+    → ByKids (fused_by (siblings_of (parted b))).graph (fused_by_parents b).graph
 unfolding fused_by
 kids_lead b fu = subst (λ (d : Blocked). ByKids (cut_graph (siblings_of (parted b))) d.graph)
     (sym (joined_is b fu)) (kids_by (parted b) (can_chain b fu))

@@ -214,10 +214,10 @@ module _ (b : Cut) (n q : ℕ) (can : CanFuse b) (more : IsNextKid b n q) where
   can_next : CanFuse next
   can_next = can_more b n can more.pdo
 
-  reader : IsReader b d q
+  pub reader : IsReader b d q
   reader = first_reads b d q can more.first
 
-  lead_q : leads b q d ≡ true
+  pub lead_q : leads b q d ≡ true
   lead_q = leads_if b q d more.outer more.first
 
   kept_n : keep n ≡ true
@@ -228,7 +228,7 @@ module _ (b : Cut) (n q : ℕ) (can : CanFuse b) (more : IsNextKid b n q) where
       (ap (λ r. cond r false true && any_node (calls_on d) es) more.outer
       ∙ any_at (calls_on d) es q (Pdo d reader.0) reader.1 (same_self d)))
 
-  hold : IsHolder b n
+  pub hold : IsHolder b n
   hold = holder b n can (any_joined b n can g more.pdo kept_n)
 
   abbrev p : ℕ
@@ -246,7 +246,7 @@ module _ (b : Cut) (n q : ℕ) (can : CanFuse b) (more : IsNextKid b n q) where
   at_q : node_at (joined_nodes b) q ≡ Some (Pdo d (forest_of b d))
   at_q = leader_found b q d reader.0 reader.1 lead_q
 
-  differ : p ≡ q → ⊥
+  pub differ : p ≡ q → ⊥
   differ = kid_differ (joined_nodes b) b.graph.outputs b.graph.next p q n c (forest_of b c)
       (forest_of b d) state (cut_sound b can) at_p at_q hold.has
 
@@ -254,7 +254,7 @@ module _ (b : Cut) (n q : ℕ) (can : CanFuse b) (more : IsNextKid b n q) where
   owner_p = owner_led b can g p c hold.old hold.at hold.leads n hold.has
 
   -- ---- no other forest has the step of n
-  none_of : (m : ℕ) (e : Place) (f : Forest) → node_at es m ≡ Some (Pdo e f)
+  pub none_of : (m : ℕ) (e : Place) (f : Forest) → node_at es m ≡ Some (Pdo e f)
       → leads b m e ≡ true → (m ≡ p → ⊥) → times n (numbers (all_of b e)) ≡ 0
   none_of m e f at l none = by (times n (numbers (all_of b e))) refl
     where
@@ -277,7 +277,7 @@ module _ (b : Cut) (n q : ℕ) (can : CanFuse b) (more : IsNextKid b n q) where
       by false e = sym (held_other i (λ j. false≢true (sym e ∙ eq-eqb i n j))) ∙ h
 
   -- ---- the forests then
-  trees_next : (e : Place) → times n (numbers (all_of b e)) ≤ 1
+  pub trees_next : (e : Place) → times n (numbers (all_of b e)) ≤ 1
       → all_of next e ≡ grafted n (all_of b d) (all_of b e)
   trees_next e few = next_trees b n e g (all_grown next can_next) more.outer
       (none_of q d reader.0 reader.1 lead_q (λ i. differ (sym i))) few
@@ -301,7 +301,7 @@ module _ (b : Cut) (n q : ℕ) (can : CanFuse b) (more : IsNextKid b n q) where
       ∙ ap (kept_by held) (sym (grafted_kept keep n (all_of b d) (all_of b c) kept_n))
 
   -- ---- the plan then
-  leads_next : (m : ℕ) (e : Place)
+  pub leads_next : (m : ℕ) (e : Place)
       → leads next m e ≡ cond (same_place e d) false (leads b m e)
   leads_next m e = by (same_place e d) (b.inner e)
     where
@@ -375,6 +375,12 @@ module _ (b : Cut) (n q : ℕ) (can : CanFuse b) (more : IsNextKid b n q) where
         (λ i x. sym (ap (λ l. is_read (named_graph l b.graph.outputs) (place i 0)) next_nodes
         ∙ read_kept next (place i 0) can_next))),
   )
+
+-- the Pdo that stays is the one with the output
+pub keeper_is : (b : Cut) (n q : ℕ) (can : CanFuse b) (more : IsNextKid b n q)
+    → (kid_of_cut b n q can more).0 ≡ (hold b n q can more).number
+unfolding kid_of_cut
+keeper_is b n q can more = refl
 
 pub kid_lead : (b : Cut) (n q : ℕ) → CanFuse b → IsNextKid b n q
     → BecomesKid q (fused_by b).graph (fused_by (with_inner b n)).graph

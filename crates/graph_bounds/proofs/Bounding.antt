@@ -14,11 +14,13 @@ use Rattle.exec_graph.specs.declared.graph.Entry.{Entry}
 use Rattle.exec_graph.specs.declared.graph.Graph.{Graph}
 use Rattle.exec_graph.specs.declared.graph.Blocked.{Blocked}
 use Rattle.exec_graph.specs.ObjectFree.{IsNodeFree, IsObjectFree}
-use Rattle.exec_graph.proofs.Entries.{all_found}
+use Rattle.exec_graph.proofs.Entries.{all_found, all_map}
 use Rattle.graph_laws.specs.Joining.{reread}
 use Rattle.graph_laws.specs.Lifting.{lifted}
 use Rattle.sink_laws.specs.Chain.{IsSunk}
-use Rattle.pardo_fuse.specs.Fusing.{finished, forest_over, fused, hanging, hung, in_turn, joined_by, kept_nodes, kept_of, kids_on, leads, moved_to, step_in, with_numbers}
+use Rattle.pardo_fuse.specs.Fusing.{finished, forest_over, fused, fused_by_parents, hanging, hung, in_turn, joined_by, kept_nodes, kept_of, kids_on, leads, least_of, moved_to, step_in, with_numbers}
+use Rattle.pardo_fuse.specs.Renumbering.{at_number, in_order, renumbered_entry}
+use Rattle.pardo_fuse.proofs.Sorting.{order_all}
 use Rattle.pardo_fuse.proofs.Parting.{IsRow, row_of}
 use Rattle.pardo_fuse.specs.Readers.{Cut, cut_of}
 use Rattle.graph_laws.specs.Single.{HasSteps, IsOneStep, most_outputs, width}
@@ -165,19 +167,58 @@ few b fu = Each-both (λ (e : Entry). HasSteps IsOneStep e.node)
     by (Gbk c o l k) s w = tt
     by (Barrier ins o l a) s w = tt
 
-pub such_fused : (n : Input ⊎ Act → Type 0) (b : Blocked) → IsFusible b → BringSuch n b.graph.nodes
-    → BringSuch n (fused b).graph.nodes
+such_parents : (n : Input ⊎ Act → Type 0) (b : Blocked) → IsFusible b → BringSuch n b.graph.nodes
+    → BringSuch n (fused_by_parents b).graph.nodes
 unfolding joined_by
-such_fused n b can h =
+such_parents n b can h =
     let hs : List Entry = kept_nodes (cut_of b) in
     all_below (moved_to hs) n hs (all_left (cut_of b) n b.graph.nodes (few b can) h)
 
-narrow_fused : (n : Input ⊎ Act → Type 0) (b : Blocked) → IsFusible b → BringSuch n b.graph.nodes
-    → AllByRecursion (λ e. IsNarrow e.node) (fused b).graph.nodes
+narrow_parents : (n : Input ⊎ Act → Type 0) (b : Blocked) → IsFusible b
+    → BringSuch n b.graph.nodes
+    → AllByRecursion (λ e. IsNarrow e.node) (fused_by_parents b).graph.nodes
 unfolding joined_by
-narrow_fused n b can h =
+narrow_parents n b can h =
     let hs : List Entry = kept_nodes (cut_of b) in
     all_narrow (moved_to hs) n hs (all_left (cut_of b) n b.graph.nodes (few b can) h)
+
+-- ---- under other numbers
+
+such_reread : (n : Input ⊎ Act → Type 0) (r : Place → Place) (x : Node) → BringsSuch n x
+    → BringsSuch n (reread r x)
+such_reread n r (Source s) h = h
+such_reread n r (Flatten ins) h = h
+such_reread n r (Pdo c f) h = h
+such_reread n r (Gbk c o l k) h = h
+such_reread n r (Barrier ins o l a) h = h
+
+narrow_reread : (r : Place → Place) (x : Node) → IsNarrow x → IsNarrow (reread r x)
+narrow_reread r (Source s) h = h
+narrow_reread r (Flatten ins) h = h
+narrow_reread r (Pdo c f) h = h
+narrow_reread r (Gbk c o l k) h = h
+narrow_reread r (Barrier ins o l a) h = h
+
+-- what holds of nodes, whatever they read, holds of them under other numbers
+all_renumbered : (P : Node → Type 0) → ((r : Place → Place) (x : Node) → P x → P (reread r x))
+    → (l : ℕ → ℕ) (es : List Entry) → AllByRecursion (λ e. P e.node) es
+    → AllByRecursion (λ e. P e.node) (in_order (map (renumbered_entry l) es))
+all_renumbered P still l es a =
+    order_all (λ e. P e.node) (map (renumbered_entry l) es)
+    (all_map (renumbered_entry l) (λ e. P e.node) (λ e. P e.node)
+    (λ e h. still (at_number l) e.node h) es a)
+
+pub such_fused : (n : Input ⊎ Act → Type 0) (b : Blocked) → IsFusible b → BringSuch n b.graph.nodes
+    → BringSuch n (fused b).graph.nodes
+such_fused n b can h =
+    all_renumbered (BringsSuch n) (such_reread n) (least_of (cut_of b))
+    (fused_by_parents b).graph.nodes (such_parents n b can h)
+
+narrow_fused : (n : Input ⊎ Act → Type 0) (b : Blocked) → IsFusible b → BringSuch n b.graph.nodes
+    → AllByRecursion (λ e. IsNarrow e.node) (fused b).graph.nodes
+narrow_fused n b can h =
+    all_renumbered IsNarrow narrow_reread (least_of (cut_of b))
+    (fused_by_parents b).graph.nodes (narrow_parents n b can h)
 
 -- ---- the bounds
 pub such_below : (n : ℕ) (es : List Entry) → AllByRecursion (λ e. IsSourceBelow n e.node) es

@@ -34,9 +34,10 @@ use Rattle.graph_laws.proofs.Nearly.{comb_mapped}
 use Rattle.graph_laws.proofs.ObjectNodes.{object_mapped, objects_reread_there}
 use Rattle.graph_laws.proofs.Reading.{any_here, ascends_map, ascends_set, size_map, size_set, those_has}
 use Rattle.graph_laws.proofs.Wellness.{differ_map, differ_set, mapped, node_at-map, node_at-set_other, node_at-set_same, outs_reread, reads_lower, reads_reread, there_by, there_mapped}
+use Rattle.pardo_fuse.proofs.Elsewhere.{holds_moved, typed_at}
+use Rattle.pardo_fuse.proofs.Passing.{any_found, any_listed, those_single}
 use Rattle.graph_rewrites.specs.Exchange.{exchanged, other_number, swapped}
-use Rattle.graph_rewrites.proofs.Passing.{any_found, any_listed, those_single}
-use Rattle.graph_rewrites.proofs.Numbers.{among_exchanged, calls_exchanged, collects_exchanged, exchanged_twice, holds_moved, other_far, other_left, other_right, other_twice, sum_swapped, typed_at, uses_exchanged}
+use Rattle.graph_rewrites.proofs.Numbers.{among_exchanged, calls_exchanged, collects_exchanged, exchanged_twice, other_far, other_left, other_right, other_twice, sum_swapped, uses_exchanged}
 
 -- ---- the exchange
 module _ (g : Graph) (p q : ℕ) (c d : Place) (f h : Forest) (ok : IsSound g)

@@ -1,6 +1,5 @@
 pub mod Steady
 pub mod Narrow
-pub mod Passing
 pub mod Numbers
 pub mod Exchange
 pub mod Keeping

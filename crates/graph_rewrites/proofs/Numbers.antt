@@ -1,16 +1,11 @@
--- Two numbers that are exchanged: what places, nodes, readers and sums become.
+-- Two numbers that are exchanged: what places, readers and sums become.
 use Rattle.std.proofs.Common.{◌≡◌, ℕ, Bool, true, false, cond, eqb, ◌||◌, List, [], ◌∷◌, map, Some, refl, sym, ap, ◌∙◌, subst}
 use Rattle.std.specs.List.{AllByRecursion as Each, flat_map}
 use Rattle.std.proofs.lemmas.Bool.{eqb-true, eq-eqb, false≢true}
-use Rattle.flume_collection.specs.Collection.{Collection, by_key, together}
 use Rattle.flume_collection.specs.Sets.{gather}
 use Rattle.flume_collection.proofs.Bagging.{Swaps, gather-gather}
-use Rattle.flume_types.specs.declared.types.Ty.{Ty}
-use Rattle.exec_graph.specs.Meaning.{FitsForest, Holds, gives, node_at, place, reads}
-use Rattle.exec_graph.specs.Objects.{act_result}
+use Rattle.exec_graph.specs.Meaning.{node_at, place}
 use Rattle.exec_graph.specs.Readers.{among, calls_on, collects, same_place, uses}
-use Rattle.exec_graph.specs.Typing.{ActTyped, ForestTyped, NodeTyped, Signatures}
-use Rattle.exec_graph.specs.World.{World}
 use Rattle.exec_graph.specs.declared.graph.Place.{Place}
 use Rattle.exec_graph.specs.declared.graph.Node.{Node}
 use Rattle.exec_graph.specs.declared.graph.Node.TheVariants.{Source, Flatten, Pdo, Gbk, Barrier}
@@ -20,9 +15,6 @@ use Rattle.exec_graph.proofs.Entries.{entry}
 use Rattle.fusion_blocks.proofs.Marking.{is_same, same_is}
 use Rattle.graph_laws.specs.Joining.{reread, set_node, without}
 use Rattle.graph_laws.proofs.Changes.{node_at-without_other, sum_at, sum_set}
-use Rattle.graph_laws.proofs.Joining.{fits_moved, map_reread}
-use Rattle.graph_laws.proofs.TypedForests.{typed_moved}
-use Rattle.graph_laws.proofs.TypedGraphs.{types_reread}
 use Rattle.graph_laws.proofs.Wellness.{node_at-set_other}
 use Rattle.graph_rewrites.specs.Exchange.{exchanged, other_number}
 
@@ -133,45 +125,3 @@ sum_swapped s sw F es p q x y b at_p at_q apart e i =
     ∙ ap (gather s (F (entry q x))) (sym (sum_set s sw F rest p y x b at_rest)
     ∙ ap (λ (l : List Entry). gather s (flat_map F l) b) (sym (without_set es p q y apart)))
     ∙ sym (sum_set s sw F once q x y b at_once)
-
--- ---- nodes of other numbers, which read elsewhere
-pub holds_moved : (w : World) (k m : Place → Collection) (r : Place → Place) (n i : ℕ) (z : Node)
-    → Each (λ c. k (r c) ≡ m c) (reads z) → ((j : ℕ) → k (place i j) ≡ m (place n j))
-    → Holds w m n z → Holds w k i (reread r z)
-holds_moved w k m r n i (Source s) a o h = o 0 ∙ h
-holds_moved w k m r n i (Flatten ins) a o h =
-    o 0 ∙ h ∙ ap together (sym (map_reread k m r ins a))
-holds_moved w k m r n i (Pdo c f) a o h =
-    subst (λ (v : Collection). FitsForest w k i v f) (sym a.0)
-    (fits_moved w m k n i (m c) f (λ j _. o j) h)
-holds_moved w k m r n i (Gbk c s l e) a o h = o 0 ∙ h ∙ ap by_key (sym a.0)
-holds_moved w k m r n i (Barrier ins s l e) a o h =
-    o 0 ∙ h ∙ ap (act_result w s e) (sym (map_reread k m r ins a))
-
-flat_moved : (types new : Place → Ty) (r : Place → Place) (t u : Ty) (cs : List Place) → u ≡ t
-    → Each (λ c. new (r c) ≡ types c) cs → Each (λ c. types c ≡ t) cs
-    → Each (λ c. new c ≡ u) (map r cs)
-flat_moved types new r t u [] e a b = tt
-flat_moved types new r t u (c ∷ cs) e a b =
-    (a.0 ∙ b.0 ∙ sym e, flat_moved types new r t u cs e a.1 b.1)
-
-pub typed_at : (s : Signatures) (types new : Place → Ty) (r : Place → Place) (n i : ℕ) (z : Node)
-    → Each (λ c. new (r c) ≡ types c) (reads z)
-    → ((j : ℕ) → new (place i j) ≡ types (place n j)) → NodeTyped s types n z
-    → NodeTyped s new i (reread r z)
-typed_at s types new r n i (Source x) a o h = o 0 ∙ h
-typed_at s types new r n i (Flatten ins) a o h =
-    flat_moved types new r (types (place n 0)) (new (place i 0)) ins (o 0) a h
-typed_at s types new r n i (Pdo c f) a o h =
-    subst (λ (t : Ty). ForestTyped s new i t f) (sym a.0)
-    (typed_moved s types new n i (types c) f (λ j _. o j) h)
-typed_at s types new r n i (Gbk c x l k) a o h = record {
-  key = h.key;
-  value = h.value;
-  takes = a.0 ∙ h.takes;
-  gives = o 0 ∙ h.gives;
-}
-typed_at s types new r n i (Barrier ins x l d) a o h =
-    subst (ActTyped s d (map new (map r ins))) (sym (o 0))
-    (subst (λ (ts : List Ty). ActTyped s d ts (types (place n 0)))
-    (sym (types_reread new types r ins a)) h)

@@ -3,6 +3,7 @@ use csv_rows::RowKind;
 use flume_grammar::ScriptKind;
 use flume_value::{Pile, Str};
 use outside::{MemScreen, Phase};
+use plan_faults::PlanKind;
 use run_texts::{Place, Status, made_line, tell};
 use std::alloc::{AllocError, Global};
 use std::process::Abort;
@@ -89,6 +90,29 @@ fn tells_which_file_failed(rt: HostRuntime) -> Result<(), Fail> {
     check(&rt, alloc, read, (6, b"read fault: \"in.csv\"\n"))?;
     let none = Status::NoFile { name: name(alloc)? };
     check(&rt, alloc, none, (11, b"no file: \"in.csv\"\n"))
+}
+
+fn check_refused_plan<R: Abort>(
+    rt: &R,
+    alloc: Global,
+    step: u32,
+    kind: PlanKind,
+    line: &[u8],
+) -> Result<(), Fail> {
+    check(rt, alloc, Status::PlanRefused { step, kind }, (12, line))
+}
+
+#[test]
+fn tells_why_a_plan_is_refused(rt: HostRuntime) -> Result<(), Fail> {
+    let alloc = rt.alloc();
+    let no_json = b"plan refused at step 0: NotJson\n";
+    check_refused_plan(&rt, alloc, 0, PlanKind::NotJson, no_json)?;
+    let shape = b"plan refused at step 0: Shape\n";
+    check_refused_plan(&rt, alloc, 0, PlanKind::Shape, shape)?;
+    let bad_step = b"plan refused at step 1: BadStep\n";
+    check_refused_plan(&rt, alloc, 1, PlanKind::BadStep, bad_step)?;
+    let differs = b"plan refused at step 4294967295: Differs\n";
+    check_refused_plan(&rt, alloc, 4_294_967_295, PlanKind::Differs, differs)
 }
 
 #[test]

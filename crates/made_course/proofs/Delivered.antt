@@ -8,7 +8,7 @@ use Rattle.run_course.specs.inner.Course.{Delivers}
 use Rattle.run_texts.specs.Lines.{line_of}
 use Rattle.run_texts.specs.declared.status.Place.TheVariants.{File, Screen}
 use Rattle.run_texts.specs.declared.status.Status.{Status}
-use Rattle.run_texts.specs.declared.status.Status.TheVariants.{Done, GaveUp, Usage, ScriptRefused, InputRefused, Trap, ReadFault, WriteFault, WantOfMemory, TooLong, NoFile}
+use Rattle.run_texts.specs.declared.status.Status.TheVariants.{Done, GaveUp, Usage, ScriptRefused, InputRefused, Trap, ReadFault, WriteFault, WantOfMemory, TooLong, NoFile, PlanRefused}
 use Rattle.made_course.specs.Answers.{Answers}
 use Rattle.made_course.specs.Files.{files_for, line_for}
 use Rattle.made_course.specs.Runs.{WasSummed}
@@ -32,6 +32,7 @@ by_status w before after (GaveUp stage phase task) ran is = absurd is
 by_status w before after WantOfMemory ran is = absurd is
 by_status w before after (TooLong name limit) ran is = absurd is
 by_status w before after (NoFile name) ran is = absurd is
+by_status w before after (PlanRefused step kind) ran is = absurd is
 
 -- the files and the line that were written are those of the workload
 pub delivered : (w : Workload) (before after : World) (files : List NamedBytes) (text : List ℕ)
@@ -64,3 +65,4 @@ stopped w before after (Trap origin kind element) is same line = absurd is
 stopped w before after (ReadFault name) is same line = absurd is
 stopped w before after (TooLong name limit) is same line = absurd is
 stopped w before after (NoFile name) is same line = absurd is
+stopped w before after (PlanRefused step kind) is same line = absurd is

@@ -11,7 +11,7 @@ use Rattle.run_course.specs.World.{Keeps, World}
 use Rattle.run_settings.specs.Settings.{standard}
 use Rattle.run_texts.specs.declared.status.Place.TheVariants.{File, Screen}
 use Rattle.run_texts.specs.declared.status.Status.{Status}
-use Rattle.run_texts.specs.declared.status.Status.TheVariants.{Done, GaveUp, Usage, ScriptRefused, InputRefused, Trap, ReadFault, WriteFault, WantOfMemory, TooLong, NoFile}
+use Rattle.run_texts.specs.declared.status.Status.TheVariants.{Done, GaveUp, Usage, ScriptRefused, InputRefused, Trap, ReadFault, WriteFault, WantOfMemory, TooLong, NoFile, PlanRefused}
 use Rattle.made_course.specs.Answers.{Answers}
 use Rattle.made_course.specs.Files.{files_for}
 use Rattle.made_course.specs.Makes.{CanMake, IsAnswer, Makes}
@@ -30,6 +30,7 @@ only w before after (Trap origin kind element) is = absurd is
 only w before after (ReadFault name) is = absurd is
 only w before after (TooLong name limit) is = absurd is
 only w before after (NoFile name) is = absurd is
+only w before after (PlanRefused step kind) is = absurd is
 
 -- hosts that are down less than twice lose no task
 not_given_up : (w : Workload) (olds news : List Account) (stage : ℕ) (phase : Phase) (task : ℕ)
@@ -56,6 +57,7 @@ complete w before after (Trap origin kind element) is can = absurd is
 complete w before after (ReadFault name) is can = absurd is
 complete w before after (TooLong name limit) is can = absurd is
 complete w before after (NoFile name) is can = absurd is
+complete w before after (PlanRefused step kind) is can = absurd is
 
 ended : (w : Workload) (before after : World) (status : Status) → before.shelf.begun ≡ false
     → Answers w before after status → IsEnded status after.shelf
@@ -74,6 +76,7 @@ ended w before after (Trap origin kind element) none is = absurd is
 ended w before after (ReadFault name) none is = absurd is
 ended w before after (TooLong name limit) none is = absurd is
 ended w before after (NoFile name) none is = absurd is
+ended w before after (PlanRefused step kind) none is = absurd is
 
 left : (w : Workload) (before after : World) (status : Status) → before.shelf.begun ≡ false
     → Answers w before after status → after.shelf.left ≡ before.shelf.left
@@ -93,6 +96,7 @@ left w before after (Trap origin kind element) none is = absurd is
 left w before after (ReadFault name) none is = absurd is
 left w before after (TooLong name limit) none is = absurd is
 left w before after (NoFile name) none is = absurd is
+left w before after (PlanRefused step kind) none is = absurd is
 
 pub makes : (w : Workload) (before after : World) (status : Status)
     → Answers w before after status → Keeps before after → after.source ≡ before.source

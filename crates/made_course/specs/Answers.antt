@@ -10,7 +10,7 @@ use Rattle.run_texts.specs.Lines.{line_of}
 use Rattle.run_texts.specs.declared.status.Place.{Place}
 use Rattle.run_texts.specs.declared.status.Place.TheVariants.{File, Screen}
 use Rattle.run_texts.specs.declared.status.Status.{Status}
-use Rattle.run_texts.specs.declared.status.Status.TheVariants.{Done, GaveUp, Usage, ScriptRefused, InputRefused, Trap, ReadFault, WriteFault, WantOfMemory, TooLong, NoFile}
+use Rattle.run_texts.specs.declared.status.Status.TheVariants.{Done, GaveUp, Usage, ScriptRefused, InputRefused, Trap, ReadFault, WriteFault, WantOfMemory, TooLong, NoFile, PlanRefused}
 use Rattle.made_course.specs.Files.{files_for, line_for}
 use Rattle.made_course.specs.Runs.{WasGivenUp, WasSummed}
 
@@ -56,3 +56,4 @@ Answers w before after (Trap origin kind element) = ⊥
 Answers w before after (ReadFault name) = ⊥
 Answers w before after (TooLong name limit) = ⊥
 Answers w before after (NoFile name) = ⊥
+Answers w before after (PlanRefused step kind) = ⊥

@@ -11,7 +11,7 @@ use Rattle.exec_graph.specs.declared.graph.Entry.{Entry}
 use Rattle.exec_graph.specs.declared.graph.Blocked.{Blocked}
 use Rattle.pardo_fuse.specs.Readers.{cut_of}
 use Rattle.pardo_fuse.specs.Parting.{parted}
-use Rattle.pardo_fuse.specs.Fusing.{fused, hanging, joined_by}
+use Rattle.pardo_fuse.specs.Fusing.{fused, hanging, joined_by, members}
 use Rattle.pardo_fuse.specs.SingleFusing.{fused_by, trees}
 
 abbrev at : ℕ → Node → Entry
@@ -48,7 +48,7 @@ half_marked : fused (blocked
     (two 1 None (one 2 (Some 0) Bare Bare) (Some 1) Bare Bare)
     ∷ (pdo 3 (place 1 1) (one 3 (Some 0) Bare Bare) ∷ [])))
     (place 1 0 ∷ (place 3 0 ∷ [])) (place 1 1 ∷ [])
-unfolding joined_by hanging
+unfolding joined_by hanging members
 half_marked = refl
 
 -- Kids on both outputs of one step, an output of a kid that a Flatten reads too, and preorder.
@@ -63,7 +63,7 @@ both_kids : fused (blocked
     (two 1 None (two 3 (Some 0) Bare (Some 1) Bare (one 4 (Some 2) Bare Bare))
     (Some 3) (one 2 (Some 4) Bare Bare) Bare) ∷ []))
     (place 1 4 ∷ (place 1 0 ∷ (place 1 1 ∷ (place 1 2 ∷ (place 1 3 ∷ []))))) []
-unfolding joined_by hanging
+unfolding joined_by hanging members
 both_kids = refl
 
 -- An output that nobody reads has no number, before and after.
@@ -75,7 +75,7 @@ unread : fused (blocked
     (at 0 (rows 0 false) ∷
     (pdo 1 (place 0 0) (two 1 None Bare None (one 2 (Some 0) Bare Bare) Bare) ∷ []))
     (place 1 0 ∷ []) []
-unfolding joined_by hanging
+unfolding joined_by hanging members
 unread = refl
 
 -- Two nodes read both outputs: the Flattens 2 and 3. The step 4 and its sibling 1 are one Pdo.
@@ -92,7 +92,7 @@ both_read : fused (blocked
     (at 3 (Flatten (place 1 1 ∷ (place 1 0 ∷ [])))
     ∷ []))))
     (place 2 0 ∷ (place 3 0 ∷ (place 1 2 ∷ []))) []
-unfolding joined_by hanging
+unfolding joined_by hanging members
 both_read = refl
 
 -- The same, by each output in a Pdo of its own.
@@ -126,5 +126,5 @@ beside_object : fused (blocked
     ∷ (pdo 5 (place 4 0) (one 5 (Some 0) Bare Bare)
     ∷ (at 6 (Barrier (place 3 0 ∷ []) 6 true (Operate 6)) ∷ []))))))
     (place 1 0 ∷ (place 1 2 ∷ (place 5 0 ∷ (place 6 0 ∷ [])))) []
-unfolding joined_by hanging
+unfolding joined_by hanging members
 beside_object = refl

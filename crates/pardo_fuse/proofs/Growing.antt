@@ -1,5 +1,5 @@
 -- A loop that makes a forest: what is made grows beside what is left to make.
-use Rattle.std.proofs.Common.{◌≡◌, ℕ, ◌+◌, ◌-◌, ◌<◌, ◌≤◌, ◌^◌, List, [], ◌∷◌, ◌++◌, refl, sym, ap, ◌∙◌, arith, suc, append-nil, append_assoc, Option, Some, None}
+use Rattle.std.proofs.Common.{◌≡◌, ℕ, ◌+◌, ◌<◌, ◌≤◌, ◌^◌, List, [], ◌∷◌, ◌++◌, refl, sym, ap, ◌∙◌, arith, suc, append-nil, append_assoc, Option, Some, None}
 use Rattle.exec_graph.specs.Forests.{Forest, Bare, Grow, Branch, Twig, label_at, limb, twigs, grown, numbered, new_label, after, after_out, with_out}
 use Rattle.graph_laws.specs.Joining.{beside}
 use Rattle.pardo_fuse.specs.Readers.{Cut}

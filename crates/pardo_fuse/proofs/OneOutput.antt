@@ -17,7 +17,8 @@ use Rattle.exec_graph.proofs.Solving.{there_found}
 use Rattle.graph_laws.specs.Joining.{reread}
 use Rattle.graph_laws.specs.Single.{HasNarrowSteps, HasSingleOutputs, HasSteps, IsOneOutput, IsOneStep, IsUnfused, most_outputs, width}
 use Rattle.pardo_fuse.specs.Readers.{cut_of}
-use Rattle.pardo_fuse.specs.Fusing.{fused}
+use Rattle.pardo_fuse.specs.Fusing.{fused, least_of}
+use Rattle.pardo_fuse.specs.Renumbering.{renumbered}
 use Rattle.pardo_fuse.specs.SingleFusing.{fused_by}
 use Rattle.pardo_fuse.specs.Parting.{part_number, sole, parts, parts_of, at_of, part_at, part_place, parted}
 use Rattle.pardo_fuse.specs.Wellformed.{IsFusible}
@@ -203,7 +204,8 @@ parted_single b ok one =
 
 -- With one output a step, fusing is what it is by the Pdos' numbers alone.
 pub fused_single : (b : Blocked) → IsBlockedOk b → HasSingleOutputs b.graph
-    → fused b ≡ fused_by (cut_of b)
+    → fused b ≡ renumbered (least_of (cut_of b)) (fused_by (cut_of b))
 fused_single b ok one =
-    joined_is b (fusible_single b ok one)
-    ∙ ap (λ (d : Blocked). fused_by (cut_of d)) (parted_single b ok one)
+    ap (renumbered (least_of (cut_of b)))
+    (joined_is b (fusible_single b ok one)
+    ∙ ap (λ (d : Blocked). fused_by (cut_of d)) (parted_single b ok one))

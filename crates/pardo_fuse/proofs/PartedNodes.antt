@@ -1,10 +1,10 @@
 -- A graph whose steps have their outputs apart can be fused, and each of its nodes is well-formed.
-use Rattle.std.proofs.Common.{◌≡◌, ℕ, ◌+◌, Bool, true, false, cond, eqb, ◌||◌, ◌&&◌, List, [], ◌∷◌, ◌++◌, map, Option, Some, None, refl, sym, ap, ◌∙◌, subst, arith}
+use Rattle.std.proofs.Common.{◌≡◌, ℕ, Bool, true, false, cond, eqb, ◌||◌, ◌&&◌, List, [], ◌∷◌, ◌++◌, map, Option, Some, None, refl, sym, ap, ◌∙◌, subst, arith}
 use Rattle.std.proofs.lemmas.Bool.{eqb-true, false≢true}
 use Rattle.std.specs.List.{AllByRecursion}
 use Rattle.flume_value.proofs.EachLemmas.{Each-weaker, Each-both}
 use Rattle.combine_table.specs.declared.comb.Comb.{Comb}
-use Rattle.exec_graph.specs.Forests.{Label, Forest, Bare, Grow, new_out, steps}
+use Rattle.exec_graph.specs.Forests.{Label, Forest, Bare, Grow, new_out}
 use Rattle.exec_graph.specs.Meaning.{node_at, reads, place, is_out, has_out, IsThere}
 use Rattle.exec_graph.specs.Readers.{among, any_node, calls_on, collects, is_read, readers, same_place, those, uses}
 use Rattle.exec_graph.specs.Wellformed.{IsForestOk, IsLiftedOk, IsNodeOk, comb_at, root_comb}

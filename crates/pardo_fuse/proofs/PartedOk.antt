@@ -4,7 +4,7 @@ use Rattle.std.proofs.lemmas.Bool.{false≢true}
 use Rattle.std.proofs.lemmas.List.Folds.{flat_map-map}
 use Rattle.std.specs.List.{flat_map, AllByRecursion}
 use Rattle.flume_value.proofs.EachLemmas.{Each-weaker, Each-both}
-use Rattle.exec_graph.specs.Forests.{Forest, Bare, Grow, steps}
+use Rattle.exec_graph.specs.Forests.{Forest, Bare, Grow}
 use Rattle.exec_graph.specs.Meaning.{node_at, has_out, gives_at, IsThere}
 use Rattle.exec_graph.specs.Objects.{takes_such}
 use Rattle.exec_graph.specs.Wellformed.{Ascends, IsNodeOk, has_objects, is_lifted, is_object, is_object_at}

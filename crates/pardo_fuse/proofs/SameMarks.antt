@@ -13,7 +13,8 @@ use Rattle.exec_graph.specs.declared.graph.Graph.{Graph}
 use Rattle.exec_graph.specs.declared.graph.Blocked.{Blocked}
 use Rattle.exec_graph.proofs.Bools.{or_cases, or_left, or_right}
 use Rattle.pardo_fuse.specs.Readers.{Cut, cut_of, is_pdo, is_unmarked}
-use Rattle.pardo_fuse.specs.Fusing.{finished, fused, hanging, hung, in_turn, joined_by, kept_nodes, kept_of, kids_on, leads, moved_to, named, step_in}
+use Rattle.pardo_fuse.specs.Fusing.{finished, fused, fused_by_parents, hanging, hung, in_turn, joined_by, kept_nodes, kept_of, kids_on, leads, least, least_at, least_of, members, moved_to, named, over_outs, step_in}
+use Rattle.pardo_fuse.specs.Renumbering.{at_number, renumbered_graph}
 use Rattle.pardo_fuse.proofs.Places.{same_is, same_self}
 
 -- ---- cuts that differ in their marks alone
@@ -77,6 +78,31 @@ module _ (g : Graph) (m n : List Place) (inner : Place → Bool) where
 
   nodes_same : kept_nodes left ≡ kept_nodes right
   nodes_same = λ i. flat_map (λ (e : Entry). kept_same e.number e.node i) g.nodes
+
+  above_same : (k : ℕ) → ((ns : List ℕ) → members left k ns ≡ members right k ns) → (j : ℕ)
+      (o : Option ℕ) → members left k (kids_on left j o) ≡ members right k (kids_on right j o)
+  above_same k e j o = ap (members left k) (kids_at j o) ∙ e (kids_on right j o)
+
+  members_same : (k : ℕ) (ns : List ℕ) → members left k ns ≡ members right k ns
+  unfolding members
+  members_same zero ns = refl
+  members_same (suc k) ns =
+      λ i. flat_map (λ (j : ℕ).
+      j ∷ over_outs (λ o. above_same k (λ ms. members_same k ms) j o i)
+      (step_in (node_at g.nodes j))) ns
+
+  least_same : (k : ℕ) → least_of left k ≡ least_of right k
+  least_same k = by (node_at g.nodes k)
+    where
+      by : (o : Option Node) → least_at left k o ≡ least_at right k o
+      by None = refl
+      by (Some (Source r)) = refl
+      by (Some (Flatten ins)) = refl
+      by (Some (Pdo c f)) =
+          ap (λ (ms : List ℕ). cond (leads right k c) (least k ms) k)
+          (members_same (length g.nodes) (readers g.nodes c))
+      by (Some (Gbk c o l h)) = refl
+      by (Some (Barrier ins o l h)) = refl
 
 -- ---- lists that have the same collections
 
@@ -159,28 +185,52 @@ graph_of g hs = record {
 }
 
 graphs_by : (g : Graph) (m n : List Place) → ((c : Place) → among c m ≡ among c n)
-    → (fused (record { graph = g; marks = m })).graph
-    ≡ (fused (record { graph = g; marks = n })).graph
+    → (fused_by_parents (record { graph = g; marks = m })).graph
+    ≡ (fused_by_parents (record { graph = g; marks = n })).graph
 unfolding joined_by
 graphs_by g m n same = ap (graph_of g) (left_same g m n same)
 
 marks_by : (g : Graph) (m n : List Place) → ((c : Place) → among c m ≡ among c n) → (d : Place)
-    → among d (fused (record { graph = g; marks = m })).marks
-    ≡ among d (fused (record { graph = g; marks = n })).marks
+    → among d (fused_by_parents (record { graph = g; marks = m })).marks
+    ≡ among d (fused_by_parents (record { graph = g; marks = n })).marks
 unfolding joined_by
 marks_by g m n same d =
     ap (λ (hs : List Entry). among d (map (moved_to hs) m)) (left_same g m n same)
     ∙ mapped_same (moved_to (kept_nodes (cut_of (record { graph = g; marks = n })))) m n same d
 
+-- under the least numbers
+module _ (g : Graph) (m n : List Place) (same : (c : Place) → among c m ≡ among c n) where
+  abbrev one : Blocked
+  one = record { graph = g; marks = m }
+
+  abbrev other : Blocked
+  other = record { graph = g; marks = n }
+
+  least_by : least_of (cut_of one) ≡ least_of (cut_of other)
+  least_by =
+      ap (λ (t : Place → Bool). least_of (cut_with g m t)) (inner_same g m n same)
+      ∙ (λ i. λ k. least_same g m n (is_unmarked other) k i)
+
+  graphs_least : (fused one).graph ≡ (fused other).graph
+  graphs_least =
+      ap (λ (l : ℕ → ℕ). renumbered_graph l (fused_by_parents one).graph) least_by
+      ∙ ap (renumbered_graph (least_of (cut_of other))) (graphs_by g m n same)
+
+  marks_least : (d : Place) → among d (fused one).marks ≡ among d (fused other).marks
+  marks_least d =
+      ap (λ (l : ℕ → ℕ). among d (map (at_number l) (fused_by_parents one).marks)) least_by
+      ∙ mapped_same (at_number (least_of (cut_of other))) (fused_by_parents one).marks
+      (fused_by_parents other).marks (marks_by g m n same) d
+
 pub fused_graphs : (a b : Blocked) → a.graph ≡ b.graph
     → ((c : Place) → among c a.marks ≡ among c b.marks) → (fused a).graph ≡ (fused b).graph
 fused_graphs a b e same =
-    graphs_by a.graph a.marks b.marks same
+    graphs_least a.graph a.marks b.marks same
     ∙ ap (λ (g : Graph). (fused (record { graph = g; marks = b.marks })).graph) e
 
 pub fused_marks : (a b : Blocked) → a.graph ≡ b.graph
     → ((c : Place) → among c a.marks ≡ among c b.marks) → (d : Place)
     → among d (fused a).marks ≡ among d (fused b).marks
 fused_marks a b e same d =
-    marks_by a.graph a.marks b.marks same d
+    marks_least a.graph a.marks b.marks same d
     ∙ ap (λ (g : Graph). among d (fused (record { graph = g; marks = b.marks })).marks) e

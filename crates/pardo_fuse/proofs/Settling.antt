@@ -11,7 +11,7 @@ use Rattle.exec_graph.specs.Meaning.{node_at}
 use Rattle.exec_graph.proofs.Entries.{all_found}
 use Rattle.exec_graph.proofs.Solving.{each_found}
 use Rattle.exec_graph.specs.declared.graph.Blocked.{Blocked}
-use Rattle.pardo_fuse.specs.Readers.{Cut, cut_of, same_place, among, is_pdo, is_marked, is_unmarked, is_inner, is_kept, any_node, collects, calls_on, readers}
+use Rattle.pardo_fuse.specs.Readers.{Cut, cut_of, same_place, among, is_pdo, is_marked, is_unmarked, is_inner, readers}
 use Rattle.pardo_fuse.specs.Fusing.{finished, is_first, leads}
 use Rattle.pardo_fuse.specs.SingleFusing.{CanFuse, forest_of, fused_by, joined_nodes, left_of, new_place}
 use Rattle.pardo_fuse.specs.Wellformed.{IsSettled}
@@ -100,7 +100,7 @@ pub now_apart : (b : Cut) (c d : Place) → CanFuse b → AllGrown b → IsSeen 
 now_apart b c d can g s t e = sym (found_again b c can g s) ∙ ap (former (joined_nodes b)) e
     ∙ found_again b d can g t
 
-first_only : (n q : ℕ) (xs : List ℕ) → is_first n xs ≡ true → is_first q xs ≡ true → n ≡ q
+pub first_only : (n q : ℕ) (xs : List ℕ) → is_first n xs ≡ true → is_first q xs ≡ true → n ≡ q
 first_only n q [] h i = absurd (false≢true h)
 first_only n q (x ∷ xs) h i = eqb-true n x h ∙ sym (eqb-true q x i)
 

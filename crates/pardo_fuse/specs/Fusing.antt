@@ -1,6 +1,7 @@
 -- The fused graph: a step hangs on the unmarked output that it read, and steps that read one
--- collection which is no such output are the roots of one Pdo.
-use Rattle.std.specs.Prelude.{ℕ, ◌==◌, Bool, false, cond, List, [], ◌∷◌, map, length, Option, Some, None}
+-- collection which is no such output are the roots of one Pdo, which has the least of their numbers
+-- and of those of the steps on them.
+use Rattle.std.specs.Prelude.{ℕ, ◌==◌, ltb, Bool, false, cond, List, [], ◌∷◌, ◌++◌, map, length, Option, Some, None}
 use Rattle.std.proofs.Common.{zero, suc}
 use Rattle.std.specs.List.{flat_map}
 use Rattle.exec_graph.specs.Forests.{Forest, Bare, Grow, numbered, with_out}
@@ -14,6 +15,7 @@ use Rattle.exec_graph.specs.declared.graph.Node.TheVariants.{Source, Flatten, Pd
 use Rattle.exec_graph.specs.declared.graph.Entry.{Entry}
 use Rattle.exec_graph.specs.declared.graph.Blocked.{Blocked}
 use Rattle.pardo_fuse.specs.Readers.{Cut, cut_of, readers, is_inner, is_kept}
+use Rattle.pardo_fuse.specs.Renumbering.{renumbered}
 
 -- ---- forests, whose kept outputs have the codes of their former collections
 
@@ -139,6 +141,46 @@ moved_all hs b =
 unfoldable pub joined_by : Cut → Blocked
 joined_by b = moved_all (kept_nodes b) b
 
+-- what is fused, each Pdo under the number of the first that reads its collection
+abbrev pub fused_by_parents : Blocked → Blocked
+fused_by_parents b = joined_by (cut_of b)
+
+-- ---- numbers: what comes of several Pdos has the least number of them
+
+-- what stands over the outputs of a step
+abbrev pub over_outs : (Option ℕ → List ℕ) → Forest → List ℕ
+over_outs over Bare = []
+over_outs over (Grow l kids more) = over l.out ++ over_outs over more
+
+-- the Pdos whose steps are in the trees of ns, down to a number of levels
+unfoldable pub members : Cut → ℕ → List ℕ → List ℕ
+members b zero ns = []
+members b (suc k) ns = flat_map (λ n.
+    n ∷ over_outs (λ o. members b k (kids_on b n o)) (step_in (node_at b.graph.nodes n))) ns
+
+-- the Pdos that become one over c
+abbrev pub members_over : Cut → Place → List ℕ
+members_over b c = members b (length b.graph.nodes) (readers b.graph.nodes c)
+
+abbrev pub lesser : ℕ → ℕ → ℕ
+lesser n q = cond (ltb q n) q n
+
+abbrev pub least : ℕ → List ℕ → ℕ
+least n [] = n
+least n (q ∷ qs) = least (lesser n q) qs
+
+-- the least number of those that become one with the node n, which leads them
+abbrev pub least_at : Cut → ℕ → Option Node → ℕ
+least_at b n None = n
+least_at b n (Some (Source r)) = n
+least_at b n (Some (Flatten ins)) = n
+least_at b n (Some (Pdo c f)) = cond (leads b n c) (least n (members_over b c)) n
+least_at b n (Some (Gbk c o l k)) = n
+least_at b n (Some (Barrier ins o l a)) = n
+
+abbrev pub least_of : Cut → ℕ → ℕ
+least_of b n = least_at b n (node_at b.graph.nodes n)
+
 -- the normal form
 abbrev pub fused : Blocked → Blocked
-fused b = joined_by (cut_of b)
+fused b = renumbered (least_of (cut_of b)) (fused_by_parents b)

@@ -227,7 +227,7 @@ fn give_name(lead: u32, former: u64, naming: &mut Naming) -> Result<Option<u32>,
 }
 
 /// The steps of a Pdo.
-fn steps_at<'a>(blocked: &'a Blocked, tables: &Tables, number: u32) -> &'a [Step]
+pub(crate) fn steps_at<'a>(blocked: &'a Blocked, tables: &Tables, number: u32) -> &'a [Step]
     requires { AreTables blocked.now tables.now }
     ensures { grown result.now ≡ steps_at (cut_of blocked.now) number }
 {

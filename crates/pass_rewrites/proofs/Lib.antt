@@ -1,7 +1,9 @@
 pub mod Lists
-pub mod Lower
-pub mod LowerSunk
 pub mod Sinking
 pub mod Fusing
+pub mod Ascending
+pub mod Lesser
+pub mod LesserKids
+pub mod FusedList
 pub mod Marking
 pub mod Refined

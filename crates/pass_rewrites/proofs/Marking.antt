@@ -20,10 +20,11 @@ use Rattle.exec_graph.proofs.Soundness.{IsSound-ok}
 use Rattle.fusion_blocks.specs.Blocks.{CanMark, IsBlocked, MarksLead, takes_mark, unmarked}
 use Rattle.fusion_blocks.proofs.Blocking.{blocked_can}
 use Rattle.graph_laws.specs.Joining.{reread}
-use Rattle.pardo_fuse.specs.Fusing.{finished, forest_over, fused, holds_out, joined_by, kept_nodes, kept_of, leads, moved_to, out_number, with_numbers}
+use Rattle.pardo_fuse.specs.Fusing.{finished, forest_over, fused, fused_by_parents, holds_out, joined_by, kept_nodes, kept_of, leads, least_of, moved_to, out_number, with_numbers}
+use Rattle.pardo_fuse.specs.Renumbering.{at_number}
 use Rattle.pardo_fuse.specs.Readers.{Cut, cut_of}
 use Rattle.pardo_fuse.specs.Wellformed.{IsFusible}
-use Rattle.pardo_fuse.proofs.Fused.{IsBlockedOk-fused}
+use Rattle.pardo_fuse.proofs.Fused.{IsBlockedOk-parents, at_fused, there_fused}
 use Rattle.pass_rewrites.specs.Passes.{ByRewrites}
 use Rattle.pass_rewrites.proofs.Sinking.{marks_list}
 
@@ -141,17 +142,46 @@ kinds_of : (g : Graph) (cs : List Place) → Each (CanMark g) cs
 kinds_of g [] a = tt
 kinds_of g (c ∷ cs) a = (a.0.kind, kinds_of g cs a.1)
 
-marks_can : (b : Blocked) → IsFusible b → Each (CanMark b.graph) b.marks
-    → Each (CanMark (fused b).graph) (fused b).marks
+marks_parents : (b : Blocked) → IsFusible b → Each (CanMark b.graph) b.marks
+    → Each (CanMark (fused_by_parents b).graph) (fused_by_parents b).marks
 unfolding joined_by
-marks_can b fu a =
+marks_parents b fu a =
     let cut : Cut = cut_of b in
     let hs : List Entry = kept_nodes cut in
-    let ok : IsBlockedOk (fused b) = IsBlockedOk-fused b fu in
-    moved_can cut (moved_to hs) hs (fused b).graph b.marks refl refl
+    let ok : IsBlockedOk (fused_by_parents b) = IsBlockedOk-parents b fu in
+    moved_can cut (moved_to hs) hs (fused_by_parents b).graph b.marks refl refl
     (kinds_from cut b.graph.nodes
     (each_found b.graph.nodes (IsSound-ok b.graph fu.ok.ok).differ))
     (kinds_of b.graph b.marks a) ok.marked
+
+takes_reread : (r : Place → Place) (x : Node)
+    → takes_mark (Some (reread r x)) ≡ takes_mark (Some x)
+takes_reread r (Source s) = refl
+takes_reread r (Flatten ins) = refl
+takes_reread r (Pdo c f) = refl
+takes_reread r (Gbk c o l None) = refl
+takes_reread r (Gbk c o l (Some k)) = refl
+takes_reread r (Barrier ins o l a) = refl
+
+-- under the least numbers
+mark_least : (b : Blocked) → IsFusible b → (c : Place) → CanMark (fused_by_parents b).graph c
+    → CanMark (fused b).graph (at_number (least_of (cut_of b)) c)
+mark_least b fu c a =
+    let g : Graph = (fused_by_parents b).graph in
+    let z = gives_found (node_at g.nodes c.node) c.out a.there in
+    record {
+      there = there_fused b fu c a.there;
+      kind = ap takes_mark (at_fused b fu c.node z.0 z.1)
+          ∙ takes_reread (at_number (least_of (cut_of b))) z.0
+          ∙ sym (ap takes_mark z.1) ∙ a.kind;
+    }
+
+marks_can : (b : Blocked) → IsFusible b → Each (CanMark b.graph) b.marks
+    → Each (CanMark (fused b).graph) (fused b).marks
+marks_can b fu a =
+    all_map (at_number (least_of (cut_of b))) (CanMark (fused_by_parents b).graph)
+    (CanMark (fused b).graph) (mark_least b fu) (fused_by_parents b).marks
+    (marks_parents b fu a)
 
 pub fused_list : (b : Blocked) (scales : List ℕ) → IsFusible b → IsBlocked scales b
     → ByRewrites 3 (unmarked (fused b).graph) (fused b)

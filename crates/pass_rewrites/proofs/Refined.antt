@@ -18,25 +18,25 @@ use Rattle.sink_laws.proofs.Nexts.{kept_sunk}
 use Rattle.sink_laws.proofs.TypesKept.{AllSteps-kept}
 use Rattle.graph_rewrites.specs.Replays.{Leads}
 use Rattle.graph_rewrites.specs.declared.rewrite.Rewrite.{Rewrite}
-use Rattle.pass_rewrites.specs.Passes.{ByFusing, ByRewrites, HasLaterReaders, as_rewrite}
-use Rattle.pass_rewrites.proofs.Fusing.{fusing_list, fusions_all}
+use Rattle.pass_rewrites.specs.Passes.{ByFusing, ByRewrites, as_rewrite, present}
+use Rattle.pass_rewrites.proofs.FusedList.{fusing_list}
+use Rattle.pass_rewrites.proofs.Fusing.{fusions_all}
 use Rattle.pass_rewrites.proofs.Lists.{leads_both}
-use Rattle.pass_rewrites.proofs.LowerSunk.{low_lifted, low_sunk}
 use Rattle.pass_rewrites.proofs.Marking.{fused_list}
 use Rattle.pass_rewrites.proofs.Sinking.{lifts_list, sinks_lead}
 
 -- ---- fusing, and then marks
 
 fused_lead : (g : Graph) (b : Blocked) → b.graph ≡ g → IsFusible b
-    → HasLaterReaders b.graph → ByRewrites 3 (unmarked (fused b).graph) (fused b)
+    → ByRewrites 3 (unmarked (fused b).graph) (fused b)
     → (rs : List Rewrite) × Leads 2 rs (unmarked g) (fused b)
-fused_lead g b same fu low m =
-    let f : ByFusing b.graph (fused b).graph = fusing_list b fu low in
-    let rs : List Rewrite = map as_rewrite (f.siblings ++ f.kids) in (
+fused_lead g b same fu m =
+    let f : ByFusing b.graph (fused b).graph = fusing_list b fu in
+    let rs : List Rewrite = map as_rewrite (f.siblings ++ present (λ n. n) f.formers) in (
       rs ++ m.rewrites,
       subst (λ (x : Graph). Leads 2 (rs ++ m.rewrites) (unmarked x) (fused b)) same
           (leads_both 2 3 rs m.rewrites (unmarked b.graph) (unmarked (fused b).graph) (fused b)
-          (fusions_all (f.siblings ++ f.kids)) (omega arith) f.leads m.leads),
+          (fusions_all (f.siblings ++ present (λ n. n) f.formers)) (omega arith) f.leads m.leads),
     )
 
 -- ---- sinking and lifting, and then these
@@ -55,9 +55,9 @@ begun_lead g sunk b s l more =
     )
 
 pub refined_list : (scales : List ℕ) (g : Graph) (b : Blocked) → IsGraphOk g → IsUnfused g
-    → HasNarrowSteps g → HasLaterReaders g → IsRefined scales g b
+    → HasNarrowSteps g → IsRefined scales g b
     → (rs : List Rewrite) × Leads 0 rs (unmarked g) b
-refined_list scales g b ok u n low x =
+refined_list scales g b ok u n x =
     let m : Blocked = x.blocked in
     let k : IsKept g x.sunk = kept_sunk g x.sunk ok x.is_sunk.leads in
     let good : IsGraphOk m.graph =
@@ -72,11 +72,8 @@ refined_list scales g b ok u n low x =
       narrow = subst HasNarrowSteps (sym x.is_lifted)
           (narrow_lifted x.sunk (narrow_sunk g x.sunk k.steps n));
     } in
-    let later : HasLaterReaders m.graph =
-    subst HasLaterReaders (sym x.is_lifted)
-    (low_lifted x.sunk (low_sunk g x.sunk ok x.is_sunk.leads low)) in
     subst (λ (y : Blocked). (rs : List Rewrite) × Leads 0 rs (unmarked g) y) (sym x.is_fused)
     (begun_lead g x.sunk (fused m) (sinks_lead g x.sunk ok x.is_sunk.leads)
     (lifts_list x.sunk k.good.ok)
-    (fused_lead (lifted x.sunk) m x.is_lifted fu later
+    (fused_lead (lifted x.sunk) m x.is_lifted fu
     (fused_list m scales fu x.is_blocked)))

@@ -5,14 +5,13 @@
 //! So what all these passes make of a graph is what one list leads to (`refined_law`), such as a
 //! plan from outside comes with.
 //!
-//! Where a Pdo reads an output of one of a greater number, a kid gives the Pdo that comes of both
-//! the lesser number, and fusing keeps the number of the one that is read. So fusing is such a list
-//! where each Pdo that reads a Pdo has the greater number (`HasLaterReaders`, specs/Passes.antt).
-//! The other passes and rewrites keep that (`later_law`), and each script's graph begins with it.
+//! What comes of two Pdos has the lesser number of both, also where a kid's own is the lesser.
+//! Fusing gives the least number of all that become one, so kids lead there whatever numbers Pdos
+//! have.
 //!
 //! Nothing here runs: the functions state what holds of passes.
 #![tactic(auto)]
 
 mod laws;
 
-pub use laws::{later_law, passes_law, refined_law};
+pub use laws::{passes_law, refined_law};

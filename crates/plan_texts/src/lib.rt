@@ -8,4 +8,5 @@
 mod names;
 mod texts;
 
+pub use names::ProgramNames;
 pub use texts::{plan_json, plan_text};

@@ -10,8 +10,8 @@ use std::alloc::AllocError;
 
 /// What a program calls the numbers of its plans.
 #[derive(Drop)]
-pub(crate) struct ProgramNames<'a> {
-    pub(crate) program: &'a Program,
+pub struct ProgramNames<'a> {
+    pub program: &'a Program,
 }
 
 impl Names for ProgramNames<'_> {

@@ -1,10 +1,11 @@
 -- A refusal comes wherever its cause stands, where files are told.
-use Rattle.std.proofs.Common.{ℕ, inl, inr, List, [], sym, ◌∙◌, refl}
+use Rattle.std.proofs.Common.{ℕ, inl, inr, List, [], Option, Some, None, sym, ◌∙◌, refl}
 use Rattle.std.specs.Prelude.{IsSome}
 use Rattle.command_words.specs.declared.words.Command.{Command}
 use Rattle.command_words.specs.declared.words.Command.TheVariants.{Check, Plan, Direct, Run}
 use Rattle.crew.specs.Hosts.{Account}
 use Rattle.direct_meaning.specs.Direct.{traps_of}
+use Rattle.exec_plan.specs.declared.plan.Plan.{Plan as PlanOf}
 use Rattle.flume_collection.specs.declared.trap.Trap.{Trap as TrapOf}
 use Rattle.flume_value.specs.declared.fault.Kind.{Kind}
 use Rattle.flume_value.specs.declared.value.Value.{Value}
@@ -12,18 +13,25 @@ use Rattle.outside.specs.declared.file.File.{File as NamedBytes}
 use Rattle.outside.specs.declared.host.Phase.{Phase}
 use Rattle.run_texts.specs.declared.status.Place.TheVariants.{File, Screen}
 use Rattle.run_texts.specs.declared.status.Status.{Status}
-use Rattle.run_texts.specs.declared.status.Status.TheVariants.{Done, GaveUp, Usage, ScriptRefused, InputRefused, Trap, ReadFault, WriteFault, WantOfMemory, TooLong, NoFile}
+use Rattle.run_texts.specs.declared.status.Status.TheVariants.{Done, GaveUp, Usage, ScriptRefused, InputRefused, Trap, ReadFault, WriteFault, WantOfMemory, TooLong, NoFile, PlanRefused}
 use Rattle.script_program.specs.Script.{Script}
 use Rattle.run_course.specs.Answers.{Answers, IsGaveUp, IsTrap, IsUsage, MayTell}
 use Rattle.script_loading.specs.Loads.{AllHaveRows}
-use Rattle.run_course.specs.Asked.{AskFor, IsAskedFor, Reads, inputs_read}
+use Rattle.run_course.specs.Asked.{AskFor, IsAskedFor, Reads, inputs_read, plan_read}
+use Rattle.run_course.specs.Plans.{HasPlan, IsPlanFor}
 use Rattle.run_course.specs.Promises.{IsUnlessFailed}
 use Rattle.run_course.specs.World.{World}
 use Rattle.run_course.specs.Written.{IsMeant, IsWritten, Table, Writes}
 use Rattle.run_course.proofs.ReadLemmas.{Told, Words}
-use Rattle.run_course.proofs.StopLemmas.{Stops, asked_some, input_stops, no_file_stops, no_run, one_stop, script_stops, too_long_stops}
+use Rattle.run_course.proofs.StopLemmas.{Stops, asked_some, input_stops, no_file_stops, no_run, one_stop, plan_stops, script_stops, too_long_stops}
 
 -- ---- what was read
+
+-- a plan that a run has is there
+has_plan : (told : Told) (script : Script) (from : Option (List ℕ)) (plan : PlanOf)
+    → IsPlanFor told script from plan → HasPlan told script from
+has_plan told script None plan is = tt
+has_plan told script (Some name) plan is = (plan, is)
 
 -- the rows that a command has read that came to its end
 record HasRead (words : Words) (told : Told) : Type 0 where
@@ -32,29 +40,33 @@ record HasRead (words : Words) (told : Told) : Type 0 where
   pub rows : List (List Value)
   pub reads : Reads words told command script
   pub inputs : AllHaveRows told (inputs_read command script) rows
+  pub plan : HasPlan told script (plan_read command)
 
 read_of : (words : Words) (told : Told) (command : Command) (script : Script)
     (rows : List (List Value)) → Reads words told command script
-    → AllHaveRows told (inputs_read command script) rows → HasRead words told
-read_of words told command script rows reads inputs = record {
+    → AllHaveRows told (inputs_read command script) rows
+    → HasPlan told script (plan_read command) → HasRead words told
+read_of words told command script rows reads inputs plan = record {
   command = command;
   script = script;
   rows = rows;
   reads = reads;
   inputs = inputs;
+  plan = plan;
 }
 
 written_rows : (words : Words) (told : Told) (olds news : List Account) (files : List NamedBytes)
     (text : List ℕ) (command : Command) (script : Script) → Reads words told command script
     → Writes command told olds news script files text → HasRead words told
 written_rows words told olds news files text Check script reads writes =
-    read_of words told Check script [] reads tt
+    read_of words told Check script [] reads tt tt
 written_rows words told olds news files text (Plan form) script reads writes =
-    read_of words told (Plan form) script [] reads tt
+    read_of words told (Plan form) script [] reads tt tt
 written_rows words told olds news files text Direct script reads writes =
-    read_of words told Direct script writes.0 reads writes.2.meant.inputs
-written_rows words told olds news files text (Run s) script reads writes =
-    read_of words told (Run s) script writes.1 reads writes.4.meant.inputs
+    read_of words told Direct script writes.0 reads writes.2.meant.inputs tt
+written_rows words told olds news files text (Run s from) script reads writes =
+    read_of words told (Run s from) script writes.1 reads writes.4.meant.inputs
+    (has_plan told script from writes.0 writes.3)
 
 written_read : (words : Words) (told : Told) (olds news : List Account) (files : List NamedBytes)
     (text : List ℕ) → IsWritten words told olds news files text → HasRead words told
@@ -64,13 +76,14 @@ written_read words told olds news files text it =
 trap_rows : (words : Words) (told : Told) (command : Command) (script : Script)
     (rows : List (List Value)) (table : Table) (olds news : List Account) (trap : TrapOf)
     → Reads words told command script → IsMeant told script rows table
-    → MayTell command script rows olds news (traps_of table) trap → HasRead words told
+    → MayTell command told script rows olds news (traps_of table) trap → HasRead words told
 trap_rows words told Check script rows table olds news trap reads meant tells = absurd tells
 trap_rows words told (Plan form) script rows table olds news trap reads meant tells = absurd tells
 trap_rows words told Direct script rows table olds news trap reads meant tells =
-    read_of words told Direct script rows reads meant.inputs
-trap_rows words told (Run s) script rows table olds news trap reads meant tells =
-    read_of words told (Run s) script rows reads meant.inputs
+    read_of words told Direct script rows reads meant.inputs tt
+trap_rows words told (Run s from) script rows table olds news trap reads meant tells =
+    read_of words told (Run s from) script rows reads meant.inputs
+    (has_plan told script from tells.1.0 tells.1.1)
 
 trap_read : (words : Words) (before after : World) (origin : ℕ) (kind : Kind) (element : Value)
     → IsTrap origin kind element words before after → HasRead words before.source.told
@@ -81,7 +94,8 @@ trap_read words before after origin kind element it =
 given_read : (words : Words) (told : Told) (olds news : List Account) (stage : ℕ) (phase : Phase)
     (task : ℕ) → IsGaveUp stage phase task words told olds news → HasRead words told
 given_read words told olds news stage phase task it =
-    read_of words told (Run it.0) it.1 it.3.0 it.2 it.3.3.inputs
+    read_of words told (Run it.0 it.1) it.2 it.4.0 it.3 it.4.3.inputs
+    (has_plan told it.2 it.1 it.4.1 it.4.4)
 
 -- ---- it comes
 
@@ -89,7 +103,7 @@ not_stopped : {A : Type 0} (words : Words) (told : Told) (wanted : Status)
     → IsSome told → Stops words told wanted → HasRead words told → A
 not_stopped words told wanted tells stops read =
     absurd (no_run words told wanted read.command read.script read.rows tells stops read.reads
-    read.inputs)
+    read.inputs read.plan)
 
 pub always : (words : Words) (before after : World) (status wanted : Status)
     → IsSome before.source.told → Stops words before.source.told wanted
@@ -123,6 +137,9 @@ always words before after (InputRefused name row column kind) wanted tells stops
 always words before after (GaveUp stage phase task) wanted tells stops answers =
     not_stopped words before.source.told wanted tells stops (given_read words before.source.told
     before.hosts after.hosts stage phase task answers.0)
+always words before after (PlanRefused step kind) wanted tells stops answers =
+    one_stop words before.source.told (PlanRefused step kind) wanted tells (plan_stops words
+    before.source step kind answers.0) stops
 always words before after (ReadFault name) wanted tells stops answers = tt
 always words before after WantOfMemory wanted tells stops answers = tt
 
@@ -139,8 +156,10 @@ none_turn : {A : Type 0} (words : Words) (told : Told) (command : Command) (name
     (limit : ℕ) → IsUsage words → IsAskedFor words told command name limit → A
 none_turn words told command name limit none (inl asked) =
     none_asked words command name none asked.0
-none_turn words told command name limit none (inr asked) =
+none_turn words told command name limit none (inr (inl asked)) =
     none_asked words command asked.1.4.0 none asked.1.4.2
+none_turn words told command name limit none (inr (inr asked)) =
+    none_asked words command asked.1.1.0 none asked.1.1.2
 
 pub always_usage : (words : Words) (before after : World) (status : Status) → IsUsage words
     → Answers words before after status → IsUnlessFailed Usage status
@@ -167,6 +186,8 @@ always_usage words before after (ScriptRefused line kind) none answers =
     none_asked words answers.0.0 answers.0.1 none answers.0.3
 always_usage words before after (InputRefused name row column kind) none answers =
     none_asked words answers.0.0 answers.0.3.4.0 none answers.0.3.4.2
+always_usage words before after (PlanRefused step kind) none answers =
+    none_asked words answers.0.0 answers.0.4.1.0 none answers.0.4.1.2
 always_usage words before after (GaveUp stage phase task) none answers =
     none_read words before.source.told none (given_read words before.source.told before.hosts
     after.hosts stage phase task answers.0)

@@ -1,5 +1,5 @@
 -- What a call asks its source for, by what comes of it.
-use Rattle.std.proofs.Common.{◌≡◌, ℕ, inl, inr, List, [], ◌∷◌, Option, Result, Ok, Err, IfErr, ap, sym, refl, subst, append-nil}
+use Rattle.std.proofs.Common.{◌≡◌, ◌∙◌, ◌++◌, ℕ, inl, inr, List, [], ◌∷◌, Option, Some, None, Result, Ok, Err, IfErr, ap, sym, refl, subst, append-nil, append_assoc}
 use Rattle.command_words.specs.declared.words.Command.{Command}
 use Rattle.crew.specs.Hosts.{Account}
 use Rattle.direct_meaning.specs.Inputs.{Wanted}
@@ -11,15 +11,14 @@ use Rattle.outside.specs.declared.file.File.{File as NamedBytes}
 use Rattle.outside.proofs.AskLemmas.{SeenAsks, asks_both, asks_front, asks_none}
 use Rattle.run_settings.specs.Settings.{RunSettings}
 use Rattle.run_texts.specs.declared.status.Status.{Status}
-use Rattle.run_texts.specs.declared.status.Status.TheVariants.{Done, GaveUp, Usage, ScriptRefused, InputRefused, Trap, ReadFault, WriteFault, WantOfMemory, TooLong, NoFile}
+use Rattle.run_texts.specs.declared.status.Status.TheVariants.{Done, GaveUp, Usage, ScriptRefused, InputRefused, Trap, ReadFault, WriteFault, WantOfMemory, TooLong, NoFile, PlanRefused}
 use Rattle.script_program.specs.Script.{Script}
 use Rattle.script_loading.specs.Causes.{IsInputsCause, IsLoaded, IsScriptCause}
-use Rattle.script_loading.specs.Loads.{file_names}
-use Rattle.run_course.specs.Asked.{AskFor, inputs_read, tries_of}
-use Rattle.run_course.specs.Asks.{AsksAll, AsksFor}
+use Rattle.run_course.specs.Asked.{AskFor, tries_of}
+use Rattle.run_course.specs.Asks.{AsksAll, AsksFor, files_behind}
 use Rattle.run_course.specs.declared.stop.Stop.{Stop}
 use Rattle.run_course.specs.declared.stop.Stop.TheVariants as stop
-use Rattle.run_course.specs.inner.Course.{AsksInCall, AsksUntil, AsksWith, Delivers, IsRunStop, IsStop}
+use Rattle.run_course.specs.inner.Course.{AsksInCall, AsksUntil, AsksWith, Delivers, IsPlanStop, IsRunStop, IsStop}
 use Rattle.run_course.proofs.ReadLemmas.{Told, Words}
 
 abbrev Names : Type 0
@@ -47,6 +46,32 @@ module _ (tries : ℕ) (names : Names) (before after : SeenAsks) where
   inputs_with most source source' inputs (WriteFault place) cause front = absurd cause.6
   inputs_with most source source' inputs (GaveUp stage phase task) cause front = absurd cause.6
   inputs_with most source source' inputs (Trap origin kind element) cause front = absurd cause.6
+  inputs_with most source source' inputs (PlanRefused step kind) cause front = absurd cause.6
+
+  -- there is no plan
+  pub plan_with : (most : ℕ) (source source' : Seen (List NamedBytes)) (script : Script)
+      (from : Option (List ℕ)) (status : Status)
+      → IsPlanStop most source source' script from status → Asks tries names before after
+      → AsksWith tries names before after status
+  plan_with most source source' script None status stops asks =
+      subst (λ (s : Status). AsksWith tries names before after s) (sym stops) (whole_front asks)
+  plan_with most source source' script (Some name) (PlanRefused step kind) stops asks = asks
+  plan_with most source source' script (Some name) (NoFile other) stops asks = whole_front asks
+  plan_with most source source' script (Some name) (ReadFault other) stops asks = whole_front asks
+  plan_with most source source' script (Some name) (TooLong other limit) stops asks =
+      whole_front asks
+  plan_with most source source' script (Some name) WantOfMemory stops asks = whole_front asks
+  plan_with most source source' script (Some name) Usage stops asks = absurd stops
+  plan_with most source source' script (Some name) Done stops asks = absurd stops
+  plan_with most source source' script (Some name) (ScriptRefused line kind) stops asks =
+      absurd stops
+  plan_with most source source' script (Some name) (InputRefused other row column kind) stops
+      asks = absurd stops
+  plan_with most source source' script (Some name) (WriteFault place) stops asks = absurd stops
+  plan_with most source source' script (Some name) (GaveUp stage phase task) stops asks =
+      absurd stops
+  plan_with most source source' script (Some name) (Trap origin kind element) stops asks =
+      absurd stops
 
   -- all inputs have rows, and their meaning was worked out
   pub meant_until : {T : Type 0} (script : Script) (rows : List (List Value)) (r : Result T Stop)
@@ -68,6 +93,23 @@ module _ (tries : ℕ) (names : Names) (before after : SeenAsks) where
       subst (λ (s : Status). AsksWith tries names before after s) (sym memory) (whole_front asks)
   run_until s script rows plan olds news (Err (stop.Refused status)) (inr up) asks =
       subst (λ (s : Status). AsksWith tries names before after s) (sym up.3) asks
+
+-- of the inputs' files and a plan's behind them, a front was asked for
+pub front_more : (tries : ℕ) (first more : Names) (before after : SeenAsks)
+    → AsksFront tries first before after → AsksFront tries (first ++ more) before after
+front_more tries first more before after front = (
+  front.0,
+  front.1 ++ more,
+  ap (λ l. l ++ more) front.2 ∙ append_assoc front.0 front.1 more,
+  front.3,
+)
+
+-- where none are behind them
+pub none_behind : {T : Type 0} (tries : ℕ) (names : Names) (before after : SeenAsks)
+    (r : Result T Stop) → AsksUntil tries names before after r
+    → AsksUntil tries (names ++ []) before after r
+none_behind tries names before after r asks =
+    subst (λ (l : Names). AsksUntil tries l before after r) (sym (append-nil names)) asks
 
 -- nothing is read
 pub none_with : (tries : ℕ) (names : Names) (it : SeenAsks)
@@ -102,25 +144,26 @@ module _ (words : Words) (told : Told) (command : Command) (name : List ℕ) whe
       absurd cause
   script_for source source' before after (Trap origin kind element) asked cause asks =
       absurd cause
+  script_for source source' before after (PlanRefused step kind) asked cause asks = absurd cause
 
   module _ (script : Script) (before middle after : SeenAsks) (asked : AskFor words command name)
       (loaded : IsLoaded told name script)
       (first : Asks (tries_of command) (name ∷ []) before middle) where
-    abbrev inputs : Names
-    inputs = file_names (inputs_read command script)
+    abbrev others : Names
+    others = files_behind command script
 
-    all_for : Asks (tries_of command) inputs middle after → AsksAll words told before after
+    all_for : Asks (tries_of command) others middle after → AsksAll words told before after
     all_for asks = (
       command,
       name,
       script,
       asked,
       loaded,
-      asks_both (tries_of command) (name ∷ []) inputs before middle after first asks,
+      asks_both (tries_of command) (name ∷ []) others before middle after first asks,
     )
 
-    front_for : AsksFront (tries_of command) inputs middle after
-        → AsksFront (tries_of command) (name ∷ inputs) before after
+    front_for : AsksFront (tries_of command) others middle after
+        → AsksFront (tries_of command) (name ∷ others) before after
     front_for front = (
       name ∷ front.0,
       front.1,
@@ -128,9 +171,10 @@ module _ (words : Words) (told : Told) (command : Command) (name : List ℕ) whe
       asks_both (tries_of command) (name ∷ []) front.0 before middle after first front.3,
     )
 
-    status_for : (status : Status) → AsksWith (tries_of command) inputs middle after status
+    status_for : (status : Status) → AsksWith (tries_of command) others middle after status
         → AsksFor words told before after status
     status_for (GaveUp stage phase task) asks = all_for asks
+    status_for (PlanRefused step kind) asks = all_for asks
     status_for WantOfMemory front =
         inr (inr (command, name, script, asked, loaded, front_for front))
     status_for (NoFile other) front =
@@ -149,7 +193,7 @@ module _ (words : Words) (told : Told) (command : Command) (name : List ℕ) whe
 
     -- the script is read, and the command carried out
     pub command_for : {T : Type 0} (r : Result T Stop)
-        → AsksUntil (tries_of command) inputs middle after r
+        → AsksUntil (tries_of command) others middle after r
         → AsksInCall words told before after r
     command_for (Ok it) asks = all_for asks
     command_for (Err (stop.Trapped trap)) asks = all_for asks
@@ -182,3 +226,5 @@ delivered_for words told before after files text shelf shelf' screen screen' (To
     all = absurd is
 delivered_for words told before after files text shelf shelf' screen screen' (NoFile name) is all =
     absurd is
+delivered_for words told before after files text shelf shelf' screen screen'
+    (PlanRefused step kind) is all = all

@@ -1,5 +1,5 @@
 -- The cause of each answer, from the causes of its parts.
-use Rattle.std.proofs.Common.{◌≡◌, ℕ, ◌≤◌, inl, inr, List, sym, refl, subst}
+use Rattle.std.proofs.Common.{◌≡◌, ℕ, ◌≤◌, inl, inr, List, Option, Some, None, sym, refl, subst}
 use Rattle.command_words.specs.declared.words.Command.{Command}
 use Rattle.command_words.specs.declared.words.Command.TheVariants.{Direct, Run}
 use Rattle.crew.specs.Hosts.{Account}
@@ -13,22 +13,22 @@ use Rattle.run_settings.specs.Settings.{RunSettings}
 use Rattle.run_texts.specs.Lines.{trap_line}
 use Rattle.run_texts.specs.declared.status.Place.TheVariants.{File, Screen}
 use Rattle.run_texts.specs.declared.status.Status.{Status}
-use Rattle.run_texts.specs.declared.status.Status.TheVariants.{Done, GaveUp, Usage, ScriptRefused, InputRefused, Trap, ReadFault, WriteFault, WantOfMemory, TooLong, NoFile}
+use Rattle.run_texts.specs.declared.status.Status.TheVariants.{Done, GaveUp, Usage, ScriptRefused, InputRefused, Trap, ReadFault, WriteFault, WantOfMemory, TooLong, NoFile, PlanRefused}
 use Rattle.script_program.specs.Script.{Script}
-use Rattle.script_plans.specs.Plans.{IsScriptPlan}
-use Rattle.run_course.specs.Answers.{Answers, IsCause, IsRefused}
-use Rattle.script_loading.specs.Loads.{AllHaveRows, IsAbove, IsMissing}
-use Rattle.run_course.specs.Asked.{AskFor, IsAskedFor, IsTurnOf, Reads, inputs_read, tries_of}
+use Rattle.run_course.specs.Answers.{Answers, GivesUp, IsCause, IsRefused}
+use Rattle.script_loading.specs.Loads.{AllHaveRows, IsAbove, IsMissing, Loads}
+use Rattle.run_course.specs.Asked.{AskFor, IsAskedFor, IsPlanTurn, IsTurnOf, Reads, inputs_read, tries_of}
 use Rattle.run_course.specs.Lent.{lent}
+use Rattle.run_course.specs.Plans.{IsFileCause, IsPlanFor}
 use Rattle.run_course.specs.World.{World}
 use Rattle.run_course.specs.Written.{IsMeant, IsWritten, Writes}
-use Rattle.script_loading.specs.Limits.{script_limit, input_limit}
+use Rattle.script_loading.specs.Limits.{script_limit, input_limit, plan_limit}
 use Rattle.run_course.specs.declared.stop.Stop.{Stop}
 use Rattle.run_course.specs.declared.stop.Stop.TheVariants as stop
 use Rattle.run_course.specs.declared.stop.Trapped.{Trapped}
 use Rattle.script_loading.specs.Causes.{IsInputCause, IsInputsCause, IsLoaded, IsScriptCause}
-use Rattle.run_course.specs.inner.Course.{Delivers, HasTrap, IsCommandStop, IsMeaningStop, IsRunStop, IsStopped, IsTrapped}
-use Rattle.script_loading.proofs.SinceLemmas.{inputs_since}
+use Rattle.run_course.specs.inner.Course.{Delivers, HasTrap, IsCommandStop, IsMeaningStop, IsPlanStop, IsRunStop, IsStopped, IsTrapped}
+use Rattle.script_loading.proofs.SinceLemmas.{inputs_since, load_since}
 use Rattle.run_course.proofs.ReadLemmas.{Told, Words}
 
 abbrev SeenSource : Type 0
@@ -85,6 +85,7 @@ module _ (words : Words) (before after : SeenSource) (olds news : List Account)
   script_cause name (WriteFault place) asked cause = absurd cause
   script_cause name (GaveUp stage phase task) asked cause = absurd cause
   script_cause name (Trap origin kind element) asked cause = absurd cause
+  script_cause name (PlanRefused step kind) asked cause = absurd cause
 
 -- ---- the inputs
 
@@ -92,7 +93,7 @@ input_asked_for : (words : Words) (told : Told) (command : Command) (wanted : Wa
     (other : List ℕ) (limit : ℕ) → IsTurnOf words told command wanted → other ≡ wanted.file
     → limit ≡ input_limit → IsAskedFor words told command other limit
 input_asked_for words told command wanted other limit its same equal =
-    inr (wanted, its, same, equal)
+    inr (inl (wanted, its, same, equal))
 
 module _ (words : Words) (before after : SeenSource) (olds news : List Account)
     (command : Command) where
@@ -125,6 +126,7 @@ module _ (words : Words) (before after : SeenSource) (olds news : List Account)
   input_cause wanted (WriteFault place) its cause = absurd cause
   input_cause wanted (GaveUp stage phase task) its cause = absurd cause
   input_cause wanted (Trap origin kind element) its cause = absurd cause
+  input_cause wanted (PlanRefused step kind) its cause = absurd cause
 
   inputs_cause : (script : Script) (status : Status) → Reads words before.told command script
       → IsInputsCause (tries_of command) before after (inputs_read command script) status
@@ -132,6 +134,78 @@ module _ (words : Words) (before after : SeenSource) (olds news : List Account)
   inputs_cause script status read cause =
       input_cause cause.1 status
       (script, cause.0, cause.2, cause.3, read, cause.4, cause.5) cause.6
+
+-- ---- the file of a plan
+
+plan_asked_for : (words : Words) (told : Told) (command : Command) (script : Script)
+    (name other : List ℕ) (limit : ℕ) → IsPlanTurn words told command script name
+    → other ≡ name → limit ≡ plan_limit → IsAskedFor words told command other limit
+plan_asked_for words told command script name other limit its same equal =
+    inr (inr (
+      script,
+      subst (λ (n : List ℕ). IsPlanTurn words told command script n) (sym same) its,
+      equal,
+    ))
+
+module _ (words : Words) (before after : SeenSource) (olds news : List Account)
+    (command : Command) (script : Script) (name : List ℕ) where
+  plan_cause : (status : Status) → IsPlanTurn words before.told command script name
+      → IsFileCause (tries_of command) before after script name status
+      → IsCause words before after olds news status
+  plan_cause (PlanRefused step kind) its cause =
+      (command, script, name, cause.0, its, cause.1, cause.2)
+  plan_cause (NoFile other) its cause = (
+    command,
+    plan_limit,
+    plan_asked_for words before.told command script name other plan_limit its cause.0 refl,
+    missing_as before.told name other cause.0 cause.1,
+  )
+  plan_cause (ReadFault other) its cause = (
+    command,
+    plan_limit,
+    plan_asked_for words before.told command script name other plan_limit its cause.0 refl,
+    cause.1,
+  )
+  plan_cause (TooLong other most) its cause = (
+    command,
+    plan_asked_for words before.told command script name other most its cause.0 cause.1,
+    above_as before.told name other plan_limit most cause.0 cause.1 cause.2,
+  )
+  plan_cause WantOfMemory its cause = tt
+  plan_cause Usage its cause = absurd cause
+  plan_cause Done its cause = absurd cause
+  plan_cause (ScriptRefused line kind) its cause = absurd cause
+  plan_cause (InputRefused other row column kind) its cause = absurd cause
+  plan_cause (WriteFault place) its cause = absurd cause
+  plan_cause (GaveUp stage phase task) its cause = absurd cause
+  plan_cause (Trap origin kind element) its cause = absurd cause
+
+-- the same cause, counted from an earlier moment
+file_since : (tries : ℕ) (before middle after : SeenSource) (script : Script) (name : List ℕ)
+    (status : Status) → middle.told ≡ before.told → before.faults ≤ middle.faults
+    → IsFileCause tries middle after script name status
+    → IsFileCause tries before after script name status
+file_since tries before middle after script name (PlanRefused step kind) told later cause =
+    (cause.0, subst (λ (t : Told). Loads t name plan_limit cause.0) told cause.1, cause.2)
+file_since tries before middle after script name (NoFile other) told later cause =
+    load_since tries before middle after name plan_limit (NoFile other) told later cause
+file_since tries before middle after script name (ReadFault other) told later cause =
+    load_since tries before middle after name plan_limit (ReadFault other) told later cause
+file_since tries before middle after script name (TooLong other most) told later cause =
+    load_since tries before middle after name plan_limit (TooLong other most) told later cause
+file_since tries before middle after script name WantOfMemory told later cause = tt
+file_since tries before middle after script name Usage told later cause = absurd cause
+file_since tries before middle after script name Done told later cause = absurd cause
+file_since tries before middle after script name (ScriptRefused line kind) told later cause =
+    absurd cause
+file_since tries before middle after script name (InputRefused other row column kind) told later
+    cause = absurd cause
+file_since tries before middle after script name (WriteFault place) told later cause =
+    absurd cause
+file_since tries before middle after script name (GaveUp stage phase task) told later cause =
+    absurd cause
+file_since tries before middle after script name (Trap origin kind element) told later cause =
+    absurd cause
 
 -- ---- a command
 
@@ -164,22 +238,23 @@ module _ (words : Words) (before middle after : SeenSource) (olds news : List Ac
       (reads words before.told command name script at)
       (inputs_since (tries_of command) before middle after (inputs_read command script) status told
       later cause)
-  command_cause status (inr (inr it)) =
-      let up = it.6 in
-      subst (λ (a : Status). IsCause words before after olds news a) (sym it.5) (
+  command_cause status (inr (inr (inl it))) =
+      subst (λ (a : Status). IsCause words before after olds news a) (sym it.6) (
         it.0,
+        it.1,
         script,
-        subst (λ (c : Command). Reads words before.told c script) it.4
+        subst (λ (c : Command). Reads words before.told c script) it.5
             (reads words before.told command name script at),
-        (
-          up.0,
-          up.1,
-          up.2,
-          subst (λ (t : Told). IsMeant t script up.0 up.2) told up.3,
-          up.4,
-          up.5,
-        ),
+        subst (λ (t : Told). GivesUp it.0 it.1 t olds news script it.2 it.3 it.4) told it.7,
       )
+  command_cause status (inr (inr (inr it))) =
+      plan_cause words before after olds news command script it.0 status (
+        it.1,
+        reads words before.told command name script at,
+        subst (λ (t : Told). AllHaveRows t (inputs_read command script) it.1) told it.3,
+        it.2,
+      )
+      (file_since (tries_of command) before middle after script it.0 status told later it.4)
 
   pub command_stop : (why : Stop) → IsCommandStop command middle after olds news script why
       → IsStopped words before after olds news why
@@ -204,33 +279,53 @@ meaning_stop before after olds news script (stop.Refused status) (inl memory) = 
 meaning_stop before after olds news script (stop.Refused status) (inr cause) = inr (inl cause)
 meaning_stop before after olds news script (stop.Trapped trap) trapped = trapped
 
--- what stops the run of its plan stops `run`
-pub run_stop : (s : RunSettings) (before after : SeenSource) (olds news : List Account)
-    (script : Script) (rows : List (List Value)) (plan : Plan) (why : Stop)
-    → AllHaveRows before.told (inputs_of script) rows → IsScriptPlan script plan
+-- what stops the run of a plan stops `run`
+pub run_stop : (s : RunSettings) (from : Option (List ℕ)) (before after : SeenSource)
+    (olds news : List Account) (script : Script) (rows : List (List Value)) (plan : Plan)
+    (why : Stop)
+    → AllHaveRows before.told (inputs_of script) rows → IsPlanFor before.told script from plan
     → IsRunStop s script rows plan (lent s olds) (lent s news) why
-    → IsCommandStop (Run s) before after olds news script why
-run_stop s before after olds news script rows plan (stop.Refused status) have is (inl memory) =
-    inl memory
-run_stop s before after olds news script rows plan (stop.Refused status) have is (inr it) =
+    → IsCommandStop (Run s from) before after olds news script why
+run_stop s from before after olds news script rows plan (stop.Refused status) have is
+    (inl memory) = inl memory
+run_stop s from before after olds news script rows plan (stop.Refused status) have is (inr it) =
     let meant : IsMeant before.told script rows it.4.made
     = record { inputs = have; means = it.4.means } in
-    inr (inr (
+    inr (inr (inl (
       s,
+      from,
       it.0,
       it.1,
       it.2,
       refl,
       it.3,
       (rows, plan, it.4.made, meant, is, it.4.given_up),
-    ))
-run_stop s before after olds news script rows plan (stop.Trapped trap) have is trapped = (
+    )))
+run_stop s from before after olds news script rows plan (stop.Trapped trap) have is trapped = (
   rows,
   trapped.0,
   record { inputs = have; means = trapped.1.means },
-  trapped.1.told,
+  (trapped.1.told.0, (plan, is, trapped.1.told.1)),
   trapped.1.named,
 )
+
+-- what leaves a run without a plan stops it
+pub no_plan_stop : (s : RunSettings) (from : Option (List ℕ)) (before middle after : SeenSource)
+    (olds news : List Account) (script : Script) (rows : List (List Value)) (status : Status)
+    → middle.told ≡ before.told → before.faults ≤ middle.faults
+    → AllHaveRows before.told (inputs_of script) rows
+    → IsPlanStop s.tries middle after script from status
+    → IsCommandStop (Run s from) before after olds news script (stop.Refused status)
+no_plan_stop s None before middle after olds news script rows status told later have stops =
+    inl stops
+no_plan_stop s (Some name) before middle after olds news script rows status told later have stops =
+    inr (inr (inr (
+      name,
+      rows,
+      refl,
+      have,
+      file_since s.tries before middle after script name status told later stops,
+    )))
 
 -- ---- the answer
 
@@ -246,6 +341,7 @@ delivered words before after files text (WriteFault Screen) writes left =
     (files, text, writes, left.0, left.1)
 delivered words before after files text Usage writes left = absurd left
 delivered words before after files text (NoFile name) writes left = absurd left
+delivered words before after files text (PlanRefused step kind) writes left = absurd left
 delivered words before after files text (TooLong name limit) writes left = absurd left
 delivered words before after files text (ReadFault name) writes left = absurd left
 delivered words before after files text (GaveUp stage phase task) writes left = absurd left
@@ -262,6 +358,7 @@ pub refusal : (words : Words) (before after : World) (status : Status)
     → Answers words before after status
 refusal words before after Usage cause left = (cause, left)
 refusal words before after (NoFile name) cause left = (cause, left)
+refusal words before after (PlanRefused step kind) cause left = (cause, left)
 refusal words before after (TooLong name limit) cause left = (cause, left)
 refusal words before after (ReadFault name) cause left = (cause, left)
 refusal words before after (ScriptRefused line kind) cause left = (cause, left)

@@ -17,7 +17,7 @@ use Rattle.outside.specs.declared.file.File.{File as NamedBytes}
 use Rattle.outside.specs.declared.host.Phase.{Phase}
 use Rattle.run_texts.specs.declared.status.Place.TheVariants.{File, Screen}
 use Rattle.run_texts.specs.declared.status.Status.{Status}
-use Rattle.run_texts.specs.declared.status.Status.TheVariants.{Done, GaveUp, Usage, ScriptRefused, InputRefused, Trap, ReadFault, WriteFault, WantOfMemory, TooLong, NoFile}
+use Rattle.run_texts.specs.declared.status.Status.TheVariants.{Done, GaveUp, Usage, ScriptRefused, InputRefused, Trap, ReadFault, WriteFault, WantOfMemory, TooLong, NoFile, PlanRefused}
 use Rattle.script_program.specs.Script.{Script}
 use Rattle.script_run.specs.Runs.{phases_of}
 use Rattle.run_course.specs.Answers.{Answers, IsGaveUp, IsReadFault, IsTrap, MayTell}
@@ -30,7 +30,7 @@ use Rattle.run_course.specs.Written.{IsThrough, Table, Writes}
 use Rattle.run_course.proofs.AlwaysLemmas.{none_asked}
 use Rattle.run_course.proofs.GivenUpLemmas.{not_given_up}
 use Rattle.run_course.proofs.ReadLemmas.{Told, Words, same_asked, same_command, same_meaning, same_rows, same_script}
-use Rattle.run_course.proofs.StopLemmas.{Stops, input_stops, no_file_stops, no_run, script_stops, too_long_stops}
+use Rattle.run_course.proofs.StopLemmas.{Stops, input_stops, no_file_stops, no_run, plan_stops, script_stops, too_long_stops}
 
 -- ---- it is done
 
@@ -58,9 +58,9 @@ done_as words before after (Plan form) d p q rows files text can read writes = r
 done_as words before after Direct d p q rows files text can read writes =
     through_end words before.source.told Direct d p q rows writes.0 [] text files writes.1 can.told
     can.reads read can.inputs writes.2
-done_as words before after (Run s) d p q rows files text can read writes =
-    through_end words before.source.told (Run s) d p q rows writes.1 _ text files writes.2 can.told
-    can.reads read can.inputs writes.4
+done_as words before after (Run s from) d p q rows files text can read writes =
+    through_end words before.source.told (Run s from) d p q rows writes.1 _ text files writes.2
+    can.told can.reads read can.inputs writes.4
 
 -- ---- it traps
 
@@ -69,15 +69,15 @@ trapped_end : (traps : List TrapOf) (origin : ℕ) (kind : Kind) (element : Valu
 trapped_end [] origin kind element trap among = let below = among.1 in absurd (omega arith)
 trapped_end (first ∷ traps) origin kind element trap among = tt
 
-told_end : (command : Command) (script : Script) (rows : List (List Value))
+told_end : (command : Command) (told : Told) (script : Script) (rows : List (List Value))
     (olds news : List Account) (traps : List TrapOf) (origin : ℕ) (kind : Kind) (element : Value)
-    (trap : TrapOf) → MayTell command script rows olds news traps trap
+    (trap : TrapOf) → MayTell command told script rows olds news traps trap
     → EndsWith traps (Trap origin kind element)
-told_end Check script rows olds news traps origin kind element trap tells = absurd tells
-told_end (Plan form) script rows olds news traps origin kind element trap tells = absurd tells
-told_end Direct script rows olds news traps origin kind element trap tells =
+told_end Check told script rows olds news traps origin kind element trap tells = absurd tells
+told_end (Plan form) told script rows olds news traps origin kind element trap tells = absurd tells
+told_end Direct told script rows olds news traps origin kind element trap tells =
     trapped_end traps origin kind element trap tells.0
-told_end (Run s) script rows olds news traps origin kind element trap tells =
+told_end (Run s from) told script rows olds news traps origin kind element trap tells =
     trapped_end traps origin kind element trap tells.0
 
 trapped_meaning : (words : Words) (before after : World) (c : Command) (p : Script)
@@ -89,7 +89,8 @@ trapped_meaning : (words : Words) (before after : World) (c : Command) (p : Scri
 trapped_meaning words before after c p rows origin kind element tells reads inputs it = (
   it.3,
   same_meaning words before.source.told c it.0 p it.1 rows it.2 it.3 tells reads it.5 inputs it.6,
-  told_end it.0 it.1 it.2 before.hosts after.hosts (traps_of it.3) origin kind element
+  told_end it.0 before.source.told it.1 it.2 before.hosts after.hosts (traps_of it.3) origin kind
+      element
       (record { origin = origin; element = element; kind = kind }) it.7,
 )
 
@@ -97,12 +98,13 @@ trapped_meaning words before after c p rows origin kind element tells reads inpu
 told_by : (words : Words) (before after : World) (c : Command) (p : Script) (origin : ℕ)
     (kind : Kind) (element : Value) → Reads words before.source.told c p
     → (it : IsTrap origin kind element words before after)
-    → MayTell c it.1 it.2 before.hosts after.hosts (traps_of it.3)
+    → MayTell c before.source.told it.1 it.2 before.hosts after.hosts (traps_of it.3)
     (record { origin = origin; element = element; kind = kind })
 told_by words before after command p origin kind element reads it =
     let same : it.0 ≡ command
     = same_command words before.source.told it.0 command it.1 p it.5 reads in
-    subst (λ (c : Command). MayTell c it.1 it.2 before.hosts after.hosts (traps_of it.3) (record {
+    subst (λ (c : Command). MayTell c before.source.told it.1 it.2 before.hosts after.hosts
+    (traps_of it.3) (record {
       origin = origin;
       element = element;
       kind = kind;
@@ -119,8 +121,8 @@ trapped_as words before after (Plan form) p rows origin kind element can it =
 trapped_as words before after Direct p rows origin kind element can it =
     trapped_meaning words before after Direct p rows origin kind element can.told can.reads
     can.inputs it
-trapped_as words before after (Run s) p rows origin kind element can it =
-    trapped_meaning words before after (Run s) p rows origin kind element can.told can.reads
+trapped_as words before after (Run s from) p rows origin kind element can it =
+    trapped_meaning words before after (Run s from) p rows origin kind element can.told can.reads
     can.inputs it
 
 -- ---- nothing stops it
@@ -144,7 +146,7 @@ no_file_fault (Plan form) told olds news q files text place before after calm wr
     none_fails files place before after writes.0 fails
 no_file_fault Direct told olds news q files text place before after calm writes fails =
     calm fails.faults
-no_file_fault (Run s) told olds news q files text place before after calm writes fails =
+no_file_fault (Run s from) told olds news q files text place before after calm writes fails =
     calm fails.faults
 
 stopped : {A : Type 0} (words : Words) (before after : World) (status : Status) (c : Command)
@@ -152,15 +154,17 @@ stopped : {A : Type 0} (words : Words) (before after : World) (status : Status) 
     → CanRun words before after c script rows → Stops words before.source.told status → A
 stopped words before after status c script rows can stops =
     absurd (no_run words before.source.told status c script rows can.told stops can.reads
-    can.inputs)
+    can.inputs can.plan)
 
 -- a source that fails less often than each file is tried lets all be read
 asked_as : (words : Words) (told : Told) (c d : Command) (p : Script) (name : List ℕ) (limit : ℕ)
     → Reads words told c p → IsAskedFor words told d name limit → d ≡ c
 asked_as words told c d p name limit reads (inl asked) =
     (same_asked words d c name reads.0 asked.0 reads.2).0
-asked_as words told c d p name limit reads (inr asked) =
+asked_as words told c d p name limit reads (inr (inl asked)) =
     same_command words told d c asked.1.0 p asked.1.4 reads
+asked_as words told c d p name limit reads (inr (inr asked)) =
+    same_command words told d c asked.0 p asked.1.1 reads
 
 read_calm : {A : Type 0} (words : Words) (before after : World) (name : List ℕ) (c : Command)
     (script : Script) (rows : List (List Value)) → CanRun words before after c script rows
@@ -179,20 +183,22 @@ given_up : {A : Type 0} (words : Words) (before after : World) (c : Command) (sc
 given_up words before after c script rows stage phase task can it =
     let told = before.source.told in
     let s = it.0 in
-    let up = it.3 in
-    let own : c ≡ Run s = same_command words told c (Run s) script it.1 can.reads it.2 in
-    let same : script ≡ it.1
-    = same_script words told c (Run s) script it.1 can.told can.reads it.2 in
-    let has : AllHaveRows told (inputs_of it.1) rows
+    let up = it.4 in
+    let own : c ≡ Run s it.1
+    = same_command words told c (Run s it.1) script it.2 can.reads it.3 in
+    let same : script ≡ it.2
+    = same_script words told c (Run s it.1) script it.2 can.told can.reads it.3 in
+    let has : AllHaveRows told (inputs_of it.2) rows
     = subst (λ (p : Script). AllHaveRows told (inputs_of p) rows) same
     (subst (λ (d : Command). AllHaveRows told (inputs_read d script) rows) own can.inputs) in
     let all : rows ≡ up.0
-    = same_rows told (inputs_of it.1) rows up.0 can.told has up.3.inputs in
-    let ends : CanEnd (Run s) it.1 up.0 before.hosts after.hosts
-    = subst (λ (r : List (List Value)). CanEnd (Run s) it.1 r before.hosts after.hosts) all
-    (subst (λ (p : Script). CanEnd (Run s) p rows before.hosts after.hosts) same
-    (subst (λ (d : Command). CanEnd d script rows before.hosts after.hosts) own can.hosts)) in
-    absurd (not_given_up s.tries s.drill _ (phases_of s it.1 up.0 up.1) (lent s before.hosts)
+    = same_rows told (inputs_of it.2) rows up.0 can.told has up.3.inputs in
+    let ends : CanEnd (Run s it.1) told it.2 up.0 before.hosts after.hosts
+    = subst (λ (r : List (List Value)). CanEnd (Run s it.1) told it.2 r before.hosts after.hosts)
+    all
+    (subst (λ (p : Script). CanEnd (Run s it.1) told p rows before.hosts after.hosts) same
+    (subst (λ (d : Command). CanEnd d told script rows before.hosts after.hosts) own can.hosts)) in
+    absurd (not_given_up s.tries s.drill _ (phases_of s it.2 up.0 up.1) (lent s before.hosts)
     (lent s after.hosts) stage phase task up.5 (ends up.1 up.2 up.4 up.3.means))
 
 -- ---- it comes to its end
@@ -241,6 +247,9 @@ complete words before after (TooLong name limit) c script rows answers can =
 complete words before after (ScriptRefused line kind) c script rows answers can =
     stopped words before after (ScriptRefused line kind) c script rows can (script_stops words
     before.source line kind answers.0)
+complete words before after (PlanRefused step kind) c script rows answers can =
+    stopped words before after (PlanRefused step kind) c script rows can (plan_stops words
+    before.source step kind answers.0)
 complete words before after (InputRefused name row column kind) c script rows answers can =
     stopped words before after (InputRefused name row column kind) c script rows can (input_stops
     words before.source name row column kind answers.0)

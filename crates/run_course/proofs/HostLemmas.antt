@@ -1,5 +1,5 @@
 -- What a call asks hosts for, by what comes of it.
-use Rattle.std.proofs.Common.{◌≡◌, ℕ, zero, suc, inl, inr, List, [], ◌∷◌, drop, length, map, Result, Ok, Err, IfErr, refl, sym, ap, ◌∙◌, subst}
+use Rattle.std.proofs.Common.{◌≡◌, ℕ, zero, suc, inl, inr, List, [], ◌∷◌, Option, drop, length, map, Result, Ok, Err, IfErr, refl, sym, ap, ◌∙◌, subst}
 use Rattle.command_words.specs.declared.words.Command.{Command}
 use Rattle.command_words.specs.declared.words.Command.TheVariants.{Run}
 use Rattle.crew.specs.Hosts.{Account}
@@ -10,14 +10,14 @@ use Rattle.outside.specs.Seen.{Seen, SeenShelf}
 use Rattle.outside.specs.declared.file.File.{File as NamedBytes}
 use Rattle.run_settings.specs.Settings.{RunSettings}
 use Rattle.run_texts.specs.declared.status.Status.{Status}
-use Rattle.run_texts.specs.declared.status.Status.TheVariants.{Done, GaveUp, Usage, ScriptRefused, InputRefused, Trap, ReadFault, WriteFault, WantOfMemory, TooLong, NoFile}
+use Rattle.run_texts.specs.declared.status.Status.TheVariants.{Done, GaveUp, Usage, ScriptRefused, InputRefused, Trap, ReadFault, WriteFault, WantOfMemory, TooLong, NoFile, PlanRefused}
 use Rattle.script_loading.specs.Loads.{AllHaveRows}
-use Rattle.script_plans.specs.Plans.{IsScriptPlan}
 use Rattle.script_program.specs.Script.{Script}
 use Rattle.script_run.specs.Runs.{AsksSomePhases, phases_of}
 use Rattle.run_course.specs.Asked.{Reads}
 use Rattle.run_course.specs.Hosts.{AsksHosts, AsksInRun, MayHaveRun}
 use Rattle.run_course.specs.Lent.{lent}
+use Rattle.run_course.specs.Plans.{IsPlanFor}
 use Rattle.run_course.specs.declared.stop.Stop.{Stop}
 use Rattle.run_course.specs.declared.stop.Stop.TheVariants as stop
 use Rattle.run_course.specs.inner.Course.{AsksHostsInCall, AsksHostsUntil, Delivers, IsRunStop, MayHaveCome}
@@ -49,19 +49,21 @@ module _ (s : RunSettings) (script : Script) (rows : List (List Value)) (plan : 
   may_stop (Err (stop.Refused status)) (inr up) =
       subst (λ (it : Status). MayHaveRun it) (sym up.3) tt
 
-pub run_asks : {T : Type 0} (s : RunSettings) (told : Told) (olds news : List Account)
-    (script : Script) (rows : List (List Value)) (plan : Plan) (r : Result T Stop)
-    → AllHaveRows told (inputs_of script) rows → IsScriptPlan script plan
+pub run_asks : {T : Type 0} (s : RunSettings) (from : Option (List ℕ)) (told : Told)
+    (olds news : List Account) (script : Script) (rows : List (List Value)) (plan : Plan)
+    (r : Result T Stop)
+    → AllHaveRows told (inputs_of script) rows → IsPlanFor told script from plan
     → plan.sources ≡ length rows
     → IfErr r (IsRunStop s script rows plan (lent s olds) (lent s news))
     → AsksSomePhases s (phases_of s script rows plan) (lent s olds) (lent s news)
     → drop s.workers news ≡ drop s.workers olds
-    → AsksHostsUntil (Run s) told script olds news r
-run_asks s told olds news script rows plan r have is sources stops asked others =
+    → AsksHostsUntil (Run s from) told script olds news r
+run_asks s from told olds news script rows plan r have is sources stops asked others =
     inr (
       may_stop s script rows plan (lent s olds) (lent s news) r stops,
       (
         s,
+        from,
         refl,
         record {
           rows = rows;
@@ -88,10 +90,11 @@ call_asks words told middle command name script olds news at same r (inr it) =
       it.0,
       (
         run.0,
+        run.1,
         script,
-        subst (λ (c : Command). Reads words told c script) run.1
+        subst (λ (c : Command). Reads words told c script) run.2
             (reads words told command name script at),
-        subst (λ (t : Told). AsksInRun run.0 t script olds news) same run.2,
+        subst (λ (t : Told). AsksInRun run.0 run.1 t script olds news) same run.3,
       ),
     )
 
@@ -111,6 +114,7 @@ may_deliver files text shelf shelf' screen screen' (GaveUp stage phase task) is 
 may_deliver files text shelf shelf' screen screen' WantOfMemory is = tt
 may_deliver files text shelf shelf' screen screen' (TooLong name limit) is = absurd is
 may_deliver files text shelf shelf' screen screen' (NoFile name) is = absurd is
+may_deliver files text shelf shelf' screen screen' (PlanRefused step kind) is = absurd is
 
 pub delivered_asks : {T : Type 0} (words : Words) (told : Told) (olds news : List Account)
     (files : List NamedBytes) (text : List ℕ) (shelf shelf' : SeenShelf)

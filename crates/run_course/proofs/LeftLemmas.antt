@@ -5,7 +5,7 @@ use Rattle.outside.specs.Seen.{SeenShelf}
 use Rattle.outside.specs.declared.file.File.{File as NamedBytes}
 use Rattle.run_texts.specs.declared.status.Place.TheVariants.{File, Screen}
 use Rattle.run_texts.specs.declared.status.Status.{Status}
-use Rattle.run_texts.specs.declared.status.Status.TheVariants.{Done, GaveUp, Usage, ScriptRefused, InputRefused, Trap, ReadFault, WriteFault, WantOfMemory, TooLong, NoFile}
+use Rattle.run_texts.specs.declared.status.Status.TheVariants.{Done, GaveUp, Usage, ScriptRefused, InputRefused, Trap, ReadFault, WriteFault, WantOfMemory, TooLong, NoFile, PlanRefused}
 use Rattle.run_course.specs.Answers.{Answers}
 use Rattle.run_course.specs.Promises.{IsEnded, IsRefusal}
 use Rattle.run_course.specs.World.{World}
@@ -20,6 +20,7 @@ refused_part words before after (ReadFault name) answers = answers.1
 refused_part words before after (ScriptRefused line kind) answers = answers.1
 refused_part words before after (InputRefused name row column kind) answers = answers.1
 refused_part words before after (GaveUp stage phase task) answers = answers.1
+refused_part words before after (PlanRefused step kind) answers = answers.1
 refused_part words before after WantOfMemory answers = answers.1
 refused_part words before after Done answers = tt
 refused_part words before after (Trap origin kind element) answers = tt
@@ -74,6 +75,8 @@ ended words before after (InputRefused name row column kind) none answers = same
     after.shelf none answers.1.shelf
 ended words before after (GaveUp stage phase task) none answers =
     same_begun before.shelf after.shelf none answers.1.shelf
+ended words before after (PlanRefused step kind) none answers =
+    same_begun before.shelf after.shelf none answers.1.shelf
 ended words before after WantOfMemory none answers = same_begun before.shelf after.shelf none
     answers.1.shelf
 
@@ -100,6 +103,8 @@ left words before after (ScriptRefused line kind) none answers = same_left befor
 left words before after (InputRefused name row column kind) none answers = same_left before.shelf
     after.shelf answers.1.shelf
 left words before after (GaveUp stage phase task) none answers =
+    same_left before.shelf after.shelf answers.1.shelf
+left words before after (PlanRefused step kind) none answers =
     same_left before.shelf after.shelf answers.1.shelf
 left words before after WantOfMemory none answers = same_left before.shelf after.shelf
     answers.1.shelf

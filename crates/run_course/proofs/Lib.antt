@@ -1,5 +1,6 @@
 pub mod GraphLemmas
 pub mod ReadLemmas
+pub mod PlanLemmas
 pub mod StopLemmas
 pub mod AlwaysLemmas
 pub mod GivenUpLemmas

@@ -2,7 +2,7 @@
 use Rattle.std.proofs.Common.{◌≡◌, subst}
 use Rattle.run_texts.specs.declared.status.Place.TheVariants.{File, Screen}
 use Rattle.run_texts.specs.declared.status.Status.{Status}
-use Rattle.run_texts.specs.declared.status.Status.TheVariants.{Done, GaveUp, Usage, ScriptRefused, InputRefused, Trap, ReadFault, WriteFault, TooLong, NoFile}
+use Rattle.run_texts.specs.declared.status.Status.TheVariants.{Done, GaveUp, Usage, ScriptRefused, InputRefused, Trap, ReadFault, WriteFault, TooLong, NoFile, PlanRefused}
 use Rattle.run_course.specs.Answers.{Answers}
 use Rattle.run_course.specs.Asks.{AsksFor}
 use Rattle.run_course.specs.Hosts.{AsksHosts}
@@ -12,7 +12,7 @@ use Rattle.run_course.proofs.AlwaysLemmas.{always, always_usage}
 use Rattle.run_course.proofs.CompleteLemmas.{complete}
 use Rattle.run_course.proofs.LeftLemmas.{ended, left, refused_part}
 use Rattle.run_course.proofs.ReadLemmas.{Words}
-use Rattle.run_course.proofs.StopLemmas.{input_stops, script_stops, too_long_stops}
+use Rattle.run_course.proofs.StopLemmas.{input_stops, plan_stops, script_stops, too_long_stops}
 
 pub promises : (words : Words) (before after : World) (status : Status)
     → Answers words before after status → Keeps before after
@@ -33,6 +33,7 @@ promises words before after status answers kept asked hosts =
       asked_hosts = hosts;
       script_refused = λ line kind is. (when (ScriptRefused line kind) is).0;
       input_refused = λ name row column kind is. (when (InputRefused name row column kind) is).0;
+      plan_refused = λ step kind is. (when (PlanRefused step kind) is).0;
       gave_up = λ stage phase task is. (when (GaveUp stage phase task) is).0;
       always_usage = λ none. always_usage words before after status none answers;
       always_too_long = λ tells name limit cause.
@@ -44,6 +45,9 @@ promises words before after status answers kept asked hosts =
       always_input_refused = λ tells name row column kind cause.
           always words before after status (InputRefused name row column kind) tells (input_stops
           words before.source name row column kind cause) answers;
+      always_plan_refused = λ tells step kind cause.
+          always words before after status (PlanRefused step kind) tells (plan_stops words
+          before.source step kind cause) answers;
       refused = refused_part words before after status answers;
       file_fault = λ name is. when (WriteFault (File name)) is;
       screen_fault = λ is. when (WriteFault Screen) is;

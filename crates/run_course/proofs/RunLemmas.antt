@@ -3,7 +3,6 @@ use Rattle.std.proofs.Common.{◌≡◌, ℕ, suc, zero, ◌+◌, ◌<◌, List,
 use Rattle.std.specs.Prelude.{codes, IfOk, IsSomeAnd, Option, Result, Ok, Err}
 use Rattle.std.specs.List.{AllZip, Contains}
 use Rattle.std.proofs.lemmas.List.{drop_all}
-use Rattle.command_words.specs.declared.words.PlanForm.TheVariants.{Text}
 use Rattle.crew.specs.Hosts.{Account}
 use Rattle.direct_meaning.specs.Direct.{made_at, sizes_of, traps_of}
 use Rattle.direct_meaning.specs.Inputs.{inputs_of}
@@ -15,14 +14,14 @@ use Rattle.outside.specs.declared.file.File.{File as NamedBytes}
 use Rattle.run_settings.specs.Settings.{RunSettings}
 use Rattle.run_texts.specs.Texts.{NamedOutput, size_lines}
 use Rattle.script_program.specs.Script.{Script}
-use Rattle.script_plans.specs.Plans.{IsScriptPlan}
 use Rattle.script_run.specs.Comes.{AreMembers}
 use Rattle.script_run.specs.Runs.{IsFirstOf, IsRan}
 use Rattle.script_run.specs.declared.run.Ran.{Ran}
-use Rattle.run_course.specs.Answers.{IsFirstOfTasks, name_at}
+use Rattle.run_course.specs.Answers.{IsFirstOfPlan, name_at}
 use Rattle.script_loading.specs.Loads.{AllHaveRows}
 use Rattle.run_course.specs.Lent.{lent}
-use Rattle.run_course.specs.Written.{AllTasksRan, Table, WritesRun, file_of, files_of, shown_as}
+use Rattle.run_course.specs.Plans.{IsPlanFor}
+use Rattle.run_course.specs.Written.{AllTasksRan, Table, WritesRun, file_of, files_of, text_shown}
 use Rattle.run_course.specs.declared.stop.Stop.{Stop}
 use Rattle.run_course.specs.declared.stop.Stop.TheVariants as stop
 use Rattle.run_course.specs.inner.Course.{Gives, IsRunStop, IsTrapOf, file_with, files_with}
@@ -106,13 +105,14 @@ both_ok (Ok a) P Q R p q f = f a p q
 both_ok (Err e) P Q R p q f = tt
 
 -- what a run gives is what its command writes
-pub writes_run : (s : RunSettings) (told : Told) (olds news : List Account) (script : Script)
-    (rows : List (List Value)) (plan : Plan) (front text : List ℕ) (files : List NamedBytes)
-    → AllHaveRows told (inputs_of script) rows → IsScriptPlan script plan
-    → front ≡ shown_as Text script plan → Gives script rows front files text
+pub writes_run : (s : RunSettings) (from : Option (List ℕ)) (told : Told)
+    (olds news : List Account) (script : Script) (rows : List (List Value)) (plan : Plan)
+    (front text : List ℕ) (files : List NamedBytes)
+    → AllHaveRows told (inputs_of script) rows → IsPlanFor told script from plan
+    → front ≡ text_shown script plan → Gives script rows front files text
     → AllTasksRan s script rows plan (lent s olds) (lent s news)
-    → WritesRun s told olds news script files text
-writes_run s told olds news script rows plan front text files have is shown gives ran = (
+    → WritesRun s from told olds news script files text
+writes_run s from told olds news script rows plan front text files have is shown gives ran = (
   plan,
   rows,
   gives.0,
@@ -148,17 +148,17 @@ module _ (s : RunSettings) (script : Script) (rows : List (List Value)) (plan : 
       → trap.origin < length script.nodes
   within trap it = origins script rows it.made it.means trap it.among
 
-  pub trap_stops : (trap : Trap) (why : Stop) → IsScriptPlan script plan
-      → IsFirstOf s script rows plan olds news trap → IsTrapOf script trap why
-      → IsRunStop s script rows plan olds news why
-  trap_stops trap (stop.Refused status) is it own = absurd own
-  trap_stops trap (stop.Trapped trapped) is it own = (
+  pub trap_stops : (trap : Trap) (why : Stop) → IsFirstOf s script rows plan olds news trap
+      → IsTrapOf script trap why → IsRunStop s script rows plan olds news why
+  trap_stops trap (stop.Refused status) it own = absurd own
+  trap_stops trap (stop.Trapped trapped) it own = (
     it.made,
     record {
       means = it.means;
       told = subst
-          (λ (t : Trap). Contains (traps_of it.made) t × IsFirstOfTasks s script rows olds news t)
-          (sym own.0) (it.among, (plan, is, it.first, it.ran));
+          (λ (t : Trap). Contains (traps_of it.made) t
+          × IsFirstOfPlan s script rows plan olds news t)
+          (sym own.0) (it.among, (it.first, it.ran));
       named = ap (λ (t : Trap). name_at script t.origin) own.0 ∙ own.1;
     },
   )

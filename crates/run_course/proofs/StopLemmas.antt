@@ -12,16 +12,20 @@ use Rattle.flume_value.specs.declared.value.Value.{Value}
 use Rattle.outside.specs.Seen.{Seen}
 use Rattle.outside.specs.declared.file.File.{File as NamedBytes}
 use Rattle.run_texts.specs.declared.status.Status.{Status}
-use Rattle.run_texts.specs.declared.status.Status.TheVariants.{ScriptRefused, InputRefused, TooLong, NoFile}
+use Rattle.run_texts.specs.declared.status.Status.TheVariants.{ScriptRefused, InputRefused, TooLong, NoFile, PlanRefused}
 use Rattle.script_program.specs.Script.{Script}
 use Rattle.script_loading.specs.Accepted.{Accepted, Refused}
-use Rattle.run_course.specs.Answers.{IsInputRefused, IsNoFile, IsScriptRefused, IsTooLong}
+use Rattle.plan_faults.specs.declared.fault.PlanKind.{PlanKind}
+use Rattle.run_course.specs.Answers.{IsInputRefused, IsNoFile, IsPlanRefused, IsScriptRefused, IsTooLong}
 use Rattle.script_loading.specs.Loads.{AllHaveRows, HasRows, IsAbove, IsMissing, Loads}
-use Rattle.run_course.specs.Asked.{AskFor, IsAskedFor, IsTurnOf, Reads, inputs_read}
+use Rattle.run_course.specs.Asked.{AskFor, IsAskedFor, IsPlanTurn, IsTurnOf, Reads, inputs_read, plan_read}
+use Rattle.run_course.specs.Plans.{HasPlan}
 use Rattle.command_words.specs.Words.{asked_for}
 use Rattle.script_loading.specs.Limits.{script_limit, input_limit}
 use Rattle.command_words.specs.declared.words.Command.{Command}
 use Rattle.script_loading.proofs.AcceptedLemmas.{not_both, one_reason}
+use Rattle.run_course.proofs.GraphLemmas.{accepted_graph}
+use Rattle.run_course.proofs.PlanLemmas.{BadPlan, bad_plan, long_plan, no_plan, not_had, one_plan, plan_had}
 use Rattle.run_course.proofs.ReadLemmas.{Told, Words, not_above, not_gone_and_long, not_missing, same_asked, same_bytes, same_command, same_script}
 
 -- ---- files that stop a call
@@ -52,8 +56,10 @@ abbrev pub Stops : Words → Told → Status → Type 0
 Stops words told status =
     ((command : Command) × (name : List ℕ) × AskFor words command name
     × BadScript told name status)
-    ⊎ ((command : Command) × (wanted : Wanted) × IsTurnOf words told command wanted
+    ⊎ (((command : Command) × (wanted : Wanted) × IsTurnOf words told command wanted
     × BadInput told wanted status)
+    ⊎ ((command : Command) × (script : Script) × (name : List ℕ)
+    × IsPlanTurn words told command script name × BadPlan told script name status))
 
 unread : (words : Words) (told : Told) (command other : Command) (name : List ℕ) (status :
     Status) (script : Script)
@@ -207,6 +213,14 @@ turn_rows words told c d script rows wanted tells reads all turn =
     input_rows told turn.1 wanted turn.2 rows
     (subst (λ (list : List Wanted). AllHaveRows told list rows) inputs all)
 
+-- the inputs have no rows, or they have rows and the file of a plan is read
+no_plan_turn : (words : Words) (told : Told) (c d : Command) (wanted : Wanted) (script : Script)
+    (name : List ℕ) (status : Status) → IsSome told → IsTurnOf words told c wanted
+    → BadInput told wanted status → IsPlanTurn words told d script name → ⊥
+no_plan_turn words told c d wanted script name status tells turn bad its =
+    let own = turn_rows words told d c script its.0 wanted tells its.1 its.2 turn in
+    no_rows told wanted status tells bad own.0 own.1
+
 -- ---- one refusal
 
 -- a turn asks for its command
@@ -220,13 +234,28 @@ one_stop words told a b tells (inl first) (inl second) =
     let both = same_asked words first.0 second.0 first.1 second.1 first.2 second.2 in
     one_bad_script told second.1 a b tells
     (subst (λ (n : List ℕ). BadScript told n a) both.1 first.3) second.3
-one_stop words told a b tells (inl first) (inr second) =
+one_stop words told a b tells (inl first) (inr (inl second)) =
     absurd (unread words told first.0 second.0 first.1 a second.2.0 tells first.2 first.3
     second.2.4)
-one_stop words told a b tells (inr first) (inl second) =
+one_stop words told a b tells (inl first) (inr (inr second)) =
+    absurd (unread words told first.0 second.0 first.1 a second.1 tells first.2 first.3
+    second.3.1)
+one_stop words told a b tells (inr (inl first)) (inl second) =
     absurd (unread words told second.0 first.0 second.1 b first.2.0 tells second.2 second.3
     first.2.4)
-one_stop words told a b tells (inr first) (inr second) =
+one_stop words told a b tells (inr (inr first)) (inl second) =
+    absurd (unread words told second.0 first.0 second.1 b first.1 tells second.2 second.3
+    first.3.1)
+one_stop words told a b tells (inr (inl first)) (inr (inr second)) =
+    absurd (no_plan_turn words told first.0 second.0 first.1 second.1 second.2 a tells first.2
+    first.3 second.3)
+one_stop words told a b tells (inr (inr first)) (inr (inl second)) =
+    absurd (no_plan_turn words told second.0 first.0 second.1 first.1 first.2 b tells second.2
+    second.3 first.3)
+one_stop words told a b tells (inr (inr first)) (inr (inr second)) =
+    one_plan words told first.0 second.0 first.1 second.1 first.2 second.2 a b tells first.3
+    second.3 first.4 second.4
+one_stop words told a b tells (inr (inl first)) (inr (inl second)) =
     let wanted : first.1 ≡ second.1
     = same_turn words told first.0 second.0 first.1 second.1 tells first.2 second.2
     (no_rows told first.1 a tells first.3) (no_rows told second.1 b tells second.3) in
@@ -236,18 +265,26 @@ one_stop words told a b tells (inr first) (inr second) =
 pub no_run : (words : Words) (told : Told) (status : Status) (command : Command) (script : Script)
     (rows : List (List Value))
     → IsSome told → Stops words told status → Reads words told command script
-    → AllHaveRows told (inputs_read command script) rows → ⊥
-no_run words told status command script rows tells (inl stops) reads inputs =
+    → AllHaveRows told (inputs_read command script) rows
+    → HasPlan told script (plan_read command) → ⊥
+no_run words told status command script rows tells (inl stops) reads inputs has =
     unread words told stops.0 command stops.1 status script tells stops.2 stops.3 reads
-no_run words told status command script rows tells (inr stops) reads inputs =
+no_run words told status command script rows tells (inr (inl stops)) reads inputs has =
     let own = turn_rows words told command stops.0 script rows stops.1 tells reads inputs stops.2 in
     no_rows told stops.1 status tells stops.3 own.0 own.1
+no_run words told status command script rows tells (inr (inr stops)) reads inputs has =
+    let turn = stops.3 in
+    let own = plan_had words told command stops.0 script stops.1 stops.2 tells reads has turn in
+    not_had told stops.1 stops.2 status tells (accepted_graph turn.1.1 stops.1 turn.1.4) stops.4
+    own.0 own.1
 
 pub asked_some : (words : Words) (told : Told) (status : Status) → Stops words told status
     → asked_for words ≡ None → ⊥
 asked_some words told status (inl stops) none = let wrong = sym none ∙ stops.2 in absurd (cc)
-asked_some words told status (inr stops) none =
+asked_some words told status (inr (inl stops)) none =
     let wrong = sym none ∙ turn_asks words told stops.0 stops.1 stops.2 in absurd (cc)
+asked_some words told status (inr (inr stops)) none =
+    let wrong = sym none ∙ stops.3.1.2 in absurd (cc)
 
 -- ---- the causes
 
@@ -256,13 +293,15 @@ missing_stops : (words : Words) (told : Told) (command : Command) (name : List �
     → Stops words told (NoFile name)
 missing_stops words told command name limit (inl asked) gone =
     inl (command, name, asked.0, missing gone refl)
-missing_stops words told command name limit (inr asked) gone =
-    inr (
+missing_stops words told command name limit (inr (inl asked)) gone =
+    inr (inl (
       command,
       asked.0,
       asked.1,
       no_input (subst (λ (n : List ℕ). IsMissing told n) asked.2 gone) (ap NoFile asked.2),
-    )
+    ))
+missing_stops words told command name limit (inr (inr asked)) gone =
+    inr (inr (command, asked.0, name, asked.1, no_plan gone refl))
 
 pub no_file_stops : (words : Words) (source : Seen (List NamedBytes)) (name : List ℕ)
     → IsNoFile name words source → Stops words source.told (NoFile name)
@@ -279,15 +318,24 @@ above_stops words told command name limit (inl asked) longer =
       asked.0,
       above (subst (λ (m : ℕ). IsAbove told name m) asked.1 longer) (ap (TooLong name) asked.1),
     )
-above_stops words told command name limit (inr asked) longer =
-    inr (
+above_stops words told command name limit (inr (inl asked)) longer =
+    inr (inl (
       command,
       asked.0,
       asked.1,
       long_input (subst (λ (n : List ℕ). IsAbove told n input_limit) asked.2 (subst (λ (m :
           ℕ). IsAbove told name m) asked.3 longer))
           (λ i. TooLong (asked.2 i) (asked.3 i)),
-    )
+    ))
+above_stops words told command name limit (inr (inr asked)) longer =
+    inr (inr (
+      command,
+      asked.0,
+      name,
+      asked.1,
+      long_plan (subst (λ (m : ℕ). IsAbove told name m) asked.2 longer)
+          (ap (TooLong name) asked.2),
+    ))
 
 pub too_long_stops : (words : Words) (source : Seen (List NamedBytes)) (name : List ℕ)
     (limit : ℕ) → IsTooLong name limit words source
@@ -305,10 +353,21 @@ pub input_stops : (words : Words) (source : Seen (List NamedBytes)) (name : List
     (row column : ℕ) (kind : RowKind) → IsInputRefused name row column kind words source
     → Stops words source.told (InputRefused name row column kind)
 input_stops words source name row column kind cause =
-    inr (
+    inr (inl (
       cause.0,
       cause.1,
       cause.3,
       bad_rows cause.2 row column kind cause.5 cause.6
           (ap (λ (n : List ℕ). InputRefused n row column kind) cause.4),
-    )
+    ))
+
+pub plan_stops : (words : Words) (source : Seen (List NamedBytes)) (step : ℕ) (kind : PlanKind)
+    → IsPlanRefused step kind words source → Stops words source.told (PlanRefused step kind)
+plan_stops words source step kind cause =
+    inr (inr (
+      cause.0,
+      cause.1,
+      cause.2,
+      cause.4,
+      bad_plan cause.3 step kind cause.5 cause.6 refl,
+    ))

@@ -14,6 +14,7 @@ use Rattle.flume_collection.specs.Traps.{IsLeast}
 use Rattle.flume_collection.specs.declared.trap.Trap.{Trap as TrapOf}
 use Rattle.flume_value.specs.declared.fault.Kind.{Kind}
 use Rattle.flume_value.specs.declared.value.Value.{Value}
+use Rattle.outer_plans.specs.Plans.{IsNotTaken}
 use Rattle.outside.specs.Cause.{Rose, RoseBy}
 use Rattle.outside.specs.Saves.{FailsAt, HasFiles}
 use Rattle.outside.specs.Says.{HasFront, HasLine}
@@ -21,6 +22,7 @@ use Rattle.outside.specs.Seen.{Seen, SeenShelf}
 use Rattle.outside.specs.Told.{WhereTold}
 use Rattle.outside.specs.declared.file.File.{File as NamedBytes}
 use Rattle.outside.specs.declared.host.Phase.{Phase}
+use Rattle.plan_faults.specs.declared.fault.PlanKind.{PlanKind}
 use Rattle.plan_phases.specs.Told.{HasTrapped, IsGivenUp}
 use Rattle.run_settings.specs.Settings.{RunSettings}
 use Rattle.run_texts.specs.Lines.{line_of, trap_line}
@@ -28,19 +30,19 @@ use Rattle.run_texts.specs.declared.status.Place.{Place}
 use Rattle.run_texts.specs.declared.status.Place.TheVariants.{File, Screen}
 use Rattle.flume_grammar.specs.declared.fault.ScriptKind.{ScriptKind}
 use Rattle.run_texts.specs.declared.status.Status.{Status}
-use Rattle.run_texts.specs.declared.status.Status.TheVariants.{Done, GaveUp, Usage, ScriptRefused, InputRefused, Trap, ReadFault, WriteFault, WantOfMemory, TooLong, NoFile}
+use Rattle.run_texts.specs.declared.status.Status.TheVariants.{Done, GaveUp, Usage, ScriptRefused, InputRefused, Trap, ReadFault, WriteFault, WantOfMemory, TooLong, NoFile, PlanRefused}
 use Rattle.script_program.specs.Script.{Script}
-use Rattle.script_plans.specs.Plans.{IsScriptPlan}
 use Rattle.script_run.specs.Runs.{phases_of, split_of}
 use Rattle.task_lists.specs.Plans.{first_trap}
 use Rattle.script_loading.specs.Accepted.{Refused}
 use Rattle.script_loading.specs.Loads.{IsAbove, IsMissing, Loads}
-use Rattle.run_course.specs.Asked.{AskFor, IsAskedFor, IsTurnOf, Reads, tries_of}
+use Rattle.run_course.specs.Asked.{AskFor, IsAskedFor, IsPlanTurn, IsTurnOf, Reads, tries_of}
 use Rattle.command_words.specs.Words.{asked_for}
 use Rattle.run_course.specs.Lent.{lent}
+use Rattle.run_course.specs.Plans.{IsPlanFor}
 use Rattle.run_course.specs.World.{World}
 use Rattle.run_course.specs.Written.{IsMeant, IsWritten, Table}
-use Rattle.script_loading.specs.Limits.{script_limit, input_limit}
+use Rattle.script_loading.specs.Limits.{script_limit, input_limit, plan_limit}
 use Rattle.command_words.specs.declared.words.Command.{Command}
 use Rattle.command_words.specs.declared.words.Command.TheVariants.{Check, Plan as Show, Direct, Run}
 
@@ -95,25 +97,32 @@ IsWriteFault Screen words before after = IsScreenFault words before after
 
 -- ---- what is not
 
--- It is the first trap of the script's plan, as the settings split it: its task has run, or an object
--- was to be made there; and all phases and tasks before have run without a trap.
-abbrev pub IsFirstOfTasks : RunSettings → Script → List (List Value) → List Account → List Account
-    → TrapOf → Type 0
-IsFirstOfTasks s script rows olds news trap =
-    (plan : Plan) × IsScriptPlan script plan
-    × (first_trap (world_of script rows) (split_of s) plan ≡ Some trap)
+-- It is the first trap of a plan, as the settings split it: its task has run, or an object was to
+-- be made there; and all phases and tasks before have run without a trap.
+abbrev pub IsFirstOfPlan : RunSettings → Script → List (List Value) → Plan → List Account
+    → List Account → TrapOf → Type 0
+IsFirstOfPlan s script rows plan olds news trap =
+    (first_trap (world_of script rows) (split_of s) plan ≡ Some trap)
     × HasTrapped s.tries s.drill (world_of script rows) (phases_of s script rows plan) olds news
     trap
 
+-- the same of the plan that the run carries out
+abbrev pub IsFirstOfTasks : RunSettings → Option (List ℕ) → Option (List NamedBytes) → Script
+    → List (List Value) → List Account → List Account → TrapOf → Type 0
+IsFirstOfTasks s from told script rows olds news trap =
+    (plan : Plan) × IsPlanFor told script from plan
+    × IsFirstOfPlan s script rows plan olds news trap
+
 -- the trap that a command may tell of, among those of the script over these rows: `direct` tells of
 -- the least, `run` of the first of its tasks on the lent hosts, and `check` and `plan` of none
-abbrev pub MayTell : Command → Script → List (List Value) → List Account → List Account
-    → List TrapOf → TrapOf → Type 0
-MayTell Check script rows olds news traps trap = ⊥
-MayTell (Show form) script rows olds news traps trap = ⊥
-MayTell Direct script rows olds news traps trap = IsLeast traps trap
-MayTell (Run s) script rows olds news traps trap =
-    Contains traps trap × IsFirstOfTasks s script rows (lent s olds) (lent s news) trap
+abbrev pub MayTell : Command → Option (List NamedBytes) → Script → List (List Value)
+    → List Account → List Account → List TrapOf → TrapOf → Type 0
+MayTell Check told script rows olds news traps trap = ⊥
+MayTell (Show form) told script rows olds news traps trap = ⊥
+MayTell Direct told script rows olds news traps trap = IsLeast traps trap
+MayTell (Run s from) told script rows olds news traps trap =
+    Contains traps trap
+    × IsFirstOfTasks s from told script rows (lent s olds) (lent s news) trap
 
 -- the name of the collection of a number, where there is one
 abbrev pub name_at : Script → ℕ → Option (List ℕ)
@@ -127,7 +136,7 @@ IsTrap origin kind element words before after =
     × (name : List ℕ)
     × Reads words before.source.told command script
     × IsMeant before.source.told script rows table
-    × MayTell command script rows before.hosts after.hosts (traps_of table)
+    × MayTell command before.source.told script rows before.hosts after.hosts (traps_of table)
     (record { origin = origin; element = element; kind = kind })
     × (name_at script origin ≡ Some name)
     × (after.shelf ≡ before.shelf)
@@ -173,14 +182,21 @@ IsInputRefused name row column kind words source =
     × Loads source.told wanted.file input_limit bytes
     × (rows_of bytes wanted.type ≡ Some (Err (Bad row column kind)))
 
+-- PlanRefused: it is the turn of the file of a plan, which was loaded, and its bytes are refused so
+abbrev pub IsPlanRefused : ℕ → PlanKind → List (List ℕ) → Seen (List NamedBytes) → Type 0
+IsPlanRefused step kind words source =
+    (command : Command) × (script : Script) × (name : List ℕ) × (bytes : List ℕ)
+    × IsPlanTurn words source.told command script name
+    × Loads source.told name plan_limit bytes × IsNotTaken script bytes step kind
+
 -- All inputs of the script have rows, over which it has a meaning, and of this task of a phase of
--- its plan no attempt has won: the drill and the losses of the lent hosts account for each of its
--- tries. All phases before it, and all smaller tasks of it, have run without a trap
-abbrev pub GivesUp : RunSettings → Option (List NamedBytes) → List Account → List Account → Script
-    → ℕ → Phase → ℕ → Type 0
-GivesUp s told olds news script stage phase task =
+-- the plan that is run no attempt has won: the drill and the losses of the lent hosts account for
+-- each of its tries. All phases before it, and all smaller tasks of it, have run without a trap
+abbrev pub GivesUp : RunSettings → Option (List ℕ) → Option (List NamedBytes) → List Account
+    → List Account → Script → ℕ → Phase → ℕ → Type 0
+GivesUp s from told olds news script stage phase task =
     (rows : List (List Value)) × (plan : Plan) × (table : Table)
-    × IsMeant told script rows table × IsScriptPlan script plan
+    × IsMeant told script rows table × IsPlanFor told script from plan
     × IsGivenUp s.tries s.drill (world_of script rows) (phases_of s script rows plan)
     (lent s olds) (lent s news) stage phase task
 
@@ -188,8 +204,9 @@ GivesUp s told olds news script stage phase task =
 abbrev pub IsGaveUp : ℕ → Phase → ℕ → List (List ℕ) → Option (List NamedBytes) → List Account
     → List Account → Type 0
 IsGaveUp stage phase task words told olds news =
-    (s : RunSettings) × (script : Script) × Reads words told (Run s) script
-    × GivesUp s told olds news script stage phase task
+    (s : RunSettings) × (from : Option (List ℕ)) × (script : Script)
+    × Reads words told (Run s from) script
+    × GivesUp s from told olds news script stage phase task
 
 -- a refusal before anything is written: the shelf is untouched, and the screen has the refusal's
 -- line
@@ -212,6 +229,8 @@ IsCause words before after olds news (InputRefused name row column kind) =
     IsInputRefused name row column kind words before
 IsCause words before after olds news (GaveUp stage phase task) =
     IsGaveUp stage phase task words before.told olds news
+IsCause words before after olds news (PlanRefused step kind) =
+    IsPlanRefused step kind words before
 IsCause words before after olds news WantOfMemory = ⊤
 IsCause words before after olds news Done = ⊥
 IsCause words before after olds news (Trap origin kind element) = ⊥

@@ -1,19 +1,30 @@
 -- What a call asks its source for.
-use Rattle.std.specs.Prelude.{◌⊎◌, ℕ, List, [], ◌∷◌, Option}
+use Rattle.std.specs.Prelude.{◌⊎◌, ℕ, List, [], ◌∷◌, ◌++◌, Option, Some, None}
 use Rattle.command_words.specs.declared.words.Command.{Command}
 use Rattle.outside.specs.Asked.{Asks, AsksFront}
 use Rattle.outside.specs.Seen.{Seen}
 use Rattle.outside.specs.declared.file.File.{File}
 use Rattle.run_texts.specs.declared.status.Status.{Status}
-use Rattle.run_texts.specs.declared.status.Status.TheVariants.{Done, GaveUp, Usage, Trap, WriteFault}
+use Rattle.run_texts.specs.declared.status.Status.TheVariants.{Done, GaveUp, PlanRefused, Usage, Trap, WriteFault}
 use Rattle.script_loading.specs.Causes.{IsLoaded}
 use Rattle.script_loading.specs.Loads.{file_names}
 use Rattle.script_program.specs.Script.{Script}
-use Rattle.run_course.specs.Asked.{AskFor, inputs_read, tries_of}
+use Rattle.run_course.specs.Asked.{AskFor, inputs_read, plan_read, tries_of}
 
--- the files that a command reads, in order: its script's, which has this name, and its inputs'
+-- the file of a plan, where one is named
+abbrev pub plan_file : Option (List ℕ) → List (List ℕ)
+plan_file None = []
+plan_file (Some name) = name ∷ []
+
+-- the files that a command reads behind the script's, in order: those of its inputs, and that of a
+-- plan
+abbrev pub files_behind : Command → Script → List (List ℕ)
+files_behind command script =
+    file_names (inputs_read command script) ++ plan_file (plan_read command)
+
+-- the files that a command reads, in order: first its script's, which has this name
 abbrev pub files_read : Command → List ℕ → Script → List (List ℕ)
-files_read command name script = name ∷ file_names (inputs_read command script)
+files_read command name script = name ∷ files_behind command script
 
 -- of a call with these words, where the source tells these files, and what it was asked for so far
 -- before the call and after it
@@ -51,4 +62,5 @@ module _ (words : List (List ℕ)) (told : Option (List File))
   AsksFor (Trap origin kind element) = AsksAll
   AsksFor (GaveUp stage phase task) = AsksAll
   AsksFor (WriteFault place) = AsksAll
+  AsksFor (PlanRefused step kind) = AsksAll
   AsksFor status = AsksNone ⊎ (AsksScript ⊎ AsksSome)

@@ -9,7 +9,7 @@ use Rattle.command_words.specs.declared.words.Command.TheVariants.{Run}
 
 -- how many hosts a command lends: a run one to each of its workers, and other commands none
 abbrev pub lends : Command → ℕ
-lends (Run s) = s.workers
+lends (Run s from) = s.workers
 lends _ = 0
 
 -- how many hosts a call with these words lends

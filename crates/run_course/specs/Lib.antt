@@ -4,6 +4,7 @@ pub mod Asks
 pub mod Hosts
 pub mod Lent
 pub mod Limits
+pub mod Plans
 pub mod Promises
 pub mod World
 pub mod Written

@@ -1,5 +1,5 @@
 -- What a call promises.
-use Rattle.std.specs.Prelude.{◌≡◌, ◌⊎◌, ℕ, false, List, [], ◌∷◌, Some, IsSome, ⊤}
+use Rattle.std.specs.Prelude.{◌≡◌, ◌⊎◌, ℕ, false, List, [], ◌∷◌, Option, Some, IsSome, ⊤}
 use Rattle.crew.specs.Hosts.{Account}
 use Rattle.csv_rows.specs.declared.fault.RowKind.{RowKind}
 use Rattle.direct_meaning.specs.Direct.{meaning, traps_of}
@@ -9,26 +9,28 @@ use Rattle.flume_value.specs.declared.fault.Kind.{Kind}
 use Rattle.flume_value.specs.declared.value.Value.{Value}
 use Rattle.outside.specs.Cause.{Rose, RoseBy}
 use Rattle.outside.specs.Seen.{SeenShelf}
+use Rattle.outside.specs.declared.file.File.{File as NamedBytes}
 use Rattle.outside.specs.declared.host.Phase.{Phase}
+use Rattle.plan_faults.specs.declared.fault.PlanKind.{PlanKind}
 use Rattle.plan_phases.specs.Phases.{with_tasks}
 use Rattle.plan_phases.specs.Told.{CanFinishAll}
-use Rattle.run_course.specs.Answers.{IsDone, IsFileFault, IsGaveUp, IsInputRefused, IsNoFile, IsReadFault, IsRefused, IsScreenFault, IsScriptRefused, IsTooLong, IsTrap, IsUsage}
+use Rattle.run_course.specs.Answers.{IsDone, IsFileFault, IsGaveUp, IsInputRefused, IsNoFile, IsPlanRefused, IsReadFault, IsRefused, IsScreenFault, IsScriptRefused, IsTooLong, IsTrap, IsUsage}
 use Rattle.script_loading.specs.Loads.{AllHaveRows}
 use Rattle.run_course.specs.Asks.{AsksFor}
-use Rattle.run_course.specs.Asked.{Reads, inputs_read, tries_of}
+use Rattle.run_course.specs.Asked.{Reads, inputs_read, plan_read, tries_of}
 use Rattle.run_course.specs.Hosts.{AsksHosts}
 use Rattle.run_course.specs.Lent.{lent}
+use Rattle.run_course.specs.Plans.{HasPlan, IsPlanFor}
 use Rattle.run_course.specs.World.{Keeps, World, asks}
 use Rattle.run_course.specs.Written.{Table}
 use Rattle.command_words.specs.declared.words.Command.{Command}
 use Rattle.command_words.specs.declared.words.Command.TheVariants.{Check, Plan as Show, Direct, Run}
 use Rattle.script_program.specs.Script.{Script}
-use Rattle.script_plans.specs.Plans.{IsScriptPlan}
 use Rattle.script_run.specs.Runs.{phases_of}
 use Rattle.run_texts.specs.declared.status.Place.TheVariants.{File, Screen}
 use Rattle.flume_grammar.specs.declared.fault.ScriptKind.{ScriptKind}
 use Rattle.run_texts.specs.declared.status.Status.{Status}
-use Rattle.run_texts.specs.declared.status.Status.TheVariants.{Done, GaveUp, Usage, ScriptRefused, InputRefused, Trap, ReadFault, WriteFault, WantOfMemory, TooLong, NoFile}
+use Rattle.run_texts.specs.declared.status.Status.TheVariants.{Done, GaveUp, Usage, ScriptRefused, InputRefused, Trap, ReadFault, WriteFault, WantOfMemory, TooLong, NoFile, PlanRefused}
 
 -- what stands after each answer that comes before anything is written
 abbrev pub IsRefusal : Status → World → World → Type 0
@@ -40,6 +42,7 @@ IsRefusal (ScriptRefused line kind) before after = IsRefused (ScriptRefused line
 IsRefusal (InputRefused name row column kind) before after =
     IsRefused (InputRefused name row column kind) before after
 IsRefusal (GaveUp stage phase task) before after = IsRefused (GaveUp stage phase task) before after
+IsRefusal (PlanRefused step kind) before after = IsRefused (PlanRefused step kind) before after
 IsRefusal WantOfMemory before after = IsRefused WantOfMemory before after
 IsRefusal Done before after = ⊤
 IsRefusal (Trap origin kind element) before after = ⊤
@@ -61,31 +64,34 @@ abbrev pub IsShelfCalm : Command → SeenShelf → SeenShelf → Type 0
 IsShelfCalm Check before after = ⊤
 IsShelfCalm (Show form) before after = ⊤
 IsShelfCalm Direct before after = Rose before.faults after.faults → ⊥
-IsShelfCalm (Run s) before after = Rose before.faults after.faults → ⊥
+IsShelfCalm (Run s from) before after = Rose before.faults after.faults → ⊥
 
--- the hosts can bring each task of a command to its end: for each task of a run's plan, over rows
--- over which the script has a meaning, some try is neither in the drill nor accounted for by the
--- losses of the lent hosts
-abbrev pub CanEnd : Command → Script → List (List Value) → List Account → List Account → Type 0
-CanEnd (Run s) script rows olds news =
-    (plan : Plan) (table : Table) → IsScriptPlan script plan
+-- the hosts can bring each task of a command to its end: for each task of the plan that a run
+-- carries out, over rows over which the script has a meaning, some try is neither in the drill nor
+-- accounted for by the losses of the lent hosts
+abbrev pub CanEnd : Command → Option (List NamedBytes) → Script → List (List Value)
+    → List Account → List Account → Type 0
+CanEnd (Run s from) told script rows olds news =
+    (plan : Plan) (table : Table) → IsPlanFor told script from plan
     → meaning script rows ≡ Some table
     → CanFinishAll s.tries s.drill (with_tasks (phases_of s script rows plan)) (lent s olds)
     (lent s news)
-CanEnd _ script rows olds news = ⊤
+CanEnd _ told script rows olds news = ⊤
 
 -- All is there that a command needs: files are told, the words ask for it on this script, the
--- inputs that it reads have these rows, the source fails less often than each file may be tried,
--- neither the shelf, where it writes files, nor the screen fails, and its hosts can end its tasks.
+-- inputs that it reads have these rows, the plan of a file that it names is taken, the source fails
+-- less often than each file may be tried, neither the shelf, where it writes files, nor the screen
+-- fails, and its hosts can end its tasks.
 pub record CanRun (words : List (List ℕ)) (before after : World) (command : Command)
     (script : Script) (rows : List (List Value)) : Type 0 where
   pub told : IsSome before.source.told
   pub reads : Reads words before.source.told command script
   pub inputs : AllHaveRows before.source.told (inputs_read command script) rows
+  pub plan : HasPlan before.source.told script (plan_read command)
   pub source : RoseBy (tries_of command) before.source.faults after.source.faults → ⊥
   pub shelf : IsShelfCalm command before.shelf after.shelf
   pub screen : Rose before.screen.faults after.screen.faults → ⊥
-  pub hosts : CanEnd command script rows before.hosts after.hosts
+  pub hosts : CanEnd command before.source.told script rows before.hosts after.hosts
 
 abbrev pub IsTrapped : Status → Type 0
 IsTrapped (Trap origin kind element) = ⊤
@@ -106,7 +112,7 @@ abbrev pub EndsAs : Command → Script → List (List Value) → Status → Type
 EndsAs Check script rows status = status ≡ Done
 EndsAs (Show form) script rows status = status ≡ Done
 EndsAs Direct script rows status = EndsByMeaning script rows status
-EndsAs (Run s) script rows status = EndsByMeaning script rows status
+EndsAs (Run s from) script rows status = EndsByMeaning script rows status
 
 -- the same, or no memory was found
 abbrev pub IsEnd : Command → Script → List (List Value) → Status → Type 0
@@ -128,8 +134,9 @@ pub record Promises (words : List (List ℕ)) (before after : World) (status : S
       IsReadFault name words before.source after.source
   pub too_long : (name : List ℕ) (limit : ℕ) → status ≡ TooLong name limit →
       IsTooLong name limit words before.source
-  -- what the source was asked for: the script's file and then those of the inputs that the command
-  -- reads, in order, each once, and again only where the source failed, as often as is tried
+  -- what the source was asked for: the script's file, then those of the inputs that the command
+  -- reads, in order, and then that of a plan, each once, and again only where the source failed, as
+  -- often as is tried
   pub asked : AsksFor words before.source.told (asks before) (asks after) status
   -- what hosts were asked for: nothing, or for `run` some front of its plan's phases, one behind
   -- the other, each place at most once, and this of the lent hosts alone
@@ -139,6 +146,8 @@ pub record Promises (words : List (List ℕ)) (before after : World) (status : S
   pub input_refused : (name : List ℕ) (row column : ℕ) (kind : RowKind) →
       status ≡ InputRefused name row column kind →
       IsInputRefused name row column kind words before.source
+  pub plan_refused : (step : ℕ) (kind : PlanKind) → status ≡ PlanRefused step kind →
+      IsPlanRefused step kind words before.source
   pub gave_up : (stage : ℕ) (phase : Phase) (task : ℕ) → status ≡ GaveUp stage phase task →
       IsGaveUp stage phase task words before.source.told before.hosts after.hosts
   -- these come wherever their cause stands, where files are told
@@ -152,6 +161,8 @@ pub record Promises (words : List (List ℕ)) (before after : World) (status : S
       (name : List ℕ) (row column : ℕ) (kind : RowKind) →
       IsInputRefused name row column kind words before.source →
       IsUnlessFailed (InputRefused name row column kind) status
+  pub always_plan_refused : IsSome before.source.told → (step : ℕ) (kind : PlanKind) →
+      IsPlanRefused step kind words before.source → IsUnlessFailed (PlanRefused step kind) status
   -- what stands after a refusal: the shelf is untouched, and the screen has its line
   pub refused : IsRefusal status before after
   -- the writes that failed: their cause, and what stands

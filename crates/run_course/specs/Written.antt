@@ -8,6 +8,8 @@ use Rattle.direct_meaning.specs.Inputs.{inputs_of}
 use Rattle.flume_collection.specs.Collection.{Collection}
 use Rattle.flume_value.specs.declared.value.Value.{Value}
 use Rattle.graph_build.specs.Graphs.{graph_of}
+use Rattle.graph_rewrites.specs.declared.rewrite.Rewrite.{Rewrite}
+use Rattle.outer_plans.specs.Plans.{IsTaken, LeadTo, file_text_of}
 use Rattle.outside.specs.declared.file.File.{File}
 use Rattle.plan_phases.specs.declared.winners.PhaseWinners.{PhaseWinners}
 use Rattle.plan_print.specs.GraphText.{graph_text}
@@ -23,10 +25,11 @@ use Rattle.script_program.specs.Script.{Script}
 use Rattle.script_loading.specs.Loads.{AllHaveRows}
 use Rattle.run_course.specs.Asked.{Reads}
 use Rattle.run_course.specs.Lent.{lent}
+use Rattle.run_course.specs.Plans.{IsPlanFor}
 use Rattle.command_words.specs.declared.words.Command.{Command}
 use Rattle.command_words.specs.declared.words.Command.TheVariants.{Check, Plan as Show, Direct, Run}
 use Rattle.command_words.specs.declared.words.PlanForm.{PlanForm}
-use Rattle.command_words.specs.declared.words.PlanForm.TheVariants.{Text, Json}
+use Rattle.command_words.specs.declared.words.PlanForm.TheVariants.{Text, Json, Rewrites}
 
 -- the collections of a script by their numbers, where they are made
 abbrev pub Table : Type 0
@@ -67,15 +70,29 @@ WritesMeaning told script front files text =
     (rows : List (List Value)) × (table : Table)
     × IsThrough told script front files text rows table
 
--- a plan is shown as text behind the text of the execution graph, or as JSON on a line
-abbrev pub shown_as : PlanForm → Script → Plan → List ℕ
-shown_as Text script plan = graph_text script (graph_of script) ++ plan_text_of script plan
-shown_as Json script plan = compact_text (plan_json_of script plan) ++ codes "\n"
+-- a plan, shown as text behind the text of the execution graph
+abbrev pub text_shown : Script → Plan → List ℕ
+text_shown script plan = graph_text script (graph_of script) ++ plan_text_of script plan
 
--- the text shows the script's plan
+-- shown as JSON on a line
+abbrev pub json_shown : Script → Plan → List ℕ
+json_shown script plan = compact_text (plan_json_of script plan) ++ codes "\n"
+
+-- and as the file of a plan on a line, with rewrites that lead to it
+abbrev pub file_shown : Script → List Rewrite → Plan → List ℕ
+file_shown script rewrites plan = file_text_of script rewrites plan ++ codes "\n"
+
+-- the text shows the script's plan, and maybe rewrites that lead from the script's graph to it: as
+-- the file of a plan it is then taken as just that
 abbrev pub ShowsPlan : PlanForm → Script → List ℕ → Type 0
-ShowsPlan form script text =
-    (plan : Plan) × IsScriptPlan script plan × (text ≡ shown_as form script plan)
+ShowsPlan Text script text =
+    (plan : Plan) × IsScriptPlan script plan × (text ≡ text_shown script plan)
+ShowsPlan Json script text =
+    (plan : Plan) × IsScriptPlan script plan × (text ≡ json_shown script plan)
+ShowsPlan Rewrites script text =
+    (plan : Plan) × (rewrites : List Rewrite) × IsScriptPlan script plan
+    × LeadTo script rewrites plan × IsTaken script text plan
+    × (text ≡ file_shown script rewrites plan)
 
 -- ---- runs
 
@@ -88,13 +105,15 @@ AllTasksRan s script rows plan olds news =
     (winners : List PhaseWinners) × WereRun s (phases_of s script rows plan) olds news winners
     × AsksAllPhases s (phases_of s script rows plan) winners olds news
 
--- What a run writes and leaves: the files of its script's direct meaning; its graph and its plan,
--- the sizes of its collections and `done`. Each task of the plan was run on the lent hosts.
-abbrev pub WritesRun : RunSettings → Option (List File) → List Account → List Account → Script
-    → List File → List ℕ → Type 0
-WritesRun s told olds news script files text =
-    (plan : Plan) × (rows : List (List Value)) × (table : Table) × IsScriptPlan script plan
-    × IsThrough told script (shown_as Text script plan) files text rows table
+-- What a run writes and leaves: the files of its script's direct meaning; its graph and the plan
+-- that it carries out, the sizes of its collections and `done`. Each task of the plan was run on
+-- the lent hosts.
+abbrev pub WritesRun : RunSettings → Option (List ℕ) → Option (List File) → List Account
+    → List Account → Script → List File → List ℕ → Type 0
+WritesRun s from told olds news script files text =
+    (plan : Plan) × (rows : List (List Value)) × (table : Table)
+    × IsPlanFor told script from plan
+    × IsThrough told script (text_shown script plan) files text rows table
     × AllTasksRan s script rows plan (lent s olds) (lent s news)
 
 -- What a command writes of a script: `check` no file and `ok`; `plan` no file and its plan;
@@ -105,7 +124,8 @@ abbrev pub Writes : Command → Option (List File) → List Account → List Acc
 Writes Check told olds news script files text = (files ≡ []) × (text ≡ codes "ok\n")
 Writes (Show form) told olds news script files text = (files ≡ []) × ShowsPlan form script text
 Writes Direct told olds news script files text = WritesMeaning told script [] files text
-Writes (Run s) told olds news script files text = WritesRun s told olds news script files text
+Writes (Run s from) told olds news script files text =
+    WritesRun s from told olds news script files text
 
 -- the words ask for a command that writes these files and this text, and has the hosts gain so much
 abbrev pub IsWritten : List (List ℕ) → Option (List File) → List Account → List Account

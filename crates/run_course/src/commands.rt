@@ -1,5 +1,5 @@
 // What each command writes of a script, or why it writes nothing.
-ghost use Rattle.std.specs.Prelude.{◌≡◌, ◌≤◌, ◌<◌, [], IfErr, IfOk, codes, drop, length, map};
+ghost use Rattle.std.specs.Prelude.{◌≡◌, ◌≤◌, ◌<◌, ◌++◌, [], IfErr, IfOk, codes, drop, length, map};
 ghost use Rattle.std.specs.List.{AllZip};
 ghost use Rattle.command_words.specs.declared.words.Command.TheVariants.{Direct, Run};
 ghost use Rattle.crew.specs.Hosts.{Grew, account};
@@ -10,7 +10,7 @@ ghost use Rattle.outside.specs.Saves.{output_file};
 ghost use Rattle.outside.specs.Seen.{seen};
 ghost use Rattle.script_laws.specs.WellFormed.{IsWellFormed};
 ghost use Rattle.run_course.specs.Asked as spec;
-ghost use Rattle.run_course.specs.Asked.{inputs_read};
+ghost use Rattle.run_course.specs.Asks.{files_behind, plan_file};
 ghost use Rattle.run_course.specs.Lent.{lends};
 ghost use Rattle.run_course.specs.Written.{ShowsPlan, Writes, WritesMeaning, WritesRun};
 ghost use Rattle.script_loading.specs.Loads.{file_names};
@@ -20,11 +20,12 @@ ghost use Rattle.run_course.specs.inner.Course.{AsksHostsUntil, AsksUntil, IsCom
 use crate::evaluation::written_meaning;
 use crate::files::Written;
 use crate::limits::TRIES;
+use crate::plans::plan_for;
 use crate::running::written_run;
-use crate::showing::{plan_shown, shown};
+use crate::showing::shown;
 use crate::stop::Stop;
 use command_words::{Command, PlanForm};
-use outside::{Host, Source};
+use outside::{FileName, Host, Source};
 use run_settings::Settings;
 use script_loading::rows_of_inputs;
 use script_program::Program;
@@ -37,7 +38,7 @@ pub fn tries_of(command: &Command) -> u32
     ensures some { 0 < result }
 {
     match command {
-        Command::Run(settings) => settings.tries(),
+        Command::Run(settings, _) => settings.tries(),
         _ => TRIES,
     }
 }
@@ -62,7 +63,7 @@ pub fn carried_out<X: Threads + Sync, R: Source, H: Host + Send>(
         (seen R.files R.faults source.new) (map (account H.notes H.losses) hosts.old)
         (map (account H.notes H.losses) hosts.new) program.now.script) }
     ensures asked { AsksUntil (spec.tries_of command.now)
-        (file_names (inputs_read command.now program.now.script))
+        (files_behind command.now program.now.script)
         (seen R.asked R.faults source.old) (seen R.asked R.faults source.new) result }
     ensures asked_hosts { AsksHostsUntil command.now (R.files source.old) program.now.script
         (map (account H.notes H.losses) hosts.old) (map (account H.notes H.losses) hosts.new)
@@ -77,7 +78,7 @@ pub fn carried_out<X: Threads + Sync, R: Source, H: Host + Send>(
         Command::Check => Ok(accepted(alloc)?),
         Command::Plan(form) => Ok(planned(alloc, program, *form)?),
         Command::Direct => meant(alloc, program, source),
-        Command::Run(settings) => run_on(rt, alloc, program, source, hosts, settings),
+        Command::Run(settings, from) => run_on(rt, alloc, program, source, hosts, settings, from),
     }
 }
 
@@ -124,7 +125,7 @@ fn meant<R: Source>(alloc: Global, program: &Program, source: &mut R) -> Result<
     written_meaning(alloc, program, inputs)
 }
 
-// What the run of a script's plan writes, with its graph and its plan first.
+// What a run writes, with the script's graph and the plan that is run first.
 fn run_on<X: Threads + Sync, R: Source, H: Host + Send>(
     rt: &X,
     alloc: Global,
@@ -132,21 +133,23 @@ fn run_on<X: Threads + Sync, R: Source, H: Host + Send>(
     source: &mut R,
     hosts: &mut [H],
     settings: &Settings,
+    from: &Option<FileName>,
 ) -> Result<Written, Stop>
     requires well_formed { IsWellFormed program.now.script }
     requires ready { IsReady program.now.script }
     requires graph { IsGraphOk (graph_of program.now.script) }
     requires sixteen { length hosts.old ≡ 16 }
-    ensures written { IfOk result (λ it. WritesRun settings.now (R.files source.old)
+    ensures written { IfOk result (λ it. WritesRun settings.now from.now (R.files source.old)
         (map (account H.notes H.losses) hosts.old) (map (account H.notes H.losses) hosts.new)
         program.now.script (map output_file it.outputs.items) it.screen.items) }
-    ensures stop { IfErr result (IsCommandStop (Run settings.now)
+    ensures stop { IfErr result (IsCommandStop (Run settings.now from.now)
         (seen R.files R.faults source.old) (seen R.files R.faults source.new)
         (map (account H.notes H.losses) hosts.old) (map (account H.notes H.losses) hosts.new)
         program.now.script) }
-    ensures asked { AsksUntil settings.now.tries (file_names (inputs_of program.now.script))
+    ensures asked { AsksUntil settings.now.tries
+        (file_names (inputs_of program.now.script) ++ plan_file from.now)
         (seen R.asked R.faults source.old) (seen R.asked R.faults source.new) result }
-    ensures asked_hosts { AsksHostsUntil (Run settings.now) (R.files source.old)
+    ensures asked_hosts { AsksHostsUntil (Run settings.now from.now) (R.files source.old)
         program.now.script (map (account H.notes H.losses) hosts.old)
         (map (account H.notes H.losses) hosts.new) result }
     ensures files { R.files source.new ≡ R.files source.old }
@@ -155,7 +158,8 @@ fn run_on<X: Threads + Sync, R: Source, H: Host + Send>(
         (map (account H.notes H.losses) hosts.new) }
     ensures hosts { drop settings.now.workers hosts.new ≡ drop settings.now.workers hosts.old }
 {
-    let shown = plan_shown(alloc, program)?;
-    let inputs = rows_of_inputs(alloc, program, source, settings.tries())?;
+    let tries = settings.tries();
+    let inputs = rows_of_inputs(alloc, program, source, tries)?;
+    let shown = plan_for(alloc, program, from, source, tries)?;
     written_run(rt, alloc, program, shown, inputs, hosts, settings)
 }

@@ -2,9 +2,10 @@
 //!
 //! The words are read (crate command_words), the script and its inputs are loaded and decoded
 //! (crate script_loading), and each command does its part (`commands`): a plan is shown
-//! (`showing`), a script is evaluated (`evaluation`), or its plan is run on hosts (`running`). Only
-//! then its files are written, and the text of the screen (`course`). A call that traps, the task
-//! that a run gave up or the first refusal met is the answer, and leaves its line.
+//! (`showing`), a script is evaluated (`evaluation`), or its plan, or that of a file (`plans`), is
+//! run on hosts (`running`). Only then its files are written, and the text of the screen
+//! (`course`). A call that traps, the task that a run gave up or the first refusal met is the
+//! answer, and leaves its line.
 #![tactic(auto)]
 
 mod commands;
@@ -12,6 +13,7 @@ mod course;
 mod evaluation;
 mod files;
 mod limits;
+mod plans;
 mod running;
 mod showing;
 mod stop;

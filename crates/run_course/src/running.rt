@@ -1,4 +1,4 @@
-// What the run of a script's plan writes, or why it writes nothing.
+// What the run of a plan of a script writes, or why it writes nothing.
 ghost use Rattle.std.specs.Prelude.{◌≡◌, ◌++◌, IfErr, IfOk, codes, drop, length, map};
 ghost use Rattle.std.specs.List.{AllZip};
 ghost use Rattle.crew.specs.Hosts.{Grew, account};
@@ -6,7 +6,6 @@ ghost use Rattle.direct_meaning.specs.Inputs.{AreInputs};
 ghost use Rattle.outside.specs.Saves.{output_file};
 ghost use Rattle.run_texts.specs.Texts.{size_lines};
 ghost use Rattle.script_laws.specs.WellFormed.{IsWellFormed};
-ghost use Rattle.script_plans.specs.Plans.{IsScriptPlan};
 ghost use Rattle.script_run.specs.Runs.{AsksSomePhases, IsPlanOf, IsRan, IsRunFault, phases_of};
 ghost use Rattle.run_course.specs.Lent.{lent};
 ghost use Rattle.run_course.specs.Written.{AllTasksRan};
@@ -27,7 +26,8 @@ use script_run::{Ran, run_script};
 use std::alloc::{AllocError, Global};
 use std::thread::Threads;
 
-/// What the run of a script's plan writes over the rows of its inputs, with the plan's text first.
+/// What the run of a plan of a script writes over the rows of its inputs, with the plan's text
+/// first.
 pub fn written_run<X: Threads + Sync, H: Host + Send>(
     rt: &X,
     alloc: Global,
@@ -40,7 +40,6 @@ pub fn written_run<X: Threads + Sync, H: Host + Send>(
     requires well_formed { IsWellFormed program.now.script }
     requires ready { IsReady program.now.script }
     requires typed { AreInputs program.now.script inputs }
-    requires optimised { IsScriptPlan program.now.script shown.plan }
     requires of_script { IsPlanOf program.now.script shown.plan }
     requires sixteen { length hosts.old ≡ 16 }
     ensures written { IfOk result (λ it. Gives program.now.script inputs shown.text.items

@@ -1,20 +1,26 @@
 // A script's plan, as it is shown.
-ghost use Rattle.std.specs.Prelude.{◌≡◌, IfOk};
-ghost use Rattle.command_words.specs.declared.words.PlanForm.TheVariants.{Json, Text};
+ghost use Rattle.std.specs.Prelude.{◌≡◌, IfErr, IfOk};
+ghost use Rattle.command_words.specs.declared.words.PlanForm.TheVariants.{Json, Rewrites, Text};
 ghost use Rattle.exec_graph.specs.Wellformed.{IsGraphOk};
 ghost use Rattle.graph_build.specs.Graphs.{graph_of};
 ghost use Rattle.script_laws.specs.WellFormed.{IsWellFormed};
+ghost use Rattle.outer_plans.specs.Plans.{IsTaken};
 ghost use Rattle.script_plans.specs.Plans.{IsScriptPlan};
 ghost use Rattle.script_run.specs.Runs.{IsPlanOf};
-ghost use Rattle.run_course.specs.Written.{ShowsPlan, shown_as};
+ghost use Rattle.run_course.specs.Written.{ShowsPlan, file_shown, text_shown};
 ghost use Rattle.script_loading.specs.Ready.{IsReady};
+ghost use Rattle.run_course.specs.inner.Course.{IsTakingStop, refusal_of};
 
 use build_law::types_law;
 use command_words::PlanForm;
+use exec_graph::Graph;
 use exec_plan::Plan;
 use graph_build::build;
+use outer_plans::{Traced, line_law, rewrites_json, taken_plan, traced_plan};
+use plan_faults::PlanFault;
 use plan_print::graph_text;
 use plan_texts::{plan_json, plan_text};
+use run_texts::Status;
 use script_plans::plan_of;
 use script_program::Program;
 use std::alloc::{AllocError, Global};
@@ -26,7 +32,7 @@ pub struct ShownPlan {
     pub text: Vec<u8>,
 }
 
-/// The plan of a script in either form.
+/// The plan of a script in one of its forms.
 pub fn shown(alloc: Global, program: &Program, form: PlanForm) -> Result<Vec<u8>, AllocError>
     requires well_formed { IsWellFormed program.now.script }
     requires ready { IsReady program.now.script }
@@ -36,6 +42,7 @@ pub fn shown(alloc: Global, program: &Program, form: PlanForm) -> Result<Vec<u8>
     match form {
         PlanForm::Text => text_shown(alloc, program),
         PlanForm::Json => json_shown(alloc, program),
+        PlanForm::Rewrites => rewrites_shown(alloc, program),
     }
 }
 
@@ -56,7 +63,7 @@ pub fn plan_shown(alloc: Global, program: &Program) -> Result<ShownPlan, AllocEr
     requires graph { IsGraphOk (graph_of program.now.script) }
     ensures optimised { IfOk result (λ it. IsScriptPlan program.now.script it.plan) }
     ensures of_script { IfOk result (λ it. IsPlanOf program.now.script it.plan) }
-    ensures text { IfOk result (λ it. it.text.items ≡ shown_as Text program.now.script it.plan) }
+    ensures text { IfOk result (λ it. it.text.items ≡ text_shown program.now.script it.plan) }
 {
     types_law();
     let graph = build(alloc, program)?;
@@ -65,6 +72,54 @@ pub fn plan_shown(alloc: Global, program: &Program) -> Result<ShownPlan, AllocEr
     let mut behind = plan_text(alloc, program, &plan)?;
     text.append(&mut behind)?;
     Ok(ShownPlan { plan, text })
+}
+
+/// The plan that the bytes of a file tell, if it is one of the script, and its text.
+pub(crate) fn taken_shown(
+    alloc: Global,
+    program: &Program,
+    bytes: &[u8],
+) -> Result<ShownPlan, Status>
+    requires well_formed { IsWellFormed program.now.script }
+    requires graph { IsGraphOk (graph_of program.now.script) }
+    ensures taken { IfOk result (λ it. IsTaken program.now.script bytes.now it.plan) }
+    ensures of_script { IfOk result (λ it. IsPlanOf program.now.script it.plan) }
+    ensures text { IfOk result (λ it. it.text.items ≡ text_shown program.now.script it.plan) }
+    ensures stop { IfErr result (IsTakingStop program.now.script bytes.now) }
+{
+    let graph = build(alloc, program)?;
+    let mut text = graph_text(alloc, program, &graph)?;
+    let plan = plan_taken(alloc, program, graph, bytes)?;
+    let mut behind = plan_text(alloc, program, &plan)?;
+    text.append(&mut behind)?;
+    Ok(ShownPlan { plan, text })
+}
+
+// The plan that the bytes of a file tell, if it is one of the script, which has this execution
+// graph.
+fn plan_taken(alloc: Global, program: &Program, graph: Graph, bytes: &[u8]) -> Result<Plan, Status>
+    requires well_formed { IsWellFormed program.now.script }
+    requires built { graph ≡ graph_of program.now.script }
+    requires ok { IsGraphOk graph }
+    ensures taken { IfOk result (λ plan. IsTaken program.now.script bytes.now plan) }
+    ensures of_script { IfOk result (λ plan. IsPlanOf program.now.script plan) }
+    ensures stop { IfErr result (IsTakingStop program.now.script bytes.now) }
+{
+    types_law();
+    match taken_plan(alloc, program, graph, bytes) {
+        Ok(plan) => Ok(plan),
+        Err(fault) => Err(refusal(fault)),
+    }
+}
+
+// What a plan that is not taken is answered with.
+fn refusal(fault: PlanFault) -> Status
+    ensures { result ≡ refusal_of fault }
+{
+    match fault {
+        PlanFault::Refused { step, kind } => Status::PlanRefused { step, kind },
+        PlanFault::Memory => Status::WantOfMemory,
+    }
 }
 
 // A script's plan as JSON, on a line.
@@ -76,6 +131,28 @@ fn json_shown(alloc: Global, program: &Program) -> Result<Vec<u8>, AllocError>
     let graph = build(alloc, program)?;
     let plan = plan_of(alloc, program, graph)?;
     let mut text = plan_json(alloc, program, &plan)?;
+    text.extend_from_slice(b"\n")?;
+    Ok(text)
+}
+
+// A script's plan as the file of a plan, on a line.
+fn rewrites_shown(alloc: Global, program: &Program) -> Result<Vec<u8>, AllocError>
+    requires well_formed { IsWellFormed program.now.script }
+    requires graph { IsGraphOk (graph_of program.now.script) }
+    ensures { IfOk result (λ text. ShowsPlan Rewrites program.now.script text.items) }
+{
+    line_law();
+    let graph = build(alloc, program)?;
+    let traced = traced_plan(alloc, program, graph)?;
+    traced_text(alloc, program, &traced)
+}
+
+// A plan with its rewrites, on a line.
+fn traced_text(alloc: Global, program: &Program, traced: &Traced) -> Result<Vec<u8>, AllocError>
+    ensures { IfOk result (λ text. text.items
+        ≡ file_shown program.now.script traced.now.rewrites traced.now.plan) }
+{
+    let mut text = rewrites_json(alloc, program, traced.rewrites.as_slice(), &traced.plan)?;
     text.extend_from_slice(b"\n")?;
     Ok(text)
 }

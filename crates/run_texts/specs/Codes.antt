@@ -1,7 +1,7 @@
 -- Exit statuses.
 use Rattle.std.specs.Prelude.{ℕ}
 use Rattle.run_texts.specs.declared.status.Status.{Status}
-use Rattle.run_texts.specs.declared.status.Status.TheVariants.{Done, Usage, ScriptRefused, InputRefused, Trap, ReadFault, WriteFault, GaveUp, WantOfMemory, TooLong, NoFile}
+use Rattle.run_texts.specs.declared.status.Status.TheVariants.{Done, Usage, ScriptRefused, InputRefused, Trap, ReadFault, WriteFault, GaveUp, WantOfMemory, TooLong, NoFile, PlanRefused}
 
 -- the exit status of the program for each answer
 abbrev pub code_of : Status → ℕ
@@ -16,3 +16,4 @@ code_of (GaveUp stage phase task) = 8
 code_of WantOfMemory = 9
 code_of (TooLong name limit) = 10
 code_of (NoFile name) = 11
+code_of (PlanRefused step kind) = 12

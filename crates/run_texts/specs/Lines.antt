@@ -7,9 +7,11 @@ use Rattle.flume_grammar.specs.declared.fault.ScriptKind.TheVariants as script
 use Rattle.run_texts.specs.declared.status.Place.{Place}
 use Rattle.run_texts.specs.declared.status.Place.TheVariants.{File, Screen}
 use Rattle.run_texts.specs.declared.status.Status.{Status}
-use Rattle.run_texts.specs.declared.status.Status.TheVariants.{Done, Usage, ScriptRefused, InputRefused, Trap, ReadFault, WriteFault, GaveUp, WantOfMemory, TooLong, NoFile}
+use Rattle.run_texts.specs.declared.status.Status.TheVariants.{Done, Usage, ScriptRefused, InputRefused, Trap, ReadFault, WriteFault, GaveUp, WantOfMemory, TooLong, NoFile, PlanRefused}
 use Rattle.outside.specs.declared.host.Phase.{Phase}
 use Rattle.outside.specs.declared.host.Phase.TheVariants.{Map, Reduce}
+use Rattle.plan_faults.specs.declared.fault.PlanKind.{PlanKind}
+use Rattle.plan_faults.specs.declared.fault.PlanKind.TheVariants as plan
 use Rattle.flume_value.specs.declared.fault.Kind.{Kind}
 use Rattle.flume_value.specs.declared.fault.Kind.TheVariants as trap
 use Rattle.flume_value.specs.declared.value.Value.{Value}
@@ -52,6 +54,13 @@ abbrev pub phase_name : Phase → List ℕ
 phase_name Map = codes "map"
 phase_name Reduce = codes "reduce"
 
+-- the name of each kind of fault of a plan from outside
+abbrev pub plan_kind_name : PlanKind → List ℕ
+plan_kind_name plan.NotJson = codes "NotJson"
+plan_kind_name plan.Shape = codes "Shape"
+plan_kind_name plan.BadStep = codes "BadStep"
+plan_kind_name plan.Differs = codes "Differs"
+
 -- the line of a trap, whose node has that name
 abbrev pub trap_line : List ℕ → Kind → Value → List ℕ
 trap_line name kind element =
@@ -89,3 +98,6 @@ line_of WantOfMemory = codes "want of memory\n"
 line_of (TooLong name limit) =
     codes "too long: " ++ (quoted name ++ (codes " above " ++ (decimal limit ++ codes " bytes\n")))
 line_of (NoFile name) = codes "no file: " ++ (quoted name ++ codes "\n")
+line_of (PlanRefused step kind) =
+    codes "plan refused at step " ++ (decimal step
+    ++ (codes ": " ++ (plan_kind_name kind ++ codes "\n")))

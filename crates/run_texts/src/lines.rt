@@ -1,6 +1,6 @@
 // The line of a refusal, which is written piece by piece and takes no memory.
 ghost use Rattle.std.specs.Prelude.{◌≡◌, ◌≤◌};
-ghost use Rattle.run_texts.specs.Lines.{line_of, phase_name, place_line, row_kind_name, script_kind_name, trap_kind_name, trap_line};
+ghost use Rattle.run_texts.specs.Lines.{line_of, phase_name, place_line, plan_kind_name, row_kind_name, script_kind_name, trap_kind_name, trap_line};
 ghost use Rattle.outside.specs.Says.{HasLine, Says};
 ghost use Rattle.outside.specs.Seen.{seen};
 
@@ -10,6 +10,7 @@ use flume_grammar::ScriptKind;
 use flume_value::{Kind, Value};
 use itoa::Buffer;
 use outside::{Failed, Phase, Screen, say, say_all};
+use plan_faults::PlanKind;
 use printing::{say_named, say_value};
 
 /// Writes the line of a refusal as far as the screen takes it.
@@ -55,6 +56,7 @@ fn say_line<P: Screen>(screen: &mut P, status: &Status) -> Result<(), Failed>
         Status::WantOfMemory => say_all(screen, &[b"want of memory\n"]),
         Status::TooLong { name, limit } => say_too_long(screen, name.as_bytes(), *limit),
         Status::NoFile { name } => say_named(screen, b"no file: ", name.as_bytes(), &[b"\n"]),
+        Status::PlanRefused { step, kind } => say_plan_refused(screen, *step, *kind),
     }
 }
 
@@ -150,6 +152,22 @@ fn say_too_long<P: Screen>(screen: &mut P, name: &[u8], limit: u64) -> Result<()
     )
 }
 
+fn say_plan_refused<P: Screen>(screen: &mut P, step: u32, kind: PlanKind) -> Result<(), Failed>
+    ensures { Says (line_of (Status.PlanRefused step kind))
+        (seen P.text P.faults screen.old) (seen P.text P.faults screen.new) result }
+{
+    let mut digits = Buffer::new();
+    let step = digits.format(step).as_bytes();
+    let pieces: [&[u8]; 5] = [
+        b"plan refused at step ",
+        step,
+        b": ",
+        plan_kind(kind),
+        b"\n",
+    ];
+    say_all(screen, &pieces)
+}
+
 // A screen that failed gets no line.
 fn say_place<P: Screen>(screen: &mut P, place: &Place) -> Result<(), Failed>
     ensures { Says (place_line place.now)
@@ -199,6 +217,17 @@ fn script_kind(kind: ScriptKind) -> &'static [u8]
         ScriptKind::NotFlat => b"NotFlat",
         ScriptKind::NoOutput => b"NoOutput",
         ScriptKind::BadNumber => b"BadNumber",
+    }
+}
+
+fn plan_kind(kind: PlanKind) -> &'static [u8]
+    ensures { result.now ≡ plan_kind_name kind }
+{
+    match kind {
+        PlanKind::NotJson => b"NotJson",
+        PlanKind::Shape => b"Shape",
+        PlanKind::BadStep => b"BadStep",
+        PlanKind::Differs => b"Differs",
     }
 }
 

@@ -6,6 +6,7 @@ use csv_rows::RowKind;
 use flume_grammar::ScriptKind;
 use flume_value::{Kind, Str, Value};
 use outside::Phase;
+use plan_faults::PlanKind;
 use std::alloc::AllocError;
 
 /// Where a write failed.
@@ -69,6 +70,12 @@ pub enum Status {
     NoFile {
         name: Str,
     },
+    /// The file of a plan is not taken, and nothing is written: 0 is the step before its rewrites,
+    /// from 1 on there is a step for each of them, and one more is behind them.
+    PlanRefused {
+        step: u32,
+        kind: PlanKind,
+    },
 }
 
 impl Status {
@@ -88,6 +95,7 @@ impl Status {
             Status::WantOfMemory => 9,
             Status::TooLong { .. } => 10,
             Status::NoFile { .. } => 11,
+            Status::PlanRefused { .. } => 12,
         }
     }
 }

@@ -5,8 +5,8 @@ use Rattle.outside.specs.Cause.{RoseBy}
 use Rattle.outside.specs.Seen.{Seen}
 use Rattle.outside.specs.declared.file.File.{File as NamedBytes}
 use Rattle.run_texts.specs.declared.status.Status.{Status}
-use Rattle.run_texts.specs.declared.status.Status.TheVariants.{Done, GaveUp, Usage, ScriptRefused, InputRefused, Trap, ReadFault, WriteFault, WantOfMemory, TooLong, NoFile}
-use Rattle.script_loading.specs.Causes.{IsInputCause, IsInputsCause}
+use Rattle.run_texts.specs.declared.status.Status.TheVariants.{Done, GaveUp, Usage, ScriptRefused, InputRefused, Trap, ReadFault, WriteFault, WantOfMemory, TooLong, NoFile, PlanRefused}
+use Rattle.script_loading.specs.Causes.{IsInputCause, IsInputsCause, IsLoadCause}
 use Rattle.script_loading.specs.Loads.{AllHaveRows, IsAbove, IsMissing, Loads}
 use Rattle.script_loading.specs.Limits.{input_limit}
 
@@ -47,6 +47,27 @@ module _ (tries : ℕ) (before middle after : SeenSource) where
   input_since wanted (WriteFault place) told later cause = absurd cause
   input_since wanted (GaveUp stage phase task) told later cause = absurd cause
   input_since wanted (Trap origin kind element) told later cause = absurd cause
+  input_since wanted (PlanRefused step kind) told later cause = absurd cause
+
+  -- the same of a file that is loaded
+  pub load_since : (name : List ℕ) (limit : ℕ) (status : Status) → middle.told ≡ before.told
+      → before.faults ≤ middle.faults → IsLoadCause tries middle after name limit status
+      → IsLoadCause tries before after name limit status
+  load_since name limit (NoFile other) told later cause =
+      (cause.0, subst (λ (t : Told). IsMissing t name) told cause.1)
+  load_since name limit (ReadFault other) told later cause =
+      (cause.0, rose_since tries before.faults middle.faults after.faults later cause.1)
+  load_since name limit (TooLong other most) told later cause =
+      (cause.0, cause.1, subst (λ (t : Told). IsAbove t name limit) told cause.2)
+  load_since name limit WantOfMemory told later cause = tt
+  load_since name limit Usage told later cause = absurd cause
+  load_since name limit Done told later cause = absurd cause
+  load_since name limit (ScriptRefused line kind) told later cause = absurd cause
+  load_since name limit (InputRefused other row column kind) told later cause = absurd cause
+  load_since name limit (WriteFault place) told later cause = absurd cause
+  load_since name limit (GaveUp stage phase task) told later cause = absurd cause
+  load_since name limit (Trap origin kind element) told later cause = absurd cause
+  load_since name limit (PlanRefused step kind) told later cause = absurd cause
 
   -- the same cause, counted from an earlier moment
   pub inputs_since : (inputs : List Wanted) (status : Status) → middle.told ≡ before.told

@@ -4,17 +4,19 @@
 //! (`files`). The bytes of a script are parsed and checked (`script`): they are accepted as one
 //! script or refused for one reason (specs/Accepted.antt, `accepted_law`). The rows of each input
 //! that a script needs are decoded under its columns, in the script's order (`inputs`); they are of
-//! its types (`inputs_law`). A refusal is the first that is met, with its cause
-//! (specs/Causes.antt).
+//! its types (`inputs_law`). A plan from outside is loaded too (`plans`). A refusal is the first
+//! that is met, with its cause (specs/Causes.antt).
 #![tactic(auto)]
 
 mod files;
 mod inputs;
 mod laws;
 mod limits;
+mod plans;
 mod script;
 
 pub use inputs::rows_of_inputs;
 pub use laws::{accepted_law, inputs_law};
-pub use limits::{INPUT_LIMIT, SCRIPT_LIMIT};
+pub use limits::{INPUT_LIMIT, PLAN_LIMIT, SCRIPT_LIMIT};
+pub use plans::plan_bytes;
 pub use script::script_of;

@@ -5,9 +5,7 @@ ghost use Rattle.exec_plan.specs.declared.plan.Plan.{Plan};
 ghost use Rattle.flume_grammar.specs.declared.tree.Statement.{Statement};
 ghost use Rattle.graph_build.specs.Graphs.{graph_of};
 ghost use Rattle.graph_rewrites.specs.declared.rewrite.Rewrite.{Rewrite};
-ghost use Rattle.pass_rewrites.specs.Passes.{HasLaterReaders};
 ghost use Rattle.script_check.specs.Rules.{script_of};
-ghost use Rattle.script_laws.specs.WellFormed.{IsWellFormed};
 ghost use Rattle.script_plans.specs.Plans.{IsScriptPlan};
 ghost use Rattle.script_program.specs.Script.{Script};
 ghost use Rattle.script_rewrites.specs.Made.{IsMadeBy};
@@ -17,11 +15,9 @@ use graph_rewrites::replay_law;
 use pass_rewrites::refined_law;
 use script_laws::well_formed_law;
 
-/// In the graph of a well-formed script each Pdo that reads a Pdo has the greater number of both.
 /// The plan of an accepted script is formed of what a list of rewrites makes of its graph.
 pub fn made_law()
-    ensures later { (script : Script) → IsWellFormed script → HasLaterReaders (graph_of script) }
-    ensures plan { (statements : List Statement) (script : Script) (plan : Plan) →
+    ensures { (statements : List Statement) (script : Script) (plan : Plan) →
         AreShort statements → script_of statements ≡ Ok script → IsScriptPlan script plan →
         (rs : List Rewrite) × IsMadeBy script rs plan }
 {

@@ -97,12 +97,48 @@ fn asks_for_a_run_with_settings(rt: HostRuntime) -> Result<(), Fail> {
         let asked = asked.ok_or("words that are taken")?;
         assert!(rt; asked.script == "s");
         match asked.command {
-            Command::Run(settings) => {
+            Command::Run(settings, _file) => {
                 assert!(rt; numbers(&settings) == wanted);
                 assert!(rt; are_lost(&settings, attempts));
             }
             _ => assert!(rt; false, "a command other than `run`"),
         }
+    }
+    Ok(())
+}
+
+// Whether a command runs the plan of the file of this name, or where there is none its own.
+fn runs_plan(command: &Command, wanted: Option<&str>) -> bool {
+    match command {
+        Command::Run(_, Some(file)) => match wanted {
+            Some(name) => file.as_str() == name,
+            None => false,
+        },
+        Command::Run(_, None) => wanted.is_none(),
+        _ => false,
+    }
+}
+
+#[test]
+fn asks_for_the_plan_of_a_file(rt: HostRuntime) -> Result<(), Fail> {
+    let alloc = rt.alloc();
+    let table: [(&[&str], Option<&str>); 5] = [
+        (&["flume", "run", "s"], None),
+        (&["flume", "run", "s", "--plan", "p.json"], Some("p.json")),
+        (&["flume", "run", "--plan", "s", "s"], Some("s")),
+        (
+            &["flume", "run", "--tries", "1", "--plan", "p q", "s"],
+            Some("p q"),
+        ),
+        // beyond the grammar: a value may stand behind `=`
+        (&["flume", "run", "s", "--plan=p"], Some("p")),
+    ];
+    for (words, file) in table {
+        let words = texts(alloc, words)?;
+        let asked = asked_for(alloc, words.as_slice())?;
+        let asked = asked.ok_or("words that are taken")?;
+        assert!(rt; asked.script == "s");
+        assert!(rt; runs_plan(&asked.command, file));
     }
     Ok(())
 }

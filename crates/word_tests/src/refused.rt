@@ -6,7 +6,7 @@ use std::test::Fail;
 #[test]
 fn refuses_other_options(rt: HostRuntime) -> Result<(), Fail> {
     let alloc = rt.alloc();
-    let table: [&[&str]; 36] = [
+    let table: [&[&str]; 41] = [
         // numbers out of their ranges, or not in decimal without sign and leading zeros
         &["--workers", "17"],
         &["--workers", "0"],
@@ -46,6 +46,12 @@ fn refuses_other_options(rt: HostRuntime) -> Result<(), Fail> {
         &["--workers"],
         &["--fail"],
         &["--helpers", "2"],
+        // no file of a plan
+        &["--plan", ""],
+        &["--plan", "-p"],
+        &["--plan="],
+        &["--plan"],
+        &["--plan", "p", "--plan", "p"],
     ];
     for options in table {
         let mut words = texts(alloc, &["flume", "run", "s"])?;
@@ -59,11 +65,19 @@ fn refuses_other_options(rt: HostRuntime) -> Result<(), Fail> {
 #[test]
 fn refuses_options_of_another_command(rt: HostRuntime) -> Result<(), Fail> {
     let alloc = rt.alloc();
-    let table: [&[&str]; 4] = [
+    let table: [&[&str]; 11] = [
         &["flume", "check", "s", "--workers", "2"],
+        &["flume", "check", "s", "--plan", "p"],
+        &["flume", "plan", "s", "--plan", "p"],
+        &["flume", "direct", "s", "--plan", "p"],
         &["flume", "plan", "s", "--shards", "2"],
         &["flume", "direct", "s", "--fail", "1m0.1"],
         &["flume", "run", "s", "--json"],
+        &["flume", "run", "s", "--rewrites"],
+        &["flume", "check", "s", "--rewrites"],
+        // one flag at most
+        &["flume", "plan", "s", "--json", "--rewrites"],
+        &["flume", "plan", "--rewrites", "s", "--rewrites"],
     ];
     for words in table {
         let words = texts(alloc, words)?;

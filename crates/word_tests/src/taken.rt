@@ -17,14 +17,14 @@ fn name_of(command: &Command) -> Named {
         Command::Check => Named::Check,
         Command::Plan(form) => Named::Plan(*form),
         Command::Direct => Named::Direct,
-        Command::Run(_) => Named::Run,
+        Command::Run(..) => Named::Run,
     }
 }
 
 #[test]
 fn asks_for_a_command_on_a_script(rt: HostRuntime) -> Result<(), Fail> {
     let alloc = rt.alloc();
-    let table: [(&[&str], Named); 8] = [
+    let table: [(&[&str], Named); 10] = [
         (&["flume", "check", "s"], Named::Check),
         (&["flume", "plan", "s"], Named::Plan(PlanForm::Text)),
         (
@@ -34,6 +34,14 @@ fn asks_for_a_command_on_a_script(rt: HostRuntime) -> Result<(), Fail> {
         (
             &["flume", "plan", "s", "--json"],
             Named::Plan(PlanForm::Json),
+        ),
+        (
+            &["flume", "plan", "--rewrites", "s"],
+            Named::Plan(PlanForm::Rewrites),
+        ),
+        (
+            &["flume", "plan", "s", "--rewrites"],
+            Named::Plan(PlanForm::Rewrites),
         ),
         (&["flume", "direct", "s"], Named::Direct),
         (&["flume", "run", "s"], Named::Run),

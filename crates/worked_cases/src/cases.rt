@@ -13,6 +13,8 @@ pub struct Case {
     pub files: Vec<TextFile>,
     /// The files that the shelf has before each call.
     pub before: Vec<TextFile>,
+    /// The file of the source, by its name, that the screen of the first call is for those behind.
+    pub keeps: Option<Vec<u8>>,
     /// The room of the shelf.
     pub room: Room,
     /// What fails in each call.
@@ -81,6 +83,7 @@ impl Case {
             commands: Vec::new(alloc),
             files: Vec::new(alloc),
             before: Vec::new(alloc),
+            keeps: None,
             room: ROOM,
             always: Vec::new(alloc),
             whens: Vec::new(alloc),

@@ -87,6 +87,7 @@ impl Draft {
             }
             Word::Fails => push_faults(&mut self.case.always, rest),
             Word::Room => self.set_room(rest),
+            Word::Keeps => self.set_keeps(alloc, rest),
         }
     }
 
@@ -128,6 +129,11 @@ impl Draft {
         } else {
             self.case.tells_losses = true;
         }
+        Ok(())
+    }
+
+    fn set_keeps(&mut self, alloc: Global, rest: &[u8]) -> Result<(), Unread> {
+        self.case.keeps = Some(name_of(alloc, rest)?);
         Ok(())
     }
 

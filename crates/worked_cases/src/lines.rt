@@ -26,9 +26,10 @@ pub enum Word {
     When,
     Pairs,
     Losses,
+    Keeps,
 }
 
-const WORDS: [(&[u8], Word); 10] = [
+const WORDS: [(&[u8], Word); 11] = [
     (b"flume", Word::Flume),
     (b"calls", Word::Calls),
     (b"script", Word::Script),
@@ -39,6 +40,7 @@ const WORDS: [(&[u8], Word); 10] = [
     (b"when", Word::When),
     (b"pairs", Word::Pairs),
     (b"losses", Word::Losses),
+    (b"keeps", Word::Keeps),
 ];
 
 /// What this line says.

@@ -1,5 +1,5 @@
 -- Whether steps are one step with few outputs and none on them, as a test.
-use Rattle.std.specs.Prelude.{◌≤◌, ℕ, Bool, true, false, ◌&&◌, List, [], ◌∷◌, length}
+use Rattle.std.specs.Prelude.{◌≤◌, Bool, true, false, ◌&&◌, List, [], ◌∷◌, length}
 use Rattle.std.proofs.Common.{ltb}
 use Rattle.std.specs.List.{list_all}
 use Rattle.exec_graph.specs.Forests.{Branch, Forest, Bare, Grow}

@@ -1,5 +1,5 @@
 -- The parts of the course of a call.
-use Rattle.std.specs.Prelude.{◌≡◌, ◌⊎◌, ℕ, List, [], ◌∷◌, ◌++◌, codes, Option, Some, IsSome, Result, Ok, Err, ⊤}
+use Rattle.std.specs.Prelude.{◌≡◌, ◌⊎◌, ℕ, List, [], ◌∷◌, ◌++◌, codes, Option, Some, None, IsSome, Result, Ok, Err, ⊤}
 use Rattle.std.specs.List.{All, AllZip, Contains}
 use Rattle.command_words.specs.declared.words.Command.{Command}
 use Rattle.command_words.specs.declared.words.Command.TheVariants.{Direct, Run}
@@ -12,26 +12,32 @@ use Rattle.exec_plan.specs.declared.plan.Plan.{Plan}
 use Rattle.flume_collection.specs.Traps.{IsLeast}
 use Rattle.flume_collection.specs.declared.trap.Trap.{Trap}
 use Rattle.flume_value.specs.declared.value.Value.{Value}
+use Rattle.outer_plans.specs.Plans.{IsNotTaken}
 use Rattle.outside.specs.Asked.{Asks, AsksFront}
 use Rattle.outside.specs.Saves.{HasFiles}
 use Rattle.outside.specs.Says.{HasLine}
 use Rattle.outside.specs.Seen.{Seen, SeenShelf}
 use Rattle.outside.specs.declared.file.File.{File as NamedBytes}
 use Rattle.outside.specs.declared.host.Phase.{Phase}
+use Rattle.plan_faults.specs.declared.fault.PlanFault.{PlanFault}
+use Rattle.plan_faults.specs.declared.fault.PlanFault.TheVariants as plan_fault
+use Rattle.plan_faults.specs.declared.fault.PlanKind.{PlanKind}
 use Rattle.run_settings.specs.Settings.{RunSettings}
 use Rattle.run_texts.specs.Lines.{line_of}
 use Rattle.run_texts.specs.Texts.{size_lines}
 use Rattle.run_texts.specs.declared.status.Place.TheVariants.{File, Screen}
 use Rattle.run_texts.specs.declared.status.Status.{Status}
-use Rattle.run_texts.specs.declared.status.Status.TheVariants.{Done, GaveUp, WriteFault, WantOfMemory, InputRefused, NoFile, ReadFault, TooLong}
+use Rattle.run_texts.specs.declared.status.Status.TheVariants.{Done, GaveUp, WriteFault, WantOfMemory, InputRefused, NoFile, PlanRefused, ReadFault, TooLong}
 use Rattle.script_program.specs.declared.made.Output.{Output}
 use Rattle.script_program.specs.Script.{Script}
 use Rattle.script_run.specs.Runs.{IsLostOf}
 use Rattle.script_loading.specs.Causes.{IsInputsCause}
-use Rattle.run_course.specs.Answers.{FailsAtFile, GivesUp, HasText, IsCause, IsCutOff, IsFirstOfTasks, MayTell, name_at}
-use Rattle.run_course.specs.Asked.{Reads, inputs_read, tries_of}
+use Rattle.script_loading.specs.Loads.{AllHaveRows}
+use Rattle.run_course.specs.Answers.{FailsAtFile, GivesUp, HasText, IsCause, IsCutOff, IsFirstOfPlan, MayTell, name_at}
+use Rattle.run_course.specs.Asked.{Reads, inputs_read, plan_read, tries_of}
 use Rattle.run_course.specs.Asks.{AsksAll, AsksFor}
 use Rattle.run_course.specs.Hosts.{AsksInRun, AsksRun, MayHaveRun}
+use Rattle.run_course.specs.Plans.{IsFileCause}
 use Rattle.run_course.specs.Written.{IsMeant, Table, files_of}
 use Rattle.run_course.specs.Limits.{usual_tries}
 use Rattle.run_course.specs.declared.stop.Stop.{Stop}
@@ -111,7 +117,7 @@ IsRunStop s script rows plan olds news (stop.Refused status) =
     (status ≡ WantOfMemory) ⊎ IsGivingUp s script rows plan olds news status
 IsRunStop s script rows plan olds news (stop.Trapped trap) =
     (table : Table)
-    × TrapsAt (λ traps it. Contains traps it × IsFirstOfTasks s script rows olds news it) script
+    × TrapsAt (λ traps it. Contains traps it × IsFirstOfPlan s script rows plan olds news it) script
     rows trap table
 
 -- over the rows of its inputs the script has this trap, of which the command may tell, where hosts
@@ -120,7 +126,7 @@ abbrev pub IsTrapped : Command → List Account → List Account → Option (Lis
     → Trapped → Type 0
 IsTrapped command olds news told script trap =
     (rows : List (List Value)) × (table : Table) × IsMeant told script rows table
-    × MayTell command script rows olds news (traps_of table) trap.trap
+    × MayTell command told script rows olds news (traps_of table) trap.trap
     × (name_at script trap.trap.origin ≡ Some trap.name)
 
 -- why the meaning of a script writes nothing; no host has a part in it
@@ -134,8 +140,38 @@ IsMeaningStop before after script (stop.Trapped trap) =
 abbrev pub HasGivenUp : Command → Option (List NamedBytes) → List Account → List Account → Script
     → Status → Type 0
 HasGivenUp command told olds news script status =
-    (s : RunSettings) × (stage : ℕ) × (phase : Phase) × (task : ℕ) × (command ≡ Run s)
-    × (status ≡ GaveUp stage phase task) × GivesUp s told olds news script stage phase task
+    (s : RunSettings) × (from : Option (List ℕ)) × (stage : ℕ) × (phase : Phase) × (task : ℕ)
+    × (command ≡ Run s from) × (status ≡ GaveUp stage phase task)
+    × GivesUp s from told olds news script stage phase task
+
+-- the answer to a plan that is not taken
+abbrev pub refusal_of : PlanFault → Status
+refusal_of (plan_fault.Refused step kind) = PlanRefused step kind
+refusal_of plan_fault.Memory = WantOfMemory
+
+-- why the bytes of a file give no plan, where the answer is this one: no memory was found, or they
+-- are refused
+abbrev pub IsTakingStop : Script → List ℕ → Status → Type 0
+IsTakingStop script bytes status =
+    (status ≡ WantOfMemory)
+    ⊎ ((step : ℕ) × (kind : PlanKind) × (status ≡ PlanRefused step kind)
+    × IsNotTaken script bytes step kind)
+
+-- why a run has no plan, where the answer is this one: no memory was found, or the file of a plan
+-- gives none
+abbrev pub IsPlanStop : ℕ → Seen (List NamedBytes) → Seen (List NamedBytes) → Script
+    → Option (List ℕ) → Status → Type 0
+IsPlanStop tries before after script None status = status ≡ WantOfMemory
+IsPlanStop tries before after script (Some name) status =
+    IsFileCause tries before after script name status
+
+-- the command reads the file of a plan, which gives none, and the inputs that it reads have rows
+abbrev pub HasNoPlan : Command → Seen (List NamedBytes) → Seen (List NamedBytes) → Script → Status
+    → Type 0
+HasNoPlan command before after script status =
+    (name : List ℕ) × (rows : List (List Value)) × (plan_read command ≡ Some name)
+    × AllHaveRows before.told (inputs_read command script) rows
+    × IsFileCause (tries_of command) before after script name status
 
 -- why a command writes nothing of this script
 abbrev pub IsCommandStop : Command → Seen (List NamedBytes) → Seen (List NamedBytes)
@@ -143,7 +179,8 @@ abbrev pub IsCommandStop : Command → Seen (List NamedBytes) → Seen (List Nam
 IsCommandStop command before after olds news script (stop.Refused status) =
     (status ≡ WantOfMemory)
     ⊎ (IsInputsCause (tries_of command) before after (inputs_read command script) status
-    ⊎ HasGivenUp command before.told olds news script status)
+    ⊎ (HasGivenUp command before.told olds news script status
+    ⊎ HasNoPlan command before after script status))
 IsCommandStop command before after olds news script (stop.Trapped trap) =
     IsTrapped command olds news before.told script trap
 
@@ -153,7 +190,7 @@ abbrev pub HasTrap : List (List ℕ) → Option (List NamedBytes) → List Accou
 HasTrap words told olds news trap =
     (command : Command) × (script : Script) × (rows : List (List Value)) × (table : Table)
     × Reads words told command script × IsMeant told script rows table
-    × MayTell command script rows olds news (traps_of table) trap.trap
+    × MayTell command told script rows olds news (traps_of table) trap.trap
     × (name_at script trap.trap.origin ≡ Some trap.name)
 
 -- why nothing is written
@@ -171,6 +208,7 @@ IsStopped words before after olds news (stop.Trapped trap) =
 module _ (tries : ℕ) (names : List (List ℕ)) (before after : Seen (List (List ℕ))) where
   abbrev pub AsksWith : Status → Type 0
   AsksWith (GaveUp stage phase task) = Asks tries names before after
+  AsksWith (PlanRefused step kind) = Asks tries names before after
   AsksWith WantOfMemory = AsksFront tries names before after
   AsksWith (NoFile name) = AsksFront tries names before after
   AsksWith (TooLong name limit) = AsksFront tries names before after
@@ -204,7 +242,8 @@ MayHaveCome (Err (stop.Refused status)) = MayHaveRun status
 abbrev pub AsksAsRun : Command → Option (List NamedBytes) → Script → List Account → List Account
     → Type 0
 AsksAsRun command told script olds news =
-    (s : RunSettings) × (command ≡ Run s) × AsksInRun s told script olds news
+    (s : RunSettings) × (from : Option (List ℕ)) × (command ≡ Run s from)
+    × AsksInRun s from told script olds news
 
 -- what a command asked hosts for, by what comes of it: nothing, or the phases of a run
 abbrev pub AsksHostsUntil : {T : Type 0} → Command → Option (List NamedBytes) → Script

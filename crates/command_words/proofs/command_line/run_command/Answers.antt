@@ -12,9 +12,11 @@ returns-clause-app c =
     c.option-3.ensures.rule two in
     let four = added _ _ _ _ _ c.in_ok-arg-4.ensures c.option-4.ensures.local
     c.option-4.ensures.rule three in
-    IfOk-weaker c.arg-5.result _ _
-    (λ command adds. added _ command _ _ _ adds c.option-5.ensures.local c.option-5.ensures.rule
-    four) c.arg-5.ensures
+    let five = added _ _ _ _ _ c.in_ok-arg-5.ensures c.option-5.ensures.local
+    c.option-5.ensures.rule four in
+    IfOk-weaker c.arg-6.result _ _
+    (λ command adds. added _ command _ _ _ adds c.option-6.ensures.local c.option-6.ensures.rule
+    five) c.arg-6.ensures
 
 pub returns-clause-local : goal.returns-clause-local
 returns-clause-local c =
@@ -23,5 +25,6 @@ returns-clause-local c =
     let two = stays_local _ _ _ c.in_ok-arg-2.ensures c.option-2.ensures.local one in
     let three = stays_local _ _ _ c.in_ok-arg-3.ensures c.option-3.ensures.local two in
     let four = stays_local _ _ _ c.in_ok-arg-4.ensures c.option-4.ensures.local three in
-    IfOk-weaker c.arg-5.result _ _
-    (λ command adds. stays_local _ command _ adds c.option-5.ensures.local four) c.arg-5.ensures
+    let five = stays_local _ _ _ c.in_ok-arg-5.ensures c.option-5.ensures.local four in
+    IfOk-weaker c.arg-6.result _ _
+    (λ command adds. stays_local _ command _ adds c.option-6.ensures.local five) c.arg-6.ensures

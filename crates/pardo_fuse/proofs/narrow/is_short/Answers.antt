@@ -1,4 +1,4 @@
-use Rattle.std.proofs.Common.{rules, ◌≡◌, eqb, ltb, List, length, ap, sym, ◌∙◌}
+use Rattle.std.proofs.Common.{rules, eqb, ltb, List, length, ap, sym, ◌∙◌}
 use Rattle.std.specs.List.{list_all}
 use Rattle.exec_graph.specs.Forests.{Branch}
 use Rattle.exec_graph.specs.declared.step.Output.{Output}

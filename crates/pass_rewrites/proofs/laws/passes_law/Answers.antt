@@ -1,6 +1,6 @@
 use Rattle.fusion_blocks.specs.Blocks.{unmarked}
 use Rattle.fusion_blocks.proofs.Blocking.{marks_lead}
-use Rattle.pass_rewrites.proofs.Fusing.{fusing_list}
+use Rattle.pass_rewrites.proofs.FusedList.{fusing_list}
 use Rattle.pass_rewrites.proofs.Marking.{fused_list}
 use Rattle.pass_rewrites.proofs.Sinking.{lifts_list, marks_list, sinks_lead}
 use Rattle.pass_rewrites.proofs.laws.passes_law.Goals as goal

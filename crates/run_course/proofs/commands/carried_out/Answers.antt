@@ -5,7 +5,9 @@ use Rattle.crew.proofs.Accounts.{all_grew_not}
 use Rattle.outside.proofs.AskLemmas.{asks_none}
 use Rattle.outside.specs.Seen.{seen}
 use Rattle.run_course.specs.Limits.{usual_tries}
-use Rattle.run_course.proofs.AskLemmas.{none_with}
+use Rattle.direct_meaning.specs.Inputs.{inputs_of}
+use Rattle.script_loading.specs.Loads.{file_names}
+use Rattle.run_course.proofs.AskLemmas.{none_behind, none_with}
 use Rattle.run_course.proofs.CauseLemmas.{meaning_stop}
 use Rattle.run_course.proofs.commands.carried_out.Goals as goal
 
@@ -81,3 +83,11 @@ returns-in_ok-planned-in-Plan-clause-asked_hosts g c = inl refl
 pub returns-in-Direct-clause-asked_hosts :
     goal.returns-in-Direct-clause-asked_hosts
 returns-in-Direct-clause-asked_hosts g c = inl refl
+
+pub returns-in-Direct-clause-asked : goal.returns-in-Direct-clause-asked
+returns-in-Direct-clause-asked g c =
+    rw c.in-Direct.is
+    (none_behind usual_tries (file_names (inputs_of c.args.program.now.script))
+    (seen g.R.Source.asked g.R.Source.faults c.args.source.now)
+    (seen g.R.Source.asked g.R.Source.faults c.meant.new.source) c.meant.result
+    c.meant.ensures.asked)

@@ -1,24 +1,27 @@
-use Rattle.std.proofs.Common.{ℕ, inl, inr, map, refl, sym, ◌∙◌, subst}
+use Rattle.std.proofs.Common.{ℕ, inl, inr, List, Option, ◌++◌, map, refl, sym, ◌∙◌, subst}
 use Rattle.std.proofs.lemmas.Result.{IfErr-weaker, err_from_is_err_and}
 use Rattle.crew.specs.Hosts.{account}
 use Rattle.crew.proofs.Accounts.{all_grew_not}
 use Rattle.direct_meaning.specs.Inputs.{inputs_of}
+use Rattle.outside.proofs.AskLemmas.{asks_both}
+use Rattle.outside.specs.Asked.{Asks, AsksFront}
 use Rattle.outside.specs.Saves.{output_file}
 use Rattle.outside.specs.Seen.{seen}
+use Rattle.outside.specs.declared.file.File.{File}
 use Rattle.script_loading.specs.Causes.{IsInputsCause}
-use Rattle.outside.specs.Asked.{Asks, AsksFront}
 use Rattle.script_loading.specs.Loads.{file_names}
 use Rattle.script_run.proofs.Running.{as_many_rows}
+use Rattle.run_course.specs.Asks.{plan_file}
 use Rattle.run_course.specs.Lent.{lent}
-use Rattle.run_course.proofs.AskLemmas.{inputs_with, none_with, run_until}
-use Rattle.run_course.proofs.CauseLemmas.{run_stop}
+use Rattle.run_course.specs.Plans.{IsPlanFor}
+use Rattle.run_course.specs.inner.Course.{IsPlanStop}
+use Rattle.run_course.proofs.AskLemmas.{front_more, inputs_with, plan_with, run_until}
+use Rattle.run_course.proofs.CauseLemmas.{no_plan_stop, run_stop}
 use Rattle.run_course.proofs.HostLemmas.{others_as, run_asks}
 use Rattle.run_course.proofs.RunLemmas.{both_ok, writes_run}
 use Rattle.run_course.proofs.commands.run_on.Goals as goal
 
-pub returns-in_err-shown-clause-grew : goal.returns-in_err-shown-clause-grew
-returns-in_err-shown-clause-grew g c =
-    all_grew_not (map (account g.H.Host.notes g.H.Host.losses) c.args.hosts.now)
+-- ---- its inputs have no rows
 
 pub returns-in_err-inputs-clause-grew : goal.returns-in_err-inputs-clause-grew
 returns-in_err-inputs-clause-grew g c =
@@ -26,88 +29,146 @@ returns-in_err-inputs-clause-grew g c =
 
 pub returns-in_err-inputs-clause-stop : goal.returns-in_err-inputs-clause-stop
 returns-in_err-inputs-clause-stop g c =
-    let end = c.from_residual-in_err-inputs in
+    let end = c.from_residual in
     let p = err_from_is_err_and end.result end.ensures.1 in
     rw (p.1, p.2)
     (inr (inl (subst (λ (n : ℕ). IsInputsCause n
     (seen g.R.Source.files g.R.Source.faults c.args.source.now)
     (seen g.R.Source.files g.R.Source.faults c.rows_of_inputs.new.source)
-    (inputs_of c.args.program.now.script) c.in_err-inputs.field-0.0) c.tries.ensures.value
+    (inputs_of c.args.program.now.script) c.in_err-inputs.field-0.0) c.tries-tries.ensures.value
     c.in_err-inputs.ensures.err)))
+
+pub returns-in_err-inputs-clause-asked : goal.returns-in_err-inputs-clause-asked
+returns-in_err-inputs-clause-asked g c =
+    let end = c.from_residual in
+    let p = err_from_is_err_and end.result end.ensures.1 in
+    let names : List (List ℕ) = file_names (inputs_of c.args.program.now.script) in
+    rw (p.1, p.2)
+    (inputs_with c.args.settings.now.tries (names ++ plan_file c.args.from.now)
+    (seen g.R.Source.asked g.R.Source.faults c.args.source.now)
+    (seen g.R.Source.asked g.R.Source.faults c.rows_of_inputs.new.source) c.tries-tries.result
+    (seen g.R.Source.files g.R.Source.faults c.args.source.now)
+    (seen g.R.Source.files g.R.Source.faults c.rows_of_inputs.new.source)
+    (inputs_of c.args.program.now.script) c.in_err-inputs.field-0.0 c.in_err-inputs.ensures.err
+    (front_more c.args.settings.now.tries names (plan_file c.args.from.now)
+    (seen g.R.Source.asked g.R.Source.faults c.args.source.now)
+    (seen g.R.Source.asked g.R.Source.faults c.rows_of_inputs.new.source)
+    (subst (λ (n : ℕ). AsksFront n names
+    (seen g.R.Source.asked g.R.Source.faults c.args.source.now)
+    (seen g.R.Source.asked g.R.Source.faults c.rows_of_inputs.new.source))
+    c.tries-tries.ensures.value c.in_err-inputs.ensures.asked_front)))
+
+pub returns-in_err-inputs-clause-asked_hosts : goal.returns-in_err-inputs-clause-asked_hosts
+returns-in_err-inputs-clause-asked_hosts g c = inl refl
+
+-- ---- there is no plan
+
+pub returns-in_err-shown-clause-grew : goal.returns-in_err-shown-clause-grew
+returns-in_err-shown-clause-grew g c =
+    all_grew_not (map (account g.H.Host.notes g.H.Host.losses) c.args.hosts.now)
+
+pub returns-in_err-shown-clause-stop : goal.returns-in_err-shown-clause-stop
+returns-in_err-shown-clause-stop g c =
+    let end = c.from_residual-in_err-shown in
+    let p = err_from_is_err_and end.result end.ensures.1 in
+    rw (p.1, p.2)
+    (no_plan_stop c.args.settings.now c.args.from.now
+    (seen g.R.Source.files g.R.Source.faults c.args.source.now)
+    (seen g.R.Source.files g.R.Source.faults c.rows_of_inputs.new.source)
+    (seen g.R.Source.files g.R.Source.faults c.plan_for.new.source)
+    (map (account g.H.Host.notes g.H.Host.losses) c.args.hosts.now)
+    (map (account g.H.Host.notes g.H.Host.losses) c.args.hosts.now) c.args.program.now.script
+    c.in_ok-inputs.inputs c.in_err-shown.field-0.0 c.in_ok-inputs.ensures.files
+    c.in_ok-inputs.ensures.later c.in_ok-inputs.ensures.ok
+    (subst (λ (n : ℕ). IsPlanStop n
+    (seen g.R.Source.files g.R.Source.faults c.rows_of_inputs.new.source)
+    (seen g.R.Source.files g.R.Source.faults c.plan_for.new.source) c.args.program.now.script
+    c.args.from.now c.in_err-shown.field-0.0) c.tries-tries.ensures.value
+    c.in_err-shown.ensures.stop))
+
+pub returns-in_err-shown-clause-asked : goal.returns-in_err-shown-clause-asked
+returns-in_err-shown-clause-asked g c =
+    let end = c.from_residual-in_err-shown in
+    let p = err_from_is_err_and end.result end.ensures.1 in
+    let names : List (List ℕ) = file_names (inputs_of c.args.program.now.script) in
+    rw (p.1, p.2)
+    (plan_with c.args.settings.now.tries (names ++ plan_file c.args.from.now)
+    (seen g.R.Source.asked g.R.Source.faults c.args.source.now)
+    (seen g.R.Source.asked g.R.Source.faults c.plan_for.new.source) c.tries-tries.result
+    (seen g.R.Source.files g.R.Source.faults c.rows_of_inputs.new.source)
+    (seen g.R.Source.files g.R.Source.faults c.plan_for.new.source) c.args.program.now.script
+    c.args.from.now c.in_err-shown.field-0.0 c.in_err-shown.ensures.stop
+    (subst (λ (n : ℕ). Asks n (names ++ plan_file c.args.from.now)
+    (seen g.R.Source.asked g.R.Source.faults c.args.source.now)
+    (seen g.R.Source.asked g.R.Source.faults c.plan_for.new.source)) c.tries-tries.ensures.value
+    (asks_both c.tries-tries.result names (plan_file c.args.from.now)
+    (seen g.R.Source.asked g.R.Source.faults c.args.source.now)
+    (seen g.R.Source.asked g.R.Source.faults c.rows_of_inputs.new.source)
+    (seen g.R.Source.asked g.R.Source.faults c.plan_for.new.source)
+    c.in_ok-inputs.ensures.asked c.in_err-shown.ensures.asked)))
+
+pub returns-in_err-shown-clause-asked_hosts : goal.returns-in_err-shown-clause-asked_hosts
+returns-in_err-shown-clause-asked_hosts g c = inl refl
+
+-- ---- the plan is run
 
 pub returns-clause-stop : goal.returns-clause-stop
 returns-clause-stop g c =
     IfErr-weaker c.written_run.result _ _ (λ why stops.
-    run_stop c.args.settings.now (seen g.R.Source.files g.R.Source.faults c.args.source.now)
-    (seen g.R.Source.files g.R.Source.faults c.rows_of_inputs.new.source)
+    run_stop c.args.settings.now c.args.from.now
+    (seen g.R.Source.files g.R.Source.faults c.args.source.now)
+    (seen g.R.Source.files g.R.Source.faults c.plan_for.new.source)
     (map (account g.H.Host.notes g.H.Host.losses) c.args.hosts.now)
     (map (account g.H.Host.notes g.H.Host.losses) c.written_run.new.hosts)
     c.args.program.now.script c.in_ok-inputs.inputs c.in_ok-shown.shown.plan why
-    c.in_ok-inputs.ensures.ok c.in_ok-shown.ensures.optimised stops) c.written_run.ensures.stop
+    c.in_ok-inputs.ensures.ok
+    (subst (λ (t : Option (List File)). IsPlanFor t c.args.program.now.script c.args.from.now
+    c.in_ok-shown.shown.plan) c.in_ok-inputs.ensures.files c.in_ok-shown.ensures.plan) stops)
+    c.written_run.ensures.stop
 
 pub returns-clause-written : goal.returns-clause-written
 returns-clause-written g c =
     both_ok c.written_run.result _ _ _ c.written_run.ensures.written c.written_run.ensures.ran
     (λ it gives ran.
-    writes_run c.args.settings.now (g.R.Source.files c.args.source.now)
+    writes_run c.args.settings.now c.args.from.now (g.R.Source.files c.args.source.now)
     (map (account g.H.Host.notes g.H.Host.losses) c.args.hosts.now)
     (map (account g.H.Host.notes g.H.Host.losses) c.written_run.new.hosts)
     c.args.program.now.script c.in_ok-inputs.inputs c.in_ok-shown.shown.plan
     c.in_ok-shown.shown.text.items it.screen.items (map output_file it.outputs.items)
-    c.in_ok-inputs.ensures.ok c.in_ok-shown.ensures.optimised c.in_ok-shown.ensures.text gives ran)
-
-pub returns-in_err-shown-clause-asked : goal.returns-in_err-shown-clause-asked
-returns-in_err-shown-clause-asked g c =
-    let end = c.from_residual in
-    let p = err_from_is_err_and end.result end.ensures.1 in
-    rw (p.1, p.2)
-    (none_with c.args.settings.now.tries (file_names (inputs_of c.args.program.now.script))
-    (seen g.R.Source.asked g.R.Source.faults c.args.source.now))
-
-pub returns-in_err-inputs-clause-asked : goal.returns-in_err-inputs-clause-asked
-returns-in_err-inputs-clause-asked g c =
-    let end = c.from_residual-in_err-inputs in
-    let p = err_from_is_err_and end.result end.ensures.1 in
-    rw (p.1, p.2)
-    (inputs_with c.args.settings.now.tries (file_names (inputs_of c.args.program.now.script))
-    (seen g.R.Source.asked g.R.Source.faults c.args.source.now)
-    (seen g.R.Source.asked g.R.Source.faults c.rows_of_inputs.new.source) c.tries.result
-    (seen g.R.Source.files g.R.Source.faults c.args.source.now)
-    (seen g.R.Source.files g.R.Source.faults c.rows_of_inputs.new.source)
-    (inputs_of c.args.program.now.script) c.in_err-inputs.field-0.0 c.in_err-inputs.ensures.err
-    (subst (λ (n : ℕ). AsksFront n (file_names (inputs_of c.args.program.now.script))
-    (seen g.R.Source.asked g.R.Source.faults c.args.source.now)
-    (seen g.R.Source.asked g.R.Source.faults c.rows_of_inputs.new.source))
-    c.tries.ensures.value c.in_err-inputs.ensures.asked_front))
+    c.in_ok-inputs.ensures.ok
+    (subst (λ (t : Option (List File)). IsPlanFor t c.args.program.now.script c.args.from.now
+    c.in_ok-shown.shown.plan) c.in_ok-inputs.ensures.files c.in_ok-shown.ensures.plan)
+    c.in_ok-shown.ensures.text gives ran)
 
 pub returns-clause-asked : goal.returns-clause-asked
 returns-clause-asked g c =
-    run_until c.args.settings.now.tries (file_names (inputs_of c.args.program.now.script))
+    let names : List (List ℕ) = file_names (inputs_of c.args.program.now.script) in
+    run_until c.args.settings.now.tries (names ++ plan_file c.args.from.now)
     (seen g.R.Source.asked g.R.Source.faults c.args.source.now)
-    (seen g.R.Source.asked g.R.Source.faults c.rows_of_inputs.new.source) c.args.settings.now
+    (seen g.R.Source.asked g.R.Source.faults c.plan_for.new.source) c.args.settings.now
     c.args.program.now.script c.in_ok-inputs.inputs c.in_ok-shown.shown.plan
     (lent c.args.settings.now (map (account g.H.Host.notes g.H.Host.losses) c.args.hosts.now))
     (lent c.args.settings.now
     (map (account g.H.Host.notes g.H.Host.losses) c.written_run.new.hosts)) c.written_run.result
     c.written_run.ensures.stop
-    (subst (λ (n : ℕ). Asks n (file_names (inputs_of c.args.program.now.script))
+    (subst (λ (n : ℕ). Asks n (names ++ plan_file c.args.from.now)
     (seen g.R.Source.asked g.R.Source.faults c.args.source.now)
-    (seen g.R.Source.asked g.R.Source.faults c.rows_of_inputs.new.source))
-    c.tries.ensures.value c.in_ok-inputs.ensures.asked)
-
-pub returns-in_err-shown-clause-asked_hosts : goal.returns-in_err-shown-clause-asked_hosts
-returns-in_err-shown-clause-asked_hosts g c = inl refl
-
-pub returns-in_err-inputs-clause-asked_hosts : goal.returns-in_err-inputs-clause-asked_hosts
-returns-in_err-inputs-clause-asked_hosts g c = inl refl
+    (seen g.R.Source.asked g.R.Source.faults c.plan_for.new.source)) c.tries-tries.ensures.value
+    (asks_both c.tries-tries.result names (plan_file c.args.from.now)
+    (seen g.R.Source.asked g.R.Source.faults c.args.source.now)
+    (seen g.R.Source.asked g.R.Source.faults c.rows_of_inputs.new.source)
+    (seen g.R.Source.asked g.R.Source.faults c.plan_for.new.source)
+    c.in_ok-inputs.ensures.asked c.in_ok-shown.ensures.asked))
 
 pub returns-clause-asked_hosts : goal.returns-clause-asked_hosts
 returns-clause-asked_hosts g c =
-    run_asks c.args.settings.now (g.R.Source.files c.args.source.now)
+    run_asks c.args.settings.now c.args.from.now (g.R.Source.files c.args.source.now)
     (map (account g.H.Host.notes g.H.Host.losses) c.args.hosts.now)
     (map (account g.H.Host.notes g.H.Host.losses) c.written_run.new.hosts)
     c.args.program.now.script c.in_ok-inputs.inputs c.in_ok-shown.shown.plan c.written_run.result
-    c.in_ok-inputs.ensures.ok c.in_ok-shown.ensures.optimised
+    c.in_ok-inputs.ensures.ok
+    (subst (λ (t : Option (List File)). IsPlanFor t c.args.program.now.script c.args.from.now
+    c.in_ok-shown.shown.plan) c.in_ok-inputs.ensures.files c.in_ok-shown.ensures.plan)
     (c.in_ok-shown.ensures.of_script.sources
     ∙ sym (as_many_rows (inputs_of c.args.program.now.script) c.in_ok-inputs.inputs
     c.in_ok-inputs.ensures.typed))

@@ -23,3 +23,6 @@ returns-in-TooLong g c = rw (c.in-TooLong.is, ← c.as_bytes-in-TooLong.ensures)
 
 pub returns-in-GaveUp : goal.returns-in-GaveUp
 returns-in-GaveUp g c = rw c.in-GaveUp.is c.say_gave_up.ensures
+
+pub returns-in-PlanRefused : goal.returns-in-PlanRefused
+returns-in-PlanRefused g c = rw c.in-PlanRefused.is c.say_plan_refused.ensures

@@ -13,7 +13,7 @@ returns-clause-plan c = λ statements script rs plan short e made.
 
 pub returns-clause-script : goal.returns-clause-script
 returns-clause-script c = λ statements script plan short e is.
-    let it = c.made_law.ensures.plan statements script plan short e is in
+    let it = c.made_law.ensures statements script plan short e is in
     made_outputs script it.0 plan it.1
     (c.replay_law.ensures.same it.0 (graph_of script) it.1.refined
     (c.graph_law.ensures.accepted statements script short e) it.1.leads)

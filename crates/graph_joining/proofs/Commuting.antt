@@ -1,0 +1,100 @@
+-- Nodes that read elsewhere, are others or are gone, in one order or another.
+use Rattle.std.proofs.Common.{◌≡◌, ℕ, Bool, true, false, cond, eqb, List, [], ◌∷◌, map, refl, sym, ap, ap₂, ◌∙◌}
+use Rattle.std.proofs.lemmas.Bool.{eqb-true, eq-eqb}
+use Rattle.exec_graph.specs.Forests.{Forest}
+use Rattle.exec_graph.specs.declared.graph.Entry.{Entry}
+use Rattle.exec_graph.specs.declared.graph.Node.{Node}
+use Rattle.exec_graph.specs.declared.graph.Node.TheVariants.{Source, Flatten, Pdo, Gbk, Barrier}
+use Rattle.exec_graph.specs.declared.graph.Place.{Place}
+use Rattle.exec_graph.proofs.Bools.{not_true}
+use Rattle.exec_graph.proofs.Entries.{entry}
+use Rattle.graph_laws.specs.Joining.{reread, reread_entry, set_node, without}
+use Rattle.graph_joining.proofs.Rereads.{set_again}
+
+-- ---- read by one rule, and then by another
+
+pub places_both : (r s : Place → Place) (cs : List Place)
+    → map s (map r cs) ≡ map (λ (c : Place). s (r c)) cs
+places_both r s [] = refl
+places_both r s (c ∷ cs) = ap (λ (ds : List Place). s (r c) ∷ ds) (places_both r s cs)
+
+reread_both : (r s : Place → Place) (x : Node)
+    → reread s (reread r x) ≡ reread (λ (c : Place). s (r c)) x
+reread_both r s (Source i) = refl
+reread_both r s (Flatten ins) = ap (λ (ds : List Place). Flatten ds) (places_both r s ins)
+reread_both r s (Pdo c f) = refl
+reread_both r s (Gbk c o l k) = refl
+reread_both r s (Barrier ins o l a) =
+    ap (λ (ds : List Place). Barrier ds o l a) (places_both r s ins)
+
+pub nodes_both : (r s : Place → Place) (es : List Entry)
+    → map (reread_entry s) (map (reread_entry r) es)
+    ≡ map (reread_entry (λ (c : Place). s (r c))) es
+nodes_both r s [] = refl
+nodes_both r s (e ∷ es) =
+    ap₂ (λ (x : Node) (l : List Entry). entry e.number x ∷ l) (reread_both r s e.node)
+    (nodes_both r s es)
+
+-- ---- a node that is another
+
+pub set_map : (r : Place → Place) (es : List Entry) (n : ℕ) (x : Node)
+    → set_node (map (reread_entry r) es) n (reread r x) ≡ map (reread_entry r) (set_node es n x)
+set_map r [] n x = refl
+set_map r (e ∷ es) n x = by (eqb e.number n) (set_map r es n x)
+  where
+    by : (b : Bool) → set_node (map (reread_entry r) es) n (reread r x)
+        ≡ map (reread_entry r) (set_node es n x)
+        → cond b (entry n (reread r x) ∷ map (reread_entry r) es)
+        (reread_entry r e ∷ set_node (map (reread_entry r) es) n (reread r x))
+        ≡ map (reread_entry r) (cond b (entry n x ∷ es) (e ∷ set_node es n x))
+    by true h = refl
+    by false h = ap (λ (l : List Entry). reread_entry r e ∷ l) h
+
+-- a Pdo of what is read where it was
+pub set_over : (r : Place → Place) (es : List Entry) (n : ℕ) (y : Node) (c : Place) (f : Forest)
+    → r c ≡ c → set_node (map (reread_entry r) (set_node es n y)) n (Pdo c f)
+    ≡ map (reread_entry r) (set_node es n (Pdo c f))
+set_over r es n y c f stays =
+    ap (λ (d : Place). set_node (map (reread_entry r) (set_node es n y)) n (Pdo d f)) (sym stays)
+    ∙ set_map r (set_node es n y) n (Pdo c f)
+    ∙ ap (λ (l : List Entry). map (reread_entry r) l) (set_again es n y (Pdo c f))
+
+-- ---- a node that is gone
+
+pub without_map : (r : Place → Place) (es : List Entry) (n : ℕ)
+    → without (map (reread_entry r) es) n ≡ map (reread_entry r) (without es n)
+without_map r [] n = refl
+without_map r (e ∷ es) n = by (eqb e.number n) (without_map r es n)
+  where
+    by : (b : Bool) → without (map (reread_entry r) es) n ≡ map (reread_entry r) (without es n)
+        → cond b (map (reread_entry r) es)
+        (reread_entry r e ∷ without (map (reread_entry r) es) n)
+        ≡ map (reread_entry r) (cond b es (e ∷ without es n))
+    by true h = refl
+    by false h = ap (λ (l : List Entry). reread_entry r e ∷ l) h
+
+pub without_same : (es : List Entry) (q : ℕ) (x : Node)
+    → without (set_node es q x) q ≡ without es q
+without_same [] q x = refl
+without_same (e ∷ es) q x = by (eqb e.number q) refl (without_same es q x)
+  where
+    by : (b : Bool) → eqb e.number q ≡ b → without (set_node es q x) q ≡ without es q
+        → without (cond b (entry q x ∷ es) (e ∷ set_node es q x)) q
+        ≡ cond b es (e ∷ without es q)
+    by true i h = rw (eq-eqb q q refl) refl
+    by false i h = rw i (ap (λ (l : List Entry). e ∷ l) h)
+
+pub without_other : (es : List Entry) (p q : ℕ) (x : Node) → (p ≡ q → ⊥)
+    → without (set_node es p x) q ≡ set_node (without es q) p x
+without_other [] p q x apart = refl
+without_other (e ∷ es) p q x apart =
+    by (eqb e.number p) (eqb e.number q) refl refl (without_other es p q x apart)
+  where
+    by : (a b : Bool) → eqb e.number p ≡ a → eqb e.number q ≡ b
+        → without (set_node es p x) q ≡ set_node (without es q) p x
+        → without (cond a (entry p x ∷ es) (e ∷ set_node es p x)) q
+        ≡ set_node (cond b es (e ∷ without es q)) p x
+    by true true i j s = absurd (apart (sym (eqb-true e.number p i) ∙ eqb-true e.number q j))
+    by true false i j s = rw (not_true (eqb p q) (λ k. apart (eqb-true p q k)), i) refl
+    by false true i j s = rw j refl
+    by false false i j s = rw (i, j) (ap (λ (l : List Entry). e ∷ l) s)

@@ -1,0 +1,20 @@
+//! Kids and siblings: two Pdos of a graph become one.
+//!
+//! `join_kid` makes a Pdo a kid of an output that it reads, under the lesser of both numbers
+//! (`kid_under` under that of the Pdo that is read), and `join_sibling` puts a Pdo behind another
+//! that reads the same. Each is what the laws of graph_rewrites say (`after_kid`, `after_sibling`,
+//! specs/Rewrites.antt there): the outputs of both get numbers that differ, the steps are put
+//! together, what nothing reads is dropped, and what is left is numbered anew. It takes time in
+//! proportion to the graph: the steps are changed where they stand, and what reads an output is
+//! told once of where that is in the end.
+#![tactic(auto)]
+
+mod flags;
+mod joining;
+mod moves;
+mod nodes;
+mod refits;
+mod rereading;
+
+pub use joining::{join_kid, join_sibling, kid_under};
+pub use nodes::{find_node, input_at};

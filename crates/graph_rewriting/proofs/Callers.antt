@@ -1,0 +1,131 @@
+-- The only Pdo that reads a group, and the mark that this leads to.
+use Rattle.std.proofs.Common.{◌≡◌, ℕ, ◌+◌, ◌<◌, ◌≤◌, Bool, true, false, cond, eqb, List, [], ◌∷◌, ◌++◌, drop, length, get_or, Option, Some, None, refl, sym, ap, ◌∙◌}
+use Rattle.std.proofs.lemmas.Bool.{false≢true}
+use Rattle.std.proofs.lemmas.List.{drop_all, drop_more}
+use Rattle.combine_table.specs.declared.comb.Comb.{Comb}
+use Rattle.exec_graph.specs.Meaning.{node_at}
+use Rattle.exec_graph.specs.Readers.{those}
+use Rattle.exec_graph.specs.declared.graph.Entry.{Entry}
+use Rattle.exec_graph.specs.declared.graph.Graph.{Graph}
+use Rattle.exec_graph.specs.declared.graph.Node.{Node}
+use Rattle.exec_graph.specs.declared.graph.Node.TheVariants.{Source, Flatten, Pdo, Gbk, Barrier}
+use Rattle.exec_graph.specs.declared.graph.Place.{Place}
+use Rattle.exec_graph.proofs.Entries.{entry}
+use Rattle.graph_laws.specs.Lifting.{CanLift, lift_of, lifted_at, marked, marked_entry, only_comb, remarked}
+use Rattle.graph_rewriting.specs.inner.Tests.{comb_of_only, found_list, is_gbk, only}
+
+pub only_is : (es : List Entry) (ns : List ℕ) → only_comb es ns ≡ comb_of_only es (only ns)
+only_is es [] = refl
+only_is es (n ∷ []) = refl
+only_is es (n ∷ (m ∷ ns)) = refl
+
+-- ---- readers one after another
+
+module _ (t : Node → Bool) (es : List Entry) (i : ℕ) (e : Entry) (lt : i < length es)
+    (is : e ≡ get_or es i e) where
+  here : those t (drop i es) ≡ cond (t e.node) (e.number ∷ those t (drop (i + 1) es))
+      (those t (drop (i + 1) es))
+  here =
+      ap (λ (l : List Entry). those t l)
+      (drop_more es i e lt ∙ ap (λ (d : Entry). d ∷ drop (i + 1) es) (sym is))
+
+  pub calls_not : (found : Option ℕ) (all : List ℕ) → t e.node ≡ false
+      → found_list found ++ those t (drop i es) ≡ all
+      → found_list found ++ those t (drop (i + 1) es) ≡ all
+  calls_not found all no_call so_far =
+      ap (λ (l : List ℕ). found_list found ++ l)
+      (sym (here ∙ ap (λ (b : Bool). cond b (e.number ∷ those t (drop (i + 1) es))
+      (those t (drop (i + 1) es))) no_call)) ∙ so_far
+
+  calls_first : t e.node ≡ true
+      → those t (drop i es) ≡ e.number ∷ those t (drop (i + 1) es)
+  calls_first call =
+      here ∙ ap (λ (b : Bool). cond b (e.number ∷ those t (drop (i + 1) es))
+      (those t (drop (i + 1) es))) call
+
+  pub calls_here : (all : List ℕ) → t e.node ≡ true → those t (drop i es) ≡ all
+      → e.number ∷ those t (drop (i + 1) es) ≡ all
+  calls_here all call so_far = sym (calls_first call) ∙ so_far
+
+  pub calls_twice : (m : ℕ) (all : List ℕ) → t e.node ≡ true
+      → m ∷ those t (drop i es) ≡ all → None ≡ only all
+  calls_twice m all call so_far =
+      ap only (ap (λ (l : List ℕ). m ∷ l) (sym (calls_first call)) ∙ so_far)
+
+pub found_only : (t : Node → Bool) (es : List Entry) (i : ℕ) (found : Option ℕ) (all : List ℕ)
+    → length es ≤ i → found_list found ++ those t (drop i es) ≡ all → found ≡ only all
+found_only t es i found all past so_far =
+    by found (ap (λ (l : List Entry). found_list found ++ those t l) (sym (drop_all i es past))
+    ∙ so_far)
+  where
+    by : (o : Option ℕ) → found_list o ++ [] ≡ all → o ≡ only all
+    by None h = ap only h
+    by (Some m) h = ap only h
+
+-- ---- marks
+
+pub marked_stay : (x : Node) → marked (λ k. k) x ≡ x
+marked_stay (Source r) = refl
+marked_stay (Flatten ins) = refl
+marked_stay (Pdo c f) = refl
+marked_stay (Gbk c o l k) = refl
+marked_stay (Barrier ins o l a) = refl
+
+pub marked_here : (comb : Comb) (e : Entry) (n : ℕ) → eqb e.number n ≡ true
+    → entry e.number (marked (λ k. Some comb) e.node)
+    ≡ marked_entry (λ m k. cond (eqb m n) (Some comb) k) e
+marked_here comb e n i =
+    ap (λ (b : Bool). entry e.number (marked (λ k. cond b (Some comb) k) e.node)) (sym i)
+
+pub marked_other : (comb : Comb) (e : Entry) (n : ℕ) → eqb e.number n ≡ false
+    → e ≡ marked_entry (λ m k. cond (eqb m n) (Some comb) k) e
+marked_other comb e n i =
+    ap (λ (x : Node). entry e.number x) (sym (marked_stay e.node))
+    ∙ ap (λ (b : Bool). entry e.number (marked (λ k. cond b (Some comb) k) e.node)) (sym i)
+
+-- the mark by the combiner, where that is what the group may be lifted with
+pub lifted_is : (g : Graph) (n : ℕ) (comb : Comb) → lift_of g n ≡ Some comb
+    → remarked (λ m k. cond (eqb m n) (Some comb) k) g ≡ lifted_at n g
+lifted_is g n comb e =
+    ap (λ (o : Option Comb). remarked (λ m k. cond (eqb m n) o k) g) (sym e)
+
+-- ---- groups
+
+pub record IsGbk (o : Option Node) : Type 0 where
+  pub input : Place
+  pub origin : ℕ
+  pub last : Bool
+  pub mark : Option Comb
+  pub is : o ≡ Some (Gbk input origin last mark)
+
+gbk_is : (o : Option Node) → is_gbk o ≡ true → IsGbk o
+gbk_is None h = absurd (false≢true h)
+gbk_is (Some (Source r)) h = absurd (false≢true h)
+gbk_is (Some (Flatten ins)) h = absurd (false≢true h)
+gbk_is (Some (Pdo c f)) h = absurd (false≢true h)
+gbk_is (Some (Gbk c o l k)) h =
+    record { input = c; origin = o; last = l; mark = k; is = refl }
+gbk_is (Some (Barrier ins o l a)) h = absurd (false≢true h)
+
+pub can_lift : (g : Graph) (n : ℕ) (comb : Comb) → is_gbk (node_at g.nodes n) ≡ true
+    → lift_of g n ≡ Some comb → CanLift g n
+can_lift g n comb h e =
+    let x = gbk_is (node_at g.nodes n) h in
+    record {
+      input = x.input;
+      origin = x.origin;
+      last = x.last;
+      mark = x.mark;
+      gbk = x.is;
+      comb = comb;
+      may = e;
+    }
+
+pub no_group : (g : Graph) (n : ℕ) → is_gbk (node_at g.nodes n) ≡ false → CanLift g n → ⊥
+no_group g n h can = false≢true (sym h ∙ ap is_gbk can.gbk)
+
+pub no_comb : (g : Graph) (n : ℕ) → lift_of g n ≡ None → CanLift g n → ⊥
+no_comb g n h can =
+    let e : lift_of g n ≡ None = h in
+    let f : lift_of g n ≡ Some can.comb = can.may in
+    cc

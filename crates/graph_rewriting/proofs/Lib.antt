@@ -1,0 +1,4 @@
+pub mod Chain
+pub mod Passes
+pub mod Callers
+pub mod Sinks

@@ -1,0 +1,52 @@
+// An output is marked.
+ghost use Rattle.std.specs.Prelude.{◌≡◌, IfOk, Some};
+ghost use Rattle.exec_graph.specs.Meaning.{has_out, node_at};
+ghost use Rattle.exec_graph.specs.Wellformed.{IsGraphOk};
+ghost use Rattle.graph_rewrites.specs.declared.rewrite.Rewrite.TheVariants as rewrite;
+ghost use Rattle.graph_rewriting.specs.Applied.{IsApplied};
+ghost use Rattle.graph_rewriting.specs.inner.Tests as tests;
+
+use exec_graph::{Blocked, Entry, Node, Place, Roots};
+use graph_joining::find_node;
+use graph_walks::has_output;
+use std::alloc::AllocError;
+
+/// The output is marked, if it is one of a Pdo or of a group that is not lifted.
+pub(crate) fn mark(blocked: Blocked, node: u32, output: u32) -> Result<Option<Blocked>, AllocError>
+    requires { IsGraphOk blocked.graph }
+    ensures { IfOk result (λ made. IsApplied blocked (rewrite.Mark node output) made) }
+{
+    if !can_mark(blocked.graph.nodes.as_slice(), node, output) {
+        return Ok(None);
+    }
+    let Blocked { graph, mut marks } = blocked;
+    marks.push(Place { node, out: output })?;
+    Ok(Some(Blocked { graph, marks }))
+}
+
+fn can_mark(nodes: &[Entry], node: u32, output: u32) -> bool
+    ensures { result ≡ tests.can_mark (node_at nodes.now node) output }
+{
+    match find_node(nodes, node) {
+        Some(found) => can_mark_of(found, output),
+        None => false,
+    }
+}
+
+/// Whether the node is a Pdo with that output, or a group that is not lifted.
+fn can_mark_of(node: &Node, output: u32) -> bool
+    ensures { result ≡ tests.can_mark (Some node.now) output }
+{
+    match node {
+        Node::Pdo(_, roots) => has_out(roots, output),
+        Node::Gbk(_, _, _, lifted) => lifted.is_none() && output == 0,
+        Node::Source(_) | Node::Flatten(_) | Node::Barrier(_, _, _, _) => false,
+    }
+}
+
+/// Whether a step of the forest keeps the output.
+fn has_out(roots: &Roots, output: u32) -> bool
+    ensures { result ≡ has_out output roots.now }
+{
+    has_output(roots.steps(), output)
+}

@@ -1,0 +1,9 @@
+pub mod Traces
+pub mod Sinks
+pub mod Effects
+pub mod Keepers
+pub mod Waiting
+pub mod Settled
+pub mod Siblings
+pub mod Kids
+pub mod Whole

@@ -1,0 +1,16 @@
+use Rattle.std.proofs.Common.{ℕ, true, drop, List}
+use Rattle.exec_graph.specs.Wellformed.{IsGraphOk}
+use Rattle.exec_graph.specs.declared.graph.Graph.{Graph}
+use Rattle.graph_rewrites.specs.declared.rewrite.Rewrite.{Rewrite}
+use Rattle.graph_tracing.specs.Traces.{GoesOn}
+use Rattle.graph_tracing.specs.inner.Waiting.{AreApart, IsUnderway}
+use Rattle.graph_tracing.proofs.fusing.with_siblings.Given as goal
+
+abbrev pub invariant-loop-number : goal.invariant-loop-number
+invariant-loop-number l = record {
+  ok : IsGraphOk l.trace.graph;
+  traced : GoesOn 2 l.initial.trace l.trace;
+  whole : (m : Graph) (f : ℕ → ℕ) (all : List Rewrite) → AreApart m
+      → IsUnderway true (λ n. n) f l.initial.trace m l.numbers all
+      → IsUnderway true (λ n. n) f l.trace m (drop l.number-index l.numbers) all;
+}

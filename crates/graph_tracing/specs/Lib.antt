@@ -1,0 +1,4 @@
+pub mod Traces
+pub mod Orders
+pub mod Fusions
+pub mod inner

@@ -1,0 +1,4 @@
+pub mod Turns
+pub mod Callers
+pub mod Waiting
+pub mod Numbers

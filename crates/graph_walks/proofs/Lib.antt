@@ -1,0 +1,9 @@
+pub mod Relabeling
+pub mod InPlace
+pub mod PlantLemmas
+pub mod PlantTurns
+pub mod NumberLemmas
+pub mod Turns
+pub mod Ends
+pub mod Places
+pub mod TableTurns

@@ -1,0 +1,3 @@
+pub mod Relabels
+pub mod Plants
+pub mod Numbering

@@ -1,0 +1,68 @@
+// Whether a step keeps an output.
+ghost use Rattle.std.specs.Prelude.{◌≡◌, map};
+ghost use Rattle.exec_graph.specs.Forests.{grown};
+ghost use Rattle.exec_graph.specs.Meaning.{has_out, is_out};
+ghost use Rattle.exec_graph.specs.Twigs.{twig};
+ghost use Rattle.graph_walks.specs.inner.Plants as spec;
+
+use exec_graph::{Output, Step};
+
+/// Whether one of the steps, or of those on their outputs, keeps the output of that number.
+#[tactic(auto, using(crate::proofs::PlantLemmas::has_grown))]
+pub fn has_output(steps: &[Step], output: u32) -> bool
+    ensures { result ≡ has_out output (grown steps.now) }
+{
+    on_steps(steps, output)
+}
+
+fn on_steps(steps: &[Step], output: u32) -> bool
+    ensures { result ≡ spec.on_branches output steps.now }
+{
+    steps.iter().any(|step| on_step(step, output))
+}
+
+#[cycle(find)]
+fn on_step(step: &Step, output: u32) -> bool
+    ensures { result ≡ spec.on_branch output step.now }
+{
+    if on_output(&step.first, output) {
+        return true;
+    }
+    on_outputs(step.more.as_slice(), output)
+}
+
+#[cycle(find)]
+fn on_outputs(outputs: &[Output], output: u32) -> bool
+    ensures { result ≡ spec.on_twigs output (map twig outputs.now) }
+{
+    for one in outputs {
+        if on_output(one, output) {
+            return true;
+        }
+    }
+    false
+}
+
+#[cycle(find)]
+fn on_output(one: &Output, output: u32) -> bool
+    ensures { result ≡ spec.on_twig output (twig one.now) }
+{
+    if is_out(one.number, output) {
+        return true;
+    }
+    for kid in &one.kids {
+        if on_step(kid, output) {
+            return true;
+        }
+    }
+    false
+}
+
+pub(crate) fn is_out(number: Option<u32>, output: u32) -> bool
+    ensures { result ≡ is_out number output }
+{
+    match number {
+        Some(number) => number == output,
+        None => false,
+    }
+}

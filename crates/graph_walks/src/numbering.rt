@@ -1,0 +1,122 @@
+// Some outputs alone, under numbers from 0 on.
+ghost use Rattle.std.specs.Prelude.{◌≡◌, ◌++◌, IfOk, OnOk, length, map};
+ghost use Rattle.exec_graph.specs.Forests.{grown, new_out, numbered};
+ghost use Rattle.exec_graph.specs.Twigs.{twig};
+ghost use Rattle.graph_laws.specs.Kids.{kept_by, out_kept};
+ghost use Rattle.graph_walks.specs.Outs.{flag, out_list, outs};
+ghost use Rattle.graph_walks.specs.inner.Numbering as spec;
+ghost use Rattle.graph_walks.specs.inner.Relabels.{relabelled_branch, relabelled_twig};
+
+use exec_graph::{Output, Step};
+use std::alloc::{AllocError, Global};
+
+/// Keeps the outputs alone whose flag stands, under numbers from 0 on in preorder. Gives the
+/// numbers that they had, in their order.
+pub fn renumber(alloc: Global, keep: &[bool], steps: &mut Vec<Step>) -> Result<Vec<u32>, AllocError>
+    ensures steps { OnOk result (grown steps.new.items
+        ≡ numbered 0 (kept_by (flag keep.now) (grown steps.old.items))) }
+    ensures outs { IfOk result (λ v.
+        v.items ≡ outs (kept_by (flag keep.now) (grown steps.old.items))) }
+{
+    let mut outs = Vec::new(alloc);
+    number_steps(keep, steps, &mut outs)?;
+    Ok(outs)
+}
+
+fn number_steps(keep: &[bool], steps: &mut Vec<Step>, outs: &mut Vec<u32>) -> Result<(), AllocError>
+    ensures steps { OnOk result (steps.new.items ≡ spec.numbered_branches (length outs.old.items)
+        (map (relabelled_branch (out_kept (flag keep.now))) steps.old.items)) }
+    ensures outs { OnOk result (outs.new.items ≡ outs.old.items ++ spec.branches_outs
+        (map (relabelled_branch (out_kept (flag keep.now))) steps.old.items)) }
+{
+    for i in 0..steps.len() {
+        number_step(keep, &mut steps[i], outs)?;
+    }
+    Ok(())
+}
+
+#[cycle(number)]
+fn number_step(keep: &[bool], step: &mut Step, outs: &mut Vec<u32>) -> Result<(), AllocError>
+    ensures step { OnOk result (step.new ≡ spec.numbered_branch (length outs.old.items)
+        (relabelled_branch (out_kept (flag keep.now)) step.old)) }
+    ensures outs { OnOk result (outs.new.items ≡ outs.old.items ++ spec.branch_outs
+        (relabelled_branch (out_kept (flag keep.now)) step.old)) }
+{
+    number_output(keep, &mut step.first, outs)?;
+    number_outputs(keep, &mut step.more, outs)?;
+    Ok(())
+}
+
+#[cycle(number)]
+fn number_outputs(
+    keep: &[bool],
+    outputs: &mut Vec<Output>,
+    outs: &mut Vec<u32>,
+) -> Result<(), AllocError>
+    ensures outputs { OnOk result (map twig outputs.new.items
+        ≡ spec.numbered_twigs (length outs.old.items)
+        (map (relabelled_twig (out_kept (flag keep.now))) (map twig outputs.old.items))) }
+    ensures outs { OnOk result (outs.new.items ≡ outs.old.items ++ spec.twigs_outs
+        (map (relabelled_twig (out_kept (flag keep.now))) (map twig outputs.old.items))) }
+{
+    for i in 0..outputs.len() {
+        number_output(keep, &mut outputs[i], outs)?;
+    }
+    Ok(())
+}
+
+#[cycle(number)]
+fn number_output(keep: &[bool], output: &mut Output, outs: &mut Vec<u32>) -> Result<(), AllocError>
+    ensures output { OnOk result (twig output.new ≡ spec.numbered_twig (length outs.old.items)
+        (relabelled_twig (out_kept (flag keep.now)) (twig output.old))) }
+    ensures outs { OnOk result (outs.new.items ≡ outs.old.items ++ spec.twig_outs
+        (relabelled_twig (out_kept (flag keep.now)) (twig output.old))) }
+{
+    output.number = next_number(kept_out(keep, output.number), outs)?;
+    let kids = &mut output.kids;
+    for i in 0..kids.len() {
+        number_step(keep, &mut kids[i], outs)?;
+    }
+    Ok(())
+}
+
+/// The number, if its flag stands.
+fn kept_out(keep: &[bool], number: Option<u32>) -> Option<u32>
+    ensures { result ≡ out_kept (flag keep.now) number }
+{
+    match number {
+        Some(number) => {
+            if is_kept(keep, number) {
+                Some(number)
+            } else {
+                None
+            }
+        }
+        None => None,
+    }
+}
+
+fn is_kept(keep: &[bool], number: u32) -> bool
+    ensures { result ≡ flag keep.now number }
+{
+    match keep.get(number as usize) {
+        Some(kept) => *kept,
+        None => false,
+    }
+}
+
+/// The next number for an output that is kept, which is noted; more than 32 bits count are more
+/// than memory holds.
+fn next_number(former: Option<u32>, outs: &mut Vec<u32>) -> Result<Option<u32>, AllocError>
+    ensures number { IfOk result (λ o. o ≡ new_out (length outs.old.items) former) }
+    ensures outs { OnOk result (outs.new.items ≡ outs.old.items ++ out_list former) }
+{
+    match former {
+        Some(former) => {
+            let number = u32::try_from(outs.len()).map_err(|_| AllocError)?;
+            outs.push(former)?;
+            Ok(Some(number))
+        }
+        None => Ok(None),
+    }
+}

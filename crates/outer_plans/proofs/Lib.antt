@@ -1,0 +1,3 @@
+mod Lines
+pub mod Once
+mod Sources

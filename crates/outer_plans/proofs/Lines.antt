@@ -1,0 +1,24 @@
+-- The line of a plan with rewrites that lead to it is taken, whatever the names and the graph are.
+use Rattle.std.proofs.Common.{List, ◌++◌, Ok, refl}
+use Rattle.std.specs.List.{AllByRecursion}
+use Rattle.exec_graph.specs.declared.graph.Graph.{Graph}
+use Rattle.exec_plan.specs.declared.plan.Plan.{Plan}
+use Rattle.graph_rewrites.specs.declared.rewrite.Rewrite.{Rewrite}
+use Rattle.plan_check.specs.Checked.{Forms, IsChecked}
+use Rattle.plan_file_law.specs.Files.{text_of, told_by}
+use Rattle.plan_file_law.proofs.Ended.{line_feed}
+use Rattle.plan_file_law.proofs.Files.{line_read}
+use Rattle.plan_files.specs.Written.{IsSmall}
+use Rattle.plan_writing.specs.Naming.{Naming}
+
+pub line_taken : (names : Naming) (g : Graph) (rewrites : List Rewrite) (plan : Plan)
+    → AllByRecursion IsSmall rewrites → Forms g rewrites plan
+    → IsChecked names g (text_of names plan rewrites ++ line_feed) (Ok plan)
+line_taken names g rewrites plan small forms = (
+  record {
+    file = told_by names plan rewrites;
+    is_file = line_read names plan rewrites small;
+    forms = forms;
+  },
+  refl,
+)

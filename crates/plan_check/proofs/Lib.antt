@@ -1,0 +1,3 @@
+pub mod One
+pub mod Narrow
+pub mod Parts

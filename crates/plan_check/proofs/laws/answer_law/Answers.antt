@@ -1,0 +1,5 @@
+use Rattle.plan_check.proofs.One.{one_answer}
+use Rattle.plan_check.proofs.laws.answer_law.Goals as goal
+
+pub returns : goal.returns
+returns c = one_answer

@@ -1,0 +1,4 @@
+pub mod Lossy
+pub mod Ended
+pub mod Plain
+pub mod Files

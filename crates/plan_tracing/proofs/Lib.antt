@@ -1,0 +1,4 @@
+pub mod Lifts
+pub mod Codes
+pub mod Marks
+pub mod Refined

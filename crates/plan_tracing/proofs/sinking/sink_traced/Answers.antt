@@ -1,0 +1,16 @@
+use Rattle.std.proofs.Common.{sym, subst}
+use Rattle.exec_graph.specs.Wellformed.{IsGraphOk}
+use Rattle.exec_graph.specs.declared.graph.Graph.{Graph}
+use Rattle.graph_tracing.specs.Traces.{IsTrace}
+use Rattle.sink_laws.specs.Chain.{IsSunk}
+use Rattle.plan_tracing.proofs.sinking.sink_traced.Goals as goal
+
+pub sinks_of-requires : goal.sinks_of-requires
+sinks_of-requires c = subst IsGraphOk (sym c.in_ok-copy.ensures) c.requires
+
+pub returns-clause-traced : goal.returns-clause-traced
+returns-clause-traced c =
+    let last : Graph = c.in_ok-graph.graph in
+    subst (λ (g : Graph). IsTrace 0 g c.in_ok-rewrites.rewrites last) c.in_ok-copy.ensures
+    (c.in_ok-rewrites.ensures last
+    (subst (λ (g : Graph). IsSunk g last) (sym c.in_ok-copy.ensures) c.in_ok-graph.ensures.sunk))

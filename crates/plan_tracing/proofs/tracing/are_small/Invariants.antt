@@ -1,0 +1,7 @@
+use Rattle.std.proofs.Common.{take}
+use Rattle.std.specs.List.{AllByRecursion}
+use Rattle.plan_files.specs.Written.{IsSmall}
+use Rattle.plan_tracing.proofs.tracing.are_small.Given as goal
+
+abbrev pub invariant-loop-rewrite : goal.invariant-loop-rewrite
+invariant-loop-rewrite l = AllByRecursion IsSmall (take l.rewrite-index l.rewrites)

@@ -1,0 +1,3 @@
+pub mod Lists
+pub mod Refined
+pub mod inner

@@ -1,0 +1,19 @@
+use Rattle.std.proofs.Common.{ℕ, List, subst, sym}
+use Rattle.std.proofs.lemmas.Result.{IfOk-weaker}
+use Rattle.outer_plans.specs.Plans.{IsTaken}
+use Rattle.run_course.proofs.showing.rewrites_shown.Goals as goal
+
+pub returns : goal.returns
+returns c =
+    let script = c.args.program.now.script in
+    let plan = c.in_ok-traced.traced.plan in
+    IfOk-weaker c.traced_text.result _ _ (λ text shown. (
+      plan,
+      c.in_ok-traced.traced.rewrites,
+      c.in_ok-traced.ensures.optimised,
+      c.in_ok-traced.ensures.leads,
+      subst (λ (bytes : List ℕ). IsTaken script bytes plan) (sym shown)
+          (c.line_law.ensures script c.in_ok-traced.traced.rewrites plan
+          c.in_ok-traced.ensures.small c.in_ok-traced.ensures.leads),
+      shown,
+    )) c.traced_text.ensures

@@ -1,0 +1,77 @@
+// The plan that a run carries out, with its text: the script's own, or that of a file.
+ghost use Rattle.std.specs.Prelude.{◌≡◌, ◌≤◌, ◌<◌, ◌∷◌, [], IfErr, IfOk, Some};
+ghost use Rattle.exec_graph.specs.Wellformed.{IsGraphOk};
+ghost use Rattle.graph_build.specs.Graphs.{graph_of};
+ghost use Rattle.outside.specs.Asked.{Asks};
+ghost use Rattle.outside.specs.Seen.{seen};
+ghost use Rattle.script_laws.specs.WellFormed.{IsWellFormed};
+ghost use Rattle.script_loading.specs.Ready.{IsReady};
+ghost use Rattle.script_run.specs.Runs.{IsPlanOf};
+ghost use Rattle.run_course.specs.Asks.{plan_file};
+ghost use Rattle.run_course.specs.Plans.{IsFileCause, IsPlanFor};
+ghost use Rattle.run_course.specs.Written.{text_shown};
+ghost use Rattle.run_course.specs.inner.Course.{IsPlanStop};
+
+use crate::showing::{ShownPlan, plan_shown, taken_shown};
+use outside::{FileName, Source};
+use run_texts::Status;
+use script_loading::plan_bytes;
+use script_program::Program;
+use std::alloc::Global;
+
+/// The plan that a run carries out, and its text: that of the file of this name, which is loaded in
+/// so many tries, or where none is named the script's own.
+pub fn plan_for<R: Source>(
+    alloc: Global,
+    program: &Program,
+    from: &Option<FileName>,
+    source: &mut R,
+    tries: u32,
+) -> Result<ShownPlan, Status>
+    requires well_formed { IsWellFormed program.now.script }
+    requires ready { IsReady program.now.script }
+    requires graph { IsGraphOk (graph_of program.now.script) }
+    requires tries { 0 < tries }
+    ensures plan { IfOk result (λ it.
+        IsPlanFor (R.files source.old) program.now.script from.now it.plan) }
+    ensures of_script { IfOk result (λ it. IsPlanOf program.now.script it.plan) }
+    ensures text { IfOk result (λ it. it.text.items ≡ text_shown program.now.script it.plan) }
+    ensures stop { IfErr result (IsPlanStop tries (seen R.files R.faults source.old)
+        (seen R.files R.faults source.new) program.now.script from.now) }
+    ensures asked { Asks tries (plan_file from.now) (seen R.asked R.faults source.old)
+        (seen R.asked R.faults source.new) }
+    ensures files { R.files source.new ≡ R.files source.old }
+    ensures later { R.faults source.old ≤ R.faults source.new }
+{
+    match from {
+        Some(name) => plan_in_file(alloc, program, name.as_str(), source, tries),
+        None => Ok(plan_shown(alloc, program)?),
+    }
+}
+
+// The plan of a file, and its text.
+fn plan_in_file<R: Source>(
+    alloc: Global,
+    program: &Program,
+    name: &str,
+    source: &mut R,
+    tries: u32,
+) -> Result<ShownPlan, Status>
+    requires well_formed { IsWellFormed program.now.script }
+    requires ready { IsReady program.now.script }
+    requires graph { IsGraphOk (graph_of program.now.script) }
+    requires tries { 0 < tries }
+    ensures plan { IfOk result (λ it.
+        IsPlanFor (R.files source.old) program.now.script (Some name.now) it.plan) }
+    ensures of_script { IfOk result (λ it. IsPlanOf program.now.script it.plan) }
+    ensures text { IfOk result (λ it. it.text.items ≡ text_shown program.now.script it.plan) }
+    ensures stop { IfErr result (IsFileCause tries (seen R.files R.faults source.old)
+        (seen R.files R.faults source.new) program.now.script name.now) }
+    ensures asked { Asks tries (name.now ∷ []) (seen R.asked R.faults source.old)
+        (seen R.asked R.faults source.new) }
+    ensures files { R.files source.new ≡ R.files source.old }
+    ensures later { R.faults source.old ≤ R.faults source.new }
+{
+    let bytes = plan_bytes(alloc, name, source, tries)?;
+    taken_shown(alloc, program, bytes.as_slice())
+}
