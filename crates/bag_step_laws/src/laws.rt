@@ -49,8 +49,8 @@ pub fn top_law()
         traps_of_each (combined (by.Top n)) (grouped (map under_zero bag)) ≡ [] }
 {}
 
-/// All members of a bag, each under one key, are one group: combined, they are one pair, or one trap
-/// that has the key. Where there are none there is no group.
+/// All members of a bag, each under one key, are one group: combined, they are one pair, or one
+/// trap that has the key. Where there are none there is no group.
 pub fn whole_law()
     ensures pair { (f : List Value → Result Value Kind) (v : Value) (bag : List Value) →
         combined_each f (grouped (map under_zero (v ∷ bag)))

@@ -23,21 +23,21 @@ use Rattle.combine_table.specs.declared.comb.Comb.{Comb}
 use Rattle.written_types.specs.Answer.{Checked, unless, or_fault}
 use Rattle.written_types.specs.Named.{Named, fresh}
 use Rattle.written_types.specs.Written.{whole_type}
-use Rattle.body_check.specs.Bodies.{body_of}
-use Rattle.script_program.specs.Limits.{most_collections, most_files}
-use Rattle.script_program.specs.declared.made.Made.{Made}
-use Rattle.script_program.specs.declared.made.Made.TheVariants as made
-use Rattle.script_program.specs.Script.{Callee, Making, Node, Operand, Script, State, nothing}
-use Rattle.script_program.specs.Script.{script_from, with_hidden, with_node, with_nodes}
-use Rattle.script_program.specs.Script.{with_statement}
-use Rattle.operation_check.specs.Arguments.{are_plain, sole, takes_both, takes_members, takes_objects}
-use Rattle.operation_check.specs.Operations as spec
-use Rattle.script_check.specs.Repeats.{Repeat, copied, nodes_left, renumbered, turn_gives}
-use Rattle.script_check.specs.Repeats.{turn_nodes, turn_to, unrolled}
-use Rattle.script_check.specs.Rules as rules_
-use Rattle.script_check.proofs.CheckedLemmas.{both, ok-same}
-use Rattle.script_check.proofs.EntryLemmas.{nodes-hidden}
-use Rattle.script_check.proofs.FoundLemmas.{before, found, own}
+use Rattle.direct_meaning.specs.of_body_check.Bodies.{body_of}
+use Rattle.graph_build.specs.of_script_program.Limits.{most_collections, most_files}
+use Rattle.graph_build.specs.of_script_program.declared.made.Made.{Made}
+use Rattle.graph_build.specs.of_script_program.declared.made.Made.TheVariants as made
+use Rattle.graph_build.specs.of_script_program.Script.{Callee, Making, Node, Operand, Script, State, nothing}
+use Rattle.graph_build.specs.of_script_program.Script.{script_from, with_hidden, with_node, with_nodes}
+use Rattle.graph_build.specs.of_script_program.Script.{with_statement}
+use Rattle.direct_meaning.specs.of_operation_check.Arguments.{are_plain, sole, takes_both, takes_members, takes_objects}
+use Rattle.direct_meaning.specs.of_operation_check.Operations as spec
+use Rattle.direct_meaning.specs.of_script_check.Repeats.{Repeat, copied, nodes_left, renumbered, turn_gives}
+use Rattle.direct_meaning.specs.of_script_check.Repeats.{turn_nodes, turn_to, unrolled}
+use Rattle.direct_meaning.specs.of_script_check.Rules as rules_
+use Rattle.direct_meaning.proofs.of_script_check.CheckedLemmas.{both, ok-same}
+use Rattle.direct_meaning.proofs.of_script_check.EntryLemmas.{nodes-hidden}
+use Rattle.direct_meaning.proofs.of_script_check.FoundLemmas.{before, found, own}
 use Rattle.build_law.specs.Limits.{AreShort, HasShortFlattens, IsShort, IsShortForm, IsShortOperation}
 
 -- no operation puts more together than are written

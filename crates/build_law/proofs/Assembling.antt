@@ -7,11 +7,11 @@ use Rattle.flume_value.specs.declared.value.Value.{Value}
 use Rattle.flume_collection.specs.Collection.{Collection}
 use Rattle.exec_graph.specs.Meaning.{Holds, Meets, nothing, or_nothing, through}
 use Rattle.exec_graph.specs.declared.graph.Place.{Place}
-use Rattle.script_program.specs.Script.{Node, Script}
-use Rattle.script_program.specs.Needed.{is_needed, operands}
-use Rattle.script_program.specs.declared.made.Made.{Made}
-use Rattle.script_program.specs.declared.made.Made.TheVariants as made
-use Rattle.script_laws.specs.WellFormed.{IsWellFormed}
+use Rattle.graph_build.specs.of_script_program.Script.{Node, Script}
+use Rattle.graph_build.specs.of_script_program.Needed.{is_needed, operands}
+use Rattle.graph_build.specs.of_script_program.declared.made.Made.{Made}
+use Rattle.graph_build.specs.of_script_program.declared.made.Made.TheVariants as made
+use Rattle.direct_meaning.specs.of_script_laws.WellFormed.{IsWellFormed}
 use Rattle.written_types.specs.Named.{Named}
 use Rattle.direct_meaning.specs.Direct.{made_at, meaning}
 use Rattle.graph_build.specs.Built.{built, built_from, is_built, is_built_as}

@@ -9,10 +9,10 @@ use Rattle.exec_graph.specs.Meaning.{or_nothing}
 use Rattle.exec_graph.specs.World.{World}
 use Rattle.exec_graph.specs.declared.graph.Place.{Place}
 use Rattle.written_types.specs.Named.{Named}
-use Rattle.script_program.specs.Needed.{is_needed, operands}
-use Rattle.script_program.specs.declared.made.Made.{Made}
-use Rattle.script_program.specs.declared.made.Made.TheVariants as made
-use Rattle.script_program.specs.Script.{Node, Script}
+use Rattle.graph_build.specs.of_script_program.Needed.{is_needed, operands}
+use Rattle.graph_build.specs.of_script_program.declared.made.Made.{Made}
+use Rattle.graph_build.specs.of_script_program.declared.made.Made.TheVariants as made
+use Rattle.graph_build.specs.of_script_program.Script.{Node, Script}
 use Rattle.direct_meaning.specs.Direct.{collections, inputs_behind, made_as, made_at}
 use Rattle.graph_build.specs.Nodes.{inputs_of}
 use Rattle.graph_build.specs.Wanted.{wanted_from}

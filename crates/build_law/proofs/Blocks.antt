@@ -9,8 +9,8 @@ use Rattle.exec_graph.specs.declared.graph.Entry.{Entry}
 use Rattle.exec_graph.specs.declared.graph.Place.{Place}
 use Rattle.graph_build.specs.Graphs.{behind, giving_from, next_source, nodes_at, nodes_from}
 use Rattle.graph_build.specs.Nodes.{before_last, made_nodes}
-use Rattle.script_program.specs.declared.made.Made.{Made}
-use Rattle.script_program.specs.Script.{Script}
+use Rattle.graph_build.specs.of_script_program.declared.made.Made.{Made}
+use Rattle.graph_build.specs.of_script_program.Script.{Script}
 use Rattle.build_law.proofs.Reading.{any_behind, any_front}
 use Rattle.build_law.proofs.Values.{behind_list, regrouped}
 

@@ -8,10 +8,10 @@ use Rattle.std.specs.List.{AllByRecursion, Contains, list_any}
 use Rattle.std.proofs.lemmas.Option.{slice_get-map}
 use Rattle.flume_collection.proofs.Members.{at_head, at_tail}
 use Rattle.written_types.specs.Named.{Named}
-use Rattle.script_program.specs.Needed.{is_needed, made_of}
-use Rattle.script_program.specs.declared.made.Made.{Made}
-use Rattle.script_program.specs.declared.made.Made.TheVariants as made
-use Rattle.script_program.specs.Script.{Node, Script}
+use Rattle.graph_build.specs.of_script_program.Needed.{is_needed, made_of}
+use Rattle.graph_build.specs.of_script_program.declared.made.Made.{Made}
+use Rattle.graph_build.specs.of_script_program.declared.made.Made.TheVariants as made
+use Rattle.graph_build.specs.of_script_program.Script.{Node, Script}
 use Rattle.graph_build.specs.Built.{built, built_from, is_built, is_built_as, is_call_built}
 use Rattle.graph_build.specs.Calls.{names_needed, needed_from}
 use Rattle.graph_build.specs.Wanted.{needed_at, wanted, wanted_from}

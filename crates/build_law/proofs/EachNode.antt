@@ -12,9 +12,9 @@ use Rattle.exec_graph.specs.declared.step.Does.{Does}
 use Rattle.graph_build.specs.Built.{built}
 use Rattle.graph_build.specs.Graphs.{graph_of}
 use Rattle.graph_build.specs.Nodes.{barrier, call_in, made_nodes, one_step, read_input}
-use Rattle.script_program.specs.declared.made.Made.{Made}
-use Rattle.script_program.specs.declared.made.Made.TheVariants as made
-use Rattle.script_program.specs.Script.{Script}
+use Rattle.graph_build.specs.of_script_program.declared.made.Made.{Made}
+use Rattle.graph_build.specs.of_script_program.declared.made.Made.TheVariants as made
+use Rattle.graph_build.specs.of_script_program.Script.{Script}
 use Rattle.build_law.proofs.Blocks.{each_block}
 use Rattle.build_law.proofs.Placing.{gives, source, start}
 

@@ -20,9 +20,9 @@ use Rattle.combine_table.specs.declared.comb.Comb.TheVariants as by
 use Rattle.exec_graph.specs.declared.graph.Act.TheVariants.{Singleton}
 use Rattle.exec_graph.specs.declared.graph.Node.TheVariants.{Flatten}
 use Rattle.exec_graph.specs.declared.step.Does.TheVariants as does
-use Rattle.script_program.specs.declared.made.Made.{Made}
-use Rattle.script_program.specs.declared.made.Made.TheVariants as made
-use Rattle.script_program.specs.Script.{Script}
+use Rattle.graph_build.specs.of_script_program.declared.made.Made.{Made}
+use Rattle.graph_build.specs.of_script_program.declared.made.Made.TheVariants as made
+use Rattle.graph_build.specs.of_script_program.Script.{Script}
 use Rattle.build_law.proofs.Outputs.{buds, in_order}
 use Rattle.build_law.proofs.Reading.{any_behind, any_uses, or_left, or_right, same_self}
 

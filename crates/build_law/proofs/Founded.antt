@@ -11,11 +11,11 @@ use Rattle.graph_build.specs.Calls.{names_needed, needed_from, number_behind, ot
 use Rattle.graph_build.specs.Graphs.{nodes_of}
 use Rattle.graph_build.specs.Nodes.{before_last, call_branch, call_in, first_of, made_nodes}
 use Rattle.graph_build.specs.Wanted.{needed_at, wanted}
-use Rattle.script_program.specs.Needed.{operands}
-use Rattle.script_program.specs.declared.made.Made.{Made}
-use Rattle.script_program.specs.declared.made.Made.TheVariants as made
-use Rattle.script_program.specs.Script.{Script}
-use Rattle.script_laws.specs.WellFormed.{IsWellFormed}
+use Rattle.graph_build.specs.of_script_program.Needed.{operands}
+use Rattle.graph_build.specs.of_script_program.declared.made.Made.{Made}
+use Rattle.graph_build.specs.of_script_program.declared.made.Made.TheVariants as made
+use Rattle.graph_build.specs.of_script_program.Script.{Script}
+use Rattle.direct_meaning.specs.of_script_laws.WellFormed.{IsWellFormed}
 use Rattle.build_law.proofs.Blocks.{block_each, each_block, last_number, lower_start}
 use Rattle.build_law.proofs.Calling.{built_call, each_contained, how_needed, needed_as, other_built, split_at}
 use Rattle.build_law.proofs.Naming.{IsNamed, call_built, named, reads_early}

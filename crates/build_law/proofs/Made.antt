@@ -12,14 +12,14 @@ use Rattle.exec_graph.specs.Meaning.{through}
 use Rattle.exec_graph.specs.Objects.{operated, side_input}
 use Rattle.exec_graph.specs.World.{World}
 use Rattle.exec_graph.specs.declared.step.Does.TheVariants as does
-use Rattle.script_program.specs.declared.made.Made.{Made}
-use Rattle.script_program.specs.declared.made.Made.TheVariants as made
-use Rattle.script_program.specs.Script.{Script}
-use Rattle.script_laws.specs.WellFormed.{function_at}
+use Rattle.graph_build.specs.of_script_program.declared.made.Made.{Made}
+use Rattle.graph_build.specs.of_script_program.declared.made.Made.TheVariants as made
+use Rattle.graph_build.specs.of_script_program.Script.{Script}
+use Rattle.direct_meaning.specs.of_script_laws.WellFormed.{function_at}
 use Rattle.direct_meaning.specs.Calls.{answer_of, calls_on}
 use Rattle.direct_meaning.specs.Direct.{all_made, called_by, combined_by, counted_by, done_at, done_beside_at, done_by, joined_at, joined_by, made_as, made_at, operated_at, rows_as, top_by}
 use Rattle.direct_meaning.specs.Objects.{combined_whole, done_beside, operated_by}
-use Rattle.script_program.specs.Needed.{operands}
+use Rattle.graph_build.specs.of_script_program.Needed.{operands}
 use Rattle.build_law.specs.Worlds.{answered_by, or_silent, world_of}
 use Rattle.build_law.proofs.Meeting.{IsMadeBy, IsSettled}
 use Rattle.build_law.proofs.Operating.{beside_is, operate_is, passed_is}

@@ -1,8 +1,8 @@
 -- Two kinds of collections: outputs of calls, and all others.
 use Rattle.std.proofs.Common.{◌≡◌, ℕ, Option, Some, None, refl}
 use Rattle.graph_build.specs.Calls.{emitted_as}
-use Rattle.script_program.specs.declared.made.Made.{Made}
-use Rattle.script_program.specs.declared.made.Made.TheVariants as made
+use Rattle.graph_build.specs.of_script_program.declared.made.Made.{Made}
+use Rattle.graph_build.specs.of_script_program.declared.made.Made.TheVariants as made
 
 -- it is no output of a call
 abbrev pub IsOther : Made → Type 0

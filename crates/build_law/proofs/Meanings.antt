@@ -13,13 +13,13 @@ use Rattle.exec_graph.specs.declared.graph.Entry.{Entry}
 use Rattle.exec_graph.specs.declared.graph.Place.{Place}
 use Rattle.exec_graph.proofs.Solving.{Agrees-self, collection_meets}
 use Rattle.exec_graph.proofs.Soundness.{IsSound-ok}
-use Rattle.script_program.specs.Needed.{made_of, operands, outputs_read}
-use Rattle.script_program.specs.declared.made.Made.{Made}
-use Rattle.script_program.specs.declared.made.Made.TheVariants as made
-use Rattle.script_program.specs.declared.made.Output.{Output}
-use Rattle.script_program.specs.Script.{Script}
-use Rattle.script_laws.specs.WellFormed.{HasColumns, IsWellFormed}
-use Rattle.script_laws.proofs.NeededLemmas.{needed_law, read_at}
+use Rattle.graph_build.specs.of_script_program.Needed.{made_of, operands, outputs_read}
+use Rattle.graph_build.specs.of_script_program.declared.made.Made.{Made}
+use Rattle.graph_build.specs.of_script_program.declared.made.Made.TheVariants as made
+use Rattle.graph_build.specs.of_script_program.declared.made.Output.{Output}
+use Rattle.graph_build.specs.of_script_program.Script.{Script}
+use Rattle.direct_meaning.specs.of_script_laws.WellFormed.{HasColumns, IsWellFormed}
+use Rattle.direct_meaning.proofs.of_script_laws.NeededLemmas.{needed_law, read_at}
 use Rattle.direct_meaning.specs.Direct.{made_at, meaning, traps_behind}
 use Rattle.graph_build.specs.Built.{built}
 use Rattle.graph_build.specs.Graphs.{graph_of, nodes_of}

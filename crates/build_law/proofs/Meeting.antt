@@ -18,10 +18,10 @@ use Rattle.graph_build.specs.Calls.{names_needed, needed_from, other_names}
 use Rattle.graph_build.specs.Graphs.{next_source}
 use Rattle.graph_build.specs.Nodes.{call_branch, first_of, made_nodes}
 use Rattle.graph_build.specs.Wanted.{needed_at}
-use Rattle.script_program.specs.Needed.{operands}
-use Rattle.script_program.specs.declared.made.Made.{Made}
-use Rattle.script_program.specs.declared.made.Made.TheVariants as made
-use Rattle.script_program.specs.Script.{Script}
+use Rattle.graph_build.specs.of_script_program.Needed.{operands}
+use Rattle.graph_build.specs.of_script_program.declared.made.Made.{Made}
+use Rattle.graph_build.specs.of_script_program.declared.made.Made.TheVariants as made
+use Rattle.graph_build.specs.of_script_program.Script.{Script}
 use Rattle.direct_meaning.specs.Direct.{combined_by, counted_by, joined_by, top_by}
 use Rattle.direct_meaning.specs.Objects.{combined_whole}
 use Rattle.build_law.proofs.Blocks.{source_at}

@@ -7,12 +7,12 @@ use Rattle.std.specs.Option.{option_map}
 use Rattle.std.specs.List.{Contains, list_any}
 use Rattle.flume_types.specs.declared.types.Ty.{Ty}
 use Rattle.written_types.specs.Named.{Named}
-use Rattle.script_program.specs.Needed.{is_needed, made_of, operands}
-use Rattle.script_program.specs.declared.made.Made.{Made}
-use Rattle.script_program.specs.declared.made.Made.TheVariants as made
-use Rattle.script_program.specs.Script.{Function, Node, Script}
-use Rattle.script_laws.specs.WellFormed.{AllFit, Fits, IsWellFormed, function_at, members_at}
-use Rattle.script_laws.proofs.NeededLemmas.{needed_law, operand_before}
+use Rattle.graph_build.specs.of_script_program.Needed.{is_needed, made_of, operands}
+use Rattle.graph_build.specs.of_script_program.declared.made.Made.{Made}
+use Rattle.graph_build.specs.of_script_program.declared.made.Made.TheVariants as made
+use Rattle.graph_build.specs.of_script_program.Script.{Function, Node, Script}
+use Rattle.direct_meaning.specs.of_script_laws.WellFormed.{AllFit, Fits, IsWellFormed, function_at, members_at}
+use Rattle.direct_meaning.proofs.of_script_laws.NeededLemmas.{needed_law, operand_before}
 use Rattle.direct_meaning.proofs.PlaceLemmas.{within}
 use Rattle.graph_build.specs.Built.{built}
 use Rattle.graph_build.specs.Calls.{beside_first, names_needed, needed_from, other_names}

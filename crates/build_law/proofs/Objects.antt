@@ -14,12 +14,12 @@ use Rattle.graph_build.specs.Built.{built}
 use Rattle.graph_build.specs.Graphs.{graph_of, nodes_of}
 use Rattle.graph_build.specs.Nodes.{made_nodes}
 use Rattle.graph_build.specs.Wanted.{wanted}
-use Rattle.script_laws.specs.WellFormed.{AllReadKinds, IsArgument, IsWellFormed, ReadsKinds, members_at, object_at}
-use Rattle.script_program.specs.Kinds.{gives_object}
-use Rattle.script_program.specs.Needed.{operands}
-use Rattle.script_program.specs.declared.made.Made.{Made}
-use Rattle.script_program.specs.declared.made.Made.TheVariants as made
-use Rattle.script_program.specs.Script.{Node, Script}
+use Rattle.direct_meaning.specs.of_script_laws.WellFormed.{AllReadKinds, IsArgument, IsWellFormed, ReadsKinds, members_at, object_at}
+use Rattle.graph_build.specs.of_script_program.Kinds.{gives_object}
+use Rattle.graph_build.specs.of_script_program.Needed.{operands}
+use Rattle.graph_build.specs.of_script_program.declared.made.Made.{Made}
+use Rattle.graph_build.specs.of_script_program.declared.made.Made.TheVariants as made
+use Rattle.graph_build.specs.of_script_program.Script.{Node, Script}
 use Rattle.written_types.specs.Named.{Named}
 use Rattle.build_law.proofs.Blocks.{block_each, each_block}
 use Rattle.build_law.proofs.Calling.{built_as, needed_as, other_built}

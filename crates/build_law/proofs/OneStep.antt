@@ -10,10 +10,10 @@ use Rattle.graph_build.specs.Calls.{names_needed, needed_from, next_if, other_na
 use Rattle.graph_build.specs.Graphs.{graph_of}
 use Rattle.graph_build.specs.Nodes.{call_branch, call_step, one_step}
 use Rattle.graph_build.specs.Wanted.{needed_at}
-use Rattle.script_program.specs.declared.made.Made.TheVariants as made
-use Rattle.script_program.specs.Script.{Function, Script}
+use Rattle.graph_build.specs.of_script_program.declared.made.Made.TheVariants as made
+use Rattle.graph_build.specs.of_script_program.Script.{Function, Script}
 use Rattle.written_types.specs.Named.{Named}
-use Rattle.script_laws.specs.WellFormed.{HasOutputs, IsWellFormed, function_at}
+use Rattle.direct_meaning.specs.of_script_laws.WellFormed.{HasOutputs, IsWellFormed, function_at}
 use Rattle.build_law.proofs.Calling.{built_as, length_needed}
 use Rattle.build_law.proofs.Naming.{as_many, fits_at}
 use Rattle.build_law.proofs.EachNode.{each_node}

@@ -20,9 +20,9 @@ use Rattle.exec_graph.specs.declared.step.Does.TheVariants as does
 use Rattle.graph_build.specs.Calls.{names_needed, needed_from, other_names}
 use Rattle.graph_build.specs.Nodes.{before_last, call_branch, first_of, made_nodes}
 use Rattle.graph_build.specs.Wanted.{needed_at}
-use Rattle.script_program.specs.declared.made.Made.{Made}
-use Rattle.script_program.specs.declared.made.Made.TheVariants as made
-use Rattle.script_program.specs.Script.{Script}
+use Rattle.graph_build.specs.of_script_program.declared.made.Made.{Made}
+use Rattle.graph_build.specs.of_script_program.declared.made.Made.TheVariants as made
+use Rattle.graph_build.specs.of_script_program.Script.{Script}
 use Rattle.build_law.proofs.Calling.{length_needed}
 use Rattle.build_law.proofs.MadeKinds.{IsOther}
 use Rattle.build_law.proofs.Meeting.{IsSettled}

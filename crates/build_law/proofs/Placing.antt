@@ -7,10 +7,10 @@ use Rattle.graph_build.specs.Calls.{names_needed, needed_from, number_behind, ot
 use Rattle.graph_build.specs.Graphs.{giving, place_as, place_in, place_made, places, places_from}
 use Rattle.graph_build.specs.Nodes.{before_last, first_of}
 use Rattle.graph_build.specs.Wanted.{wanted}
-use Rattle.script_program.specs.declared.made.Made.{Made}
-use Rattle.script_program.specs.declared.made.Made.TheVariants as made
-use Rattle.script_program.specs.Script.{Script}
-use Rattle.script_laws.specs.WellFormed.{IsWellFormed}
+use Rattle.graph_build.specs.of_script_program.declared.made.Made.{Made}
+use Rattle.graph_build.specs.of_script_program.declared.made.Made.TheVariants as made
+use Rattle.graph_build.specs.of_script_program.Script.{Script}
+use Rattle.direct_meaning.specs.of_script_laws.WellFormed.{IsWellFormed}
 use Rattle.build_law.proofs.Blocks.{last_number, rows_found, rows_from, source_at, start_at}
 use Rattle.build_law.proofs.Calling.{how_needed, length_needed, needed_as, other_built, split_at}
 use Rattle.build_law.proofs.Naming.{IsNamed, call_built, named}

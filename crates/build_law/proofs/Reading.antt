@@ -10,10 +10,10 @@ use Rattle.exec_graph.specs.declared.graph.Entry.{Entry}
 use Rattle.exec_graph.specs.declared.graph.Place.{Place}
 use Rattle.graph_build.specs.Nodes.{made_nodes, step}
 use Rattle.exec_graph.specs.declared.step.Does.TheVariants as does
-use Rattle.script_program.specs.Needed.{operands}
-use Rattle.script_program.specs.declared.made.Made.{Made}
-use Rattle.script_program.specs.declared.made.Made.TheVariants as made
-use Rattle.script_program.specs.Script.{Script}
+use Rattle.graph_build.specs.of_script_program.Needed.{operands}
+use Rattle.graph_build.specs.of_script_program.declared.made.Made.{Made}
+use Rattle.graph_build.specs.of_script_program.declared.made.Made.TheVariants as made
+use Rattle.graph_build.specs.of_script_program.Script.{Script}
 
 -- ---- tests of lists
 

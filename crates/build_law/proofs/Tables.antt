@@ -5,10 +5,10 @@ use Rattle.std.specs.Prelude.{option_map, option_and_then, if◌then◌else◌}
 use Rattle.flume_value.specs.declared.value.Value.{Value}
 use Rattle.flume_collection.specs.Collection.{Collection}
 use Rattle.written_types.specs.Named.{Named}
-use Rattle.script_program.specs.declared.made.Made.{Made}
-use Rattle.script_program.specs.Script.{Node, Script}
+use Rattle.graph_build.specs.of_script_program.declared.made.Made.{Made}
+use Rattle.graph_build.specs.of_script_program.Script.{Node, Script}
 use Rattle.direct_meaning.specs.Direct.{collections, inputs_behind, made_as, made_at}
-use Rattle.script_program.specs.Needed.{is_needed}
+use Rattle.graph_build.specs.of_script_program.Needed.{is_needed}
 use Rattle.graph_build.specs.Wanted.{wanted_from}
 
 -- ---- options

@@ -15,13 +15,13 @@ use Rattle.exec_graph.specs.declared.step.Does.TheVariants as does
 use Rattle.graph_build.specs.Calls.{names_needed, needed_from, other_names}
 use Rattle.graph_build.specs.Nodes.{before_last, call_branch, first_of, made_nodes}
 use Rattle.graph_build.specs.Wanted.{needed_at}
-use Rattle.script_program.specs.Needed.{operands}
+use Rattle.graph_build.specs.of_script_program.Needed.{operands}
 use Rattle.direct_meaning.proofs.TypeLemmas.{taken}
-use Rattle.script_program.specs.declared.made.Made.{Made}
-use Rattle.script_program.specs.declared.made.Made.TheVariants as made
-use Rattle.script_program.specs.Script.{Function, Node, Script}
+use Rattle.graph_build.specs.of_script_program.declared.made.Made.{Made}
+use Rattle.graph_build.specs.of_script_program.declared.made.Made.TheVariants as made
+use Rattle.graph_build.specs.of_script_program.Script.{Function, Node, Script}
 use Rattle.written_types.specs.Named.{Named}
-use Rattle.script_laws.specs.WellFormed.{Fits, IsCombined, IsCounted, IsDone, IsGrouped, IsJoined, IsTop, function_at, members_at}
+use Rattle.direct_meaning.specs.of_script_laws.WellFormed.{Fits, IsCombined, IsCounted, IsDone, IsGrouped, IsJoined, IsTop, function_at, members_at}
 use Rattle.build_law.proofs.Outputs.{EachName, buds, kept}
 use Rattle.build_law.proofs.TypedObjects.{beside_typed, operate_typed, types_read, whole_typed}
 

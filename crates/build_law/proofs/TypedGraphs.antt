@@ -15,12 +15,12 @@ use Rattle.graph_build.specs.Calls.{names_needed, other_names}
 use Rattle.graph_build.specs.Graphs.{graph_of, next_source, nodes_of}
 use Rattle.graph_build.specs.Nodes.{before_last, inputs_of as sources_of, made_nodes}
 use Rattle.graph_build.specs.Wanted.{needed_at, wanted, wanted_from}
-use Rattle.script_program.specs.Needed.{is_needed, made_of, numbered, operands}
-use Rattle.script_program.specs.declared.made.Made.{Made}
-use Rattle.script_program.specs.declared.made.Made.TheVariants as made
-use Rattle.script_program.specs.Script.{Function, Node, Script}
+use Rattle.graph_build.specs.of_script_program.Needed.{is_needed, made_of, numbered, operands}
+use Rattle.graph_build.specs.of_script_program.declared.made.Made.{Made}
+use Rattle.graph_build.specs.of_script_program.declared.made.Made.TheVariants as made
+use Rattle.graph_build.specs.of_script_program.Script.{Function, Node, Script}
 use Rattle.written_types.specs.Named.{Named}
-use Rattle.script_laws.specs.WellFormed.{AllFit, Fits, IsWellFormed, function_at, members_at}
+use Rattle.direct_meaning.specs.of_script_laws.WellFormed.{AllFit, Fits, IsWellFormed, function_at, members_at}
 use Rattle.direct_meaning.specs.Inputs.{Wanted, inputs_of, wanted_by}
 use Rattle.direct_meaning.proofs.PlaceLemmas.{within}
 use Rattle.build_law.specs.Signatures.{given_by, input_type, signatures_of, taken_by}

@@ -10,8 +10,8 @@ use Rattle.exec_graph.specs.Meaning.{nothing, through}
 use Rattle.exec_graph.specs.World.{World}
 use Rattle.exec_graph.specs.declared.step.Does.TheVariants as does
 use Rattle.graph_build.specs.Nodes.{before_last}
-use Rattle.script_program.specs.declared.made.Made.{Made}
-use Rattle.script_program.specs.declared.made.Made.TheVariants as made
+use Rattle.graph_build.specs.of_script_program.declared.made.Made.{Made}
+use Rattle.graph_build.specs.of_script_program.declared.made.Made.TheVariants as made
 use Rattle.build_law.proofs.Passing.{only_label}
 
 -- ---- derived operations

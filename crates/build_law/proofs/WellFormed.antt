@@ -11,13 +11,13 @@ use Rattle.exec_graph.specs.Wellformed.{IsFounded, IsGraphOk, IsNodeOk, most_nod
 use Rattle.exec_graph.specs.declared.graph.Entry.{Entry}
 use Rattle.exec_graph.specs.declared.graph.Place.{Place}
 use Rattle.written_types.specs.Named.{Named}
-use Rattle.script_program.specs.Needed.{LeadsToOutput, is_needed, made_of, operands, outputs_read}
-use Rattle.script_program.specs.declared.made.Made.{Made}
-use Rattle.script_program.specs.declared.made.Made.TheVariants as made
-use Rattle.script_program.specs.declared.made.Output.{Output}
-use Rattle.script_program.specs.Script.{Node, Script}
-use Rattle.script_laws.specs.WellFormed.{AllFit, Fits, HasColumns, IsWellFormed}
-use Rattle.script_laws.proofs.NeededLemmas.{needed_law, read_at}
+use Rattle.graph_build.specs.of_script_program.Needed.{LeadsToOutput, is_needed, made_of, operands, outputs_read}
+use Rattle.graph_build.specs.of_script_program.declared.made.Made.{Made}
+use Rattle.graph_build.specs.of_script_program.declared.made.Made.TheVariants as made
+use Rattle.graph_build.specs.of_script_program.declared.made.Output.{Output}
+use Rattle.graph_build.specs.of_script_program.Script.{Node, Script}
+use Rattle.direct_meaning.specs.of_script_laws.WellFormed.{AllFit, Fits, HasColumns, IsWellFormed}
+use Rattle.direct_meaning.proofs.of_script_laws.NeededLemmas.{needed_law, read_at}
 use Rattle.graph_build.specs.Built.{built}
 use Rattle.graph_build.specs.Calls.{names_needed, needed_from, number_behind, other_names}
 use Rattle.graph_build.specs.Graphs.{graph_of, nodes_of}

@@ -4,10 +4,10 @@ use Rattle.flume_collection.specs.Collection.{Collection}
 use Rattle.exec_graph.specs.Meaning.{all_traps, collection, own_bag}
 use Rattle.exec_graph.specs.World.{World}
 use Rattle.exec_graph.specs.declared.graph.Graph.{Graph}
-use Rattle.script_program.specs.Needed.{made_of}
-use Rattle.script_program.specs.declared.made.Made.{Made}
-use Rattle.script_program.specs.declared.made.Made.TheVariants as made
-use Rattle.script_program.specs.Script.{Script}
+use Rattle.graph_build.specs.of_script_program.Needed.{made_of}
+use Rattle.graph_build.specs.of_script_program.declared.made.Made.{Made}
+use Rattle.graph_build.specs.of_script_program.declared.made.Made.TheVariants as made
+use Rattle.graph_build.specs.of_script_program.Script.{Script}
 use Rattle.direct_meaning.specs.Direct.{made_at, traps_of}
 
 -- all but inputs, and collections together, are made by calls, groups, combinations or barriers of

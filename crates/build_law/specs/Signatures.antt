@@ -3,8 +3,8 @@ use Rattle.std.specs.Prelude.{List, [], Option, Some, None, slice_get}
 use Rattle.flume_types.specs.declared.types.Ty.{Ty}
 use Rattle.flume_types.specs.declared.types.Ty.TheVariants as type
 use Rattle.exec_graph.specs.Typing.{Signatures}
-use Rattle.script_program.specs.Script.{Function, Script}
-use Rattle.script_laws.specs.WellFormed.{function_at}
+use Rattle.graph_build.specs.of_script_program.Script.{Function, Script}
+use Rattle.direct_meaning.specs.of_script_laws.WellFormed.{function_at}
 use Rattle.direct_meaning.specs.Inputs.{Wanted, inputs_of}
 
 -- what is not there has the type int, and gives nothing

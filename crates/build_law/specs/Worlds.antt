@@ -4,8 +4,8 @@ use Rattle.flume_value.specs.declared.value.Value.{Value}
 use Rattle.flume_collection.specs.Calls.{Called}
 use Rattle.direct_meaning.specs.Calls.{answer_of}
 use Rattle.exec_graph.specs.World.{World}
-use Rattle.script_program.specs.Script.{Function, Script}
-use Rattle.script_laws.specs.WellFormed.{function_at}
+use Rattle.graph_build.specs.of_script_program.Script.{Function, Script}
+use Rattle.direct_meaning.specs.of_script_laws.WellFormed.{function_at}
 
 -- an answer; a call that has none gives nothing
 abbrev pub or_silent : Option Called → Called

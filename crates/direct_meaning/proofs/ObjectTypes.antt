@@ -27,7 +27,7 @@ use Rattle.keyed_steps.specs.Types.{TakesType, gives_type}
 use Rattle.flume_collection.specs.Collection.{Collection, unless_trapped}
 use Rattle.flume_collection.specs.Traps.{trap_set}
 use Rattle.flume_collection.specs.declared.trap.Trap.{Trap}
-use Rattle.operation_check.specs.Operations.{combined_type}
+use Rattle.script_laws.specs.of_operation_check.Operations.{combined_type}
 use Rattle.script_laws.specs.WellFormed.{IsArgument, IsRecord}
 use Rattle.direct_meaning.proofs.TrapLemmas.{traps-append, traps-set}
 use Rattle.direct_meaning.proofs.TypeLemmas.{set_again, taken}
@@ -117,7 +117,9 @@ pairs_of_all comb type members all =
 ok_has : (type : Ty) (whole : Result Value Kind)
     → Each (Has (table_of ty.Int type)) (combined_pair zero_key whole) → (v : Value)
     → whole ≡ Ok v → Has type v
-ok_has type (Ok w) have v is = let same : w ≡ v = cc in subst (Has type) same (of_pair type w have.0)
+ok_has type (Ok w) have v is =
+    let same : w ≡ v = cc in
+    subst (Has type) same (of_pair type w have.0)
 ok_has type (Err why) have v is = cc
 
 whole_ok : (origin : ℕ) (whole : Result Value Kind) (v : Value)

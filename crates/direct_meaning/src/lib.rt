@@ -2,8 +2,8 @@
 //! and the traps behind it; and the evaluation of a program that comes to it, node by node.
 //!
 //! An object is a collection of one member, or of none exactly where it has a trap
-//! (specs/Objects.antt, `objects_law`); `combined_law`, `beside_law` and `operated_law` work out what
-//! is made of objects.
+//! (specs/Objects.antt, `objects_law`); `combined_law`, `beside_law` and `operated_law` work out
+//! what is made of objects.
 #![tactic(auto)]
 
 mod beside;
@@ -21,4 +21,6 @@ mod told;
 
 pub use evaluation::direct;
 pub use laws::{beside_law, combined_law, meaning_law, objects_law, operated_law};
+pub use script_laws;
+pub use script_laws::script_check;
 pub use told::Direct;

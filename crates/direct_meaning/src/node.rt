@@ -17,7 +17,7 @@ use crate::operate::operated;
 use crate::steps::{counted, grouped, joined, topped};
 use flume_collection::Trap;
 use flume_value::{Items, Pile, sorted};
-use script_check::{Made, Program};
+use script_laws::script_check::{Made, Program};
 use std::alloc::{AllocError, Global};
 use std::vec::IntoIter;
 

@@ -9,7 +9,7 @@ use Rattle.exec_graph.specs.declared.graph.Graph.{Graph}
 use Rattle.exec_graph.specs.declared.graph.Node.{Node}
 use Rattle.exec_graph.specs.declared.graph.Node.TheVariants.{Source, Flatten, Pdo, Gbk, Barrier}
 use Rattle.exec_graph.proofs.Soundness.{SameMeaning-kept}
-use Rattle.graph_laws.proofs.ReadPlaces.{same_self}
+use Rattle.sink_laws.proofs.of_graph_laws.ReadPlaces.{same_self}
 use Rattle.sink_laws.specs.Chain.{after_call, after_nest, forest_of, has_room, inputs_of, CanCall, CanNest}
 use Rattle.sink_laws.specs.Kept.{IsKept}
 use Rattle.sink_laws.specs.Merging.{spliced}

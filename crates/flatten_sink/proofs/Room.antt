@@ -15,7 +15,7 @@ use Rattle.exec_graph.specs.declared.graph.Graph.{Graph}
 use Rattle.exec_graph.proofs.Entries.{entry, all_found}
 use Rattle.exec_graph.proofs.Solving.{ranked_at}
 use Rattle.exec_graph.proofs.Soundness.{differ_ascends}
-use Rattle.graph_laws.specs.Joining.{set_node, without, reread, reread_entry}
+use Rattle.sink_laws.specs.of_graph_laws.Joining.{set_node, without, reread, reread_entry}
 use Rattle.sink_laws.specs.Chain.{inputs_of, forest_of, after_call, has_room, CanCall}
 use Rattle.sink_laws.specs.Merging.{dropped}
 use Rattle.sink_laws.specs.Sinking.{copies, copied, flattens, outputs_of, first_flatten, instead, rerouted, sunk, CanSink}

@@ -8,11 +8,11 @@ use Rattle.made_course.specs.Makes.{Makes}
 use Rattle.outside.proofs.AskLemmas.{asks_none}
 use Rattle.outside.specs.Asked.{Asks}
 use Rattle.outside.specs.Seen.{Seen}
-use Rattle.run_course.proofs.PromiseLemmas.{promises}
-use Rattle.run_course.specs.Answers.{IsRefused}
-use Rattle.run_course.specs.Lent.{lent_to}
-use Rattle.run_course.specs.Promises.{Promises as ScriptPromises}
-use Rattle.run_course.specs.World.{Keeps, World, asks}
+use Rattle.made_course.proofs.of_run_course.PromiseLemmas.{promises}
+use Rattle.made_course.specs.of_run_course.Answers.{IsRefused}
+use Rattle.made_course.specs.of_run_course.Lent.{lent_to}
+use Rattle.made_course.specs.of_run_course.Promises.{Promises as ScriptPromises}
+use Rattle.made_course.specs.of_run_course.World.{Keeps, World, asks}
 use Rattle.run_settings.specs.Settings.{standard}
 use Rattle.run_texts.specs.declared.status.Status.{Status}
 use Rattle.run_texts.specs.declared.status.Status.TheVariants.{WantOfMemory}

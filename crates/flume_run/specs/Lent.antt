@@ -2,7 +2,7 @@
 use Rattle.std.specs.Prelude.{ℕ, List}
 use Rattle.std.specs.Option.{option_map_or}
 use Rattle.command_words.specs.Words.{workload_for}
-use Rattle.run_course.specs.Lent.{lent_to}
+use Rattle.made_course.specs.of_run_course.Lent.{lent_to}
 use Rattle.run_settings.specs.Settings.{standard}
 
 -- how many hosts a call with these words lends: `make` as many as a run by the usual settings

@@ -24,7 +24,7 @@
 mod top;
 
 pub use flume_grammar::ScriptKind;
+pub use made_course::script_loading::{INPUT_LIMIT, PLAN_LIMIT, SCRIPT_LIMIT};
 pub use plan_faults::PlanKind;
 pub use run_texts::{Place, Status};
-pub use script_loading::{INPUT_LIMIT, PLAN_LIMIT, SCRIPT_LIMIT};
 pub use top::flume;

@@ -5,14 +5,14 @@ ghost use Rattle.flume_run.specs.Lent.{lends};
 ghost use Rattle.flume_run.specs.Promises.{Promises};
 ghost use Rattle.outside.specs.Says.{HasLine};
 ghost use Rattle.outside.specs.Seen.{seen, seen_shelf};
-ghost use Rattle.run_course.specs.World.{world};
+ghost use Rattle.made_course.specs.of_run_course.World.{world};
 ghost use Rattle.run_texts.specs.Lines.{line_of};
 ghost use Rattle.run_texts.specs.declared.status.Status.TheVariants.{WantOfMemory};
 
 use command_words::workload_for;
 use made_course::make;
+use made_course::run_course::run;
 use outside::{Host, Screen, Shelf, Source};
-use run_course::run;
 use run_texts::{Status, tell};
 use std::alloc::Global;
 use std::thread::Threads;

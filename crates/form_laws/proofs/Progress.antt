@@ -17,7 +17,7 @@ use Rattle.exec_graph.specs.declared.graph.Blocked.{Blocked}
 use Rattle.exec_graph.proofs.Entries.{all_found}
 use Rattle.exec_graph.proofs.Solving.{each_found, ranked_at}
 use Rattle.exec_graph.proofs.Bools.{or_false}
-use Rattle.graph_laws.proofs.ReadPlaces.{all_among}
+use Rattle.plan_rules.proofs.of_graph_laws.ReadPlaces.{all_among}
 use Rattle.plan_laws.specs.declared.operations.Operation.TheVariants.{Flat}
 use Rattle.plan_laws.specs.declared.operations.Key.{Key}
 use Rattle.plan_laws.specs.Operations.{channel_of, flat_inputs, inputs_of, pdo_channel, reading_reads, reads_of}

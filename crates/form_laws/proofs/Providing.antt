@@ -13,7 +13,7 @@ use Rattle.exec_graph.specs.declared.graph.Entry.{Entry}
 use Rattle.exec_graph.specs.declared.graph.Blocked.{Blocked}
 use Rattle.exec_graph.proofs.Solving.{each_found}
 use Rattle.exec_graph.proofs.Bools.{or_cases}
-use Rattle.exec_plan.specs.Channels.{outs_of}
+use Rattle.plan_rules.specs.of_exec_plan.Channels.{outs_of}
 use Rattle.plan_laws.specs.declared.operations.Key.{Key}
 use Rattle.plan_laws.specs.declared.operations.Key.TheVariants.{Mapper}
 use Rattle.plan_laws.specs.Operations.{IsIn, gives_of, group_gives, inputs_at, inputs_of, reduced, times}

@@ -16,10 +16,10 @@ use Rattle.exec_graph.specs.declared.graph.Blocked.{Blocked}
 use Rattle.exec_graph.proofs.Entries.{entry}
 use Rattle.exec_graph.proofs.Solving.{each_found}
 use Rattle.exec_graph.proofs.Bools.{or_left, or_right, or_cases, or_false}
-use Rattle.exec_plan.specs.Channels.{kept_out, outs_of}
+use Rattle.plan_rules.specs.of_exec_plan.Channels.{kept_out, outs_of}
 use Rattle.fusion_blocks.specs.Feeding.{flattens}
-use Rattle.graph_laws.proofs.ReadPlaces.{same_self}
-use Rattle.graph_laws.proofs.Reading.{those_has}
+use Rattle.plan_rules.proofs.of_graph_laws.ReadPlaces.{same_self}
+use Rattle.plan_rules.proofs.of_graph_laws.Reading.{those_has}
 use Rattle.plan_laws.proofs.Running.{place_same}
 use Rattle.plan_laws.specs.Operations.{IsIn, IsPdo, IsReducer, Reads}
 use Rattle.plan_roles.specs.Reading.{carries_on, goes_on, goes_past, one_of, only_reader, works_on}

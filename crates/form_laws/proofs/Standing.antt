@@ -14,8 +14,8 @@ use Rattle.exec_graph.specs.declared.graph.Node.TheVariants.{Source, Flatten, Pd
 use Rattle.exec_graph.specs.declared.graph.Entry.{Entry}
 use Rattle.exec_graph.specs.declared.graph.Blocked.{Blocked}
 use Rattle.exec_graph.proofs.Entries.{all_found}
-use Rattle.exec_plan.specs.Channels.{outs_of}
-use Rattle.graph_laws.proofs.ReadPlaces.{same_self}
+use Rattle.plan_rules.specs.of_exec_plan.Channels.{outs_of}
+use Rattle.plan_rules.proofs.of_graph_laws.ReadPlaces.{same_self}
 use Rattle.plan_laws.specs.declared.operations.Key.{Key}
 use Rattle.plan_laws.specs.declared.operations.Key.TheVariants.{Mapper, Whole}
 use Rattle.plan_laws.specs.Operations.{HasKey, IsFlat, IsGroupedOk, IsHonest, IsKeyOk, IsPdo, IsTaken, TakesInputs, has_key, inputs_at, inputs_of}

@@ -5,7 +5,7 @@ use Rattle.std.specs.List.{AllByRecursion as Each}
 use Rattle.flume_value.proofs.EachLemmas.{Each-append, Each-left, Each-right}
 use Rattle.exec_graph.specs.declared.graph.Place.{Place}
 use Rattle.exec_graph.specs.declared.graph.Entry.{Entry}
-use Rattle.graph_laws.proofs.Lexicographic.{Le, le_both, le_not, le_self, le_trans, less_le, not_less}
+use Rattle.plan_rules.proofs.of_graph_laws.Lexicographic.{Le, le_both, le_not, le_self, le_trans, less_le, not_less}
 use Rattle.plan_laws.specs.declared.operations.Operation.{Operation}
 use Rattle.plan_laws.specs.Operations.{gives_of}
 use Rattle.form_laws.specs.declared.ranked.Ranked.{Ranked}

@@ -5,7 +5,7 @@ ghost use Rattle.exec_graph.specs.declared.graph.Blocked.{Blocked};
 ghost use Rattle.exec_graph.specs.declared.graph.Entry.{Entry};
 ghost use Rattle.exec_graph.specs.declared.graph.Place.{Place};
 ghost use Rattle.exec_graph.specs.Readers.{among};
-ghost use Rattle.exec_plan.specs.declared.plan.Plan.{Plan};
+ghost use Rattle.plan_rules.specs.of_exec_plan.declared.plan.Plan.{Plan};
 ghost use Rattle.exec_graph.specs.Meaning.{IsSound};
 ghost use Rattle.plan_laws.specs.declared.operations.Operation.{Operation};
 ghost use Rattle.exec_graph.specs.Wellformed.{HaveObjects, IsBlockedOk, IsGraphOk};

@@ -2,28 +2,28 @@
 use Rattle.std.proofs.Common.{◌≡◌, ℕ, ◌+◌, ◌<◌, ◌≤◌, ◌^◌, ◌⊎◌, Bool, true, false, cond, List, [], ◌∷◌, map, length, Option, Some, None, zero, suc, refl, sym, ap, ◌∙◌, inl, inr, arith}
 use Rattle.std.specs.List.{AllByRecursion, flat_map}
 use Rattle.flume_value.proofs.EachLemmas.{Each-append, Each-both}
-use Rattle.exec_graph.specs.Forests.{Forest, Bare, Grow, after, after_out, numbered}
-use Rattle.exec_graph.specs.Meaning.{node_at}
-use Rattle.exec_graph.specs.Readers.{readers}
-use Rattle.exec_graph.specs.declared.graph.Input.{Input}
-use Rattle.exec_graph.specs.declared.graph.Act.{Act}
-use Rattle.exec_graph.specs.declared.graph.Place.{Place}
-use Rattle.exec_graph.specs.declared.graph.Node.{Node}
-use Rattle.exec_graph.specs.declared.graph.Node.TheVariants.{Source, Flatten, Pdo, Gbk, Barrier}
-use Rattle.exec_graph.specs.declared.graph.Entry.{Entry}
-use Rattle.exec_graph.specs.declared.graph.Graph.{Graph}
-use Rattle.exec_graph.specs.declared.graph.Blocked.{Blocked}
-use Rattle.exec_graph.specs.ObjectFree.{IsNodeFree, IsObjectFree}
-use Rattle.exec_graph.proofs.Entries.{all_found, all_map}
-use Rattle.graph_laws.specs.Joining.{reread}
-use Rattle.graph_laws.specs.Lifting.{lifted}
+use Rattle.sink_laws.specs.of_exec_graph.Forests.{Forest, Bare, Grow, after, after_out, numbered}
+use Rattle.sink_laws.specs.of_exec_graph.Meaning.{node_at}
+use Rattle.sink_laws.specs.of_exec_graph.Readers.{readers}
+use Rattle.sink_laws.specs.of_exec_graph.declared.graph.Input.{Input}
+use Rattle.sink_laws.specs.of_exec_graph.declared.graph.Act.{Act}
+use Rattle.sink_laws.specs.of_exec_graph.declared.graph.Place.{Place}
+use Rattle.sink_laws.specs.of_exec_graph.declared.graph.Node.{Node}
+use Rattle.sink_laws.specs.of_exec_graph.declared.graph.Node.TheVariants.{Source, Flatten, Pdo, Gbk, Barrier}
+use Rattle.sink_laws.specs.of_exec_graph.declared.graph.Entry.{Entry}
+use Rattle.sink_laws.specs.of_exec_graph.declared.graph.Graph.{Graph}
+use Rattle.sink_laws.specs.of_exec_graph.declared.graph.Blocked.{Blocked}
+use Rattle.sink_laws.specs.of_exec_graph.ObjectFree.{IsNodeFree, IsObjectFree}
+use Rattle.sink_laws.proofs.of_exec_graph.Entries.{all_found, all_map}
+use Rattle.sink_laws.specs.of_graph_laws.Joining.{reread}
+use Rattle.sink_laws.specs.of_graph_laws.Lifting.{lifted}
 use Rattle.sink_laws.specs.Chain.{IsSunk}
 use Rattle.pardo_fuse.specs.Fusing.{finished, forest_over, fused, fused_by_parents, hanging, hung, in_turn, joined_by, kept_nodes, kept_of, kids_on, leads, least_of, moved_to, step_in, with_numbers}
 use Rattle.pardo_fuse.specs.Renumbering.{at_number, in_order, renumbered_entry}
 use Rattle.pardo_fuse.proofs.Sorting.{order_all}
 use Rattle.pardo_fuse.proofs.Parting.{IsRow, row_of}
 use Rattle.pardo_fuse.specs.Readers.{Cut, cut_of}
-use Rattle.graph_laws.specs.Single.{HasSteps, IsOneStep, most_outputs, width}
+use Rattle.sink_laws.specs.of_graph_laws.Single.{HasSteps, IsOneStep, most_outputs, width}
 use Rattle.pardo_fuse.specs.Wellformed.{IsFusible}
 use Rattle.plan_rules.specs.Fitting.{HasFewOutputs, HasSourcesBelow, IsInBounds, IsNarrow, IsSourceBelow, SourcesAgree}
 use Rattle.graph_bounds.specs.Sources.{AreOfKinds, HasKinds, BringSuch, BringsSuch, OfSource}

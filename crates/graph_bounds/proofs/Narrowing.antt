@@ -1,9 +1,9 @@
 -- Sinking and lifting leave the steps as wide as they were.
 use Rattle.std.proofs.Common.{◌≤◌}
-use Rattle.exec_graph.specs.declared.graph.Graph.{Graph}
-use Rattle.graph_laws.specs.Lifting.{lift_of, lifted}
-use Rattle.graph_laws.proofs.SingleSteps.{AllSteps-remarked}
-use Rattle.graph_laws.specs.Single.{HasNarrowSteps, most_outputs, width}
+use Rattle.sink_laws.specs.of_exec_graph.declared.graph.Graph.{Graph}
+use Rattle.sink_laws.specs.of_graph_laws.Lifting.{lift_of, lifted}
+use Rattle.sink_laws.proofs.of_graph_laws.SingleSteps.{AllSteps-remarked}
+use Rattle.sink_laws.specs.of_graph_laws.Single.{HasNarrowSteps, most_outputs, width}
 use Rattle.sink_laws.specs.Kept.{KeepsSteps}
 use Rattle.sink_laws.proofs.TypesKept.{AllSteps-kept}
 

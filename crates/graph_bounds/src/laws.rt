@@ -1,14 +1,14 @@
 // The laws that the passes keep a graph within the bounds of plans.
 ghost use Rattle.std.specs.Prelude.{◌<◌, ◌^◌, ℕ, Bool};
-ghost use Rattle.exec_graph.specs.declared.graph.Blocked.{Blocked};
-ghost use Rattle.exec_graph.specs.declared.graph.Graph.{Graph};
-ghost use Rattle.graph_laws.specs.Lifting.{lifted};
+ghost use Rattle.sink_laws.specs.of_exec_graph.declared.graph.Blocked.{Blocked};
+ghost use Rattle.sink_laws.specs.of_exec_graph.declared.graph.Graph.{Graph};
+ghost use Rattle.sink_laws.specs.of_graph_laws.Lifting.{lifted};
 ghost use Rattle.pardo_fuse.specs.Fusing.{fused};
 ghost use Rattle.pardo_fuse.specs.Wellformed.{IsFusible};
-ghost use Rattle.graph_laws.specs.Single.{HasNarrowSteps};
+ghost use Rattle.sink_laws.specs.of_graph_laws.Single.{HasNarrowSteps};
 ghost use Rattle.plan_rules.specs.Fitting.{HasSourcesBelow, IsInBounds};
 ghost use Rattle.sink_laws.specs.Chain.{IsSunk};
-ghost use Rattle.exec_graph.specs.ObjectFree.{IsObjectFree};
+ghost use Rattle.sink_laws.specs.of_exec_graph.ObjectFree.{IsObjectFree};
 ghost use Rattle.graph_bounds.specs.Sources.{AreOfKinds, HasKinds};
 ghost use Rattle.sink_laws.specs.Kept.{KeepsSteps};
 

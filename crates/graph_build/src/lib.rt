@@ -24,3 +24,4 @@ mod wanted;
 
 pub use builder::build;
 pub use built_for::origins;
+pub use script_program;

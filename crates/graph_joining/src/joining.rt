@@ -62,8 +62,8 @@ fn kid_under_other(
     Ok(last)
 }
 
-/// The roots of the Pdo `reader` become the last kids of the output of `keeper` that it reads, under
-/// the number of `keeper`, whichever is less.
+/// The roots of the Pdo `reader` become the last kids of the output of `keeper` that it reads,
+/// under the number of `keeper`, whichever is less.
 pub fn kid_under(
     alloc: Global,
     graph: Graph,

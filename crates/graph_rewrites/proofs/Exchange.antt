@@ -12,30 +12,30 @@ use Rattle.flume_collection.proofs.Orders.{bags, one_bag, sets}
 use Rattle.flume_types.specs.declared.types.Ty.{Ty}
 use Rattle.flume_value.proofs.EachLemmas.{Each-weaker}
 use Rattle.flume_value.specs.Bag.{put}
-use Rattle.exec_graph.specs.Forests.{Forest, steps}
-use Rattle.exec_graph.specs.Meaning.{AllDiffer, HasOuts, Holds, IsSound, IsThere, KeepsMeaning, node_at, own, place, reads, traps}
-use Rattle.exec_graph.specs.Readers.{among, any_node, calls_on, collects, is_read, readers, uses}
-use Rattle.exec_graph.specs.Typing.{KeepsTypes, NodeTyped}
-use Rattle.exec_graph.specs.Wellformed.{HaveObjects, IsGraphOk, IsLiftedOk, IsNodeOk, comb_at, has_objects, is_object, is_object_at, most_nodes, total_size}
-use Rattle.exec_graph.specs.declared.graph.Place.{Place}
-use Rattle.exec_graph.specs.declared.graph.Node.{Node}
-use Rattle.exec_graph.specs.declared.graph.Node.TheVariants.{Source, Flatten, Pdo, Gbk, Barrier}
-use Rattle.exec_graph.specs.declared.graph.Entry.{Entry}
-use Rattle.exec_graph.specs.declared.graph.Graph.{Graph}
-use Rattle.exec_graph.proofs.Bools.{not_true, or_cases, or_left, or_right}
-use Rattle.exec_graph.proofs.Entries.{all_found, all_map, entry, flat_map_alike}
-use Rattle.exec_graph.proofs.Solving.{each_found, gives_found}
-use Rattle.graph_laws.specs.Joining.{reread, reread_entry, set_node}
-use Rattle.graph_laws.specs.Kids.{CanKid}
-use Rattle.graph_laws.proofs.Changes.{all_set, all_set_others}
-use Rattle.graph_laws.proofs.Joining.{map_reread, own-reread, traps-reread}
-use Rattle.graph_laws.proofs.Kids.{IsKept}
-use Rattle.graph_laws.proofs.Nearly.{comb_mapped}
-use Rattle.graph_laws.proofs.ObjectNodes.{object_mapped, objects_reread_there}
-use Rattle.graph_laws.proofs.Reading.{any_here, ascends_map, ascends_set, size_map, size_set, those_has}
-use Rattle.graph_laws.proofs.Wellness.{differ_map, differ_set, mapped, node_at-map, node_at-set_other, node_at-set_same, outs_reread, reads_lower, reads_reread, there_by, there_mapped}
-use Rattle.pardo_fuse.proofs.Elsewhere.{holds_moved, typed_at}
-use Rattle.pardo_fuse.proofs.Passing.{any_found, any_listed, those_single}
+use Rattle.graph_bounds.specs.of_exec_graph.Forests.{Forest, steps}
+use Rattle.graph_bounds.specs.of_exec_graph.Meaning.{AllDiffer, HasOuts, Holds, IsSound, IsThere, KeepsMeaning, node_at, own, place, reads, traps}
+use Rattle.graph_bounds.specs.of_exec_graph.Readers.{among, any_node, calls_on, collects, is_read, readers, uses}
+use Rattle.graph_bounds.specs.of_exec_graph.Typing.{KeepsTypes, NodeTyped}
+use Rattle.graph_bounds.specs.of_exec_graph.Wellformed.{HaveObjects, IsGraphOk, IsLiftedOk, IsNodeOk, comb_at, has_objects, is_object, is_object_at, most_nodes, total_size}
+use Rattle.graph_bounds.specs.of_exec_graph.declared.graph.Place.{Place}
+use Rattle.graph_bounds.specs.of_exec_graph.declared.graph.Node.{Node}
+use Rattle.graph_bounds.specs.of_exec_graph.declared.graph.Node.TheVariants.{Source, Flatten, Pdo, Gbk, Barrier}
+use Rattle.graph_bounds.specs.of_exec_graph.declared.graph.Entry.{Entry}
+use Rattle.graph_bounds.specs.of_exec_graph.declared.graph.Graph.{Graph}
+use Rattle.graph_bounds.proofs.of_exec_graph.Bools.{not_true, or_cases, or_left, or_right}
+use Rattle.graph_bounds.proofs.of_exec_graph.Entries.{all_found, all_map, entry, flat_map_alike}
+use Rattle.graph_bounds.proofs.of_exec_graph.Solving.{each_found, gives_found}
+use Rattle.graph_bounds.specs.of_graph_laws.Joining.{reread, reread_entry, set_node}
+use Rattle.graph_bounds.specs.of_graph_laws.Kids.{CanKid}
+use Rattle.graph_bounds.proofs.of_graph_laws.Changes.{all_set, all_set_others}
+use Rattle.graph_bounds.proofs.of_graph_laws.Joining.{map_reread, own-reread, traps-reread}
+use Rattle.graph_bounds.proofs.of_graph_laws.Kids.{IsKept}
+use Rattle.graph_bounds.proofs.of_graph_laws.Nearly.{comb_mapped}
+use Rattle.graph_bounds.proofs.of_graph_laws.ObjectNodes.{object_mapped, objects_reread_there}
+use Rattle.graph_bounds.proofs.of_graph_laws.Reading.{any_here, ascends_map, ascends_set, size_map, size_set, those_has}
+use Rattle.graph_bounds.proofs.of_graph_laws.Wellness.{differ_map, differ_set, mapped, node_at-map, node_at-set_other, node_at-set_same, outs_reread, reads_lower, reads_reread, there_by, there_mapped}
+use Rattle.graph_bounds.proofs.of_pardo_fuse.Elsewhere.{holds_moved, typed_at}
+use Rattle.graph_bounds.proofs.of_pardo_fuse.Passing.{any_found, any_listed, those_single}
 use Rattle.graph_rewrites.specs.Exchange.{exchanged, other_number, swapped}
 use Rattle.graph_rewrites.proofs.Numbers.{among_exchanged, calls_exchanged, collects_exchanged, exchanged_twice, other_far, other_left, other_right, other_twice, sum_swapped, uses_exchanged}
 

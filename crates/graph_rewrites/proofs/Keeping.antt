@@ -2,17 +2,17 @@
 use Rattle.std.proofs.Common.{◌≡◌, ℕ, Bool, true, false, cond, ◌==◌, refl, ◌<◌, List, Some}
 use Rattle.std.specs.Prelude.{nat_lt}
 use Rattle.std.proofs.lemmas.Bool.{eqb-true}
-use Rattle.exec_graph.specs.Meaning.{KeepsMeaning, IsSound}
-use Rattle.exec_graph.specs.Typing.{KeepsTypes}
-use Rattle.exec_graph.specs.Wellformed.{IsGraphOk}
-use Rattle.exec_graph.specs.declared.graph.Blocked.{Blocked}
-use Rattle.exec_graph.specs.declared.graph.Graph.{Graph}
-use Rattle.exec_graph.proofs.Soundness.{IsSound-ok}
-use Rattle.graph_laws.specs.Kids.{CanKid, with_kid}
-use Rattle.graph_laws.specs.Lifting.{lift_of}
-use Rattle.graph_laws.proofs.Kids.{IsKept as IsRewritten, KeepsMeaning-then, kid_sound, sibling_sound}
-use Rattle.graph_laws.proofs.Lifting.{IsGraphOk-lifted_at, KeepsMeaning-remarked, KeepsTypes-remarked}
-use Rattle.sink_laws.proofs.Choosing.{IsKept-call, IsKept-nest}
+use Rattle.graph_bounds.specs.of_exec_graph.Meaning.{KeepsMeaning, IsSound}
+use Rattle.graph_bounds.specs.of_exec_graph.Typing.{KeepsTypes}
+use Rattle.graph_bounds.specs.of_exec_graph.Wellformed.{IsGraphOk}
+use Rattle.graph_bounds.specs.of_exec_graph.declared.graph.Blocked.{Blocked}
+use Rattle.graph_bounds.specs.of_exec_graph.declared.graph.Graph.{Graph}
+use Rattle.graph_bounds.proofs.of_exec_graph.Soundness.{IsSound-ok}
+use Rattle.graph_bounds.specs.of_graph_laws.Kids.{CanKid, with_kid}
+use Rattle.graph_bounds.specs.of_graph_laws.Lifting.{lift_of}
+use Rattle.graph_bounds.proofs.of_graph_laws.Kids.{IsKept as IsRewritten, KeepsMeaning-then, kid_sound, sibling_sound}
+use Rattle.graph_bounds.proofs.of_graph_laws.Lifting.{IsGraphOk-lifted_at, KeepsMeaning-remarked, KeepsTypes-remarked}
+use Rattle.graph_bounds.proofs.of_sink_laws.Choosing.{IsKept-call, IsKept-nest}
 use Rattle.graph_rewrites.specs.Rewrites.{CanApply, CanBeKid, forest_at, input_at, kid_under, kid_under_other, pair, rewritten, swapped_at}
 use Rattle.graph_rewrites.specs.declared.rewrite.Rewrite.{Rewrite}
 use Rattle.graph_rewrites.specs.declared.rewrite.Rewrite.TheVariants.{Merge, Sink, Lift, Kid, Sibling, Mark}

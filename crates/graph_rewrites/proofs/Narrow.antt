@@ -1,19 +1,19 @@
 -- The conditions on single nodes that rewrites keep.
 use Rattle.std.proofs.Common.{◌≡◌, ℕ, ◌+◌, ◌<◌, ◌⊎◌, Bool, true, false, cond, Option, Some, None, inl, inr}
 use Rattle.combine_table.specs.declared.comb.Comb.{Comb}
-use Rattle.exec_graph.specs.Forests.{Forest, Bare, Grow}
-use Rattle.exec_graph.specs.Meaning.{is_out}
-use Rattle.exec_graph.specs.declared.graph.Act.{Act}
-use Rattle.exec_graph.specs.declared.graph.Input.{Input}
-use Rattle.exec_graph.specs.declared.graph.Node.{Node}
-use Rattle.exec_graph.specs.declared.graph.Node.TheVariants.{Source, Flatten, Pdo, Gbk, Barrier}
-use Rattle.exec_graph.specs.declared.graph.Place.{Place}
+use Rattle.graph_bounds.specs.of_exec_graph.Forests.{Forest, Bare, Grow}
+use Rattle.graph_bounds.specs.of_exec_graph.Meaning.{is_out}
+use Rattle.graph_bounds.specs.of_exec_graph.declared.graph.Act.{Act}
+use Rattle.graph_bounds.specs.of_exec_graph.declared.graph.Input.{Input}
+use Rattle.graph_bounds.specs.of_exec_graph.declared.graph.Node.{Node}
+use Rattle.graph_bounds.specs.of_exec_graph.declared.graph.Node.TheVariants.{Source, Flatten, Pdo, Gbk, Barrier}
+use Rattle.graph_bounds.specs.of_exec_graph.declared.graph.Place.{Place}
 use Rattle.graph_bounds.proofs.Bounding.{numbered_few}
 use Rattle.graph_bounds.specs.Sources.{BringsSuch}
-use Rattle.graph_laws.specs.Joining.{beside, grafted, reread}
-use Rattle.graph_laws.specs.Kids.{kept_by, named_by}
-use Rattle.graph_laws.specs.Lifting.{marked}
-use Rattle.plan_rules.specs.Fitting.{HasFewOutputs, IsNarrow}
+use Rattle.graph_bounds.specs.of_graph_laws.Joining.{beside, grafted, reread}
+use Rattle.graph_bounds.specs.of_graph_laws.Kids.{kept_by, named_by}
+use Rattle.graph_bounds.specs.of_graph_laws.Lifting.{marked}
+use Rattle.graph_bounds.specs.of_plan_rules.Fitting.{HasFewOutputs, IsNarrow}
 use Rattle.graph_rewrites.proofs.Steady.{IsSteady}
 
 -- nothing is asked of steps

@@ -4,18 +4,18 @@ use Rattle.std.specs.List.{AllByRecursion as Each, flat_map}
 use Rattle.std.proofs.lemmas.Bool.{eqb-true, eq-eqb, false≢true}
 use Rattle.flume_collection.specs.Sets.{gather}
 use Rattle.flume_collection.proofs.Bagging.{Swaps, gather-gather}
-use Rattle.exec_graph.specs.Meaning.{node_at, place}
-use Rattle.exec_graph.specs.Readers.{among, calls_on, collects, same_place, uses}
-use Rattle.exec_graph.specs.declared.graph.Place.{Place}
-use Rattle.exec_graph.specs.declared.graph.Node.{Node}
-use Rattle.exec_graph.specs.declared.graph.Node.TheVariants.{Source, Flatten, Pdo, Gbk, Barrier}
-use Rattle.exec_graph.specs.declared.graph.Entry.{Entry}
-use Rattle.exec_graph.proofs.Bools.{not_true}
-use Rattle.exec_graph.proofs.Entries.{entry}
+use Rattle.graph_bounds.specs.of_exec_graph.Meaning.{node_at, place}
+use Rattle.graph_bounds.specs.of_exec_graph.Readers.{among, calls_on, collects, same_place, uses}
+use Rattle.graph_bounds.specs.of_exec_graph.declared.graph.Place.{Place}
+use Rattle.graph_bounds.specs.of_exec_graph.declared.graph.Node.{Node}
+use Rattle.graph_bounds.specs.of_exec_graph.declared.graph.Node.TheVariants.{Source, Flatten, Pdo, Gbk, Barrier}
+use Rattle.graph_bounds.specs.of_exec_graph.declared.graph.Entry.{Entry}
+use Rattle.graph_bounds.proofs.of_exec_graph.Bools.{not_true}
+use Rattle.graph_bounds.proofs.of_exec_graph.Entries.{entry}
 use Rattle.fusion_blocks.proofs.Marking.{is_same, same_is}
-use Rattle.graph_laws.specs.Joining.{reread, set_node, without}
-use Rattle.graph_laws.proofs.Changes.{node_at-without_other, sum_at, sum_set}
-use Rattle.graph_laws.proofs.Wellness.{node_at-set_other}
+use Rattle.graph_bounds.specs.of_graph_laws.Joining.{reread, set_node, without}
+use Rattle.graph_bounds.proofs.of_graph_laws.Changes.{node_at-without_other, sum_at, sum_set}
+use Rattle.graph_bounds.proofs.of_graph_laws.Wellness.{node_at-set_other}
 use Rattle.graph_rewrites.specs.Exchange.{exchanged, other_number}
 
 -- ---- numbers and places

@@ -1,20 +1,20 @@
 -- What a list of rewrites leads to, and where it stops.
 use Rattle.std.proofs.Common.{◌≡◌, ℕ, ◌+◌, ◌<◌, ◌≤◌, ◌^◌, ◌⊎◌, inl, inr, false, List, [], ◌∷◌, ◌++◌, length, refl, sym, ap, ◌∙◌, subst, arith}
 use Rattle.std.specs.List.{AllByRecursion}
-use Rattle.exec_graph.specs.Meaning.{IsThere, SameMeaning, node_at, place}
-use Rattle.exec_graph.specs.ObjectFree.{IsObjectFree}
-use Rattle.exec_graph.specs.Forests.{Forest}
-use Rattle.exec_graph.specs.Wellformed.{IsBlockedOk, IsGraphOk, is_lifted}
-use Rattle.exec_graph.specs.declared.graph.Blocked.{Blocked}
-use Rattle.exec_graph.specs.declared.graph.Graph.{Graph}
-use Rattle.exec_graph.specs.declared.graph.Node.{Node}
-use Rattle.exec_graph.specs.declared.graph.Place.{Place}
-use Rattle.exec_graph.proofs.Soundness.{SameMeaning-kept}
+use Rattle.graph_bounds.specs.of_exec_graph.Meaning.{IsThere, SameMeaning, node_at, place}
+use Rattle.graph_bounds.specs.of_exec_graph.ObjectFree.{IsObjectFree}
+use Rattle.graph_bounds.specs.of_exec_graph.Forests.{Forest}
+use Rattle.graph_bounds.specs.of_exec_graph.Wellformed.{IsBlockedOk, IsGraphOk, is_lifted}
+use Rattle.graph_bounds.specs.of_exec_graph.declared.graph.Blocked.{Blocked}
+use Rattle.graph_bounds.specs.of_exec_graph.declared.graph.Graph.{Graph}
+use Rattle.graph_bounds.specs.of_exec_graph.declared.graph.Node.{Node}
+use Rattle.graph_bounds.specs.of_exec_graph.declared.graph.Place.{Place}
+use Rattle.graph_bounds.proofs.of_exec_graph.Soundness.{SameMeaning-kept}
 use Rattle.fusion_blocks.specs.Blocks.{unmarked}
 use Rattle.fusion_blocks.proofs.Blocking.{mark_ok}
 use Rattle.graph_bounds.specs.Sources.{AreOfKinds, OfSource}
 use Rattle.graph_bounds.proofs.Bounding.{IsFree, below_such, free_such, kinds_agree, such_below, such_free}
-use Rattle.plan_rules.specs.Fitting.{HasFewOutputs, HasSourcesBelow, IsInBounds, IsNarrow}
+use Rattle.graph_bounds.specs.of_plan_rules.Fitting.{HasFewOutputs, HasSourcesBelow, IsInBounds, IsNarrow}
 use Rattle.graph_rewrites.specs.Replays.{CanFollow, HasNarrowForests, Leads, StopsAt, group_of}
 use Rattle.graph_rewrites.specs.Rewrites.{CanApply, applied, rewritten}
 use Rattle.graph_rewrites.specs.declared.rewrite.Rewrite.{Rewrite}

@@ -4,23 +4,23 @@ use Rattle.std.specs.Prelude.{nat_lt}
 use Rattle.std.specs.List.{AllByRecursion}
 use Rattle.combine_table.specs.declared.comb.Comb.{Comb}
 use Rattle.flume_value.proofs.EachLemmas.{Each-append}
-use Rattle.exec_graph.specs.Forests.{Forest, numbered}
-use Rattle.exec_graph.specs.Meaning.{node_at, place}
-use Rattle.exec_graph.specs.Readers.{is_read}
-use Rattle.exec_graph.specs.declared.graph.Place.{Place}
-use Rattle.exec_graph.specs.declared.graph.Node.{Node}
-use Rattle.exec_graph.specs.declared.graph.Node.TheVariants.{Flatten, Pdo}
-use Rattle.exec_graph.specs.declared.graph.Entry.{Entry}
-use Rattle.exec_graph.specs.declared.graph.Graph.{Graph}
-use Rattle.exec_graph.specs.declared.graph.Blocked.{Blocked}
-use Rattle.exec_graph.proofs.Entries.{all_found, all_map}
-use Rattle.graph_laws.specs.Joining.{beside, grafted, joined, moved, reread, reread_entry, set_node, without}
-use Rattle.graph_laws.specs.Kids.{CanKid, apart, even, kept_by, moved_out, named_by, number_in, odd, refitted, renewed, same_number, with_kid, with_sibling}
-use Rattle.graph_laws.specs.Lifting.{lift_of, marked, marked_entry}
-use Rattle.graph_laws.proofs.Changes.{all_set, all_without}
-use Rattle.sink_laws.specs.Chain.{forest_of, inputs_of}
-use Rattle.sink_laws.specs.Merging.{dropped, spliced, tidied}
-use Rattle.sink_laws.specs.Sinking.{copied, copies, first_flatten, flattens, instead, outputs_of, rerouted, sunk}
+use Rattle.graph_bounds.specs.of_exec_graph.Forests.{Forest, numbered}
+use Rattle.graph_bounds.specs.of_exec_graph.Meaning.{node_at, place}
+use Rattle.graph_bounds.specs.of_exec_graph.Readers.{is_read}
+use Rattle.graph_bounds.specs.of_exec_graph.declared.graph.Place.{Place}
+use Rattle.graph_bounds.specs.of_exec_graph.declared.graph.Node.{Node}
+use Rattle.graph_bounds.specs.of_exec_graph.declared.graph.Node.TheVariants.{Flatten, Pdo}
+use Rattle.graph_bounds.specs.of_exec_graph.declared.graph.Entry.{Entry}
+use Rattle.graph_bounds.specs.of_exec_graph.declared.graph.Graph.{Graph}
+use Rattle.graph_bounds.specs.of_exec_graph.declared.graph.Blocked.{Blocked}
+use Rattle.graph_bounds.proofs.of_exec_graph.Entries.{all_found, all_map}
+use Rattle.graph_bounds.specs.of_graph_laws.Joining.{beside, grafted, joined, moved, reread, reread_entry, set_node, without}
+use Rattle.graph_bounds.specs.of_graph_laws.Kids.{CanKid, apart, even, kept_by, moved_out, named_by, number_in, odd, refitted, renewed, same_number, with_kid, with_sibling}
+use Rattle.graph_bounds.specs.of_graph_laws.Lifting.{lift_of, marked, marked_entry}
+use Rattle.graph_bounds.proofs.of_graph_laws.Changes.{all_set, all_without}
+use Rattle.graph_bounds.specs.of_sink_laws.Chain.{forest_of, inputs_of}
+use Rattle.graph_bounds.specs.of_sink_laws.Merging.{dropped, spliced, tidied}
+use Rattle.graph_bounds.specs.of_sink_laws.Sinking.{copied, copies, first_flatten, flattens, instead, outputs_of, rerouted, sunk}
 use Rattle.graph_rewrites.specs.Exchange.{exchanged, swapped}
 use Rattle.graph_rewrites.specs.Rewrites.{CanApply, forest_at, input_at, kid_under, kid_under_other, rewritten, swapped_at}
 use Rattle.graph_rewrites.specs.declared.rewrite.Rewrite.{Rewrite}

@@ -1,11 +1,11 @@
 -- Two Pdos exchange their numbers, so that what comes of both has the lesser of them.
 use Rattle.std.specs.Prelude.{ℕ, ◌==◌, cond, map}
-use Rattle.exec_graph.specs.Forests.{Forest}
-use Rattle.exec_graph.specs.Meaning.{place}
-use Rattle.exec_graph.specs.declared.graph.Place.{Place}
-use Rattle.exec_graph.specs.declared.graph.Node.TheVariants.{Pdo}
-use Rattle.exec_graph.specs.declared.graph.Graph.{Graph}
-use Rattle.graph_laws.specs.Joining.{reread_entry, set_node}
+use Rattle.graph_bounds.specs.of_exec_graph.Forests.{Forest}
+use Rattle.graph_bounds.specs.of_exec_graph.Meaning.{place}
+use Rattle.graph_bounds.specs.of_exec_graph.declared.graph.Place.{Place}
+use Rattle.graph_bounds.specs.of_exec_graph.declared.graph.Node.TheVariants.{Pdo}
+use Rattle.graph_bounds.specs.of_exec_graph.declared.graph.Graph.{Graph}
+use Rattle.graph_bounds.specs.of_graph_laws.Joining.{reread_entry, set_node}
 
 -- p in place of q, and q in place of p
 abbrev pub other_number : ℕ → ℕ → ℕ → ℕ

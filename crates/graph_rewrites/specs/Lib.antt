@@ -1,3 +1,4 @@
 pub mod Exchange
 pub mod Rewrites
 pub mod Replays
+pub use Rattle.graph_bounds.specs.of_plan_rules

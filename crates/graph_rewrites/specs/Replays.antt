@@ -1,9 +1,9 @@
 -- Rewrites one after another: where they lead, and where they stop.
 use Rattle.std.specs.Prelude.{◌≡◌, ◌⊎◌, ℕ, ◌+◌, ◌≤◌, List, [], ◌∷◌}
 use Rattle.std.specs.List.{AllByRecursion}
-use Rattle.exec_graph.specs.declared.graph.Blocked.{Blocked}
-use Rattle.exec_graph.specs.declared.graph.Graph.{Graph}
-use Rattle.plan_rules.specs.Fitting.{IsNarrow}
+use Rattle.graph_bounds.specs.of_exec_graph.declared.graph.Blocked.{Blocked}
+use Rattle.graph_bounds.specs.of_exec_graph.declared.graph.Graph.{Graph}
+use Rattle.graph_bounds.specs.of_plan_rules.Fitting.{IsNarrow}
 use Rattle.graph_rewrites.specs.Rewrites.{CanApply, applied}
 use Rattle.graph_rewrites.specs.declared.rewrite.Rewrite.{Rewrite}
 use Rattle.graph_rewrites.specs.declared.rewrite.Rewrite.TheVariants.{Merge, Sink, Lift, Kid, Sibling, Mark}

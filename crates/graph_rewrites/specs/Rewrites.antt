@@ -1,18 +1,18 @@
 -- When a rewrite may be made, and what it makes of a graph with its marks.
 use Rattle.std.specs.Prelude.{◌≡◌, ℕ, ◌<◌, ◌≤◌, nat_lt, cond, List, [], ◌∷◌, ◌++◌, Option, Some, None}
-use Rattle.exec_graph.specs.Forests.{Forest}
-use Rattle.exec_graph.specs.Meaning.{place, node_at}
-use Rattle.exec_graph.specs.Wellformed.{most_nodes, total_size}
-use Rattle.exec_graph.specs.declared.graph.Place.{Place}
-use Rattle.exec_graph.specs.declared.graph.Node.{Node}
-use Rattle.exec_graph.specs.declared.graph.Node.TheVariants.{Source, Flatten, Pdo, Gbk, Barrier}
-use Rattle.exec_graph.specs.declared.graph.Graph.{Graph}
-use Rattle.exec_graph.specs.declared.graph.Blocked.{Blocked}
+use Rattle.graph_bounds.specs.of_exec_graph.Forests.{Forest}
+use Rattle.graph_bounds.specs.of_exec_graph.Meaning.{place, node_at}
+use Rattle.graph_bounds.specs.of_exec_graph.Wellformed.{most_nodes, total_size}
+use Rattle.graph_bounds.specs.of_exec_graph.declared.graph.Place.{Place}
+use Rattle.graph_bounds.specs.of_exec_graph.declared.graph.Node.{Node}
+use Rattle.graph_bounds.specs.of_exec_graph.declared.graph.Node.TheVariants.{Source, Flatten, Pdo, Gbk, Barrier}
+use Rattle.graph_bounds.specs.of_exec_graph.declared.graph.Graph.{Graph}
+use Rattle.graph_bounds.specs.of_exec_graph.declared.graph.Blocked.{Blocked}
 use Rattle.fusion_blocks.specs.Blocks.{CanMark}
-use Rattle.graph_laws.specs.Kids.{CanKid, CanPair, with_kid, with_sibling}
-use Rattle.graph_laws.specs.Lifting.{CanLift, lifted_at}
-use Rattle.sink_laws.specs.Chain.{CanCall, CanNest, after_call, after_nest, forest_of}
-use Rattle.sink_laws.specs.declared.pair.Pair.{Pair}
+use Rattle.graph_bounds.specs.of_graph_laws.Kids.{CanKid, CanPair, with_kid, with_sibling}
+use Rattle.graph_bounds.specs.of_graph_laws.Lifting.{CanLift, lifted_at}
+use Rattle.graph_bounds.specs.of_sink_laws.Chain.{CanCall, CanNest, after_call, after_nest, forest_of}
+use Rattle.graph_bounds.specs.of_sink_laws.declared.pair.Pair.{Pair}
 use Rattle.graph_rewrites.specs.Exchange.{swapped}
 use Rattle.graph_rewrites.specs.declared.rewrite.Rewrite.{Rewrite}
 use Rattle.graph_rewrites.specs.declared.rewrite.Rewrite.TheVariants.{Merge, Sink, Lift, Kid, Sibling, Mark}

@@ -1,14 +1,14 @@
 // What a list of rewrites leads to.
 ghost use Rattle.std.specs.Prelude.{◌≡◌, ◌<◌, ◌^◌, ℕ, List};
-ghost use Rattle.exec_graph.specs.Meaning.{SameMeaning};
-ghost use Rattle.exec_graph.specs.ObjectFree.{IsObjectFree};
-ghost use Rattle.exec_graph.specs.Typing.{KeepsTypes};
-ghost use Rattle.exec_graph.specs.Wellformed.{IsBlockedOk, IsGraphOk};
-ghost use Rattle.exec_graph.specs.declared.graph.Blocked.{Blocked};
-ghost use Rattle.exec_graph.specs.declared.graph.Graph.{Graph};
+ghost use Rattle.graph_bounds.specs.of_exec_graph.Meaning.{SameMeaning};
+ghost use Rattle.graph_bounds.specs.of_exec_graph.ObjectFree.{IsObjectFree};
+ghost use Rattle.graph_bounds.specs.of_exec_graph.Typing.{KeepsTypes};
+ghost use Rattle.graph_bounds.specs.of_exec_graph.Wellformed.{IsBlockedOk, IsGraphOk};
+ghost use Rattle.graph_bounds.specs.of_exec_graph.declared.graph.Blocked.{Blocked};
+ghost use Rattle.graph_bounds.specs.of_exec_graph.declared.graph.Graph.{Graph};
 ghost use Rattle.fusion_blocks.specs.Blocks.{unmarked};
 ghost use Rattle.graph_bounds.specs.Sources.{AreOfKinds};
-ghost use Rattle.plan_rules.specs.Fitting.{HasSourcesBelow, IsInBounds};
+ghost use Rattle.graph_bounds.specs.of_plan_rules.Fitting.{HasSourcesBelow, IsInBounds};
 ghost use Rattle.graph_rewrites.specs.Replays.{HasNarrowForests, Leads, StopsAt};
 ghost use Rattle.graph_rewrites.specs.Rewrites.{CanApply, after_kid, kid_under_other, rewritten};
 ghost use Rattle.graph_rewrites.specs.declared.rewrite.Rewrite.{Rewrite};

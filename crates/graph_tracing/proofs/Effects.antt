@@ -9,7 +9,7 @@ use Rattle.exec_graph.specs.declared.graph.Entry.{Entry}
 use Rattle.exec_graph.specs.declared.graph.Graph.{Graph}
 use Rattle.exec_graph.specs.declared.graph.Node.TheVariants.{Pdo}
 use Rattle.exec_graph.specs.declared.graph.Place.{Place}
-use Rattle.fuse_chain.proofs.NextStates.{set_other, without_other}
+use Rattle.pass_rewrites.proofs.of_fuse_chain.NextStates.{set_other, without_other}
 use Rattle.graph_laws.specs.Joining.{joined, moved, set_node, without}
 use Rattle.graph_laws.specs.Kids.{apart, even, kept_by, moved_out, named_by, number_in, odd, refitted, renewed, same_number}
 use Rattle.graph_laws.proofs.Wellness.{differ_map, differ_set, mapped, node_at-map, node_at-set_same}

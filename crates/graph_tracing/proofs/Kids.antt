@@ -9,8 +9,8 @@ use Rattle.exec_graph.specs.declared.graph.Graph.{Graph}
 use Rattle.exec_graph.specs.declared.graph.Node.TheVariants.{Pdo}
 use Rattle.exec_graph.specs.declared.graph.Place.{Place}
 use Rattle.exec_graph.proofs.Soundness.{IsSound-ok, differ_ascends}
-use Rattle.fuse_chain.specs.Numbers.{after_kid, after_kids, other_of_two}
-use Rattle.fuse_chain.specs.Rewrites.{IsKid, Kid, Sibling, Leads, Rewrite as Fusion, is_sibling, other_of}
+use Rattle.pass_rewrites.specs.of_fuse_chain.Numbers.{after_kid, after_kids, other_of_two}
+use Rattle.pass_rewrites.specs.of_fuse_chain.Rewrites.{IsKid, Kid, Sibling, Leads, Rewrite as Fusion, is_sibling, other_of}
 use Rattle.fusion_blocks.specs.Blocks.{unmarked}
 use Rattle.graph_laws.specs.Kids.{with_kid}
 use Rattle.graph_laws.proofs.Kids.{kid_formed}

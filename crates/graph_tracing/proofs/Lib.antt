@@ -7,3 +7,5 @@ pub mod Settled
 pub mod Siblings
 pub mod Kids
 pub mod Whole
+pub use Rattle.pass_rewrites.proofs.of_form_laws
+pub use Rattle.pass_rewrites.proofs as of_pass_rewrites

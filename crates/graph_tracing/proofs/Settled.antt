@@ -2,8 +2,8 @@
 use Rattle.std.proofs.Common.{[], sym, ◌∙◌}
 use Rattle.exec_graph.specs.declared.graph.Blocked.{Blocked}
 use Rattle.exec_graph.specs.declared.graph.Graph.{Graph}
-use Rattle.fuse_chain.specs.Cuts.{siblings_of}
-use Rattle.fuse_chain.proofs.KidChains.{can_later}
+use Rattle.pass_rewrites.specs.of_fuse_chain.Cuts.{siblings_of}
+use Rattle.pass_rewrites.proofs.of_fuse_chain.KidChains.{can_later}
 use Rattle.pardo_fuse.specs.Parting.{parted}
 use Rattle.pardo_fuse.specs.Readers.{Cut}
 use Rattle.pardo_fuse.specs.SingleFusing.{CanFuse, fused_by}

@@ -8,8 +8,8 @@ use Rattle.exec_graph.specs.Wellformed.{IsGraphOk}
 use Rattle.exec_graph.specs.declared.graph.Graph.{Graph}
 use Rattle.exec_graph.specs.declared.graph.Node.TheVariants.{Pdo}
 use Rattle.exec_graph.specs.declared.graph.Place.{Place}
-use Rattle.fuse_chain.specs.Numbers.{after_kids}
-use Rattle.fuse_chain.specs.Rewrites.{IsSibling, Kid, Sibling, Leads, Rewrite as Fusion, is_sibling, other_of}
+use Rattle.pass_rewrites.specs.of_fuse_chain.Numbers.{after_kids}
+use Rattle.pass_rewrites.specs.of_fuse_chain.Rewrites.{IsSibling, Kid, Sibling, Leads, Rewrite as Fusion, is_sibling, other_of}
 use Rattle.fusion_blocks.specs.Blocks.{unmarked}
 use Rattle.graph_laws.specs.Kids.{with_sibling}
 use Rattle.graph_rewrites.specs.Rewrites.{CanBeSibling, after_sibling, forest_at, input_at, input_of}

@@ -15,12 +15,12 @@ use Rattle.exec_graph.specs.declared.graph.Place.{Place}
 use Rattle.exec_graph.proofs.Entries.{all_found}
 use Rattle.exec_graph.proofs.Solving.{each_found}
 use Rattle.exec_graph.proofs.Soundness.{IsSound-ok}
-use Rattle.fuse_chain.specs.Numbers.{KidsToLeast, ReadsInner, after_kid, after_kids, other_of_two}
-use Rattle.fuse_chain.specs.Rewrites.{ByKids, BySiblings, InOrder, Kid, Sibling, Leads, Rewrite as Fusion, is_sibling, other_of}
-use Rattle.fuse_chain.proofs.Keeping.{lead_good}
-use Rattle.fuse_chain.proofs.LeastKids.{Stood, kids_to_least, stood_by_parents}
-use Rattle.fuse_chain.proofs.LeastSteps.{two_twice}
-use Rattle.fuse_chain.proofs.StepSiblings.{steps_lead}
+use Rattle.pass_rewrites.specs.of_fuse_chain.Numbers.{KidsToLeast, ReadsInner, after_kid, after_kids, other_of_two}
+use Rattle.pass_rewrites.specs.of_fuse_chain.Rewrites.{ByKids, BySiblings, InOrder, Kid, Sibling, Leads, Rewrite as Fusion, is_sibling, other_of}
+use Rattle.pass_rewrites.proofs.of_fuse_chain.Keeping.{lead_good}
+use Rattle.pass_rewrites.proofs.of_fuse_chain.LeastKids.{Stood, kids_to_least, stood_by_parents}
+use Rattle.pass_rewrites.proofs.of_fuse_chain.LeastSteps.{two_twice}
+use Rattle.pass_rewrites.proofs.of_fuse_chain.StepSiblings.{steps_lead}
 use Rattle.graph_rewrites.specs.declared.rewrite.Rewrite.{Rewrite}
 use Rattle.graph_rewrites.specs.declared.rewrite.Rewrite.TheVariants as rewrite
 use Rattle.pardo_fuse.specs.Fusing.{fused, fused_by_parents, leads, least_of}

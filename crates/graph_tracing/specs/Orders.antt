@@ -3,7 +3,7 @@
 -- Merges and sinks stand in the order in which they were made, and so do lifts.
 use Rattle.std.specs.Prelude.{◌≡◌, ◌⊎◌, ℕ, ◌<◌, ltb, cond, List, [], ◌∷◌}
 use Rattle.std.specs.List.{AllByRecursion}
-use Rattle.fuse_chain.specs.Numbers.{other_of_two}
+use Rattle.pass_rewrites.specs.of_fuse_chain.Numbers.{other_of_two}
 use Rattle.graph_rewrites.specs.declared.rewrite.Rewrite.{Rewrite}
 use Rattle.graph_rewrites.specs.declared.rewrite.Rewrite.TheVariants.{Merge, Sink, Lift, Kid, Sibling, Mark}
 

@@ -2,7 +2,7 @@
 ghost use Rattle.std.specs.Prelude.{◌≡◌, ◌<◌, ◌++◌, ◌∷◌, [], ℕ, List, IfOk, true};
 ghost use Rattle.exec_graph.specs.Wellformed.{IsGraphOk};
 ghost use Rattle.exec_graph.specs.declared.graph.Graph.{Graph as GhostGraph};
-ghost use Rattle.fuse_chain.specs.Numbers as after;
+ghost use Rattle.pass_rewrites.specs.of_fuse_chain.Numbers as after;
 ghost use Rattle.graph_rewrites.specs.Rewrites as rewrites;
 ghost use Rattle.graph_rewrites.specs.declared.rewrite.Rewrite.{Rewrite as GhostRewrite};
 ghost use Rattle.graph_rewrites.specs.declared.rewrite.Rewrite.TheVariants as rewrite;

@@ -20,5 +20,6 @@ mod trace;
 
 pub use copying::copy_graph;
 pub use fusions::fusions_of;
+pub use pass_rewrites::mscr_form;
 pub use sinking::sinks_of;
 pub use trace::Trace;

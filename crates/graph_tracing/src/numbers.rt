@@ -1,6 +1,6 @@
 // The numbers that nodes have where what comes of two takes the lesser one.
 ghost use Rattle.std.specs.Prelude.{◌≡◌, ◌≢◌, ◌==◌, ℕ, cond, OnOk};
-ghost use Rattle.fuse_chain.specs.Numbers.{after_kid};
+ghost use Rattle.pass_rewrites.specs.of_fuse_chain.Numbers.{after_kid};
 ghost use Rattle.graph_tracing.specs.inner.Numbers.{KeepsAll, number_in};
 
 use std::alloc::AllocError;

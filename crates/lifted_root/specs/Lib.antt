@@ -1,1 +1,2 @@
 pub mod Lifted
+pub use Rattle.task_lists.specs as of_task_lists

@@ -14,3 +14,4 @@ mod laws;
 
 pub use keys::Keys;
 pub use laws::keys_law;
+pub use task_lists;

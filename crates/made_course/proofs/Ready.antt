@@ -6,7 +6,7 @@ use Rattle.std.proofs.lemmas.List.Elements.{All-from_recursion}
 use Rattle.std.proofs.lemmas.Result.{IfOk-weaker}
 use Rattle.std.proofs.lemmas.Str.{IsUtf8-from_ascii}
 use Rattle.std.proofs.lemmas.Str.Ascii.{IsAscii-from_all}
-use Rattle.script_loading.specs.Ready.{IsNamedMade, IsReady}
+use Rattle.run_course.specs.of_script_loading.Ready.{IsNamedMade, IsReady}
 use Rattle.run_texts.specs.Texts.{NamedOutput}
 use Rattle.script_program.specs.Script.{Node, Script}
 use Rattle.made_rows.specs.Sums.{sums_nodes, sums_script}

@@ -5,8 +5,8 @@ use Rattle.std.specs.List.{AllZip, Contains}
 use Rattle.std.specs.Option.{option_map}
 use Rattle.command_words.specs.declared.workload.Workload.{Workload}
 use Rattle.crew.specs.Hosts.{Account}
-use Rattle.direct_meaning.specs.Direct.{made_at, meaning, traps_of}
-use Rattle.direct_meaning.specs.Inputs.{AreInputs}
+use Rattle.made_rows.specs.of_direct_meaning.Direct.{made_at, meaning, traps_of}
+use Rattle.made_rows.specs.of_direct_meaning.Inputs.{AreInputs}
 use Rattle.exec_plan.specs.declared.plan.Plan.{Plan}
 use Rattle.flume_collection.proofs.Members.{not_in_none}
 use Rattle.flume_collection.specs.Collection.{Collection}
@@ -16,11 +16,11 @@ use Rattle.plan_phases.specs.declared.fault.RunFault.{RunFault}
 use Rattle.plan_phases.specs.declared.fault.RunFault.TheVariants as fault
 use Rattle.run_course.specs.Lent.{lent}
 use Rattle.run_settings.specs.Settings.{RunSettings, standard}
-use Rattle.script_plans.specs.Plans.{IsScriptPlan}
+use Rattle.run_course.specs.of_script_plans.Plans.{IsScriptPlan}
 use Rattle.script_program.specs.Script.{Script}
-use Rattle.script_run.specs.Comes.{AreMembers}
-use Rattle.script_run.specs.Runs.{AsksSomePhases, IsFirstOf, IsRan, IsRunFault, phases_of}
-use Rattle.script_run.specs.declared.run.Ran.{Ran}
+use Rattle.run_course.specs.of_script_run.Comes.{AreMembers}
+use Rattle.run_course.specs.of_script_run.Runs.{AsksSomePhases, IsFirstOf, IsRan, IsRunFault, phases_of}
+use Rattle.run_course.specs.of_script_run.declared.run.Ran.{Ran}
 use Rattle.made_rows.specs.Means.{MeansSums}
 use Rattle.made_rows.specs.Sums.{sums_script}
 use Rattle.made_course.specs.Files.{rows_of, sums_for}

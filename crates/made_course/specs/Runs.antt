@@ -1,6 +1,6 @@
 -- The run of the script of the sums over the rows of a workload, by the usual settings.
 use Rattle.std.specs.Prelude.{◌≡◌, ◌⊎◌, ℕ, List, [], ◌∷◌, drop}
-use Rattle.build_law.specs.Worlds.{world_of}
+use Rattle.run_course.specs.of_build_law.Worlds.{world_of}
 use Rattle.command_words.specs.declared.workload.Workload.{Workload}
 use Rattle.crew.specs.Hosts.{Account}
 use Rattle.exec_plan.specs.declared.plan.Plan.{Plan}
@@ -9,8 +9,8 @@ use Rattle.plan_phases.specs.Told.{IsGivenUp}
 use Rattle.run_course.specs.Lent.{lent}
 use Rattle.run_course.specs.Written.{AllTasksRan}
 use Rattle.run_settings.specs.Settings.{standard}
-use Rattle.script_plans.specs.Plans.{IsScriptPlan}
-use Rattle.script_run.specs.Runs.{AsksSomePhases, phases_of}
+use Rattle.run_course.specs.of_script_plans.Plans.{IsScriptPlan}
+use Rattle.run_course.specs.of_script_run.Runs.{AsksSomePhases, phases_of}
 use Rattle.made_rows.specs.Sums.{sums_script}
 use Rattle.made_course.specs.Files.{rows_of}
 

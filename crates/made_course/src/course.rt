@@ -14,8 +14,8 @@ ghost use Rattle.outside.specs.Seen.{Seen, seen, seen_shelf};
 ghost use Rattle.outside.specs.declared.file.File.{File};
 ghost use Rattle.run_course.specs.World.{world};
 ghost use Rattle.run_settings.specs.Settings.{standard};
-ghost use Rattle.script_laws.specs.WellFormed.{IsWellFormed};
-ghost use Rattle.script_loading.specs.Ready.{IsReady};
+ghost use Rattle.made_rows.specs.of_script_laws.WellFormed.{IsWellFormed};
+ghost use Rattle.run_course.specs.of_script_loading.Ready.{IsReady};
 
 use crate::summing::{sums_ready, sums_run};
 use command_words::Workload;
@@ -23,10 +23,10 @@ use flume_value::Items;
 use made_rows::{made_total, text_made};
 use outside::{FileName, Host, Output, Screen, Shelf};
 use plan_phases::RunFault;
+use run_course::script_run::Ran;
 use run_course::{Written, deliver, file_of};
 use run_texts::{Status, made_line, tell};
 use script_program::Program;
-use script_run::Ran;
 use std::alloc::{AllocError, Global};
 use std::thread::Threads;
 

@@ -10,3 +10,5 @@ mod course;
 mod summing;
 
 pub use course::make;
+pub use run_course;
+pub use run_course::script_loading;

@@ -8,22 +8,22 @@ ghost use Rattle.made_course.specs.Runs.{AsksHosts};
 ghost use Rattle.made_course.specs.inner.Stops.{ComesTo};
 ghost use Rattle.made_rows.specs.Sums.{sums_script};
 ghost use Rattle.run_settings.specs.Settings.{standard};
-ghost use Rattle.script_laws.specs.WellFormed.{IsWellFormed};
-ghost use Rattle.script_loading.specs.Ready.{IsReady};
-ghost use Rattle.script_plans.specs.Plans.{IsScriptPlan};
-ghost use Rattle.script_run.specs.Runs.{IsPlanOf};
+ghost use Rattle.made_rows.specs.of_script_laws.WellFormed.{IsWellFormed};
+ghost use Rattle.run_course.specs.of_script_loading.Ready.{IsReady};
+ghost use Rattle.run_course.specs.of_script_plans.Plans.{IsScriptPlan};
+ghost use Rattle.run_course.specs.of_script_run.Runs.{IsPlanOf};
 
-use build_law::graph_law;
 use command_words::Workload;
 use exec_plan::Plan;
 use flume_value::{Items, Pile};
 use made_rows::{made_rows_law, rows_made, sums_law, sums_program};
 use outside::Host;
 use plan_phases::RunFault;
+use run_course::build_law::graph_law;
+use run_course::script_run::Ran;
 use run_course::{ShownPlan, plan_shown, ran_on};
 use run_settings::Settings;
 use script_program::Program;
-use script_run::Ran;
 use std::alloc::{AllocError, Global};
 use std::thread::Threads;
 

@@ -31,14 +31,14 @@ use Rattle.expression_check.specs.Types.{layer_type, type_of}
 use Rattle.expression_types.specs.Fields.{field_at, record_layer}
 use Rattle.expression_types.specs.Sight.{Sight}
 use Rattle.expression_types.specs.Types.{place_under, record_type}
-use Rattle.operation_check.specs.Operations.{combined_type, made_by, member_in, pair_in}
-use Rattle.script_check.specs.Rules.{all_fit, defined, rule, script_of}
+use Rattle.direct_meaning.specs.of_operation_check.Operations.{combined_type, made_by, member_in, pair_in}
+use Rattle.direct_meaning.specs.of_script_check.Rules.{all_fit, defined, rule, script_of}
 use Rattle.script_program.specs.Limits.{most_outputs}
 use Rattle.script_program.specs.Script.{Making, Script, Signature, State, nothing, script_from, with_function, with_node, with_nodes, with_output, with_statement, with_type}
 use Rattle.script_program.specs.declared.made.Output.{Output}
 use Rattle.script_program.specs.declared.made.Made.TheVariants as made
-use Rattle.script_laws.proofs.RuleLemmas.{well-formed}
-use Rattle.script_laws.specs.WellFormed.{IsWellFormed}
+use Rattle.direct_meaning.proofs.of_script_laws.RuleLemmas.{well-formed}
+use Rattle.direct_meaning.specs.of_script_laws.WellFormed.{IsWellFormed}
 use Rattle.written_types.specs.Answer.{Checked, Gives, ◌>>=◌, or_fault, unless}
 use Rattle.written_types.specs.Named.{Named}
 use Rattle.written_types.specs.Written.{fields_behind, layer_written, shallow, whole_type, written}

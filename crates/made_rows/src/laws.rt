@@ -5,7 +5,7 @@ ghost use Rattle.direct_meaning.specs.Inputs.{AreInputs};
 ghost use Rattle.made_rows.specs.Means.{MeansSums};
 ghost use Rattle.made_rows.specs.Rows.{made_rows, made_text, most_made};
 ghost use Rattle.made_rows.specs.Sums.{row_type, sums_script};
-ghost use Rattle.script_laws.specs.WellFormed.{IsWellFormed};
+ghost use Rattle.direct_meaning.specs.of_script_laws.WellFormed.{IsWellFormed};
 
 use csv_rows::rows_law;
 

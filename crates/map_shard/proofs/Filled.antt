@@ -12,8 +12,8 @@ use Rattle.exec_graph.specs.World.{World}
 use Rattle.exec_plan.specs.declared.plan.OutChannel.{OutChannel}
 use Rattle.exec_plan.specs.declared.plan.OutChannel.TheVariants.{Group, Pass}
 use Rattle.exec_plan.specs.declared.plan.Take.{Take}
-use Rattle.task_lists.specs.Outs.{AreSentPairs, IsSent}
-use Rattle.task_lists.specs.Runs.{all_given}
+use Rattle.task_safety.specs.of_task_lists.Outs.{AreSentPairs, IsSent}
+use Rattle.task_safety.specs.of_task_lists.Runs.{all_given}
 use Rattle.map_shard.specs.declared.filling.Filling.{Filling}
 use Rattle.map_shard.specs.declared.filling.Filling.TheVariants.{Passed, Grouped, Combined}
 use Rattle.map_shard.specs.declared.legs.Legs.{Legs}

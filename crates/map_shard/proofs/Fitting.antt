@@ -14,9 +14,9 @@ use Rattle.exec_plan.specs.declared.plan.OutChannel.TheVariants.{Group, Pass}
 use Rattle.exec_plan.specs.declared.plan.Stage.TheVariants.{Mscr}
 use Rattle.exec_plan.specs.declared.plan.Take.{Take}
 use Rattle.exec_plan.specs.Wellformed.{Exists, IsLiftOk}
-use Rattle.task_lists.specs.Outs.{AreMapOuts, IsMapOut}
-use Rattle.task_lists.specs.Tasks.{Task, given_to, map_task_of, world_for}
-use Rattle.task_lists.specs.Typing.{AreGroupable}
+use Rattle.task_safety.specs.of_task_lists.Outs.{AreMapOuts, IsMapOut}
+use Rattle.task_safety.specs.of_task_lists.Tasks.{Task, given_to, map_task_of, world_for}
+use Rattle.task_safety.specs.of_task_lists.Typing.{AreGroupable}
 use Rattle.forest_steps.specs.Functions.{world_of}
 use Rattle.forest_steps.specs.Safety.{SafeOf}
 use Rattle.task_safety.specs.Stages.{CanRunStage}

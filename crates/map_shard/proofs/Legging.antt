@@ -18,10 +18,10 @@ use Rattle.exec_plan.specs.Channels.{numbers}
 use Rattle.exec_plan.specs.declared.plan.OutChannel.{OutChannel}
 use Rattle.exec_plan.specs.declared.plan.OutChannel.TheVariants.{Group, Pass}
 use Rattle.exec_plan.specs.declared.plan.Take.{Take}
-use Rattle.task_lists.specs.Runs.{all_given, counts_of, gives, kept_count, output_at, traps_of, visits_of}
-use Rattle.task_lists.specs.Typing.{AreGroupable}
-use Rattle.forest_courses.proofs.Counting.{emits, emits_length, emits_more, plus}
-use Rattle.forest_courses.specs.Courses.{IsCourse}
+use Rattle.task_safety.specs.of_task_lists.Runs.{all_given, counts_of, gives, kept_count, output_at, traps_of, visits_of}
+use Rattle.task_safety.specs.of_task_lists.Typing.{AreGroupable}
+use Rattle.task_safety.proofs.of_forest_courses.Counting.{emits, emits_length, emits_more, plus}
+use Rattle.task_safety.specs.of_forest_courses.Courses.{IsCourse}
 use Rattle.forest_steps.specs.Running.{Given}
 use Rattle.map_shard.specs.declared.filling.Filling.{Filling}
 use Rattle.map_shard.specs.declared.legs.Legs.{Legs}

@@ -10,3 +10,4 @@ pub mod Siding
 pub mod Singling
 pub mod Taking
 pub mod Working
+pub use Rattle.task_safety.proofs as of_task_safety

@@ -14,11 +14,11 @@ use Rattle.exec_plan.specs.declared.plan.Take.{Take}
 use Rattle.exec_plan.specs.declared.plan.InChannel.{InChannel}
 use Rattle.exec_plan.specs.declared.plan.OutChannel.{OutChannel}
 use Rattle.exec_plan.specs.declared.plan.OutChannel.TheVariants.{Group, Pass}
-use Rattle.task_lists.specs.Runs.{all_given, gives}
-use Rattle.task_lists.specs.Outs.{AreSentPairs, IsSent}
-use Rattle.task_lists.specs.Tasks.{Task, given_to, task_gives, world_for}
-use Rattle.forest_courses.proofs.Numbering.{from_numbered, outs_ups, ups}
-use Rattle.task_lists.specs.Typing.{AreGroupable}
+use Rattle.task_safety.specs.of_task_lists.Runs.{all_given, gives}
+use Rattle.task_safety.specs.of_task_lists.Outs.{AreSentPairs, IsSent}
+use Rattle.task_safety.specs.of_task_lists.Tasks.{Task, given_to, task_gives, world_for}
+use Rattle.task_safety.proofs.of_forest_courses.Numbering.{from_numbered, outs_ups, ups}
+use Rattle.task_safety.specs.of_task_lists.Typing.{AreGroupable}
 use Rattle.map_shard.specs.Work.{IsFit}
 use Rattle.map_shard.specs.inner.Sending.{CanSend, taken, taken_by}
 

@@ -14,11 +14,11 @@ use Rattle.exec_plan.specs.Wellformed.{IsNumbered}
 use Rattle.exec_plan.specs.declared.plan.InChannel.{InChannel}
 use Rattle.exec_plan.specs.declared.plan.OutChannel.{OutChannel}
 use Rattle.exec_plan.specs.declared.plan.Take.{Take}
-use Rattle.task_lists.specs.Runs.{all_given, kept_count}
-use Rattle.task_lists.specs.Outs.{IsMapValue, IsSent}
-use Rattle.task_lists.specs.Tasks.{Task, elements_beside, given_to, map_task, no_task, value_beside, world_for}
+use Rattle.task_safety.specs.of_task_lists.Runs.{all_given, kept_count}
+use Rattle.task_safety.specs.of_task_lists.Outs.{IsMapValue, IsSent}
+use Rattle.task_safety.specs.of_task_lists.Tasks.{Task, elements_beside, given_to, map_task, no_task, value_beside, world_for}
 use Rattle.forest_steps.specs.Safety.{SafeOf}
-use Rattle.forest_courses.proofs.Worlds.{same_counts, same_gives, same_traps}
+use Rattle.task_safety.proofs.of_forest_courses.Worlds.{same_counts, same_gives, same_traps}
 use Rattle.task_safety.specs.Taking.{taking}
 use Rattle.task_safety.proofs.Taken.{same_beside}
 use Rattle.map_shard.specs.Work.{Work, CanWork, IsReady, IsWorkValue, lists_of, shard_task, split_of, task_at, work_count}

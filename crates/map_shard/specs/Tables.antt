@@ -3,7 +3,7 @@ use Rattle.std.specs.Prelude.{ℕ, ◌-◌, ◌==◌, cond, List, [], Option, So
 use Rattle.flume_value.specs.declared.value.Value.{Value}
 use Rattle.flume_collection.specs.Calls.{or_none}
 use Rattle.exec_plan.specs.declared.plan.PlanPlace.TheVariants as at
-use Rattle.task_lists.specs.Tasks.{Lists, Split}
+use Rattle.task_safety.specs.of_task_lists.Tasks.{Lists, Split}
 
 abbrev pub results_or_none : Option (List (List Value)) → List (List Value)
 results_or_none None = []

@@ -16,9 +16,9 @@ use Rattle.exec_plan.specs.declared.plan.OutChannel.TheVariants.{Group, Pass}
 use Rattle.exec_plan.specs.declared.plan.Mscr.{Mscr}
 use Rattle.exec_plan.specs.declared.plan.Take.{Take}
 use Rattle.exec_plan.specs.contracts.plan.Mscr as stages
-use Rattle.task_lists.specs.Outs.{IsMapValue}
-use Rattle.task_lists.specs.Tasks.{Lists, Split, Task, given_to, map_count, map_task_of, places, world_for}
-use Rattle.task_lists.specs.Typing.{AreGroupable}
+use Rattle.task_safety.specs.of_task_lists.Outs.{IsMapValue}
+use Rattle.task_safety.specs.of_task_lists.Tasks.{Lists, Split, Task, given_to, map_count, map_task_of, places, world_for}
+use Rattle.task_safety.specs.of_task_lists.Typing.{AreGroupable}
 use Rattle.task_safety.specs.Taking.{taking}
 use Rattle.forest_steps.specs.Safety.{SafeOf}
 use Rattle.map_shard.specs.Tables.{split, table}

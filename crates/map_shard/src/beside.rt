@@ -8,7 +8,7 @@ ghost use Rattle.forest_steps.specs.Functions.{world_of};
 ghost use Rattle.forest_steps.specs.Safety.{SafeOf};
 ghost use Rattle.map_shard.specs.inner.Legs.{IsWholeOr};
 ghost use Rattle.map_shard.specs.inner.Sending.{CanSend};
-ghost use Rattle.task_lists.specs.Runs.{all_given};
+ghost use Rattle.task_safety.specs.of_task_lists.Runs.{all_given};
 ghost use Rattle.task_safety.specs.Taking.{taking};
 
 use crate::legs::run_task;

@@ -1,7 +1,7 @@
 // What an output channel was given so far.
 ghost use Rattle.std.specs.Prelude.{◌≡◌, ◌<◌, ◌++◌, [], IfOk, List, None, Some};
 ghost use Rattle.flume_value.specs.declared.value.Value.{Value as GhostValue};
-ghost use Rattle.task_lists.specs.Typing.{AreGroupable};
+ghost use Rattle.task_safety.specs.of_task_lists.Typing.{AreGroupable};
 ghost use Rattle.map_shard.specs.inner.Fillings.{AreFilled, AreLifted, AreParted, ArePassed, IsFilling, sent_of};
 ghost use Rattle.map_shard.specs.inner.Sending.{IsSendable};
 

@@ -6,13 +6,13 @@ ghost use Rattle.exec_plan.specs.declared.plan.Stage.TheVariants as stage;
 ghost use Rattle.flume_value.specs.declared.value.Value.{Value};
 ghost use Rattle.forest_steps.specs.Functions.{world_of};
 ghost use Rattle.shuffle_parts.specs.declared.out.MapOut.{MapOut};
-ghost use Rattle.task_lists.specs.Outs.{AreMapOuts};
+ghost use Rattle.task_safety.specs.of_task_lists.Outs.{AreMapOuts};
 ghost use Rattle.task_safety.specs.Stages.{CanRunStage};
 ghost use Rattle.map_shard.specs.Tables.{split, table};
 ghost use Rattle.map_shard.specs.Work.{CanWork, IsWorkValue, work_of};
 
 use forest_steps::Functions;
-use task_lists::typed_law;
+use task_safety::task_lists::typed_law;
 use task_safety::{safe_law, taken_law};
 
 /// The map tasks of a stage that can be run over the lists that it finds can be made; and outs that

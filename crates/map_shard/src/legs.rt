@@ -5,7 +5,7 @@ ghost use Rattle.std.specs.List.{AllByRecursion, AllZip, list_all};
 ghost use Rattle.flume_value.specs.declared.value.Value.{Value as GhostValue};
 ghost use Rattle.exec_plan.specs.Wellformed.{IsNumbered};
 ghost use Rattle.exec_plan.specs.declared.plan.Take.{Take as GhostTake};
-ghost use Rattle.task_lists.specs.Runs.{all_given};
+ghost use Rattle.task_safety.specs.of_task_lists.Runs.{all_given};
 ghost use Rattle.forest_steps.specs.Functions.{world_of};
 ghost use Rattle.forest_steps.specs.Safety.{SafeOf};
 ghost use Rattle.map_shard.specs.inner.Fillings.{IsFilled, sent_of};

@@ -28,4 +28,5 @@ mod tasks;
 pub use laws::map_tasks_law;
 pub use lists::list_of;
 pub use moving::take_list;
+pub use task_safety;
 pub use tasks::MapTasks;

@@ -4,7 +4,7 @@ ghost use Rattle.std.specs.Prelude.{◌≡◌};
 ghost use Rattle.std.specs.Option.{option_copied};
 ghost use Rattle.exec_graph.specs.Objects.{only as only_member};
 ghost use Rattle.map_shard.specs.Tables.{table};
-ghost use Rattle.task_lists.specs.Tasks.{elements_beside, value_beside};
+ghost use Rattle.task_safety.specs.of_task_lists.Tasks.{elements_beside, value_beside};
 
 use crate::lists::list_of;
 use exec_plan::{InChannel, PlanPlace};

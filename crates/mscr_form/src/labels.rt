@@ -1,6 +1,6 @@
 // Labels of Gbks: one label where a chain of shared keys joins them.
 ghost use Rattle.std.specs.Prelude.{◌≡◌, ◌==◌, ◌<◌, ◌∷◌, [], ◌++◌, ℕ, Bool, cond, length, map, nat_eq, true, IfOk, IfSome, List, None, OnOk, Some};
-ghost use Rattle.plan_rules.specs.Fitting.{same_key};
+ghost use Rattle.form_laws.specs.of_plan_rules.Fitting.{same_key};
 ghost use Rattle.form_laws.specs.Classes.{has_same};
 ghost use Rattle.mscr_form.specs.inner.Labels.{AreJoined, AreLabels, at_key, keys_at, level_at, relabelled, same_at, seen_at};
 ghost use Rattle.plan_laws.specs.declared.operations.Key.{Key as GhostKey};

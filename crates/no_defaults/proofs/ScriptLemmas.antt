@@ -25,17 +25,17 @@ use Rattle.script_program.specs.declared.made.Made.TheVariants as made
 use Rattle.script_program.specs.declared.made.Output.{Output}
 use Rattle.script_laws.specs.WellFormed.{HasColumns, IsArgument, IsCallOf, IsDone, IsWellFormed, function_at, members_at, object_at}
 use Rattle.script_laws.specs.WellFormed.{IsDoneWith as DoesWith, IsOperated as Operates}
-use Rattle.direct_meaning.specs.Calls.{answer_of}
-use Rattle.direct_meaning.specs.Direct.{all_made, made_at}
-use Rattle.direct_meaning.specs.Objects.{IsObject, argument_of}
-use Rattle.direct_meaning.specs.Made.{AreMade, IsCollectionOf}
-use Rattle.direct_meaning.proofs.CallLemmas.{Answers, CalledOf, answers}
-use Rattle.direct_meaning.proofs.KindLemmas.{AreObjects, objects_at}
-use Rattle.direct_meaning.proofs.MakeLemmas.{well_typed}
-use Rattle.direct_meaning.proofs.ObjectTypes.{all_suit, argument_has, record_has, value_has, values_have}
-use Rattle.direct_meaning.proofs.PlaceLemmas.{mapped, within, zip_length}
-use Rattle.direct_meaning.proofs.TableLemmas.{made_object}
-use Rattle.direct_meaning.proofs.TypeLemmas.{taken}
+use Rattle.bag_laws.specs.of_direct_meaning.Calls.{answer_of}
+use Rattle.bag_laws.specs.of_direct_meaning.Direct.{all_made, made_at}
+use Rattle.bag_laws.specs.of_direct_meaning.Objects.{IsObject, argument_of}
+use Rattle.bag_laws.specs.of_direct_meaning.Made.{AreMade, IsCollectionOf}
+use Rattle.bag_laws.proofs.of_direct_meaning.CallLemmas.{Answers, CalledOf, answers}
+use Rattle.bag_laws.proofs.of_direct_meaning.KindLemmas.{AreObjects, objects_at}
+use Rattle.bag_laws.proofs.of_direct_meaning.MakeLemmas.{well_typed}
+use Rattle.bag_laws.proofs.of_direct_meaning.ObjectTypes.{all_suit, argument_has, record_has, value_has, values_have}
+use Rattle.bag_laws.proofs.of_direct_meaning.PlaceLemmas.{mapped, within, zip_length}
+use Rattle.bag_laws.proofs.of_direct_meaning.TableLemmas.{made_object}
+use Rattle.bag_laws.proofs.of_direct_meaning.TypeLemmas.{taken}
 use Rattle.build_law.proofs.Naming.{FitsAt, fits_at}
 use Rattle.build_law.proofs.Tables.{and_then_some, map_some}
 use Rattle.bag_laws.proofs.ListLemmas.{made_for}
@@ -244,7 +244,8 @@ module _ (script : Script) (well : IsWellFormed script) (table : List (Option Co
                 (
                   value_has fit.value c
                       (is_of object fit.value c
-                      (type_in_front script.nodes f.before f.rest f.is object fit.value fit.reads_object)
+                      (type_in_front script.nodes f.before f.rest f.is object fit.value
+                      fit.reads_object)
                       made) v is,
                   tt,
                 ),

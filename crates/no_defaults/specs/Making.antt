@@ -13,9 +13,9 @@ use Rattle.script_program.specs.declared.made.Made.{Made}
 use Rattle.script_program.specs.declared.made.Made.TheVariants as made
 use Rattle.script_program.specs.declared.made.Output.{Output}
 use Rattle.script_laws.specs.WellFormed.{function_at}
-use Rattle.direct_meaning.specs.Calls.{answer_of}
-use Rattle.direct_meaning.specs.Direct.{all_made, made_at}
-use Rattle.direct_meaning.specs.Objects.{IsObject, argument_of, value_of, values_of}
+use Rattle.bag_laws.specs.of_direct_meaning.Calls.{answer_of}
+use Rattle.bag_laws.specs.of_direct_meaning.Direct.{all_made, made_at}
+use Rattle.bag_laws.specs.of_direct_meaning.Objects.{IsObject, argument_of, value_of, values_of}
 use Rattle.no_defaults.specs.Readings.{HasOutput}
 
 -- the members of the collection of that number are so, where it is made

@@ -5,7 +5,7 @@ ghost use Rattle.script_program.specs.Needed.{made_of};
 ghost use Rattle.script_program.specs.Script.{Script};
 ghost use Rattle.script_program.specs.declared.made.Made.{Made};
 ghost use Rattle.script_laws.specs.WellFormed.{IsWellFormed};
-ghost use Rattle.direct_meaning.specs.Made.{AreMade};
+ghost use Rattle.bag_laws.specs.of_direct_meaning.Made.{AreMade};
 ghost use Rattle.no_defaults.specs.Making.{HasAll, HasCells};
 
 /// In the collections that a well-formed script means (`meaning_law` of direct_meaning) each

@@ -1,1 +1,2 @@
 pub mod ArgumentLemmas
+pub use Rattle.expression_check.proofs as of_expression_check

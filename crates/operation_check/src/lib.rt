@@ -14,5 +14,6 @@ mod pairs;
 mod sides;
 mod top;
 
+pub use expression_check;
 pub use flatten::{collections, numbers};
 pub use operation::{collection, made_by};

@@ -8,21 +8,21 @@ use Rattle.exec_graph.specs.declared.graph.Graph.{Graph}
 use Rattle.exec_graph.specs.declared.graph.Place.{Place}
 use Rattle.exec_graph.proofs.Soundness.{IsSound-ok}
 use Rattle.exec_plan.specs.declared.plan.Plan.{Plan}
-use Rattle.form_laws.proofs.SameMarks.{plan_same, some_plan}
-use Rattle.fusion_blocks.proofs.Blocking.{blocked_can, can_ok, ranked_ok}
-use Rattle.fusion_blocks.proofs.Existing.{some_blocked}
-use Rattle.fusion_blocks.proofs.Unique.{marks_agree}
+use Rattle.mscr_form.proofs.of_form_laws.SameMarks.{plan_same, some_plan}
+use Rattle.mscr_form.proofs.of_fusion_blocks.Blocking.{blocked_can, can_ok, ranked_ok}
+use Rattle.mscr_form.proofs.of_fusion_blocks.Existing.{some_blocked}
+use Rattle.mscr_form.proofs.of_fusion_blocks.Unique.{marks_agree}
 use Rattle.graph_laws.proofs.Lifting.{IsGraphOk-lifted}
 use Rattle.graph_laws.proofs.SingleSteps.{AllSteps-remarked}
 use Rattle.graph_laws.specs.Lifting.{lift_of, lifted}
 use Rattle.graph_laws.specs.Single.{HasNarrowSteps, IsOneStep, IsUnfused}
 use Rattle.optimise.specs.Optimised.{IsOptimised, IsRefined, source_count}
 use Rattle.optimise.proofs.Passes.{fusible}
-use Rattle.pardo_fuse.specs.Fusing.{fused}
-use Rattle.pardo_fuse.proofs.Fused.{IsBlockedOk-fused}
-use Rattle.pardo_fuse.proofs.SameMarks.{fused_graphs, fused_marks}
-use Rattle.sink_laws.specs.Kept.{IsKept}
-use Rattle.sink_laws.proofs.Nexts.{kept_sunk}
+use Rattle.graph_bounds.specs.of_pardo_fuse.Fusing.{fused}
+use Rattle.graph_bounds.proofs.of_pardo_fuse.Fused.{IsBlockedOk-fused}
+use Rattle.graph_bounds.proofs.of_pardo_fuse.SameMarks.{fused_graphs, fused_marks}
+use Rattle.flatten_sink.specs.of_sink_laws.Kept.{IsKept}
+use Rattle.flatten_sink.proofs.of_sink_laws.Nexts.{kept_sunk}
 use Rattle.sink_weights.proofs.Ending.{ends_once, ends_somewhere}
 
 -- ---- before fusing

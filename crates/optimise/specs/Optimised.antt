@@ -7,14 +7,14 @@ use Rattle.exec_graph.specs.declared.graph.Node.{Node}
 use Rattle.exec_graph.specs.declared.graph.Node.TheVariants.{Source, Flatten, Pdo, Gbk, Barrier}
 use Rattle.exec_plan.specs.declared.plan.Plan.{Plan}
 use Rattle.exec_graph.specs.Wellformed.{IsGraphOk}
-use Rattle.form_laws.specs.Formed.{IsFormed}
-use Rattle.fusion_blocks.specs.Blocks.{IsBlocked}
+use Rattle.mscr_form.specs.of_form_laws.Formed.{IsFormed}
+use Rattle.mscr_form.specs.of_fusion_blocks.Blocks.{IsBlocked}
 use Rattle.graph_bounds.specs.Sources.{AreOfKinds}
 use Rattle.graph_laws.specs.Lifting.{lifted}
 use Rattle.graph_laws.specs.Single.{HasNarrowSteps, IsUnfused}
-use Rattle.pardo_fuse.specs.Fusing.{fused}
-use Rattle.plan_rules.specs.Fitting.{HasSourcesBelow}
-use Rattle.sink_laws.specs.Chain.{IsSunk}
+use Rattle.graph_bounds.specs.of_pardo_fuse.Fusing.{fused}
+use Rattle.graph_bounds.specs.of_plan_rules.Fitting.{HasSourcesBelow}
+use Rattle.flatten_sink.specs.of_sink_laws.Chain.{IsSunk}
 
 -- The graph with its flattens sunk, then its combiners lifted, then its fusion blocks marked by the
 -- scales of functions, and then its steps fused.

@@ -4,11 +4,11 @@ use Rattle.std.specs.List.{AllByRecursion}
 use Rattle.exec_graph.specs.declared.graph.Graph.{Graph}
 use Rattle.exec_plan.specs.declared.plan.Plan.{Plan}
 use Rattle.graph_rewrites.specs.declared.rewrite.Rewrite.{Rewrite}
-use Rattle.plan_check.specs.Checked.{Forms, IsChecked}
-use Rattle.plan_file_law.specs.Files.{text_of, told_by}
-use Rattle.plan_file_law.proofs.Ended.{line_feed}
-use Rattle.plan_file_law.proofs.Files.{line_read}
-use Rattle.plan_files.specs.Written.{IsSmall}
+use Rattle.plan_tracing.specs.of_plan_check.Checked.{Forms, IsChecked}
+use Rattle.plan_tracing.specs.of_plan_file_law.Files.{text_of, told_by}
+use Rattle.plan_tracing.proofs.of_plan_file_law.Ended.{line_feed}
+use Rattle.plan_tracing.proofs.of_plan_file_law.Files.{line_read}
+use Rattle.plan_tracing.specs.of_plan_files.Written.{IsSmall}
 use Rattle.plan_writing.specs.Naming.{Naming}
 
 pub line_taken : (names : Naming) (g : Graph) (rewrites : List Rewrite) (plan : Plan)

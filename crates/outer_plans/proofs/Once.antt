@@ -3,8 +3,8 @@ use Rattle.std.proofs.Common.{◌≡◌, ℕ, List, Result, Ok, Err}
 use Rattle.exec_graph.specs.Wellformed.{IsGraphOk}
 use Rattle.exec_graph.specs.declared.graph.Graph.{Graph}
 use Rattle.exec_plan.specs.declared.plan.Plan.{Plan}
-use Rattle.plan_check.proofs.One.{one_answer}
-use Rattle.plan_check.specs.Checked.{IsChecked}
+use Rattle.plan_tracing.proofs.of_plan_check.One.{one_answer}
+use Rattle.plan_tracing.specs.of_plan_check.Checked.{IsChecked}
 use Rattle.plan_faults.specs.declared.fault.PlanFault.{PlanFault}
 use Rattle.plan_faults.specs.declared.fault.PlanFault.TheVariants.{Refused, Memory}
 use Rattle.plan_faults.specs.declared.fault.PlanKind.{PlanKind}

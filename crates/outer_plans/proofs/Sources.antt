@@ -3,8 +3,8 @@ use Rattle.std.proofs.Common.{◌≡◌, ℕ, List, Result, Ok, Err, ap}
 use Rattle.std.specs.Prelude.{IfOk}
 use Rattle.exec_graph.specs.declared.graph.Graph.{Graph}
 use Rattle.exec_plan.specs.declared.plan.Plan.{Plan}
-use Rattle.optimise.specs.Optimised.{source_count}
-use Rattle.plan_check.specs.Checked.{IsChecked}
+use Rattle.script_plans.specs.of_optimise.Optimised.{source_count}
+use Rattle.plan_tracing.specs.of_plan_check.Checked.{IsChecked}
 use Rattle.plan_faults.specs.declared.fault.PlanFault.{PlanFault}
 use Rattle.plan_writing.specs.Naming.{Naming}
 

@@ -2,15 +2,15 @@
 use Rattle.std.specs.Prelude.{ℕ, List, Result, Ok, Err}
 use Rattle.serde_json.specs.Written.{compact_text}
 use Rattle.exec_plan.specs.declared.plan.Plan.{Plan}
-use Rattle.graph_build.specs.Graphs.{graph_of}
+use Rattle.plan_texts.specs.of_graph_build.Graphs.{graph_of}
 use Rattle.graph_rewrites.specs.declared.rewrite.Rewrite.{Rewrite}
-use Rattle.plan_check.specs.Checked.{Forms, IsChecked}
+use Rattle.plan_tracing.specs.of_plan_check.Checked.{Forms, IsChecked}
 use Rattle.plan_faults.specs.declared.fault.PlanFault.{PlanFault}
 use Rattle.plan_faults.specs.declared.fault.PlanFault.TheVariants.{Refused}
 use Rattle.plan_faults.specs.declared.fault.PlanKind.{PlanKind}
-use Rattle.plan_files.specs.Written.{file_json}
+use Rattle.plan_tracing.specs.of_plan_files.Written.{file_json}
 use Rattle.plan_texts.specs.Texts.{naming_of, plan_json_of}
-use Rattle.script_program.specs.Script.{Script}
+use Rattle.plan_texts.specs.of_script_program.Script.{Script}
 
 -- it is told so of the bytes of a file as a plan of the script: the plan, or why it is refused
 abbrev pub IsAnswer : Script → List ℕ → Result Plan PlanFault → Type 0

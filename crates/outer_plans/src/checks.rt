@@ -4,8 +4,8 @@ ghost use Rattle.exec_graph.specs.Typing.{IsTyped, Signatures};
 ghost use Rattle.exec_graph.specs.World.{World};
 ghost use Rattle.exec_plan.specs.Typing.{IsPlanTyped};
 ghost use Rattle.exec_plan.specs.Wellformed.{IsPlanOk};
-ghost use Rattle.optimise.specs.Optimised.{CanOptimise};
-ghost use Rattle.plan_check.specs.Checked.{IsChecked};
+ghost use Rattle.script_plans.specs.of_optimise.Optimised.{CanOptimise};
+ghost use Rattle.plan_tracing.specs.of_plan_check.Checked.{IsChecked};
 ghost use Rattle.plan_laws.specs.Operations.{SamePlan};
 ghost use Rattle.plan_texts.specs.Texts.{naming_of};
 
@@ -13,7 +13,7 @@ use exec_graph::Graph;
 use exec_plan::Plan;
 use plan_faults::PlanFault;
 use plan_texts::ProgramNames;
-use script_program::Program;
+use plan_texts::script_program::Program;
 use std::alloc::Global;
 
 /// The plan that a file tells under the names of a program, whose rewrites lead from the graph to
@@ -31,5 +31,5 @@ pub(crate) fn check_plan(
     ensures types { IfOk result (λ plan. (s : Signatures) → IsTyped s graph →
         IsPlanTyped s plan) }
 {
-    plan_check::check_plan(alloc, &ProgramNames { program }, graph, bytes)
+    plan_tracing::plan_check::check_plan(alloc, &ProgramNames { program }, graph, bytes)
 }

@@ -3,8 +3,8 @@ ghost use Rattle.std.specs.Prelude.{◌++◌, List, codes};
 ghost use Rattle.std.specs.List.{AllByRecursion};
 ghost use Rattle.exec_plan.specs.declared.plan.Plan.{Plan};
 ghost use Rattle.graph_rewrites.specs.declared.rewrite.Rewrite.{Rewrite};
-ghost use Rattle.plan_files.specs.Written.{IsSmall};
-ghost use Rattle.script_program.specs.Script.{Script};
+ghost use Rattle.plan_tracing.specs.of_plan_files.Written.{IsSmall};
+ghost use Rattle.plan_texts.specs.of_script_program.Script.{Script};
 ghost use Rattle.outer_plans.specs.Plans.{IsTaken, LeadTo, file_text_of};
 
 /// The file of a plan and of rewrites that lead to it from the script's graph, as a line with its

@@ -13,7 +13,10 @@ mod texts;
 mod traced;
 
 pub use laws::line_law;
+pub use plan_texts;
+pub use plan_texts::plan_print;
 pub use plan_tracing::Traced;
+pub use script_plans;
 pub use taken::taken_plan;
 pub use texts::rewrites_json;
 pub use traced::traced_plan;

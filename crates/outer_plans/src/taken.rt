@@ -1,22 +1,22 @@
 // A plan from outside, as one of a program.
 ghost use Rattle.std.specs.Prelude.{◌≡◌, IfOk, length};
-ghost use Rattle.direct_meaning.specs.Inputs.{inputs_of};
+ghost use Rattle.script_plans.specs.of_direct_meaning.Inputs.{inputs_of};
 ghost use Rattle.exec_graph.specs.Typing.{IsTyped, Signatures};
 ghost use Rattle.exec_graph.specs.Wellformed.{IsGraphOk};
 ghost use Rattle.exec_graph.specs.World.{World};
 ghost use Rattle.exec_plan.specs.Typing.{IsPlanTyped};
 ghost use Rattle.exec_plan.specs.Wellformed.{IsPlanOk};
-ghost use Rattle.graph_build.specs.Graphs.{graph_of};
+ghost use Rattle.plan_texts.specs.of_graph_build.Graphs.{graph_of};
 ghost use Rattle.plan_laws.specs.Operations.{SamePlan};
-ghost use Rattle.script_laws.specs.WellFormed.{IsWellFormed};
+ghost use Rattle.script_plans.specs.of_script_laws.WellFormed.{IsWellFormed};
 ghost use Rattle.outer_plans.specs.Plans.{IsAnswer};
 
 use crate::checks::check_plan;
-use build_law::one_step_law;
 use exec_graph::Graph;
 use exec_plan::Plan;
 use plan_faults::PlanFault;
-use script_program::Program;
+use plan_texts::script_program::Program;
+use script_plans::build_law::one_step_law;
 use std::alloc::Global;
 
 /// The plan that the bytes of a file tell, as one of a program, whose execution graph this is.

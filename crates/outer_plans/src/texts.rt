@@ -5,7 +5,7 @@ ghost use Rattle.outer_plans.specs.Plans.{file_text_of};
 use exec_plan::Plan;
 use graph_rewrites::Rewrite;
 use plan_texts::ProgramNames;
-use script_program::Program;
+use plan_texts::script_program::Program;
 use std::alloc::{AllocError, Global};
 
 /// The file of a plan of the program, with rewrites that lead to it: its compact JSON, on one line

@@ -2,17 +2,17 @@
 ghost use Rattle.std.specs.Prelude.{◌≡◌, IfOk};
 ghost use Rattle.std.specs.List.{AllByRecursion};
 ghost use Rattle.exec_graph.specs.Wellformed.{IsGraphOk};
-ghost use Rattle.graph_build.specs.Graphs.{graph_of};
-ghost use Rattle.plan_files.specs.Written.{IsSmall};
-ghost use Rattle.script_laws.specs.WellFormed.{IsWellFormed};
+ghost use Rattle.plan_texts.specs.of_graph_build.Graphs.{graph_of};
+ghost use Rattle.plan_tracing.specs.of_plan_files.Written.{IsSmall};
+ghost use Rattle.script_plans.specs.of_script_laws.WellFormed.{IsWellFormed};
 ghost use Rattle.script_plans.specs.Plans.{IsScriptPlan};
 ghost use Rattle.outer_plans.specs.Plans.{LeadTo};
 
-use build_law::one_step_law;
 use exec_graph::Graph;
+use plan_texts::script_program::Program;
 use plan_tracing::{Traced, optimise_traced};
+use script_plans::build_law::one_step_law;
 use script_plans::scales_of;
-use script_program::Program;
 use std::alloc::{AllocError, Global};
 
 /// The plan of a program, whose execution graph this is, with rewrites that lead from the graph to

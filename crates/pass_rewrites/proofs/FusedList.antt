@@ -17,13 +17,13 @@ use Rattle.fuse_chain.proofs.StepSiblings.{steps_lead}
 use Rattle.fusion_blocks.specs.Blocks.{unmarked}
 use Rattle.graph_rewrites.specs.Replays.{Leads, group_of}
 use Rattle.graph_rewrites.specs.declared.rewrite.Rewrite.{Rewrite}
-use Rattle.pardo_fuse.specs.Fusing.{fused, fused_by_parents, least_of}
-use Rattle.pardo_fuse.specs.Parting.{parted}
-use Rattle.pardo_fuse.specs.Readers.{cut_of}
-use Rattle.pardo_fuse.specs.Renumbering.{renumbered_graph}
-use Rattle.pardo_fuse.specs.SingleFusing.{fused_by}
-use Rattle.pardo_fuse.specs.Wellformed.{IsFusible}
-use Rattle.pardo_fuse.proofs.Fused.{IsBlockedOk-parents, same_numbers}
+use Rattle.fuse_chain.specs.of_pardo_fuse.Fusing.{fused, fused_by_parents, least_of}
+use Rattle.fuse_chain.specs.of_pardo_fuse.Parting.{parted}
+use Rattle.fuse_chain.specs.of_pardo_fuse.Readers.{cut_of}
+use Rattle.fuse_chain.specs.of_pardo_fuse.Renumbering.{renumbered_graph}
+use Rattle.fuse_chain.specs.of_pardo_fuse.SingleFusing.{fused_by}
+use Rattle.fuse_chain.specs.of_pardo_fuse.Wellformed.{IsFusible}
+use Rattle.fuse_chain.proofs.of_pardo_fuse.Fused.{IsBlockedOk-parents, same_numbers}
 use Rattle.pass_rewrites.specs.Passes.{ByFusing, as_rewrite, keeper_of, present}
 use Rattle.pass_rewrites.proofs.Fusing.{fusions_all, sibling_can, sibling_same}
 use Rattle.pass_rewrites.proofs.LesserKids.{kids_renumbered, numbers_agree}

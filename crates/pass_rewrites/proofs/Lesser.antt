@@ -19,8 +19,8 @@ use Rattle.graph_laws.specs.Kids.{with_kid}
 use Rattle.graph_laws.proofs.Wellness.{differ_map, mapped, node_at-map, node_at-set_other, node_at-set_same, reads_lower}
 use Rattle.graph_rewrites.specs.Exchange.{exchanged, other_number, swapped}
 use Rattle.graph_rewrites.proofs.Numbers.{other_far, other_left, other_right, other_twice}
-use Rattle.pardo_fuse.specs.Renumbering.{at_number, in_order, renumbered_entry, renumbered_graph}
-use Rattle.pardo_fuse.proofs.Sorting.{order_ascends, order_at, order_differ}
+use Rattle.fuse_chain.specs.of_pardo_fuse.Renumbering.{at_number, in_order, renumbered_entry, renumbered_graph}
+use Rattle.fuse_chain.proofs.of_pardo_fuse.Sorting.{order_ascends, order_at, order_differ}
 use Rattle.fuse_chain.proofs.KidNumbers.{Holds, differ_numbered, kid_numbered}
 use Rattle.fuse_chain.proofs.Renumbers.{IsWithin, order_reread, order_set, same_eqb, set_differ}
 use Rattle.pass_rewrites.proofs.Ascending.{StandIn, one_list}

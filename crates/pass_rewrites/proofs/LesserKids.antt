@@ -26,7 +26,7 @@ use Rattle.graph_laws.proofs.Wellness.{mapped, reads_lower}
 use Rattle.graph_rewrites.specs.Exchange.{other_number, swapped}
 use Rattle.graph_rewrites.specs.Replays.{Leads}
 use Rattle.graph_rewrites.specs.Rewrites.{forest_at, input_at, kid_under, kid_under_other, rewritten}
-use Rattle.pardo_fuse.specs.Renumbering.{at_number, in_order, renumbered_entry, renumbered_graph}
+use Rattle.fuse_chain.specs.of_pardo_fuse.Renumbering.{at_number, in_order, renumbered_entry, renumbered_graph}
 use Rattle.pass_rewrites.specs.Passes.{as_rewrite, present}
 use Rattle.pass_rewrites.proofs.Fusing.{forest_is, input_is, kid_can, kid_made}
 use Rattle.pass_rewrites.proofs.Lesser.{KeepsAll, kid_kept, kid_other, node_under}

@@ -7,3 +7,5 @@ pub mod LesserKids
 pub mod FusedList
 pub mod Marking
 pub mod Refined
+pub use Rattle.optimise.proofs.of_form_laws
+pub use Rattle.fuse_chain.proofs as of_fuse_chain

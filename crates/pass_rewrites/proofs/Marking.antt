@@ -20,11 +20,11 @@ use Rattle.exec_graph.proofs.Soundness.{IsSound-ok}
 use Rattle.fusion_blocks.specs.Blocks.{CanMark, IsBlocked, MarksLead, takes_mark, unmarked}
 use Rattle.fusion_blocks.proofs.Blocking.{blocked_can}
 use Rattle.graph_laws.specs.Joining.{reread}
-use Rattle.pardo_fuse.specs.Fusing.{finished, forest_over, fused, fused_by_parents, holds_out, joined_by, kept_nodes, kept_of, leads, least_of, moved_to, out_number, with_numbers}
-use Rattle.pardo_fuse.specs.Renumbering.{at_number}
-use Rattle.pardo_fuse.specs.Readers.{Cut, cut_of}
-use Rattle.pardo_fuse.specs.Wellformed.{IsFusible}
-use Rattle.pardo_fuse.proofs.Fused.{IsBlockedOk-parents, at_fused, there_fused}
+use Rattle.fuse_chain.specs.of_pardo_fuse.Fusing.{finished, forest_over, fused, fused_by_parents, holds_out, joined_by, kept_nodes, kept_of, leads, least_of, moved_to, out_number, with_numbers}
+use Rattle.fuse_chain.specs.of_pardo_fuse.Renumbering.{at_number}
+use Rattle.fuse_chain.specs.of_pardo_fuse.Readers.{Cut, cut_of}
+use Rattle.fuse_chain.specs.of_pardo_fuse.Wellformed.{IsFusible}
+use Rattle.fuse_chain.proofs.of_pardo_fuse.Fused.{IsBlockedOk-parents, at_fused, there_fused}
 use Rattle.pass_rewrites.specs.Passes.{ByRewrites}
 use Rattle.pass_rewrites.proofs.Sinking.{marks_list}
 

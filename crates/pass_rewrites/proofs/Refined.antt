@@ -5,14 +5,14 @@ use Rattle.exec_graph.specs.declared.graph.Blocked.{Blocked}
 use Rattle.exec_graph.specs.declared.graph.Graph.{Graph}
 use Rattle.fusion_blocks.specs.Blocks.{unmarked}
 use Rattle.fusion_blocks.proofs.Blocking.{blocked_can, can_ok}
-use Rattle.graph_bounds.proofs.Narrowing.{narrow_lifted, narrow_sunk}
+use Rattle.graph_rewrites.proofs.of_graph_bounds.Narrowing.{narrow_lifted, narrow_sunk}
 use Rattle.graph_laws.specs.Lifting.{lift_of, lifted}
 use Rattle.graph_laws.specs.Single.{HasNarrowSteps, IsOneStep, IsUnfused}
 use Rattle.graph_laws.proofs.Lifting.{IsGraphOk-lifted}
 use Rattle.graph_laws.proofs.SingleSteps.{AllSteps-remarked}
 use Rattle.optimise.specs.Optimised.{IsRefined}
-use Rattle.pardo_fuse.specs.Fusing.{fused}
-use Rattle.pardo_fuse.specs.Wellformed.{IsFusible}
+use Rattle.fuse_chain.specs.of_pardo_fuse.Fusing.{fused}
+use Rattle.fuse_chain.specs.of_pardo_fuse.Wellformed.{IsFusible}
 use Rattle.sink_laws.specs.Kept.{IsKept}
 use Rattle.sink_laws.proofs.Nexts.{kept_sunk}
 use Rattle.sink_laws.proofs.TypesKept.{AllSteps-kept}

@@ -9,8 +9,8 @@ ghost use Rattle.graph_laws.specs.Single.{HasNarrowSteps, IsUnfused};
 ghost use Rattle.graph_rewrites.specs.Replays.{Leads};
 ghost use Rattle.graph_rewrites.specs.declared.rewrite.Rewrite.{Rewrite};
 ghost use Rattle.optimise.specs.Optimised.{IsRefined};
-ghost use Rattle.pardo_fuse.specs.Fusing.{fused};
-ghost use Rattle.pardo_fuse.specs.Wellformed.{IsFusible};
+ghost use Rattle.fuse_chain.specs.of_pardo_fuse.Fusing.{fused};
+ghost use Rattle.fuse_chain.specs.of_pardo_fuse.Wellformed.{IsFusible};
 ghost use Rattle.pass_rewrites.specs.Passes.{ByFusing, ByRewrites};
 ghost use Rattle.sink_laws.specs.Chain.{IsSunk};
 

@@ -15,3 +15,4 @@
 mod laws;
 
 pub use laws::{passes_law, refined_law};
+pub use optimise::mscr_form;

@@ -9,7 +9,7 @@ use Rattle.exec_graph.specs.declared.graph.Node.{Node}
 use Rattle.exec_graph.specs.declared.graph.Node.TheVariants.{Source, Flatten, Pdo, Gbk, Barrier}
 use Rattle.graph_laws.specs.Single.{HasNarrowSteps, HasSteps, IsOneStep, IsUnfused, most_outputs, width}
 use Rattle.graph_rewrites.specs.Replays.{HasNarrowForests}
-use Rattle.plan_rules.specs.Fitting.{HasFewOutputs, IsNarrow}
+use Rattle.graph_rewrites.specs.of_plan_rules.Fitting.{HasFewOutputs, IsNarrow}
 
 twigs_wide : (b : Branch) (n : ℕ) (ts : List Twig) → width (twigs b n ts Bare) ≡ length ts
 twigs_wide b n [] = refl

@@ -9,7 +9,7 @@ use Rattle.exec_graph.specs.declared.graph.Blocked.{Blocked}
 use Rattle.exec_graph.specs.declared.graph.Graph.{Graph}
 use Rattle.exec_graph.proofs.Soundness.{IsSound-ok}
 use Rattle.exec_plan.specs.declared.plan.Plan.{Plan}
-use Rattle.form_laws.proofs.SameMarks.{plan_same}
+use Rattle.optimise.proofs.of_form_laws.SameMarks.{plan_same}
 use Rattle.fusion_blocks.specs.Blocks.{unmarked}
 use Rattle.graph_rewrites.specs.Replays.{StopsAt}
 use Rattle.graph_rewrites.specs.declared.rewrite.Rewrite.{Rewrite}

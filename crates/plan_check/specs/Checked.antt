@@ -4,7 +4,7 @@ use Rattle.serde_json.specs.Written.{compact_text}
 use Rattle.exec_graph.specs.declared.graph.Blocked.{Blocked}
 use Rattle.exec_graph.specs.declared.graph.Graph.{Graph}
 use Rattle.exec_plan.specs.declared.plan.Plan.{Plan}
-use Rattle.form_laws.specs.Formed.{IsFormed}
+use Rattle.optimise.specs.of_form_laws.Formed.{IsFormed}
 use Rattle.fusion_blocks.specs.Blocks.{unmarked}
 use Rattle.graph_rewrites.specs.Replays.{Leads, StopsAt}
 use Rattle.graph_rewrites.specs.declared.rewrite.Rewrite.{Rewrite}

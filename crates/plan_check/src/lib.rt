@@ -15,4 +15,5 @@ mod laws;
 
 pub use checking::check_plan;
 pub use laws::answer_law;
+pub use optimise;
 pub use plan_faults::{PlanFault, PlanKind};

@@ -10,7 +10,7 @@ use Rattle.exec_graph.specs.declared.graph.Node.{Node}
 use Rattle.exec_graph.specs.declared.graph.Node.TheVariants.{Source, Flatten, Pdo, Gbk, Barrier}
 use Rattle.graph_bounds.specs.Sources.{BringSuch, BringsSuch, OfSource}
 use Rattle.graph_laws.specs.Single.{HasNarrowSteps, HasSingleOutputs, IsUnfused}
-use Rattle.optimise.specs.Optimised.{CanOptimise, source_count}
+use Rattle.plan_check.specs.of_optimise.Optimised.{CanOptimise, source_count}
 use Rattle.plan_rules.specs.Fitting.{HasSourcesBelow, IsSourceBelow}
 use Rattle.plan_check_tests.specs.Plain.{is_plain}
 

@@ -1,12 +1,12 @@
 // Whether the passes can take a graph of single outputs.
 ghost use Rattle.std.specs.Prelude.{◌≡◌, IfOk, IsTrue};
 ghost use Rattle.std.specs.List.{list_all};
-ghost use Rattle.optimise.specs.Optimised.{CanOptimise};
+ghost use Rattle.plan_check.specs.of_optimise.Optimised.{CanOptimise};
 ghost use Rattle.plan_check_tests.specs.Plain.{is_plain};
 
 use exec_graph::{Entry, Graph, Node, graph_ok};
-use optimise::count_sources;
 use pardo_fuse::{has_single_outputs, single_law};
+use plan_check::optimise::count_sources;
 use std::alloc::{AllocError, Global};
 
 /// Whether the graph is well-formed, of single outputs, and without objects.

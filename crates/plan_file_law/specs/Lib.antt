@@ -1,1 +1,2 @@
 pub mod Files
+pub use Rattle.plan_files.specs as of_plan_files

@@ -11,3 +11,4 @@
 mod laws;
 
 pub use laws::file_law;
+pub use plan_files;

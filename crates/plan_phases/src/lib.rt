@@ -3,8 +3,8 @@
 //! A stage has a map phase, and where it groups a reduce phase; a stage that makes an object by an
 //! act is a phase without tasks, and a Flatten has none. `phases` (specs/Phases.antt) lists those
 //! of all stages, each over the lists that it finds, with the tasks of each, or the traps of its
-//! act. `phases_law` says that their traps, in order, are all traps of the plan's tasks and acts. So
-//! the first trap is that of the least trapping task, or of the act, of the first phase that has
+//! act. `phases_law` says that their traps, in order, are all traps of the plan's tasks and acts.
+//! So the first trap is that of the least trapping task, or of the act, of the first phase that has
 //! one.
 //!
 //! Phases that have run tell of each task which attempt has won it (`HaveRun`, `PhaseWinners`), and

@@ -11,8 +11,8 @@ use Rattle.exec_graph.specs.declared.graph.Place.{Place}
 use Rattle.exec_graph.specs.Forests.{Forest, Bare, Grow}
 use Rattle.graph_build.specs.Origins.{origins_of}
 use Rattle.printing.specs.Printed.{quoted}
-use Rattle.script_program.specs.declared.made.Output.{Output}
-use Rattle.script_program.specs.Script.{Script}
+use Rattle.graph_build.specs.of_script_program.declared.made.Output.{Output}
+use Rattle.graph_build.specs.of_script_program.Script.{Script}
 use Rattle.written_types.specs.Named.{Named}
 use Rattle.plan_print.specs.Names.{name_at}
 use Rattle.plan_print.specs.Steps.{act_text, step_text}

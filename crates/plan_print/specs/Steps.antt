@@ -6,7 +6,7 @@ use Rattle.exec_graph.specs.declared.graph.Act.{Act}
 use Rattle.exec_graph.specs.declared.graph.Act.TheVariants.{SideInput, Operate, Singleton}
 use Rattle.exec_graph.specs.declared.step.Does.{Does}
 use Rattle.exec_graph.specs.declared.step.Does.TheVariants as does
-use Rattle.script_program.specs.Script.{Script}
+use Rattle.graph_build.specs.of_script_program.Script.{Script}
 use Rattle.plan_print.specs.Names.{name_at}
 
 -- the name of a combiner

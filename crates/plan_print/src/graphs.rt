@@ -1,6 +1,6 @@
 // The text of a graph: a line for each node, and for each output of the script.
 ghost use Rattle.std.specs.Prelude.{◌≡◌, ◌<◌, ◌++◌, codes, length, slice_get, slice_index, ℕ, List, Some, IfOk, OnOk};
-ghost use Rattle.script_program.specs.declared.made.Output.{Output};
+ghost use Rattle.graph_build.specs.of_script_program.declared.made.Output.{Output};
 ghost use Rattle.std.specs.List.{flat_map};
 ghost use Rattle.plan_print.specs.GraphText as spec;
 ghost use Rattle.plan_print.specs.Names.{name_at};
@@ -10,8 +10,8 @@ use crate::names::{node_name, push_number};
 use crate::steps::{push_act, push_step};
 use exec_graph::{Act, Entry, Graph, Node, Place, Roots};
 use graph_build::origins;
+use graph_build::script_program::Program;
 use printing::push_quoted;
-use script_program::Program;
 use std::alloc::{AllocError, Global};
 
 /// The text of the graph that is built of the program.

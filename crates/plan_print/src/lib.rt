@@ -10,6 +10,7 @@ mod graphs;
 mod names;
 mod steps;
 
+pub use graph_build::script_program;
 pub use graphs::graph_text;
 pub use names::node_name;
 pub use steps::{push_combiner, push_step};

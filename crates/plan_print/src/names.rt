@@ -2,8 +2,8 @@
 ghost use Rattle.std.specs.Prelude.{◌≡◌, ◌++◌, OnOk, decimal};
 ghost use Rattle.plan_print.specs.Names.{name_at};
 
+use graph_build::script_program::Program;
 use itoa::Buffer;
-use script_program::Program;
 use std::alloc::AllocError;
 
 /// The name of the collection of a number, or no byte where it has none.

@@ -5,7 +5,7 @@ ghost use Rattle.plan_print.specs.Steps as spec;
 use crate::names::{function_name, node_name, push_number};
 use combine_table::Comb;
 use exec_graph::{Act, Does};
-use script_program::Program;
+use graph_build::script_program::Program;
 use std::alloc::AllocError;
 
 /// Adds the name of a combiner.

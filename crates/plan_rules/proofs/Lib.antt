@@ -19,3 +19,4 @@ pub mod Counted
 pub mod TypedChannels
 pub mod TypedStages
 pub mod TypedPlans
+pub use Rattle.graph_laws.proofs as of_graph_laws

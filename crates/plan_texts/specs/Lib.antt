@@ -1,1 +1,4 @@
 pub mod Texts
+pub use Rattle.plan_print.specs.of_graph_build
+pub use Rattle.plan_print.specs as of_plan_print
+pub use Rattle.plan_print.specs.of_script_program

@@ -9,4 +9,6 @@ mod names;
 mod texts;
 
 pub use names::ProgramNames;
+pub use plan_print;
+pub use plan_print::script_program;
 pub use texts::{plan_json, plan_text};

@@ -16,8 +16,8 @@ use Rattle.graph_tracing.specs.Fusions.{IsFusion}
 use Rattle.graph_tracing.specs.Orders.{Ascend, Precedes, had_after, with_formers}
 use Rattle.pardo_fuse.specs.Fusing.{fused}
 use Rattle.pardo_fuse.proofs.Places.{same_is, same_self}
-use Rattle.pass_rewrites.specs.Passes.{ByRewrites}
-use Rattle.pass_rewrites.proofs.Lists.{leads_both}
+use Rattle.graph_tracing.specs.of_pass_rewrites.Passes.{ByRewrites}
+use Rattle.graph_tracing.proofs.of_pass_rewrites.Lists.{leads_both}
 use Rattle.plan_tracing.specs.Lists.{IsBefore, Rise, mark_of}
 use Rattle.plan_tracing.specs.Refined.{IsMarkedBy}
 

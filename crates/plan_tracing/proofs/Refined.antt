@@ -6,10 +6,10 @@ use Rattle.exec_graph.specs.declared.graph.Blocked.{Blocked}
 use Rattle.exec_graph.specs.declared.graph.Graph.{Graph}
 use Rattle.exec_graph.proofs.Soundness.{differ_ascends}
 use Rattle.exec_plan.specs.declared.plan.Plan.{Plan}
-use Rattle.form_laws.specs.Formed.{IsFormed}
-use Rattle.form_laws.proofs.SameMarks.{plan_same, some_plan}
+use Rattle.graph_tracing.specs.of_form_laws.Formed.{IsFormed}
+use Rattle.graph_tracing.proofs.of_form_laws.SameMarks.{plan_same, some_plan}
 use Rattle.fusion_blocks.specs.Blocks.{CanMark, IsBlocked, unmarked}
-use Rattle.graph_bounds.proofs.Narrowing.{narrow_lifted, narrow_sunk}
+use Rattle.graph_rewrites.proofs.of_graph_bounds.Narrowing.{narrow_lifted, narrow_sunk}
 use Rattle.graph_laws.specs.Lifting.{lift_of, lifted}
 use Rattle.graph_laws.specs.Single.{HasNarrowSteps, IsOneStep, IsUnfused}
 use Rattle.graph_laws.proofs.SingleSteps.{AllSteps-remarked}
@@ -18,11 +18,11 @@ use Rattle.graph_rewrites.specs.declared.rewrite.Rewrite.{Rewrite}
 use Rattle.graph_rewrites.specs.declared.rewrite.Rewrite.TheVariants.{Merge, Sink, Lift, Kid, Sibling, Mark}
 use Rattle.graph_tracing.specs.Orders.{AreInOrder, Ascend, Precedes, with_formers}
 use Rattle.graph_tracing.specs.Traces.{IsTrace}
-use Rattle.optimise.specs.Optimised.{IsOptimised, source_count}
+use Rattle.plan_check.specs.of_optimise.Optimised.{IsOptimised, source_count}
 use Rattle.pardo_fuse.specs.Fusing.{fused}
 use Rattle.pardo_fuse.specs.Wellformed.{IsFusible}
-use Rattle.pass_rewrites.proofs.Lists.{leads_both}
-use Rattle.pass_rewrites.proofs.Marking.{fused_list}
+use Rattle.graph_tracing.proofs.of_pass_rewrites.Lists.{leads_both}
+use Rattle.graph_tracing.proofs.of_pass_rewrites.Marking.{fused_list}
 use Rattle.sink_laws.specs.Chain.{IsSunk}
 use Rattle.sink_laws.specs.Kept.{KeepsSteps}
 use Rattle.sink_laws.proofs.TypesKept.{AllSteps-kept}

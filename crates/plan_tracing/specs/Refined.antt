@@ -8,7 +8,7 @@ use Rattle.fusion_blocks.specs.Blocks.{unmarked}
 use Rattle.graph_rewrites.specs.Replays.{Leads}
 use Rattle.graph_rewrites.specs.declared.rewrite.Rewrite.{Rewrite}
 use Rattle.graph_tracing.specs.Orders.{AreInOrder}
-use Rattle.optimise.specs.Optimised.{IsRefined}
+use Rattle.plan_check.specs.of_optimise.Optimised.{IsRefined}
 
 -- the rewrites lead from that group on to the graph, where the same collections are marked
 pub record IsMarkedBy (group : ℕ) (g : Graph) (b : Blocked) (rs : List Rewrite) (c : Blocked)

@@ -9,7 +9,7 @@ ghost use Rattle.plan_check.specs.Checked.{Forms, IsChecked};
 ghost use Rattle.plan_faults.specs.declared.fault.PlanFault.{PlanFault};
 ghost use Rattle.plan_faults.specs.declared.fault.PlanFault.TheVariants.{Memory};
 ghost use Rattle.plan_file_law.specs.Files.{text_of};
-ghost use Rattle.plan_files.specs.Written.{IsSmall};
+ghost use Rattle.plan_file_law.specs.of_plan_files.Written.{IsSmall};
 ghost use Rattle.plan_writing.specs.Naming.{Naming};
 
 use plan_check::answer_law;

@@ -18,5 +18,6 @@ mod tracing;
 mod writing;
 
 pub use laws::accepted_law;
+pub use plan_check;
 pub use tracing::{Traced, optimise_traced};
 pub use writing::rewrites_json;

@@ -2,9 +2,9 @@
 ghost use Rattle.std.specs.Prelude.{◌≡◌, ◌<◌, ◌^◌, IfOk};
 ghost use Rattle.std.specs.List.{AllByRecursion};
 ghost use Rattle.graph_tracing.specs.Orders.{AreInOrder};
-ghost use Rattle.optimise.specs.Optimised.{CanOptimise, IsOptimised};
+ghost use Rattle.plan_check.specs.of_optimise.Optimised.{CanOptimise, IsOptimised};
 ghost use Rattle.plan_check.specs.Checked.{Forms};
-ghost use Rattle.plan_files.specs.Written.{IsSmall};
+ghost use Rattle.plan_file_law.specs.of_plan_files.Written.{IsSmall};
 
 use crate::fusing::Refined;
 use crate::refining::refine_traced;
@@ -12,8 +12,8 @@ use exec_graph::{Blocked, Graph};
 use exec_plan::Plan;
 use flume_value::Pile;
 use graph_rewrites::{Rewrite, replay_law};
-use mscr_form::form;
-use optimise::count_sources;
+use graph_tracing::mscr_form::form;
+use plan_check::optimise::count_sources;
 use std::alloc::{AllocError, Global};
 
 /// A plan, with rewrites that lead to it.

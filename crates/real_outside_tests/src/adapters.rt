@@ -1,28 +1,22 @@
 // Rows of what the real source, shelf and screen read and write, and where they fail.
+use crate::unflushed::{Unflushed, Unflushing};
 use outside::{Failed, LoadFault, load, save, say};
 use real_outside::{FileShelf, FileSource, OutputScreen};
-use std::io::{ErrorKind, Write};
+use std::fs;
 use std::test::Fail;
-use std::{fs, io};
-
-// A writer that takes all that is written, and fails to flush it.
-#[derive(Drop)]
-struct Unflushed;
-
-impl Write for Unflushed {
-    fn write(&mut self, piece: &[u8]) -> io::Result<usize> {
-        Ok(piece.len())
-    }
-
-    fn flush(&mut self) -> io::Result<()> {
-        Err(io::Error::from(ErrorKind::BrokenPipe))
-    }
-}
 
 #[test]
 fn a_piece_that_is_not_flushed_has_failed(rt: HostRuntime) -> Result<(), Fail> {
     let mut screen = OutputScreen::new(Unflushed);
     assert_eq!(&rt; say(&mut screen, b"done\n"), Err(Failed));
+    Ok(())
+}
+
+#[test]
+fn a_file_that_is_not_flushed_has_failed(rt: HostRuntime) -> Result<(), Fail> {
+    let mut shelf = FileShelf::new(&Unflushing);
+    assert_eq!(&rt; save(&mut shelf, "a.csv", b"value\n"), Err(Failed));
+    assert_eq!(&rt; save(&mut shelf, "b.csv", b""), Err(Failed));
     Ok(())
 }
 

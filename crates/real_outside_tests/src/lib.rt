@@ -3,3 +3,5 @@
 
 #[cfg(test)]
 mod adapters;
+#[cfg(test)]
+mod unflushed;

@@ -17,7 +17,7 @@ use Rattle.exec_plan.specs.declared.plan.InChannel.{InChannel}
 use Rattle.exec_plan.specs.declared.plan.OutChannel.{OutChannel}
 use Rattle.exec_plan.specs.declared.plan.OutChannel.TheVariants.{Group, Pass}
 use Rattle.exec_plan.specs.declared.plan.Take.{Take}
-use Rattle.task_lists.specs.Tasks.{groupings}
+use Rattle.lifted_root.specs.of_task_lists.Tasks.{groupings}
 use Rattle.reduce_part.specs.Reducing.{AreGroupsFirst, CanReduce, IsReducedFrom, IsReducible, IsReducingValue, Reducing, channel_at, reducing_count, reducing_places}
 use Rattle.reduce_part.specs.declared.out.ReduceOut.{ReduceOut}
 use Rattle.reduce_part.proofs.Gathering.{places_gathered}

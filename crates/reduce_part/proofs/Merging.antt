@@ -18,8 +18,8 @@ use Rattle.exec_graph.specs.Wellformed.{root_comb}
 use Rattle.exec_graph.specs.World.{World}
 use Rattle.exec_graph.specs.declared.step.Does.{Does}
 use Rattle.exec_graph.specs.declared.step.Does.TheVariants as does
-use Rattle.forest_courses.specs.Courses.{IsCourse}
-use Rattle.forest_courses.proofs.Coursing.{either_course}
+use Rattle.task_safety.specs.of_forest_courses.Courses.{IsCourse}
+use Rattle.task_safety.proofs.of_forest_courses.Coursing.{either_course}
 use Rattle.forest_steps.specs.Fresh.{none_given}
 use Rattle.forest_steps.specs.Places.{outputs_in, sizes_in}
 use Rattle.forest_steps.specs.Running.{Given, Run, run, run_each}

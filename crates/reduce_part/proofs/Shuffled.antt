@@ -24,9 +24,9 @@ use Rattle.exec_plan.specs.declared.plan.Mscr.{Mscr}
 use Rattle.exec_plan.specs.declared.plan.OutChannel.{OutChannel}
 use Rattle.exec_plan.specs.declared.plan.OutChannel.TheVariants.{Group, Pass}
 use Rattle.exec_plan.specs.declared.plan.Take.{Take}
-use Rattle.task_lists.specs.Tasks.{Split, Lists, Task, gathered, given_to, groupings, map_task_of, reduce_task}
-use Rattle.task_lists.specs.Outs.{AreSentPairs, IsSent, IsMapOut, AreMapOuts}
-use Rattle.task_lists.proofs.Numbers.{joined_two, listed, zip_listed}
+use Rattle.lifted_root.specs.of_task_lists.Tasks.{Split, Lists, Task, gathered, given_to, groupings, map_task_of, reduce_task}
+use Rattle.lifted_root.specs.of_task_lists.Outs.{AreSentPairs, IsSent, IsMapOut, AreMapOuts}
+use Rattle.lifted_root.proofs.of_task_lists.Numbers.{joined_two, listed, zip_listed}
 use Rattle.forest_steps.specs.Safety.{SafeOf}
 use Rattle.task_safety.proofs.Fitting.{IsOutSomewhere, few_tasks}
 use Rattle.reduce_part.specs.Reducing.{AreGroupsFirst, CanReduce, IsGathered, group_task, reducing_of}

@@ -6,8 +6,8 @@ use Rattle.flume_collection.specs.declared.trap.Trap.{Trap}
 use Rattle.flume_collection.specs.Calls.{Called}
 use Rattle.exec_graph.specs.Forests.{Forest}
 use Rattle.exec_graph.specs.World.{World}
-use Rattle.task_lists.specs.Runs.{kept_count}
-use Rattle.forest_courses.proofs.Worlds.{same_counts, same_given, same_traps}
+use Rattle.lifted_root.specs.of_task_lists.Runs.{kept_count}
+use Rattle.task_safety.proofs.of_forest_courses.Worlds.{same_counts, same_given, same_traps}
 use Rattle.forest_steps.specs.Functions.{world_of}
 use Rattle.reduce_part.specs.Reducing.{IsReduceValue}
 use Rattle.reduce_part.specs.inner.Merged.{IsValueOf}

@@ -20,8 +20,8 @@ use Rattle.exec_plan.specs.declared.plan.Mscr.{Mscr}
 use Rattle.exec_plan.specs.declared.plan.OutChannel.{OutChannel}
 use Rattle.exec_plan.specs.declared.plan.OutChannel.TheVariants.{Group}
 use Rattle.exec_plan.specs.contracts.plan.Mscr as stages
-use Rattle.task_lists.specs.Outs.{IsFirstTrap, IsReduceOut}
-use Rattle.task_lists.specs.Tasks.{Task, groupings}
+use Rattle.lifted_root.specs.of_task_lists.Outs.{IsFirstTrap, IsReduceOut}
+use Rattle.lifted_root.specs.of_task_lists.Tasks.{Task, groupings}
 use Rattle.forest_steps.specs.Safety.{SafeOf}
 use Rattle.reduce_part.specs.declared.out.ReduceOut.{ReduceOut}
 

@@ -10,13 +10,13 @@ ghost use Rattle.exec_graph.specs.World.{World};
 ghost use Rattle.exec_plan.specs.declared.plan.Stage.TheVariants as stage;
 ghost use Rattle.exec_plan.specs.Wellformed.{IsMscrOk};
 ghost use Rattle.forest_steps.specs.Functions.{world_of};
-ghost use Rattle.task_lists.specs.Outs.{AreMapOuts};
-ghost use Rattle.task_lists.specs.Tasks.{Lists, Split};
+ghost use Rattle.lifted_root.specs.of_task_lists.Outs.{AreMapOuts};
+ghost use Rattle.lifted_root.specs.of_task_lists.Tasks.{Lists, Split};
 ghost use Rattle.task_safety.specs.Stages.{CanRunStage};
 ghost use Rattle.reduce_part.specs.Reducing.{AreGroupsFirst, CanReduce, IsGathered, group_count, reducing_of};
 
 use forest_steps::Functions;
-use task_lists::typed_law;
+use lifted_root::task_lists::typed_law;
 use task_safety::{safe_law, taken_law};
 
 /// In a stage of a well-formed plan the grouping channels stand before the others, as the reduce

@@ -9,7 +9,7 @@ ghost use Rattle.crew.specs.Drills.{attempt_at};
 ghost use Rattle.crew.specs.Hosts.{account};
 ghost use Rattle.exec_graph.specs.Forests.{numbered};
 ghost use Rattle.exec_graph.specs.Wellformed.{root_comb};
-ghost use Rattle.forest_courses.specs.Courses.{IsCourse};
+ghost use Rattle.task_safety.specs.of_forest_courses.Courses.{IsCourse};
 ghost use Rattle.forest_run.specs.Asked.{Asked};
 ghost use Rattle.forest_steps.specs.Functions.{world_of};
 ghost use Rattle.reduce_part.specs.inner.Merged.{AnswerFor, CanRun, IsValueOf};

@@ -11,7 +11,7 @@ ghost use Rattle.crew.specs.Attempts.{IsMadeOf};
 ghost use Rattle.exec_graph.specs.Forests.{Forest};
 ghost use Rattle.exec_graph.specs.World.{World};
 ghost use Rattle.exec_plan.specs.Wellformed.{IsNumbered};
-ghost use Rattle.forest_courses.specs.Courses.{IsCourse};
+ghost use Rattle.task_safety.specs.of_forest_courses.Courses.{IsCourse};
 ghost use Rattle.forest_run.specs.Asked.{Asked};
 ghost use Rattle.forest_steps.specs.Functions.{world_of};
 ghost use Rattle.forest_steps.specs.Safety.{SafeOf};

@@ -1,6 +1,6 @@
 // The reduce tasks of a stage.
 ghost use Rattle.std.specs.Prelude.{◌≡◌, length};
-ghost use Rattle.task_lists.specs.Tasks.{groupings};
+ghost use Rattle.lifted_root.specs.of_task_lists.Tasks.{groupings};
 ghost use Rattle.forest_steps.specs.Functions.{world_of};
 ghost use Rattle.reduce_part.specs.Reducing.{CanReduce};
 

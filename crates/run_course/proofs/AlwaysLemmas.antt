@@ -4,7 +4,7 @@ use Rattle.std.specs.Prelude.{IsSome}
 use Rattle.command_words.specs.declared.words.Command.{Command}
 use Rattle.command_words.specs.declared.words.Command.TheVariants.{Check, Plan, Direct, Run}
 use Rattle.crew.specs.Hosts.{Account}
-use Rattle.direct_meaning.specs.Direct.{traps_of}
+use Rattle.script_loading.specs.of_direct_meaning.Direct.{traps_of}
 use Rattle.exec_plan.specs.declared.plan.Plan.{Plan as PlanOf}
 use Rattle.flume_collection.specs.declared.trap.Trap.{Trap as TrapOf}
 use Rattle.flume_value.specs.declared.fault.Kind.{Kind}

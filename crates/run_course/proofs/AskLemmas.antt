@@ -2,7 +2,7 @@
 use Rattle.std.proofs.Common.{◌≡◌, ◌∙◌, ◌++◌, ℕ, inl, inr, List, [], ◌∷◌, Option, Some, None, Result, Ok, Err, IfErr, ap, sym, refl, subst, append-nil, append_assoc}
 use Rattle.command_words.specs.declared.words.Command.{Command}
 use Rattle.crew.specs.Hosts.{Account}
-use Rattle.direct_meaning.specs.Inputs.{Wanted}
+use Rattle.script_loading.specs.of_direct_meaning.Inputs.{Wanted}
 use Rattle.exec_plan.specs.declared.plan.Plan.{Plan}
 use Rattle.flume_value.specs.declared.value.Value.{Value}
 use Rattle.outside.specs.Asked.{Asks, AsksFront}

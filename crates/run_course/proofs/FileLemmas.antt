@@ -6,8 +6,8 @@ use Rattle.std.specs.List.{All, AllByRecursion, AllZip}
 use Rattle.std.specs.Option.{option_map}
 use Rattle.std.proofs.lemmas.List.Elements.{recursion_from_All}
 use Rattle.csv_rows.specs.Text.{table_text}
-use Rattle.direct_meaning.specs.Direct.{made_at}
-use Rattle.direct_meaning.specs.Evaluated.{IsWritten as Holds, bag_at}
+use Rattle.script_loading.specs.of_direct_meaning.Direct.{made_at}
+use Rattle.script_loading.specs.of_direct_meaning.Evaluated.{IsWritten as Holds, bag_at}
 use Rattle.flume_collection.specs.Collection.{Collection}
 use Rattle.flume_value.specs.declared.value.Value.{Value}
 use Rattle.outside.specs.Saves.{FailsAt}

@@ -1,12 +1,12 @@
 -- The execution graph of an accepted script is well-formed.
 use Rattle.std.proofs.Common.{ℕ, List}
-use Rattle.build_law.proofs.Accepting.{accepted_kept}
-use Rattle.build_law.proofs.Short.{accepted_short}
-use Rattle.build_law.proofs.WellFormed.{is_graph_ok}
+use Rattle.script_loading.proofs.of_build_law.Accepting.{accepted_kept}
+use Rattle.script_loading.proofs.of_build_law.Short.{accepted_short}
+use Rattle.script_loading.proofs.of_build_law.WellFormed.{is_graph_ok}
 use Rattle.exec_graph.specs.Wellformed.{IsGraphOk}
-use Rattle.graph_build.specs.Graphs.{graph_of}
+use Rattle.script_loading.specs.of_graph_build.Graphs.{graph_of}
 use Rattle.script_program.specs.Script.{Script}
-use Rattle.script_laws.proofs.RuleLemmas.{well-formed}
+use Rattle.script_loading.proofs.of_script_laws.RuleLemmas.{well-formed}
 use Rattle.script_loading.specs.Accepted.{Accepted}
 
 pub accepted_graph : (bytes : List ℕ) (script : Script) → Accepted bytes script

@@ -3,7 +3,7 @@ use Rattle.std.proofs.Common.{◌≡◌, ℕ, zero, suc, inl, inr, List, [], ◌
 use Rattle.command_words.specs.declared.words.Command.{Command}
 use Rattle.command_words.specs.declared.words.Command.TheVariants.{Run}
 use Rattle.crew.specs.Hosts.{Account}
-use Rattle.direct_meaning.specs.Inputs.{inputs_of}
+use Rattle.script_loading.specs.of_direct_meaning.Inputs.{inputs_of}
 use Rattle.exec_plan.specs.declared.plan.Plan.{Plan}
 use Rattle.flume_value.specs.declared.value.Value.{Value}
 use Rattle.outside.specs.Seen.{Seen, SeenShelf}

@@ -6,9 +6,9 @@ use Rattle.flume_collection.proofs.TrapSets.{first_least, set_rises, set_settled
 use Rattle.flume_collection.specs.Traps.{IsLeast, trap_set}
 use Rattle.flume_collection.specs.declared.trap.Trap.{Trap}
 use Rattle.flume_value.specs.declared.value.Value.{Value}
-use Rattle.direct_meaning.specs.Direct.{traps_behind, traps_of}
-use Rattle.direct_meaning.specs.Evaluated.{IsDirect}
-use Rattle.direct_meaning.specs.declared.told.Direct.{Direct}
+use Rattle.script_loading.specs.of_direct_meaning.Direct.{traps_behind, traps_of}
+use Rattle.script_loading.specs.of_direct_meaning.Evaluated.{IsDirect}
+use Rattle.script_loading.specs.of_direct_meaning.declared.told.Direct.{Direct}
 use Rattle.outside.specs.declared.file.File.{File as NamedBytes}
 use Rattle.run_texts.specs.Texts.{size_lines}
 use Rattle.script_program.specs.Script.{Script}

@@ -17,13 +17,13 @@ use Rattle.flume_value.specs.declared.fault.Kind.{Kind}
 use Rattle.flume_value.specs.declared.fault.Kind.TheVariants as kind
 use Rattle.flume_value.specs.declared.value.Value.{Value}
 use Rattle.flume_value.specs.declared.value.Value.TheVariants as value
-use Rattle.direct_meaning.specs.Calls.{answer_of, calls_on}
-use Rattle.direct_meaning.specs.Direct as spec
-use Rattle.direct_meaning.specs.Objects.{answer_beside, answered_once, argument_of, done_on, nothing_behind, object_as, one_of, only, operated_on, value_of, values_of, whole_behind}
+use Rattle.script_loading.specs.of_direct_meaning.Calls.{answer_of, calls_on}
+use Rattle.script_loading.specs.of_direct_meaning.Direct as spec
+use Rattle.script_loading.specs.of_direct_meaning.Objects.{answer_beside, answered_once, argument_of, done_on, nothing_behind, object_as, one_of, only, operated_on, value_of, values_of, whole_behind}
 use Rattle.script_program.specs.declared.made.Made.{Made}
 use Rattle.script_program.specs.declared.made.Made.TheVariants as made
 use Rattle.script_program.specs.Script.{Node, Script}
-use Rattle.script_laws.specs.WellFormed.{function_at}
+use Rattle.script_loading.specs.of_script_laws.WellFormed.{function_at}
 use Rattle.script_program.specs.Needed.{is_needed}
 use Rattle.written_types.specs.Named.{Named}
 use Rattle.run_course.specs.Written.{Table}

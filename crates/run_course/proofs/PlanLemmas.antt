@@ -4,7 +4,7 @@ use Rattle.std.specs.Prelude.{IsSome}
 use Rattle.command_words.specs.declared.words.Command.{Command}
 use Rattle.exec_graph.specs.Wellformed.{IsGraphOk}
 use Rattle.exec_plan.specs.declared.plan.Plan.{Plan}
-use Rattle.graph_build.specs.Graphs.{graph_of}
+use Rattle.script_loading.specs.of_graph_build.Graphs.{graph_of}
 use Rattle.outer_plans.specs.Plans.{IsAnswer, IsNotTaken, IsTaken}
 use Rattle.outer_plans.proofs.Once.{refused_once, taken_alone}
 use Rattle.outside.specs.Seen.{Seen}
@@ -12,7 +12,7 @@ use Rattle.outside.specs.declared.file.File.{File as NamedBytes}
 use Rattle.plan_faults.specs.declared.fault.PlanFault.{PlanFault}
 use Rattle.plan_faults.specs.declared.fault.PlanFault.TheVariants.{Refused, Memory}
 use Rattle.plan_faults.specs.declared.fault.PlanKind.{PlanKind}
-use Rattle.plan_texts.specs.Texts.{naming_of}
+use Rattle.outer_plans.specs.of_plan_texts.Texts.{naming_of}
 use Rattle.run_texts.specs.declared.status.Status.{Status}
 use Rattle.run_texts.specs.declared.status.Status.TheVariants.{Done, GaveUp, Usage, ScriptRefused, InputRefused, Trap, ReadFault, WriteFault, WantOfMemory, TooLong, NoFile, PlanRefused}
 use Rattle.script_loading.specs.Causes.{IsLoadCause}

@@ -3,8 +3,8 @@ use Rattle.std.proofs.Common.{◌≡◌, ℕ, ◌<◌, List, [], ◌∷◌, leng
 use Rattle.std.specs.Prelude.{IsSome, IsSomeAnd}
 use Rattle.csv_rows.specs.Rows.{rows_of}
 use Rattle.csv_rows.specs.declared.fault.RowFault.{RowFault}
-use Rattle.direct_meaning.specs.Direct.{meaning}
-use Rattle.direct_meaning.specs.Inputs.{Wanted, inputs_of}
+use Rattle.script_loading.specs.of_direct_meaning.Direct.{meaning}
+use Rattle.script_loading.specs.of_direct_meaning.Inputs.{Wanted, inputs_of}
 use Rattle.flume_value.specs.declared.value.Value.{Value}
 use Rattle.outside.specs.declared.file.File.{File as NamedBytes}
 use Rattle.script_program.specs.Script.{Script}

@@ -6,7 +6,7 @@ use Rattle.csv_rows.specs.Rows.{rows_of}
 use Rattle.csv_rows.specs.declared.fault.RowFault.{RowFault}
 use Rattle.csv_rows.specs.declared.fault.RowFault.TheVariants.{Bad}
 use Rattle.csv_rows.specs.declared.fault.RowKind.{RowKind}
-use Rattle.direct_meaning.specs.Inputs.{Wanted}
+use Rattle.script_loading.specs.of_direct_meaning.Inputs.{Wanted}
 use Rattle.flume_grammar.specs.declared.fault.ScriptKind.{ScriptKind}
 use Rattle.flume_value.specs.declared.value.Value.{Value}
 use Rattle.outside.specs.Seen.{Seen}

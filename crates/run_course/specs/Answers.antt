@@ -2,13 +2,13 @@
 use Rattle.std.specs.Prelude.{◌≡◌, ◌++◌, ℕ, List, Option, Some, None, Err, slice_get, ⊤}
 use Rattle.std.specs.List.{Contains}
 use Rattle.std.specs.Option.{option_map}
-use Rattle.build_law.specs.Worlds.{world_of}
+use Rattle.script_loading.specs.of_build_law.Worlds.{world_of}
 use Rattle.crew.specs.Hosts.{Account}
 use Rattle.csv_rows.specs.Rows.{rows_of}
 use Rattle.csv_rows.specs.declared.fault.RowFault.TheVariants.{Bad}
 use Rattle.csv_rows.specs.declared.fault.RowKind.{RowKind}
-use Rattle.direct_meaning.specs.Direct.{traps_of}
-use Rattle.direct_meaning.specs.Inputs.{Wanted}
+use Rattle.script_loading.specs.of_direct_meaning.Direct.{traps_of}
+use Rattle.script_loading.specs.of_direct_meaning.Inputs.{Wanted}
 use Rattle.exec_plan.specs.declared.plan.Plan.{Plan}
 use Rattle.flume_collection.specs.Traps.{IsLeast}
 use Rattle.flume_collection.specs.declared.trap.Trap.{Trap as TrapOf}

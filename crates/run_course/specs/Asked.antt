@@ -1,6 +1,6 @@
 -- The files that a call asks for, what is in them, and the turn of each.
 use Rattle.std.specs.Prelude.{◌≡◌, ◌⊎◌, ℕ, List, [], ◌∷◌, ◌++◌, Option, Some, None}
-use Rattle.direct_meaning.specs.Inputs.{Wanted, inputs_of}
+use Rattle.script_loading.specs.of_direct_meaning.Inputs.{Wanted, inputs_of}
 use Rattle.flume_value.specs.declared.value.Value.{Value}
 use Rattle.outside.specs.declared.file.File.{File}
 use Rattle.script_program.specs.Script.{Script}

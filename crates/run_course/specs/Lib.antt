@@ -9,3 +9,7 @@ pub mod Promises
 pub mod World
 pub mod Written
 pub mod inner
+pub use Rattle.script_loading.specs.of_build_law
+pub use Rattle.script_loading.specs as of_script_loading
+pub use Rattle.outer_plans.specs.of_script_plans
+pub use Rattle.script_run.specs as of_script_run

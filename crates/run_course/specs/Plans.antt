@@ -9,7 +9,7 @@ use Rattle.outside.specs.Seen.{Seen}
 use Rattle.script_loading.specs.Causes.{IsLoadCause}
 use Rattle.script_loading.specs.Limits.{plan_limit}
 use Rattle.script_loading.specs.Loads.{Loads}
-use Rattle.script_plans.specs.Plans.{IsScriptPlan}
+use Rattle.outer_plans.specs.of_script_plans.Plans.{IsScriptPlan}
 use Rattle.script_program.specs.Script.{Script}
 
 -- where no file is named it is what the optimiser makes of the script's graph, and else the plan of

@@ -2,7 +2,7 @@
 use Rattle.std.specs.Prelude.{◌≡◌, ◌⊎◌, ℕ, false, List, [], ◌∷◌, Option, Some, IsSome, ⊤}
 use Rattle.crew.specs.Hosts.{Account}
 use Rattle.csv_rows.specs.declared.fault.RowKind.{RowKind}
-use Rattle.direct_meaning.specs.Direct.{meaning, traps_of}
+use Rattle.script_loading.specs.of_direct_meaning.Direct.{meaning, traps_of}
 use Rattle.exec_plan.specs.declared.plan.Plan.{Plan}
 use Rattle.flume_collection.specs.declared.trap.Trap.{Trap as TrapOf}
 use Rattle.flume_value.specs.declared.fault.Kind.{Kind}

@@ -3,21 +3,21 @@ use Rattle.std.specs.Prelude.{◌≡◌, ℕ, List, [], ◌∷◌, ◌++◌, Opt
 use Rattle.std.specs.Option.{option_map}
 use Rattle.crew.specs.Hosts.{Account}
 use Rattle.csv_rows.specs.Text.{table_text}
-use Rattle.direct_meaning.specs.Direct.{made_at, meaning, sizes_of, traps_of}
-use Rattle.direct_meaning.specs.Inputs.{inputs_of}
+use Rattle.script_loading.specs.of_direct_meaning.Direct.{made_at, meaning, sizes_of, traps_of}
+use Rattle.script_loading.specs.of_direct_meaning.Inputs.{inputs_of}
 use Rattle.flume_collection.specs.Collection.{Collection}
 use Rattle.flume_value.specs.declared.value.Value.{Value}
-use Rattle.graph_build.specs.Graphs.{graph_of}
-use Rattle.graph_rewrites.specs.declared.rewrite.Rewrite.{Rewrite}
+use Rattle.script_loading.specs.of_graph_build.Graphs.{graph_of}
+use Rattle.outer_plans.specs.of_graph_rewrites.declared.rewrite.Rewrite.{Rewrite}
 use Rattle.outer_plans.specs.Plans.{IsTaken, LeadTo, file_text_of}
 use Rattle.outside.specs.declared.file.File.{File}
 use Rattle.plan_phases.specs.declared.winners.PhaseWinners.{PhaseWinners}
-use Rattle.plan_print.specs.GraphText.{graph_text}
+use Rattle.outer_plans.specs.of_plan_print.GraphText.{graph_text}
 use Rattle.run_settings.specs.Settings.{RunSettings}
 use Rattle.exec_plan.specs.declared.plan.Plan.{Plan}
-use Rattle.plan_texts.specs.Texts.{plan_json_of, plan_text_of}
+use Rattle.outer_plans.specs.of_plan_texts.Texts.{plan_json_of, plan_text_of}
 use Rattle.run_texts.specs.Texts.{size_lines}
-use Rattle.script_plans.specs.Plans.{IsScriptPlan}
+use Rattle.outer_plans.specs.of_script_plans.Plans.{IsScriptPlan}
 use Rattle.script_run.specs.Runs.{AsksAllPhases, WereRun, phases_of}
 use Rattle.serde_json.specs.Written.{compact_text}
 use Rattle.script_program.specs.declared.made.Output.{Output}

@@ -3,12 +3,12 @@ ghost use Rattle.std.specs.Prelude.{◌≡◌, ◌≤◌, ◌<◌, ◌++◌, [],
 ghost use Rattle.std.specs.List.{AllZip};
 ghost use Rattle.command_words.specs.declared.words.Command.TheVariants.{Direct, Run};
 ghost use Rattle.crew.specs.Hosts.{Grew, account};
-ghost use Rattle.direct_meaning.specs.Inputs.{inputs_of};
+ghost use Rattle.script_loading.specs.of_direct_meaning.Inputs.{inputs_of};
 ghost use Rattle.exec_graph.specs.Wellformed.{IsGraphOk};
-ghost use Rattle.graph_build.specs.Graphs.{graph_of};
+ghost use Rattle.script_loading.specs.of_graph_build.Graphs.{graph_of};
 ghost use Rattle.outside.specs.Saves.{output_file};
 ghost use Rattle.outside.specs.Seen.{seen};
-ghost use Rattle.script_laws.specs.WellFormed.{IsWellFormed};
+ghost use Rattle.script_loading.specs.of_script_laws.WellFormed.{IsWellFormed};
 ghost use Rattle.run_course.specs.Asked as spec;
 ghost use Rattle.run_course.specs.Asks.{files_behind, plan_file};
 ghost use Rattle.run_course.specs.Lent.{lends};

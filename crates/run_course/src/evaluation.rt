@@ -1,20 +1,20 @@
 // What the meaning of a script writes, or why it writes nothing.
 ghost use Rattle.std.specs.Prelude.{◌≡◌, ◌<◌, ◌++◌, [], IfErr, IfOk, Some, codes, length, map, slice_get};
 ghost use Rattle.std.specs.Option.{option_map};
-ghost use Rattle.direct_meaning.specs.Evaluated.{bag_at};
-ghost use Rattle.direct_meaning.specs.Inputs.{AreInputs};
+ghost use Rattle.script_loading.specs.of_direct_meaning.Evaluated.{bag_at};
+ghost use Rattle.script_loading.specs.of_direct_meaning.Inputs.{AreInputs};
 ghost use Rattle.outside.specs.Saves.{output_file};
 ghost use Rattle.run_texts.specs.Texts.{NamedOutput, size_lines};
-ghost use Rattle.script_laws.specs.WellFormed.{IsWellFormed};
+ghost use Rattle.script_loading.specs.of_script_laws.WellFormed.{IsWellFormed};
 ghost use Rattle.script_loading.specs.Ready.{IsReady};
 ghost use Rattle.run_course.specs.inner.Course.{AreFiles, HaveMembers, Gives, IsFileOf, IsStop};
 
 use crate::files::{Written, file_of, trapped, with_sizes};
 use crate::stop::Stop;
-use direct_meaning::{Direct, direct};
 use flume_collection::Trap;
 use flume_value::{Items, Pile, Str};
 use outside::Output;
+use script_loading::direct_meaning::{Direct, direct};
 use script_program::Program;
 use std::alloc::{AllocError, Global};
 

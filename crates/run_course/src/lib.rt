@@ -22,4 +22,7 @@ pub use course::{deliver, run};
 pub use files::{Written, file_of};
 pub use limits::TRIES;
 pub use running::ran_on;
+pub use script_loading;
+pub use script_loading::build_law;
+pub use script_run;
 pub use showing::{ShownPlan, plan_shown};

@@ -1,10 +1,10 @@
 // The plan that a run carries out, with its text: the script's own, or that of a file.
 ghost use Rattle.std.specs.Prelude.{◌≡◌, ◌≤◌, ◌<◌, ◌∷◌, [], IfErr, IfOk, Some};
 ghost use Rattle.exec_graph.specs.Wellformed.{IsGraphOk};
-ghost use Rattle.graph_build.specs.Graphs.{graph_of};
+ghost use Rattle.script_loading.specs.of_graph_build.Graphs.{graph_of};
 ghost use Rattle.outside.specs.Asked.{Asks};
 ghost use Rattle.outside.specs.Seen.{seen};
-ghost use Rattle.script_laws.specs.WellFormed.{IsWellFormed};
+ghost use Rattle.script_loading.specs.of_script_laws.WellFormed.{IsWellFormed};
 ghost use Rattle.script_loading.specs.Ready.{IsReady};
 ghost use Rattle.script_run.specs.Runs.{IsPlanOf};
 ghost use Rattle.run_course.specs.Asks.{plan_file};

@@ -2,26 +2,26 @@
 ghost use Rattle.std.specs.Prelude.{◌≡◌, IfErr, IfOk};
 ghost use Rattle.command_words.specs.declared.words.PlanForm.TheVariants.{Json, Rewrites, Text};
 ghost use Rattle.exec_graph.specs.Wellformed.{IsGraphOk};
-ghost use Rattle.graph_build.specs.Graphs.{graph_of};
-ghost use Rattle.script_laws.specs.WellFormed.{IsWellFormed};
+ghost use Rattle.script_loading.specs.of_graph_build.Graphs.{graph_of};
+ghost use Rattle.script_loading.specs.of_script_laws.WellFormed.{IsWellFormed};
 ghost use Rattle.outer_plans.specs.Plans.{IsTaken};
-ghost use Rattle.script_plans.specs.Plans.{IsScriptPlan};
+ghost use Rattle.outer_plans.specs.of_script_plans.Plans.{IsScriptPlan};
 ghost use Rattle.script_run.specs.Runs.{IsPlanOf};
 ghost use Rattle.run_course.specs.Written.{ShowsPlan, file_shown, text_shown};
 ghost use Rattle.script_loading.specs.Ready.{IsReady};
 ghost use Rattle.run_course.specs.inner.Course.{IsTakingStop, refusal_of};
 
-use build_law::types_law;
 use command_words::PlanForm;
 use exec_graph::Graph;
 use exec_plan::Plan;
-use graph_build::build;
+use outer_plans::plan_print::graph_text;
+use outer_plans::plan_texts::{plan_json, plan_text};
+use outer_plans::script_plans::plan_of;
 use outer_plans::{Traced, line_law, rewrites_json, taken_plan, traced_plan};
 use plan_faults::PlanFault;
-use plan_print::graph_text;
-use plan_texts::{plan_json, plan_text};
 use run_texts::Status;
-use script_plans::plan_of;
+use script_loading::build_law::types_law;
+use script_loading::graph_build::build;
 use script_program::Program;
 use std::alloc::{AllocError, Global};
 

@@ -13,8 +13,8 @@ use Rattle.script_program.specs.Needed.{is_needed, made_of}
 use Rattle.script_program.specs.Script.{Node, Script}
 use Rattle.script_program.specs.declared.made.Made.{Made}
 use Rattle.script_program.specs.declared.made.Made.TheVariants as made
-use Rattle.direct_meaning.specs.Direct.{all_made, collections, inputs_behind, made_as, made_at, meaning, rows_as, size_of, sizes_of}
-use Rattle.direct_meaning.proofs.PlaceLemmas.{at_end}
+use Rattle.build_law.specs.of_direct_meaning.Direct.{all_made, collections, inputs_behind, made_as, made_at, meaning, rows_as, size_of, sizes_of}
+use Rattle.build_law.proofs.of_direct_meaning.PlaceLemmas.{at_end}
 use Rattle.build_law.specs.Means.{HasOwn}
 use Rattle.build_law.proofs.Tables.{and_then_some, continues, made_next, map_some}
 use Rattle.run_sizes.specs.Counts.{AreOwnCounts}

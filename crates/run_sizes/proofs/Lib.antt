@@ -2,3 +2,4 @@ pub mod Along
 pub mod Named
 pub mod Stepping
 pub mod Together
+pub use Rattle.build_law.proofs.of_direct_meaning

@@ -4,7 +4,7 @@ use Rattle.std.specs.Option.{option_map}
 use Rattle.flume_collection.specs.Collection.{Collection}
 use Rattle.written_types.specs.Named.{Named}
 use Rattle.script_program.specs.Script.{Node}
-use Rattle.direct_meaning.specs.Direct.{sizes_from}
+use Rattle.build_law.specs.of_direct_meaning.Direct.{sizes_from}
 use Rattle.run_sizes.specs.inner.Along.{named_sizes, size_line}
 use Rattle.run_sizes.proofs.Together.{sized}
 

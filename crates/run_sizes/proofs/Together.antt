@@ -3,7 +3,7 @@ use Rattle.std.proofs.Common.{◌≡◌, ℕ, zero, suc, ◌+◌, List, [], ◌�
 use Rattle.std.specs.Prelude.{option_map}
 use Rattle.std.specs.List.{flat_map}
 use Rattle.flume_collection.specs.Collection.{Collection}
-use Rattle.direct_meaning.specs.Direct.{all_made, made_at, size_of}
+use Rattle.build_law.specs.of_direct_meaning.Direct.{all_made, made_at, size_of}
 use Rattle.build_law.proofs.Tables.{and_then_some, map_some}
 use Rattle.run_sizes.specs.inner.Along.{kept, size_at, together}
 

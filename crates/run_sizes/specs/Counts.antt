@@ -5,7 +5,7 @@ use Rattle.script_program.specs.Needed.{made_of}
 use Rattle.script_program.specs.Script.{Script}
 use Rattle.script_program.specs.declared.made.Made.{Made}
 use Rattle.build_law.specs.Means.{HasOwn}
-use Rattle.direct_meaning.specs.Direct.{made_at, size_of}
+use Rattle.build_law.specs.of_direct_meaning.Direct.{made_at, size_of}
 
 -- By the numbers of collections, the counts have the sizes of those that have calls, groups or
 -- combinations of their own.

@@ -1,2 +1,7 @@
 pub mod Counts
 pub mod inner
+pub use Rattle.build_law.specs as of_build_law
+pub use Rattle.build_law.specs.of_direct_meaning
+pub use Rattle.build_law.specs.of_graph_build
+pub use Rattle.build_law.specs.of_script_laws
+pub use Rattle.script_program.specs as of_script_program

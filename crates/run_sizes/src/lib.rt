@@ -9,4 +9,7 @@
 
 mod sizes;
 
+pub use build_law;
+pub use build_law::direct_meaning;
+pub use script_program;
 pub use sizes::needed_sizes;

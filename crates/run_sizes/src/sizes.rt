@@ -1,7 +1,7 @@
 // The sizes of the needed collections, by what a run has counted.
 ghost use Rattle.std.specs.Prelude.{◌≡◌, ◌<◌, ◌++◌, ◌-◌, ◌^◌, [], IfOk, List, OnOk, Option, Some, length};
 ghost use Rattle.flume_collection.specs.Collection.{Collection};
-ghost use Rattle.direct_meaning.specs.Direct.{meaning, sizes_of};
+ghost use Rattle.build_law.specs.of_direct_meaning.Direct.{meaning, sizes_of};
 ghost use Rattle.run_sizes.specs.Counts.{AreOwnCounts};
 ghost use Rattle.run_sizes.specs.inner.Along.{behind as behind_is, count_at as count_is, kept, named_sizes, row_count as rows_are, size_at as size_is, size_line, sized_as, sizes_along, together as together_is};
 

@@ -27,7 +27,7 @@ use Rattle.script_program.specs.Limits.{most_outputs}
 use Rattle.combine_table.specs.declared.comb.Comb.TheVariants as comb
 use Rattle.script_program.specs.declared.made.Made.{Made}
 use Rattle.script_program.specs.declared.made.Made.TheVariants as made
-use Rattle.expression_check.specs.Numbers.{number_within}
+use Rattle.operation_check.specs.of_expression_check.Numbers.{number_within}
 use Rattle.script_program.specs.Script.{Making, Operand, Script, Signature, State, function_from}
 use Rattle.script_program.specs.Script.{nothing, script_from, with_copies, with_front}
 use Rattle.script_program.specs.Script.{with_function, with_given, with_hidden, with_node}

@@ -1,6 +1,6 @@
 // The rules of a function: its types, its scale and its body.
 ghost use Rattle.std.specs.Prelude.{◌≡◌, ◌≤◌, ◌+◌, [], ◌∷◌, false, is_some, length, map, IfOk, OnOk};
-ghost use Rattle.expression_types.specs.Held.{AreTypes};
+ghost use Rattle.operation_check.specs.of_expression_types.Held.{AreTypes};
 ghost use Rattle.type_table.specs.Table.{type_at, Extends};
 ghost use Rattle.written_types.specs.Answer.{Gives};
 ghost use Rattle.written_types.specs.Named.{find};

@@ -13,10 +13,10 @@ use Rattle.dofn_eval.specs.Function.{Function as Fun}
 use Rattle.dofn_eval.specs.Outcome.{Gives, IsFault}
 use Rattle.dofn_eval.specs.Run.{means}
 use Rattle.forest_steps.specs.Functions.{IsCallFault}
-use Rattle.script_program.specs.Program.{Does}
-use Rattle.script_program.specs.Script.{Function}
-use Rattle.script_laws.specs.WellFormed.{function_at}
-use Rattle.direct_meaning.proofs.CallLemmas.{gives_answer, same_answer, traps_answer}
+use Rattle.build_law.specs.of_script_program.Program.{Does}
+use Rattle.build_law.specs.of_script_program.Script.{Function}
+use Rattle.build_law.specs.of_script_laws.WellFormed.{function_at}
+use Rattle.build_law.proofs.of_direct_meaning.CallLemmas.{gives_answer, same_answer, traps_answer}
 use Rattle.build_law.specs.Worlds.{answered_by, or_silent}
 
 -- ---- a function's number

@@ -7,12 +7,12 @@ use Rattle.flume_types.specs.declared.types.Ty.{Ty}
 use Rattle.flume_types.specs.Typing.{AllHave, Has}
 use Rattle.flume_collection.specs.Calls.{Called}
 use Rattle.exec_graph.specs.Typing.{IsWorldTyped, Answers}
-use Rattle.script_program.specs.Script.{Function, Script}
-use Rattle.script_laws.specs.WellFormed.{IsWellFormed, IsWellTyped, function_at}
-use Rattle.direct_meaning.specs.Calls.{answer_of}
-use Rattle.direct_meaning.specs.Inputs.{AreInputs, HaveRows, Wanted, inputs_of}
-use Rattle.direct_meaning.proofs.CallLemmas.{CalledOf, answers}
-use Rattle.direct_meaning.proofs.MakeLemmas.{well_typed}
+use Rattle.build_law.specs.of_script_program.Script.{Function, Script}
+use Rattle.build_law.specs.of_script_laws.WellFormed.{IsWellFormed, IsWellTyped, function_at}
+use Rattle.build_law.specs.of_direct_meaning.Calls.{answer_of}
+use Rattle.build_law.specs.of_direct_meaning.Inputs.{AreInputs, HaveRows, Wanted, inputs_of}
+use Rattle.build_law.proofs.of_direct_meaning.CallLemmas.{CalledOf, answers}
+use Rattle.build_law.proofs.of_direct_meaning.MakeLemmas.{well_typed}
 use Rattle.build_law.specs.Signatures.{given_by, input_type, signatures_of, taken_by}
 use Rattle.build_law.specs.Worlds.{answered_by, or_silent, world_of}
 

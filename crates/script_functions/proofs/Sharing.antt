@@ -23,10 +23,10 @@ use Rattle.dofn_eval.specs.contracts.fun.Fun as fun
 use Rattle.dofn_eval.proofs.expr.Expr.TheLaws.TheKnot as expr_knot
 use Rattle.dofn_eval.proofs.stmt.Stmt.TheLaws.TheKnot as stmt_knot
 use Rattle.written_types.specs.contracts.names.TypeNames as names
-use Rattle.script_program.specs.contracts.made.Function as function
-use Rattle.script_program.specs.contracts.made.Node as node
-use Rattle.script_program.specs.contracts.made.Output as output
-use Rattle.script_program.specs.contracts.program.Program as program
+use Rattle.build_law.specs.of_script_program.contracts.made.Function as function
+use Rattle.build_law.specs.of_script_program.contracts.made.Node as node
+use Rattle.build_law.specs.of_script_program.contracts.made.Output as output
+use Rattle.build_law.specs.of_script_program.contracts.program.Program as program
 use Rattle.script_functions.specs.contracts.functions.ScriptFunctions as functions
 
 ruleset parts = (Str-sync, Pile-sync, Held-sync)

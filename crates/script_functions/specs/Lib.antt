@@ -1,0 +1,1 @@
+pub use Rattle.task_safety.specs as of_task_safety

@@ -4,10 +4,10 @@ ghost use Rattle.dofn_eval.specs.Function.{Accepts};
 ghost use Rattle.dofn_eval.specs.Outcome.{Gives, IsFault};
 ghost use Rattle.dofn_eval.specs.Run.{means};
 
+use build_law::script_program::Program;
 use dofn_eval::{Fun, call};
 use flume_value::{CallFault, Items, Value};
 use forest_steps::Functions;
-use script_program::Program;
 use std::alloc::{AllocError, Global};
 use std::marker::Model;
 
@@ -21,9 +21,9 @@ impl<'a> Model for ScriptFunctions<'a> {
     ghost use Rattle.std.specs.Coded.{codes};
     ghost use Rattle.flume_types.specs.contracts.types.Ty as coded_types;
     ghost use Rattle.flume_grammar.specs.contracts.tree.Body as coded_bodies;
-    ghost use Rattle.script_program.specs.contracts.made.Made as coded_made;
-    ghost use Rattle.script_program.specs.contracts.made.Output as coded_outputs;
-    ghost use Rattle.script_program.specs.Script.{Script};
+    ghost use Rattle.build_law.specs.of_script_program.contracts.made.Made as coded_made;
+    ghost use Rattle.build_law.specs.of_script_program.contracts.made.Output as coded_outputs;
+    ghost use Rattle.build_law.specs.of_script_program.Script.{Script};
 
     ghost Value = { Script };
 

@@ -2,9 +2,9 @@
 ghost use Rattle.std.specs.Prelude.{List};
 ghost use Rattle.flume_value.specs.declared.value.Value.{Value};
 ghost use Rattle.exec_graph.specs.Typing.{IsWorldTyped};
-ghost use Rattle.script_program.specs.Script.{Script};
-ghost use Rattle.script_laws.specs.WellFormed.{IsWellFormed};
-ghost use Rattle.direct_meaning.specs.Inputs.{AreInputs};
+ghost use Rattle.build_law.specs.of_script_program.Script.{Script};
+ghost use Rattle.build_law.specs.of_script_laws.WellFormed.{IsWellFormed};
+ghost use Rattle.build_law.specs.of_direct_meaning.Inputs.{AreInputs};
 ghost use Rattle.build_law.specs.Signatures.{signatures_of};
 ghost use Rattle.build_law.specs.Worlds.{world_of};
 

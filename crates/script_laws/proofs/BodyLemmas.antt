@@ -11,10 +11,10 @@ use Rattle.flume_grammar.specs.declared.tree.TurnLet.{TurnLet}
 use Rattle.flume_grammar.specs.declared.fault.ScriptKind.TheVariants.{Mistyped}
 use Rattle.written_types.specs.Answer.{unless}
 use Rattle.written_types.specs.Named.{Named}
-use Rattle.script_program.specs.declared.made.Made.{Made}
-use Rattle.script_program.specs.declared.made.Made.TheVariants as made
-use Rattle.script_program.specs.Script.{Making, Node, State, with_nodes}
-use Rattle.operation_check.specs.Operations.{made_by, outputs_from}
+use Rattle.script_check.specs.of_script_program.declared.made.Made.{Made}
+use Rattle.script_check.specs.of_script_program.declared.made.Made.TheVariants as made
+use Rattle.script_check.specs.of_script_program.Script.{Making, Node, State, with_nodes}
+use Rattle.script_check.specs.of_operation_check.Operations.{made_by, outputs_from}
 use Rattle.script_check.specs.Rules as spec
 use Rattle.script_check.proofs.CheckedLemmas.{both, holds, ok-same}
 use Rattle.script_laws.specs.Fitting.{AreInPlace, IsInPlace}

@@ -3,9 +3,9 @@ use Rattle.std.proofs.Common.{◌≡◌, ℕ, zero, suc, ◌+◌, List, [], ◌�
 use Rattle.std.proofs.Common.{slice_get, refl, sym, ap, ◌∙◌, subst, arith}
 use Rattle.std.proofs.lemmas.List.{map-append}
 use Rattle.written_types.specs.Named.{Named}
-use Rattle.script_program.specs.declared.made.Made.{Made}
-use Rattle.script_program.specs.declared.made.Made.TheVariants as made
-use Rattle.script_program.specs.Script.{Function, Node}
+use Rattle.script_check.specs.of_script_program.declared.made.Made.{Made}
+use Rattle.script_check.specs.of_script_program.declared.made.Made.TheVariants as made
+use Rattle.script_check.specs.of_script_program.Script.{Function, Node}
 use Rattle.script_check.specs.Repeats.{Repeat, copied, nodes_left, renumbered, turn_gives}
 use Rattle.script_check.specs.Repeats.{turn_nodes, turn_to}
 use Rattle.script_laws.specs.Fitting.{lets_of}

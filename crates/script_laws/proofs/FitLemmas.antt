@@ -4,10 +4,10 @@ use Rattle.std.specs.List.{All}
 use Rattle.std.proofs.lemmas.List.{append-nil}
 use Rattle.flume_types.specs.declared.types.Ty.{Ty}
 use Rattle.written_types.specs.Named.{Named}
-use Rattle.script_program.specs.declared.made.Made.{Made}
-use Rattle.script_program.specs.declared.made.Made.TheVariants as made
-use Rattle.script_program.specs.declared.made.Output.{Output}
-use Rattle.script_program.specs.Script.{Function, Node}
+use Rattle.script_check.specs.of_script_program.declared.made.Made.{Made}
+use Rattle.script_check.specs.of_script_program.declared.made.Made.TheVariants as made
+use Rattle.script_check.specs.of_script_program.declared.made.Output.{Output}
+use Rattle.script_check.specs.of_script_program.Script.{Function, Node}
 use Rattle.script_laws.specs.WellFormed.{Fits, AllFit, AllReadKinds, HasColumns}
 use Rattle.script_laws.proofs.PlaceLemmas.{mapped-kept}
 

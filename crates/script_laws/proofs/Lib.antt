@@ -17,3 +17,5 @@ pub mod CopyLemmas
 pub mod RepeatLemmas
 pub mod RuleLemmas
 pub mod NeededLemmas
+pub use Rattle.script_check.proofs.of_body_check
+pub use Rattle.script_check.proofs as of_script_check

@@ -4,10 +4,10 @@ use Rattle.std.proofs.Common.{◌∙◌}
 use Rattle.std.specs.Prelude.{⊤}
 use Rattle.flume_grammar.specs.declared.fault.ScriptKind.TheVariants.{Mistyped}
 use Rattle.written_types.specs.Named.{Named}
-use Rattle.script_program.specs.declared.made.Made.{Made}
-use Rattle.script_program.specs.declared.made.Made.TheVariants as made
-use Rattle.script_program.specs.Script.{Function, Making, Node, Operand}
-use Rattle.operation_check.specs.Operations as spec
+use Rattle.script_check.specs.of_script_program.declared.made.Made.{Made}
+use Rattle.script_check.specs.of_script_program.declared.made.Made.TheVariants as made
+use Rattle.script_check.specs.of_script_program.Script.{Function, Making, Node, Operand}
+use Rattle.script_check.specs.of_operation_check.Operations as spec
 use Rattle.script_laws.specs.WellFormed.{Fits, ReadsKinds, function_at, members_at, object_at}
 use Rattle.script_check.proofs.CheckedLemmas.{holds}
 use Rattle.script_laws.proofs.OperandLemmas.{IsRead}

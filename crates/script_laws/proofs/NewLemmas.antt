@@ -4,11 +4,11 @@ use Rattle.std.proofs.Common.{false, slice_get, refl, sym, ap, ◌∙◌, subst,
 use Rattle.std.proofs.lemmas.List.{append-nil}
 use Rattle.flume_types.specs.declared.types.Ty.{Ty}
 use Rattle.written_types.specs.Named.{Named}
-use Rattle.operation_check.specs.Operations.{outputs_from}
-use Rattle.script_program.specs.declared.made.Made.{Made}
-use Rattle.script_program.specs.Script.{Function, Making, Node, State, node_from, with_node}
-use Rattle.script_program.specs.Script.{with_nodes}
-use Rattle.script_program.specs.Kinds.{gives_object}
+use Rattle.script_check.specs.of_operation_check.Operations.{outputs_from}
+use Rattle.script_check.specs.of_script_program.declared.made.Made.{Made}
+use Rattle.script_check.specs.of_script_program.Script.{Function, Making, Node, State, node_from, with_node}
+use Rattle.script_check.specs.of_script_program.Script.{with_nodes}
+use Rattle.script_check.specs.of_script_program.Kinds.{gives_object}
 use Rattle.script_laws.specs.WellFormed.{members_at, function_at, object_at, AllFit, AllReadKinds}
 use Rattle.script_laws.proofs.MakingLemmas.{IsAlone, AreOutputs}
 use Rattle.script_laws.proofs.PlaceLemmas.{mapped-kept}

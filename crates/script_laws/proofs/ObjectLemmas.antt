@@ -12,12 +12,12 @@ use Rattle.flume_grammar.specs.declared.fault.ScriptKind.TheVariants.{Mistyped}
 use Rattle.combine_table.specs.declared.comb.Comb.{Comb}
 use Rattle.written_types.specs.Answer.{unless, or_fault}
 use Rattle.written_types.specs.Named.{Named}
-use Rattle.script_program.specs.Script.{Callee, Function, Making, Node, Operand}
-use Rattle.operation_check.specs.Arguments.{are_both, are_objects, each_fits, is_beside}
-use Rattle.operation_check.specs.Arguments.{is_record_of, sole, takes_both, takes_objects}
-use Rattle.operation_check.specs.Arguments.{takes_pair, takes_values}
-use Rattle.operation_check.specs.Operations as spec
-use Rattle.operation_check.specs.Operations.{combined_type, numbers}
+use Rattle.script_check.specs.of_script_program.Script.{Callee, Function, Making, Node, Operand}
+use Rattle.script_check.specs.of_operation_check.Arguments.{are_both, are_objects, each_fits, is_beside}
+use Rattle.script_check.specs.of_operation_check.Arguments.{is_record_of, sole, takes_both, takes_objects}
+use Rattle.script_check.specs.of_operation_check.Arguments.{takes_pair, takes_values}
+use Rattle.script_check.specs.of_operation_check.Operations as spec
+use Rattle.script_check.specs.of_operation_check.Operations.{combined_type, numbers}
 use Rattle.script_laws.specs.WellFormed.{IsArgument, IsRecord, members_at, object_at}
 use Rattle.script_check.proofs.CheckedLemmas.{both, holds, there, ok-same}
 use Rattle.script_laws.proofs.TypeLemmas.{out-same, same-types}

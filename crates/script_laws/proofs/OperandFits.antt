@@ -12,11 +12,11 @@ use Rattle.flume_grammar.specs.declared.fault.ScriptKind.TheVariants.{Mistyped, 
 use Rattle.combine_table.specs.declared.comb.Comb.{Comb}
 use Rattle.written_types.specs.Answer.{unless, or_fault}
 use Rattle.written_types.specs.Named.{Named}
-use Rattle.script_program.specs.Script.{Function, Node, Operand, Callee, Making}
-use Rattle.operation_check.specs.Arguments.{are_plain, takes_members}
-use Rattle.operation_check.specs.Operations as spec
-use Rattle.operation_check.specs.Operations.{Pair, pair_in, combined_type, numbers}
-use Rattle.operation_check.specs.Operations.{all_same}
+use Rattle.script_check.specs.of_script_program.Script.{Function, Node, Operand, Callee, Making}
+use Rattle.script_check.specs.of_operation_check.Arguments.{are_plain, takes_members}
+use Rattle.script_check.specs.of_operation_check.Operations as spec
+use Rattle.script_check.specs.of_operation_check.Operations.{Pair, pair_in, combined_type, numbers}
+use Rattle.script_check.specs.of_operation_check.Operations.{all_same}
 use Rattle.script_laws.specs.WellFormed.{members_at, object_at}
 use Rattle.script_check.proofs.CheckedLemmas.{both, holds, there, ok-same}
 use Rattle.script_laws.proofs.TypeLemmas.{same-types, is-table, is-list}

@@ -5,12 +5,12 @@ use Rattle.std.proofs.Common.{slice_get, refl, ap, subst}
 use Rattle.std.specs.Option.{option_map}
 use Rattle.flume_grammar.specs.declared.fault.ScriptKind.TheVariants.{Unknown}
 use Rattle.written_types.specs.Named.{Named, find}
-use Rattle.script_program.specs.Script.{Function, Node, State, Operand, Callee, place}
-use Rattle.script_program.specs.Script.{operand_at, operand_of}
-use Rattle.script_program.specs.Kinds.{gives_object}
-use Rattle.script_program.specs.declared.made.Standing.{Standing}
-use Rattle.script_program.specs.declared.made.Standing.TheVariants.{Collection, Hidden}
-use Rattle.operation_check.specs.Operations as spec
+use Rattle.script_check.specs.of_script_program.Script.{Function, Node, State, Operand, Callee, place}
+use Rattle.script_check.specs.of_script_program.Script.{operand_at, operand_of}
+use Rattle.script_check.specs.of_script_program.Kinds.{gives_object}
+use Rattle.script_check.specs.of_script_program.declared.made.Standing.{Standing}
+use Rattle.script_check.specs.of_script_program.declared.made.Standing.TheVariants.{Collection, Hidden}
+use Rattle.script_check.specs.of_operation_check.Operations as spec
 use Rattle.script_laws.specs.WellFormed.{members_at, function_at, object_at}
 use Rattle.script_check.proofs.CheckedLemmas.{there}
 use Rattle.script_laws.proofs.PlaceLemmas.{meaning, found-at}

@@ -12,9 +12,9 @@ use Rattle.flume_grammar.specs.declared.fault.ScriptKind.TheVariants.{BadNumber}
 use Rattle.flume_grammar.specs.declared.tree.Combiner.{Combiner}
 use Rattle.int_text.specs.Ints.{int_of_text}
 use Rattle.written_types.specs.Answer.{Checked}
-use Rattle.expression_check.specs.Numbers.{within}
-use Rattle.script_program.specs.Script.{State, Operand, Making}
-use Rattle.operation_check.specs.Operations as spec
+use Rattle.script_check.specs.of_expression_check.Numbers.{within}
+use Rattle.script_check.specs.of_script_program.Script.{State, Operand, Making}
+use Rattle.script_check.specs.of_operation_check.Operations as spec
 use Rattle.script_laws.specs.WellFormed.{object_at}
 use Rattle.script_check.proofs.CheckedLemmas.{both, there, ok-same}
 use Rattle.script_laws.proofs.OperandLemmas.{IsRead, is-read, is-callee}

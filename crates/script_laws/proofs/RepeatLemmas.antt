@@ -14,12 +14,12 @@ use Rattle.flume_grammar.specs.declared.tree.TurnLet.{TurnLet}
 use Rattle.flume_grammar.specs.declared.fault.ScriptKind.TheVariants.{BadNumber, Mistyped, TooMany}
 use Rattle.written_types.specs.Answer.{or_fault, unless}
 use Rattle.written_types.specs.Named.{Named}
-use Rattle.expression_check.specs.Numbers.{number_within}
-use Rattle.script_program.specs.Kinds.{gives_object}
-use Rattle.script_program.specs.Limits.{most_collections}
-use Rattle.script_program.specs.declared.made.Standing.TheVariants.{Hidden}
-use Rattle.script_program.specs.Script.{Node, Operand, State, with_front, with_hidden, with_name}
-use Rattle.operation_check.specs.Operations.{collection, collections_behind, numbers}
+use Rattle.script_check.specs.of_expression_check.Numbers.{number_within}
+use Rattle.script_check.specs.of_script_program.Kinds.{gives_object}
+use Rattle.script_check.specs.of_script_program.Limits.{most_collections}
+use Rattle.script_check.specs.of_script_program.declared.made.Standing.TheVariants.{Hidden}
+use Rattle.script_check.specs.of_script_program.Script.{Node, Operand, State, with_front, with_hidden, with_name}
+use Rattle.script_check.specs.of_operation_check.Operations.{collection, collections_behind, numbers}
 use Rattle.script_check.specs.Repeats.{Repeat, copied, nodes_left, turn_gives, turn_nodes, turn_to}
 use Rattle.script_check.specs.Repeats.{unrolled}
 use Rattle.script_check.specs.Rules as spec

@@ -20,14 +20,14 @@ use Rattle.flume_grammar.specs.declared.fault.ScriptKind.TheVariants.{NotFlat, N
 use Rattle.written_types.specs.Answer.{unless, or_fault}
 use Rattle.written_types.specs.Named.{Named, fresh}
 use Rattle.written_types.specs.Written.{whole_type}
-use Rattle.body_check.specs.Bodies.{body_of}
-use Rattle.script_program.specs.Limits.{most_collections, most_files, most_functions, most_outputs}
-use Rattle.script_program.specs.declared.made.Made.TheVariants as made
-use Rattle.script_program.specs.declared.made.Output.{Output}
-use Rattle.script_program.specs.Script.{Function, Making, Node, Script, Signature, State, nothing}
-use Rattle.script_program.specs.Script.{node_from, script_from, with_node}
-use Rattle.script_program.specs.Script.{with_statement}
-use Rattle.operation_check.specs.Operations.{collection}
+use Rattle.script_check.specs.of_body_check.Bodies.{body_of}
+use Rattle.script_check.specs.of_script_program.Limits.{most_collections, most_files, most_functions, most_outputs}
+use Rattle.script_check.specs.of_script_program.declared.made.Made.TheVariants as made
+use Rattle.script_check.specs.of_script_program.declared.made.Output.{Output}
+use Rattle.script_check.specs.of_script_program.Script.{Function, Making, Node, Script, Signature, State, nothing}
+use Rattle.script_check.specs.of_script_program.Script.{node_from, script_from, with_node}
+use Rattle.script_check.specs.of_script_program.Script.{with_statement}
+use Rattle.script_check.specs.of_operation_check.Operations.{collection}
 use Rattle.script_check.specs.Repeats.{unrolled}
 use Rattle.script_check.specs.Rules as spec
 use Rattle.script_check.proofs.CheckedLemmas.{both, holds, there, ok-same}

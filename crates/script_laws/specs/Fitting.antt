@@ -2,10 +2,10 @@
 use Rattle.std.specs.Prelude.{◌≡◌, ℕ, suc, ◌≤◌, List, [], ◌∷◌, ◌++◌, Some, length, map, ⊤}
 use Rattle.std.specs.List.{AllZip}
 use Rattle.written_types.specs.Named.{Named}
-use Rattle.script_program.specs.declared.made.Made.{Made}
-use Rattle.script_program.specs.declared.made.Made.TheVariants as made
-use Rattle.script_program.specs.Script.{Function, Node}
-use Rattle.script_program.specs.Kinds.{gives_object}
+use Rattle.script_check.specs.of_script_program.declared.made.Made.{Made}
+use Rattle.script_check.specs.of_script_program.declared.made.Made.TheVariants as made
+use Rattle.script_check.specs.of_script_program.Script.{Function, Node}
+use Rattle.script_check.specs.of_script_program.Kinds.{gives_object}
 use Rattle.script_check.specs.Repeats.{Repeat}
 use Rattle.script_laws.specs.WellFormed.{AllFit, AllReadKinds, members_at, object_at}
 

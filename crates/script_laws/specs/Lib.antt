@@ -1,2 +1,5 @@
 pub mod WellFormed
 pub mod Fitting
+pub use Rattle.script_check.specs.of_body_check
+pub use Rattle.script_check.specs.of_operation_check
+pub use Rattle.script_check.specs as of_script_check

@@ -14,15 +14,15 @@ use Rattle.flume_types.specs.Tables.{table_of}
 use Rattle.flume_types.specs.Typing.{types_of}
 use Rattle.combine_table.specs.declared.comb.Comb.{Comb}
 use Rattle.written_types.specs.Named.{Named}
-use Rattle.body_check.specs.Bodies.{body_of}
-use Rattle.script_program.specs.Limits.{most_collections, most_outputs}
-use Rattle.script_program.specs.declared.made.Made.{Made}
-use Rattle.script_program.specs.declared.made.Made.TheVariants as made
-use Rattle.script_program.specs.declared.made.Output.{Output}
-use Rattle.script_program.specs.Kinds.{gives_object, members_read, values_read}
-use Rattle.script_program.specs.Needed.{made_of}
-use Rattle.script_program.specs.Script.{Function, Node, Script}
-use Rattle.operation_check.specs.Operations.{sides_of, combined_type}
+use Rattle.script_check.specs.of_body_check.Bodies.{body_of}
+use Rattle.script_check.specs.of_script_program.Limits.{most_collections, most_outputs}
+use Rattle.script_check.specs.of_script_program.declared.made.Made.{Made}
+use Rattle.script_check.specs.of_script_program.declared.made.Made.TheVariants as made
+use Rattle.script_check.specs.of_script_program.declared.made.Output.{Output}
+use Rattle.script_check.specs.of_script_program.Kinds.{gives_object, members_read, values_read}
+use Rattle.script_check.specs.of_script_program.Needed.{made_of}
+use Rattle.script_check.specs.of_script_program.Script.{Function, Node, Script}
+use Rattle.script_check.specs.of_operation_check.Operations.{sides_of, combined_type}
 
 -- ---- what numbers stand for
 

@@ -1,7 +1,7 @@
 -- What the source is asked for, node by node.
 use Rattle.std.proofs.Common.{◌≡◌, ℕ, suc, ◌+◌, ◌<◌, Bool, true, false, List, [], ◌∷◌, ◌++◌, drop, length, Some, slice_get, ap, sym, ◌∙◌, refl, subst, append_assoc, arith}
 use Rattle.std.proofs.lemmas.List.{map-append}
-use Rattle.direct_meaning.specs.Inputs.{Wanted, inputs_of}
+use Rattle.build_law.specs.of_direct_meaning.Inputs.{Wanted, inputs_of}
 use Rattle.outside.specs.Asked.{Asks, AsksFront}
 use Rattle.outside.proofs.AskLemmas.{SeenAsks, asks_both, asks_front, asks_none}
 use Rattle.script_program.specs.Needed.{is_needed}

@@ -6,7 +6,7 @@ use Rattle.std.proofs.lemmas.List.{drop_all}
 use Rattle.std.proofs.lemmas.Option.{get_or_from_slice_get, slice_get_within}
 use Rattle.csv_rows.specs.Rows.{rows_of}
 use Rattle.flume_types.specs.declared.types.Ty.{Ty}
-use Rattle.direct_meaning.specs.Inputs.{HaveRows, Wanted, inputs_of, wanted_by}
+use Rattle.build_law.specs.of_direct_meaning.Inputs.{HaveRows, Wanted, inputs_of, wanted_by}
 use Rattle.script_program.specs.Needed.{is_needed}
 use Rattle.flume_types.specs.Columns.{input_columns_of}
 use Rattle.flume_types.specs.Typing.{AllHave}
@@ -18,7 +18,7 @@ use Rattle.run_texts.specs.declared.status.Status.{Status}
 use Rattle.script_program.specs.declared.made.Made.{Made}
 use Rattle.script_program.specs.declared.made.Made.TheVariants as made
 use Rattle.script_program.specs.Script.{Function, Node, Script}
-use Rattle.script_laws.specs.WellFormed.{AllFit, Fits, IsWellFormed}
+use Rattle.build_law.specs.of_script_laws.WellFormed.{AllFit, Fits, IsWellFormed}
 use Rattle.written_types.specs.Named.{Named}
 use Rattle.script_loading.specs.Loads.{AllHaveRows, HasRows}
 use Rattle.script_loading.specs.inner.Reading.{HasRead, inputs_from}

@@ -7,3 +7,5 @@ pub mod SinceLemmas
 pub mod ToldLemmas
 pub mod ToldBodies
 pub mod ToldRules
+pub use Rattle.build_law.proofs as of_build_law
+pub use Rattle.build_law.proofs.of_script_laws

@@ -8,10 +8,10 @@ use Rattle.flume_grammar.specs.Answer.{Accepts, IsRefusal}
 use Rattle.flume_grammar.specs.declared.fault.ScriptFault.{ScriptFault}
 use Rattle.flume_grammar.specs.declared.fault.ScriptFault.TheVariants as script_fault
 use Rattle.flume_grammar.specs.declared.tree.Ast.{Ast}
-use Rattle.script_check.specs.Rules.{script_of}
+use Rattle.build_law.specs.of_script_check.Rules.{script_of}
 use Rattle.script_program.specs.Script.{Script}
-use Rattle.script_laws.proofs.RuleLemmas.{well-formed}
-use Rattle.script_laws.specs.WellFormed.{IsWellFormed}
+use Rattle.build_law.proofs.of_script_laws.RuleLemmas.{well-formed}
+use Rattle.build_law.specs.of_script_laws.WellFormed.{IsWellFormed}
 use Rattle.written_types.specs.Answer.{Gives as Checks}
 use Rattle.script_loading.specs.Ready.{IsReady}
 use Rattle.script_loading.specs.inner.Reading.{IsScriptFault}

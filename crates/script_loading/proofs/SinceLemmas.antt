@@ -1,6 +1,6 @@
 -- A cause at a later moment is one at an earlier moment.
 use Rattle.std.proofs.Common.{◌≡◌, ℕ, ◌≤◌, List, Option, subst, arith}
-use Rattle.direct_meaning.specs.Inputs.{Wanted}
+use Rattle.build_law.specs.of_direct_meaning.Inputs.{Wanted}
 use Rattle.outside.specs.Cause.{RoseBy}
 use Rattle.outside.specs.Seen.{Seen}
 use Rattle.outside.specs.declared.file.File.{File as NamedBytes}

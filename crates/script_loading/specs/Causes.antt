@@ -2,7 +2,7 @@
 use Rattle.std.specs.Prelude.{◌≡◌, ℕ, List, ◌∷◌, ◌++◌, Option, Some, Err, ⊤}
 use Rattle.csv_rows.specs.Rows.{rows_of}
 use Rattle.csv_rows.specs.declared.fault.RowFault.TheVariants.{Bad}
-use Rattle.direct_meaning.specs.Inputs.{Wanted}
+use Rattle.build_law.specs.of_direct_meaning.Inputs.{Wanted}
 use Rattle.flume_value.specs.declared.value.Value.{Value}
 use Rattle.outside.specs.Cause.{RoseBy}
 use Rattle.outside.specs.Seen.{Seen}

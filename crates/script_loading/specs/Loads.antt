@@ -1,7 +1,7 @@
 -- What a load gives of a file, and the rows of inputs.
 use Rattle.std.specs.Prelude.{◌≡◌, ◌<◌, ◌≤◌, ℕ, List, [], ◌∷◌, length, map, Option, Some, None, Ok, IfSome, IsSomeAnd, ⊤}
 use Rattle.csv_rows.specs.Rows.{rows_of}
-use Rattle.direct_meaning.specs.Inputs.{Wanted}
+use Rattle.build_law.specs.of_direct_meaning.Inputs.{Wanted}
 use Rattle.flume_value.specs.declared.value.Value.{Value}
 use Rattle.outside.specs.Files.{bytes_of}
 use Rattle.outside.specs.declared.file.File.{File}

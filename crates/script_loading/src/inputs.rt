@@ -1,11 +1,11 @@
 // The rows of a script's inputs, as their files are loaded and decoded.
 ghost use Rattle.std.specs.Prelude.{◌≡◌, ◌≤◌, ◌<◌, ◌⊎◌, ◌+◌, ◌∷◌, [], IfErr, IfOk, IsUtf8, OnErr, OnOk, Some, length};
-ghost use Rattle.direct_meaning.specs.Inputs.{AreInputs, Wanted, inputs_of};
+ghost use Rattle.build_law.specs.of_direct_meaning.Inputs.{AreInputs, Wanted, inputs_of};
 ghost use Rattle.flume_types.specs.Columns.{input_columns_of};
 ghost use Rattle.flume_types.specs.declared.types.Ty.{Ty};
 ghost use Rattle.outside.specs.Asked.{Asks, AsksFront};
 ghost use Rattle.outside.specs.Seen.{seen};
-ghost use Rattle.script_laws.specs.WellFormed.{IsWellFormed};
+ghost use Rattle.build_law.specs.of_script_laws.WellFormed.{IsWellFormed};
 ghost use Rattle.script_loading.specs.Causes.{IsInputCause, IsInputsCause};
 ghost use Rattle.script_loading.specs.Loads.{AllHaveRows, HasRows, file_names};
 ghost use Rattle.script_loading.specs.Ready.{IsReady};

@@ -1,6 +1,6 @@
 // What holds of all scripts and inputs that are read, whatever reads them.
 ghost use Rattle.std.specs.Prelude.{◌≡◌, ◌⊎◌, List, Option, ℕ};
-ghost use Rattle.direct_meaning.specs.Inputs.{AreInputs, inputs_of};
+ghost use Rattle.build_law.specs.of_direct_meaning.Inputs.{AreInputs, inputs_of};
 ghost use Rattle.flume_grammar.specs.declared.fault.ScriptKind.{ScriptKind as Kind};
 ghost use Rattle.flume_value.specs.declared.value.Value.{Value};
 ghost use Rattle.outside.specs.declared.file.File.{File};

@@ -15,6 +15,8 @@ mod limits;
 mod plans;
 mod script;
 
+pub use build_law;
+pub use build_law::{direct_meaning, graph_build};
 pub use inputs::rows_of_inputs;
 pub use laws::{accepted_law, inputs_law};
 pub use limits::{INPUT_LIMIT, PLAN_LIMIT, SCRIPT_LIMIT};

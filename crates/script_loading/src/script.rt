@@ -2,7 +2,7 @@
 ghost use Rattle.std.specs.Prelude.{◌≡◌, ◌≤◌, ◌<◌, ◌∷◌, [], IfErr, IfOk};
 ghost use Rattle.outside.specs.Asked.{Asks};
 ghost use Rattle.outside.specs.Seen.{seen};
-ghost use Rattle.script_laws.specs.WellFormed.{IsWellFormed};
+ghost use Rattle.build_law.specs.of_script_laws.WellFormed.{IsWellFormed};
 ghost use Rattle.script_loading.specs.Accepted.{Accepted};
 ghost use Rattle.script_loading.specs.Causes.{IsLoaded, IsScriptCause};
 ghost use Rattle.script_loading.specs.Ready.{IsReady};
@@ -10,11 +10,11 @@ ghost use Rattle.script_loading.specs.inner.Reading.{IsScriptFault};
 
 use crate::files::loaded;
 use crate::limits::SCRIPT_LIMIT;
+use build_law::script_check::check;
 use flume_grammar::ScriptFault;
 use flume_syntax::parse;
 use outside::{Pieces, Source};
 use run_texts::Status;
-use script_check::check;
 use script_program::Program;
 use std::alloc::Global;
 

@@ -1,13 +1,13 @@
 -- The graph of a script is one that the passes take.
 use Rattle.std.proofs.Common.{◌≡◌, false, refl}
 use Rattle.exec_graph.specs.Wellformed.{IsGraphOk}
-use Rattle.graph_bounds.specs.Sources.{AreOfKinds, BringsSuch, OfSource}
-use Rattle.graph_build.specs.Graphs.{graph_of}
+use Rattle.optimise.specs.of_graph_bounds.Sources.{AreOfKinds, BringsSuch, OfSource}
+use Rattle.build_law.specs.of_graph_build.Graphs.{graph_of}
 use Rattle.graph_laws.specs.Single.{HasNarrowSteps, IsUnfused}
 use Rattle.build_law.proofs.EachNode.{each_node}
 use Rattle.optimise.specs.Optimised.{CanOptimise}
 use Rattle.script_plans.proofs.Sourced.{sources_below}
-use Rattle.script_program.specs.Script.{Script}
+use Rattle.build_law.specs.of_script_program.Script.{Script}
 
 -- no source is an object: each has the rows of an input
 are_of_kinds : (script : Script) → AreOfKinds (graph_of script)

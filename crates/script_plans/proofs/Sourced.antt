@@ -4,24 +4,24 @@ use Rattle.std.specs.Prelude.{if◌then◌else◌}
 use Rattle.std.specs.List.{AllByRecursion, filter, flat_map}
 use Rattle.flume_types.specs.declared.types.Ty.{Ty}
 use Rattle.flume_value.proofs.EachLemmas.{Each-append, Each-weaker}
-use Rattle.direct_meaning.specs.Inputs.{Wanted, inputs_of, wanted_by}
+use Rattle.build_law.specs.of_direct_meaning.Inputs.{Wanted, inputs_of, wanted_by}
 use Rattle.exec_graph.specs.declared.graph.Entry.{Entry}
 use Rattle.exec_graph.specs.declared.graph.Node.{Node}
 use Rattle.exec_graph.specs.declared.graph.Node.TheVariants.{Source, Flatten, Pdo, Gbk, Barrier}
 use Rattle.exec_graph.specs.declared.graph.Place.{Place}
-use Rattle.graph_build.specs.Graphs.{behind, graph_of, next_source, nodes_at, nodes_from, place_in, places}
-use Rattle.graph_build.specs.Nodes.{made_nodes}
-use Rattle.graph_build.specs.Built.{built, built_from, is_built, is_built_as}
-use Rattle.graph_build.proofs.WantedLemmas.{needed_here}
+use Rattle.build_law.specs.of_graph_build.Graphs.{behind, graph_of, next_source, nodes_at, nodes_from, place_in, places}
+use Rattle.build_law.specs.of_graph_build.Nodes.{made_nodes}
+use Rattle.build_law.specs.of_graph_build.Built.{built, built_from, is_built, is_built_as}
+use Rattle.build_law.proofs.of_graph_build.WantedLemmas.{needed_here}
 use Rattle.build_law.proofs.MadeKinds.{Kind, called, kind_of, none_emitted, other}
 use Rattle.build_law.proofs.Tables.{one_longer}
 use Rattle.build_law.proofs.Values.{regrouped}
 use Rattle.optimise.specs.Optimised.{source_count, source_count_at}
-use Rattle.plan_rules.specs.Fitting.{HasSourcesBelow, IsSourceBelow}
-use Rattle.script_program.specs.declared.made.Made.{Made}
-use Rattle.script_program.specs.declared.made.Made.TheVariants as made
-use Rattle.script_program.specs.Needed.{is_needed, numbered}
-use Rattle.script_program.specs.Script.{Node as ScriptNode, Script}
+use Rattle.optimise.specs.of_plan_rules.Fitting.{HasSourcesBelow, IsSourceBelow}
+use Rattle.build_law.specs.of_script_program.declared.made.Made.{Made}
+use Rattle.build_law.specs.of_script_program.declared.made.Made.TheVariants as made
+use Rattle.build_law.specs.of_script_program.Needed.{is_needed, numbered}
+use Rattle.build_law.specs.of_script_program.Script.{Node as ScriptNode, Script}
 use Rattle.written_types.specs.Named.{Named}
 
 abbrev Below : ℕ → List Entry → Type 0

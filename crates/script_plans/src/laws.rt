@@ -3,13 +3,13 @@ ghost use Rattle.std.specs.Prelude.{◌≡◌, List, Ok};
 ghost use Rattle.build_law.specs.Limits.{AreShort};
 ghost use Rattle.exec_plan.specs.declared.plan.Plan.{Plan};
 ghost use Rattle.flume_grammar.specs.declared.tree.Statement.{Statement};
-ghost use Rattle.script_check.specs.Rules.{script_of};
+ghost use Rattle.build_law.specs.of_script_check.Rules.{script_of};
 ghost use Rattle.script_plans.specs.Plans.{IsScriptPlan};
-ghost use Rattle.script_program.specs.Script.{Script};
+ghost use Rattle.build_law.specs.of_script_program.Script.{Script};
 
+use build_law::script_laws::well_formed_law;
 use build_law::{graph_law, one_step_law};
 use optimise::one_law;
-use script_laws::well_formed_law;
 
 /// An accepted script has a plan, and just one, so there is 'the plan' of a script. What is read as
 /// a script is short (`short_law` of build_law).

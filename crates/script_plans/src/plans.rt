@@ -1,22 +1,22 @@
 // The plan of a program: what its execution graph keeps is what the optimiser asks for.
 ghost use Rattle.std.specs.Prelude.{◌≡◌, IfOk, length};
-ghost use Rattle.direct_meaning.specs.Inputs.{inputs_of};
+ghost use Rattle.build_law.specs.of_direct_meaning.Inputs.{inputs_of};
 ghost use Rattle.exec_graph.specs.Typing.{IsTyped, Signatures};
 ghost use Rattle.exec_graph.specs.Wellformed.{IsGraphOk};
 ghost use Rattle.exec_graph.specs.World.{World};
 ghost use Rattle.exec_plan.specs.Typing.{IsPlanTyped};
 ghost use Rattle.exec_plan.specs.Wellformed.{IsPlanOk};
-ghost use Rattle.graph_build.specs.Graphs.{graph_of};
+ghost use Rattle.build_law.specs.of_graph_build.Graphs.{graph_of};
 ghost use Rattle.plan_laws.specs.Operations.{SamePlan};
-ghost use Rattle.script_laws.specs.WellFormed.{IsWellFormed};
+ghost use Rattle.build_law.specs.of_script_laws.WellFormed.{IsWellFormed};
 ghost use Rattle.script_plans.specs.Plans.{IsScriptPlan};
 
 use crate::scales::scales_of;
 use build_law::one_step_law;
+use build_law::script_program::Program;
 use exec_graph::Graph;
 use exec_plan::Plan;
 use optimise::optimise;
-use script_program::Program;
 use std::alloc::{AllocError, Global};
 
 /// The plan of a program, whose execution graph this is.

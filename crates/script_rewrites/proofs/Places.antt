@@ -12,7 +12,7 @@ use Rattle.exec_plan.specs.declared.plan.Plan.{Plan}
 use Rattle.form_laws.specs.Formed.{IsFormed}
 use Rattle.graph_build.specs.Graphs.{graph_of, place_in, places}
 use Rattle.graph_rewrites.specs.declared.rewrite.Rewrite.{Rewrite}
-use Rattle.optimise.specs.Optimised.{source_count}
+use Rattle.pass_rewrites.specs.of_optimise.Optimised.{source_count}
 use Rattle.plan_laws.specs.Operations.{at_source, places_of}
 use Rattle.script_program.specs.Script.{Script}
 use Rattle.script_rewrites.specs.Made.{IsMadeBy}

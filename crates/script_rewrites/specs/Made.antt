@@ -7,7 +7,7 @@ use Rattle.fusion_blocks.specs.Blocks.{unmarked}
 use Rattle.graph_build.specs.Graphs.{graph_of}
 use Rattle.graph_rewrites.specs.Replays.{Leads}
 use Rattle.graph_rewrites.specs.declared.rewrite.Rewrite.{Rewrite}
-use Rattle.optimise.specs.Optimised.{source_count}
+use Rattle.pass_rewrites.specs.of_optimise.Optimised.{source_count}
 use Rattle.script_program.specs.Script.{Script}
 
 -- The rewrites lead from the script's graph to a graph with its marks, of which the plan is formed.

@@ -1,6 +1,6 @@
 // That a script's plan is a list of rewrites, and what is formed of where they lead.
 ghost use Rattle.std.specs.Prelude.{◌≡◌, List, Ok, length};
-ghost use Rattle.build_law.specs.Limits.{AreShort};
+ghost use Rattle.script_plans.specs.of_build_law.Limits.{AreShort};
 ghost use Rattle.exec_plan.specs.declared.plan.Plan.{Plan};
 ghost use Rattle.flume_grammar.specs.declared.tree.Statement.{Statement};
 ghost use Rattle.graph_build.specs.Graphs.{graph_of};
@@ -10,10 +10,10 @@ ghost use Rattle.script_plans.specs.Plans.{IsScriptPlan};
 ghost use Rattle.script_program.specs.Script.{Script};
 ghost use Rattle.script_rewrites.specs.Made.{IsMadeBy};
 
-use build_law::{graph_law, one_step_law};
 use graph_rewrites::replay_law;
 use pass_rewrites::refined_law;
 use script_laws::well_formed_law;
+use script_plans::build_law::{graph_law, one_step_law};
 
 /// The plan of an accepted script is formed of what a list of rewrites makes of its graph.
 pub fn made_law()

@@ -3,10 +3,10 @@ use Rattle.std.proofs.Common.{◌≡◌, ℕ, ◌<◌, List, [], ◌∷◌, leng
 use Rattle.std.proofs.lemmas.List.{length-map}
 use Rattle.std.specs.Prelude.{IsSomeAnd}
 use Rattle.std.specs.List.{AllZip, Contains}
-use Rattle.build_law.specs.Means.{HasOwn, IsMeaning}
-use Rattle.build_law.specs.Worlds.{world_of}
-use Rattle.direct_meaning.proofs.PlaceLemmas.{within}
-use Rattle.direct_meaning.specs.Direct.{made_at, traps_of}
+use Rattle.run_sizes.specs.of_build_law.Means.{HasOwn, IsMeaning}
+use Rattle.run_sizes.specs.of_build_law.Worlds.{world_of}
+use Rattle.run_sizes.proofs.of_direct_meaning.PlaceLemmas.{within}
+use Rattle.run_sizes.specs.of_direct_meaning.Direct.{made_at, traps_of}
 use Rattle.exec_graph.specs.Meaning.{collection}
 use Rattle.exec_graph.specs.World.{World}
 use Rattle.exec_plan.specs.Meaning.{emitted_by, plan_collection, plan_traps}
@@ -14,12 +14,12 @@ use Rattle.exec_plan.specs.declared.plan.Plan.{Plan}
 use Rattle.flume_collection.specs.Collection.{Collection}
 use Rattle.flume_collection.specs.declared.trap.Trap.{Trap}
 use Rattle.flume_value.specs.declared.value.Value.{Value}
-use Rattle.graph_build.specs.Graphs.{graph_of}
+use Rattle.run_sizes.specs.of_graph_build.Graphs.{graph_of}
 use Rattle.plan_laws.specs.Operations.{SamePlan}
 use Rattle.run_sizes.specs.Counts.{AreOwnCounts}
-use Rattle.script_program.specs.Needed.{made_of}
-use Rattle.script_program.specs.Script.{Script}
-use Rattle.script_program.specs.declared.made.Made.{Made}
+use Rattle.run_sizes.specs.of_script_program.Needed.{made_of}
+use Rattle.run_sizes.specs.of_script_program.Script.{Script}
+use Rattle.run_sizes.specs.of_script_program.declared.made.Made.{Made}
 use Rattle.task_lists.specs.Runs.{kept_count}
 use Rattle.script_run.specs.Comes.{AreMembers}
 

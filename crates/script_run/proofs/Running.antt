@@ -1,10 +1,10 @@
 -- What a plan's execution comes to, in the world of the script.
 use Rattle.std.proofs.Common.{◌≡◌, ℕ, zero, suc, ◌<◌, List, [], ◌∷◌, Option, Some, length, map, slice_get, slice_index_or, refl, sym, ap, subst}
 use Rattle.std.specs.List.{Contains}
-use Rattle.build_law.specs.Signatures.{signatures_of}
-use Rattle.build_law.specs.Worlds.{world_of}
+use Rattle.run_sizes.specs.of_build_law.Signatures.{signatures_of}
+use Rattle.run_sizes.specs.of_build_law.Worlds.{world_of}
 use Rattle.crew.specs.Hosts.{Account}
-use Rattle.direct_meaning.specs.Direct.{meaning, traps_of}
+use Rattle.run_sizes.specs.of_direct_meaning.Direct.{meaning, traps_of}
 use Rattle.exec_graph.specs.Typing.{IsWorldTyped}
 use Rattle.exec_graph.specs.World.{World}
 use Rattle.exec_plan.specs.Meaning.{plan_traps}
@@ -14,19 +14,19 @@ use Rattle.flume_collection.specs.Calls.{or_none}
 use Rattle.flume_collection.specs.Collection.{Collection}
 use Rattle.flume_collection.specs.declared.trap.Trap.{Trap}
 use Rattle.flume_value.specs.declared.value.Value.{Value}
-use Rattle.direct_meaning.specs.Inputs.{HaveRows, Wanted}
+use Rattle.run_sizes.specs.of_direct_meaning.Inputs.{HaveRows, Wanted}
 use Rattle.plan_phases.specs.Phases.{phases, with_tasks}
 use Rattle.plan_phases.specs.Told.{AskedFront}
 use Rattle.plan_phases.specs.declared.winners.PhaseWinners.{PhaseWinners}
 use Rattle.plan_phases.specs.declared.fault.RunFault.{RunFault}
 use Rattle.plan_phases.specs.declared.fault.RunFault.TheVariants as fault
 use Rattle.run_settings.specs.Settings.{RunSettings}
-use Rattle.script_program.specs.Script.{Script}
+use Rattle.run_sizes.specs.of_script_program.Script.{Script}
 use Rattle.stage_exec.specs.Executions.{IsExecuted, IsRunFault as IsExecutionFault, split_of}
 use Rattle.stage_exec.specs.declared.executed.Executed.{Executed}
-use Rattle.stage_phases.specs.Stages.{run_world}
-use Rattle.task_safety.specs.Stages.{IsTypedRun}
-use Rattle.task_safety.specs.Taking.{Takes}
+use Rattle.stage_exec.specs.of_stage_phases.Stages.{run_world}
+use Rattle.script_functions.specs.of_task_safety.Stages.{IsTypedRun}
+use Rattle.script_functions.specs.of_task_safety.Taking.{Takes}
 use Rattle.script_run.specs.Runs.{AsksAllPhases, AsksSomePhases, IsRunFault, phases_of}
 
 rows_same : (inputs : List (List Value)) (r : ℕ)

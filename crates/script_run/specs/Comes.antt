@@ -1,6 +1,6 @@
 -- What is made of a script's collections.
 use Rattle.std.specs.Prelude.{◌≡◌, ℕ, List, Option, IsSomeAnd}
-use Rattle.direct_meaning.specs.Direct.{made_at}
+use Rattle.run_sizes.specs.of_direct_meaning.Direct.{made_at}
 use Rattle.flume_collection.specs.Collection.{Collection}
 use Rattle.flume_value.specs.declared.value.Value.{Value}
 

@@ -1,11 +1,11 @@
 -- What the run of a script by its plan comes to.
 use Rattle.std.specs.Prelude.{◌≡◌, ℕ, List, [], Option, Some, ⊤, length}
 use Rattle.std.specs.List.{AllZip, Contains}
-use Rattle.build_law.specs.Signatures.{signatures_of}
-use Rattle.build_law.specs.Worlds.{world_of}
+use Rattle.run_sizes.specs.of_build_law.Signatures.{signatures_of}
+use Rattle.run_sizes.specs.of_build_law.Worlds.{world_of}
 use Rattle.crew.specs.Hosts.{Account}
-use Rattle.direct_meaning.specs.Direct.{meaning, sizes_of, traps_of}
-use Rattle.direct_meaning.specs.Inputs.{inputs_of}
+use Rattle.run_sizes.specs.of_direct_meaning.Direct.{meaning, sizes_of, traps_of}
+use Rattle.run_sizes.specs.of_direct_meaning.Inputs.{inputs_of}
 use Rattle.exec_graph.specs.World.{World}
 use Rattle.exec_plan.specs.Typing.{IsPlanTyped}
 use Rattle.exec_plan.specs.Wellformed.{IsPlanOk}
@@ -13,7 +13,7 @@ use Rattle.exec_plan.specs.declared.plan.Plan.{Plan}
 use Rattle.flume_collection.specs.Collection.{Collection}
 use Rattle.flume_collection.specs.declared.trap.Trap.{Trap}
 use Rattle.flume_value.specs.declared.value.Value.{Value}
-use Rattle.graph_build.specs.Graphs.{graph_of}
+use Rattle.run_sizes.specs.of_graph_build.Graphs.{graph_of}
 use Rattle.outside.specs.declared.host.Phase.{Phase}
 use Rattle.plan_laws.specs.Operations.{SamePlan}
 use Rattle.plan_phases.specs.Phases.{PlanPhase, phases, with_tasks}
@@ -22,7 +22,7 @@ use Rattle.plan_phases.specs.declared.fault.RunFault.{RunFault}
 use Rattle.plan_phases.specs.declared.fault.RunFault.TheVariants as fault
 use Rattle.plan_phases.specs.declared.winners.PhaseWinners.{PhaseWinners}
 use Rattle.run_settings.specs.Settings.{RunSettings}
-use Rattle.script_program.specs.Script.{Script}
+use Rattle.run_sizes.specs.of_script_program.Script.{Script}
 use Rattle.task_lists.specs.Plans.{first_trap}
 use Rattle.task_lists.specs.Tasks.{Split}
 use Rattle.script_run.specs.Comes.{AreMembers}

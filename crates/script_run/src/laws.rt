@@ -1,18 +1,18 @@
 // The law that leads from a plan to what its script means.
 ghost use Rattle.std.specs.Prelude.{◌≡◌, ◌<◌, ℕ, [], List, Option, Some, length, map, slice_get};
 ghost use Rattle.std.specs.List.{AllZip, Contains};
-ghost use Rattle.build_law.specs.Means.{IsMeaning};
-ghost use Rattle.direct_meaning.specs.Direct.{traps_of};
+ghost use Rattle.run_sizes.specs.of_build_law.Means.{IsMeaning};
+ghost use Rattle.run_sizes.specs.of_direct_meaning.Direct.{traps_of};
 ghost use Rattle.exec_graph.specs.World.{World};
 ghost use Rattle.exec_plan.specs.Meaning.{emitted_by, plan_collection, plan_traps};
 ghost use Rattle.exec_plan.specs.declared.plan.Plan.{Plan};
 ghost use Rattle.flume_collection.specs.Collection.{Collection};
 ghost use Rattle.flume_collection.specs.declared.trap.Trap.{Trap};
 ghost use Rattle.flume_value.specs.declared.value.Value.{Value};
-ghost use Rattle.graph_build.specs.Graphs.{graph_of};
+ghost use Rattle.run_sizes.specs.of_graph_build.Graphs.{graph_of};
 ghost use Rattle.plan_laws.specs.Operations.{SamePlan};
 ghost use Rattle.run_sizes.specs.Counts.{AreOwnCounts};
-ghost use Rattle.script_program.specs.Script.{Script};
+ghost use Rattle.run_sizes.specs.of_script_program.Script.{Script};
 ghost use Rattle.task_lists.specs.Runs.{kept_count};
 ghost use Rattle.script_run.specs.Comes.{AreMembers};
 

@@ -1,24 +1,24 @@
 // The run of a script by its plan.
 ghost use Rattle.std.specs.Prelude.{◌≡◌, ◌≤◌, IfErr, IfOk, length, map};
 ghost use Rattle.std.specs.List.{AllZip};
-ghost use Rattle.build_law.specs.Limits.{HasShortFlattens};
+ghost use Rattle.run_sizes.specs.of_build_law.Limits.{HasShortFlattens};
 ghost use Rattle.crew.specs.Hosts.{account, Grew};
-ghost use Rattle.direct_meaning.specs.Inputs.{AreInputs};
+ghost use Rattle.run_sizes.specs.of_direct_meaning.Inputs.{AreInputs};
 ghost use Rattle.flume_value.specs.Bag.{bag_of};
-ghost use Rattle.script_laws.specs.WellFormed.{IsWellFormed};
+ghost use Rattle.run_sizes.specs.of_script_laws.WellFormed.{IsWellFormed};
 ghost use Rattle.script_run.specs.Runs.{AsksSomePhases, IsPlanOf, IsRan, IsRunFault, phases_of};
 
 use crate::laws::plan_law;
-use build_law::means_law;
-use direct_meaning::meaning_law;
 use exec_plan::Plan;
 use flume_value::{Items, Pile, Str, sorted};
 use outside::Host;
 use plan_phases::{PhaseWinners, RunFault};
 use run_settings::Settings;
+use run_sizes::build_law::means_law;
+use run_sizes::direct_meaning::meaning_law;
 use run_sizes::needed_sizes;
+use run_sizes::script_program::Program;
 use script_functions::{ScriptFunctions, world_law};
-use script_program::Program;
 use stage_exec::execute;
 use std::alloc::{AllocError, Global};
 use std::thread::Threads;

@@ -1,11 +1,11 @@
 -- The chain of merges and steps ends, in one graph alone.
 use Rattle.std.proofs.Common.{◌≡◌, ℕ, ◌<◌, ◌≤◌, Bool, true, false, cond, List, Option, Some, None, zero, suc, refl, sym, ap, ◌∙◌, subst, arith, inl, inr, ◌⊎◌}
 use Rattle.std.proofs.lemmas.Bool.{leb-true}
-use Rattle.exec_graph.specs.Forests.{Forest}
-use Rattle.exec_graph.specs.Meaning.{node_at}
-use Rattle.exec_graph.specs.Wellformed.{IsGraphOk, most_nodes, total_size}
-use Rattle.exec_graph.specs.declared.graph.Place.{Place}
-use Rattle.exec_graph.specs.declared.graph.Graph.{Graph}
+use Rattle.sink_laws.specs.of_exec_graph.Forests.{Forest}
+use Rattle.sink_laws.specs.of_exec_graph.Meaning.{node_at}
+use Rattle.sink_laws.specs.of_exec_graph.Wellformed.{IsGraphOk, most_nodes, total_size}
+use Rattle.sink_laws.specs.of_exec_graph.declared.graph.Place.{Place}
+use Rattle.sink_laws.specs.of_exec_graph.declared.graph.Graph.{Graph}
 use Rattle.sink_laws.specs.Chain.{after_call, after_nest, forest_of, go, has_room, inputs_of, next_by, next_call, next_graph, next_nest, sink_next, stay, IsSunk, Leads}
 use Rattle.sink_laws.specs.declared.pair.Pair.{Pair}
 use Rattle.sink_laws.proofs.Choosing.{next_call_can, next_nest_can, Leads-trans}

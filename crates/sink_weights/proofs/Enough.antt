@@ -3,12 +3,12 @@
 use Rattle.std.proofs.Common.{◌≡◌, ℕ, ◌+◌, ◌*◌, ◌-◌, ◌<◌, ◌≤◌, cond, ltb, List, [], ◌∷◌, length, map, get_or, zero, suc, refl, ap, ◌∙◌, subst, arith}
 use Rattle.std.proofs.lemmas.Bool.{lt-ltb, le-ltb}
 use Rattle.std.specs.List.{AllByRecursion}
-use Rattle.exec_graph.specs.Forests.{Forest}
-use Rattle.exec_graph.specs.Meaning.{place, reads}
-use Rattle.exec_graph.specs.declared.graph.Place.{Place}
-use Rattle.exec_graph.specs.declared.graph.Node.{Node}
-use Rattle.exec_graph.specs.declared.graph.Node.TheVariants.{Source, Flatten, Pdo, Gbk, Barrier}
-use Rattle.graph_laws.specs.Joining.{reread}
+use Rattle.sink_laws.specs.of_exec_graph.Forests.{Forest}
+use Rattle.sink_laws.specs.of_exec_graph.Meaning.{place, reads}
+use Rattle.sink_laws.specs.of_exec_graph.declared.graph.Place.{Place}
+use Rattle.sink_laws.specs.of_exec_graph.declared.graph.Node.{Node}
+use Rattle.sink_laws.specs.of_exec_graph.declared.graph.Node.TheVariants.{Source, Flatten, Pdo, Gbk, Barrier}
+use Rattle.sink_laws.specs.of_graph_laws.Joining.{reread}
 use Rattle.sink_laws.specs.Sinking.{copies, copied, flattens, flatten_number}
 use Rattle.sink_weights.specs.Weights.{added, node_weight}
 use Rattle.sink_weights.proofs.Sums.{weigh}

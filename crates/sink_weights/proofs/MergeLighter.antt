@@ -3,19 +3,19 @@ use Rattle.std.proofs.Common.{◌≡◌, ℕ, ◌+◌, ◌<◌, ◌≤◌, Bool,
 use Rattle.std.proofs.lemmas.Bool.{eqb-true, eq-eqb, false≢true}
 use Rattle.std.specs.List.{AllByRecursion}
 use Rattle.flume_value.proofs.EachLemmas.{Each-weaker}
-use Rattle.exec_graph.specs.Meaning.{place, node_at, reads}
-use Rattle.exec_graph.specs.Readers.{any_node, among, same_place}
-use Rattle.exec_graph.specs.Wellformed.{IsGraphOk}
-use Rattle.exec_graph.specs.declared.graph.Place.{Place}
-use Rattle.exec_graph.specs.declared.graph.Node.{Node}
-use Rattle.exec_graph.specs.declared.graph.Node.TheVariants.{Flatten}
-use Rattle.exec_graph.specs.declared.graph.Entry.{Entry}
-use Rattle.exec_graph.specs.declared.graph.Graph.{Graph}
-use Rattle.exec_graph.proofs.Bools.{or_cases, or_left, or_right}
-use Rattle.exec_graph.proofs.Solving.{each_found, ranked_at}
-use Rattle.exec_graph.proofs.Soundness.{differ_ascends}
-use Rattle.graph_laws.proofs.Changes.{all_set}
-use Rattle.graph_laws.proofs.Wellness.{node_at-set_other, node_at-set_same}
+use Rattle.sink_laws.specs.of_exec_graph.Meaning.{place, node_at, reads}
+use Rattle.sink_laws.specs.of_exec_graph.Readers.{any_node, among, same_place}
+use Rattle.sink_laws.specs.of_exec_graph.Wellformed.{IsGraphOk}
+use Rattle.sink_laws.specs.of_exec_graph.declared.graph.Place.{Place}
+use Rattle.sink_laws.specs.of_exec_graph.declared.graph.Node.{Node}
+use Rattle.sink_laws.specs.of_exec_graph.declared.graph.Node.TheVariants.{Flatten}
+use Rattle.sink_laws.specs.of_exec_graph.declared.graph.Entry.{Entry}
+use Rattle.sink_laws.specs.of_exec_graph.declared.graph.Graph.{Graph}
+use Rattle.sink_laws.proofs.of_exec_graph.Bools.{or_cases, or_left, or_right}
+use Rattle.sink_laws.proofs.of_exec_graph.Solving.{each_found, ranked_at}
+use Rattle.sink_laws.proofs.of_exec_graph.Soundness.{differ_ascends}
+use Rattle.sink_laws.proofs.of_graph_laws.Changes.{all_set}
+use Rattle.sink_laws.proofs.of_graph_laws.Wellness.{node_at-set_other, node_at-set_same}
 use Rattle.sink_laws.specs.Merging.{spliced, merged, merge_step, CanMerge}
 use Rattle.sink_laws.proofs.MergeMeaning.{IsFounded-merged}
 use Rattle.sink_laws.proofs.Unread.{same_true}

@@ -1,14 +1,14 @@
 -- The outputs that are numbered are those that have a reader, in order.
 use Rattle.std.proofs.Common.{◌≡◌, ℕ, ◌+◌, ◌<◌, Bool, true, List, [], ◌∷◌, ◌++◌, Option, Some, None, zero, suc, refl, sym, ap, ◌∙◌, subst, arith}
 use Rattle.std.specs.List.{AllByRecursion}
-use Rattle.exec_graph.specs.Forests.{Forest, Bare, Grow, after, after_out, new_out, numbered}
-use Rattle.exec_graph.specs.Meaning.{place, node_at}
-use Rattle.exec_graph.specs.Readers.{is_read}
-use Rattle.exec_graph.specs.Wellformed.{IsForestOk, IsGraphOk, IsNodeOk}
-use Rattle.exec_graph.specs.declared.graph.Place.{Place}
-use Rattle.exec_graph.specs.declared.graph.Node.TheVariants.{Pdo}
-use Rattle.exec_graph.specs.declared.graph.Graph.{Graph}
-use Rattle.exec_graph.proofs.Entries.{all_found}
+use Rattle.sink_laws.specs.of_exec_graph.Forests.{Forest, Bare, Grow, after, after_out, new_out, numbered}
+use Rattle.sink_laws.specs.of_exec_graph.Meaning.{place, node_at}
+use Rattle.sink_laws.specs.of_exec_graph.Readers.{is_read}
+use Rattle.sink_laws.specs.of_exec_graph.Wellformed.{IsForestOk, IsGraphOk, IsNodeOk}
+use Rattle.sink_laws.specs.of_exec_graph.declared.graph.Place.{Place}
+use Rattle.sink_laws.specs.of_exec_graph.declared.graph.Node.TheVariants.{Pdo}
+use Rattle.sink_laws.specs.of_exec_graph.declared.graph.Graph.{Graph}
+use Rattle.sink_laws.proofs.of_exec_graph.Entries.{all_found}
 use Rattle.sink_laws.specs.Sinking.{outputs_of}
 use Rattle.sink_laws.proofs.Outs.{has_from}
 use Rattle.sink_weights.specs.Outputs.{number_of, numbers, passing, read_outputs, from}

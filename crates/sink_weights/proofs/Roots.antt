@@ -2,17 +2,17 @@
 use Rattle.std.proofs.Common.{◌≡◌, ℕ, ◌+◌, ◌<◌, ◌≤◌, Bool, true, false, eqb, List, [], ◌∷◌, Some, length, zero, suc, refl, sym, ap, subst, arith, inl, inr, ◌⊎◌}
 use Rattle.std.proofs.lemmas.Bool.{eqb-true, eq-eqb, false≢true}
 use Rattle.std.specs.List.{AllByRecursion}
-use Rattle.exec_graph.specs.Meaning.{node_at, reads, IsRankedBy}
-use Rattle.exec_graph.specs.Readers.{any_node, same_place, among, uses, is_read}
-use Rattle.exec_graph.specs.Wellformed.{IsFounded}
-use Rattle.exec_graph.specs.declared.graph.Place.{Place}
-use Rattle.exec_graph.specs.declared.graph.Node.{Node}
-use Rattle.exec_graph.specs.declared.graph.Node.TheVariants.{Source, Flatten, Pdo, Gbk, Barrier}
-use Rattle.exec_graph.specs.declared.graph.Entry.{Entry}
-use Rattle.exec_graph.specs.declared.graph.Graph.{Graph}
-use Rattle.exec_graph.proofs.Bools.{or_cases, or_left, or_right, no_or}
-use Rattle.exec_graph.proofs.Solving.{each_found, lower_most, place_of, ranked_at, short_ranked}
-use Rattle.exec_graph.proofs.Soundness.{differ_ascends}
+use Rattle.sink_laws.specs.of_exec_graph.Meaning.{node_at, reads, IsRankedBy}
+use Rattle.sink_laws.specs.of_exec_graph.Readers.{any_node, same_place, among, uses, is_read}
+use Rattle.sink_laws.specs.of_exec_graph.Wellformed.{IsFounded}
+use Rattle.sink_laws.specs.of_exec_graph.declared.graph.Place.{Place}
+use Rattle.sink_laws.specs.of_exec_graph.declared.graph.Node.{Node}
+use Rattle.sink_laws.specs.of_exec_graph.declared.graph.Node.TheVariants.{Source, Flatten, Pdo, Gbk, Barrier}
+use Rattle.sink_laws.specs.of_exec_graph.declared.graph.Entry.{Entry}
+use Rattle.sink_laws.specs.of_exec_graph.declared.graph.Graph.{Graph}
+use Rattle.sink_laws.proofs.of_exec_graph.Bools.{or_cases, or_left, or_right, no_or}
+use Rattle.sink_laws.proofs.of_exec_graph.Solving.{each_found, lower_most, place_of, ranked_at, short_ranked}
+use Rattle.sink_laws.proofs.of_exec_graph.Soundness.{differ_ascends}
 use Rattle.sink_laws.proofs.Readership.{any_found}
 use Rattle.sink_laws.proofs.Unread.{same_true}
 use Rattle.sink_weights.specs.Weights.{is_of, is_node_read}

@@ -3,20 +3,20 @@ use Rattle.std.proofs.Common.{◌≡◌, ℕ, ◌+◌, ◌-◌, ◌<◌, ◌≤�
 use Rattle.std.proofs.lemmas.Bool.{eqb-true, eq-eqb, false≢true}
 use Rattle.std.specs.List.{AllByRecursion}
 use Rattle.flume_value.proofs.EachLemmas.{Each-weaker}
-use Rattle.exec_graph.specs.Forests.{Forest, after_out}
-use Rattle.exec_graph.specs.Meaning.{place, node_at, reads, IsThere}
-use Rattle.exec_graph.specs.Readers.{any_node, among, same_place, uses, is_read}
-use Rattle.exec_graph.specs.Wellformed.{IsForestOk, IsGraphOk, IsNodeOk}
-use Rattle.exec_graph.specs.declared.graph.Place.{Place}
-use Rattle.exec_graph.specs.declared.graph.Node.{Node}
-use Rattle.exec_graph.specs.declared.graph.Node.TheVariants.{Source, Flatten, Pdo, Gbk, Barrier}
-use Rattle.exec_graph.specs.declared.graph.Entry.{Entry}
-use Rattle.exec_graph.specs.declared.graph.Graph.{Graph}
-use Rattle.exec_graph.proofs.Bools.{or_cases}
-use Rattle.exec_graph.proofs.Entries.{entry, all_found}
-use Rattle.graph_laws.specs.Joining.{reread, reread_entry}
-use Rattle.graph_laws.specs.Single.{HasSingleOutputs, HasSteps, IsOneOutput}
-use Rattle.graph_laws.proofs.Wellness.{gives_of}
+use Rattle.sink_laws.specs.of_exec_graph.Forests.{Forest, after_out}
+use Rattle.sink_laws.specs.of_exec_graph.Meaning.{place, node_at, reads, IsThere}
+use Rattle.sink_laws.specs.of_exec_graph.Readers.{any_node, among, same_place, uses, is_read}
+use Rattle.sink_laws.specs.of_exec_graph.Wellformed.{IsForestOk, IsGraphOk, IsNodeOk}
+use Rattle.sink_laws.specs.of_exec_graph.declared.graph.Place.{Place}
+use Rattle.sink_laws.specs.of_exec_graph.declared.graph.Node.{Node}
+use Rattle.sink_laws.specs.of_exec_graph.declared.graph.Node.TheVariants.{Source, Flatten, Pdo, Gbk, Barrier}
+use Rattle.sink_laws.specs.of_exec_graph.declared.graph.Entry.{Entry}
+use Rattle.sink_laws.specs.of_exec_graph.declared.graph.Graph.{Graph}
+use Rattle.sink_laws.proofs.of_exec_graph.Bools.{or_cases}
+use Rattle.sink_laws.proofs.of_exec_graph.Entries.{entry, all_found}
+use Rattle.sink_laws.specs.of_graph_laws.Joining.{reread, reread_entry}
+use Rattle.sink_laws.specs.of_graph_laws.Single.{HasSingleOutputs, HasSteps, IsOneOutput}
+use Rattle.sink_laws.proofs.of_graph_laws.Wellness.{gives_of}
 use Rattle.sink_laws.specs.Sinking.{copies, first_flatten, flattens, instead, outputs_of, flatten_number, rerouted, sunk, CanSink}
 use Rattle.sink_laws.proofs.Outs.{has_below}
 use Rattle.sink_weights.specs.Outputs.{sunk_single}

@@ -3,19 +3,19 @@ use Rattle.std.proofs.Common.{◌≡◌, ℕ, ◌+◌, ◌-◌, ◌<◌, ◌≤�
 use Rattle.std.proofs.lemmas.Bool.{eqb-true, eq-eqb, false≢true}
 use Rattle.std.specs.List.{AllByRecursion}
 use Rattle.flume_value.proofs.EachLemmas.{Each-weaker}
-use Rattle.exec_graph.specs.Forests.{Forest}
-use Rattle.exec_graph.specs.Meaning.{place, reads, IsThere}
-use Rattle.exec_graph.specs.Readers.{any_node}
-use Rattle.exec_graph.specs.Wellformed.{IsGraphOk}
-use Rattle.exec_graph.specs.declared.graph.Place.{Place}
-use Rattle.exec_graph.specs.declared.graph.Node.TheVariants.{Flatten, Pdo}
-use Rattle.exec_graph.specs.declared.graph.Entry.{Entry}
-use Rattle.exec_graph.specs.declared.graph.Graph.{Graph}
-use Rattle.exec_graph.proofs.Bools.{not_true, or_cases}
-use Rattle.exec_graph.proofs.Entries.{all_found, all_map}
-use Rattle.exec_graph.proofs.Soundness.{differ_ascends}
-use Rattle.graph_laws.specs.Joining.{reread_entry, without}
-use Rattle.graph_laws.proofs.Wellness.{differ_map, gives_of}
+use Rattle.sink_laws.specs.of_exec_graph.Forests.{Forest}
+use Rattle.sink_laws.specs.of_exec_graph.Meaning.{place, reads, IsThere}
+use Rattle.sink_laws.specs.of_exec_graph.Readers.{any_node}
+use Rattle.sink_laws.specs.of_exec_graph.Wellformed.{IsGraphOk}
+use Rattle.sink_laws.specs.of_exec_graph.declared.graph.Place.{Place}
+use Rattle.sink_laws.specs.of_exec_graph.declared.graph.Node.TheVariants.{Flatten, Pdo}
+use Rattle.sink_laws.specs.of_exec_graph.declared.graph.Entry.{Entry}
+use Rattle.sink_laws.specs.of_exec_graph.declared.graph.Graph.{Graph}
+use Rattle.sink_laws.proofs.of_exec_graph.Bools.{not_true, or_cases}
+use Rattle.sink_laws.proofs.of_exec_graph.Entries.{all_found, all_map}
+use Rattle.sink_laws.proofs.of_exec_graph.Soundness.{differ_ascends}
+use Rattle.sink_laws.specs.of_graph_laws.Joining.{reread_entry, without}
+use Rattle.sink_laws.proofs.of_graph_laws.Wellness.{differ_map, gives_of}
 use Rattle.sink_laws.specs.Sinking.{copies, copied, flattens, first_flatten, instead, outputs_of, rerouted, sunk, sink_step, CanSink}
 use Rattle.sink_laws.proofs.Outs.{has_below, has_from}
 use Rattle.sink_laws.proofs.Readership.{all_instead_others}

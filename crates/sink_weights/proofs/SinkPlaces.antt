@@ -4,19 +4,19 @@ use Rattle.std.proofs.Common.{◌≡◌, ℕ, ◌+◌, ◌*◌, ◌-◌, ◌<◌
 use Rattle.std.proofs.lemmas.Bool.{eqb-true, eq-eqb, false≢true}
 use Rattle.std.specs.List.{AllByRecursion}
 use Rattle.flume_value.proofs.EachLemmas.{Each-weaker}
-use Rattle.exec_graph.specs.Forests.{Forest}
-use Rattle.exec_graph.specs.Meaning.{place, node_at, reads, has_out, IsThere}
-use Rattle.exec_graph.specs.Wellformed.{IsGraphOk}
-use Rattle.exec_graph.specs.declared.graph.Place.{Place}
-use Rattle.exec_graph.specs.declared.graph.Node.{Node}
-use Rattle.exec_graph.specs.declared.graph.Node.TheVariants.{Flatten, Pdo}
-use Rattle.exec_graph.specs.declared.graph.Entry.{Entry}
-use Rattle.exec_graph.specs.declared.graph.Graph.{Graph}
-use Rattle.exec_graph.proofs.Entries.{all_found, all_map}
-use Rattle.exec_graph.proofs.Solving.{each_found}
-use Rattle.exec_graph.proofs.Soundness.{differ_ascends}
-use Rattle.graph_laws.specs.Joining.{reread, reread_entry}
-use Rattle.graph_laws.proofs.Wellness.{gives_of}
+use Rattle.sink_laws.specs.of_exec_graph.Forests.{Forest}
+use Rattle.sink_laws.specs.of_exec_graph.Meaning.{place, node_at, reads, has_out, IsThere}
+use Rattle.sink_laws.specs.of_exec_graph.Wellformed.{IsGraphOk}
+use Rattle.sink_laws.specs.of_exec_graph.declared.graph.Place.{Place}
+use Rattle.sink_laws.specs.of_exec_graph.declared.graph.Node.{Node}
+use Rattle.sink_laws.specs.of_exec_graph.declared.graph.Node.TheVariants.{Flatten, Pdo}
+use Rattle.sink_laws.specs.of_exec_graph.declared.graph.Entry.{Entry}
+use Rattle.sink_laws.specs.of_exec_graph.declared.graph.Graph.{Graph}
+use Rattle.sink_laws.proofs.of_exec_graph.Entries.{all_found, all_map}
+use Rattle.sink_laws.proofs.of_exec_graph.Solving.{each_found}
+use Rattle.sink_laws.proofs.of_exec_graph.Soundness.{differ_ascends}
+use Rattle.sink_laws.specs.of_graph_laws.Joining.{reread, reread_entry}
+use Rattle.sink_laws.proofs.of_graph_laws.Wellness.{gives_of}
 use Rattle.sink_laws.specs.Sinking.{copied, outputs_of, flatten_number, rerouted, sunk, CanSink}
 use Rattle.sink_laws.proofs.Outs.{has_below}
 use Rattle.sink_laws.proofs.SinkFounded.{all_sunk, p_below}

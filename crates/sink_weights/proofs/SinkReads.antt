@@ -1,19 +1,19 @@
 -- Who reads a node after a step.
 use Rattle.std.proofs.Common.{◌≡◌, ℕ, ◌+◌, ◌<◌, ◌≤◌, Bool, true, false, eqb, ◌||◌, List, [], ◌∷◌, Some, length, map, zero, suc, refl, sym, ap, ◌∙◌, subst, arith, inl, inr}
 use Rattle.std.proofs.lemmas.Bool.{eqb-true, eq-eqb, false≢true}
-use Rattle.exec_graph.specs.Forests.{Forest}
-use Rattle.exec_graph.specs.Meaning.{place, node_at, reads}
-use Rattle.exec_graph.specs.Readers.{any_node, same_place, among, uses, is_read}
-use Rattle.exec_graph.specs.Wellformed.{IsForestOk, IsGraphOk, IsNodeOk}
-use Rattle.exec_graph.specs.declared.graph.Place.{Place}
-use Rattle.exec_graph.specs.declared.graph.Node.{Node}
-use Rattle.exec_graph.specs.declared.graph.Node.TheVariants.{Source, Flatten, Pdo, Gbk, Barrier}
-use Rattle.exec_graph.specs.declared.graph.Entry.{Entry}
-use Rattle.exec_graph.specs.declared.graph.Graph.{Graph}
-use Rattle.exec_graph.proofs.Bools.{or_cases, or_left, or_right, not_true}
-use Rattle.exec_graph.proofs.Entries.{all_found}
-use Rattle.exec_graph.proofs.Solving.{ranked_at}
-use Rattle.graph_laws.specs.Joining.{reread}
+use Rattle.sink_laws.specs.of_exec_graph.Forests.{Forest}
+use Rattle.sink_laws.specs.of_exec_graph.Meaning.{place, node_at, reads}
+use Rattle.sink_laws.specs.of_exec_graph.Readers.{any_node, same_place, among, uses, is_read}
+use Rattle.sink_laws.specs.of_exec_graph.Wellformed.{IsForestOk, IsGraphOk, IsNodeOk}
+use Rattle.sink_laws.specs.of_exec_graph.declared.graph.Place.{Place}
+use Rattle.sink_laws.specs.of_exec_graph.declared.graph.Node.{Node}
+use Rattle.sink_laws.specs.of_exec_graph.declared.graph.Node.TheVariants.{Source, Flatten, Pdo, Gbk, Barrier}
+use Rattle.sink_laws.specs.of_exec_graph.declared.graph.Entry.{Entry}
+use Rattle.sink_laws.specs.of_exec_graph.declared.graph.Graph.{Graph}
+use Rattle.sink_laws.proofs.of_exec_graph.Bools.{or_cases, or_left, or_right, not_true}
+use Rattle.sink_laws.proofs.of_exec_graph.Entries.{all_found}
+use Rattle.sink_laws.proofs.of_exec_graph.Solving.{ranked_at}
+use Rattle.sink_laws.specs.of_graph_laws.Joining.{reread}
 use Rattle.sink_laws.specs.Sinking.{copies, copied, outputs_of, flatten_number, rerouted, sunk, CanSink}
 use Rattle.sink_laws.proofs.Outs.{has_from}
 use Rattle.sink_laws.proofs.Ranges.{IsFoundIn}

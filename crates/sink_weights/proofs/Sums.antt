@@ -3,16 +3,16 @@ use Rattle.std.proofs.Common.{◌≡◌, ℕ, ◌+◌, ◌<◌, ◌≤◌, Bool,
 use Rattle.std.proofs.lemmas.Bool.{eqb-true, eq-eqb}
 use Rattle.std.specs.List.{AllByRecursion}
 use Rattle.flume_value.proofs.EachLemmas.{Each-weaker}
-use Rattle.exec_graph.specs.Meaning.{node_at, AllDiffer, place}
-use Rattle.exec_graph.specs.Readers.{is_read}
-use Rattle.exec_graph.specs.declared.graph.Place.{Place}
-use Rattle.exec_graph.specs.declared.graph.Node.{Node}
-use Rattle.exec_graph.specs.declared.graph.Entry.{Entry}
-use Rattle.exec_graph.specs.declared.graph.Graph.{Graph}
-use Rattle.exec_graph.proofs.Bools.{not_true}
-use Rattle.exec_graph.proofs.Entries.{entry}
-use Rattle.graph_laws.specs.Joining.{set_node, without, reread_entry}
-use Rattle.graph_laws.proofs.Changes.{all_without, node_at-without_other}
+use Rattle.sink_laws.specs.of_exec_graph.Meaning.{node_at, AllDiffer, place}
+use Rattle.sink_laws.specs.of_exec_graph.Readers.{is_read}
+use Rattle.sink_laws.specs.of_exec_graph.declared.graph.Place.{Place}
+use Rattle.sink_laws.specs.of_exec_graph.declared.graph.Node.{Node}
+use Rattle.sink_laws.specs.of_exec_graph.declared.graph.Entry.{Entry}
+use Rattle.sink_laws.specs.of_exec_graph.declared.graph.Graph.{Graph}
+use Rattle.sink_laws.proofs.of_exec_graph.Bools.{not_true}
+use Rattle.sink_laws.proofs.of_exec_graph.Entries.{entry}
+use Rattle.sink_laws.specs.of_graph_laws.Joining.{set_node, without, reread_entry}
+use Rattle.sink_laws.proofs.of_graph_laws.Changes.{all_without, node_at-without_other}
 use Rattle.sink_laws.specs.Merging.{dropped, tidied}
 use Rattle.sink_weights.specs.Weights.{is_node_read, unread_weight, node_weight}
 use Rattle.sink_weights.proofs.Roots.{node_of_place}

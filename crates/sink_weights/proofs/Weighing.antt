@@ -3,16 +3,16 @@ use Rattle.std.proofs.Common.{◌≡◌, ℕ, ◌+◌, ◌*◌, ◌<◌, ◌≤�
 use Rattle.std.proofs.lemmas.Bool.{eqb-true, false≢true}
 use Rattle.std.specs.List.{AllByRecursion}
 use Rattle.flume_value.proofs.EachLemmas.{Each-weaker}
-use Rattle.exec_graph.specs.Meaning.{node_at, reads, IsRankedBy}
-use Rattle.exec_graph.specs.Wellformed.{IsFounded}
-use Rattle.exec_graph.specs.declared.graph.Place.{Place}
-use Rattle.exec_graph.specs.declared.graph.Node.{Node}
-use Rattle.exec_graph.specs.declared.graph.Node.TheVariants.{Source, Flatten, Pdo, Gbk, Barrier}
-use Rattle.exec_graph.specs.declared.graph.Entry.{Entry}
-use Rattle.exec_graph.specs.declared.graph.Graph.{Graph}
-use Rattle.exec_graph.proofs.Bools.{or_cases}
-use Rattle.exec_graph.proofs.Solving.{lower_most, place_of, ranked_at, short_ranked}
-use Rattle.graph_laws.specs.Joining.{reread}
+use Rattle.sink_laws.specs.of_exec_graph.Meaning.{node_at, reads, IsRankedBy}
+use Rattle.sink_laws.specs.of_exec_graph.Wellformed.{IsFounded}
+use Rattle.sink_laws.specs.of_exec_graph.declared.graph.Place.{Place}
+use Rattle.sink_laws.specs.of_exec_graph.declared.graph.Node.{Node}
+use Rattle.sink_laws.specs.of_exec_graph.declared.graph.Node.TheVariants.{Source, Flatten, Pdo, Gbk, Barrier}
+use Rattle.sink_laws.specs.of_exec_graph.declared.graph.Entry.{Entry}
+use Rattle.sink_laws.specs.of_exec_graph.declared.graph.Graph.{Graph}
+use Rattle.sink_laws.proofs.of_exec_graph.Bools.{or_cases}
+use Rattle.sink_laws.proofs.of_exec_graph.Solving.{lower_most, place_of, ranked_at, short_ranked}
+use Rattle.sink_laws.specs.of_graph_laws.Joining.{reread}
 use Rattle.sink_weights.specs.Weights.{added, node_weight, weight_at, weight_in, weight, is_of}
 
 pub next_in : (es : List Entry) (k n : ℕ)

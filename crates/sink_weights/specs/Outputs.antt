@@ -1,13 +1,13 @@
 -- The outputs of a Pdo that have a reader, and the step of a Pdo with one output.
 use Rattle.std.specs.Prelude.{ℕ, ◌+◌, Bool, cond, List, [], ◌∷◌, ◌++◌, length, Option, Some, None}
 use Rattle.std.proofs.Common.{zero, suc}
-use Rattle.exec_graph.specs.Forests.{Forest, Bare, Grow}
-use Rattle.exec_graph.specs.Meaning.{place}
-use Rattle.exec_graph.specs.Readers.{is_read}
-use Rattle.exec_graph.specs.declared.graph.Place.{Place}
-use Rattle.exec_graph.specs.declared.graph.Node.TheVariants.{Flatten}
-use Rattle.exec_graph.specs.declared.graph.Graph.{Graph}
-use Rattle.graph_laws.specs.Joining.{set_node}
+use Rattle.sink_laws.specs.of_exec_graph.Forests.{Forest, Bare, Grow}
+use Rattle.sink_laws.specs.of_exec_graph.Meaning.{place}
+use Rattle.sink_laws.specs.of_exec_graph.Readers.{is_read}
+use Rattle.sink_laws.specs.of_exec_graph.declared.graph.Place.{Place}
+use Rattle.sink_laws.specs.of_exec_graph.declared.graph.Node.TheVariants.{Flatten}
+use Rattle.sink_laws.specs.of_exec_graph.declared.graph.Graph.{Graph}
+use Rattle.sink_laws.specs.of_graph_laws.Joining.{set_node}
 use Rattle.sink_laws.specs.Sinking.{copies, copied}
 
 -- The number that an output has, where it has one.

@@ -2,13 +2,13 @@
 use Rattle.std.specs.Prelude.{ℕ, ◌+◌, ◌*◌, ◌==◌, ◌||◌, Bool, cond, List, [], ◌∷◌, length, Option, Some, None}
 use Rattle.std.proofs.Common.{zero, suc}
 use Rattle.std.specs.List.{list_any}
-use Rattle.exec_graph.specs.Meaning.{node_at, reads}
-use Rattle.exec_graph.specs.Readers.{any_node}
-use Rattle.exec_graph.specs.declared.graph.Place.{Place}
-use Rattle.exec_graph.specs.declared.graph.Node.{Node}
-use Rattle.exec_graph.specs.declared.graph.Node.TheVariants.{Source, Flatten, Pdo, Gbk, Barrier}
-use Rattle.exec_graph.specs.declared.graph.Entry.{Entry}
-use Rattle.exec_graph.specs.declared.graph.Graph.{Graph}
+use Rattle.sink_laws.specs.of_exec_graph.Meaning.{node_at, reads}
+use Rattle.sink_laws.specs.of_exec_graph.Readers.{any_node}
+use Rattle.sink_laws.specs.of_exec_graph.declared.graph.Place.{Place}
+use Rattle.sink_laws.specs.of_exec_graph.declared.graph.Node.{Node}
+use Rattle.sink_laws.specs.of_exec_graph.declared.graph.Node.TheVariants.{Source, Flatten, Pdo, Gbk, Barrier}
+use Rattle.sink_laws.specs.of_exec_graph.declared.graph.Entry.{Entry}
+use Rattle.sink_laws.specs.of_exec_graph.declared.graph.Graph.{Graph}
 
 -- ---- nodes
 

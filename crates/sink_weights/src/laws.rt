@@ -1,14 +1,14 @@
 // Laws of outputs that have readers, and of weights that each merge and each step lowers.
 ghost use Rattle.std.specs.Prelude.{◌≡◌, ◌<◌, ℕ, List, Some, true};
-ghost use Rattle.exec_graph.specs.Forests.{Forest};
-ghost use Rattle.exec_graph.specs.Meaning.{node_at, place};
-ghost use Rattle.exec_graph.specs.Readers.{is_read};
-ghost use Rattle.exec_graph.specs.Wellformed.{IsGraphOk};
-ghost use Rattle.exec_graph.specs.declared.graph.Graph.{Graph};
-ghost use Rattle.exec_graph.specs.declared.graph.Node.{Node as GhostNode};
-ghost use Rattle.exec_graph.specs.declared.graph.Node.TheVariants as node;
-ghost use Rattle.exec_graph.specs.declared.graph.Place.{Place};
-ghost use Rattle.graph_laws.specs.Single.{HasSingleOutputs};
+ghost use Rattle.sink_laws.specs.of_exec_graph.Forests.{Forest};
+ghost use Rattle.sink_laws.specs.of_exec_graph.Meaning.{node_at, place};
+ghost use Rattle.sink_laws.specs.of_exec_graph.Readers.{is_read};
+ghost use Rattle.sink_laws.specs.of_exec_graph.Wellformed.{IsGraphOk};
+ghost use Rattle.sink_laws.specs.of_exec_graph.declared.graph.Graph.{Graph};
+ghost use Rattle.sink_laws.specs.of_exec_graph.declared.graph.Node.{Node as GhostNode};
+ghost use Rattle.sink_laws.specs.of_exec_graph.declared.graph.Node.TheVariants as node;
+ghost use Rattle.sink_laws.specs.of_exec_graph.declared.graph.Place.{Place};
+ghost use Rattle.sink_laws.specs.of_graph_laws.Single.{HasSingleOutputs};
 ghost use Rattle.sink_laws.specs.Chain.{IsSunk};
 ghost use Rattle.sink_laws.specs.Merging.{CanMerge, merge_step};
 ghost use Rattle.sink_laws.specs.Sinking.{CanSink, outputs_of, sink_step, sunk};

@@ -20,14 +20,14 @@ use Rattle.plan_phases.specs.Told.{IsFirstOf, IsStopped}
 use Rattle.plan_phases.specs.declared.fault.RunFault.{RunFault}
 use Rattle.plan_phases.specs.declared.fault.RunFault.TheVariants as fault
 use Rattle.run_settings.specs.Settings.{RunSettings}
-use Rattle.step_counts.specs.Sizes.{HaveGrown}
+use Rattle.stage_results.specs.of_step_counts.Sizes.{HaveGrown}
 use Rattle.task_lists.proofs.TypedResults.{begin_typed}
 use Rattle.task_lists.specs.Lists.{lists, source_lists}
 use Rattle.task_lists.specs.Plans.{first_trap, size_of}
 use Rattle.task_lists.specs.Runs.{kept_count}
 use Rattle.task_lists.specs.Tasks.{Lists}
 use Rattle.stage_exec.proofs.Running.{all_dropped}
-use Rattle.task_safety.specs.Stages.{IsTypedRun}
+use Rattle.stage_results.specs.of_task_safety.Stages.{IsTypedRun}
 use Rattle.stage_exec.specs.Executions.{IsRunFault, split_of}
 use Rattle.stage_exec.specs.inner.Along.{CanGoOn}
 use Rattle.stage_exec.specs.inner.Objects.{GivesObject}

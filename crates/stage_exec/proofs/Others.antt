@@ -5,7 +5,7 @@ use Rattle.flume_value.specs.declared.value.Value.{Value}
 use Rattle.flume_collection.specs.Calls.{or_none}
 use Rattle.exec_plan.specs.declared.plan.PlanPlace.{PlanPlace}
 use Rattle.exec_plan.specs.declared.plan.PlanPlace.TheVariants as at
-use Rattle.map_shard.specs.Tables.{results_or_none, table}
+use Rattle.stage_results.specs.of_map_shard.Tables.{results_or_none, table}
 use Rattle.stage_exec.specs.inner.Places.{is_same}
 
 -- ---- a result that is taken away

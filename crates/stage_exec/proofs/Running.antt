@@ -10,7 +10,7 @@ use Rattle.flume_collection.specs.Calls.{Called}
 use Rattle.crew.specs.Hosts.{Account, Grew}
 use Rattle.exec_graph.specs.World.{World}
 use Rattle.exec_plan.specs.declared.plan.Stage.{Stage}
-use Rattle.map_shard.specs.Tables.{table}
+use Rattle.stage_results.specs.of_map_shard.Tables.{table}
 use Rattle.plan_phases.proofs.Asking.{asked_all, asked_then, front_before}
 use Rattle.plan_phases.proofs.Joining.{none_run, run_then, stopped_before, stopped_behind, tasks_both}
 use Rattle.plan_phases.proofs.Lasting.{all_grew_on}
@@ -19,19 +19,19 @@ use Rattle.plan_phases.specs.Told.{AskedFront, HaveRun, IsStopped, attempts_of}
 use Rattle.plan_phases.specs.declared.fault.RunFault.{RunFault}
 use Rattle.plan_phases.specs.declared.winners.PhaseWinners.{PhaseWinners}
 use Rattle.run_settings.specs.Settings.{RunSettings}
-use Rattle.step_counts.proofs.Growing.{grown_as, grown_not, grown_then}
-use Rattle.step_counts.specs.Sizes.{HaveGrown}
+use Rattle.stage_results.proofs.of_step_counts.Growing.{grown_as, grown_not, grown_then}
+use Rattle.stage_results.specs.of_step_counts.Sizes.{HaveGrown}
 use Rattle.task_lists.specs.Lists.{result_lists, run_lists, source_lists, with_lists}
 use Rattle.task_lists.specs.Plans.{stage_tasks, task_counts, tasks_from}
 use Rattle.task_lists.specs.Tasks.{Lists}
 use Rattle.task_lists.proofs.TypedResults.{table_typed}
-use Rattle.stage_phases.specs.Stages.{run_world}
-use Rattle.task_safety.specs.Stages.{CanRunStage}
+use Rattle.stage_results.specs.of_stage_phases.Stages.{run_world}
+use Rattle.stage_results.specs.of_task_safety.Stages.{CanRunStage}
 use Rattle.stage_exec.specs.Executions.{split_of}
 use Rattle.stage_exec.specs.inner.Along.{Along, CanGoOn, counted_on, lists_after, phases_on}
 use Rattle.stage_exec.specs.inner.Objects.{GivesObject}
 use Rattle.stage_exec.specs.inner.Reads.{AgreeOn, later_reads}
-use Rattle.map_shard.proofs.Later.{behind}
+use Rattle.stage_results.proofs.of_map_shard.Later.{behind}
 use Rattle.stage_exec.proofs.Reading.{outputs_same, phases_from_same, tasks_from_same}
 use Rattle.stage_exec.proofs.Tables.{table_begins, table_grows}
 use Rattle.exec_plan.specs.declared.plan.PlanPlace.{PlanPlace}

@@ -6,8 +6,8 @@ use Rattle.flume_value.specs.declared.value.Value.{Value}
 use Rattle.flume_collection.specs.Calls.{Called, or_none}
 use Rattle.exec_plan.specs.declared.plan.PlanPlace.{PlanPlace}
 use Rattle.exec_plan.specs.declared.plan.PlanPlace.TheVariants as at
-use Rattle.map_shard.specs.Tables.{results_or_none, table}
-use Rattle.stage_phases.specs.Stages.{run_world}
+use Rattle.stage_results.specs.of_map_shard.Tables.{results_or_none, table}
+use Rattle.stage_results.specs.of_stage_phases.Stages.{run_world}
 use Rattle.task_lists.specs.Lists.{source_lists, with_lists}
 
 same_suc : (i j : ℕ) → (i == j) ≡ (suc i == suc j)

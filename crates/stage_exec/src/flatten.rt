@@ -1,11 +1,11 @@
 // The lists of collections, one after another.
 ghost use Rattle.std.specs.Prelude.{◌≡◌, ◌++◌, IfOk, OnOk};
 ghost use Rattle.std.specs.List.{flat_map};
-ghost use Rattle.map_shard.specs.Tables.{table};
+ghost use Rattle.stage_results.specs.of_map_shard.Tables.{table};
 
 use exec_plan::PlanPlace;
 use flume_value::{Items, Pile, Value};
-use map_shard::list_of;
+use stage_results::map_shard::list_of;
 use std::alloc::{AllocError, Global};
 
 /// The lists of these collections, one after another.

@@ -4,14 +4,14 @@ ghost use Rattle.exec_graph.specs.Objects.{gives_object, only, values_in};
 ghost use Rattle.exec_graph.specs.World.{World};
 ghost use Rattle.exec_plan.specs.declared.plan.Stage.TheVariants as stages;
 ghost use Rattle.exec_graph.specs.declared.graph.Act.TheVariants as acts;
-ghost use Rattle.map_shard.specs.Tables.{table};
+ghost use Rattle.stage_results.specs.of_map_shard.Tables.{table};
 ghost use Rattle.operate_step.specs.Results.{object_of};
 ghost use Rattle.stage_exec.specs.inner.Objects.{IsActFault, made_object};
-ghost use Rattle.stage_phases.specs.Stages.{run_world};
-ghost use Rattle.step_counts.specs.Sizes.{HaveGrown};
+ghost use Rattle.stage_results.specs.of_stage_phases.Stages.{run_world};
+ghost use Rattle.stage_results.specs.of_step_counts.Sizes.{HaveGrown};
 ghost use Rattle.task_lists.specs.Lists.{calm, object_made};
 ghost use Rattle.task_lists.specs.Plans.{task_counts};
-ghost use Rattle.task_safety.specs.Stages.{CanRunStage};
+ghost use Rattle.stage_results.specs.of_task_safety.Stages.{CanRunStage};
 
 use combine_table::Comb;
 use exec_graph::Act;
@@ -19,13 +19,13 @@ use exec_plan::PlanPlace;
 use flume_collection::Trap;
 use flume_value::{Items, Pile, Value};
 use forest_steps::Functions;
-use map_shard::list_of;
 use operate_step::{no_value_law, operate, singleton};
 use plan_phases::RunFault;
-use stage_phases::Inputs;
+use stage_results::map_shard::list_of;
+use stage_results::stage_phases::Inputs;
+use stage_results::step_counts::add_object;
+use stage_results::task_safety::act_law;
 use std::alloc::{AllocError, Global};
-use step_counts::add_object;
-use task_safety::act_law;
 
 /// The one result of an Operate stage: the object that its act makes of what it takes, for a script
 /// node, whose own bag it is or not. No host is asked for it. Its member is added to the size of

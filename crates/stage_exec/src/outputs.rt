@@ -1,14 +1,14 @@
 // The outputs of a plan, which are moved out of the results where no later output needs them.
 ghost use Rattle.std.specs.Prelude.{◌≡◌, false, IfOk, map};
 ghost use Rattle.exec_plan.specs.declared.plan.PlanPlace.{PlanPlace as GhostPlace};
-ghost use Rattle.map_shard.specs.Tables.{table};
+ghost use Rattle.stage_results.specs.of_map_shard.Tables.{table};
 ghost use Rattle.stage_exec.specs.inner.Places.{is_same};
 ghost use Rattle.stage_exec.specs.inner.Reads.{AgreeOn};
 
 use crate::taking::{is_among, taken_result};
 use exec_plan::PlanPlace;
 use flume_value::{Items, Pile, copy_all};
-use map_shard::list_of;
+use stage_results::map_shard::list_of;
 use std::alloc::{AllocError, Global};
 
 /// The list of each of these collections, in order.

@@ -3,12 +3,12 @@ ghost use Rattle.std.specs.Prelude.{◌≡◌, ◌<◌, ◌≤◌, length, map, 
 ghost use Rattle.std.specs.List.{AllZip};
 ghost use Rattle.crew.specs.Hosts.{account, Grew};
 ghost use Rattle.exec_plan.specs.declared.plan.Stage.TheVariants as stages;
-ghost use Rattle.map_shard.specs.Tables.{split, table};
+ghost use Rattle.stage_results.specs.of_map_shard.Tables.{split, table};
 ghost use Rattle.plan_phases.specs.Phases.{stage_phases};
 ghost use Rattle.plan_phases.specs.Told.{HaveRun, IsStopped};
-ghost use Rattle.stage_phases.specs.Outs.{AreReduceOuts};
-ghost use Rattle.stage_phases.specs.Stages.{run_world};
-ghost use Rattle.task_safety.specs.Stages.{CanRunStage};
+ghost use Rattle.stage_results.specs.of_stage_phases.Outs.{AreReduceOuts};
+ghost use Rattle.stage_results.specs.of_stage_phases.Stages.{run_world};
+ghost use Rattle.stage_results.specs.of_task_safety.Stages.{CanRunStage};
 ghost use Rattle.task_lists.specs.Outs.{AreMapOuts};
 
 use exec_plan::Mscr;
@@ -16,9 +16,9 @@ use flume_value::{Items, Pile};
 use forest_steps::Functions;
 use outside::Host;
 use plan_phases::{PhaseWinners, RunFault};
-use reduce_part::ReduceOut;
 use shuffle_parts::MapOut;
-use stage_phases::{Inputs, map_outs, reduce_outs};
+use stage_results::reduce_part::ReduceOut;
+use stage_results::stage_phases::{Inputs, map_outs, reduce_outs};
 use std::alloc::Global;
 use std::thread::Threads;
 

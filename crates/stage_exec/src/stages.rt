@@ -2,12 +2,12 @@
 ghost use Rattle.std.specs.Prelude.{◌≡◌, ◌∷◌, ◌++◌, [], ◌<◌, ◌≤◌, ◌^◌, length, map, IfErr, IfOk, OnOk};
 ghost use Rattle.std.specs.List.{AllZip};
 ghost use Rattle.crew.specs.Hosts.{account, Grew};
-ghost use Rattle.map_shard.specs.Tables.{table};
+ghost use Rattle.stage_results.specs.of_map_shard.Tables.{table};
 ghost use Rattle.plan_phases.specs.Told.{HaveRun, IsStopped};
 ghost use Rattle.stage_exec.specs.inner.Along.{CanGoOn, counted_on, lists_after, phases_on};
 ghost use Rattle.stage_exec.specs.inner.Reads.{AgreeOn};
-ghost use Rattle.stage_phases.specs.Stages.{run_world};
-ghost use Rattle.step_counts.specs.Sizes.{HaveGrown};
+ghost use Rattle.stage_results.specs.of_stage_phases.Stages.{run_world};
+ghost use Rattle.stage_results.specs.of_step_counts.Sizes.{HaveGrown};
 ghost use Rattle.task_lists.specs.Lists.{source_lists};
 
 use crate::dropping::drop_read;
@@ -17,7 +17,7 @@ use flume_value::{Items, Pile};
 use forest_steps::Functions;
 use outside::Host;
 use plan_phases::{PhaseWinners, RunFault};
-use stage_phases::Inputs;
+use stage_results::stage_phases::Inputs;
 use std::alloc::{AllocError, Global};
 use std::thread::Threads;
 

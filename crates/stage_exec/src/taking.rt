@@ -6,12 +6,12 @@ ghost use Rattle.flume_types.specs.Typing.{AllHave};
 ghost use Rattle.flume_types.specs.declared.types.Ty.{Ty as GhostTy};
 ghost use Rattle.exec_plan.specs.declared.plan.PlanPlace.{PlanPlace as GhostPlace};
 ghost use Rattle.exec_plan.specs.declared.plan.PlanPlace.TheVariants.{Result as AtResult};
-ghost use Rattle.map_shard.specs.Tables.{table};
+ghost use Rattle.stage_results.specs.of_map_shard.Tables.{table};
 ghost use Rattle.stage_exec.specs.inner.Places as spec;
 
 use exec_plan::PlanPlace;
 use flume_value::{Items, Pile};
-use map_shard::take_list;
+use stage_results::map_shard::take_list;
 use std::alloc::Global;
 
 /// Whether a collection is one of these.

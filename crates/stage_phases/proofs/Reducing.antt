@@ -29,7 +29,7 @@ use Rattle.stage_phases.specs.Outs.{AreReduceOuts, IsOutOf}
 use Rattle.stage_phases.specs.inner.Channels.{is_group}
 use Rattle.stage_phases.specs.inner.Tasks.{AreValues, IsPhaseOf}
 use Rattle.reduce_part.proofs.Shuffled.{few_groupings, gathered_at, pairs_at, task_is}
-use Rattle.task_safety.proofs.Fitting.{few_tasks}
+use Rattle.map_shard.proofs.of_task_safety.Fitting.{few_tasks}
 use Rattle.stage_phases.proofs.Numbers.{at_below, length_below}
 
 -- whether a channel groups says whether there is a reduce phase

@@ -18,7 +18,7 @@ use Rattle.plan_phases.specs.declared.winners.PhaseWinners.{PhaseWinners}
 use Rattle.plan_phases.specs.Phases.{OfTasks, PhaseTasks}
 use Rattle.plan_phases.specs.Told.{AreAsked, AskedAtMost, AskedFront, HaveRun, IsReached, IsStopped, RanThrough, attempts_of, first_tasks, settings_of}
 use Rattle.plan_phases.proofs.Asking.{asked_all, asked_last, asked_one}
-use Rattle.task_safety.proofs.Fitting.{each_placed}
+use Rattle.map_shard.proofs.of_task_safety.Fitting.{each_placed}
 use Rattle.stage_phases.specs.inner.Tasks.{IsPhaseOf, fault_at}
 
 -- ---- lists

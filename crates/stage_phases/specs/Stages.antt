@@ -9,7 +9,7 @@ use Rattle.shuffle_parts.specs.declared.out.MapOut.{MapOut}
 use Rattle.task_lists.specs.Outs.{AreMapOuts}
 use Rattle.task_lists.specs.Tasks.{Split}
 use Rattle.map_shard.specs.Tables.{table}
-use Rattle.task_safety.specs.Stages.{CanRunStage}
+use Rattle.map_shard.specs.of_task_safety.Stages.{CanRunStage}
 
 -- the world of a run: what its functions answer, and the rows of each source. There is a list for
 -- each source of the plan that is run; no other number has rows

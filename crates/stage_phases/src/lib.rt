@@ -14,4 +14,7 @@ mod reduce;
 
 pub use inputs::Inputs;
 pub use map::map_outs;
+pub use map_shard;
+pub use map_shard::task_safety;
 pub use reduce::reduce_outs;
+pub use reduce_part;

@@ -9,7 +9,7 @@ ghost use Rattle.map_shard.specs.Work.{work_count};
 ghost use Rattle.plan_phases.specs.Phases.{OfTasks, map_phase_of};
 ghost use Rattle.plan_phases.specs.Told.{HaveRun, IsStopped};
 ghost use Rattle.stage_phases.specs.Stages.{run_world};
-ghost use Rattle.task_safety.specs.Stages.{CanRunStage};
+ghost use Rattle.map_shard.specs.of_task_safety.Stages.{CanRunStage};
 
 use crate::inputs::Inputs;
 use crate::outs::outs_of;

@@ -9,7 +9,7 @@ use Rattle.exec_plan.specs.Channels.{numbers}
 use Rattle.exec_plan.specs.declared.plan.Grouping.{Grouping}
 use Rattle.exec_plan.specs.declared.plan.InChannel.{InChannel}
 use Rattle.phase_outs.proofs.Placing.{some_at}
-use Rattle.reduce_part.specs.declared.out.ReduceOut.{ReduceOut}
+use Rattle.stage_phases.specs.of_reduce_part.declared.out.ReduceOut.{ReduceOut}
 use Rattle.stage_phases.specs.Outs.{IsOutOf}
 use Rattle.step_counts.specs.Sizes.{HaveGrown}
 use Rattle.step_counts.proofs.Growing.{grown_as, grown_then}

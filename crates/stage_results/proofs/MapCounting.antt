@@ -10,7 +10,7 @@ use Rattle.shuffle_parts.specs.declared.out.MapOut.{MapOut}
 use Rattle.exec_graph.specs.World.{World}
 use Rattle.exec_plan.specs.declared.plan.InChannel.{InChannel}
 use Rattle.exec_plan.specs.declared.plan.Mscr.{Mscr}
-use Rattle.map_shard.specs.Tables.{split}
+use Rattle.stage_phases.specs.of_map_shard.Tables.{split}
 use Rattle.phase_outs.proofs.Placing.{some_at}
 use Rattle.step_counts.specs.Owners.{owners_of}
 use Rattle.step_counts.specs.Sizes.{HaveGrown}

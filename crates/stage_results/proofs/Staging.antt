@@ -14,7 +14,7 @@ use Rattle.exec_plan.specs.declared.plan.InChannel.{InChannel}
 use Rattle.exec_plan.specs.declared.plan.Mscr.{Mscr}
 use Rattle.exec_plan.specs.declared.plan.OutChannel.{OutChannel}
 use Rattle.exec_plan.specs.declared.plan.OutChannel.TheVariants.{Group, Pass}
-use Rattle.reduce_part.specs.declared.out.ReduceOut.{ReduceOut}
+use Rattle.stage_phases.specs.of_reduce_part.declared.out.ReduceOut.{ReduceOut}
 use Rattle.stage_phases.specs.Outs.{AreReduceOuts, IsOutOf}
 use Rattle.step_counts.specs.Sizes.{HaveGrown}
 use Rattle.step_counts.proofs.Growing.{grown_as, grown_not, grown_then}

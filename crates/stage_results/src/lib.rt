@@ -15,3 +15,6 @@ mod passed;
 
 pub use lists::stage_lists;
 pub use map_counts::add_map_counts;
+pub use stage_phases;
+pub use stage_phases::{map_shard, reduce_part, task_safety};
+pub use step_counts;

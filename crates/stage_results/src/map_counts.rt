@@ -1,7 +1,7 @@
 // What the steps of map tasks have counted.
 ghost use Rattle.std.specs.Prelude.{◌≡◌, ◌<◌, ◌*◌, ℕ, length, map, sum, IfOk, OnOk};
 ghost use Rattle.exec_graph.specs.World.{World};
-ghost use Rattle.map_shard.specs.Tables.{split};
+ghost use Rattle.stage_phases.specs.of_map_shard.Tables.{split};
 ghost use Rattle.step_counts.specs.Owners.{owners_of};
 ghost use Rattle.step_counts.specs.Sizes.{HaveGrown};
 ghost use Rattle.task_lists.specs.Outs.{AreMapOuts};

@@ -13,3 +13,4 @@
 mod laws;
 
 pub use laws::{act_law, safe_law, stage_law, taken_law};
+pub use task_lists;

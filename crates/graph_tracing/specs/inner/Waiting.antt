@@ -6,8 +6,8 @@ use Rattle.exec_graph.specs.Meaning.{IsSound, node_at}
 use Rattle.exec_graph.specs.declared.graph.Graph.{Graph}
 use Rattle.exec_graph.specs.declared.graph.Node.TheVariants.{Pdo}
 use Rattle.exec_graph.specs.declared.graph.Place.{Place}
-use Rattle.fuse_chain.specs.Numbers.{after_kids}
-use Rattle.fuse_chain.specs.Rewrites.{Leads, Rewrite as Fusion, is_sibling, other_of}
+use Rattle.pass_rewrites.specs.of_fuse_chain.Numbers.{after_kids}
+use Rattle.pass_rewrites.specs.of_fuse_chain.Rewrites.{Leads, Rewrite as Fusion, is_sibling, other_of}
 use Rattle.graph_rewrites.specs.declared.rewrite.Rewrite.{Rewrite}
 use Rattle.pass_rewrites.specs.Passes.{as_rewrite, present}
 use Rattle.graph_tracing.specs.declared.trace.Trace.{Trace}

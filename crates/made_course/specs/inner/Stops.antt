@@ -6,7 +6,7 @@ use Rattle.plan_phases.specs.declared.fault.RunFault.{RunFault}
 use Rattle.plan_phases.specs.declared.fault.RunFault.TheVariants as fault
 use Rattle.run_texts.specs.declared.status.Status.{Status}
 use Rattle.run_texts.specs.declared.status.Status.TheVariants.{GaveUp, WantOfMemory}
-use Rattle.script_run.specs.declared.run.Ran.{Ran}
+use Rattle.run_course.specs.of_script_run.declared.run.Ran.{Ran}
 use Rattle.made_course.specs.Files.{sums_for}
 use Rattle.made_course.specs.Runs.{WasGivenUp, WasSummed}
 

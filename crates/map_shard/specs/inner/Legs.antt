@@ -7,8 +7,8 @@ use Rattle.shuffle_parts.specs.declared.out.MapOut.{MapOut}
 use Rattle.exec_graph.specs.Forests.{Forest}
 use Rattle.exec_graph.specs.World.{World}
 use Rattle.exec_plan.specs.declared.plan.OutChannel.{OutChannel}
-use Rattle.task_lists.specs.Outs.{IsSent}
-use Rattle.task_lists.specs.Runs.{all_given, counts_of, kept_count, traps_of}
+use Rattle.task_safety.specs.of_task_lists.Outs.{IsSent}
+use Rattle.task_safety.specs.of_task_lists.Runs.{all_given, counts_of, kept_count, traps_of}
 use Rattle.map_shard.specs.declared.legs.Legs.{Legs}
 use Rattle.map_shard.specs.inner.Fillings.{IsFilled}
 use Rattle.map_shard.specs.inner.Sending.{taken}

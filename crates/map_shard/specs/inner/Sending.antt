@@ -6,7 +6,7 @@ use Rattle.flume_collection.specs.Calls.{or_none}
 use Rattle.exec_plan.specs.declared.plan.Take.{Take}
 use Rattle.exec_plan.specs.declared.plan.OutChannel.{OutChannel}
 use Rattle.exec_plan.specs.declared.plan.OutChannel.TheVariants.{Group, Pass}
-use Rattle.task_lists.specs.Typing.{AreGroupable}
+use Rattle.task_safety.specs.of_task_lists.Typing.{AreGroupable}
 
 abbrev pub taken_by : ℕ → List (List Value) → Take → List Value
 taken_by m lists k = cond (k.channel == m) (or_none (slice_get lists k.out)) []

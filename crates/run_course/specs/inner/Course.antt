@@ -5,9 +5,9 @@ use Rattle.command_words.specs.declared.words.Command.{Command}
 use Rattle.command_words.specs.declared.words.Command.TheVariants.{Direct, Run}
 use Rattle.crew.specs.Hosts.{Account}
 use Rattle.csv_rows.specs.Text.{table_text}
-use Rattle.direct_meaning.specs.Direct.{meaning, sizes_of, traps_of}
-use Rattle.direct_meaning.specs.Evaluated.{bag_at}
-use Rattle.direct_meaning.specs.Inputs.{inputs_of}
+use Rattle.script_loading.specs.of_direct_meaning.Direct.{meaning, sizes_of, traps_of}
+use Rattle.script_loading.specs.of_direct_meaning.Evaluated.{bag_at}
+use Rattle.script_loading.specs.of_direct_meaning.Inputs.{inputs_of}
 use Rattle.exec_plan.specs.declared.plan.Plan.{Plan}
 use Rattle.flume_collection.specs.Traps.{IsLeast}
 use Rattle.flume_collection.specs.declared.trap.Trap.{Trap}

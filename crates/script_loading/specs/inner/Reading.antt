@@ -5,7 +5,7 @@ use Rattle.std.specs.Option.{option_map_or}
 use Rattle.csv_rows.specs.declared.fault.RowFault.{RowFault}
 use Rattle.csv_rows.specs.declared.fault.RowFault.TheVariants.{Bad}
 use Rattle.csv_rows.specs.declared.fault.RowFault.TheVariants as row_fault
-use Rattle.direct_meaning.specs.Inputs.{Wanted, inputs_of, wanted_by}
+use Rattle.build_law.specs.of_direct_meaning.Inputs.{Wanted, inputs_of, wanted_by}
 use Rattle.flume_grammar.specs.declared.fault.ScriptFault.{ScriptFault}
 use Rattle.flume_grammar.specs.declared.fault.ScriptFault.TheVariants as script_fault
 use Rattle.flume_value.specs.declared.value.Value.{Value}

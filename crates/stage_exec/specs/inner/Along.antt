@@ -11,17 +11,17 @@ use Rattle.exec_plan.specs.declared.plan.PlanPlace.{PlanPlace}
 use Rattle.exec_plan.specs.declared.plan.Stage.{Stage}
 use Rattle.flume_types.specs.declared.types.Ty.{Ty}
 use Rattle.flume_value.specs.declared.value.Value.{Value}
-use Rattle.map_shard.specs.Tables.{table}
+use Rattle.stage_results.specs.of_map_shard.Tables.{table}
 use Rattle.plan_phases.specs.Phases.{PlanPhase, phases_from}
 use Rattle.plan_phases.specs.Told.{HaveRun}
 use Rattle.plan_phases.specs.declared.winners.PhaseWinners.{PhaseWinners}
 use Rattle.run_settings.specs.Settings.{RunSettings}
-use Rattle.step_counts.specs.Sizes.{HaveGrown}
+use Rattle.stage_results.specs.of_step_counts.Sizes.{HaveGrown}
 use Rattle.task_lists.specs.Lists.{run_lists, source_lists}
 use Rattle.task_lists.specs.Plans.{task_counts, tasks_from}
 use Rattle.task_lists.specs.Tasks.{Lists}
 use Rattle.task_lists.specs.Typing.{AreListsTyped}
-use Rattle.task_safety.specs.Taking.{Takes}
+use Rattle.stage_results.specs.of_task_safety.Taking.{Takes}
 use Rattle.stage_exec.specs.Executions.{split_of}
 use Rattle.stage_exec.specs.inner.Objects.{GivesObject}
 use Rattle.stage_exec.specs.inner.Reads.{AgreeOn}

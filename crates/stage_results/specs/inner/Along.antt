@@ -4,7 +4,7 @@ use Rattle.std.specs.List.{flat_map}
 use Rattle.flume_value.specs.declared.value.Value.{Value}
 use Rattle.exec_graph.specs.World.{World}
 use Rattle.exec_plan.specs.declared.plan.Mscr.{Mscr}
-use Rattle.reduce_part.specs.declared.out.ReduceOut.{ReduceOut}
+use Rattle.stage_phases.specs.of_reduce_part.declared.out.ReduceOut.{ReduceOut}
 use Rattle.step_counts.specs.Sizes.{HaveGrown}
 use Rattle.task_lists.specs.Lists.{given_lists}
 use Rattle.task_lists.specs.Tasks.{Lists, Split}

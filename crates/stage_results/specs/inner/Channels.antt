@@ -8,7 +8,7 @@ use Rattle.exec_plan.specs.declared.plan.Grouping.{Grouping}
 use Rattle.exec_plan.specs.declared.plan.InChannel.{InChannel}
 use Rattle.exec_plan.specs.declared.plan.OutChannel.{OutChannel}
 use Rattle.exec_plan.specs.declared.plan.OutChannel.TheVariants.{Group, Pass}
-use Rattle.reduce_part.specs.declared.out.ReduceOut.{ReduceOut}
+use Rattle.stage_phases.specs.of_reduce_part.declared.out.ReduceOut.{ReduceOut}
 use Rattle.shuffle_parts.specs.Outs.{passed_in}
 use Rattle.shuffle_parts.specs.declared.out.Sent.{Sent}
 use Rattle.stage_phases.specs.Outs.{IsOutOf}

@@ -1,4 +1,4 @@
-use Rattle.script_laws.proofs.RuleLemmas.{well-formed}
+use Rattle.direct_meaning.proofs.of_script_laws.RuleLemmas.{well-formed}
 use Rattle.build_law.proofs.Accepting.{accepted_kept}
 use Rattle.build_law.proofs.Meanings.{is_meaning}
 use Rattle.build_law.proofs.laws.means_law.Goals as goal

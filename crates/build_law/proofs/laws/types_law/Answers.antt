@@ -1,4 +1,4 @@
-use Rattle.script_laws.proofs.RuleLemmas.{well-formed}
+use Rattle.direct_meaning.proofs.of_script_laws.RuleLemmas.{well-formed}
 use Rattle.build_law.proofs.TypedGraphs.{is_typed}
 use Rattle.build_law.proofs.laws.types_law.Goals as goal
 

@@ -6,7 +6,7 @@ use Rattle.exec_graph.specs.declared.graph.Node.TheVariants.{Pdo}
 use Rattle.exec_graph.specs.Meaning.{node_at}
 use Rattle.graph_laws.specs.Joining.{set_node, without}
 use Rattle.graph_laws.proofs.ObjectNodes.{node_without}
-use Rattle.sink_laws.specs.Chain.{forest_of}
+use Rattle.flatten_sink.specs.of_sink_laws.Chain.{forest_of}
 use Rattle.graph_joining.proofs.refits.take_apart.Goals as goal
 
 pub returns-clause-graph : goal.returns-clause-graph

@@ -1,7 +1,7 @@
 use Rattle.std.proofs.Common.{◌≡◌, true, cond, ap}
 use Rattle.std.proofs.lemmas.Bool.{lt-ltb}
-use Rattle.exec_graph.specs.declared.graph.Graph.{Graph}
-use Rattle.exec_graph.proofs.Soundness.{SameMeaning-kept}
+use Rattle.graph_bounds.specs.of_exec_graph.declared.graph.Graph.{Graph}
+use Rattle.graph_bounds.proofs.of_exec_graph.Soundness.{SameMeaning-kept}
 use Rattle.graph_rewrites.specs.Rewrites.{kid_under, kid_under_other, rewritten}
 use Rattle.graph_rewrites.proofs.Keeping.{apply_good}
 use Rattle.graph_rewrites.proofs.laws.rewrite_law.Goals as goal

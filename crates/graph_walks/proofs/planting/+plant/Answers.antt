@@ -46,7 +46,8 @@ plant_outputs-loop-i-preserved t c =
       left = search rules;
     }
 
-pub plant_outputs-returns-then-branch-clause-found : goal.plant_outputs-returns-then-branch-clause-found
+pub plant_outputs-returns-then-branch-clause-found
+    : goal.plant_outputs-returns-then-branch-clause-found
 plant_outputs-returns-then-branch-clause-found t c =
     let l = c.loop-i in
     let j = c.args.output in
@@ -58,7 +59,8 @@ plant_outputs-returns-then-branch-clause-found t c =
     c.index_mut.ensures.value e
     (sym c.in_ok-plant_output.ensures.found ∙ c.if-branch.true) ∙ l.invariant.found
 
-pub plant_outputs-returns-then-branch-clause-outputs : goal.plant_outputs-returns-then-branch-clause-outputs
+pub plant_outputs-returns-then-branch-clause-outputs
+    : goal.plant_outputs-returns-then-branch-clause-outputs
 plant_outputs-returns-then-branch-clause-outputs t c =
     let l = c.loop-i in
     let j = c.args.output in
@@ -147,7 +149,8 @@ plant_step-returns-clause-step t c =
     (c.in_ok-plant_output.ensures.others c.if-branch.false))
     ∙ ap (planted_branch j g) c.step.view_is
 
-pub plant_output-returns-then-branch-clause-found : goal.plant_output-returns-then-branch-clause-found
+pub plant_output-returns-then-branch-clause-found
+    : goal.plant_output-returns-then-branch-clause-found
 plant_output-returns-then-branch-clause-found t c =
     let l = c.loop-i in
     let j = c.args.output in
@@ -159,7 +162,8 @@ plant_output-returns-then-branch-clause-found t c =
     c.index_mut.ensures.value refl
     (sym c.in_ok-plant_step.ensures.found ∙ c.if-branch.true) ∙ l.invariant.found)
 
-pub plant_output-returns-then-branch-clause-output : goal.plant_output-returns-then-branch-clause-output
+pub plant_output-returns-then-branch-clause-output
+    : goal.plant_output-returns-then-branch-clause-output
 plant_output-returns-then-branch-clause-output t c =
     let l = c.loop-i in
     let j = c.args.output in

@@ -1,5 +1,5 @@
-use Rattle.script_laws.specs.WellFormed.{IsWellFormed}
-use Rattle.script_loading.specs.Ready.{IsReady}
+use Rattle.made_rows.specs.of_script_laws.WellFormed.{IsWellFormed}
+use Rattle.run_course.specs.of_script_loading.Ready.{IsReady}
 use Rattle.made_course.proofs.Ready.{kept, ready}
 use Rattle.made_course.proofs.summing.sums_ready.Goals as goal
 

@@ -1,6 +1,6 @@
 use Rattle.map_shard.specs.Tables.{split, table}
 use Rattle.map_shard.proofs.Fitting.{are_outs, can_work}
-use Rattle.task_lists.specs.Tasks.{map_task_of}
+use Rattle.task_safety.specs.of_task_lists.Tasks.{map_task_of}
 use Rattle.map_shard.proofs.laws.map_tasks_law.Goals as goal
 
 pub returns-clause-can_work : goal.returns-clause-can_work

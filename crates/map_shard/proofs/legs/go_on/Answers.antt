@@ -1,8 +1,8 @@
 use Rattle.std.proofs.Common.{◌++◌, List, sym, ap, ◌∙◌, subst}
 use Rattle.std.specs.List.{AllByRecursion, AllZip}
 use Rattle.flume_value.specs.declared.value.Value.{Value}
-use Rattle.task_lists.specs.Runs.{all_given}
-use Rattle.forest_courses.specs.Courses.{IsCourse, IsMade}
+use Rattle.task_safety.specs.of_task_lists.Runs.{all_given}
+use Rattle.task_safety.specs.of_forest_courses.Courses.{IsCourse, IsMade}
 use Rattle.forest_steps.specs.Functions.{world_of}
 use Rattle.map_shard.specs.declared.filling.Filling.{Filling}
 use Rattle.map_shard.specs.inner.Fillings.{IsFilled}

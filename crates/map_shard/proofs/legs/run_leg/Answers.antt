@@ -1,7 +1,7 @@
 use Rattle.std.proofs.Common.{List, [], sym, subst}
 use Rattle.std.specs.List.{AllByRecursion}
 use Rattle.flume_value.specs.declared.value.Value.{Value}
-use Rattle.forest_courses.specs.Courses.{IsCourse, IsMade}
+use Rattle.task_safety.specs.of_forest_courses.Courses.{IsCourse, IsMade}
 use Rattle.forest_steps.specs.Functions.{world_of}
 use Rattle.map_shard.specs.inner.Sending.{CanSend}
 use Rattle.map_shard.proofs.Legging.{leg_is}

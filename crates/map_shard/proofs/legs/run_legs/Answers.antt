@@ -4,7 +4,7 @@ use Rattle.std.specs.List.{AllByRecursion}
 use Rattle.flume_value.specs.declared.value.Value.{Value}
 use Rattle.flume_value.proofs.EachLemmas.{Each-left, Each-right}
 use Rattle.shuffle_parts.proofs.Parting.{all_taken}
-use Rattle.task_lists.specs.Runs.{all_given}
+use Rattle.task_safety.specs.of_task_lists.Runs.{all_given}
 use Rattle.forest_steps.specs.Functions.{world_of}
 use Rattle.forest_steps.specs.Safety.{SafeOf}
 use Rattle.map_shard.specs.inner.Legs.{AreLegsOr}

@@ -1,6 +1,6 @@
 use Rattle.std.proofs.Common.{sym}
-use Rattle.direct_meaning.proofs.PlaceLemmas.{zip_length}
-use Rattle.direct_meaning.specs.Made.{IsMadeFor}
+use Rattle.bag_laws.proofs.of_direct_meaning.PlaceLemmas.{zip_length}
+use Rattle.bag_laws.specs.of_direct_meaning.Made.{IsMadeFor}
 use Rattle.no_defaults.proofs.ScriptLemmas.{all_cells, reads_all}
 use Rattle.no_defaults.proofs.scripts.script_law.Goals as goal
 

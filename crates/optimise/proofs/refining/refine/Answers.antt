@@ -4,8 +4,8 @@ use Rattle.exec_graph.specs.Typing.{KeepsTypes}
 use Rattle.exec_graph.specs.declared.graph.Graph.{Graph}
 use Rattle.exec_graph.specs.declared.graph.Blocked.{Blocked}
 use Rattle.graph_bounds.specs.Sources.{HasKinds}
-use Rattle.pardo_fuse.specs.Wellformed.{IsFusible}
-use Rattle.plan_rules.specs.Fitting.{HasSourcesBelow, IsInBounds}
+use Rattle.graph_bounds.specs.of_pardo_fuse.Wellformed.{IsFusible}
+use Rattle.graph_bounds.specs.of_plan_rules.Fitting.{HasSourcesBelow, IsInBounds}
 use Rattle.exec_graph.specs.ObjectFree.{IsObjectFree}
 use Rattle.optimise.proofs.Passes.{SameMeaning-then, fusible}
 use Rattle.optimise.proofs.refining.refine.Goals as goal

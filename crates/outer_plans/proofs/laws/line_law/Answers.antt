@@ -1,4 +1,4 @@
-use Rattle.graph_build.specs.Graphs.{graph_of}
+use Rattle.plan_texts.specs.of_graph_build.Graphs.{graph_of}
 use Rattle.plan_texts.specs.Texts.{naming_of}
 use Rattle.outer_plans.proofs.Lines.{line_taken}
 use Rattle.outer_plans.proofs.laws.line_law.Goals as goal

@@ -6,8 +6,8 @@ use Rattle.exec_graph.specs.Typing.{IsTyped, Signatures}
 use Rattle.exec_graph.specs.Wellformed.{IsGraphOk}
 use Rattle.exec_graph.specs.World.{World}
 use Rattle.exec_plan.specs.Typing.{IsPlanTyped}
-use Rattle.optimise.specs.Optimised.{CanOptimise, source_count}
-use Rattle.plan_check.specs.Checked.{IsChecked}
+use Rattle.script_plans.specs.of_optimise.Optimised.{CanOptimise, source_count}
+use Rattle.plan_tracing.specs.of_plan_check.Checked.{IsChecked}
 use Rattle.plan_laws.specs.Operations.{SamePlan}
 use Rattle.plan_texts.specs.Texts.{naming_of}
 use Rattle.outer_plans.proofs.Sources.{its_sources}

@@ -2,8 +2,8 @@ use Rattle.std.proofs.Common.{subst, sym}
 use Rattle.std.specs.Prelude.{IfOk}
 use Rattle.exec_graph.specs.declared.graph.Graph.{Graph}
 use Rattle.exec_graph.specs.Wellformed.{IsGraphOk}
-use Rattle.optimise.specs.Optimised.{CanOptimise}
-use Rattle.plan_check.specs.Checked.{Forms}
+use Rattle.script_plans.specs.of_optimise.Optimised.{CanOptimise}
+use Rattle.plan_tracing.specs.of_plan_check.Checked.{Forms}
 use Rattle.script_plans.proofs.Planned.{can_optimise}
 use Rattle.outer_plans.proofs.traced.traced_plan.Goals as goal
 

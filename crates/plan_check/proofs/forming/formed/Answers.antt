@@ -1,9 +1,9 @@
 use Rattle.std.proofs.Common.{ℕ, ◌<◌, ◌^◌, sym, ap, ◌∙◌, subst}
 use Rattle.exec_graph.specs.declared.graph.Graph.{Graph}
 use Rattle.exec_plan.specs.ObjectFree.{IsPlanObjectFree}
-use Rattle.form_laws.specs.Formed.{IsFormed}
+use Rattle.optimise.specs.of_form_laws.Formed.{IsFormed}
 use Rattle.optimise.specs.Optimised.{source_count}
-use Rattle.plan_rules.specs.Fitting.{HasSourcesBelow}
+use Rattle.graph_rewrites.specs.of_plan_rules.Fitting.{HasSourcesBelow}
 use Rattle.plan_check.proofs.Narrow.{narrow_forests}
 use Rattle.plan_check.proofs.Parts.{replay_refused, same_plan}
 use Rattle.plan_check.proofs.forming.formed.Goals as goal

@@ -1,7 +1,7 @@
 use Rattle.std.proofs.Common.{List, rules, ap, ◌∙◌}
 use Rattle.std.specs.List.{list_all}
 use Rattle.exec_graph.specs.declared.graph.Entry.{Entry}
-use Rattle.optimise.specs.Optimised.{source_count}
+use Rattle.plan_check.specs.of_optimise.Optimised.{source_count}
 use Rattle.plan_check_tests.specs.Plain.{is_plain}
 use Rattle.plan_check_tests.proofs.Sources.{plain_can}
 use Rattle.plan_check_tests.proofs.plain.is_plain_graph.Goals as goal

@@ -1,10 +1,10 @@
 use Rattle.std.proofs.Common.{ℕ, ◌<◌, ◌^◌, sym, ap, ◌∙◌, subst}
 use Rattle.std.specs.List.{AllByRecursion}
-use Rattle.form_laws.specs.Formed.{IsFormed}
-use Rattle.optimise.specs.Optimised.{source_count}
+use Rattle.graph_tracing.specs.of_form_laws.Formed.{IsFormed}
+use Rattle.plan_check.specs.of_optimise.Optimised.{source_count}
 use Rattle.plan_check.proofs.Narrow.{narrow_forests}
-use Rattle.plan_files.specs.Written.{IsSmall}
-use Rattle.plan_rules.specs.Fitting.{HasSourcesBelow}
+use Rattle.plan_file_law.specs.of_plan_files.Written.{IsSmall}
+use Rattle.graph_rewrites.specs.of_plan_rules.Fitting.{HasSourcesBelow}
 use Rattle.plan_tracing.proofs.Refined.{forms, optimised}
 use Rattle.plan_tracing.proofs.tracing.optimise_traced.Goals as goal
 

@@ -1,6 +1,6 @@
 use Rattle.std.proofs.Common.{None, false}
 use Rattle.forest_steps.specs.Functions.{world_of}
-use Rattle.task_lists.specs.Tasks.{reduce_task}
+use Rattle.lifted_root.specs.of_task_lists.Tasks.{reduce_task}
 use Rattle.task_safety.proofs.Fitting.{out_at}
 use Rattle.reduce_part.proofs.Shuffled.{can_reduce}
 use Rattle.reduce_part.proofs.laws.reduce_tasks_law.Goals as goal

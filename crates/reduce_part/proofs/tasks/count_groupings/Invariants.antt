@@ -1,5 +1,5 @@
 use Rattle.std.proofs.Common.{◌≡◌, ◌≤◌, ◌+◌, drop, length}
-use Rattle.task_lists.specs.Tasks.{groupings}
+use Rattle.lifted_root.specs.of_task_lists.Tasks.{groupings}
 use Rattle.reduce_part.proofs.tasks.count_groupings.Given as goal
 
 abbrev pub invariant-loop-channel : goal.invariant-loop-channel

@@ -5,7 +5,7 @@ use Rattle.crew.proofs.Accounts.{all_grew_not}
 use Rattle.outside.proofs.AskLemmas.{asks_none}
 use Rattle.outside.specs.Seen.{seen}
 use Rattle.run_course.specs.Limits.{usual_tries}
-use Rattle.direct_meaning.specs.Inputs.{inputs_of}
+use Rattle.script_loading.specs.of_direct_meaning.Inputs.{inputs_of}
 use Rattle.script_loading.specs.Loads.{file_names}
 use Rattle.run_course.proofs.AskLemmas.{none_behind, none_with}
 use Rattle.run_course.proofs.CauseLemmas.{meaning_stop}

@@ -1,5 +1,5 @@
 use Rattle.std.proofs.lemmas.Result.{err_from_is_err_and}
-use Rattle.direct_meaning.specs.Inputs.{inputs_of}
+use Rattle.script_loading.specs.of_direct_meaning.Inputs.{inputs_of}
 use Rattle.outside.specs.Seen.{seen}
 use Rattle.script_loading.specs.Loads.{file_names}
 use Rattle.run_course.specs.Limits.{usual_tries}

@@ -2,7 +2,7 @@ use Rattle.std.proofs.Common.{◌≡◌, Some, ap, sym, subst, ◌∙◌}
 use Rattle.std.specs.Prelude.{List, slice_get}
 use Rattle.std.specs.Option.{option_map}
 use Rattle.std.proofs.lemmas.Result.{IfOk-weaker}
-use Rattle.direct_meaning.specs.Evaluated.{bag_at}
+use Rattle.script_loading.specs.of_direct_meaning.Evaluated.{bag_at}
 use Rattle.flume_value.specs.declared.value.Value.{Value}
 use Rattle.outside.specs.Saves.{output_file}
 use Rattle.run_texts.specs.Texts.{NamedOutput}

@@ -1,4 +1,4 @@
-use Rattle.build_law.specs.Signatures.{signatures_of}
+use Rattle.script_loading.specs.of_build_law.Signatures.{signatures_of}
 use Rattle.run_course.proofs.showing.plan_shown.Goals as goal
 
 pub returns-clause-of_script : goal.returns-clause-of_script

@@ -1,5 +1,5 @@
 use Rattle.std.proofs.Common.{subst, sym}
-use Rattle.build_law.specs.Signatures.{signatures_of}
+use Rattle.script_loading.specs.of_build_law.Signatures.{signatures_of}
 use Rattle.run_texts.specs.declared.status.Status.{Status}
 use Rattle.run_course.specs.inner.Course.{IsTakingStop}
 use Rattle.run_course.proofs.PlanLemmas.{taking_stop}

@@ -1,5 +1,5 @@
 use Rattle.std.proofs.Common.{◌≡◌, ◌≤◌, ◌∷◌, [], length, map, drop}
-use Rattle.expression_types.specs.Held.{AreTypes}
+use Rattle.operation_check.specs.of_expression_types.Held.{AreTypes}
 use Rattle.type_table.specs.Table.{type_at, Extends}
 use Rattle.script_check.specs.Rules.{types_behind}
 use Rattle.script_check.proofs.signatures.types_of.Given as goal

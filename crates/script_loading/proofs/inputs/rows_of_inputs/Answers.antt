@@ -1,7 +1,7 @@
 use Rattle.std.proofs.Common.{◌≡◌, ◌+◌, ◌∙◌, arith, length, subst}
 use Rattle.std.proofs.lemmas.Result.{err_from_is_err_and}
 use Rattle.outside.specs.Seen.{seen}
-use Rattle.direct_meaning.specs.Inputs.{inputs_of}
+use Rattle.build_law.specs.of_direct_meaning.Inputs.{inputs_of}
 use Rattle.script_loading.specs.inner.Reading.{HasRead}
 use Rattle.script_loading.proofs.AskLemmas.{front_asked, more_asked}
 use Rattle.script_loading.proofs.InputLemmas.{all_read}

@@ -1,4 +1,4 @@
-use Rattle.direct_meaning.specs.Inputs.{inputs_of}
+use Rattle.build_law.specs.of_direct_meaning.Inputs.{inputs_of}
 use Rattle.script_loading.proofs.InputLemmas.{typed_rows}
 use Rattle.script_loading.proofs.laws.inputs_law.Goals as goal
 

@@ -1,4 +1,4 @@
-use Rattle.graph_build.specs.Graphs.{graph_of}
+use Rattle.build_law.specs.of_graph_build.Graphs.{graph_of}
 use Rattle.script_plans.proofs.Planned.{can_optimise}
 use Rattle.script_plans.proofs.laws.plan_law.Goals as goal
 use Rattle.script_plans.specs.Plans.{scales_of}

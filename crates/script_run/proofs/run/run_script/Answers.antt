@@ -1,10 +1,10 @@
 use denote.Param.Send.{sendable}
 use Rattle.std.proofs.Common.{◌∙◌, ap, arith, map, sym}
 use Rattle.std.proofs.lemmas.Result.{err_from_is_err_and}
-use Rattle.build_law.specs.Worlds.{world_of}
+use Rattle.run_sizes.specs.of_build_law.Worlds.{world_of}
 use Rattle.flume_value.specs.Bag.{bag_of}
 use Rattle.script_functions.proofs.Sharing.{functions_sync}
-use Rattle.direct_meaning.specs.Inputs.{inputs_of}
+use Rattle.run_sizes.specs.of_direct_meaning.Inputs.{inputs_of}
 use Rattle.script_run.proofs.Running.{as_many_rows, asked_as, executed, faulted, phases_asked, typed_run}
 use Rattle.script_run.proofs.run.run_script.Goals as goal
 

@@ -2,7 +2,7 @@ use Rattle.std.proofs.Common.{◌≡◌, length}
 use Rattle.flume_types.specs.Typing.{AllHave}
 use Rattle.flume_types.specs.declared.types.Ty.{Ty}
 use Rattle.exec_plan.specs.declared.plan.PlanPlace.{PlanPlace}
-use Rattle.map_shard.specs.Tables.{table}
+use Rattle.stage_results.specs.of_map_shard.Tables.{table}
 use Rattle.stage_exec.specs.inner.Reads.{AgreeOn, later_reads}
 use Rattle.stage_exec.proofs.dropping.drop_read.Given as goal
 

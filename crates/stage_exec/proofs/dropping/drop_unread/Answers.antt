@@ -1,8 +1,8 @@
 use Rattle.std.proofs.Common.{◌∙◌, ap, sym}
 use Rattle.stage_exec.specs.inner.Places.{is_same}
 use Rattle.stage_exec.specs.inner.Reads.{later_reads}
-use Rattle.map_shard.specs.Tables.{table}
-use Rattle.map_shard.proofs.Later.{kept_lists}
+use Rattle.stage_results.specs.of_map_shard.Tables.{table}
+use Rattle.stage_results.proofs.of_map_shard.Later.{kept_lists}
 use Rattle.stage_exec.proofs.dropping.drop_unread.Goals as goal
 
 pub returns-in-Result-clause-others : goal.returns-in-Result-clause-others

@@ -3,8 +3,8 @@ use Rattle.std.proofs.lemmas.Result.{err_from_is_err_and}
 use Rattle.crew.proofs.Accounts.{all_grew_not}
 use Rattle.crew.specs.Hosts.{account}
 use Rattle.flume_value.specs.Bag.{bag_of}
-use Rattle.map_shard.specs.Tables.{table}
-use Rattle.stage_phases.specs.Stages.{run_world}
+use Rattle.stage_results.specs.of_map_shard.Tables.{table}
+use Rattle.stage_results.specs.of_stage_phases.Stages.{run_world}
 use Rattle.stage_exec.proofs.Ending.{bags_are, begins, counts_are, faulted, given_back, zeros_many}
 use Rattle.stage_exec.specs.Executions.{split_of}
 use Rattle.plan_phases.proofs.Asking.{asked_all, asked_none}

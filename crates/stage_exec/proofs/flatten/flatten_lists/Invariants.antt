@@ -1,6 +1,6 @@
 use Rattle.std.proofs.Common.{◌≡◌, ◌++◌, drop}
 use Rattle.std.specs.List.{flat_map}
-use Rattle.map_shard.specs.Tables.{table}
+use Rattle.stage_results.specs.of_map_shard.Tables.{table}
 use Rattle.stage_exec.proofs.flatten.flatten_lists.Given as goal
 
 abbrev pub invariant-loop-place : goal.invariant-loop-place

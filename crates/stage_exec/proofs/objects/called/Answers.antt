@@ -1,7 +1,7 @@
 use Rattle.std.proofs.Common.{map, refl, sym, ◌∙◌}
 use Rattle.std.proofs.lemmas.Result.{IfOk-weaker}
-use Rattle.map_shard.specs.Tables.{table}
-use Rattle.stage_phases.specs.Stages.{run_world}
+use Rattle.stage_results.specs.of_map_shard.Tables.{table}
+use Rattle.stage_results.specs.of_stage_phases.Stages.{run_world}
 use Rattle.task_lists.specs.Lists.{calm}
 use Rattle.stage_exec.proofs.Acting.{none_calm}
 use Rattle.stage_exec.proofs.objects.called.Goals as goal

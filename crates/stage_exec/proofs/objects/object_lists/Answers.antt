@@ -1,5 +1,5 @@
 use Rattle.std.proofs.lemmas.Result.{err_from_is_err_and}
-use Rattle.stage_phases.specs.Stages.{run_world}
+use Rattle.stage_results.specs.of_stage_phases.Stages.{run_world}
 use Rattle.stage_exec.proofs.objects.object_lists.Goals as goal
 
 pub returns-in_err-members-clause-stopped : goal.returns-in_err-members-clause-stopped

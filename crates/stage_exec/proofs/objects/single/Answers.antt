@@ -2,8 +2,8 @@ use Rattle.std.proofs.Common.{ap, arith, sym, ◌∙◌}
 use Rattle.std.proofs.lemmas.Result.{IfOk-weaker}
 use Rattle.exec_graph.specs.declared.graph.Act.TheVariants.{Singleton}
 use Rattle.exec_plan.specs.declared.plan.PlanPlace.TheVariants.{Source}
-use Rattle.map_shard.specs.Tables.{table}
-use Rattle.stage_phases.specs.Stages.{run_world}
+use Rattle.stage_results.specs.of_map_shard.Tables.{table}
+use Rattle.stage_results.specs.of_stage_phases.Stages.{run_world}
 use Rattle.task_lists.specs.Lists.{object_made}
 use Rattle.stage_exec.proofs.Acting.{alone, no_singleton}
 use Rattle.stage_exec.proofs.objects.single.Goals as goal

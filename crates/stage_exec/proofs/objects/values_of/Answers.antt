@@ -1,7 +1,7 @@
 use Rattle.std.proofs.Common.{ap, arith, map, sym, ◌∙◌}
 use Rattle.exec_graph.specs.Objects.{values_in}
 use Rattle.exec_plan.specs.declared.plan.PlanPlace.TheVariants.{Source}
-use Rattle.map_shard.specs.Tables.{table}
+use Rattle.stage_results.specs.of_map_shard.Tables.{table}
 use Rattle.task_lists.specs.Lists.{calm}
 use Rattle.stage_exec.specs.inner.Objects.{then_values}
 use Rattle.stage_exec.proofs.Acting.{values_begin, values_end, values_step, values_stopped}

@@ -1,6 +1,6 @@
 use Rattle.std.proofs.Common.{◌≡◌, drop, map}
 use Rattle.exec_graph.specs.Objects.{values_in}
-use Rattle.map_shard.specs.Tables.{table}
+use Rattle.stage_results.specs.of_map_shard.Tables.{table}
 use Rattle.task_lists.specs.Lists.{calm}
 use Rattle.stage_exec.specs.inner.Objects.{then_values}
 use Rattle.stage_exec.proofs.objects.values_of.Given as goal

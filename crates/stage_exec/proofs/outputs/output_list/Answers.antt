@@ -1,6 +1,6 @@
 use Rattle.std.proofs.Common.{◌∙◌, sym}
-use Rattle.map_shard.specs.Tables.{table}
-use Rattle.map_shard.proofs.Later.{kept_lists}
+use Rattle.stage_results.specs.of_map_shard.Tables.{table}
+use Rattle.stage_results.proofs.of_map_shard.Later.{kept_lists}
 use Rattle.stage_exec.specs.inner.Places.{is_same}
 use Rattle.stage_exec.proofs.outputs.output_list.Goals as goal
 

@@ -1,6 +1,6 @@
 use Rattle.exec_plan.specs.declared.plan.PlanPlace.TheVariants.{Source}
-use Rattle.map_shard.specs.Tables.{table}
-use Rattle.map_shard.proofs.Later.{lists_more}
+use Rattle.stage_results.specs.of_map_shard.Tables.{table}
+use Rattle.stage_results.proofs.of_map_shard.Later.{lists_more}
 use Rattle.stage_exec.proofs.outputs.output_lists.Goals as goal
 
 pub loop-k-preserved : goal.loop-k-preserved

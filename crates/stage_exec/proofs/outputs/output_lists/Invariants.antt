@@ -1,5 +1,5 @@
 use Rattle.std.proofs.Common.{◌≡◌, ◌++◌, map, drop}
-use Rattle.map_shard.specs.Tables.{table}
+use Rattle.stage_results.specs.of_map_shard.Tables.{table}
 use Rattle.stage_exec.proofs.outputs.output_lists.Given as goal
 
 abbrev pub invariant-loop-k : goal.invariant-loop-k

@@ -1,10 +1,10 @@
 use Rattle.std.proofs.Common.{◌∷◌, []}
 use Rattle.std.proofs.lemmas.Result.{err_from_is_err_and}
-use Rattle.map_shard.specs.Tables.{split, table}
+use Rattle.stage_results.specs.of_map_shard.Tables.{split, table}
 use Rattle.plan_phases.specs.Phases.{OfTasks, map_phase_of, reduce_phases}
 use Rattle.plan_phases.proofs.Joining.{run_then, stopped_before, stopped_behind}
 use Rattle.plan_phases.proofs.Lasting.{all_grew_on}
-use Rattle.stage_phases.specs.Stages.{run_world}
+use Rattle.stage_results.specs.of_stage_phases.Stages.{run_world}
 use Rattle.task_lists.specs.Tasks.{groupings}
 use Rattle.stage_exec.proofs.phases.stage_outs.Goals as goal
 

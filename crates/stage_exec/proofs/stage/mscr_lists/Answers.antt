@@ -1,7 +1,7 @@
 use Rattle.std.proofs.Common.{◌∙◌, sum, sym}
 use Rattle.std.proofs.lemmas.List.Sums.{sum_by-append}
-use Rattle.map_shard.specs.Tables.{split}
-use Rattle.step_counts.proofs.Growing.{grown_as, grown_then}
+use Rattle.stage_results.specs.of_map_shard.Tables.{split}
+use Rattle.stage_results.proofs.of_step_counts.Growing.{grown_as, grown_then}
 use Rattle.task_lists.specs.Plans.{task_counts}
 use Rattle.task_lists.specs.Tasks.{map_phase, reduce_phase}
 use Rattle.stage_exec.proofs.stage.mscr_lists.Goals as goal

@@ -1,6 +1,6 @@
-use Rattle.map_shard.specs.Tables.{table}
+use Rattle.stage_results.specs.of_map_shard.Tables.{table}
 use Rattle.plan_phases.proofs.Asking.{asked_all}
-use Rattle.stage_phases.specs.Stages.{run_world}
+use Rattle.stage_results.specs.of_stage_phases.Stages.{run_world}
 use Rattle.stage_exec.proofs.stage.run_mscr.Goals as goal
 
 pub returns-in-Ok-clause-lists : goal.returns-in-Ok-clause-lists

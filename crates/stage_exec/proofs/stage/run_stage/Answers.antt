@@ -3,7 +3,7 @@ use Rattle.std.proofs.lemmas.Result.{IfErr-weaker, on_ok_weaker}
 use Rattle.crew.proofs.Accounts.{all_grew_not}
 use Rattle.plan_phases.proofs.Asking.{asked_none}
 use Rattle.plan_phases.proofs.Joining.{act_ran, none_run}
-use Rattle.stage_phases.specs.Stages.{run_world}
+use Rattle.stage_results.specs.of_stage_phases.Stages.{run_world}
 use Rattle.stage_exec.proofs.Acting.{act_stops}
 use Rattle.stage_exec.proofs.stage.run_stage.Goals as goal
 

@@ -1,6 +1,6 @@
 use Rattle.std.proofs.Common.{map}
 use Rattle.crew.specs.Hosts.{account}
-use Rattle.stage_phases.specs.Stages.{run_world}
+use Rattle.stage_results.specs.of_stage_phases.Stages.{run_world}
 use Rattle.stage_exec.specs.inner.Along.{Along}
 use Rattle.stage_exec.proofs.stages.run_stages.Given as goal
 

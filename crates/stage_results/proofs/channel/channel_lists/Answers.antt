@@ -1,7 +1,7 @@
 use Rattle.std.proofs.Common.{◌≡◌, ◌+◌, ◌∙◌, ap, arith, drop, sum, sym}
 use Rattle.std.proofs.Math.ListN.{drop_of_length-le}
 use Rattle.shards.specs.Shards.{joined}
-use Rattle.map_shard.specs.Tables.{split}
+use Rattle.stage_phases.specs.of_map_shard.Tables.{split}
 use Rattle.step_counts.specs.Owners.{owners_of}
 use Rattle.step_counts.proofs.Growing.{grown_as}
 use Rattle.task_lists.specs.Plans.{task_counts}

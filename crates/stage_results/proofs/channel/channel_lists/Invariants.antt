@@ -3,8 +3,8 @@ use Rattle.std.specs.Vec.Iter.{into_iter_items}
 use Rattle.shards.specs.Shards.{joined}
 use Rattle.exec_graph.specs.World.{World}
 use Rattle.exec_plan.specs.declared.plan.InChannel.{InChannel}
-use Rattle.map_shard.specs.Tables.{split}
-use Rattle.reduce_part.specs.declared.out.ReduceOut.{ReduceOut}
+use Rattle.stage_phases.specs.of_map_shard.Tables.{split}
+use Rattle.stage_phases.specs.of_reduce_part.declared.out.ReduceOut.{ReduceOut}
 use Rattle.step_counts.specs.Sizes.{HaveGrown}
 use Rattle.task_lists.specs.Plans.{task_counts}
 use Rattle.task_lists.specs.Tasks.{Lists, reduce_task}

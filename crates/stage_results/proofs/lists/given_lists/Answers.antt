@@ -1,6 +1,6 @@
 use Rattle.std.proofs.Common.{◌∙◌, ◌∷◌, [], ap}
 use Rattle.std.proofs.lemmas.Result.{IfOk-weaker}
-use Rattle.map_shard.specs.Tables.{split}
+use Rattle.stage_phases.specs.of_map_shard.Tables.{split}
 use Rattle.stage_results.proofs.lists.given_lists.Goals as goal
 
 pub returns-in-Pass-clause-lists : goal.returns-in-Pass-clause-lists

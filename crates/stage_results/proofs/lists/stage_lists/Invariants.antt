@@ -1,7 +1,7 @@
 use Rattle.std.proofs.Common.{◌≡◌, ℕ, ◌+◌, ◌<◌, List, Some, slice_get}
 use Rattle.std.specs.Vec.Iter.{into_iter_items}
 use Rattle.exec_graph.specs.World.{World}
-use Rattle.map_shard.specs.Tables.{split}
+use Rattle.stage_phases.specs.of_map_shard.Tables.{split}
 use Rattle.flume_value.specs.declared.value.Value.{Value}
 use Rattle.shuffle_parts.specs.Outs.{all_passed}
 use Rattle.stage_phases.specs.Outs.{AreReduceOuts}

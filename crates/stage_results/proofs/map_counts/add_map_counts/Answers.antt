@@ -1,7 +1,7 @@
 use Rattle.std.proofs.Common.{◌≡◌, ◌*◌, ◌/◌, ◌∷◌, [], ◌∙◌, ap, arith, get_or, length, map, sum, sym}
 use Rattle.shards.specs.Shards.{joined}
 use Rattle.exec_plan.specs.declared.plan.InChannel.{InChannel}
-use Rattle.map_shard.specs.Tables.{split}
+use Rattle.stage_phases.specs.of_map_shard.Tables.{split}
 use Rattle.step_counts.specs.Owners.{owners_of}
 use Rattle.step_counts.proofs.Growing.{grown_as}
 use Rattle.task_lists.specs.Plans.{steps_count, task_counts}

@@ -1,7 +1,7 @@
 use Rattle.std.proofs.Common.{ℕ, ◌∷◌, [], sum}
 use Rattle.shards.specs.Shards.{joined}
 use Rattle.exec_graph.specs.World.{World}
-use Rattle.map_shard.specs.Tables.{split}
+use Rattle.stage_phases.specs.of_map_shard.Tables.{split}
 use Rattle.step_counts.specs.Sizes.{HaveGrown}
 use Rattle.task_lists.specs.Outs.{AreMapOuts}
 use Rattle.task_lists.specs.Plans.{steps_count}

@@ -1,7 +1,7 @@
 use Rattle.std.proofs.Common.{◌≡◌, ◌≤◌, ◌∙◌, ℕ, Ok, Some, length, sym, ap, subst}
-use Rattle.script_program.specs.Program.{function_in}
-use Rattle.script_program.specs.Script.{Script}
-use Rattle.script_laws.specs.WellFormed.{function_at}
+use Rattle.build_law.specs.of_script_program.Program.{function_in}
+use Rattle.build_law.specs.of_script_program.Script.{Script}
+use Rattle.build_law.specs.of_script_laws.WellFormed.{function_at}
 use Rattle.script_functions.proofs.Calling.{emits, silent, traps}
 use Rattle.script_functions.proofs.functions.ScriptFunctionsFunctions.call.Goals as goal
 
