@@ -1,11 +1,12 @@
 """Reads scripts by the grammar of docs/LANGUAGE.md, apart from the program.
 
 `tree_of` gives the statements of a script, or raises a `Fault` where no token begins, a name is too
-long, or at the first token that can't stand where it stands. Other limits are not tried.
+long, a function has a ninth output, or at the first token that can't stand where it stands. Other
+limits are not tried.
 """
 import re
 
-MOST_LETTERS = 32
+MOST_LETTERS, MOST_OUTPUTS = 32, 8
 BLANK = re.compile(r"[ \t\r\n]+|#[^\n]*")
 TOKEN = r'"(?:[^"\\\n]|\\[nt\\"])*"|[A-Za-z][A-Za-z0-9_]*|[0-9]+|->|[=!<>]=|[{}()\[\]<>,:.=+\-*/%]'
 BEGINS = re.compile(TOKEN)
@@ -92,9 +93,13 @@ class Reader:
     def names(self):
         return self.listed(self.name)
 
-    def listed(self, part):
+    def listed(self, part, most=None):
+        """Parts between commas. The comma behind the last that there may be is one too many."""
         found = [part()]
-        while self.has(","):
+        while self.next() == ",":
+            if len(found) == most:
+                raise Fault(self.line(), "TooMany")
+            self.take()
             found.append(part())
         return found
 
@@ -130,7 +135,7 @@ class Reader:
         takes = self.type()
         self.take(")")
         self.take("->")
-        gives = self.listed(self.type)
+        gives = self.listed(self.type, MOST_OUTPUTS)
         scale = self.number() if self.has("scale") else 100
         return name, argument, takes, gives, scale, self.block()
 
