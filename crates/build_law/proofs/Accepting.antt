@@ -1,13 +1,13 @@
 -- Accepted scripts put as many collections together as are written.
 use Rattle.std.proofs.Common.{◌≡◌, ℕ, zero, suc, ◌+◌, ◌≤◌, ◌&&◌, nat_lt, Bool, true, false, List, [], ◌∷◌, ◌++◌, length}
-use Rattle.std.proofs.Common.{map, take, drop, Ok, refl, sym, ap, subst, arith, length-append}
+use Rattle.std.proofs.Common.{map, take, drop, Ok, sym, ap, subst, arith, length-append}
 use Rattle.std.specs.List.{AllByRecursion}
 use Rattle.std.specs.Map.{keys_of}
 use Rattle.std.proofs.lemmas.List.{length-map}
 use Rattle.flume_types.specs.Columns.{columns_of, input_columns_of}
 use Rattle.flume_types.specs.Equality.{type_eq}
 use Rattle.flume_types.specs.declared.types.Ty.{Ty}
-use Rattle.flume_value.proofs.EachLemmas.{Each-append, Each-weaker}
+use Rattle.flume_value.proofs.EachLemmas.{Each-append}
 use Rattle.exec_graph.specs.Wellformed.{most_nodes}
 use Rattle.flume_grammar.specs.declared.tree.Type as tree
 use Rattle.flume_grammar.specs.declared.tree.Form.{Form}
@@ -28,7 +28,7 @@ use Rattle.graph_build.specs.of_script_program.Limits.{most_collections, most_fi
 use Rattle.graph_build.specs.of_script_program.declared.made.Made.{Made}
 use Rattle.graph_build.specs.of_script_program.declared.made.Made.TheVariants as made
 use Rattle.graph_build.specs.of_script_program.Script.{Callee, Making, Node, Operand, Script, State, nothing}
-use Rattle.graph_build.specs.of_script_program.Script.{script_from, with_hidden, with_node, with_nodes}
+use Rattle.graph_build.specs.of_script_program.Script.{with_hidden, with_node, with_nodes}
 use Rattle.graph_build.specs.of_script_program.Script.{with_statement}
 use Rattle.direct_meaning.specs.of_operation_check.Arguments.{are_plain, sole, takes_both, takes_members, takes_objects}
 use Rattle.direct_meaning.specs.of_operation_check.Operations as spec
@@ -258,6 +258,7 @@ renumbered_short to (made.Top many source) short = tt
 renumbered_short to (made.CombineAll source by) short = tt
 renumbered_short to (made.Operate objects function) short = tt
 renumbered_short to (made.DoWith source function object) short = tt
+renumbered_short to (made.Saved is_object call) short = tt
 
 copies_fine : (turn : ℕ) (to : ℕ → ℕ) (nodes : Named Node) → AllByRecursion IsFine nodes
     → AllByRecursion IsFine (map (copied turn to) nodes)

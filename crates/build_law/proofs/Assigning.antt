@@ -1,7 +1,6 @@
 -- All collections of a script meet their equations.
-use Rattle.std.proofs.Common.{◌≡◌, ℕ, zero, suc, ◌+◌, Bool, true, false, List, [], ◌∷◌, ◌++◌, drop, length, Option, Some, None, refl, sym, ap, ◌∙◌, subst, append_assoc, add-zero, add-one}
+use Rattle.std.proofs.Common.{◌≡◌, ℕ, zero, suc, ◌+◌, ◌<◌, Bool, true, false, List, [], ◌∷◌, ◌++◌, drop, get_or, length, Option, Some, None, refl, sym, ap, ◌∙◌, subst, append_assoc, add-zero, add-one}
 use Rattle.std.specs.Prelude.{option_and_then, if◌then◌else◌}
-use Rattle.std.specs.List.{AllByRecursion}
 use Rattle.flume_value.specs.declared.value.Value.{Value}
 use Rattle.flume_value.proofs.EachLemmas.{Each-weaker}
 use Rattle.flume_collection.specs.Collection.{Collection}
@@ -14,7 +13,7 @@ use Rattle.graph_build.specs.of_script_program.declared.made.Made.{Made}
 use Rattle.graph_build.specs.of_script_program.declared.made.Made.TheVariants as made
 use Rattle.graph_build.specs.of_script_program.Script.{Node, Script}
 use Rattle.direct_meaning.specs.Direct.{collections, inputs_behind, made_as, made_at}
-use Rattle.graph_build.specs.Nodes.{inputs_of}
+use Rattle.graph_build.specs.Nodes.{inputs_of, source_number}
 use Rattle.graph_build.specs.Wanted.{wanted_from}
 use Rattle.build_law.specs.Worlds.{world_of}
 use Rattle.build_law.proofs.Made.{is_made}
@@ -62,6 +61,9 @@ rows_behind : (script : Script) (all : List (List Value)) (n source : ℕ) (mk :
 rows_behind script all n source (made.Input file columns) [] table c ahead h = cc
 rows_behind script all n source (made.Input file columns) (rows ∷ rem) table c ahead h =
     ap (drop 1) ahead ∙ rw add-one (one_dropped source all)
+rows_behind script all n source (made.Saved is_object call) [] table c ahead h = cc
+rows_behind script all n source (made.Saved is_object call) (rows ∷ rem) table c ahead h =
+    ap (drop 1) ahead ∙ rw add-one (one_dropped source all)
 rows_behind script all n source (made.Do input f output) rem table c ahead h =
     rw add-zero ahead
 rows_behind script all n source (made.Group input) rem table c ahead h = rw add-zero ahead
@@ -81,13 +83,16 @@ rows_behind script all n source (made.DoWith input f object) rem table c ahead h
 abbrev pub at_of : List (Option Collection) → ℕ → Collection
 at_of made j = or_nothing (made_at made j)
 
-module _ (script : Script) (all : List (List Value)) (made : List (Option Collection))
-    (m : Place → Collection) (gives : ℕ → Place)
+module _ (script : Script) (lists all : List (List Value))
+    (given : (k : ℕ) → k < length all
+    → get_or all k [] ≡ get_or lists (source_number script k) [])
+    (made : List (Option Collection)) (m : Place → Collection) (gives : ℕ → Place)
     (stands : (j : ℕ) (c : Collection) → made_at made j ≡ Some c → m (gives j) ≡ at_of made j)
   where
     pub record AllFrom (nodes : Named Node) (n source : ℕ) : Type 0 where
       pub all_made :
-          AllMade (world_of script all) (at_of made) m gives n source (wanted_from script n nodes)
+          AllMade script (world_of script lists) (at_of made) m gives n source
+          (wanted_from script n nodes)
       pub settled : SettledIn made
 
     abbrev Behind : Named Node → Type 0
@@ -119,16 +124,17 @@ module _ (script : Script) (all : List (List Value)) (made : List (Option Collec
         let here : at_of made n ≡ c =
         ap or_nothing (ap (λ t. made_at t n) is ∙ made_next table k.tail c) in
         let mk : Made = entry.1.made in
-        let one = is_made script all (at_of made) table (λ j d h. ap or_nothing (front j d h))
-        (settled_at table st) n source c here mk rem ahead made_c in
+        let one = is_made script lists all given (at_of made) table
+        (λ j d h. ap or_nothing (front j d h)) (settled_at table st) n source c here mk rem ahead
+        made_c in
         let others = behind (inputs_behind mk rem) (table ++ Some c ∷ []) (source + inputs_of mk)
         (rows_behind script all n source mk rem table c ahead made_c)
         (settled_more table c st one.settled) rest in
-        let w : World = world_of script all in
+        let w : World = world_of script lists in
         record {
           all_made =
               subst
-              (λ b. AllMade w (at_of made) m gives n source
+              (λ b. AllMade script w (at_of made) m gives n source
               ((if b then Some mk else None) ∷ wanted_from script (suc n) nodes))
               (sym needed) (
                 (
@@ -137,7 +143,7 @@ module _ (script : Script) (all : List (List Value)) (made : List (Option Collec
                       (λ j. m (gives j) ≡ at_of made j) (λ j d. stands j d.0 (front j d.0 d.1))
                       (operands mk) one.read,
                 ),
-                subst (λ k. AllMade w (at_of made) m gives k (source + inputs_of mk)
+                subst (λ k. AllMade script w (at_of made) m gives k (source + inputs_of mk)
                     (wanted_from script k nodes)) (one_longer table (Some c)) others.all_made,
               );
           settled = others.settled;
@@ -151,16 +157,16 @@ module _ (script : Script) (all : List (List Value)) (made : List (Option Collec
     next_without entry nodes rem table source needless ahead st rest behind =
         let n : ℕ = length table in
         let others = behind rem (table ++ None ∷ []) source ahead (settled_without table st) rest in
-        let w : World = world_of script all in
+        let w : World = world_of script lists in
         record {
           all_made =
               subst
-              (λ b. AllMade w (at_of made) m gives n source
+              (λ b. AllMade script w (at_of made) m gives n source
               ((if b then Some entry.1.made else None) ∷ wanted_from script (suc n) nodes))
               (sym needless) (
                 tt,
-                subst (λ k. AllMade w (at_of made) m gives k source (wanted_from script k nodes))
-                    (one_longer table None) others.all_made,
+                subst (λ k. AllMade script w (at_of made) m gives k source
+                    (wanted_from script k nodes)) (one_longer table None) others.all_made,
               );
           settled = others.settled;
         }

@@ -1,26 +1,26 @@
--- What is needed of a well-formed script, and at which of its collections nodes are built.
-use Rattle.std.proofs.Common.{◌≡◌, ℕ, zero, suc, ◌+◌, ◌-◌, ◌<◌, Bool, true, false, List, [], ◌∷◌}
+-- What is needed of a well-formed script, and what is built at its collections.
+use Rattle.std.proofs.Common.{◌≡◌, ℕ, zero, suc, ◌+◌, ◌<◌, Bool, true, false, List, [], ◌∷◌}
 use Rattle.std.proofs.Common.{◌++◌, map, length, get_or, Option, Some, None, refl, sym, ap, ◌∙◌}
 use Rattle.std.proofs.Common.{subst, arith, add-zero, zero-add}
-use Rattle.std.specs.Prelude.{if◌then◌else◌, is_some, slice_get}
+use Rattle.std.specs.Prelude.{if◌then◌else◌, is_some, option_and_then, slice_get}
 use Rattle.std.specs.Option.{option_map}
-use Rattle.std.specs.List.{AllByRecursion, Contains, list_any}
+use Rattle.std.specs.List.{AllByRecursion, Contains}
 use Rattle.std.proofs.lemmas.Option.{slice_get-map}
 use Rattle.flume_collection.proofs.Members.{at_head, at_tail}
 use Rattle.written_types.specs.Named.{Named}
 use Rattle.graph_build.specs.of_script_program.Needed.{is_needed, made_of}
+use Rattle.graph_build.specs.of_script_program.declared.made.Emitted.{Emitted}
 use Rattle.graph_build.specs.of_script_program.declared.made.Made.{Made}
 use Rattle.graph_build.specs.of_script_program.declared.made.Made.TheVariants as made
 use Rattle.graph_build.specs.of_script_program.Script.{Node, Script}
-use Rattle.graph_build.specs.Built.{built, built_from, is_built, is_built_as, is_call_built}
-use Rattle.graph_build.specs.Calls.{names_needed, needed_from}
+use Rattle.graph_build.specs.Built.{Built, as_made, built, built_as as built_name, built_from, built_here}
+use Rattle.graph_build.specs.Calls.{emitted_as, emitted_at, is_emitted, is_kept, kept_at}
 use Rattle.graph_build.specs.Wanted.{needed_at, wanted, wanted_from}
-use Rattle.graph_build.proofs.BuiltLemmas.{built_there}
+use Rattle.graph_build.proofs.BuiltLemmas.{built_is}
 use Rattle.graph_build.proofs.StepLemmas.{found_below}
 use Rattle.graph_build.proofs.WantedLemmas.{wanted_needed}
-use Rattle.build_law.proofs.MadeKinds.{IsOther, none_emitted}
-use Rattle.build_law.proofs.Outputs.{EachName}
-use Rattle.build_law.proofs.Tables.{map_some}
+use Rattle.build_law.proofs.MadeKinds.{built_of}
+use Rattle.build_law.proofs.Tables.{and_then_some, map_some}
 
 pub each_contained : {A : Type 0} (P : A → Type 0) (xs : List A)
     → ((x : A) → Contains xs x → P x) → AllByRecursion P xs
@@ -44,81 +44,12 @@ some_is : {A : Type 0} (o : Option A) → is_some o ≡ true → (x : A) × (o �
 some_is None h = cc
 some_is (Some x) h = (x, refl)
 
-if_some : {A : Type 0} (b : Bool) (own x : A) → (if b then Some own else None) ≡ Some x
+pub if_some : {A : Type 0} (b : Bool) (own x : A) → (if b then Some own else None) ≡ Some x
     → (b ≡ true) × (own ≡ x)
 if_some true own x h = (refl, cc)
 if_some false own x h = cc
 
--- ---- lists of what is needed
-
 module _ (script : Script) where
-  pub length_needed : (number more : ℕ) → length (needed_from script number more) ≡ more
-  length_needed number zero = refl
-  length_needed number (suc more) = ap suc (length_needed (suc number) more)
-
-  -- what holds of each of so many, by its number and its place
-  pub each_name : (P : ℕ → ℕ → Bool → Type 0) (number k more : ℕ)
-      → ((i : ℕ) → i < more → P (number + i) (k + i) (needed_at script (number + i)))
-      → EachName P number k (needed_from script number more)
-  each_name P number k zero h = tt
-  each_name P number k (suc more) h = (
-    subst (λ n. P n k (needed_at script n)) (add-zero number)
-        (subst (λ j. P (number + 0) j (needed_at script (number + 0))) (add-zero k)
-        (h 0 (omega arith))),
-    each_name P (suc number) (suc k) more
-        (λ i below.
-        let e : number + suc i ≡ suc number + i = omega arith in
-        let f : k + suc i ≡ suc k + i = omega arith in
-        subst (λ n. P n (suc k + i) (needed_at script n)) e
-        (subst (λ j. P (number + suc i) j (needed_at script (number + suc i))) f
-        (h (suc i) (omega arith)))),
-  )
-
-  -- a needed one stands behind those before it
-  pub split_at : (number more k : ℕ) → k < more → needed_at script (number + k) ≡ true
-      → (back : List Bool)
-      × (needed_from script number more ≡ needed_from script number k ++ true ∷ back)
-  split_at number zero k below h = absurd (omega arith)
-  split_at number (suc more) zero below h = (
-    needed_from script (suc number) more,
-    ap (λ x. x ∷ needed_from script (suc number) more)
-        (subst (λ n. needed_at script n ≡ true) (add-zero number) h),
-  )
-  split_at number (suc more) (suc k) below h =
-      let e : number + suc k ≡ suc number + k = omega arith in
-      let rest = split_at (suc number) more k (omega arith)
-      (subst (λ n. needed_at script n ≡ true) e h) in
-      (rest.0, ap (λ xs. needed_at script number ∷ xs) rest.1)
-
-  -- and what stands behind some is needed
-  pub record IsSplit (number more : ℕ) (front : List Bool) : Type 0 where
-    pub below : length front < more
-    pub needed : needed_at script (number + length front) ≡ true
-    pub same : needed_from script number (length front) ≡ front
-
-  pub parts : (number more : ℕ) (front back : List Bool)
-      → needed_from script number more ≡ front ++ true ∷ back → IsSplit number more front
-  parts number zero [] back h = cc
-  parts number zero (x ∷ front) back h = cc
-  parts number (suc more) [] back h = record {
-    below = omega arith;
-    needed =
-        let e : needed_at script number ≡ true = cc in
-        subst (λ n. needed_at script n ≡ true) (sym (add-zero number)) e;
-    same = refl;
-  }
-  parts number (suc more) (x ∷ front) back h =
-      let e : suc number + length front ≡ number + suc (length front) = omega arith in
-      let head : needed_at script number ≡ x = cc in
-      let tail : needed_from script (suc number) more ≡ front ++ true ∷ back = cc in
-      let rest = parts (suc number) more front back tail in
-      let below = rest.below in
-      record {
-        below = omega arith;
-        needed = subst (λ n. needed_at script n ≡ true) e rest.needed;
-        same = λ i. head i ∷ rest.same i;
-      }
-
   -- ---- what is needed, as it is made
 
   pub needed_how : (j : ℕ) → needed_at script j ≡ true
@@ -128,6 +59,16 @@ module _ (script : Script) where
   pub how_needed : (j : ℕ) (how : Made) → get_or (wanted script) j None ≡ Some how
       → needed_at script j ≡ true
   how_needed j how found = ap is_some found
+
+  -- one that a call emits, and a kept one
+  pub how_emitted : (j source f o : ℕ)
+      → get_or (wanted script) j None ≡ Some (made.Do source f o) → emitted_at script j ≡ true
+  how_emitted j source f o found = ap is_emitted found
+
+  pub how_kept : (j : ℕ) (is_object : Bool) (call : Option Emitted)
+      → get_or (wanted script) j None ≡ Some (made.Saved is_object call)
+      → kept_at script j ≡ true
+  how_kept j is_object call found = ap is_kept found
 
   pub record IsNeededAs (j : ℕ) (how : Made) : Type 0 where
     pub needed : is_needed script j ≡ true
@@ -186,65 +127,81 @@ module _ (script : Script) where
 
   -- ---- what is built, as it is made
 
-  pub record IsBuiltAs (j : ℕ) (how : Made) : Type 0 where
-    pub so : is_built script j how ≡ true
-    pub made : slice_get (made_of script) j ≡ Some how
+  -- what is built at a place is the needed collection that its own is told to build
+  pub record IsBuiltAs (t number : ℕ) (mk : Made) : Type 0 where
+    pub how : Made
+    pub made : slice_get (made_of script) t ≡ Some how
+    pub named : built_name script t (emitted_as how) ≡ Some number
+    pub wanted_ : get_or (wanted script) number None ≡ Some mk
 
-  built_in : (k i : ℕ) (nodes : Named Node) (how : Made)
-      → get_or (built_from script k nodes) i None ≡ Some how
-      → (is_built script (k + i) how ≡ true)
-      × (slice_get (map (λ entry. entry.1.made) nodes) i ≡ Some how)
-  built_in k i [] how h = cc
-  built_in k zero (entry ∷ nodes) how h =
-      let own = if_some (is_built script k entry.1.made) entry.1.made how h in (
-        (λ i. is_built script (add-zero k i) (sym own.1 i)) ∙ own.0,
-        ap Some own.1,
-      )
-  built_in k (suc i) (entry ∷ nodes) how h =
-      let rest = built_in (suc k) i nodes how h in
+  built_in : (k i : ℕ) (nodes : Named Node) (it : Built)
+      → get_or (built_from script k nodes) i None ≡ Some it
+      → (how : Made) × (slice_get (map (λ entry. entry.1.made) nodes) i ≡ Some how)
+      × (built_here script (k + i) how ≡ Some it)
+  built_in k i [] it h = cc
+  built_in k zero (entry ∷ nodes) it h = (
+    entry.1.made,
+    refl,
+    ap (λ n. built_here script n entry.1.made) (add-zero k) ∙ h,
+  )
+  built_in k (suc i) (entry ∷ nodes) it h =
+      let rest = built_in (suc k) i nodes it h in
       let e : suc k + i ≡ k + suc i = omega arith in
-      (subst (λ n. is_built script n how ≡ true) e rest.0, rest.1)
+      (rest.0, rest.1, subst (λ n. built_here script n rest.0 ≡ Some it) e rest.2)
 
-  pub built_as : (j : ℕ) (how : Made) → get_or (built script) j None ≡ Some how
-      → IsBuiltAs j how
-  built_as j how found =
-      let h = built_in 0 j script.nodes how found in
+  built_from_name : (t number : ℕ) (mk how : Made) → slice_get (made_of script) t ≡ Some how
+      → built_here script t how ≡ Some (built_of number mk) → IsBuiltAs t number mk
+  built_from_name t number mk how is here =
+      let (n, named, made_n) =
+      and_then_some (as_made script) (built_name script t (emitted_as how)) (built_of number mk)
+      here in
+      let (own, wanted_n, same) =
+      map_some (built_of n) (get_or (wanted script) n None) (built_of number mk) made_n in
+      let e : n ≡ number = ap (λ (it : Built). it.number) same in
+      let f : own ≡ mk = ap (λ (it : Built). it.made) same in
       record {
-        so = subst (λ n. is_built script n how ≡ true) (zero-add j) h.0;
-        made = h.1;
+        how = how;
+        made = is;
+        named = named ∙ ap Some e;
+        wanted_ = subst (λ k. get_or (wanted script) k None ≡ Some mk) e (wanted_n ∙ ap Some f);
       }
 
-  pub how_built : (j : ℕ) (how : Made) → is_built script j how ≡ true
-      → slice_get (made_of script) j ≡ Some how → get_or (built script) j None ≡ Some how
-  how_built j how so is =
-      let (entry, found, same) = entry_at j how is in
-      sym (built_there script j entry.1 (ap (option_map (λ (it : List ℕ × Node). it.1)) found)
-      (sym so ∙ ap (is_built script j) (sym same))) ∙ ap Some same
+  pub built_as : (t number : ℕ) (mk : Made)
+      → get_or (built script) t None ≡ Some (built_of number mk) → IsBuiltAs t number mk
+  built_as t number mk found =
+      let h = built_in 0 t script.nodes (built_of number mk) found in
+      built_from_name t number mk h.0 h.1
+      (subst (λ n. built_here script n h.0 ≡ Some (built_of number mk)) (zero-add t) h.2)
 
-  -- all but calls are built where they are needed
-  pub other_built : (j : ℕ) (how : Made) → IsOther how
-      → get_or (wanted script) j None ≡ Some how → get_or (built script) j None ≡ Some how
-  other_built j how apart found =
-      how_built j how
-      (ap (is_built_as script j) (none_emitted how apart) ∙ how_needed j how found)
-      (needed_as j how found).made
+  -- it is needed, and made as it is built
+  pub built_wanted : (t number : ℕ) (mk : Made)
+      → get_or (built script) t None ≡ Some (built_of number mk)
+      → get_or (wanted script) number None ≡ Some mk
+  built_wanted t number mk found = (built_as t number mk found).wanted_
 
-  pub other_wanted : (j : ℕ) (how : Made) → IsOther how
-      → get_or (built script) j None ≡ Some how → get_or (wanted script) j None ≡ Some how
-  other_wanted j how apart found =
-      let is = built_as j how found in
-      let needed = needed_how j
-      (ap (is_built_as script j) (sym (none_emitted how apart)) ∙ is.so) in
-      needed.1 ∙ sym (needed_as j needed.0 needed.1).made ∙ is.made
+  pub built_made : (t number : ℕ) (mk : Made)
+      → get_or (built script) t None ≡ Some (built_of number mk)
+      → slice_get (made_of script) number ≡ Some mk
+  built_made t number mk found = (needed_as number mk (built_wanted t number mk found)).made
 
-  -- a call is built at its first name, and one of its names is needed
-  first_of_call : (j f o : ℕ) → is_call_built script j f o ≡ true
-      → (o ≡ 0) × (list_any (λ needed. needed) (names_needed script j f) ≡ true)
-  first_of_call j f zero h = (refl, h)
-  first_of_call j f (suc o) h = cc
+  -- and what a collection is told to build is built at it
+  pub how_built : (t number : ℕ) (how mk : Made) → slice_get (made_of script) t ≡ Some how
+      → built_name script t (emitted_as how) ≡ Some number
+      → get_or (wanted script) number None ≡ Some mk
+      → get_or (built script) t None ≡ Some (built_of number mk)
+  how_built t number how mk is named found =
+      let (entry, there, same) = entry_at t how is in
+      sym (built_is script t entry.1 (ap (option_map (λ (it : List ℕ × Node). it.1)) there))
+      ∙ ap (built_here script t) same
+      ∙ ap (option_and_then (as_made script)) named
+      ∙ ap (option_map (built_of number)) found
 
-  pub built_call : (j source f o : ℕ)
-      → get_or (built script) j None ≡ Some (made.Do source f o)
-      → (o ≡ 0) × (list_any (λ needed. needed) (names_needed script j f) ≡ true)
-  built_call j source f o found =
-      first_of_call j f o (built_as j (made.Do source f o) found).so
+  -- one that has no name of a call is built where it stands
+  pub alone_built : (j : ℕ) (how : Made) → emitted_as how ≡ None
+      → get_or (wanted script) j None ≡ Some how
+      → get_or (built script) j None ≡ Some (built_of j how)
+  alone_built j how none found =
+      how_built j j how how (needed_as j how found).made
+      (ap (built_name script j) none
+      ∙ ap (λ (b : Bool). if b then Some j else None) (how_needed j how found))
+      found

@@ -1,5 +1,5 @@
 -- Each node of a script's graph is well-formed.
-use Rattle.std.proofs.Common.{◌≡◌, ℕ, suc, ◌+◌, ◌<◌, ◌≤◌, Bool, true, false, List, [], ◌∷◌, ◌++◌, map, length, refl, ap, ◌∙◌, subst, arith, add-zero}
+use Rattle.std.proofs.Common.{◌≡◌, ℕ, suc, ◌+◌, ◌-◌, ◌<◌, ◌≤◌, Bool, true, false, List, [], ◌∷◌, map, length, refl, subst, arith, add-zero}
 use Rattle.std.specs.Prelude.{◌==◌, ◌||◌}
 use Rattle.std.specs.List.{AllByRecursion}
 use Rattle.std.proofs.lemmas.Bool.{eqb-true}
@@ -12,9 +12,8 @@ use Rattle.exec_graph.specs.declared.graph.Entry.{Entry}
 use Rattle.exec_graph.specs.declared.graph.Graph.{Graph}
 use Rattle.exec_graph.specs.declared.graph.Place.{Place}
 use Rattle.exec_graph.specs.declared.step.Does.{Does}
-use Rattle.graph_build.specs.Calls.{names_needed, needed_from, other_names}
+use Rattle.graph_build.specs.Calls.{emitted_at, names_needed, needed_from, other_names}
 use Rattle.graph_build.specs.Nodes.{barrier, before_last, call_branch, entry, first_of, groups, last_step, made_nodes, one_step, step}
-use Rattle.graph_build.specs.Wanted.{needed_at}
 use Rattle.combine_table.specs.declared.comb.Comb.{Comb}
 use Rattle.combine_table.specs.declared.comb.Comb.TheVariants as by
 use Rattle.exec_graph.specs.declared.graph.Act.TheVariants.{Singleton}
@@ -113,9 +112,10 @@ module _ (g : Graph) where
     -- its last node is read, or each output of its call that has a number
     abbrev pub IsLastRead : Made → Type 0
     IsLastRead (made.Do input f output) =
-        (j : ℕ) → has_out j (buds (call_branch origin f (needed_at script origin)
-        (needed_from script (suc origin) (other_names script f))) 0 0
-        (names_needed script origin f)) ≡ true → is_read g (place n j) ≡ true
+        (j : ℕ) → has_out j (buds (call_branch (origin - output) f
+        (emitted_at script (origin - output))
+        (needed_from script (suc (origin - output)) (other_names script f))) 0 0
+        (names_needed script (origin - output) f)) ≡ true → is_read g (place n j) ≡ true
     IsLastRead made = is_read g (first_of (n + before_last made)) ≡ true
 
     pub block_ok : (made : Made) → IsLastRead made
@@ -123,9 +123,9 @@ module _ (g : Graph) where
     block_ok (made.Input file columns) last inner fits = (tt, tt)
     block_ok (made.Do input f output) last inner fits = (
       call_ok n
-          (call_branch origin f (needed_at script origin)
-          (needed_from script (suc origin) (other_names script f)))
-          (names_needed script origin f) last,
+          (call_branch (origin - output) f (emitted_at script (origin - output))
+          (needed_from script (suc (origin - output)) (other_names script f)))
+          (names_needed script (origin - output) f) last,
       tt,
     )
     block_ok (made.Group input) last inner fits = (tt, tt)
@@ -169,3 +169,4 @@ module _ (g : Graph) where
     )
     block_ok (made.Operate objects f) last inner fits = (tt, tt)
     block_ok (made.DoWith input f object) last inner fits = (tt, tt)
+    block_ok (made.Saved is_object call) last inner fits = (tt, tt)

@@ -1,35 +1,39 @@
 -- The graph of a well-formed script is founded: all that is read is there, and is lower.
-use Rattle.std.proofs.Common.{◌≡◌, ℕ, zero, suc, ◌+◌, ◌<◌, ◌≤◌, Bool, true, List, [], ◌∷◌, ◌++◌, length, get_or, map, Option, Some, None, refl, sym, ap, ◌∙◌, subst, arith, add-zero, zero-add}
+use Rattle.std.proofs.Common.{◌≡◌, ℕ, suc, ◌+◌, ◌-◌, ◌<◌, ◌≤◌, Bool, true, List, [], ◌∷◌, length, get_or, map, Some, None, refl, sym, ap, ◌∙◌, subst, arith, add-zero}
 use Rattle.std.specs.List.{AllByRecursion, Contains, list_any}
-use Rattle.exec_graph.specs.Meaning.{IsThere, gives_at, has_out, node_at, place, reads}
-use Rattle.exec_graph.specs.Wellformed.{size}
+use Rattle.exec_graph.specs.Meaning.{IsThere, gives_at, has_out, node_at, reads}
 use Rattle.exec_graph.specs.declared.graph.Entry.{Entry}
 use Rattle.exec_graph.specs.declared.graph.Place.{Place}
 use Rattle.flume_value.proofs.EachLemmas.{Each-weaker}
 use Rattle.graph_build.specs.Built.{built}
-use Rattle.graph_build.specs.Calls.{names_needed, needed_from, number_behind, other_names}
+use Rattle.graph_build.specs.Calls.{emitted_as, emitted_at, names_needed, needed_from, number_behind, other_names}
 use Rattle.graph_build.specs.Graphs.{nodes_of}
 use Rattle.graph_build.specs.Nodes.{before_last, call_branch, call_in, first_of, made_nodes}
-use Rattle.graph_build.specs.Wanted.{needed_at, wanted}
+use Rattle.graph_build.specs.Wanted.{wanted}
 use Rattle.graph_build.specs.of_script_program.Needed.{operands}
+use Rattle.graph_build.specs.of_script_program.declared.made.Emitted.{Emitted}
 use Rattle.graph_build.specs.of_script_program.declared.made.Made.{Made}
 use Rattle.graph_build.specs.of_script_program.declared.made.Made.TheVariants as made
 use Rattle.graph_build.specs.of_script_program.Script.{Script}
 use Rattle.direct_meaning.specs.of_script_laws.WellFormed.{IsWellFormed}
 use Rattle.build_law.proofs.Blocks.{block_each, each_block, last_number, lower_start}
-use Rattle.build_law.proofs.Calling.{built_call, each_contained, how_needed, needed_as, other_built, split_at}
-use Rattle.build_law.proofs.Naming.{IsNamed, call_built, named, reads_early}
-use Rattle.build_law.proofs.MadeKinds.{IsOther, Kind, called, kind_of, other}
+use Rattle.build_law.proofs.Calling.{alone_built, built_wanted, each_contained, how_emitted}
+use Rattle.build_law.proofs.Earlier.{alone_early, call_early, kept_early}
+use Rattle.build_law.proofs.MadeKinds.{IsOther, Kind, Stand, alone, built_of, by_call, called, kept_name, kind_of, other, stand_of}
+use Rattle.build_law.proofs.Names.{split_at}
+use Rattle.build_law.proofs.Naming.{operand_wanted}
 use Rattle.build_law.proofs.Numbered.{Counts, IsPlain, all_counts, at_counts, below_counts, last_in, nodes_end, there_counts}
 use Rattle.build_law.proofs.Outputs.{buds, first_there, one_step_of, out_there}
-use Rattle.build_law.proofs.Placing.{call_place, gives, other_place, source, start}
+use Rattle.build_law.proofs.Placing.{call_place, gives, has_call, has_kept, kept_place, other_place, source, start}
+use Rattle.build_law.proofs.Reading.{any_behind}
+use Rattle.build_law.proofs.Slots.{call_slot, kept_slot, of_call}
 
 -- ---- one collection's nodes
 
--- where it is a call, one of its names is needed
+-- where it is a call, one of its names is needed of it
 abbrev pub IsCalled : Script → ℕ → Made → Type 0
 IsCalled script origin (made.Do input f o) =
-    list_any (λ one. one) (names_needed script origin f) ≡ true
+    list_any (λ one. one) (names_needed script (origin - o) f) ≡ true
 IsCalled script origin _ = Unit {0}
 
 -- a node reads what is there and lower
@@ -44,12 +48,13 @@ module _ (script : Script) (gives : ℕ → Place) (origin source n : ℕ) where
       → AllByRecursion IsPlain (made_nodes script gives origin source n mk)
   block_plain (made.Input file columns) h = ((refl, refl), tt)
   block_plain (made.Do input f o) h =
-      let b = call_branch origin f (needed_at script origin)
-      (needed_from script (suc origin) (other_names script f)) in (
+      let first : ℕ = origin - o in
+      let b = call_branch first f (emitted_at script first)
+      (needed_from script (suc first) (other_names script f)) in (
         (
-          first_there b 0 0 (names_needed script origin f) h,
-          one_step_of b 0 (needed_at script origin)
-              (needed_from script (suc origin) (other_names script f)),
+          first_there b 0 0 (names_needed script first f) h,
+          one_step_of b 0 (emitted_at script first)
+              (needed_from script (suc first) (other_names script f)),
         ),
         tt,
       )
@@ -65,6 +70,7 @@ module _ (script : Script) (gives : ℕ → Place) (origin source n : ℕ) where
       ((refl, refl), ((refl, refl), ((refl, refl), ((refl, refl), tt))))
   block_plain (made.Operate objects f) h = ((refl, refl), tt)
   block_plain (made.DoWith input f object) h = ((refl, refl), tt)
+  block_plain (made.Saved is_object call) h = ((refl, refl), tt)
 
   module _ (P : Place → Type 0) where
     -- each node of the collection is there
@@ -142,6 +148,7 @@ module _ (script : Script) (gives : ℕ → Place) (origin source n : ℕ) where
         )
     block_low (made.Operate objects f) there h = (all_low objects h, tt)
     block_low (made.DoWith input f object) there h = ((h.0, (h.1.0, tt)), tt)
+    block_low (made.Saved is_object call) there h = (tt, tt)
 
 -- ---- all nodes
 
@@ -150,14 +157,22 @@ module _ (script : Script) (well : IsWellFormed script) where
   nodes = nodes_of script
 
   pub counts : Counts 0 (nodes_of script)
-  counts = all_counts script (gives script) 0 0 0 (built script)
+  counts = all_counts script (gives script) 0 0 (built script)
 
-  is_called : (t : ℕ) {mk : Made} → Kind mk → get_or (built script) t None ≡ Some mk
-      → IsCalled script t mk
-  is_called t (called input f o) found = (built_call script t input f o found).1
-  is_called t (other mk apart) found = by_other mk apart
+  is_called : (t number : ℕ) {mk : Made} → Kind mk
+      → get_or (built script) t None ≡ Some (built_of number mk) → IsCalled script number mk
+  is_called t number (called input f o) found =
+      let it = of_call script well t number input f o found in
+      let emitted = how_emitted script number input f o
+      (built_wanted script t number (made.Do input f o) found) in
+      let split = split_at script it.first (suc (other_names script f)) o it.below
+      (ap (emitted_at script) it.is ∙ emitted) in
+      ap (λ first. list_any (λ one. one) (names_needed script first f)) it.from
+      ∙ ap (list_any (λ one. one)) split.1
+      ∙ any_behind (λ one. one) (needed_from script it.first o) (true ∷ split.0) refl
+  is_called t number (other mk apart) found = by_other mk apart
     where
-      by_other : (how : Made) → IsOther how → IsCalled script t how
+      by_other : (how : Made) → IsOther how → IsCalled script number how
       by_other (made.Input file columns) h = tt
       by_other (made.Do input f o) h = absurd h
       by_other (made.Group input) h = tt
@@ -169,13 +184,14 @@ module _ (script : Script) (well : IsWellFormed script) where
       by_other (made.CombineAll input k) h = tt
       by_other (made.Operate objects f) h = tt
       by_other (made.DoWith input f object) h = tt
+      by_other (made.Saved is_object call) h = tt
 
   pub plains : AllByRecursion IsPlain (nodes_of script)
   plains =
-      each_block script (gives script) IsPlain 0 0 0 (built script)
-      (λ t mk found.
-      block_plain script (gives script) (0 + t) (source script t) (start script t) mk
-      (subst (λ o. IsCalled script o mk) (sym (zero-add t)) (is_called t (kind_of mk) found)))
+      each_block script (gives script) IsPlain 0 0 (built script)
+      (λ t it found.
+      block_plain script (gives script) it.number (source script t) (start script t) it.made
+      (is_called t it.number (kind_of it.made) found))
 
   pub numbers_below : AllByRecursion (λ e. e.number < length (nodes_of script)) (nodes_of script)
   numbers_below =
@@ -189,106 +205,137 @@ module _ (script : Script) (well : IsWellFormed script) where
   first_is_there k below =
       there_counts 0 (nodes_of script) counts plains k (omega arith) (omega arith)
 
-  within_all : (t : ℕ) (mk : Made) → get_or (built script) t None ≡ Some mk
+  within_all : (t number : ℕ) (mk : Made)
+      → get_or (built script) t None ≡ Some (built_of number mk)
       → start script t + before_last mk < length (nodes_of script)
-  within_all t mk found =
-      let low = last_in 0 t (built script) mk found in
-      let last = last_number 0 (built script) t mk found in
-      let all = nodes_end script (gives script) 0 0 0 (built script) in
+  within_all t number mk found =
+      let low = last_in 0 t (built script) (built_of number mk) found in
+      let last = last_number 0 (built script) t (built_of number mk) found in
+      let all = nodes_end script (gives script) 0 0 (built script) in
       omega arith
 
-  inner_there : (t : ℕ) (mk : Made) → get_or (built script) t None ≡ Some mk → (k : ℕ)
+  inner_there : (t number : ℕ) (mk : Made)
+      → get_or (built script) t None ≡ Some (built_of number mk) → (k : ℕ)
       → k ≤ start script t + before_last mk → IsThere (nodes_of script) (first_of k)
-  inner_there t mk found k low =
-      let all = within_all t mk found in first_is_there k (omega arith)
+  inner_there t number mk found k low =
+      let all = within_all t number mk found in first_is_there k (omega arith)
 
   -- the node of a call is at its number
-  call_at : (first input f : ℕ)
-      → get_or (built script) first None ≡ Some (made.Do input f 0)
-      → node_at (nodes_of script) (start script first)
+  call_at : (t number input f o first : ℕ)
+      → get_or (built script) t None ≡ Some (built_of number (made.Do input f o))
+      → number - o ≡ first
+      → node_at (nodes_of script) (start script t)
       ≡ Some (call_in script first f (gives script input))
-  call_at first input f found =
+  call_at t number input f o first found from =
       (block_each script (gives script)
-      (λ e. node_at (nodes_of script) e.number ≡ Some e.node) 0 0 0 (built script) first
-      (made.Do input f 0) found (at_counts 0 (nodes_of script) counts)).0
-      ∙ ap (λ o. Some (call_in script o f (gives script input))) (zero-add first)
+      (λ e. node_at (nodes_of script) e.number ≡ Some e.node) 0 0 (built script) t
+      (built_of number (made.Do input f o)) found (at_counts 0 (nodes_of script) counts)).0
+      ∙ ap (λ k. Some (call_in script k f (gives script input))) from
 
-  -- where a collection is that is needed
+  -- where a collection is that is needed: at a place that is earlier than where it is read
   pub record IsPlaced (j : ℕ) : Type 0 where
     pub home : ℕ
+    pub number : ℕ
     pub how : Made
-    pub built_ : get_or (built script) home None ≡ Some how
-    pub early : home ≤ j
+    pub built_ : get_or (built script) home None ≡ Some (built_of number how)
+    pub early : (t n : ℕ) (mk : Made) → get_or (built script) t None ≡ Some (built_of n mk)
+        → Contains (operands mk) j → home < t
     pub node : (gives script j).node ≡ start script home + before_last how
     pub there : IsThere (nodes_of script) (gives script j)
 
-  other_placed : (j : ℕ) (how : Made) → IsOther how → get_or (wanted script) j None ≡ Some how
-      → IsPlaced j
-  other_placed j how apart found =
-      let at = other_built script j how apart found in
-      let e = other_place script j how apart found in
+  alone_placed : (j : ℕ) (how : Made) → emitted_as how ≡ None
+      → get_or (wanted script) j None ≡ Some how → IsPlaced j
+  alone_placed j how none found =
+      let at = alone_built script j how none found in
+      let e = other_place script j how none found in
       record {
         home = j;
+        number = j;
         how = how;
         built_ = at;
-        early = omega arith;
+        early = λ t n mk there reads. alone_early script well t n mk there j reads how none found;
         node = ap (λ (c : Place). c.node) e;
         there = subst (IsThere (nodes_of script)) (sym e)
-            (inner_there j how at (start script j + before_last how) (omega arith));
+            (inner_there j j how at (start script j + before_last how) (omega arith));
+      }
+
+  kept_placed : (j : ℕ) (is_object : Bool) (it : Emitted)
+      → get_or (wanted script) j None ≡ Some (made.Saved is_object (Some it)) → IsPlaced j
+  kept_placed j is_object it found =
+      let how : Made = made.Saved is_object (Some it) in
+      let n = has_kept script well j is_object it found in
+      let e = kept_place script j is_object it n.first found n.place n.built_ in
+      record {
+        home = kept_slot script n.first it.output;
+        number = j;
+        how = how;
+        built_ = n.built_;
+        early = λ t m mk there reads.
+            kept_early script well t m mk there j reads is_object it found n;
+        node = ap (λ (c : Place). c.node) e;
+        there = subst (IsThere (nodes_of script)) (sym e)
+            (inner_there (kept_slot script n.first it.output) j how n.built_
+            (start script (kept_slot script n.first it.output) + 0) (omega arith));
       }
 
   call_placed : (j input f o : ℕ) → get_or (wanted script) j None ≡ Some (made.Do input f o)
-      → (n : IsNamed script well j input f o) → IsPlaced j
-  call_placed j input f o found n =
-      let at = call_built script well j input f o found n in
-      let e = call_place script j input f o n.first found n.place at in
+      → IsPlaced j
+  call_placed j input f o found =
+      let n = has_call script well j input f o found in
+      let e = call_place script j input f o n.first (n.first + n.name.place) n.name.place found
+      n.place n.built_ in
+      let from : (n.first + n.name.place) - n.name.place ≡ n.first = omega arith in
       let front = needed_from script n.first o in
       let split = split_at script n.first (suc (other_names script f)) o n.below
-      (subst (λ k. needed_at script k ≡ true) (sym n.place)
-      (how_needed script j (made.Do input f o) found)) in
-      let b = call_branch n.first f (needed_at script n.first)
+      (ap (emitted_at script) n.place ∙ how_emitted script j input f o found) in
+      let b = call_branch n.first f (emitted_at script n.first)
       (needed_from script (suc n.first) (other_names script f)) in
       record {
-        home = n.first;
-        how = made.Do input f 0;
-        built_ = at;
-        early = let h = n.place in omega arith;
-        node = ap (λ (c : Place). c.node) e ∙ sym (add-zero (start script n.first));
+        home = call_slot script n.first f;
+        number = n.first + n.name.place;
+        how = made.Do input f n.name.place;
+        built_ = n.built_;
+        early = λ s m mk there reads.
+            call_early script well s m mk there j reads input f o found n;
+        node = ap (λ (c : Place). c.node) e
+            ∙ sym (add-zero (start script (call_slot script n.first f)));
         there = subst (IsThere (nodes_of script)) (sym e)
-            (ap (λ o. gives_at o (number_behind 0 front)) (call_at n.first input f at)
+            (ap (λ o. gives_at o (number_behind 0 front))
+            (call_at (call_slot script n.first f) (n.first + n.name.place) input f n.name.place
+            n.first n.built_ from)
             ∙ ap (λ names. has_out (number_behind 0 front) (buds b 0 0 names)) split.1
             ∙ out_there b 0 0 front split.0);
       }
 
-  placed_by : (j : ℕ) {how : Made} → Kind how → get_or (wanted script) j None ≡ Some how
+  placed_by : (j : ℕ) {how : Made} → Stand how → get_or (wanted script) j None ≡ Some how
       → IsPlaced j
-  placed_by j (called input f o) found =
-      call_placed j input f o found
-      (named script well j input f o (needed_as script j (made.Do input f o) found).made)
-  placed_by j (other how apart) found = other_placed j how apart found
+  placed_by j (by_call input f o) found = call_placed j input f o found
+  placed_by j (kept_name is_object it) found = kept_placed j is_object it found
+  placed_by j (alone how apart none) found = alone_placed j how none found
 
   pub is_placed : (j : ℕ) (how : Made) → get_or (wanted script) j None ≡ Some how → IsPlaced j
-  is_placed j how found = placed_by j (kind_of how) found
+  is_placed j how found = placed_by j (stand_of how) found
 
-  operand_low : (t : ℕ) (mk : Made) → get_or (built script) t None ≡ Some mk → (j : ℕ)
+  operand_low : (t number : ℕ) (mk : Made)
+      → get_or (built script) t None ≡ Some (built_of number mk) → (j : ℕ)
       → Contains (operands mk) j → IsLow (IsThere (nodes_of script))
       (start script t) (gives script j)
-  operand_low t mk found j reads_ =
-      let read = reads_early script well t mk found j reads_ in
-      let at = is_placed j read.how read.wanted in
-      let early = at.early in
-      let before = read.early in
-      let low = lower_start 0 (built script) at.home t at.how at.built_ (omega arith) in
+  operand_low t number mk found j reads_ =
+      let read = operand_wanted script well number j mk
+      (built_wanted script t number mk found) reads_ in
+      let at = is_placed j read.0 read.1 in
+      let low = lower_start 0 (built script) at.home t (built_of at.number at.how) at.built_
+      (at.early t number mk found reads_) in
       let node = at.node in
       (at.there, omega arith)
 
   -- all that is read is there, and lower
   pub lows : AllByRecursion (ReadsLow (IsThere (nodes_of script))) (nodes_of script)
   lows =
-      each_block script (gives script) (ReadsLow (IsThere (nodes_of script))) 0 0 0 (built script)
-      (λ t mk found.
-      block_low script (gives script) (0 + t) (source script t) (start script t)
-      (IsThere (nodes_of script)) mk (inner_there t mk found)
+      each_block script (gives script) (ReadsLow (IsThere (nodes_of script))) 0 0 (built script)
+      (λ t it found.
+      block_low script (gives script) it.number (source script t) (start script t)
+      (IsThere (nodes_of script)) it.made (inner_there t it.number it.made found)
       (each_contained
-      (λ j. IsLow (IsThere (nodes_of script)) (start script t) (gives script j)) (operands mk)
-      (operand_low t mk found)))
+      (λ j. IsLow (IsThere (nodes_of script)) (start script t) (gives script j))
+      (operands it.made) (operand_low t it.number it.made found)))

@@ -1,5 +1,5 @@
 -- The collections of a script meet their equations.
-use Rattle.std.proofs.Common.{◌≡◌, ℕ, ◌-◌, true, List, [], ◌∷◌, ◌++◌, map, drop, get_or, Option, Some, refl, sym, ap, ◌∙◌, subst, add-zero}
+use Rattle.std.proofs.Common.{◌≡◌, ℕ, zero, suc, ◌-◌, ◌<◌, List, [], ◌∷◌, map, drop, length, get_or, Option, Some, sym, ap, ◌∙◌, subst, arith, add-zero}
 use Rattle.std.specs.Prelude.{option_map, option_and_then}
 use Rattle.std.specs.List.{AllByRecursion}
 use Rattle.flume_value.specs.declared.value.Value.{Value}
@@ -11,7 +11,6 @@ use Rattle.exec_graph.specs.Calls.{called}
 use Rattle.exec_graph.specs.Meaning.{through}
 use Rattle.exec_graph.specs.Objects.{operated, side_input}
 use Rattle.exec_graph.specs.World.{World}
-use Rattle.exec_graph.specs.declared.step.Does.TheVariants as does
 use Rattle.graph_build.specs.of_script_program.declared.made.Made.{Made}
 use Rattle.graph_build.specs.of_script_program.declared.made.Made.TheVariants as made
 use Rattle.graph_build.specs.of_script_program.Script.{Script}
@@ -20,6 +19,7 @@ use Rattle.direct_meaning.specs.Calls.{answer_of, calls_on}
 use Rattle.direct_meaning.specs.Direct.{all_made, called_by, combined_by, counted_by, done_at, done_beside_at, done_by, joined_at, joined_by, made_as, made_at, operated_at, rows_as, top_by}
 use Rattle.direct_meaning.specs.Objects.{combined_whole, done_beside, operated_by}
 use Rattle.graph_build.specs.of_script_program.Needed.{operands}
+use Rattle.graph_build.specs.Nodes.{source_number}
 use Rattle.build_law.specs.Worlds.{answered_by, or_silent, world_of}
 use Rattle.build_law.proofs.Meeting.{IsMadeBy, IsSettled}
 use Rattle.build_law.proofs.Operating.{beside_is, operate_is, passed_is}
@@ -63,24 +63,36 @@ all_are_made table (j ∷ js) cs h =
     ((c, first), all_are_made table js others behind)
 
 -- a node meets its equation, what it makes is settled, and what it reads is made
-pub record IsMade (w : World) (at : ℕ → Collection) (table : List (Option Collection))
-    (n source : ℕ) (mk : Made) (c : Collection) : Type 0 where
-  pub is : IsMadeBy w at n source mk
+pub record IsMade (script : Script) (w : World) (at : ℕ → Collection)
+    (table : List (Option Collection)) (n source : ℕ) (mk : Made) (c : Collection) : Type 0 where
+  pub is : IsMadeBy script w at n source mk
   pub settled : IsSettled c
   pub read : AreMade table (operands mk)
 
-module _ (script : Script) (all : List (List Value)) (at : ℕ → Collection)
-    (table : List (Option Collection))
+-- what stands ahead is there
+not_past : {X : Type 0} (n : ℕ) (xs : List X) (x : X) (rest : List X) → x ∷ rest ≡ drop n xs
+    → n < length xs
+not_past zero [] x rest h = cc
+not_past zero (y ∷ xs) x rest h = omega arith
+not_past (suc n) [] x rest h = cc
+not_past (suc n) (y ∷ xs) x rest h = let low = not_past n xs x rest h in omega arith
+
+-- the lists by their numbers, and all of them in order of the script
+module _ (script : Script) (lists all : List (List Value))
+    (given : (k : ℕ) → k < length all
+    → get_or all k [] ≡ get_or lists (source_number script k) [])
+    (at : ℕ → Collection) (table : List (Option Collection))
     (same : (j : ℕ) (c : Collection) → made_at table j ≡ Some c → at j ≡ c)
     (settled : (j : ℕ) (c : Collection) → made_at table j ≡ Some c → IsSettled c)
     (n source : ℕ) (c : Collection) (here : at n ≡ c) where
   abbrev Is : Made → Type 0
-  Is mk = IsMade (world_of script all) at table n source mk c
+  Is mk = IsMade script (world_of script lists) at table n source mk c
 
   rows_here : (rows : List Value) (rest : List (List Value)) → rows ∷ rest ≡ drop source all
-      → get_or all source [] ≡ rows
+      → get_or lists (source_number script source) [] ≡ rows
   rows_here rows rest ahead =
-      ap (λ k. get_or all k []) (sym (add-zero source)) ∙ sym (get_or-drop source all 0 [])
+      sym (given source (not_past source all rows rest ahead))
+      ∙ ap (λ k. get_or all k []) (sym (add-zero source)) ∙ sym (get_or-drop source all 0 [])
       ∙ ap (λ xs. get_or xs 0 []) (sym ahead)
 
   by_function : (input f output : ℕ)
@@ -96,7 +108,7 @@ module _ (script : Script) (all : List (List Value)) (at : ℕ → Collection)
       let (calls, called_calls, is) =
       map_some (called_by (n - output) output d.traps) (calls_on (answer_of function) d.bag) c
       done_d in
-      let w : World = world_of script all in
+      let w : World = world_of script lists in
       record {
         is = here ∙ sym is
             ∙ call_is w (n - output) f output (answer_of function) d calls
@@ -185,7 +197,7 @@ module _ (script : Script) (all : List (List Value)) (at : ℕ → Collection)
       (function_at script.functions f) ≡ Some c
       → Is (made.Operate objects f)
   by_operating objects f h =
-      let w : World = world_of script all in
+      let w : World = world_of script lists in
       let (function, calls_it, done) =
       and_then_some (λ function. operated_at n function objects table)
       (function_at script.functions f) c h in
@@ -204,7 +216,7 @@ module _ (script : Script) (all : List (List Value)) (at : ℕ → Collection)
       (function_at script.functions f) ≡ Some c
       → Is (made.DoWith input f object)
   by_beside input f object h =
-      let w : World = world_of script all in
+      let w : World = world_of script lists in
       let (function, calls_it, done) =
       and_then_some (λ function. done_beside_at n function input object table)
       (function_at script.functions f) c h in
@@ -227,6 +239,14 @@ module _ (script : Script) (all : List (List Value)) (at : ℕ → Collection)
       → made_as script n mk rem table ≡ Some c → Is mk
   is_made (made.Input file columns) [] ahead h = cc
   is_made (made.Input file columns) (rows ∷ rem) ahead h =
+      let e : rows_as rows ≡ c = cc in
+      record {
+        is = here ∙ sym e ∙ ap rows_as (sym (rows_here rows rem ahead));
+        settled = subst IsSettled e (rows_settled rows);
+        read = tt;
+      }
+  is_made (made.Saved is_object call) [] ahead h = cc
+  is_made (made.Saved is_object call) (rows ∷ rem) ahead h =
       let e : rows_as rows ≡ c = cc in
       record {
         is = here ∙ sym e ∙ ap rows_as (sym (rows_here rows rem ahead));

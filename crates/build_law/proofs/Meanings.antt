@@ -1,5 +1,5 @@
 -- The graph of a well-formed script means what the script means.
-use Rattle.std.proofs.Common.{◌≡◌, ℕ, zero, suc, ◌+◌, ◌-◌, ◌<◌, List, [], ◌∷◌, map, length, get_or, Option, Some, None, refl, sym, ap, ◌∙◌, subst, arith, zero-add}
+use Rattle.std.proofs.Common.{◌≡◌, ℕ, zero, suc, ◌+◌, ◌-◌, ◌<◌, Bool, List, [], ◌∷◌, map, length, get_or, Option, Some, None, refl, sym, ap, ◌∙◌, subst, arith}
 use Rattle.std.specs.Prelude.{slice_get}
 use Rattle.std.specs.List.{AllByRecursion, Contains, flat_map}
 use Rattle.flume_value.specs.Bag.{bag_of}
@@ -7,13 +7,13 @@ use Rattle.flume_value.specs.declared.value.Value.{Value}
 use Rattle.flume_value.proofs.EachLemmas.{Each-both, each_from}
 use Rattle.flume_collection.specs.Collection.{Collection}
 use Rattle.flume_collection.proofs.Members.{at_head}
-use Rattle.exec_graph.specs.Meaning.{Agrees, Holds, IsSound, Meets, collection, or_nothing, own, own_bag, through, traps}
+use Rattle.exec_graph.specs.Meaning.{Agrees, Holds, IsSound, Meets, collection, or_nothing, own_bag, through, traps}
 use Rattle.exec_graph.specs.World.{World}
-use Rattle.exec_graph.specs.declared.graph.Entry.{Entry}
 use Rattle.exec_graph.specs.declared.graph.Place.{Place}
 use Rattle.exec_graph.proofs.Solving.{Agrees-self, collection_meets}
 use Rattle.exec_graph.proofs.Soundness.{IsSound-ok}
 use Rattle.graph_build.specs.of_script_program.Needed.{made_of, operands, outputs_read}
+use Rattle.graph_build.specs.of_script_program.declared.made.Emitted.{Emitted}
 use Rattle.graph_build.specs.of_script_program.declared.made.Made.{Made}
 use Rattle.graph_build.specs.of_script_program.declared.made.Made.TheVariants as made
 use Rattle.graph_build.specs.of_script_program.declared.made.Output.{Output}
@@ -22,21 +22,24 @@ use Rattle.direct_meaning.specs.of_script_laws.WellFormed.{HasColumns, IsWellFor
 use Rattle.direct_meaning.proofs.of_script_laws.NeededLemmas.{needed_law, read_at}
 use Rattle.direct_meaning.specs.Direct.{made_at, meaning, traps_behind}
 use Rattle.graph_build.specs.Built.{built}
+use Rattle.graph_build.specs.Calls.{emitted_as}
 use Rattle.graph_build.specs.Graphs.{graph_of, nodes_of}
 use Rattle.graph_build.specs.Nodes.{before_last, first_of, made_nodes}
 use Rattle.graph_build.specs.Wanted.{wanted}
 use Rattle.build_law.specs.Limits.{HasShortFlattens}
 use Rattle.build_law.specs.Means.{HasOwn, IsMeaning}
 use Rattle.build_law.specs.Worlds.{world_of}
+use Rattle.build_law.proofs.Apart.{apart_alone, apart_called, others_add}
 use Rattle.build_law.proofs.Assembling.{all_settled, assigned, made_here, matches, meets, stands, stands_at}
 use Rattle.build_law.proofs.Assigning.{at_of}
-use Rattle.build_law.proofs.Blocks.{block_each, blocks_in, in_block, one_block}
-use Rattle.build_law.proofs.Calling.{built_as, built_call, needed_as, other_built, other_wanted, wanted_here}
-use Rattle.build_law.proofs.Naming.{IsNamed, built_name, call_built, named, operand_wanted, some_name}
-use Rattle.build_law.proofs.MadeKinds.{IsOther, Kind, called, kind_of, other}
-use Rattle.build_law.proofs.Owning.{Apart, HasOwnNode, block_here, block_other, by_other, call_adds}
+use Rattle.build_law.proofs.Blocks.{block_each, blocks_in, in_block}
+use Rattle.build_law.proofs.Calling.{alone_built, built_wanted, needed_as, wanted_here}
+use Rattle.build_law.proofs.Naming.{operand_wanted}
+use Rattle.build_law.proofs.MadeKinds.{IsOther, Kind, Stand, alone, built_of, by_call, called, kept_name, kind_of, other, stand_of}
+use Rattle.build_law.proofs.Owning.{HasOwnNode, block_here, call_adds}
 use Rattle.build_law.proofs.Passing.{call_label}
-use Rattle.build_law.proofs.Placing.{gives, other_place, source, start}
+use Rattle.build_law.proofs.Placing.{gives, has_call, has_kept, source, stands_where, start}
+use Rattle.build_law.proofs.Slots.{call_slot, kept_slot, of_call}
 use Rattle.build_law.proofs.Tables.{Matches, made_wanted}
 use Rattle.build_law.proofs.Trapping.{AreIn, SameTraps, block_traps, call_traps, made_traps, same_in, same_traps, then_in, trapped, traps_made}
 use Rattle.build_law.proofs.WellFormed.{contained_each, is_graph_ok}
@@ -106,19 +109,20 @@ module _ (script : Script) (inputs : List (List Value)) (made_ : List (Option Co
   abbrev m : Place → Collection
   m = assigned script inputs made_
 
-  block_meets : (t : ℕ) (mk : Made) → get_or (built script) t None ≡ Some mk
-      → Meets w (made_nodes script (gives script) t (source script t) (start script t) mk) m
-  block_meets t mk found =
-      subst (λ o. Meets w (made_nodes script (gives script) o (source script t) (start script t) mk)
-      m) (zero-add t)
-      (block_each script (gives script) (λ e. Holds w m e.number e.node) 0 0 0 (built script) t mk
-      found (meets script inputs made_ well means))
+  block_meets : (t number : ℕ) (mk : Made)
+      → get_or (built script) t None ≡ Some (built_of number mk)
+      → Meets w
+      (made_nodes script (gives script) number (source script t) (start script t) mk) m
+  block_meets t number mk found =
+      block_each script (gives script) (λ e. Holds w m e.number e.node) 0 0 (built script) t
+      (built_of number mk) found (meets script inputs made_ well means)
 
-  other_value : (j : ℕ) (how : Made) → IsOther how → get_or (wanted script) j None ≡ Some how
-      → m (first_of (start script j + before_last how)) ≡ at_of made_ j
-  other_value j how apart found =
-      ap m (sym (other_place script j how apart found))
-      ∙ stands_at script inputs made_ well means j how found
+  other_value : (t number : ℕ) (mk : Made) → IsOther mk
+      → get_or (built script) t None ≡ Some (built_of number mk)
+      → m (first_of (start script t + before_last mk)) ≡ at_of made_ number
+  other_value t number mk apart found =
+      ap m (sym (stands_where script well t number mk apart found))
+      ∙ stands_at script inputs made_ well means number mk (built_wanted script t number mk found)
 
   input_value : (j : ℕ) (how : Made) → get_or (wanted script) j None ≡ Some how → (i : ℕ)
       → Contains (operands how) i → m (gives script i) ≡ at_of made_ i
@@ -127,74 +131,6 @@ module _ (script : Script) (inputs : List (List Value)) (made_ : List (Option Co
       stands_at script inputs made_ well means i it.0 it.1
 
   -- ---- own bags
-
-  same_made : (i : ℕ) (a b : Made) → slice_get (made_of script) i ≡ Some a
-      → slice_get (made_of script) i ≡ Some b → a ≡ b
-  same_made i a b h k = cc
-
-  not_called : (input f o : ℕ) (how : Made) → IsOther how → made.Do input f o ≡ how → ⊥
-  not_called input f o how apart same = subst IsOther (sym same) apart
-
-  same_output : (a b c d e f : ℕ) → made.Do a b c ≡ made.Do d e f → c ≡ f
-  same_output a b c d e f h = cc
-
-  abbrev owned_of : ℕ → List Entry → List Value
-  owned_of i es = flat_map (λ e. own w m i e.node) es
-
-  -- nodes of others give none of a collection that is no output of a call
-  apart_other : (j : ℕ) (how : Made) → IsOther how → slice_get (made_of script) j ≡ Some how
-      → (s : ℕ) {mk : Made} → Kind mk → get_or (built script) s None ≡ Some mk → (s ≡ j → ⊥)
-      → Apart script w m (gives script) s (source script s) (start script s) j mk
-  apart_other j how apart is s (called input f o) found differ =
-      λ k below same.
-      let at : get_or (built script) s None ≡ Some (made.Do input f 0) =
-      subst (λ p. get_or (built script) s None ≡ Some (made.Do input f p))
-      (built_call script s input f o found).0 found in
-      not_called input f k how apart
-      (same_made j (made.Do input f k) how
-      (subst (λ i. slice_get (made_of script) i ≡ Some (made.Do input f k)) same
-      (built_name script well s input f at k below)) is)
-  apart_other j how apart is s (other mk other_) found differ =
-      by_other script w m (gives script) s (source script s) (start script s) j mk other_ differ
-
-  apart_called : (j input f o first : ℕ) → first + o ≡ j
-      → slice_get (made_of script) j ≡ Some (made.Do input f o)
-      → (s : ℕ) {mk : Made} → Kind mk → get_or (built script) s None ≡ Some mk → (s ≡ first → ⊥)
-      → Apart script w m (gives script) s (source script s) (start script s) j mk
-  apart_called j input f o first place is s (called input_ f_ o_) found differ =
-      λ k below same.
-      let at : get_or (built script) s None ≡ Some (made.Do input_ f_ 0) =
-      subst (λ p. get_or (built script) s None ≡ Some (made.Do input_ f_ p))
-      (built_call script s input_ f_ o_ found).0 found in
-      let e : k ≡ o =
-      same_output input_ f_ k input f o
-      (same_made j (made.Do input_ f_ k) (made.Do input f o)
-      (subst (λ i. slice_get (made_of script) i ≡ Some (made.Do input_ f_ k)) same
-      (built_name script well s input_ f_ at k below)) is) in
-      differ (omega arith)
-  apart_called j input f o first place is s (other mk other_) found differ =
-      by_other script w m (gives script) s (source script s) (start script s) j mk other_
-      (λ same. not_called input f o mk other_
-      (same_made j (made.Do input f o) mk is
-      (subst (λ i. slice_get (made_of script) i ≡ Some mk) same
-      (built_as script s mk found).made)))
-
-  others_add : (j first : ℕ) (mk : Made) → get_or (built script) first None ≡ Some mk
-      → ((s : ℕ) (how : Made) → get_or (built script) s None ≡ Some how → (s ≡ first → ⊥)
-      → Apart script w m (gives script) s (source script s) (start script s) j how)
-      → owned_of j (nodes_of script)
-      ≡ owned_of j
-      (made_nodes script (gives script) first (source script first) (start script first) mk)
-  others_add j first mk found apart =
-      one_block script (gives script) (λ e. own w m j e.node) 0 0 0 (built script) first mk found
-      (λ s how at differ.
-      ap (λ o. owned_of j (made_nodes script (gives script) o (source script s) (start script s)
-      how)) (zero-add s)
-      ∙ block_other script w m (gives script) s (source script s) (start script s) j how
-      (apart s how at differ))
-      ∙ ap (λ o. owned_of j
-      (made_nodes script (gives script) o (source script first) (start script first) mk))
-      (zero-add first)
 
   own_node : (how : Made) → HasOwn how → IsOther how → HasOwnNode how
   own_node (made.Input file columns) has apart = has
@@ -208,77 +144,81 @@ module _ (script : Script) (inputs : List (List Value)) (made_ : List (Option Co
   own_node (made.CombineAll input k) has apart = tt
   own_node (made.Operate objects f) has apart = tt
   own_node (made.DoWith input f object) has apart = tt
+  own_node (made.Saved is_object call) has apart = has
 
   own_of_call : (j input f o : ℕ) → get_or (wanted script) j None ≡ Some (made.Do input f o)
-      → (n : IsNamed script well j input f o)
       → own_bag w m (nodes_of script) j ≡ (at_of made_ j).bag
-  own_of_call j input f o found n =
-      let at = call_built script well j input f o found n in
+  own_of_call j input f o found =
+      let n = has_call script well j input f o found in
+      let from : (n.first + n.name.place) - n.name.place ≡ n.first = omega arith in
       let e : j - o ≡ n.first = (let h = n.place in omega arith) in
       let is = (made_here script inputs made_ well means j (made.Do input f o) found).0 in
       ap bag_of
-      (others_add j n.first (made.Do input f 0) at
-      (λ s how there differ. apart_called j input f o n.first n.place
-      (needed_as script j (made.Do input f o) found).made s (kind_of how) there differ))
-      ∙ call_adds script w m (gives script) n.first (source script n.first)
-      (start script n.first) j input f 0 o (at_of made_ input) n.below n.place
+      (others_add script well w m j (call_slot script n.first f) (n.first + n.name.place)
+      (made.Do input f n.name.place) n.built_
+      (λ s k how there differ. apart_called script well w m j input f o n.first n.call n.below
+      n.place (needed_as script j (made.Do input f o) found).made s k (kind_of how) there differ))
+      ∙ call_adds script w m (gives script) (n.first + n.name.place)
+      (source script (call_slot script n.first f)) (start script (call_slot script n.first f)) j
+      input f n.name.place o (at_of made_ input) n.below
+      (ap (λ k. k + o) from ∙ n.place)
       (input_value j (made.Do input f o) found input (at_head input []))
-      ∙ ap (λ i. (through w (call_label i f o) (at_of made_ input)).bag) (sym e)
+      ∙ ap (λ i. (through w (call_label i f o) (at_of made_ input)).bag) (from ∙ sym e)
       ∙ ap (λ (c : Collection). c.bag) (sym is)
 
-  own_of_other : (j : ℕ) (how : Made) → IsOther how → HasOwn how
+  own_of_other : (j : ℕ) (how : Made) → IsOther how → emitted_as how ≡ None → HasOwn how
       → get_or (wanted script) j None ≡ Some how
       → own_bag w m (nodes_of script) j ≡ (at_of made_ j).bag
-  own_of_other j how apart has found =
-      let at = other_built script j how apart found in
+  own_of_other j how apart none has found =
+      let at = alone_built script j how none found in
       ap bag_of
-      (others_add j j how at
-      (λ s mk there differ. apart_other j how apart (needed_as script j how found).made s
-      (kind_of mk) there differ))
+      (others_add script well w m j j j how at
+      (λ s k mk there differ. apart_alone script well w m j how none
+      (needed_as script j how found).made s k (kind_of mk) there differ))
       ∙ block_here script w m (gives script) j (source script j) (start script j) how
       (at_of made_ j) (own_node how has apart) (all_settled script inputs made_ well means j)
-      (block_meets j how at) (other_value j how apart found)
+      (block_meets j j how at) (other_value j j how apart at)
 
-  own_by : (j : ℕ) {how : Made} → Kind how → HasOwn how
+  own_by : (j : ℕ) {how : Made} → Stand how → HasOwn how
       → get_or (wanted script) j None ≡ Some how
       → own_bag w m (nodes_of script) j ≡ (at_of made_ j).bag
-  own_by j (called input f o) has found =
-      own_of_call j input f o found
-      (named script well j input f o (needed_as script j (made.Do input f o) found).made)
-  own_by j (other how apart) has found = own_of_other j how apart has found
+  own_by j (by_call input f o) has found = own_of_call j input f o found
+  own_by j (kept_name is_object it) has found = absurd has
+  own_by j (alone how apart none) has found = own_of_other j how apart none has found
 
   own_made : (j : ℕ) (how : Made) (c : Collection) → slice_get (made_of script) j ≡ Some how
       → HasOwn how → made_at made_ j ≡ Some c → own_bag w m (nodes_of script) j ≡ c.bag
   own_made j how c is has made_c =
       let found = made_as j c made_c in
-      own_by j (kind_of how) has
+      own_by j (stand_of how) has
       (found.1 ∙ sym (needed_as script j found.0 found.1).made ∙ is)
       ∙ ap (λ (d : Collection). d.bag) (at_made j c made_c)
 
   -- ---- traps
 
-  abbrev Trapped : ℕ → Made → Collection → Type 0
-  Trapped t mk d =
+  abbrev Trapped : ℕ → ℕ → Made → Collection → Type 0
+  Trapped t number mk d =
       SameTraps script w m (gives script)
-      (made_nodes script (gives script) t (source script t) (start script t) mk) d
+      (made_nodes script (gives script) number (source script t) (start script t) mk) d
 
-  name_traps : (t input f o k : ℕ)
-      → get_or (wanted script) (t + k) None ≡ Some (made.Do input f k)
-      → Trapped t (made.Do input f o) (at_of made_ (t + k))
-  name_traps t input f o k found =
-      let e : (t + k) - k ≡ t = omega arith in
-      call_traps script w m (gives script) t (source script t) (start script t) input f o k
-      (at_of made_ input) (at_of made_ (t + k))
-      (input_value (t + k) (made.Do input f k) found input (at_head input []))
-      (ap (λ i. through w (call_label i f k) (at_of made_ input)) (sym e)
-      ∙ sym (made_here script inputs made_ well means (t + k) (made.Do input f k) found).0)
+  name_traps : (t number input f o first k : ℕ) → number - o ≡ first
+      → get_or (wanted script) (first + k) None ≡ Some (made.Do input f k)
+      → Trapped t number (made.Do input f o) (at_of made_ (first + k))
+  name_traps t number input f o first k from found =
+      let e : (first + k) - k ≡ first = omega arith in
+      call_traps script w m (gives script) number (source script t) (start script t) input f o k
+      (at_of made_ input) (at_of made_ (first + k))
+      (input_value (first + k) (made.Do input f k) found input (at_head input []))
+      (ap (λ i. through w (call_label i f k) (at_of made_ input)) (from ∙ sym e)
+      ∙ sym (made_here script inputs made_ well means (first + k) (made.Do input f k) found).0)
 
-  other_traps : (t : ℕ) (how : Made) → IsOther how
-      → get_or (built script) t None ≡ Some how → Trapped t how (at_of made_ t)
-  other_traps t how apart found =
-      block_traps script w m (gives script) t (source script t) (start script t) how
-      (at_of made_ t) apart (block_meets t how found)
-      (other_value t how apart (other_wanted script t how apart found))
+  other_traps : (t number : ℕ) (how : Made) → IsOther how
+      → get_or (built script) t None ≡ Some (built_of number how)
+      → Trapped t number how (at_of made_ number)
+  other_traps t number how apart found =
+      block_traps script w m (gives script) number (source script t) (start script t) how
+      (at_of made_ number) apart (block_meets t number how found)
+      (other_value t number how apart found)
 
   wanted_traps : (j : ℕ) (how : Made) → get_or (wanted script) j None ≡ Some how
       → AreIn (at_of made_ j).traps (flat_map traps_behind made_)
@@ -289,58 +229,74 @@ module _ (script : Script) (inputs : List (List Value)) (made_ : List (Option Co
       (same_in (ap (λ (d : Collection). d.traps) (at_made j c.0 c.1)))
       (traps_made made_ j c.0 c.1)
 
-  block_traps_in : (t : ℕ) {mk : Made} → Kind mk → get_or (built script) t None ≡ Some mk
+  call_traps_in : (t number input f o : ℕ)
+      → get_or (built script) t None ≡ Some (built_of number (made.Do input f o))
       → AreIn (trapped script w m (gives script)
-      (made_nodes script (gives script) t (source script t) (start script t) mk))
+      (made_nodes script (gives script) number (source script t) (start script t)
+      (made.Do input f o))) (flat_map traps_behind made_)
+  call_traps_in t number input f o found =
+      let it = of_call script well t number input f o found in
+      let at : get_or (wanted script) (it.first + o) None ≡ Some (made.Do input f o) =
+      ap (λ n. get_or (wanted script) n None) it.is
+      ∙ built_wanted script t number (made.Do input f o) found in
+      then_in _ (at_of made_ (it.first + o)).traps _
+      (name_traps t number input f o it.first o it.from at).from
+      (wanted_traps (it.first + o) (made.Do input f o) at)
+
+  block_traps_in : (t number : ℕ) {mk : Made} → Kind mk
+      → get_or (built script) t None ≡ Some (built_of number mk)
+      → AreIn (trapped script w m (gives script)
+      (made_nodes script (gives script) number (source script t) (start script t) mk))
       (flat_map traps_behind made_)
-  block_traps_in t (called input f o) found =
-      let at : get_or (built script) t None ≡ Some (made.Do input f 0) =
-      subst (λ p. get_or (built script) t None ≡ Some (made.Do input f p))
-      (built_call script t input f o found).0 found in
-      let n = some_name script well t input f at in
-      then_in _ (at_of made_ (t + n.place)).traps _
-      (name_traps t input f o n.place n.wanted).from
-      (wanted_traps (t + n.place) (made.Do input f n.place) n.wanted)
-  block_traps_in t (other how apart) found =
-      then_in _ (at_of made_ t).traps _ (other_traps t how apart found).from
-      (wanted_traps t how (other_wanted script t how apart found))
+  block_traps_in t number (called input f o) found = call_traps_in t number input f o found
+  block_traps_in t number (other how apart) found =
+      then_in _ (at_of made_ number).traps _ (other_traps t number how apart found).from
+      (wanted_traps number how (built_wanted script t number how found))
 
   graph_traps : AreIn (trapped script w m (gives script) (nodes_of script))
       (flat_map traps_behind made_)
   graph_traps =
-      blocks_in script (gives script) (λ e. traps w m e.node) 0 0 0 (built script)
+      blocks_in script (gives script) (λ e. traps w m e.node) 0 0 (built script)
       (flat_map traps_behind made_)
-      (λ t mk found. subst (λ o. AreIn (trapped script w m (gives script)
-      (made_nodes script (gives script) o (source script t) (start script t) mk))
-      (flat_map traps_behind made_)) (sym (zero-add t)) (block_traps_in t (kind_of mk) found))
+      (λ t b found. block_traps_in t b.number (kind_of b.made) found)
 
-  in_nodes : (t : ℕ) (mk : Made) → get_or (built script) t None ≡ Some mk → (d : Collection)
-      → Trapped t mk d → AreIn d.traps (trapped script w m (gives script) (nodes_of script))
-  in_nodes t mk found d same trap is =
-      in_block script (gives script) (λ e. traps w m e.node) 0 0 0 (built script) t mk trap found
-      (subst (λ o. Contains (trapped script w m (gives script)
-      (made_nodes script (gives script) o (source script t) (start script t) mk)) trap)
-      (sym (zero-add t)) (same.into trap is))
+  in_nodes : (t number : ℕ) (mk : Made)
+      → get_or (built script) t None ≡ Some (built_of number mk) → (d : Collection)
+      → Trapped t number mk d
+      → AreIn d.traps (trapped script w m (gives script) (nodes_of script))
+  in_nodes t number mk found d same trap is =
+      in_block script (gives script) (λ e. traps w m e.node) 0 0 (built script) t
+      (built_of number mk) trap found (same.into trap is)
 
   call_in_nodes : (j input f o : ℕ) → get_or (wanted script) j None ≡ Some (made.Do input f o)
-      → (n : IsNamed script well j input f o)
       → AreIn (at_of made_ j).traps (trapped script w m (gives script) (nodes_of script))
-  call_in_nodes j input f o found n =
-      in_nodes n.first (made.Do input f 0) (call_built script well j input f o found n)
-      (at_of made_ j)
-      (subst (λ i. Trapped n.first (made.Do input f 0) (at_of made_ i)) n.place
-      (name_traps n.first input f 0 o
-      (subst (λ i. get_or (wanted script) i None ≡ Some (made.Do input f o)) (sym n.place)
-      found)))
+  call_in_nodes j input f o found =
+      let n = has_call script well j input f o found in
+      let from : (n.first + n.name.place) - n.name.place ≡ n.first = omega arith in
+      in_nodes (call_slot script n.first f) (n.first + n.name.place)
+      (made.Do input f n.name.place) n.built_ (at_of made_ j)
+      (subst (λ i. Trapped (call_slot script n.first f) (n.first + n.name.place)
+      (made.Do input f n.name.place) (at_of made_ i)) n.place
+      (name_traps (call_slot script n.first f) (n.first + n.name.place) input f n.name.place
+      n.first o from
+      (ap (λ i. get_or (wanted script) i None) n.place ∙ found)))
 
-  wanted_in : (j : ℕ) {how : Made} → Kind how → get_or (wanted script) j None ≡ Some how
+  kept_in_nodes : (j : ℕ) (is_object : Bool) (it : Emitted)
+      → get_or (wanted script) j None ≡ Some (made.Saved is_object (Some it))
       → AreIn (at_of made_ j).traps (trapped script w m (gives script) (nodes_of script))
-  wanted_in j (called input f o) found =
-      call_in_nodes j input f o found
-      (named script well j input f o (needed_as script j (made.Do input f o) found).made)
-  wanted_in j (other how apart) found =
-      let at = other_built script j how apart found in
-      in_nodes j how at (at_of made_ j) (other_traps j how apart at)
+  kept_in_nodes j is_object it found =
+      let how : Made = made.Saved is_object (Some it) in
+      let n = has_kept script well j is_object it found in
+      in_nodes (kept_slot script n.first it.output) j how n.built_ (at_of made_ j)
+      (other_traps (kept_slot script n.first it.output) j how tt n.built_)
+
+  wanted_in : (j : ℕ) {how : Made} → Stand how → get_or (wanted script) j None ≡ Some how
+      → AreIn (at_of made_ j).traps (trapped script w m (gives script) (nodes_of script))
+  wanted_in j (by_call input f o) found = call_in_nodes j input f o found
+  wanted_in j (kept_name is_object it) found = kept_in_nodes j is_object it found
+  wanted_in j (alone how apart none) found =
+      let at = alone_built script j how none found in
+      in_nodes j j how at (at_of made_ j) (other_traps j j how apart at)
 
   script_traps : AreIn (flat_map traps_behind made_)
       (trapped script w m (gives script) (nodes_of script))
@@ -350,7 +306,7 @@ module _ (script : Script) (inputs : List (List Value)) (made_ : List (Option Co
       let how = made_as j c made_c in
       then_in c.traps (at_of made_ j).traps _
       (same_in (ap (λ (d : Collection). d.traps) (sym (at_made j c made_c))))
-      (wanted_in j (kind_of how.0) how.1))
+      (wanted_in j (stand_of how.0) how.1))
 
   -- ---- the graph
 

@@ -1,35 +1,32 @@
 -- The nodes of a script's collections meet their equations, where the collections meet theirs.
-use Rattle.std.proofs.Common.{◌≡◌, ℕ, zero, suc, ◌+◌, ◌-◌, true, false, List, [], ◌∷◌, ◌++◌, map, length, get_or, Option, Some, None, refl, sym, ap, ◌∙◌, subst, arith, add-zero, zero-add}
+use Rattle.std.proofs.Common.{◌≡◌, ℕ, zero, suc, ◌+◌, ◌-◌, true, false, List, [], ◌∷◌, ◌++◌, map, get_or, Option, Some, None, refl, sym, ap, ◌∙◌, subst, arith, add-zero, zero-add}
 use Rattle.std.specs.List.{AllByRecursion}
 use Rattle.flume_value.specs.Bag.{bag_of}
 use Rattle.flume_collection.specs.Collection.{Collection, by_key, together}
 use Rattle.flume_collection.specs.Traps.{trap_set}
 use Rattle.combine_table.specs.declared.comb.Comb.{Comb}
 use Rattle.combine_table.specs.declared.comb.Comb.TheVariants as by
-use Rattle.exec_graph.specs.Meaning.{Holds, Meets, nothing, place, through}
+use Rattle.exec_graph.specs.Meaning.{Meets, nothing, place, through}
 use Rattle.exec_graph.specs.Objects.{act_result, operated, side_input}
 use Rattle.exec_graph.specs.World.{World}
 use Rattle.exec_graph.specs.declared.graph.Act.TheVariants.{SideInput, Operate, Singleton}
-use Rattle.exec_graph.specs.declared.graph.Entry.{Entry}
 use Rattle.exec_graph.specs.declared.graph.Place.{Place}
 use Rattle.exec_graph.specs.declared.step.Does.TheVariants as does
 use Rattle.exec_graph.proofs.Barriers.{barrier_operate, barrier_side_input}
-use Rattle.graph_build.specs.Calls.{names_needed, needed_from, other_names}
-use Rattle.graph_build.specs.Graphs.{next_source}
-use Rattle.graph_build.specs.Nodes.{call_branch, first_of, made_nodes}
-use Rattle.graph_build.specs.Wanted.{needed_at}
+use Rattle.graph_build.specs.Calls.{emitted_at, names_needed, needed_from, other_names}
+use Rattle.graph_build.specs.Nodes.{call_branch, first_of, made_nodes, source_number}
 use Rattle.graph_build.specs.of_script_program.Needed.{operands}
 use Rattle.graph_build.specs.of_script_program.declared.made.Made.{Made}
 use Rattle.graph_build.specs.of_script_program.declared.made.Made.TheVariants as made
 use Rattle.graph_build.specs.of_script_program.Script.{Script}
 use Rattle.direct_meaning.specs.Direct.{combined_by, counted_by, joined_by, top_by}
 use Rattle.direct_meaning.specs.Objects.{combined_whole}
-use Rattle.build_law.proofs.Blocks.{source_at}
 use Rattle.build_law.proofs.Passing.{call_label, only_label, through_combined}
 use Rattle.build_law.proofs.Counting.{count_is}
 use Rattle.build_law.proofs.Joining.{join_is}
 use Rattle.build_law.proofs.Outputs.{EachName, buds_fit, kept}
 use Rattle.build_law.proofs.Placing.{all_rows}
+use Rattle.build_law.proofs.Sourcing.{next_wanted, wanted_source}
 use Rattle.build_law.proofs.Topping.{top_is}
 use Rattle.build_law.proofs.Values.{inner_rows, ones, tagged, zeros, greatest_of, whole_of}
 use Rattle.build_law.proofs.Wholes.{whole_is}
@@ -39,35 +36,39 @@ pub record IsSettled (c : Collection) : Type 0 where
   pub bag : bag_of c.bag ≡ c.bag
   pub set : trap_set c.traps ≡ c.traps
 
--- the equation of the collection `origin`
-abbrev pub IsMadeBy : World → (ℕ → Collection) → ℕ → ℕ → Made → Type 0
-IsMadeBy w at origin source (made.Input file columns) =
-    at origin ≡ record { bag = bag_of (w.rows source); traps = [] }
-IsMadeBy w at origin source (made.Do input function output) =
+-- the equation of the collection `origin`, where `source` is the number of the next source in order
+-- of the script
+abbrev pub IsMadeBy : Script → World → (ℕ → Collection) → ℕ → ℕ → Made → Type 0
+IsMadeBy script w at origin source (made.Input file columns) =
+    at origin ≡ record { bag = bag_of (w.rows (source_number script source)); traps = [] }
+IsMadeBy script w at origin source (made.Do input function output) =
     at origin ≡ through w (call_label (origin - output) function output) (at input)
-IsMadeBy w at origin source (made.Group input) = at origin ≡ by_key (at input)
-IsMadeBy w at origin source (made.Combine input comb) =
+IsMadeBy script w at origin source (made.Group input) = at origin ≡ by_key (at input)
+IsMadeBy script w at origin source (made.Combine input comb) =
     at origin ≡ combined_by origin comb (at input)
-IsMadeBy w at origin source (made.Flatten inputs) = at origin ≡ together (map at inputs)
-IsMadeBy w at origin source (made.Count input) = at origin ≡ counted_by origin (at input)
-IsMadeBy w at origin source (made.Join left right) = at origin ≡ joined_by (at left) (at right)
-IsMadeBy w at origin source (made.Top many input) = at origin ≡ top_by many (at input)
-IsMadeBy w at origin source (made.CombineAll input comb) =
+IsMadeBy script w at origin source (made.Flatten inputs) = at origin ≡ together (map at inputs)
+IsMadeBy script w at origin source (made.Count input) = at origin ≡ counted_by origin (at input)
+IsMadeBy script w at origin source (made.Join left right) =
+    at origin ≡ joined_by (at left) (at right)
+IsMadeBy script w at origin source (made.Top many input) = at origin ≡ top_by many (at input)
+IsMadeBy script w at origin source (made.CombineAll input comb) =
     at origin ≡ combined_whole origin comb (at input)
-IsMadeBy w at origin source (made.Operate objects function) =
+IsMadeBy script w at origin source (made.Operate objects function) =
     at origin ≡ operated w origin function (map at objects)
-IsMadeBy w at origin source (made.DoWith input function object) =
+IsMadeBy script w at origin source (made.DoWith input function object) =
     at origin ≡ side_input w origin function (at input) (at object)
+IsMadeBy script w at origin source (made.Saved is_object call) =
+    at origin ≡ record { bag = bag_of (w.rows (source_number script source)); traps = [] }
 
--- the equations of the collections that the nodes at `origin` give: of a call, of each name that is
--- needed
+-- the equations of the collections that the nodes of `origin` give: of a call, of each name that it
+-- emits
 abbrev pub IsBuiltBy : Script → World → (ℕ → Collection) → ℕ → ℕ → Made → Type 0
 IsBuiltBy script w at origin source (made.Do input function output) =
     EachName
     (λ number k needed. needed ≡ true
-    → at number ≡ through w (call_label origin function k) (at input))
-    origin 0 (names_needed script origin function)
-IsBuiltBy script w at origin source made = IsMadeBy w at origin source made
+    → at number ≡ through w (call_label (origin - output) function k) (at input))
+    (origin - output) 0 (names_needed script (origin - output) function)
+IsBuiltBy script w at origin source made = IsMadeBy script w at origin source made
 
 module _ (script : Script) (w : World) (at : ℕ → Collection) (m : Place → Collection)
     (gives : ℕ → Place) where
@@ -217,16 +218,17 @@ module _ (script : Script) (w : World) (at : ℕ → Collection) (m : Place → 
         → Meets w (made_nodes script gives origin source n made) m
     block_holds (made.Input file columns) fact reads is = (at_first (fact 0 0) ∙ is, tt)
     block_holds (made.Do input function output) fact reads is =
-        let b = call_branch origin function (needed_at script origin)
-        (needed_from script (suc origin) (other_names script function)) in
-        let names = names_needed script origin function in (
-          buds_fit w b (m (gives input)) m n at origin 0 0 names
-              (λ i. subst (λ k. m (place n k) ≡ get_or (kept at origin names) i nothing)
+        let first : ℕ = origin - output in
+        let b = call_branch first function (emitted_at script first)
+        (needed_from script (suc first) (other_names script function)) in
+        let names = names_needed script first function in (
+          buds_fit w b (m (gives input)) m n at first 0 0 names
+              (λ i. subst (λ k. m (place n k) ≡ get_or (kept at first names) i nothing)
               (sym (zero-add i))
-              (subst (λ k. m (place k i) ≡ get_or (kept at origin names) i nothing) (add-zero n)
+              (subst (λ k. m (place k i) ≡ get_or (kept at first names) i nothing) (add-zero n)
               (fact 0 i)))
               (subst (λ c. EachName (λ number k needed. needed ≡ true
-              → at number ≡ through w (call_label origin function k) c) origin 0 names)
+              → at number ≡ through w (call_label first function k) c) first 0 names)
               (sym reads.0) is),
           tt,
         )
@@ -259,23 +261,26 @@ module _ (script : Script) (w : World) (at : ℕ → Collection) (m : Place → 
           (sym (same_inputs (input ∷ object ∷ []) reads)),
       tt,
     )
+    block_holds (made.Saved is_object call) fact reads is = (at_first (fact 0 0) ∙ is, tt)
 
-module _ (w : World) (at : ℕ → Collection) (m : Place → Collection) (gives : ℕ → Place) where
+module _ (script : Script) (w : World) (at : ℕ → Collection) (m : Place → Collection)
+    (gives : ℕ → Place) where
   abbrev pub MadeAt : ℕ → ℕ → Option Made → Type 0
   MadeAt origin source None = Unit {0}
   MadeAt origin source (Some made) =
-      IsMadeBy w at origin source made × AllByRecursion (λ j. m (gives j) ≡ at j) (operands made)
+      IsMadeBy script w at origin source made
+      × AllByRecursion (λ j. m (gives j) ≡ at j) (operands made)
 
   -- each collection that is needed meets its equation, and what it reads is given
   abbrev pub AllMade : ℕ → ℕ → List (Option Made) → Type 0
   AllMade origin source [] = Unit {0}
   AllMade origin source (made ∷ rest) =
-      MadeAt origin source made × AllMade (suc origin) (next_source source made) rest
+      MadeAt origin source made × AllMade (suc origin) (next_wanted source made) rest
 
   -- the one of a place
   pub made_of_place : (origin source : ℕ) (ws : List (Option Made)) (t : ℕ) (made : Made)
       → AllMade origin source ws → get_or ws t None ≡ Some made
-      → MadeAt (origin + t) (source_at source ws t) (Some made)
+      → MadeAt (origin + t) (wanted_source source ws t) (Some made)
   made_of_place origin source [] t made all found = cc
   made_of_place origin source (None ∷ ws) zero made all found = cc
   made_of_place origin source (Some own ∷ ws) zero made all found =
@@ -284,5 +289,5 @@ module _ (w : World) (at : ℕ → Collection) (m : Place → Collection) (gives
       (subst (λ k. MadeAt origin source (Some k)) same all.0)
   made_of_place origin source (w ∷ ws) (suc t) made all found =
       let e : suc origin + t ≡ origin + suc t = omega arith in
-      subst (λ o. MadeAt o (source_at (next_source source w) ws t) (Some made)) e
-      (made_of_place (suc origin) (next_source source w) ws t made all.1 found)
+      subst (λ o. MadeAt o (wanted_source (next_wanted source w) ws t) (Some made)) e
+      (made_of_place (suc origin) (next_wanted source w) ws t made all.1 found)

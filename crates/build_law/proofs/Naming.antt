@@ -1,30 +1,78 @@
--- Where the names of a call stand, and what a collection that is built is made from.
+-- How collections fit where they stand, what they are made from, and where the names of a call
+-- stand.
 use Rattle.std.proofs.Common.{◌≡◌, ℕ, zero, suc, ◌+◌, ◌-◌, ◌<◌, true, List, [], ◌∷◌, ◌++◌, map}
-use Rattle.std.proofs.Common.{length, get_or, Some, None, refl, sym, ap, ◌∙◌, subst, arith}
+use Rattle.std.proofs.Common.{length, get_or, Option, Some, None, refl, sym, ap, ◌∙◌, subst, arith}
 use Rattle.std.proofs.Common.{add-zero, zero-add}
 use Rattle.std.specs.Prelude.{slice_get, IsSomeAnd}
 use Rattle.std.specs.Option.{option_map}
-use Rattle.std.specs.List.{Contains, list_any}
+use Rattle.std.specs.List.{Contains}
 use Rattle.flume_types.specs.declared.types.Ty.{Ty}
 use Rattle.written_types.specs.Named.{Named}
 use Rattle.graph_build.specs.of_script_program.Needed.{is_needed, made_of, operands}
+use Rattle.graph_build.specs.of_script_program.declared.made.Emitted.{Emitted}
 use Rattle.graph_build.specs.of_script_program.declared.made.Made.{Made}
 use Rattle.graph_build.specs.of_script_program.declared.made.Made.TheVariants as made
 use Rattle.graph_build.specs.of_script_program.Script.{Function, Node, Script}
-use Rattle.direct_meaning.specs.of_script_laws.WellFormed.{AllFit, Fits, IsWellFormed, function_at, members_at}
+use Rattle.direct_meaning.specs.of_script_laws.WellFormed.{AllFit, Fits, IsEmitted, IsKept, IsNameOf, IsWellFormed, function_at, members_at}
 use Rattle.direct_meaning.proofs.of_script_laws.NeededLemmas.{needed_law, operand_before}
 use Rattle.direct_meaning.proofs.PlaceLemmas.{within}
-use Rattle.graph_build.specs.Built.{built}
-use Rattle.graph_build.specs.Calls.{beside_first, names_needed, needed_from, other_names}
-use Rattle.graph_build.specs.Wanted.{needed_at, wanted}
-use Rattle.build_law.proofs.MadeKinds.{Kind, called, kind_of, other}
-use Rattle.build_law.proofs.Outputs.{some_needed}
-use Rattle.build_law.proofs.Reading.{any_behind}
+use Rattle.graph_build.specs.Calls.{beside_first, emitted_as, other_names}
+use Rattle.graph_build.specs.Wanted.{wanted}
+use Rattle.build_law.proofs.MadeKinds.{emission}
 use Rattle.build_law.proofs.Tables.{one_longer}
 use Rattle.build_law.proofs.Values.{regrouped}
-use Rattle.build_law.proofs.Calling.{built_as, built_call, how_built, how_needed, needed_as}
-use Rattle.build_law.proofs.Calling.{needed_how, other_wanted, parts, slice_seam, split_at}
-use Rattle.build_law.proofs.Calling.{wanted_here}
+use Rattle.build_law.proofs.Calling.{needed_as, slice_seam, wanted_here}
+
+pub some_same : {A : Type 0} (x y : A) → Some x ≡ Some y → x ≡ y
+some_same x y h = cc
+
+pub some_and : {A : Type 0} (P : A → Type 0) (o : Option A) → IsSomeAnd o P
+    → (x : A) × (o ≡ Some x) × P x
+some_and P None h = absurd h
+some_and P (Some x) h = (x, refl, h)
+
+-- ---- names of a call
+
+-- the output of a call that a name is
+pub name_emission : (source f k : ℕ) (how : Made) → IsNameOf source f k how
+    → emitted_as how ≡ Some (emission f k)
+name_emission source f k (made.Do input g o) h = ap emitted_as h
+name_emission source f k (made.Saved is_object call) h = h
+name_emission source f k (made.Input file columns) h = absurd h
+name_emission source f k (made.Group input) h = absurd h
+name_emission source f k (made.Combine input by) h = absurd h
+name_emission source f k (made.Flatten inputs) h = absurd h
+name_emission source f k (made.Count input) h = absurd h
+name_emission source f k (made.Join left right) h = absurd h
+name_emission source f k (made.Top many input) h = absurd h
+name_emission source f k (made.CombineAll input by) h = absurd h
+name_emission source f k (made.Operate objects g) h = absurd h
+name_emission source f k (made.DoWith input g object) h = absurd h
+
+-- an output of a call has the type that its function gives to it
+pub emitted_fits : (functions : Named Function) (before : Named Node) (how : Made) (it : Emitted)
+    (type : Ty) → emitted_as how ≡ Some it → Fits functions before how type
+    → IsEmitted functions it type
+emitted_fits functions before (made.Do input f o) it type h fit =
+    subst (λ (e : Emitted). IsEmitted functions e type) (some_same (emission f o) it h)
+    (record { function = fit.function; calls = fit.calls; gives = fit.gives })
+emitted_fits functions before (made.Saved is_object call) it type h fit =
+    subst (λ o. IsKept functions o type) h fit
+emitted_fits functions before (made.Input file columns) it type h fit = cc
+emitted_fits functions before (made.Group input) it type h fit = cc
+emitted_fits functions before (made.Combine input by) it type h fit = cc
+emitted_fits functions before (made.Flatten inputs) it type h fit = cc
+emitted_fits functions before (made.Count input) it type h fit = cc
+emitted_fits functions before (made.Join left right) it type h fit = cc
+emitted_fits functions before (made.Top many input) it type h fit = cc
+emitted_fits functions before (made.CombineAll input by) it type h fit = cc
+emitted_fits functions before (made.Operate objects f) it type h fit = cc
+emitted_fits functions before (made.DoWith input f object) it type h fit = cc
+
+-- the collections from a number on are the names of a call of that function on a source
+pub record IsCall (script : Script) (first source f : ℕ) : Type 0 where
+  pub names : (k : ℕ) → k < suc (other_names script f)
+      → IsSomeAnd (slice_get (made_of script) (first + k)) (IsNameOf source f k)
 
 module _ (script : Script) (well : IsWellFormed script) where
   -- how a collection fits where it stands
@@ -96,13 +144,13 @@ module _ (script : Script) (well : IsWellFormed script) where
       wanted_here script j (omega arith)
       (operand_needed reader j how is.needed is.made reads)
 
-  -- the output o of a call of the function f is named by j
-  pub record IsNamed (j source f o : ℕ) : Type 0 where
+  -- the output o of a call of the function f has the number j
+  pub record IsNamed (j f o : ℕ) : Type 0 where
     pub first : ℕ
     pub place : first + o ≡ j
     pub below : o < suc (other_names script f)
-    pub made : (k : ℕ) → k < suc (other_names script f)
-        → slice_get (made_of script) (first + k) ≡ Some (made.Do source f k)
+    pub source : ℕ
+    pub call : IsCall script first source f
 
   same_function : (a b : Function) → Some a ≡ Some b → a ≡ b
   same_function a b h = cc
@@ -118,109 +166,63 @@ module _ (script : Script) (well : IsWellFormed script) where
       let some = within function.signature.gives o type gives in
       omega arith
 
-  pub named : (j source f o : ℕ) → slice_get (made_of script) j ≡ Some (made.Do source f o)
-      → IsNamed j source f o
-  named j source f o is =
-      let call = well.calls j source f o is in
-      let fit = fits_at j (made.Do source f o) is in
-      let many = as_many f fit.fit.function o fit.type fit.fit.calls fit.fit.gives in
-      let same : call.function ≡ fit.fit.function =
-      same_function call.function fit.fit.function (sym call.calls ∙ fit.fit.calls) in
-      let size : length call.function.signature.gives
-      ≡ length fit.fit.function.signature.gives =
-      ap (λ (it : Function). length it.signature.gives) same in
-      let low = within fit.fit.function.signature.gives o fit.type fit.fit.gives in
+  pub named_as : (j : ℕ) (how : Made) (it : Emitted) → slice_get (made_of script) j ≡ Some how
+      → emitted_as how ≡ Some it → IsNamed j it.function it.output
+  named_as j how it is emitted =
+      let call = well.calls j how it is emitted in
+      let at = fits_at j how is in
+      let fit = emitted_fits script.functions at.before how it at.type emitted at.fit in
+      let many = as_many it.function fit.function it.output at.type fit.calls fit.gives in
+      let same : call.function ≡ fit.function =
+      same_function call.function fit.function (sym call.calls ∙ fit.calls) in
+      let size : length call.function.signature.gives ≡ length fit.function.signature.gives =
+      ap (λ (g : Function). length g.signature.gives) same in
+      let low = within fit.function.signature.gives it.output at.type fit.gives in
       record {
         first = call.first;
         place = call.place;
         below = omega arith;
-        made = λ k below. call.outputs k (let few = below in omega arith);
+        source = call.source;
+        call = record {
+          names = λ k below. call.names k (let few = below in omega arith);
+        };
       }
 
-  -- where one of its names is needed, it is built at the first
-  pub call_built : (j source f o : ℕ)
-      → get_or (wanted script) j None ≡ Some (made.Do source f o) → (n : IsNamed j source f o)
-      → get_or (built script) n.first None ≡ Some (made.Do source f 0)
-  call_built j source f o found n =
-      let split = split_at script n.first (suc (other_names script f)) o n.below
-      (subst (λ k. needed_at script k ≡ true) (sym n.place)
-      (how_needed script j (made.Do source f o) found)) in
-      how_built script n.first (made.Do source f 0)
-      (ap (list_any (λ needed. needed)) split.1
-      ∙ any_behind (λ needed. needed) (needed_from script n.first o) (true ∷ split.0) refl)
-      (subst (λ k. slice_get (made_of script) k ≡ Some (made.Do source f 0))
-      (add-zero n.first) (n.made 0 (omega arith)))
+  pub named : (j source f o : ℕ) → slice_get (made_of script) j ≡ Some (made.Do source f o)
+      → IsNamed j f o
+  named j source f o is = named_as j (made.Do source f o) (emission f o) is refl
 
-  -- each name of a call that is built
-  pub built_name : (j source f : ℕ) → get_or (built script) j None ≡ Some (made.Do source f 0)
-      → (k : ℕ) → k < suc (other_names script f)
-      → slice_get (made_of script) (j + k) ≡ Some (made.Do source f k)
-  built_name j source f found k below =
-      let n = named j source f 0 (built_as script j (made.Do source f 0) found).made in
-      let e : n.first ≡ j = sym (add-zero n.first) ∙ n.place in
-      subst (λ i. slice_get (made_of script) (i + k) ≡ Some (made.Do source f k)) e
-      (n.made k below)
+  -- ---- the names of a call, one by one
 
-  pub name_wanted : (j source f : ℕ) → get_or (built script) j None ≡ Some (made.Do source f 0)
-      → (k : ℕ) → k < suc (other_names script f) → needed_at script (j + k) ≡ true
-      → get_or (wanted script) (j + k) None ≡ Some (made.Do source f k)
-  name_wanted j source f found k below needed =
-      let how = needed_how script (j + k) needed in
-      how.1 ∙ sym (needed_as script (j + k) how.0 how.1).made
-      ∙ built_name j source f found k below
+  module _ (first source f : ℕ) (call : IsCall script first source f) where
+    -- how the name of a place is made
+    pub record IsName (k : ℕ) : Type 0 where
+      pub how : Made
+      pub made : slice_get (made_of script) (first + k) ≡ Some how
+      pub name : IsNameOf source f k how
+      pub emitted : emitted_as how ≡ Some (emission f k)
 
-  -- a needed name of a call that is built
-  pub record SomeName (j source f : ℕ) : Type 0 where
-    pub place : ℕ
-    pub below : place < suc (other_names script f)
-    pub wanted : get_or (wanted script) (j + place) None ≡ Some (made.Do source f place)
+    pub name_at : (k : ℕ) → k < suc (other_names script f) → IsName k
+    name_at k below =
+        let (how, is, name) =
+        some_and (IsNameOf source f k) (slice_get (made_of script) (first + k))
+        (call.names k below) in
+        record {
+          how = how;
+          made = is;
+          name = name;
+          emitted = name_emission source f k how name;
+        }
 
-  pub some_name : (j source f : ℕ) → get_or (built script) j None ≡ Some (made.Do source f 0)
-      → SomeName j source f
-  some_name j source f found =
-      let any = (built_call script j source f 0 found).1 in
-      let split = some_needed (names_needed script j f) any in
-      let it = parts script j (suc (other_names script f)) split.0 split.1 split.2 in
-      record {
-        place = length split.0;
-        below = it.below;
-        wanted = name_wanted j source f found (length split.0) it.below it.needed;
-      }
+    -- one that is made so is that output
+    pub name_is : (k : ℕ) → k < suc (other_names script f) → (how : Made)
+        → slice_get (made_of script) (first + k) ≡ Some how → IsNameOf source f k how
+    name_is k below how is =
+        let it = name_at k below in
+        subst (IsNameOf source f k) (some_same it.how how (sym it.made ∙ is)) it.name
 
-  -- what the nodes of a collection are made from is needed, and stands before it
-  pub record IsRead (t j : ℕ) : Type 0 where
-    pub how : Made
-    pub wanted : get_or (wanted script) j None ≡ Some how
-    pub early : j < t
-
-  read_by_call : (t source f o j : ℕ)
-      → get_or (built script) t None ≡ Some (made.Do source f o) → o ≡ 0
-      → Contains (source ∷ []) j → IsRead t j
-  read_by_call t source f o j found first reads =
-      let at : get_or (built script) t None ≡ Some (made.Do source f 0) =
-      subst (λ k. get_or (built script) t None ≡ Some (made.Do source f k)) first found in
-      let n = some_name t source f at in
-      let is = operand_wanted (t + n.place) j (made.Do source f n.place) n.wanted reads in
-      record {
-        how = is.0;
-        wanted = is.1;
-        early = operand_early t j (made.Do source f 0)
-            (built_as script t (made.Do source f 0) at).made reads;
-      }
-
-  read_by : (t : ℕ) {mk : Made} → Kind mk → get_or (built script) t None ≡ Some mk → (j : ℕ)
-      → Contains (operands mk) j → IsRead t j
-  read_by t (called source f o) found j reads =
-      read_by_call t source f o j found (built_call script t source f o found).0 reads
-  read_by t (other mk apart) found j reads =
-      let here = other_wanted script t mk apart found in
-      let is = operand_wanted t j mk here reads in
-      record {
-        how = is.0;
-        wanted = is.1;
-        early = operand_early t j mk (built_as script t mk found).made reads;
-      }
-
-  pub reads_early : (t : ℕ) (mk : Made) → get_or (built script) t None ≡ Some mk → (j : ℕ)
-      → Contains (operands mk) j → IsRead t j
-  reads_early t mk found j reads = read_by t (kind_of mk) found j reads
+    pub name_emits : (k : ℕ) → k < suc (other_names script f) → (how : Made)
+        → slice_get (made_of script) (first + k) ≡ Some how
+        → emitted_as how ≡ Some (emission f k)
+    name_emits k below how is =
+        name_emission source f k how (name_is k below how is)

@@ -1,5 +1,5 @@
 -- The nodes of a graph are numbered one after another.
-use Rattle.std.proofs.Common.{◌≡◌, ℕ, zero, suc, ◌+◌, ◌<◌, ◌≤◌, Bool, true, false, cond, List, [], ◌∷◌, ◌++◌, map, length, get_or, Option, Some, None, refl, subst, arith, add-zero, ◌*◌, length-append}
+use Rattle.std.proofs.Common.{◌≡◌, ℕ, zero, suc, ◌+◌, ◌<◌, ◌≤◌, Bool, true, false, cond, List, [], ◌∷◌, ◌++◌, length, get_or, Option, Some, None, refl, subst, arith, add-zero, ◌*◌, length-append}
 use Rattle.std.specs.Prelude.{◌==◌}
 use Rattle.std.specs.List.{AllByRecursion}
 use Rattle.std.proofs.lemmas.Bool.{eq-eqb, eqb-true}
@@ -9,6 +9,7 @@ use Rattle.exec_graph.specs.Wellformed.{Ascends, size, total_size}
 use Rattle.exec_graph.specs.declared.graph.Entry.{Entry}
 use Rattle.exec_graph.specs.declared.graph.Node.{Node}
 use Rattle.exec_graph.specs.declared.graph.Place.{Place}
+use Rattle.graph_build.specs.Built.{Built}
 use Rattle.graph_build.specs.Graphs.{behind, giving_from, last_node, next_source, nodes_at, nodes_from}
 use Rattle.graph_build.specs.Nodes.{before_last, made_nodes}
 use Rattle.graph_build.specs.of_script_program.declared.made.Made.{Made}
@@ -115,6 +116,7 @@ block_length script gives origin source n (made.Top many input) = refl
 block_length script gives origin source n (made.CombineAll input k) = refl
 block_length script gives origin source n (made.Operate objects f) = refl
 block_length script gives origin source n (made.DoWith input f object) = refl
+block_length script gives origin source n (made.Saved is_object call) = refl
 
 block_counts : (script : Script) (gives : ℕ → Place) (origin source n : ℕ) (made : Made)
     → Counts n (made_nodes script gives origin source n made)
@@ -133,26 +135,26 @@ block_counts script gives origin source n (made.CombineAll input k) =
     (refl, (omega arith, (omega arith, (omega arith, tt))))
 block_counts script gives origin source n (made.Operate objects f) = (refl, tt)
 block_counts script gives origin source n (made.DoWith input f object) = (refl, tt)
+block_counts script gives origin source n (made.Saved is_object call) = (refl, tt)
 
-part_counts : (script : Script) (gives : ℕ → Place) (origin source n : ℕ)
-    (made : Option Made) (ys : List Entry)
-    → Counts (behind n made) ys → Counts n (nodes_at script gives origin source n made ++ ys)
-part_counts script gives origin source n None ys h = h
-part_counts script gives origin source n (Some made) ys h =
-    counts_append n (made_nodes script gives origin source n made) ys
-    (block_counts script gives origin source n made)
+part_counts : (script : Script) (gives : ℕ → Place) (source n : ℕ) (w : Option Built)
+    (ys : List Entry) → Counts (behind n w) ys → Counts n (nodes_at script gives source n w ++ ys)
+part_counts script gives source n None ys h = h
+part_counts script gives source n (Some it) ys h =
+    counts_append n (made_nodes script gives it.number source n it.made) ys
+    (block_counts script gives it.number source n it.made)
     (subst (λ k. Counts k ys)
-    (let e : n + before_last made + 1 ≡ n + length (made_nodes script gives origin source n made) =
-    omega (arith, block_length script gives origin source n made) in e) h)
+    (let e : n + before_last it.made + 1
+    ≡ n + length (made_nodes script gives it.number source n it.made) =
+    omega (arith, block_length script gives it.number source n it.made) in e) h)
 
-pub all_counts : (script : Script) (gives : ℕ → Place) (origin source n : ℕ)
-    (ws : List (Option Made))
-    → Counts n (nodes_from script gives origin source n ws)
-all_counts script gives origin source n [] = tt
-all_counts script gives origin source n (made ∷ ws) =
-    part_counts script gives origin source n made
-    (nodes_from script gives (suc origin) (next_source source made) (behind n made) ws)
-    (all_counts script gives (suc origin) (next_source source made) (behind n made) ws)
+pub all_counts : (script : Script) (gives : ℕ → Place) (source n : ℕ) (ws : List (Option Built))
+    → Counts n (nodes_from script gives source n ws)
+all_counts script gives source n [] = tt
+all_counts script gives source n (w ∷ ws) =
+    part_counts script gives source n w
+    (nodes_from script gives (next_source source w) (behind n w) ws)
+    (all_counts script gives (next_source source w) (behind n w) ws)
 
 -- ---- how many
 
@@ -174,57 +176,53 @@ few_before (made.Top many input) = omega arith
 few_before (made.CombineAll input k) = omega arith
 few_before (made.Operate objects f) = omega arith
 few_before (made.DoWith input f object) = omega arith
+few_before (made.Saved is_object call) = omega arith
 
-pub few_nodes : (script : Script) (gives : ℕ → Place) (origin source n : ℕ)
-    (ws : List (Option Made))
-    → length (nodes_from script gives origin source n ws) ≤ 5 * length ws
-few_nodes script gives origin source n [] = omega arith
-few_nodes script gives origin source n (None ∷ ws) =
-    let others = few_nodes script gives (suc origin) source n ws in omega arith
-few_nodes script gives origin source n (Some made ∷ ws) =
-    let rest = nodes_from script gives (suc origin) (next_source source (Some made))
-    (behind n (Some made)) ws in
+pub few_nodes : (script : Script) (gives : ℕ → Place) (source n : ℕ)
+    (ws : List (Option Built)) → length (nodes_from script gives source n ws) ≤ 5 * length ws
+few_nodes script gives source n [] = omega arith
+few_nodes script gives source n (None ∷ ws) =
+    let others = few_nodes script gives source n ws in omega arith
+few_nodes script gives source n (Some it ∷ ws) =
+    let rest = nodes_from script gives (next_source source (Some it)) (behind n (Some it)) ws in
     let others : length rest ≤ 5 * length ws =
-    few_nodes script gives (suc origin) (next_source source (Some made)) (behind n (Some made))
-    ws in
-    let both = length-append (made_nodes script gives origin source n made) rest in
-    let own = block_length script gives origin source n made in
-    let few = few_before made in
+    few_nodes script gives (next_source source (Some it)) (behind n (Some it)) ws in
+    let both = length-append (made_nodes script gives it.number source n it.made) rest in
+    let own = block_length script gives it.number source n it.made in
+    let few = few_before it.made in
     omega arith
 
 -- the number behind all nodes
-abbrev pub end_of : ℕ → List (Option Made) → ℕ
+abbrev pub end_of : ℕ → List (Option Built) → ℕ
 end_of n [] = n
 end_of n (w ∷ ws) = end_of (behind n w) ws
 
-pub end_up : (n : ℕ) (ws : List (Option Made)) → n ≤ end_of n ws
+pub end_up : (n : ℕ) (ws : List (Option Built)) → n ≤ end_of n ws
 end_up n [] = omega arith
 end_up n (None ∷ ws) = end_up n ws
-end_up n (Some made ∷ ws) =
-    let up = end_up (n + before_last made + 1) ws in omega arith
+end_up n (Some it ∷ ws) = let up = end_up (n + before_last it.made + 1) ws in omega arith
 
-pub nodes_end : (script : Script) (gives : ℕ → Place) (origin source n : ℕ)
-    (ws : List (Option Made))
-    → n + length (nodes_from script gives origin source n ws) ≡ end_of n ws
-nodes_end script gives origin source n [] = omega arith
-nodes_end script gives origin source n (None ∷ ws) = nodes_end script gives (suc origin) source n ws
-nodes_end script gives origin source n (Some made ∷ ws) =
-    let next : ℕ = n + before_last made + 1 in
-    let rest = nodes_from script gives (suc origin) (next_source source (Some made)) next ws in
+pub nodes_end : (script : Script) (gives : ℕ → Place) (source n : ℕ) (ws : List (Option Built))
+    → n + length (nodes_from script gives source n ws) ≡ end_of n ws
+nodes_end script gives source n [] = omega arith
+nodes_end script gives source n (None ∷ ws) = nodes_end script gives source n ws
+nodes_end script gives source n (Some it ∷ ws) =
+    let next : ℕ = n + before_last it.made + 1 in
+    let rest = nodes_from script gives (next_source source (Some it)) next ws in
     let others : next + length rest ≡ end_of next ws =
-    nodes_end script gives (suc origin) (next_source source (Some made)) next ws in
-    let both = length-append (made_nodes script gives origin source n made) rest in
-    let own = block_length script gives origin source n made in
+    nodes_end script gives (next_source source (Some it)) next ws in
+    let both = length-append (made_nodes script gives it.number source n it.made) rest in
+    let own = block_length script gives it.number source n it.made in
     omega arith
 
-last_before : (n : ℕ) (w : Option Made) (how : Made) → w ≡ Some how → last_node n w < behind n w
-last_before n None how h = cc
-last_before n (Some made) how h = omega arith
+last_before : (n : ℕ) (w : Option Built) (it : Built) → w ≡ Some it → last_node n w < behind n w
+last_before n None it h = cc
+last_before n (Some own) it h = omega arith
 
--- the last node of a needed collection has a number below the end
-pub last_in : (n j : ℕ) (ws : List (Option Made)) (how : Made) → get_or ws j None ≡ Some how
-    → get_or (giving_from n ws) j 0 < end_of n ws
-last_in n j [] how h = cc
-last_in n zero (w ∷ ws) how h =
-    let low = last_before n w how h in let up = end_up (behind n w) ws in omega arith
-last_in n (suc j) (w ∷ ws) how h = last_in (behind n w) j ws how h
+-- the last node of what is built has a number below the end
+pub last_in : (n t : ℕ) (ws : List (Option Built)) (it : Built) → get_or ws t None ≡ Some it
+    → get_or (giving_from n ws) t 0 < end_of n ws
+last_in n t [] it h = cc
+last_in n zero (w ∷ ws) it h =
+    let low = last_before n w it h in let up = end_up (behind n w) ws in omega arith
+last_in n (suc t) (w ∷ ws) it h = last_in (behind n w) t ws it h

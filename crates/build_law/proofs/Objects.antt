@@ -1,5 +1,5 @@
 -- In the graph of a script objects are read where they are to be read.
-use Rattle.std.proofs.Common.{◌≡◌, ℕ, zero, suc, ◌<◌, Bool, true, not, List, [], ◌∷◌, ◌++◌, map, length, get_or, Some, None, refl, sym, ap, ◌∙◌, subst, arith, add-zero, zero-add}
+use Rattle.std.proofs.Common.{◌≡◌, ℕ, zero, suc, ◌<◌, Bool, true, not, List, [], ◌∷◌, ◌++◌, map, length, get_or, Option, Some, None, refl, sym, ap, ◌∙◌, subst, arith, add-zero}
 use Rattle.std.specs.Prelude.{slice_get}
 use Rattle.std.specs.List.{AllByRecursion as Each, AllZip, Contains, list_all}
 use Rattle.std.proofs.lemmas.Bool.{false≢true}
@@ -17,16 +17,19 @@ use Rattle.graph_build.specs.Wanted.{wanted}
 use Rattle.direct_meaning.specs.of_script_laws.WellFormed.{AllReadKinds, IsArgument, IsWellFormed, ReadsKinds, members_at, object_at}
 use Rattle.graph_build.specs.of_script_program.Kinds.{gives_object}
 use Rattle.graph_build.specs.of_script_program.Needed.{operands}
+use Rattle.graph_build.specs.of_script_program.declared.made.Emitted.{Emitted}
 use Rattle.graph_build.specs.of_script_program.declared.made.Made.{Made}
 use Rattle.graph_build.specs.of_script_program.declared.made.Made.TheVariants as made
 use Rattle.graph_build.specs.of_script_program.Script.{Node, Script}
 use Rattle.written_types.specs.Named.{Named}
 use Rattle.build_law.proofs.Blocks.{block_each, each_block}
-use Rattle.build_law.proofs.Calling.{built_as, needed_as, other_built}
+use Rattle.build_law.proofs.Calling.{alone_built, built_wanted, needed_as}
 use Rattle.build_law.proofs.Founded.{counts}
-use Rattle.build_law.proofs.Naming.{fits_at, reads_early}
+use Rattle.build_law.proofs.MadeKinds.{built_of}
+use Rattle.build_law.proofs.Naming.{fits_at, operand_wanted}
 use Rattle.build_law.proofs.Numbered.{at_counts}
-use Rattle.build_law.proofs.Placing.{gives, other_place, source, start}
+use Rattle.build_law.proofs.Placing.{gives, has_kept, kept_place, other_place, source, start}
+use Rattle.build_law.proofs.Slots.{kept_slot}
 use Rattle.build_law.proofs.Values.{regrouped}
 
 -- ---- objects of the script
@@ -97,21 +100,38 @@ module _ (es : List Entry) (script : Script) (gives : ℕ → Place) (origin sou
       (refl, (refl, (refl, (ap (λ o. not (is_object o)) at.1.1.0, tt))))
   block_objects (made.Operate objects f) at h = operate_objects f objects h.0 h.1
   block_objects (made.DoWith input f object) at h = (h, tt)
+  block_objects (made.Saved is_object call) at h = (refl, tt)
 
 -- ---- all nodes
 
 module _ (script : Script) (well : IsWellFormed script) where
-  block_at : (t : ℕ) (mk : Made) → get_or (built script) t None ≡ Some mk
-      → AreAt (nodes_of script) script (gives script) t (source script t) (start script t)
-      (made_nodes script (gives script) t (source script t) (start script t) mk)
-  block_at t mk found =
-      subst (λ o. Each (λ (e : Entry). node_at (nodes_of script) e.number ≡ Some e.node)
-      (made_nodes script (gives script) o (source script t) (start script t) mk)) (zero-add t)
-      (block_each script (gives script)
-      (λ (e : Entry). node_at (nodes_of script) e.number ≡ Some e.node) 0 0 0 (built script) t mk
-      found (at_counts 0 (nodes_of script) (counts script well)))
+  block_at : (t number : ℕ) (mk : Made)
+      → get_or (built script) t None ≡ Some (built_of number mk)
+      → AreAt (nodes_of script) script (gives script) number (source script t) (start script t)
+      (made_nodes script (gives script) number (source script t) (start script t) mk)
+  block_at t number mk found =
+      block_each script (gives script)
+      (λ (e : Entry). node_at (nodes_of script) e.number ≡ Some e.node) 0 0 (built script) t
+      (built_of number mk) found (at_counts 0 (nodes_of script) (counts script well))
 
   -- an object of the script is one of the graph
+  kept_there : (j : ℕ) (call : Option Emitted)
+      → get_or (wanted script) j None ≡ Some (made.Saved true call)
+      → is_object_at (nodes_of script) (gives script j) ≡ true
+  kept_there j None found =
+      let how : Made = made.Saved true None in
+      ap (is_object_at (nodes_of script)) (other_place script j how refl found)
+      ∙ ap (λ k. is_object (node_at (nodes_of script) k)) (add-zero (start script j))
+      ∙ ap is_object (block_at j j how (alone_built script j how refl found)).0
+  kept_there j (Some it) found =
+      let how : Made = made.Saved true (Some it) in
+      let n = has_kept script well j true it found in
+      ap (is_object_at (nodes_of script))
+      (kept_place script j true it n.first found n.place n.built_)
+      ∙ ap (λ k. is_object (node_at (nodes_of script) k))
+      (add-zero (start script (kept_slot script n.first it.output)))
+      ∙ ap is_object (block_at (kept_slot script n.first it.output) j how n.built_).0
+
   object_there : (j : ℕ) (how : Made) → gives_object how ≡ true
       → get_or (wanted script) j None ≡ Some how
       → is_object_at (nodes_of script) (gives script j) ≡ true
@@ -125,14 +145,17 @@ module _ (script : Script) (well : IsWellFormed script) where
   object_there j (made.Top many input) is found = absurd (false≢true is)
   object_there j (made.CombineAll input k) is found =
       let how = made.CombineAll input k in
-      ap (is_object_at (nodes_of script)) (other_place script j how tt found)
-      ∙ ap is_object (block_at j how (other_built script j how tt found)).1.1.1.0
+      ap (is_object_at (nodes_of script)) (other_place script j how refl found)
+      ∙ ap is_object (block_at j j how (alone_built script j how refl found)).1.1.1.0
   object_there j (made.Operate objects f) is found =
       let how = made.Operate objects f in
-      ap (is_object_at (nodes_of script)) (other_place script j how tt found)
+      ap (is_object_at (nodes_of script)) (other_place script j how refl found)
       ∙ ap (λ k. is_object (node_at (nodes_of script) k)) (add-zero (start script j))
-      ∙ ap is_object (block_at j how (other_built script j how tt found)).0
+      ∙ ap is_object (block_at j j how (alone_built script j how refl found)).0
   object_there j (made.DoWith input f object) is found = absurd (false≢true is)
+  object_there j (made.Saved is_object call) is found =
+      kept_there j call
+      (subst (λ b. get_or (wanted script) j None ≡ Some (made.Saved b call)) is found)
 
   -- what a collection reads where it stands
   record KindsAt (how : Made) : Type 0 where
@@ -157,71 +180,69 @@ module _ (script : Script) (well : IsWellFormed script) where
       kinds_from (before ++ entry ∷ []) nodes t how
       (regrouped script.nodes before (entry ∷ []) nodes is) kinds.1 found
 
-  kinds_at : (t : ℕ) (how : Made) → get_or (built script) t None ≡ Some how → KindsAt how
-  kinds_at t how found =
-      kinds_from [] script.nodes t how refl well.kinds (built_as script t how found).made
+  kinds_at : (j : ℕ) (how : Made) → get_or (wanted script) j None ≡ Some how → KindsAt how
+  kinds_at j how found =
+      kinds_from [] script.nodes j how refl well.kinds (needed_as script j how found).made
 
-  -- what a collection that is built reads as an object
-  read_object : (t : ℕ) (mk : Made) → get_or (built script) t None ≡ Some mk
+  -- what a needed collection reads as an object
+  read_object : (number : ℕ) (mk : Made) → get_or (wanted script) number None ≡ Some mk
       → (before rest : Named Node) → script.nodes ≡ before ++ rest → (j : ℕ)
       → Contains (operands mk) j → object_at before j ≡ Some true
       → is_object_at (nodes_of script) (gives script j) ≡ true
-  read_object t mk found before rest is j reads_ object =
-      let it = reads_early script well t mk found j reads_ in
-      object_there j it.how
-      (object_how script.nodes j it.how
+  read_object number mk found before rest is j reads_ object =
+      let it = operand_wanted script well number j mk found reads_ in
+      object_there j it.0
+      (object_how script.nodes j it.0
       (subst (λ nodes. object_at nodes j ≡ Some true) (sym is)
       (object_more before rest j object))
-      (needed_as script j it.how it.wanted).made)
-      it.wanted
+      (needed_as script j it.0 it.1).made)
+      it.1
 
-  read_objects : (t : ℕ) (mk : Made) → get_or (built script) t None ≡ Some mk
+  read_objects : (number : ℕ) (mk : Made) → get_or (wanted script) number None ≡ Some mk
       → (before rest : Named Node) → script.nodes ≡ before ++ rest → (js : List ℕ)
       → ((j : ℕ) → Contains js j → Contains (operands mk) j)
       → Each (λ j. object_at before j ≡ Some true) js
       → Each (λ j. is_object_at (nodes_of script) (gives script j) ≡ true) js
-  read_objects t mk found before rest is [] among h = tt
-  read_objects t mk found before rest is (j ∷ js) among h = (
-    read_object t mk found before rest is j (among j (at_head j js)) h.0,
-    read_objects t mk found before rest is js (λ i there. among i (at_tail j js i there)) h.1,
+  read_objects number mk found before rest is [] among h = tt
+  read_objects number mk found before rest is (j ∷ js) among h = (
+    read_object number mk found before rest is j (among j (at_head j js)) h.0,
+    read_objects number mk found before rest is js (λ i there. among i (at_tail j js i there))
+        h.1,
   )
 
-  abbrev Reads : ℕ → Made → Type 0
-  Reads t mk =
-      ReadsObjects (nodes_of script) script (gives script) t (source script t) (start script t) mk
-
-  objects_read : (t : ℕ) (mk : Made) → get_or (built script) t None ≡ Some mk → Reads t mk
-  objects_read t (made.Input file columns) found = tt
-  objects_read t (made.Do input f output) found = tt
-  objects_read t (made.Group input) found = tt
-  objects_read t (made.Combine input k) found = tt
-  objects_read t (made.Flatten inputs) found = tt
-  objects_read t (made.Count input) found = tt
-  objects_read t (made.Join left right) found = tt
-  objects_read t (made.Top many input) found = tt
-  objects_read t (made.CombineAll input k) found = tt
-  objects_read t (made.Operate objects f) found =
+  objects_read : (number s n : ℕ) (mk : Made) → get_or (wanted script) number None ≡ Some mk
+      → ReadsObjects (nodes_of script) script (gives script) number s n mk
+  objects_read number s n (made.Input file columns) found = tt
+  objects_read number s n (made.Do input f output) found = tt
+  objects_read number s n (made.Group input) found = tt
+  objects_read number s n (made.Combine input k) found = tt
+  objects_read number s n (made.Flatten inputs) found = tt
+  objects_read number s n (made.Count input) found = tt
+  objects_read number s n (made.Join left right) found = tt
+  objects_read number s n (made.Top many input) found = tt
+  objects_read number s n (made.CombineAll input k) found = tt
+  objects_read number s n (made.Operate objects f) found =
       let how = made.Operate objects f in
-      let fit = fits_at script well t how (built_as script t how found).made in
-      let it = kinds_at t how found in (
+      let fit = fits_at script well number how (needed_as script number how found).made in
+      let it = kinds_at number how found in (
         some_objects fit.before objects fit.fit.types fit.fit.function.signature.takes
             fit.fit.reads fit.fit.takes,
-        read_objects t how found it.before it.rest it.is objects (λ j reads_. reads_)
+        read_objects number how found it.before it.rest it.is objects (λ j reads_. reads_)
             it.kinds.values,
       )
-  objects_read t (made.DoWith input f object) found =
+  objects_read number s n (made.DoWith input f object) found =
       let how = made.DoWith input f object in
-      let it = kinds_at t how found in
-      read_object t how found it.before it.rest it.is object
+      let it = kinds_at number how found in
+      read_object number how found it.before it.rest it.is object
       (at_tail input (object ∷ []) object (at_head object [])) it.kinds.values.0
+  objects_read number s n (made.Saved is_object call) found = tt
 
   pub have_objects : HaveObjects (graph_of script).nodes
   have_objects =
       each_block script (gives script)
-      (λ (e : Entry). has_objects (nodes_of script) e.node ≡ true) 0 0 0 (built script)
-      (λ t mk found.
-      subst (λ o. Each (λ (e : Entry). has_objects (nodes_of script) e.node ≡ true)
-      (made_nodes script (gives script) o (source script t) (start script t) mk))
-      (sym (zero-add t))
-      (block_objects (nodes_of script) script (gives script) t (source script t)
-      (start script t) mk (block_at t mk found) (objects_read t mk found)))
+      (λ (e : Entry). has_objects (nodes_of script) e.node ≡ true) 0 0 (built script)
+      (λ t b found.
+      block_objects (nodes_of script) script (gives script) b.number (source script t)
+      (start script t) b.made (block_at t b.number b.made found)
+      (objects_read b.number (source script t) (start script t) b.made
+      (built_wanted script t b.number b.made found)))

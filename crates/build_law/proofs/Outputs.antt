@@ -1,17 +1,16 @@
 -- The step of a call: its outputs, of which those have numbers that are needed.
-use Rattle.std.proofs.Common.{inl, inr, ◌≡◌, ◌⊎◌, ℕ, zero, suc, ◌+◌, ◌<◌, Bool, true, false, cond, List, [], ◌∷◌, ◌++◌, map, length, get_or, Option, Some, None, refl, sym, ap, ◌∙◌, subst, arith, add-zero, append-nil}
+use Rattle.std.proofs.Common.{◌≡◌, ℕ, zero, suc, ◌+◌, ◌<◌, Bool, true, false, cond, List, [], ◌∷◌, ◌++◌, map, length, get_or, Option, Some, None, refl, sym, ap, ◌∙◌, subst, arith, add-zero, append-nil}
 use Rattle.std.specs.Prelude.{◌==◌, ◌||◌, ◌&&◌}
 use Rattle.std.specs.List.{AllByRecursion, flat_map, list_any}
 use Rattle.std.proofs.lemmas.Bool.{eq-eqb, eqb-true}
 use Rattle.flume_value.specs.declared.value.Value.{Value}
-use Rattle.flume_collection.specs.Calls.{passed}
 use Rattle.flume_collection.specs.Collection.{Collection}
-use Rattle.exec_graph.specs.Calls.{called, emitted}
-use Rattle.exec_graph.specs.Forests.{Branch, Forest, Label, Twig, Bare, Grow, label_at, numbered, one_at, steps, twigs}
-use Rattle.exec_graph.specs.Meaning.{FitsForest, has_out, is_out, nothing, place, step_own, step_traps, through, total}
+use Rattle.exec_graph.specs.Calls.{emitted}
+use Rattle.exec_graph.specs.Forests.{Branch, Forest, Label, Twig, Bare, Grow, label_at, numbered, steps, twigs}
+use Rattle.exec_graph.specs.Meaning.{FitsForest, has_out, nothing, place, step_own, through, total}
 use Rattle.exec_graph.specs.World.{World}
 use Rattle.exec_graph.specs.declared.graph.Place.{Place}
-use Rattle.graph_build.specs.Calls.{next_if, number_behind, number_if, output_numbers}
+use Rattle.graph_build.specs.Calls.{next_if, number_behind, output_numbers}
 use Rattle.graph_build.specs.Nodes.{bud}
 use Rattle.graph_laws.specs.Single.{width}
 

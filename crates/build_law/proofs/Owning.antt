@@ -1,5 +1,5 @@
 -- The bag of a collection of the script is what its last node gives, or its call to its output.
-use Rattle.std.proofs.Common.{◌≡◌, ℕ, zero, suc, ◌+◌, ◌<◌, Bool, true, false, cond, List, [], ◌∷◌, ◌++◌, map, length, refl, sym, ap, ◌∙◌, subst, arith, add-zero, zero-add, append-nil}
+use Rattle.std.proofs.Common.{◌≡◌, ℕ, suc, ◌+◌, ◌-◌, ◌<◌, Bool, true, false, cond, List, [], ◌∷◌, ◌++◌, map, length, refl, sym, ap, ◌∙◌, subst, arith, add-zero, zero-add, append-nil}
 use Rattle.std.specs.Prelude.{◌==◌}
 use Rattle.std.specs.List.{flat_map}
 use Rattle.std.proofs.lemmas.Bool.{eq-eqb, eqb-true}
@@ -17,13 +17,12 @@ use Rattle.exec_graph.specs.declared.graph.Entry.{Entry}
 use Rattle.exec_graph.specs.declared.graph.Place.{Place}
 use Rattle.exec_graph.specs.declared.step.Does.{Does}
 use Rattle.exec_graph.specs.declared.step.Does.TheVariants as does
-use Rattle.graph_build.specs.Calls.{names_needed, needed_from, other_names}
+use Rattle.graph_build.specs.Calls.{emitted_at, names_needed, needed_from, other_names}
 use Rattle.graph_build.specs.Nodes.{before_last, call_branch, first_of, made_nodes}
-use Rattle.graph_build.specs.Wanted.{needed_at}
 use Rattle.graph_build.specs.of_script_program.declared.made.Made.{Made}
 use Rattle.graph_build.specs.of_script_program.declared.made.Made.TheVariants as made
 use Rattle.graph_build.specs.of_script_program.Script.{Script}
-use Rattle.build_law.proofs.Calling.{length_needed}
+use Rattle.build_law.proofs.Names.{length_needed}
 use Rattle.build_law.proofs.MadeKinds.{IsOther}
 use Rattle.build_law.proofs.Meeting.{IsSettled}
 use Rattle.build_law.proofs.Outputs.{none_own, one_own}
@@ -34,6 +33,7 @@ abbrev pub HasOwnNode : Made → Type 0
 HasOwnNode (made.Input file columns) = ⊥
 HasOwnNode (made.Flatten sources) = ⊥
 HasOwnNode (made.Do source function output) = ⊥
+HasOwnNode (made.Saved is_object call) = ⊥
 HasOwnNode _ = Unit {0}
 
 -- ---- what a node adds, by whether it is of that collection
@@ -75,21 +75,28 @@ module _ (script : Script) (w : World) (m : Place → Collection) (gives : ℕ �
     -- none of the collections that these nodes give is i
     abbrev pub Apart : ℕ → Made → Type 0
     Apart i (made.Do input f o) =
-        (k : ℕ) → k < suc (other_names script f) → origin + k ≡ i → ⊥
+        (k : ℕ) → k < suc (other_names script f) → (origin - o) + k ≡ i → ⊥
     Apart i made = origin ≡ i → ⊥
+
+    name_differs : (i f o : ℕ)
+        → ((k : ℕ) → k < suc (other_names script f) → (origin - o) + k ≡ i → ⊥) → (j : ℕ)
+        → j < length (names_needed script (origin - o) f) → (origin - o) + (0 + j) ≡ i → ⊥
+    name_differs i f o differ j below same =
+        let size = length_needed script (origin - o) (suc (other_names script f)) in
+        let e : 0 + j ≡ j = omega arith in
+        differ j (omega (arith, size, below)) (ap (λ k. (origin - o) + k) (sym e) ∙ same)
 
     -- the nodes of other collections add nothing
     pub block_other : (i : ℕ) (made : Made) → Apart i made
         → owned i (made_nodes script gives origin source n made) ≡ []
     block_other i (made.Input file columns) differ = refl
     block_other i (made.Do input f o) differ =
-        let b = call_branch origin f (needed_at script origin)
-        (needed_from script (suc origin) (other_names script f)) in
+        let first : ℕ = origin - o in
+        let b = call_branch first f (emitted_at script first)
+        (needed_from script (suc first) (other_names script f)) in
         append-nil _
-        ∙ none_own w b (m (gives input)) i 0 0 (names_needed script origin f)
-        (λ j below same.
-        let size = length_needed script origin (suc (other_names script f)) in
-        differ j (omega arith) (let e : origin + j ≡ i = omega arith in e))
+        ∙ none_own w b (m (gives input)) i 0 0 (names_needed script first f)
+        (λ j below same. name_differs i f o differ j below same)
     block_other i (made.Group input) differ = not_groups _ _ (differs origin i differ)
     block_other i (made.Combine input k) differ = not_own _ _ (differs_zero origin i differ)
     block_other i (made.Flatten inputs) differ = refl
@@ -100,6 +107,7 @@ module _ (script : Script) (w : World) (m : Place → Collection) (gives : ℕ �
     block_other i (made.Operate objects f) differ = not_groups _ _ (differs origin i differ)
     block_other i (made.DoWith input f object) differ =
         not_groups _ _ (differs origin i differ)
+    block_other i (made.Saved is_object call) differ = refl
 
     pub by_other : (i : ℕ) (made : Made) → IsOther made → (origin ≡ i → ⊥) → Apart i made
     by_other i (made.Input file columns) apart differ = differ
@@ -113,21 +121,24 @@ module _ (script : Script) (w : World) (m : Place → Collection) (gives : ℕ �
     by_other i (made.CombineAll input k) apart differ = differ
     by_other i (made.Operate objects f) apart differ = differ
     by_other i (made.DoWith input f object) apart differ = differ
+    by_other i (made.Saved is_object call) apart differ = differ
 
     -- a call adds to each of its names what it gives to it
     pub call_adds : (i input f o k : ℕ) (c : Collection) → k < suc (other_names script f)
-        → origin + k ≡ i → m (gives input) ≡ c
+        → (origin - o) + k ≡ i → m (gives input) ≡ c
         → bag_of (owned i (made_nodes script gives origin source n (made.Do input f o)))
-        ≡ (through w (call_label origin f k) c).bag
+        ≡ (through w (call_label (origin - o) f k) c).bag
     call_adds i input f o k c below same read =
-        let b = call_branch origin f (needed_at script origin)
-        (needed_from script (suc origin) (other_names script f)) in
-        let size = length_needed script origin (suc (other_names script f)) in
+        let first : ℕ = origin - o in
+        let b = call_branch first f (emitted_at script first)
+        (needed_from script (suc first) (other_names script f)) in
+        let size = length_needed script (origin - o) (suc (other_names script f)) in
+        let e : 0 + k ≡ k = omega arith in
         ap bag_of
         (append-nil _
-        ∙ one_own w b (m (gives input)) refl i 0 0 (names_needed script origin f) k (omega arith)
-        (let e : origin + (0 + k) ≡ i = omega arith in e)
-        ∙ (λ t. flat_map (emitted w (call_label origin f (zero-add k t))) (read t).bag))
+        ∙ one_own w b (m (gives input)) refl i 0 0 (names_needed script first f) k
+        (omega (arith, size, below)) (ap (λ j. (origin - o) + j) e ∙ same)
+        ∙ (λ t. flat_map (emitted w (call_label (origin - o) f (zero-add k t))) (read t).bag))
 
     -- the last step adds what it gives
     step_adds : (k : ℕ) (does : Does) (c : Place) (d : Collection)
@@ -175,6 +186,7 @@ module _ (script : Script) (w : World) (m : Place → Collection) (gives : ℕ �
     block_here (made.Combine input k) d has settled h is =
         step_adds n (does.Combine k) (gives input) d h.0.0 (at_start is)
     block_here (made.Flatten inputs) d has settled h is = absurd has
+    block_here (made.Saved is_object call) d has settled h is = absurd has
     block_here (made.Count input) d has settled h is =
         step_adds (n + 2) (does.Combine by.Sum) (first_of (n + 1)) d h.1.1.0.0 is
     block_here (made.Join left right) d has settled h is =

@@ -1,5 +1,5 @@
 -- What a collection is made from is read by its nodes.
-use Rattle.std.proofs.Common.{inl, inr, ◌≡◌, ℕ, zero, suc, Bool, true, false, List, [], ◌∷◌, ◌++◌, map, get_or, Option, Some, None, refl, ap, ◌∙◌, subst, arith}
+use Rattle.std.proofs.Common.{inl, inr, ◌≡◌, ℕ, Bool, true, false, List, [], ◌∷◌, ◌++◌, map, refl, ap, ◌∙◌, arith}
 use Rattle.std.specs.Prelude.{◌==◌, ◌&&◌, ◌||◌}
 use Rattle.std.specs.List.{Contains, list_any}
 use Rattle.std.proofs.lemmas.Bool.{eq-eqb}
@@ -125,3 +125,4 @@ module _ (script : Script) (gives : ℕ → Place) (origin source n j : ℕ) whe
   block_uses (made.DoWith input f object) is =
       only_any (among (gives j) (gives input ∷ gives object ∷ []))
       (among_places gives (input ∷ object ∷ []) j is)
+  block_uses (made.Saved is_object call) is = let below = is.1 in absurd (omega arith)

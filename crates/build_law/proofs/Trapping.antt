@@ -1,5 +1,5 @@
 -- The traps of the nodes of a script's graph are those of the script.
-use Rattle.std.proofs.Common.{◌≡◌, ℕ, zero, suc, ◌+◌, Bool, true, false, List, [], ◌∷◌, ◌++◌, map, length, Option, Some, None, refl, sym, ap, ◌∙◌, subst, add-zero, append-nil, ⊎_elim}
+use Rattle.std.proofs.Common.{◌≡◌, ℕ, zero, suc, ◌+◌, ◌-◌, Bool, true, false, List, [], ◌∷◌, ◌++◌, map, Option, Some, None, refl, sym, ap, ◌∙◌, subst, add-zero, append-nil, ⊎_elim}
 use Rattle.std.specs.List.{Contains, flat_map}
 use Rattle.std.specs.Option.{option_and_then}
 use Rattle.bag_groups.specs.Pairs.{value_of}
@@ -19,9 +19,8 @@ use Rattle.exec_graph.specs.declared.graph.Act.TheVariants.{SideInput, Operate, 
 use Rattle.exec_graph.specs.declared.graph.Entry.{Entry}
 use Rattle.exec_graph.specs.declared.graph.Place.{Place}
 use Rattle.exec_graph.specs.declared.step.Does.TheVariants as does
-use Rattle.graph_build.specs.Calls.{needed_from, next_if, other_names}
+use Rattle.graph_build.specs.Calls.{emitted_at, needed_from, next_if, other_names}
 use Rattle.graph_build.specs.Nodes.{before_last, call_branch, first_of, made_nodes}
-use Rattle.graph_build.specs.Wanted.{needed_at}
 use Rattle.graph_build.specs.of_script_program.declared.made.Made.{Made}
 use Rattle.graph_build.specs.of_script_program.declared.made.Made.TheVariants as made
 use Rattle.graph_build.specs.of_script_program.Script.{Script}
@@ -275,15 +274,15 @@ module _ (script : Script) (w : World) (m : Place → Collection) (gives : ℕ �
         (λ t is. is) (all_alike b v (suc k) (next_if x next) xs)
 
     pub call_traps : (input f o k : ℕ) (c d : Collection) → m (gives input) ≡ c
-        → through w (call_label origin f k) c ≡ d
+        → through w (call_label (origin - o) f k) c ≡ d
         → SameTraps (made_nodes script gives origin source n (made.Do input f o)) d
     call_traps input f o k c d read is =
-        let first : Bool = needed_at script origin in
-        let others : List Bool = needed_from script (suc origin) (other_names script f) in
-        let b = call_branch origin f first others in
+        let first : Bool = emitted_at script (origin - o) in
+        let others : List Bool = needed_from script (suc (origin - o)) (other_names script f) in
+        let b = call_branch (origin - o) f first others in
         let v = m (gives input) in
         let same : (given_to w b v 0).traps ≡ d.traps =
-        (λ i. (through w (call_label origin f 0) (read i)).traps)
+        (λ i. (through w (call_label (origin - o) f 0) (read i)).traps)
         ∙ ap (λ (x : Collection). x.traps) is in
         let rest = total w (step_traps w) v (buds b 1 (next_if first 0) others) in
         record {
@@ -301,6 +300,8 @@ module _ (script : Script) (w : World) (m : Place → Collection) (gives : ℕ �
         → m (first_of (n + before_last made)) ≡ d
         → SameTraps (made_nodes script gives origin source n made) d
     block_traps (made.Input file columns) d apart h is =
+        same_list _ d (ap (λ (x : Collection). x.traps) (sym h.0 ∙ at_start is))
+    block_traps (made.Saved is_object call) d apart h is =
         same_list _ d (ap (λ (x : Collection). x.traps) (sym h.0 ∙ at_start is))
     block_traps (made.Do input f output) d apart h is = absurd apart
     block_traps (made.Group input) d apart h is =

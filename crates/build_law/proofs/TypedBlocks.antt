@@ -1,5 +1,5 @@
 -- The nodes of a collection of a script have types that fit.
-use Rattle.std.proofs.Common.{◌≡◌, ℕ, suc, ◌+◌, Bool, true, false, List, [], ◌∷◌, ◌++◌, map, length, get_or, Some, refl, sym, ap, ◌∙◌, subst, arith, add-zero, zero-add}
+use Rattle.std.proofs.Common.{◌≡◌, ℕ, suc, ◌+◌, ◌-◌, Bool, true, false, List, [], ◌∷◌, ◌++◌, map, length, get_or, Some, refl, sym, ap, ◌∙◌, subst, arith, add-zero, zero-add}
 use Rattle.std.specs.Prelude.{slice_get}
 use Rattle.std.specs.List.{AllByRecursion}
 use Rattle.combine_table.specs.declared.comb.Comb.{Comb}
@@ -12,9 +12,8 @@ use Rattle.exec_graph.specs.Meaning.{place}
 use Rattle.exec_graph.specs.Typing.{ForestTyped, NodeTyped, Signatures, StepTyped}
 use Rattle.exec_graph.specs.declared.graph.Place.{Place}
 use Rattle.exec_graph.specs.declared.step.Does.TheVariants as does
-use Rattle.graph_build.specs.Calls.{names_needed, needed_from, other_names}
-use Rattle.graph_build.specs.Nodes.{before_last, call_branch, first_of, made_nodes}
-use Rattle.graph_build.specs.Wanted.{needed_at}
+use Rattle.graph_build.specs.Calls.{emitted_at, names_needed, needed_from, other_names}
+use Rattle.graph_build.specs.Nodes.{before_last, call_branch, first_of, made_nodes, source_number}
 use Rattle.graph_build.specs.of_script_program.Needed.{operands}
 use Rattle.direct_meaning.proofs.TypeLemmas.{taken}
 use Rattle.graph_build.specs.of_script_program.declared.made.Made.{Made}
@@ -48,6 +47,7 @@ module _ (functions : Named Function) (before : Named Node) where
       ∷ table_of type.Int t ∷ []
   inner_types (made.Operate objects f) t fit = []
   inner_types (made.DoWith input f object) t fit = []
+  inner_types (made.Saved is_object call) t fit = []
 
   abbrev pub inner_rows_of : (made : Made) (t : Ty) → Fits functions before made t → List (List Ty)
   inner_rows_of made t fit = map (λ u. u ∷ []) (inner_types made t fit)
@@ -65,14 +65,14 @@ module _ (functions : Named Function) (before : Named Node) where
   inner_count (made.CombineAll input k) t fit = refl
   inner_count (made.Operate objects f) t fit = refl
   inner_count (made.DoWith input f object) t fit = refl
-
--- ---- types of places
+  inner_count (made.Saved is_object call) t fit = refl
 
 module _ (script : Script) (s : Signatures) (functions : Named Function) (before : Named Node)
     (τ : Place → Ty) (gives : ℕ → Place) (typ : ℕ → Ty) where
   -- the types of what the last node of a collection gives
   abbrev pub row_of : ℕ → Made → Ty → List Ty
-  row_of origin (made.Do input f output) t = kept typ origin (names_needed script origin f)
+  row_of origin (made.Do input f output) t =
+      kept typ (origin - output) (names_needed script (origin - output) f)
   row_of origin made t = t ∷ []
 
   -- what is read has the type that it has in the script
@@ -138,19 +138,20 @@ module _ (script : Script) (s : Signatures) (functions : Named Function) (before
 
     do_typed : (input f output : ℕ) (t : Ty) (fit : IsDone functions before input f output t)
         → Facts (made.Do input f output) t fit → Known input
-        → EachName (NameTyped f) origin 0 (names_needed script origin f)
+        → EachName (NameTyped f) (origin - output) 0 (names_needed script (origin - output) f)
         → Typed (made.Do input f output)
     do_typed input f output t fit fact known names =
         let call = calls f fit.function fit.calls in
         let takes : τ (gives input) ≡ s.takes f =
         known fit.function.signature.takes fit.takes ∙ sym call.0 in
-        let b = call_branch origin f (needed_at script origin)
-        (needed_from script (suc origin) (other_names script f)) in
-        let flags = names_needed script origin f in (
-          buds_typed b f (τ (gives input)) refl takes origin 0 0 flags
-              (λ i. subst (λ k. τ (place n k) ≡ get_or (kept typ origin flags) i type.Int)
+        let first : ℕ = origin - output in
+        let b = call_branch first f (emitted_at script first)
+        (needed_from script (suc first) (other_names script f)) in
+        let flags = names_needed script first f in (
+          buds_typed b f (τ (gives input)) refl takes first 0 0 flags
+              (λ i. subst (λ k. τ (place n k) ≡ get_or (kept typ first flags) i type.Int)
               (sym (zero-add i))
-              (subst (λ k. τ (place k i) ≡ get_or (kept typ origin flags) i type.Int) (add-zero n)
+              (subst (λ k. τ (place k i) ≡ get_or (kept typ first flags) i type.Int) (add-zero n)
               (fact 0 i)))
               names,
           tt,
@@ -344,15 +345,16 @@ module _ (script : Script) (s : Signatures) (functions : Named Function) (before
           ),
         )
 
-    -- an input is the next one
+    -- a source is the next one
     abbrev pub HasInput : Made → Ty → Type 0
-    HasInput (made.Input file columns) t = s.inputs source ≡ t
+    HasInput (made.Input file columns) t = s.inputs (source_number script source) ≡ t
+    HasInput (made.Saved is_object call) t = s.inputs (source_number script source) ≡ t
     HasInput _ t = Unit {0}
 
     -- the names of a call have the types that its function gives
     abbrev pub HasNames : Made → Type 0
     HasNames (made.Do input f output) =
-        EachName (NameTyped f) origin 0 (names_needed script origin f)
+        EachName (NameTyped f) (origin - output) 0 (names_needed script (origin - output) f)
     HasNames _ = Unit {0}
 
     pub block_typed : (made : Made) (t : Ty) (fit : Fits functions before made t)
@@ -360,6 +362,8 @@ module _ (script : Script) (s : Signatures) (functions : Named Function) (before
         → HasInput made t
         → AllByRecursion Known (operands made) → HasNames made → Typed made
     block_typed (made.Input file columns) t fit fact input_ known names =
+        (at_start (fact 0 0) ∙ sym input_, tt)
+    block_typed (made.Saved is_object call) t fit fact input_ known names =
         (at_start (fact 0 0) ∙ sym input_, tt)
     block_typed (made.Do input f output) t fit fact input_ known names =
         do_typed input f output t fit fact known.0 names

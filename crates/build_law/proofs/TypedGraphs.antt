@@ -1,118 +1,39 @@
 -- The graph of a script has types that fit: those of the script's collections.
-use Rattle.std.proofs.Common.{◌≡◌, ℕ, zero, suc, ◌+◌, ◌<◌, Bool, true, false, cond, List, [], ◌∷◌, ◌++◌, map, length, get_or, Option, Some, None, refl, sym, ap, ◌∙◌, subst, arith, add-zero, length-append, zero-add}
-use Rattle.std.specs.Prelude.{if◌then◌else◌, slice_get}
+use Rattle.std.proofs.Common.{◌≡◌, ℕ, zero, suc, ◌+◌, ◌-◌, ◌<◌, Bool, true, false, List, [], ◌∷◌, ◌++◌, map, length, get_or, Option, Some, None, refl, sym, ap, ◌∙◌, subst, arith, add-zero, zero-add}
+use Rattle.std.specs.Prelude.{slice_get}
 use Rattle.std.specs.Option.{option_map}
-use Rattle.std.specs.List.{AllByRecursion, Contains, filter, flat_map}
+use Rattle.std.specs.List.{AllByRecursion}
 use Rattle.std.proofs.lemmas.List.{length-map}
 use Rattle.flume_types.specs.declared.types.Ty.{Ty}
 use Rattle.flume_types.specs.declared.types.Ty.TheVariants as type
-use Rattle.exec_graph.specs.Meaning.{place}
 use Rattle.exec_graph.specs.Typing.{IsTyped, NodeTyped}
 use Rattle.exec_graph.specs.declared.graph.Entry.{Entry}
 use Rattle.exec_graph.specs.declared.graph.Place.{Place}
 use Rattle.graph_build.specs.Built.{built}
-use Rattle.graph_build.specs.Calls.{names_needed, other_names}
-use Rattle.graph_build.specs.Graphs.{graph_of, next_source, nodes_of}
-use Rattle.graph_build.specs.Nodes.{before_last, inputs_of as sources_of, made_nodes}
-use Rattle.graph_build.specs.Wanted.{needed_at, wanted, wanted_from}
-use Rattle.graph_build.specs.of_script_program.Needed.{is_needed, made_of, numbered, operands}
+use Rattle.graph_build.specs.Calls.{emitted_as, emitted_at, names_needed, other_names}
+use Rattle.graph_build.specs.Graphs.{graph_of}
+use Rattle.graph_build.specs.Nodes.{before_last, made_nodes}
+use Rattle.graph_build.specs.Wanted.{wanted}
+use Rattle.graph_build.specs.of_script_program.Needed.{made_of, operands}
+use Rattle.graph_build.specs.of_script_program.declared.made.Emitted.{Emitted}
 use Rattle.graph_build.specs.of_script_program.declared.made.Made.{Made}
 use Rattle.graph_build.specs.of_script_program.declared.made.Made.TheVariants as made
 use Rattle.graph_build.specs.of_script_program.Script.{Function, Node, Script}
 use Rattle.written_types.specs.Named.{Named}
 use Rattle.direct_meaning.specs.of_script_laws.WellFormed.{AllFit, Fits, IsWellFormed, function_at, members_at}
-use Rattle.direct_meaning.specs.Inputs.{Wanted, inputs_of, wanted_by}
-use Rattle.direct_meaning.proofs.PlaceLemmas.{within}
-use Rattle.build_law.specs.Signatures.{given_by, input_type, signatures_of, taken_by}
-use Rattle.build_law.proofs.Assembling.{same_sources}
-use Rattle.build_law.proofs.Blocks.{each_block, source_at}
-use Rattle.build_law.proofs.Calling.{built_as, built_call, each_contained, each_name, needed_as, other_wanted, slice_seam}
-use Rattle.build_law.proofs.Naming.{FitsAt, as_many, built_name, fits_at, reads_early}
-use Rattle.build_law.proofs.MadeKinds.{IsOther, Kind, called, kind_of, other}
-use Rattle.build_law.proofs.Outputs.{EachName, kept}
-use Rattle.build_law.proofs.Placing.{all_rows, gives, last_row, row_told, source, stands_told, start, told}
+use Rattle.build_law.specs.Signatures.{given_by, signatures_of, source_type, taken_by}
+use Rattle.build_law.proofs.Blocks.{each_block}
+use Rattle.build_law.proofs.Calling.{built_made, built_wanted, each_contained, slice_seam}
+use Rattle.build_law.proofs.Names.{each_name}
+use Rattle.build_law.proofs.Naming.{IsCall, emitted_fits, fits_at, name_at, operand_wanted}
+use Rattle.build_law.proofs.MadeKinds.{IsOther, Kind, built_of, called, emission, kind_of, other}
+use Rattle.build_law.proofs.Outputs.{EachName}
+use Rattle.build_law.proofs.Placing.{gives, last_row, row_told, source, stands_told, start, told}
+use Rattle.build_law.proofs.Slots.{of_call}
+use Rattle.build_law.proofs.SourceTypes.{source_is}
 use Rattle.build_law.proofs.Tables.{one_longer}
 use Rattle.build_law.proofs.TypedBlocks.{HasInput, HasNames, Known, block_typed, inner_count, inner_rows_of, inner_types, row_of}
 use Rattle.build_law.proofs.Values.{regrouped}
-
--- ---- the types of needed inputs
-
--- as many inputs as nodes read
-as_many_inputs : (made : Made) (t : Ty) → length (wanted_by made t) ≡ sources_of made
-as_many_inputs (made.Input file columns) t = refl
-as_many_inputs (made.Do input f output) t = refl
-as_many_inputs (made.Group input) t = refl
-as_many_inputs (made.Combine input k) t = refl
-as_many_inputs (made.Flatten inputs) t = refl
-as_many_inputs (made.Count input) t = refl
-as_many_inputs (made.Join left right) t = refl
-as_many_inputs (made.Top many input) t = refl
-as_many_inputs (made.CombineAll input k) t = refl
-as_many_inputs (made.Operate objects f) t = refl
-as_many_inputs (made.DoWith input f object) t = refl
-
-module _ (script : Script) where
-  abbrev inputs_from : ℕ → Named Node → List Wanted
-  inputs_from origin nodes =
-      flat_map (λ it. wanted_by it.1.1.made it.1.1.type)
-      (filter (λ it. is_needed script it.0) (numbered origin nodes))
-
-  abbrev inputs_if : Bool → Made → Ty → List Wanted
-  inputs_if true how t = wanted_by how t
-  inputs_if false how t = []
-
-  picked_inputs : (b : Bool) (origin : ℕ) (entry : List ℕ × Node)
-      (others : List (ℕ × (List ℕ × Node)))
-      → flat_map (λ it. wanted_by it.1.1.made it.1.1.type)
-      (cond b ((origin, entry) ∷ others) others)
-      ≡ inputs_if b entry.1.made entry.1.type
-      ++ flat_map (λ it. wanted_by it.1.1.made it.1.1.type) others
-  picked_inputs true origin entry others = refl
-  picked_inputs false origin entry others = refl
-
-  next_inputs : (b : Bool) (how : Made) (t : Ty) (pre : List Wanted) (k : ℕ) → length pre ≡ k
-      → length (pre ++ inputs_if b how t) ≡ next_source k (if b then Some how else None)
-  next_inputs true how t pre k h =
-      let one = length-append pre (wanted_by how t) in
-      let two = as_many_inputs how t in omega arith
-  next_inputs false how t pre k h =
-      let one = length-append pre [] in omega arith
-
-  if_is : (b : Bool) (own how : Made) → (if b then Some own else None) ≡ Some how
-      → (b ≡ true) × (own ≡ how)
-  if_is true own how h = (refl, cc)
-  if_is false own how h = cc
-
-  -- an input that is needed is the next one
-  input_at : (whole pre : List Wanted) (nodes : Named Node) (origin k t : ℕ) (file : List ℕ)
-      (columns : _) (u : Ty) → whole ≡ pre ++ inputs_from origin nodes → length pre ≡ k
-      → get_or (wanted_from script origin nodes) t None ≡ Some (made.Input file columns)
-      → members_at nodes t ≡ Some u
-      → input_type (slice_get whole (source_at k (wanted_from script origin nodes) t)) ≡ u
-  input_at whole pre [] origin k t file columns u is size found has = cc
-  input_at whole pre (entry ∷ nodes) origin k zero file columns u is size found has =
-      let own = if_is (is_needed script origin) entry.1.made (made.Input file columns) found in
-      let same : entry.1.type ≡ u = cc in
-      let others = filter (λ it. is_needed script it.0) (numbered (suc origin) nodes) in
-      ap input_type
-      (slice_seam whole pre
-      (flat_map (λ it. wanted_by it.1.1.made it.1.1.type) others)
-      (record { file = file; type = entry.1.type }) k
-      (is ∙ ap (λ ws. pre ++ ws)
-      (picked_inputs (is_needed script origin) origin entry others
-      ∙ (λ i. inputs_if (own.0 i) (own.1 i) entry.1.type
-      ++ flat_map (λ it. wanted_by it.1.1.made it.1.1.type) others)))
-      size)
-      ∙ same
-  input_at whole pre (entry ∷ nodes) origin k (suc t) file columns u is size found has =
-      let b = is_needed script origin in
-      let others = filter (λ it. is_needed script it.0) (numbered (suc origin) nodes) in
-      input_at whole (pre ++ inputs_if b entry.1.made entry.1.type) nodes (suc origin)
-      (next_source k (if b then Some entry.1.made else None)) t file columns u
-      (regrouped whole pre (inputs_if b entry.1.made entry.1.type)
-      (flat_map (λ it. wanted_by it.1.1.made it.1.1.type) others)
-      (is ∙ ap (λ ws. pre ++ ws) (picked_inputs b origin entry others)))
-      (next_inputs b entry.1.made entry.1.type pre k size) found has
 
 -- ---- the types of all places
 
@@ -213,10 +134,11 @@ module _ (script : Script) (well : IsWellFormed script) where
         type = ap (members_at script.nodes) (sym (zero-add t)) ∙ f.6;
       }
 
-  sized : (t : ℕ) (mk : Made) → get_or (built script) t None ≡ Some mk
-      → length (inner t mk) ≡ before_last mk
-  sized t mk found =
-      let f = is_fitted t mk (built_as script t mk found).made in
+  sized : (t number : ℕ) (mk : Made)
+      → get_or (built script) t None ≡ Some (built_of number mk)
+      → length (inner number mk) ≡ before_last mk
+  sized t number mk found =
+      let f = is_fitted number mk (built_made script t number mk found) in
       ap (λ o. length (inner_if o)) f.at
       ∙ length-map (inner_types script.functions f.it.before f.it.how f.it.type f.it.fit)
       (λ u. u ∷ [])
@@ -251,38 +173,53 @@ module _ (script : Script) (well : IsWellFormed script) where
       (u : Ty) × (slice_get ((signatures_of script).gives f) k ≡ Some u)
       × (needed ≡ true → typ number ≡ u)
 
-  name_gives : (t input f i : ℕ) → slice_get (made_of script) (t + i) ≡ Some (made.Do input f i)
-      → NameGives f (t + i) i (needed_at script (t + i))
-  name_gives t input f i is =
-      let g = fits_at script well (t + i) (made.Do input f i) is in (
+  -- an output of a call, by how it is made
+  name_gives : (number : ℕ) (how : Made) (it : Emitted)
+      → slice_get (made_of script) number ≡ Some how → emitted_as how ≡ Some it
+      → NameGives it.function number it.output (emitted_at script number)
+  name_gives number how it is emitted =
+      let g = fits_at script well number how is in
+      let fit = emitted_fits script.functions g.before how it g.type emitted g.fit in (
         g.type,
-        ap (λ (ts : List Ty). slice_get ts i) (the_calls f g.fit.function g.fit.calls).1
-            ∙ g.fit.gives,
+        ap (λ (ts : List Ty). slice_get ts it.output)
+            (the_calls it.function fit.function fit.calls).1
+            ∙ fit.gives,
         λ needed. ap or_int g.has,
       )
 
-  call_names : (t input f : ℕ) → get_or (built script) t None ≡ Some (made.Do input f 0)
-      → EachName (NameGives f) t 0 (names_needed script t f)
-  call_names t input f found =
-      each_name script (NameGives f) t 0 (suc (other_names script f))
-      (λ i below. subst (λ k. NameGives f (t + i) k (needed_at script (t + i)))
-      (sym (zero-add i))
-      (name_gives t input f i (built_name script well t input f found i below)))
+  name_at_gives : (first source f : ℕ) → IsCall script first source f → (i : ℕ)
+      → i < suc (other_names script f)
+      → NameGives f (first + i) i (emitted_at script (first + i))
+  name_at_gives first source f call i below =
+      let it = name_at script well first source f call i below in
+      name_gives (first + i) it.how (emission f i) it.made it.emitted
 
-  module _ (t : ℕ) (mk : Made) (found : get_or (built script) t None ≡ Some mk)
-      (f : IsFitted t mk) where
+  call_names : (t number input f o : ℕ)
+      → get_or (built script) t None ≡ Some (built_of number (made.Do input f o))
+      → EachName (NameGives f) (number - o) 0 (names_needed script (number - o) f)
+  call_names t number input f o found =
+      let it = of_call script well t number input f o found in
+      subst (λ first. EachName (NameGives f) first 0 (names_needed script first f))
+      (sym it.from)
+      (each_name script (NameGives f) it.first 0 (suc (other_names script f))
+      (λ i below. subst (λ k. NameGives f (it.first + i) k (emitted_at script (it.first + i)))
+      (sym (zero-add i)) (name_at_gives it.first input f it.call i below)))
+
+  module _ (t number : ℕ) (mk : Made)
+      (found : get_or (built script) t None ≡ Some (built_of number mk))
+      (f : IsFitted number mk) where
     abbrev the : Made
     the = f.it.how
 
-    at_the : get_or (built script) t None ≡ Some the
-    at_the = found ∙ ap Some (sym f.how)
+    at_the : get_or (built script) t None ≡ Some (built_of number the)
+    at_the = found ∙ ap (λ (how : Made). Some (built_of number how)) (sym f.how)
 
-    typ_is : typ t ≡ f.it.type
+    typ_is : typ number ≡ f.it.type
     typ_is = ap or_int f.type
 
-    row_is : (how : Made) → last_row script type.Int typ inner t how
-        ≡ row_of script (signatures_of script) script.functions f.it.before τ (gives script) typ t
-        how f.it.type
+    row_is : (how : Made) → last_row script type.Int typ inner number how
+        ≡ row_of script (signatures_of script) script.functions f.it.before τ (gives script) typ
+        number how f.it.type
     row_is (made.Input file columns) = ap (λ u. u ∷ []) typ_is
     row_is (made.Do input g output) = refl
     row_is (made.Group input) = ap (λ u. u ∷ []) typ_is
@@ -294,19 +231,19 @@ module _ (script : Script) (well : IsWellFormed script) where
     row_is (made.CombineAll input k) = ap (λ u. u ∷ []) typ_is
     row_is (made.Operate objects g) = ap (λ u. u ∷ []) typ_is
     row_is (made.DoWith input g object) = ap (λ u. u ∷ []) typ_is
+    row_is (made.Saved is_object call) = ap (λ u. u ∷ []) typ_is
 
-    names_of : {how : Made} → Kind how → get_or (built script) t None ≡ Some how
-        → HasNames script (signatures_of script) script.functions f.it.before τ (gives script) typ
-        the_calls t (source script t) (start script t) [] how
-    names_of (called input g o) at =
-        call_names t input g
-        (subst (λ k. get_or (built script) t None ≡ Some (made.Do input g k))
-        (built_call script t input g o at).0 at)
+    abbrev NamesOf : Made → Type 0
+    NamesOf how =
+        HasNames script (signatures_of script) script.functions f.it.before τ (gives script) typ
+        the_calls number (source script t) (start script t) [] how
+
+    names_of : {how : Made} → Kind how
+        → get_or (built script) t None ≡ Some (built_of number how) → NamesOf how
+    names_of (called input g o) at = call_names t number input g o at
     names_of (other how apart) at = none how apart
       where
-        none : (how : Made) → IsOther how
-            → HasNames script (signatures_of script) script.functions f.it.before τ (gives script)
-            typ the_calls t (source script t) (start script t) [] how
+        none : (how : Made) → IsOther how → NamesOf how
         none (made.Input file columns) h = tt
         none (made.Do input g o) h = absurd h
         none (made.Group input) h = tt
@@ -318,15 +255,19 @@ module _ (script : Script) (well : IsWellFormed script) where
         none (made.CombineAll input k) h = tt
         none (made.Operate objects g) h = tt
         none (made.DoWith input g object) h = tt
+        none (made.Saved is_object call) h = tt
 
-    input_of : (how : Made) → get_or (built script) t None ≡ Some how
-        → HasInput script (signatures_of script) script.functions f.it.before τ (gives script) typ
-        the_calls t (source script t) (start script t) [] how f.it.type
+    abbrev InputOf : Made → Type 0
+    InputOf how =
+        HasInput script (signatures_of script) script.functions f.it.before τ (gives script) typ
+        the_calls number (source script t) (start script t) [] how f.it.type
+
+    input_of : (how : Made) → get_or (built script) t None ≡ Some (built_of number how)
+        → InputOf how
     input_of (made.Input file columns) at =
-        ap (λ k. input_type (slice_get (inputs_of script) k))
-        (sym (same_sources script [] script.nodes 0 0 t refl refl))
-        ∙ input_at script (inputs_of script) [] script.nodes 0 0 t file columns f.it.type refl refl
-        (other_wanted script t (made.Input file columns) tt at) f.type
+        ap source_type
+        (source_is script well t number (made.Input file columns) f.it.type
+        (record { type = f.it.type; is_object = false }) tt at f.type refl)
     input_of (made.Do input g output) at = tt
     input_of (made.Group input) at = tt
     input_of (made.Combine input k) at = tt
@@ -337,13 +278,17 @@ module _ (script : Script) (well : IsWellFormed script) where
     input_of (made.CombineAll input k) at = tt
     input_of (made.Operate objects g) at = tt
     input_of (made.DoWith input g object) at = tt
+    input_of (made.Saved is_object call) at =
+        ap source_type
+        (source_is script well t number (made.Saved is_object call) f.it.type
+        (record { type = f.it.type; is_object = is_object }) tt at f.type refl)
 
     the_typed : AllByRecursion (λ e. NodeTyped (signatures_of script) τ e.number e.node)
-        (made_nodes script (gives script) t (source script t) (start script t) the)
+        (made_nodes script (gives script) number (source script t) (start script t) the)
     the_typed =
-        let rows = row_told script type.Int typ inner sized t the at_the in
+        let rows = row_told script type.Int typ inner sized t number the at_the in
         block_typed script (signatures_of script) script.functions f.it.before τ (gives script) typ
-        the_calls t (source script t) (start script t) rows.0 the f.it.type f.it.fit
+        the_calls number (source script t) (start script t) rows.0 the f.it.type f.it.fit
         (λ k j. rows.1 k j
         ∙ (λ i. get_or (get_or ((inner_if (f.at i) ++ row_is the i ∷ []) ++ rows.0) k []) j
         type.Int))
@@ -352,25 +297,25 @@ module _ (script : Script) (well : IsWellFormed script) where
         (Known script (signatures_of script) script.functions f.it.before τ (gives script) typ)
         (operands the)
         (λ j reads_.
-        let it = reads_early script well t the at_the j reads_ in
-        known f.it.before f.rest j it.how f.nodes it.wanted))
+        let it = operand_wanted script well number j the
+        (built_wanted script t number the at_the) reads_ in
+        known f.it.before f.rest j it.0 f.nodes it.1))
         (names_of (kind_of the) at_the)
 
     block_is_typed : AllByRecursion (λ e. NodeTyped (signatures_of script) τ e.number e.node)
-        (made_nodes script (gives script) (0 + t) (source script t) (start script t) mk)
+        (made_nodes script (gives script) number (source script t) (start script t) mk)
     block_is_typed =
         subst (λ (how : Made). AllByRecursion
         (λ e. NodeTyped (signatures_of script) τ e.number e.node)
-        (made_nodes script (gives script) (0 + t) (source script t) (start script t) how)) f.how
-        (subst (λ o. AllByRecursion (λ e. NodeTyped (signatures_of script) τ e.number e.node)
-        (made_nodes script (gives script) o (source script t) (start script t) the))
-        (sym (zero-add t)) the_typed)
+        (made_nodes script (gives script) number (source script t) (start script t) how)) f.how
+        the_typed
 
   pub is_typed : IsTyped (signatures_of script) (graph_of script)
   is_typed = (
     τ,
     each_block script (gives script)
-        (λ (e : Entry). NodeTyped (signatures_of script) τ e.number e.node) 0 0 0 (built script)
-        (λ t mk found.
-        block_is_typed t mk found (is_fitted t mk (built_as script t mk found).made)),
+        (λ (e : Entry). NodeTyped (signatures_of script) τ e.number e.node) 0 0 (built script)
+        (λ t b found.
+        block_is_typed t b.number b.made found
+        (is_fitted b.number b.made (built_made script t b.number b.made found))),
   )

@@ -1,12 +1,12 @@
 -- What the nodes of a script's collections give, node by node, where it is known what the
 -- collections are.
-use Rattle.std.proofs.Common.{◌≡◌, ℕ, zero, suc, ◌+◌, false, List, [], ◌∷◌, ◌++◌, map, length, get_or, Option, Some, None, refl, sym, ap, ◌∙◌, subst, arith, append_assoc, length-append, add-zero}
+use Rattle.std.proofs.Common.{◌≡◌, ℕ, ◌+◌, false, List, [], ◌∷◌, ◌++◌, map, length, get_or, refl, sym, ap, ◌∙◌, subst, append_assoc}
 use Rattle.std.proofs.Math.Seq.{get_or-append_seam}
 use Rattle.std.proofs.lemmas.List.{get_or-append-add}
 use Rattle.flume_collection.specs.Collection.{Collection, by_key, together}
 use Rattle.combine_table.specs.declared.comb.Comb.{Comb}
 use Rattle.combine_table.specs.declared.comb.Comb.TheVariants as by
-use Rattle.exec_graph.specs.Meaning.{nothing, through}
+use Rattle.exec_graph.specs.Meaning.{through}
 use Rattle.exec_graph.specs.World.{World}
 use Rattle.exec_graph.specs.declared.step.Does.TheVariants as does
 use Rattle.graph_build.specs.Nodes.{before_last}
@@ -63,6 +63,7 @@ module _ (w : World) (at : ℕ → Collection) where
       ∷ whole_of w origin comb (at input) ∷ []
   inner_of origin (made.Operate objects function) = []
   inner_of origin (made.DoWith input function object) = []
+  inner_of origin (made.Saved is_object call) = []
 
   abbrev pub inner_rows : ℕ → Made → List (List Collection)
   inner_rows origin made = map (λ c. c ∷ []) (inner_of origin made)
@@ -80,6 +81,7 @@ module _ (w : World) (at : ℕ → Collection) where
   inner_length origin (made.CombineAll input comb) = refl
   inner_length origin (made.Operate objects function) = refl
   inner_length origin (made.DoWith input function object) = refl
+  inner_length origin (made.Saved is_object call) = refl
 
 -- the number that is so many behind a list
 pub behind_list : {A : Type 0} (xs ys : List A) (n k : ℕ) (d : A) → length xs ≡ n

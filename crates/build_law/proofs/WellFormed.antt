@@ -1,15 +1,13 @@
 -- The graph of a well-formed script is well-formed.
-use Rattle.std.proofs.Common.{◌≡◌, ℕ, zero, suc, ◌+◌, ◌<◌, ◌≤◌, Bool, true, false, List, [], ◌∷◌, ◌++◌, map, length, get_or, Option, Some, None, refl, sym, ap, ◌∙◌, subst, arith, add-zero, zero-add}
+use Rattle.std.proofs.Common.{◌≡◌, ℕ, zero, suc, ◌+◌, ◌-◌, ◌<◌, ◌≤◌, true, List, [], ◌∷◌, ◌++◌, map, length, get_or, Option, Some, None, refl, ap, ◌∙◌, subst, arith}
 use Rattle.std.specs.Prelude.{slice_get, IsSomeAnd}
 use Rattle.std.specs.List.{AllByRecursion, Contains}
 use Rattle.flume_value.proofs.EachLemmas.{Each-both, Each-map, Each-weaker, each_from}
 use Rattle.flume_types.specs.declared.types.Ty.{Ty}
-use Rattle.flume_collection.proofs.Members.{at_head, at_tail}
+use Rattle.flume_collection.proofs.Members.{at_head, at_tail, not_in_none}
 use Rattle.exec_graph.specs.Meaning.{IsThere, place, reads}
 use Rattle.exec_graph.specs.Readers.{among, is_read, uses}
 use Rattle.exec_graph.specs.Wellformed.{IsFounded, IsGraphOk, IsNodeOk, most_nodes, total_size}
-use Rattle.exec_graph.specs.declared.graph.Entry.{Entry}
-use Rattle.exec_graph.specs.declared.graph.Place.{Place}
 use Rattle.written_types.specs.Named.{Named}
 use Rattle.graph_build.specs.of_script_program.Needed.{LeadsToOutput, is_needed, made_of, operands, outputs_read}
 use Rattle.graph_build.specs.of_script_program.declared.made.Made.{Made}
@@ -19,23 +17,24 @@ use Rattle.graph_build.specs.of_script_program.Script.{Node, Script}
 use Rattle.direct_meaning.specs.of_script_laws.WellFormed.{AllFit, Fits, HasColumns, IsWellFormed}
 use Rattle.direct_meaning.proofs.of_script_laws.NeededLemmas.{needed_law, read_at}
 use Rattle.graph_build.specs.Built.{built}
-use Rattle.graph_build.specs.Calls.{names_needed, needed_from, number_behind, other_names}
+use Rattle.graph_build.specs.Calls.{emitted_at, names_needed, needed_from, number_behind, other_names}
 use Rattle.graph_build.specs.Graphs.{graph_of, nodes_of}
-use Rattle.graph_build.specs.Nodes.{before_last, call_branch, first_of, made_nodes}
-use Rattle.graph_build.specs.Wanted.{needed_at, wanted}
+use Rattle.graph_build.specs.Nodes.{before_last, call_branch, first_of}
+use Rattle.graph_build.specs.Wanted.{wanted}
 use Rattle.graph_build.proofs.BuiltLemmas.{built_length}
 use Rattle.build_law.specs.Limits.{HasShortFlattens, IsShort}
 use Rattle.build_law.proofs.Blocks.{any_block, each_block}
-use Rattle.build_law.proofs.Calling.{built_as, built_call, how_wanted, needed_as, other_built, other_wanted, parts, wanted_here}
-use Rattle.build_law.proofs.Naming.{IsNamed, call_built, name_wanted, named}
-use Rattle.build_law.proofs.MadeKinds.{IsOther, Kind, called, kind_of, other}
+use Rattle.build_law.proofs.Calling.{alone_built, built_made, built_wanted, how_wanted, needed_as, wanted_here}
+use Rattle.build_law.proofs.MadeKinds.{IsOther, Kind, Stand, alone, built_of, by_call, called, kept_name, kind_of, other, stand_of}
+use Rattle.build_law.proofs.Names.{parts}
 use Rattle.build_law.proofs.Objects.{have_objects}
 use Rattle.build_law.proofs.Outputs.{IsAt, where_out}
-use Rattle.build_law.proofs.Placing.{call_place, gives, other_place, source, start}
+use Rattle.build_law.proofs.Placing.{call_place, gives, has_call, source, stands_where, start}
 use Rattle.build_law.proofs.Fitting.{FlattenFits, IsLastRead, block_ok}
 use Rattle.build_law.proofs.Founded.{IsLow, ReadsLow, counts, is_placed, lows, numbers_below, plains}
 use Rattle.build_law.proofs.Numbered.{ascends_counts, few_nodes, one_each}
 use Rattle.build_law.proofs.Reading.{among_places, any_uses, block_uses, or_left, or_right}
+use Rattle.build_law.proofs.Slots.{IsOfCall, call_slot, emits, of_call}
 
 map_twice : {A B C : Type 0} (g : B → C) (f : A → B) (xs : List A)
     → map g (map f xs) ≡ map (λ x. g (f x)) xs
@@ -48,37 +47,32 @@ module _ (script : Script) (well : IsWellFormed script) where
   outputs_are = map_twice (gives script) (λ output. output.1.reads) script.outputs
 
   -- a needed collection is read: by the nodes of one that is made from it, or by an output
-  used_by : (j t : ℕ) (mk : Made) → get_or (built script) t None ≡ Some mk
-      → Contains (operands mk) j → is_read (graph_of script) (gives script j) ≡ true
-  used_by j t mk found reads_ =
-      or_left (any_uses (gives script j) (nodes_of script)) _
-      (any_block script (gives script) (λ e. uses (gives script j) e.node) 0 0 0 (built script) t
-      mk found
-      (block_uses script (gives script) (0 + t) (source script t) (start script t) j mk reads_))
-
-  used_by_call : (j reader input f o : ℕ)
-      → get_or (wanted script) reader None ≡ Some (made.Do input f o)
-      → (n : IsNamed script well reader input f o) → Contains (input ∷ []) j
+  used_by : (j t number : ℕ) (mk : Made)
+      → get_or (built script) t None ≡ Some (built_of number mk) → Contains (operands mk) j
       → is_read (graph_of script) (gives script j) ≡ true
-  used_by_call j reader input f o found n reads_ =
-      used_by j n.first (made.Do input f 0) (call_built script well reader input f o found n) reads_
+  used_by j t number mk found reads_ =
+      or_left (any_uses (gives script j) (nodes_of script)) _
+      (any_block script (gives script) (λ e. uses (gives script j) e.node) 0 0 (built script) t
+      (built_of number mk) found
+      (block_uses script (gives script) number (source script t) (start script t) j mk reads_))
 
-  read_by_node : (j reader : ℕ) {how : Made} → Kind how
+  read_by_node : (j reader : ℕ) {how : Made} → Stand how
       → get_or (wanted script) reader None ≡ Some how → Contains (operands how) j
       → is_read (graph_of script) (gives script j) ≡ true
-  read_by_node j reader (called input f o) found reads_ =
-      used_by_call j reader input f o found
-      (named script well reader input f o
-      (needed_as script reader (made.Do input f o) found).made) reads_
-  read_by_node j reader (other how apart) found reads_ =
-      used_by j reader how (other_built script reader how apart found) reads_
+  read_by_node j reader (by_call input f o) found reads_ =
+      let n = has_call script well reader input f o found in
+      used_by j (call_slot script n.first f) (n.first + n.name.place)
+      (made.Do input f n.name.place) n.built_ reads_
+  read_by_node j reader (kept_name is_object it) found reads_ = absurd (not_in_none j reads_)
+  read_by_node j reader (alone how apart none) found reads_ =
+      used_by j reader reader how (alone_built script reader how none found) reads_
 
   read_on : (j reader : ℕ) (o : Option Made) → slice_get (made_of script) reader ≡ o
       → is_needed script reader ≡ true → IsSomeAnd o (λ how. Contains (operands how) j)
       → is_read (graph_of script) (gives script j) ≡ true
   read_on j reader None is needed reads_ = elim reads_ [ ]
   read_on j reader (Some how) is needed reads_ =
-      read_by_node j reader (kind_of how) (how_wanted script reader how needed is) reads_
+      read_by_node j reader (stand_of how) (how_wanted script reader how needed is) reads_
 
   read_along : (j : ℕ) (path : List ℕ) → LeadsToOutput script j path
       → is_read (graph_of script) (gives script j) ≡ true
@@ -97,56 +91,67 @@ module _ (script : Script) (well : IsWellFormed script) where
       read_along j way.0 way.1
 
   -- the outputs of a call that have numbers are those of its needed names
-  out_read : (t input f j : ℕ) → get_or (built script) t None ≡ Some (made.Do input f 0)
-      → IsAt (names_needed script t f) 0 j
+  out_read : (t number input f o j : ℕ)
+      → get_or (built script) t None ≡ Some (built_of number (made.Do input f o))
+      → (it : IsOfCall script well t number input f o)
+      → IsAt (names_needed script it.first f) 0 j
       → is_read (graph_of script) (place (start script t) j) ≡ true
-  out_read t input f j found at =
-      let it = parts script t (suc (other_names script f)) at.front at.back at.is in
-      let k : ℕ = length at.front in
-      let want = name_wanted script well t input f found k it.below it.needed in
+  out_read t number input f o j found it at =
+      let part = parts script it.first (suc (other_names script f)) at.front at.back at.is in
+      let want = emits script well it.first input f it.call (it.first + length at.front)
+      (length at.front) part.below refl part.needed in
       subst (λ c. is_read (graph_of script) c ≡ true)
-      (call_place script (t + k) input f k t want refl found
-      ∙ ap (λ front. place (start script t) (number_behind 0 front)) it.same
-      ∙ ap (place (start script t)) at.number)
-      (wanted_read (t + k) (made.Do input f k) want)
+      (call_place script (it.first + length at.front) input f (length at.front) it.first number o
+      want refl
+      (ap (λ s. get_or (built script) s None) it.slot ∙ found)
+      ∙ ap (λ front. place (start script (call_slot script it.first f)) (number_behind 0 front))
+      part.same
+      ∙ ap (place (start script (call_slot script it.first f))) at.number
+      ∙ ap (λ s. place (start script s) j) it.slot)
+      (wanted_read (it.first + length at.front) (made.Do input f (length at.front)) want)
 
-  abbrev LastRead : ℕ → Made → Type 0
-  LastRead t mk =
-      IsLastRead (graph_of script) script (gives script) t (source script t) (start script t) mk
+  abbrev LastRead : ℕ → ℕ → Made → Type 0
+  LastRead t number mk =
+      IsLastRead (graph_of script) script (gives script) number (source script t)
+      (start script t) mk
 
-  call_read : (t input f o : ℕ) → get_or (built script) t None ≡ Some (made.Do input f o)
-      → o ≡ 0 → LastRead t (made.Do input f o)
-  call_read t input f o found first j has =
-      out_read t input f j
-      (subst (λ k. get_or (built script) t None ≡ Some (made.Do input f k)) first found)
+  call_read : (t number input f o : ℕ)
+      → get_or (built script) t None ≡ Some (built_of number (made.Do input f o))
+      → LastRead t number (made.Do input f o)
+  call_read t number input f o found j has =
+      let it = of_call script well t number input f o found in
+      out_read t number input f o j found it
+      (subst (λ first. IsAt (names_needed script first f) 0 j) it.from
       (where_out
-      (call_branch t f (needed_at script t) (needed_from script (suc t) (other_names script f)))
-      0 0 j (names_needed script t f) has)
+      (call_branch (number - o) f (emitted_at script (number - o))
+      (needed_from script (suc (number - o)) (other_names script f)))
+      0 0 j (names_needed script (number - o) f) has))
 
-  other_read : (t : ℕ) (how : Made) → IsOther how
+  other_read : (t number : ℕ) (how : Made) → IsOther how
       → is_read (graph_of script) (first_of (start script t + before_last how)) ≡ true
-      → LastRead t how
-  other_read t (made.Input file columns) apart h = h
-  other_read t (made.Do input f o) apart h = absurd apart
-  other_read t (made.Group input) apart h = h
-  other_read t (made.Combine input k) apart h = h
-  other_read t (made.Flatten inputs) apart h = h
-  other_read t (made.Count input) apart h = h
-  other_read t (made.Join left right) apart h = h
-  other_read t (made.Top many input) apart h = h
-  other_read t (made.CombineAll input k) apart h = h
-  other_read t (made.Operate objects f) apart h = h
-  other_read t (made.DoWith input f object) apart h = h
+      → LastRead t number how
+  other_read t number (made.Input file columns) apart h = h
+  other_read t number (made.Do input f o) apart h = absurd apart
+  other_read t number (made.Group input) apart h = h
+  other_read t number (made.Combine input k) apart h = h
+  other_read t number (made.Flatten inputs) apart h = h
+  other_read t number (made.Count input) apart h = h
+  other_read t number (made.Join left right) apart h = h
+  other_read t number (made.Top many input) apart h = h
+  other_read t number (made.CombineAll input k) apart h = h
+  other_read t number (made.Operate objects f) apart h = h
+  other_read t number (made.DoWith input f object) apart h = h
+  other_read t number (made.Saved is_object call) apart h = h
 
-  last_read : (t : ℕ) {mk : Made} → Kind mk → get_or (built script) t None ≡ Some mk
-      → LastRead t mk
-  last_read t (called input f o) found =
-      call_read t input f o found (built_call script t input f o found).0
-  last_read t (other how apart) found =
-      let want = other_wanted script t how apart found in
-      other_read t how apart
-      (subst (λ c. is_read (graph_of script) c ≡ true) (other_place script t how apart want)
-      (wanted_read t how want))
+  last_read : (t number : ℕ) {mk : Made} → Kind mk
+      → get_or (built script) t None ≡ Some (built_of number mk) → LastRead t number mk
+  last_read t number (called input f o) found = call_read t number input f o found
+  last_read t number (other how apart) found =
+      let want = built_wanted script t number how found in
+      other_read t number how apart
+      (subst (λ c. is_read (graph_of script) c ≡ true)
+      (stands_where script well t number how apart found)
+      (wanted_read number how want))
 
   -- ---- outputs
 
@@ -214,6 +219,7 @@ module _ (script : Script) (well : IsWellFormed script) where
   flatten_fits before (made.CombineAll input k) type fit short = tt
   flatten_fits before (made.Operate objects f) type fit short = tt
   flatten_fits before (made.DoWith input f object) type fit short = tt
+  flatten_fits before (made.Saved is_object call) type fit short = tt
 
   fits_short : (before nodes : Named Node) (i : ℕ) (made : Made)
       → AllFit script.functions before nodes
@@ -230,20 +236,15 @@ module _ (script : Script) (well : IsWellFormed script) where
   module _ (short : HasShortFlattens script) where
     nodes_ok : AllByRecursion (λ e. IsNodeOk (graph_of script) e.number e.node) (nodes_of script)
     nodes_ok =
-        each_block script (gives script) (λ e. IsNodeOk (graph_of script) e.number e.node) 0 0 0
+        each_block script (gives script) (λ e. IsNodeOk (graph_of script) e.number e.node) 0 0
         (built script)
-        (λ t mk found.
-        subst (λ o. AllByRecursion (λ e. IsNodeOk (graph_of script) e.number e.node)
-        (made_nodes script (gives script) o (source script t) (start script t) mk))
-        (sym (zero-add t))
-        (block_ok (graph_of script) script (gives script) t (source script t) (start script t) mk
-        (last_read t (kind_of mk) found)
+        (λ t b found.
+        block_ok (graph_of script) script (gives script) b.number (source script t)
+        (start script t) b.made (last_read t b.number (kind_of b.made) found)
         (λ c used. or_left (any_uses c (nodes_of script)) _
-        (any_block script (gives script) (λ e. uses c e.node) 0 0 0 (built script) t mk found
-        (subst (λ o. any_uses c
-        (made_nodes script (gives script) o (source script t) (start script t) mk) ≡ true)
-        (sym (zero-add t)) used)))
-        (fits_short [] script.nodes t mk well.nodes short (built_as script t mk found).made)))
+        (any_block script (gives script) (λ e. uses c e.node) 0 0 (built script) t b found used))
+        (fits_short [] script.nodes b.number b.made well.nodes short
+        (built_made script t b.number b.made found)))
 
     pub is_graph_ok : IsGraphOk (graph_of script)
     is_graph_ok = record {
@@ -252,7 +253,7 @@ module _ (script : Script) (well : IsWellFormed script) where
       objects = have_objects script well;
       few =
           let sizes = one_each (nodes_of script) (plains script well) in
-          let few = few_nodes script (gives script) 0 0 0 (built script) in
+          let few = few_nodes script (gives script) 0 0 (built script) in
           let same = built_length script in
           let limit = well.few in
           (let e : total_size (nodes_of script) ≤ most_nodes = omega arith in e);

@@ -10,11 +10,12 @@ use Rattle.graph_build.specs.of_script_program.declared.made.Made.TheVariants as
 use Rattle.graph_build.specs.of_script_program.Script.{Script}
 use Rattle.direct_meaning.specs.Direct.{made_at, traps_of}
 
--- all but inputs, and collections together, are made by calls, groups, combinations or barriers of
--- their own
+-- all but inputs, kept collections, and collections together, are made by calls, groups,
+-- combinations or barriers of their own
 abbrev pub HasOwn : Made → Type 0
 HasOwn (made.Input file columns) = ⊥
 HasOwn (made.Flatten sources) = ⊥
+HasOwn (made.Saved is_object call) = ⊥
 HasOwn _ = Unit {0}
 
 -- In the world, the graph means the collections that the script means: outputs are the collections

@@ -16,7 +16,8 @@ abbrev pub answered_by : Option Function → Value → Called
 answered_by None x = Ok []
 answered_by (Some function) x = or_silent (answer_of function x)
 
--- the rows of the needed inputs of a script, in their order, and what its functions answer
+-- the lists of the needed sources of a script, by their numbers: rows of inputs, and behind them
+-- members of kept collections; and what its functions answer
 abbrev pub world_of : Script → List (List Value) → World
 world_of script inputs = record {
   rows = λ r. slice_index_or inputs r [];

@@ -40,7 +40,7 @@ pub fn one_step_law()
         HasNarrowSteps (graph_of script) }
 {}
 
-/// The graph of a well-formed script means what the script means, over all rows of its inputs.
+/// The graph of a well-formed script means what the script means, over all lists of its sources.
 pub fn means_law()
     ensures well_formed { (script : Script) (inputs : List (List Value))
         (made : List (Option Collection)) →
@@ -55,7 +55,7 @@ pub fn means_law()
 {}
 
 /// Types fit the graph of a well-formed script: each step takes what it is given, by the types of
-/// the script's inputs and functions.
+/// the script's sources and functions.
 pub fn types_law()
     ensures well_formed { (script : Script) → IsWellFormed script →
         IsTyped (signatures_of script) (graph_of script) }

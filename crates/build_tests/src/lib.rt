@@ -6,6 +6,8 @@ mod barriers;
 #[cfg(test)]
 mod graph_texts;
 #[cfg(test)]
+mod kept;
+#[cfg(test)]
 mod objects;
 #[cfg(test)]
 mod outputs;

@@ -1,12 +1,21 @@
 // The calls of a case, and what is told of them.
+use crate::caches::cache_of;
 use crate::counts::{counts_of, outcome_of};
 use crate::worlds::World;
-use flume_run::flume;
+use cache_store::MemCache;
+use flume_run::flume_cached;
 use std::alloc::{AllocError, Global};
 use std::thread::Threads;
 use worked_cases::{
     Case, Command, Counts, Entry, Fault, Misread, Outcome, Report, TextFile, When, push_name,
 };
+
+/// What the calls of a case share: the files that the source has behind the first one, and a cache.
+#[derive(Drop)]
+struct Shared {
+    kept: Vec<TextFile>,
+    cache: MemCache,
+}
 
 /// The page of a case: its name, and what came of each call, or the first mistake in it.
 pub fn page_of<X: Threads + Sync>(
@@ -45,14 +54,17 @@ fn push_calls<X: Threads + Sync>(
     case: &Case,
     report: &mut Report,
 ) -> Result<(), AllocError> {
-    let mut kept = Vec::new(alloc);
+    let mut shared = Shared {
+        kept: Vec::new(alloc),
+        cache: cache_of(alloc, case, &case.always)?,
+    };
     for command in &case.commands {
-        push_call(rt, alloc, case, command, &[], &mut kept, report)?;
+        push_call(rt, alloc, case, command, &[], &mut shared, report)?;
         for when in &case.whens {
-            push_call(rt, alloc, case, command, &[when], &mut kept, report)?;
+            push_call(rt, alloc, case, command, &[when], &mut shared, report)?;
         }
         if case.has_pairs {
-            push_pairs(rt, alloc, case, command, &mut kept, report)?;
+            push_pairs(rt, alloc, case, command, &mut shared, report)?;
         }
     }
     Ok(())
@@ -63,30 +75,53 @@ fn push_pairs<X: Threads + Sync>(
     alloc: Global,
     case: &Case,
     command: &Command,
-    kept: &mut Vec<TextFile>,
+    shared: &mut Shared,
     report: &mut Report,
 ) -> Result<(), AllocError> {
     for (k, one) in case.whens.iter().enumerate() {
         for other in case.whens.iter().skip(k).skip(1) {
-            push_call(rt, alloc, case, command, &[one, other], kept, report)?;
+            push_call(rt, alloc, case, command, &[one, other], shared, report)?;
         }
     }
     Ok(())
 }
 
-// A call of a command in which these fail, and what always does in this case.
+// A call of a command in which these fail, and what always does in this case. Where each call is
+// made twice, it has a new cache.
 fn push_call<X: Threads + Sync>(
     rt: &X,
     alloc: Global,
     case: &Case,
     command: &Command,
     whens: &[&When],
-    kept: &mut Vec<TextFile>,
+    shared: &mut Shared,
     report: &mut Report,
 ) -> Result<(), AllocError> {
     let head = head_of(alloc, command, whens)?;
     let faults = faults_of(alloc, case, whens)?;
-    let (outcome, counts) = called(rt, alloc, case, command, &faults, kept)?;
+    if case.is_twice {
+        shared.cache = cache_of(alloc, case, &faults)?;
+    }
+    let (outcome, counts) = called(rt, alloc, case, command, &faults, shared)?;
+    report.push(&head, outcome, &counts)?;
+    if case.is_twice {
+        push_again(rt, alloc, case, command, shared, report)?;
+    }
+    Ok(())
+}
+
+// The call of a command once more, over what the cache has then.
+fn push_again<X: Threads + Sync>(
+    rt: &X,
+    alloc: Global,
+    case: &Case,
+    command: &Command,
+    shared: &mut Shared,
+    report: &mut Report,
+) -> Result<(), AllocError> {
+    let mut head = head_of(alloc, command, &[])?;
+    head.extend_from_slice(b" again")?;
+    let (outcome, counts) = called(rt, alloc, case, command, &case.always, shared)?;
     report.push(&head, outcome, &counts)
 }
 
@@ -119,10 +154,11 @@ fn called<X: Threads + Sync>(
     case: &Case,
     command: &Command,
     faults: &[Fault],
-    kept: &mut Vec<TextFile>,
+    shared: &mut Shared,
 ) -> Result<(Outcome, Counts), AllocError> {
-    let mut world = World::new(alloc, case, kept, faults)?;
-    let status = flume(
+    let mut world = World::new(alloc, case, &shared.kept, faults)?;
+    let failed = shared.cache.faults();
+    let status = flume_cached(
         rt,
         alloc,
         &command.words,
@@ -130,14 +166,18 @@ fn called<X: Threads + Sync>(
         &mut world.hosts,
         &mut world.shelf,
         &mut world.screen,
+        &mut shared.cache,
     );
+    let failed = shared.cache.faults().saturating_sub(failed);
     let outcome = outcome_of(alloc, status.code(), &world)?;
-    let counts = counts_of(alloc, case, &world)?;
-    keep(alloc, case, &world, kept)?;
+    let entries = shared.cache.entry_count();
+    let counts = counts_of(alloc, case, &world, failed, entries)?;
+    keep(alloc, case, &world, &mut shared.kept)?;
     Ok((outcome, counts))
 }
 
-// Keeps the screen of the first call as a file, where the case names one.
+// Keeps the files that come in behind the first call, and its screen as one, where the case names
+// some.
 fn keep(
     alloc: Global,
     case: &Case,
@@ -146,6 +186,11 @@ fn keep(
 ) -> Result<(), AllocError> {
     if !kept.is_empty() {
         return Ok(());
+    }
+    for file in &case.later {
+        let name = Vec::from_slice(alloc, &file.name)?;
+        let bytes = Vec::from_slice(alloc, &file.bytes)?;
+        kept.push(TextFile { name, bytes })?;
     }
     if let Some(name) = &case.keeps {
         let name = Vec::from_slice(alloc, name)?;

@@ -30,8 +30,14 @@ fn files_of(alloc: Global, shelf: &MemShelf) -> Result<String, AllocError> {
     Ok(told)
 }
 
-/// What was counted.
-pub fn counts_of(alloc: Global, case: &Case, world: &World) -> Result<Counts, AllocError> {
+/// What was counted, where the cache failed so often and has so many entries.
+pub fn counts_of(
+    alloc: Global,
+    case: &Case,
+    world: &World,
+    cache: u64,
+    entries: usize,
+) -> Result<Counts, AllocError> {
     let mut losses = Vec::new(alloc);
     if case.tells_losses {
         for host in &world.hosts {
@@ -42,6 +48,8 @@ pub fn counts_of(alloc: Global, case: &Case, world: &World) -> Result<Counts, Al
         source: world.source.faults(),
         shelf: world.shelf.faults(),
         screen: world.screen.faults(),
+        cache,
+        entries: entries as u64,
         losses,
     })
 }

@@ -1,9 +1,10 @@
 //! The runner of worked cases: a program whose standard input holds cases, and which prints what
-//! came of each. It makes the very call `flume`, on the memory forms, with real threads.
+//! came of each. It makes the very call `flume_cached`, on the memory forms, with real threads.
 //!
 //! The form of cases, and of what is printed, stands in docs/CASES.md.
 #![tactic(auto)]
 
+mod caches;
 mod calls;
 mod counts;
 mod worlds;

@@ -22,7 +22,7 @@ const HOSTS: u32 = 16;
 const SCREEN: u64 = 2_000_000;
 
 impl World {
-    /// The world of a case, with these files beside its own, in which these calls fail.
+    /// The world of a case, with these files before its own, in which these calls fail.
     pub fn new(
         alloc: Global,
         case: &Case,
@@ -62,8 +62,9 @@ fn source_of(
     kept: &[TextFile],
     faults: &[Fault],
 ) -> Result<MemSource, AllocError> {
-    let mut files = files_of(alloc, texts)?;
-    push_files(alloc, &mut files, kept)?;
+    // of two files of one name the first is read
+    let mut files = files_of(alloc, kept)?;
+    push_files(alloc, &mut files, texts)?;
     let fails = source_fails(alloc, faults)?;
     match step_of(faults) {
         Some(step) => MemSource::with_step(alloc, files, fails, step.max(1)),

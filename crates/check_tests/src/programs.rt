@@ -136,6 +136,7 @@ fn is_made(number: usize, made: &Made) -> bool {
             function,
             object,
         } => number == 12 && *source == 0 && *function == 4 && *object == 11,
+        Made::Saved { .. } => false,
     }
 }
 

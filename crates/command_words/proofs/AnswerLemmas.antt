@@ -10,13 +10,20 @@ use Rattle.clap.specs.declared.error.Error.{Error}
 use Rattle.clap.specs.declared.error.kind.ErrorKind.{ErrorKind}
 use Rattle.clap.specs.declared.error.kind.ErrorKind.TheVariants.{OutOfMemory}
 use Rattle.clap.specs.declared.parser.matches.ArgMatches.{ArgMatches}
+use Rattle.command_words.specs.Cached.{cached_app}
 use Rattle.command_words.specs.Words.{flume_app}
 
-simple : is_simple flume_app ≡ true
+pub simple : is_simple flume_app ≡ true
 simple = refl
 
-free : is_simple_and_free flume_app ≡ true
+pub free : is_simple_and_free flume_app ≡ true
 free = refl
+
+pub cached_simple : is_simple cached_app ≡ true
+cached_simple = refl
+
+pub cached_free : is_simple_and_free cached_app ≡ true
+cached_free = refl
 
 -- ---- a command with one more argument
 
@@ -30,41 +37,73 @@ stays_local old new a adds local before = adds.globals ∙ ap₂ (λ x y. x || y
 
 -- ---- what a parse says
 
--- what words ask for, by what is read of their matches, where `clap` takes them
-abbrev asks_by : {A : Type 0} → (Option (Text × List Row) → Option A) → List Text → Option A
-asks_by read words =
-    if is_empty (fault_of flume_app words) then read (subcommand_of flume_app words) else None
+among : (kind : ErrorKind) (kinds : Kinds) → IsAmong kind kinds → is_empty kinds ≡ false
+among kind [] h = absurd h
+among kind (k ∷ ks) h = ne_eqb _ _ (λ e. omega arith)
+
+-- by a command line that is simple and without conditions
+module _ (app : App) (simple : is_simple app ≡ true) (free : is_simple_and_free app ≡ true) where
+  -- what words ask for, by what is read of their matches, where `clap` takes them
+  abbrev asks_by : {A : Type 0} → (Option (Text × List Row) → Option A) → List Text → Option A
+  asks_by read words =
+      if is_empty (fault_of app words) then read (subcommand_of app words) else None
+
+  taken_by : {A : Type 0} (read : Option (Text × List Row) → Option A) (line : App)
+      (words : List Text) (m : ArgMatches) → line ≡ app → HasMatchesOf line words m
+      → (is_simple_and_free line ≡ true → fault_of line words ≡ [])
+      → read (subcommand_rows_of m) ≡ asks_by read words
+  taken_by read line words m is matches faultless =
+      let none : fault_of app words ≡ []
+      = ap (λ a. fault_of a words) (sym is) ∙ faultless (ap is_simple_and_free is ∙ free) in
+      let met = (matches (ap is_simple is ∙ simple)).1 in
+      ap read (met ∙ ap (λ a. subcommand_of a words) is)
+      ∙ ap (λ (fault : Kinds). if is_empty fault then read (subcommand_of app words) else None)
+      (sym none)
+
+  refused_by : {A : Type 0} (read : Option (Text × List Row) → Option A) (line : App)
+      (words : List Text) (e : Error) → line ≡ app
+      → (is_simple_and_free line ≡ true → HasKind (fault_of line words) e)
+      → (kind_of e ≡ OutOfMemory → ⊥)
+      → None ≡ asks_by read words
+  refused_by read line words e is fails other = elim (fails (ap is_simple_and_free is ∙ free)) [
+    | inl memory ↦ absurd (other memory)
+    | inr h ↦
+        let some = ap (λ a. is_empty (fault_of a words)) (sym is)
+        ∙ among (kind_of e) (fault_of line words) h in
+        ap (λ b. if b then read (subcommand_of app words) else None) (sym some)
+  ]
 
 -- words that are taken ask for what their matches say
 pub taken_asks : {A : Type 0} (read : Option (Text × List Row) → Option A) (line : App)
     (words : List Text) (m : ArgMatches) → line ≡ flume_app → HasMatchesOf line words m
     → (is_simple_and_free line ≡ true → fault_of line words ≡ [])
-    → read (subcommand_rows_of m) ≡ asks_by read words
+    → read (subcommand_rows_of m) ≡ asks_by flume_app simple free read words
 taken_asks read line words m is matches faultless =
-    let none : fault_of flume_app words ≡ []
-    = ap (λ a. fault_of a words) (sym is) ∙ faultless (ap is_simple_and_free is ∙ free) in
-    let met = (matches (ap is_simple is ∙ simple)).1 in
-    ap read (met ∙ ap (λ a. subcommand_of a words) is)
-    ∙ ap (λ (fault : Kinds). if is_empty fault then read (subcommand_of flume_app words) else None)
-    (sym none)
+    taken_by flume_app simple free read line words m is matches faultless
 
-among : (kind : ErrorKind) (kinds : Kinds) → IsAmong kind kinds → is_empty kinds ≡ false
-among kind [] h = absurd h
-among kind (k ∷ ks) h = ne_eqb _ _ (λ e. omega arith)
+pub cached_taken : {A : Type 0} (read : Option (Text × List Row) → Option A) (line : App)
+    (words : List Text) (m : ArgMatches) → line ≡ cached_app → HasMatchesOf line words m
+    → (is_simple_and_free line ≡ true → fault_of line words ≡ [])
+    → read (subcommand_rows_of m) ≡ asks_by cached_app cached_simple cached_free read words
+cached_taken read line words m is matches faultless =
+    taken_by cached_app cached_simple cached_free read line words m is matches faultless
 
 -- words that are refused for another cause than memory ask for nothing
 pub refused_asks : {A : Type 0} (read : Option (Text × List Row) → Option A) (line : App)
     (words : List Text) (e : Error) → line ≡ flume_app
     → (is_simple_and_free line ≡ true → HasKind (fault_of line words) e)
     → (kind_of e ≡ OutOfMemory → ⊥)
-    → None ≡ asks_by read words
-refused_asks read line words e is fails other = elim (fails (ap is_simple_and_free is ∙ free)) [
-  | inl memory ↦ absurd (other memory)
-  | inr h ↦
-      let some = ap (λ a. is_empty (fault_of a words)) (sym is)
-      ∙ among (kind_of e) (fault_of line words) h in
-      ap (λ b. if b then read (subcommand_of flume_app words) else None) (sym some)
-]
+    → None ≡ asks_by flume_app simple free read words
+refused_asks read line words e is fails other =
+    refused_by flume_app simple free read line words e is fails other
+
+pub cached_refused : {A : Type 0} (read : Option (Text × List Row) → Option A) (line : App)
+    (words : List Text) (e : Error) → line ≡ cached_app
+    → (is_simple_and_free line ≡ true → HasKind (fault_of line words) e)
+    → (kind_of e ≡ OutOfMemory → ⊥)
+    → None ≡ asks_by cached_app cached_simple cached_free read words
+cached_refused read line words e is fails other =
+    refused_by cached_app cached_simple cached_free read line words e is fails other
 
 -- a refusal that fails only for memory answers with nothing, which is what the words ask for
 pub refusal_answers : {A B E : Type 0} (view : Option A → Option B) (r : Result (Option A) E)

@@ -1,5 +1,6 @@
 pub mod OperandLemmas
 pub mod GrammarLemmas
+pub mod CachedLemmas
 pub mod StepLemmas
 pub mod RowLemmas
 pub mod PartLemmas

@@ -1,5 +1,6 @@
 pub mod Options
 pub mod Words
+pub mod Cached
 pub mod Parts
 pub mod Grammar
 pub mod Held

@@ -44,11 +44,10 @@ plan_app =
 abbrev pub option_rule : Text → Rule
 option_rule name = record (new_rule name) { long = Some name; action = Some Set }
 
--- the command `run`, with its options
-abbrev pub run_app : App
-run_app =
+-- the command `run`, with the options that say how it is carried out
+abbrev pub settings_app : App
+settings_app =
     with_rule
-    (with_rule
     (with_rule
     (with_rule
     (with_rule
@@ -56,8 +55,11 @@ run_app =
     (option_rule (codes "shards")))
     (option_rule (codes "partitions")))
     (option_rule (codes "tries")))
-    (option_rule (codes "fail")))
-    (option_rule (codes "plan"))
+    (option_rule (codes "fail"))
+
+-- the command `run`, with its options
+abbrev pub run_app : App
+run_app = with_rule settings_app (option_rule (codes "plan"))
 
 -- the command `make`, which takes two numbers
 abbrev pub make_app : App

@@ -2,6 +2,7 @@
 ghost use Rattle.std.specs.Prelude.{◌≡◌, IfOk, false};
 ghost use Rattle.clap.specs.Words.{app_of, rule_of};
 ghost use Rattle.clap.specs.declared.builder.command.Command.TheViews.{out-Command};
+ghost use Rattle.command_words.specs.Cached as cached;
 ghost use Rattle.command_words.specs.Words as spec;
 
 use clap::{Arg, ArgAction, Command};
@@ -22,6 +23,14 @@ pub fn command_line<'a>(alloc: Global) -> Result<Command<'a>, AllocError>
         .subcommand(direct)?
         .subcommand(run)?
         .subcommand(make)
+}
+
+// The program with the one command that takes the flag of cached runs.
+pub fn cached_line<'a>(alloc: Global) -> Result<Command<'a>, AllocError>
+    ensures { IfOk result (λ line. app_of line ≡ cached.cached_app) }
+{
+    let run = cached_command(alloc)?;
+    program(alloc).subcommand(run)
 }
 
 // The program alone.
@@ -57,13 +66,28 @@ fn run_command<'a>(alloc: Global) -> Result<Command<'a>, AllocError>
     ensures app { IfOk result (λ command. app_of command ≡ spec.run_app) }
     ensures local { IfOk result (λ command. (out-Command command).has_globals ≡ false) }
 {
+    settings_command(alloc)?.arg(option(alloc, "plan"))
+}
+
+// The command `run` of a cached run, with its flag.
+fn cached_command<'a>(alloc: Global) -> Result<Command<'a>, AllocError>
+    ensures app { IfOk result (λ command. app_of command ≡ cached.cached_run_app) }
+    ensures local { IfOk result (λ command. (out-Command command).has_globals ≡ false) }
+{
+    settings_command(alloc)?.arg(flag(alloc, "cached"))
+}
+
+// The command `run`, with the options that say how it is carried out.
+fn settings_command<'a>(alloc: Global) -> Result<Command<'a>, AllocError>
+    ensures app { IfOk result (λ command. app_of command ≡ spec.settings_app) }
+    ensures local { IfOk result (λ command. (out-Command command).has_globals ≡ false) }
+{
     script_command(alloc, "run")?
         .arg(option(alloc, "workers"))?
         .arg(option(alloc, "shards"))?
         .arg(option(alloc, "partitions"))?
         .arg(option(alloc, "tries"))?
-        .arg(option(alloc, "fail"))?
-        .arg(option(alloc, "plan"))
+        .arg(option(alloc, "fail"))
 }
 
 // An option with a value, under the name that it has as a word.

@@ -1,5 +1,6 @@
 //! What the words of the grammar ask for.
 ghost use Rattle.std.specs.Prelude.{◌≡◌, ◌≤◌, ◌∷◌, [], List, Some, codes, decimal, true, ℕ};
+ghost use Rattle.command_words.specs.Cached.{TakesCached};
 ghost use Rattle.command_words.specs.Grammar.{TakesGrammar};
 ghost use Rattle.command_words.specs.Words.{is_operand, most_made, workload, workload_for};
 
@@ -18,4 +19,11 @@ pub fn make_law()
     ensures { (program : List ℕ) (start rows : ℕ) → start ≤ most_made → rows ≤ most_made →
         workload_for (program ∷ codes "make" ∷ decimal start ∷ decimal rows ∷ [])
         ≡ Some (workload start rows) }
+{}
+
+/// Words of a cached run of a script are never refused, with the flag before the script or behind
+/// it. A script is a word that is not empty and does not begin with `-`.
+pub fn cached_law(script: &str)
+    requires { is_operand script.now ≡ true }
+    ensures { TakesCached script.now }
 {}

@@ -182,7 +182,7 @@ fn plan_shown(json: Option<&str>, rewrites: Option<&str>) -> Option<Command>
 }
 
 // Whether a flag is set, by its text.
-fn is_set(flag: Option<&str>) -> bool
+pub(crate) fn is_set(flag: Option<&str>) -> bool
     ensures { result ≡ spec.is_set (option_map (λ text. text.now) flag.entry) }
 {
     match flag {
@@ -192,7 +192,7 @@ fn is_set(flag: Option<&str>) -> bool
 }
 
 // Whether a word names something: it is not empty, and no option.
-fn is_operand(word: &str) -> bool
+pub(crate) fn is_operand(word: &str) -> bool
     ensures { result ≡ spec.is_operand word.now }
 {
     match word.as_bytes() {

@@ -12,19 +12,41 @@ use Rattle.script_program.specs.declared.made.Output.{Output}
 use Rattle.script_program.specs.Script.{Node, Script}
 use Rattle.script_laws.specs.WellFormed.{HasColumns, IsWellFormed}
 use Rattle.direct_meaning.proofs.MeaningLemmas.{outputs_needed}
+use Rattle.direct_meaning.proofs.PlainLemmas.{plain-order}
 use Rattle.direct_meaning.proofs.PlaceLemmas.{mapped, within, zip_length}
 use Rattle.direct_meaning.proofs.SizeLemmas.{sizes_same}
 use Rattle.direct_meaning.proofs.StandLemmas.{passes, source_at}
 use Rattle.direct_meaning.proofs.TableLemmas.{as_many, found}
 use Rattle.direct_meaning.specs.Direct.{collections, meaning, traps_of}
 use Rattle.direct_meaning.specs.Evaluated.{IsDirect, IsWritten, bag_at, bag_made}
-use Rattle.direct_meaning.specs.Inputs.{HaveRows}
+use Rattle.direct_meaning.specs.Inputs.{AreInputs, AreLists, sourced}
 use Rattle.direct_meaning.specs.Made.{AreMade}
 use Rattle.script_program.specs.Needed.{is_needed}
+use Rattle.script_program.specs.Saved.{HasNoSaved}
 use Rattle.direct_meaning.specs.declared.kept.Kept.{Kept}
 use Rattle.direct_meaning.specs.declared.told.Direct.{Direct}
 use Rattle.direct_meaning.specs.inner.Kept.{KeepsAny, bag_kept, sizes_kept}
-use Rattle.direct_meaning.specs.inner.Stands.{Stands, wanted_from}
+use Rattle.direct_meaning.specs.inner.Stands.{Stands, sourced_from}
+
+-- ---- before the first node
+
+pub begins : (script : Script) → IsWellFormed script → HasNoSaved script
+    → (inputs : List (List Value)) → AreInputs script inputs → Stands script inputs 0 inputs [] []
+begins script well unsaved inputs have =
+    let plain = plain-order script unsaved inputs in
+    record {
+      before = [];
+      rest = script.nodes;
+      split = refl;
+      count = refl;
+      fit = well.nodes;
+      table = [];
+      are = record { each = tt; objects = tt; needed = λ number below. absurd (omega arith) };
+      ahead = ap (λ l. collections script script.nodes l []) (sym plain);
+      rows = subst (AreLists (sourced script)) plain have;
+      keeps = tt;
+      found = refl;
+    }
 
 -- ---- from node to node
 
@@ -70,7 +92,7 @@ none_behind before (x ∷ rest) same =
 
 no_rows : (script : Script) (number : ℕ) (left : List (List Value)) (rest : Named Node)
     (table : List (Option Collection)) → rest ≡ []
-    → HaveRows (wanted_from script number rest) left
+    → AreLists (sourced_from script number rest) left
     → collections script rest left table ≡ Some table
 no_rows script number [] [] table end have = refl
 no_rows script number (rows ∷ left) [] table end have = absurd have

@@ -13,14 +13,14 @@ use Rattle.script_program.specs.declared.made.Node.{Node as HeldNode}
 use Rattle.script_laws.specs.WellFormed.{Fits, IsWellFormed, members_at}
 use Rattle.direct_meaning.proofs.StandLemmas.{HasOwn, IsNodeAt, Source, at_node, fits, goes, behind, keeps, own_rows, source_of}
 use Rattle.direct_meaning.specs.Direct.{inputs_behind, made_as}
-use Rattle.direct_meaning.specs.Inputs.{HaveRows, Wanted, wanted_by}
+use Rattle.direct_meaning.specs.Inputs.{AreLists, Sourced, sourced_by}
 use Rattle.script_program.specs.Needed.{is_needed, operands}
 use Rattle.direct_meaning.specs.declared.kept.Kept.{Kept}
 use Rattle.direct_meaning.specs.inner.Kept.{Keeps}
-use Rattle.direct_meaning.specs.inner.Stands.{Stands, wanted_from}
+use Rattle.direct_meaning.specs.inner.Stands.{Stands, sourced_from}
 
-some_rows : (wanted : Wanted) (others : List Wanted) (left : List (List Value))
-    → HaveRows (wanted ∷ others) left → 0 < length left
+some_rows : (wanted : Sourced) (others : List Sourced) (left : List (List Value))
+    → AreLists (wanted ∷ others) left → 0 < length left
 some_rows wanted others [] have = absurd have
 some_rows wanted others (rows ∷ left) have = omega arith
 
@@ -65,25 +65,25 @@ module _ {script : Script} {inputs left : List (List Value)} {number : ℕ}
         (subst (λ (o : Made). Contains (operands o) n) (sym here.node.made) reads) type members
 
     -- what the nodes behind it want
-    abbrev wanted_behind : List Wanted
+    abbrev wanted_behind : List Sourced
     wanted_behind =
-        wanted_from script (suc number)
+        sourced_from script (suc number)
         (behind script here.well inputs left number kept traps here.stands here.node.entry
         here.node.at).others
 
-    rows_so : HaveRows (wanted_by m here.node.entry.1.type ++ wanted_behind) left
+    rows_so : AreLists (sourced_by m here.node.entry.1.type ++ wanted_behind) left
     rows_so =
-        subst (λ (o : Made). HaveRows (wanted_by o here.node.entry.1.type ++ wanted_behind) left)
+        subst (λ (o : Made). AreLists (sourced_by o here.node.entry.1.type ++ wanted_behind) left)
         here.node.made
         (own_rows script here.well inputs left number kept traps here.stands here.node.entry
         here.node.at here.needed)
 
     -- where it wants an input, there are rows to come
-    pub rows_come : (wanted : Wanted) → wanted_by m here.node.entry.1.type ≡ wanted ∷ []
+    pub rows_come : (wanted : Sourced) → sourced_by m here.node.entry.1.type ≡ wanted ∷ []
         → 0 < length left
     rows_come wanted one =
         some_rows wanted wanted_behind left
-        (subst (λ (l : List Wanted). HaveRows (l ++ wanted_behind) left) one rows_so)
+        (subst (λ (l : List Sourced). AreLists (l ++ wanted_behind) left) one rows_so)
 
     -- behind it, where what it makes is kept and its own traps are found
     pub goes_so : (c : Collection) → made_as script number m left here.stands.table ≡ Some c

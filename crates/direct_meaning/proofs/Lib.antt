@@ -1,3 +1,4 @@
+pub mod PlainLemmas
 pub mod PlaceLemmas
 pub mod TypeLemmas
 pub mod TrapLemmas

@@ -9,6 +9,7 @@ use Rattle.flume_collection.specs.Collection.{Collection, by_key, together}
 use Rattle.flume_types.specs.Tables.{table_of}
 use Rattle.flume_types.specs.declared.types.Ty.{Ty}
 use Rattle.flume_types.specs.declared.types.Ty.TheVariants as ty
+use Rattle.flume_value.proofs.BagLemmas.{length-bag_of}
 use Rattle.flume_value.specs.declared.value.Value.{Value}
 use Rattle.written_types.specs.Named.{Named}
 use Rattle.script_program.specs.declared.made.Made.{Made}
@@ -27,7 +28,7 @@ use Rattle.direct_meaning.proofs.TableLemmas.{IsMadeAt, all_found, found, made_o
 use Rattle.direct_meaning.proofs.TypeLemmas.{combined_is, counted_is, grouped_is, joined_is, rows_are, together_is, top_is}
 use Rattle.direct_meaning.specs.Calls.{answer_of}
 use Rattle.direct_meaning.specs.Direct.{called_by, combined_by, counted_by, done_at, done_beside_at, done_by, inputs_behind, joined_by, made_as, operated_at, rows_as, top_by}
-use Rattle.direct_meaning.specs.Inputs.{HaveRows, Wanted, wanted_by}
+use Rattle.direct_meaning.specs.Inputs.{AreLists, Sourced, sourced_by}
 use Rattle.direct_meaning.specs.Made.{AreMade, IsCollectionOf}
 use Rattle.direct_meaning.specs.Objects.{IsObject, combined_whole, done_beside, operated_by}
 use Rattle.script_program.specs.Needed.{is_needed, operands}
@@ -199,8 +200,8 @@ module _ (script : Script) (before : Named Node) (table : List (Option Collectio
   -- what a needed node makes
   pub makes : All (λ entry. IsWellTyped entry.1) script.functions → (number : ℕ) (m : Made)
       (type : Ty) (inputs : List (List Value))
-      (wanted : List Wanted) → Fits script.functions before m type
-      → HaveRows (wanted_by m type ++ wanted) inputs
+      (wanted : List Sourced) → Fits script.functions before m type
+      → AreLists (sourced_by m type ++ wanted) inputs
       → ((n : ℕ) → Contains (operands m) n → is_needed script n ≡ true)
       → AreObjects before (values_read m) → Makes script number m inputs table type
   makes typed number (made.Input file columns) type [] wanted fits have needed kinds = absurd have
@@ -208,7 +209,7 @@ module _ (script : Script) (before : Named Node) (table : List (Option Collectio
       record {
         collection = rows_as rows;
         made = refl;
-        is = rows_are type rows have.0;
+        is = rows_are type rows have.0.typed;
         object = λ is. cc;
       }
   makes typed number (made.Do source called output) type inputs wanted fits have needed kinds =
@@ -289,10 +290,20 @@ module _ (script : Script) (before : Named Node) (table : List (Option Collectio
       (first_read number m needed source (object ∷ []) refl fits.member fits.reads)
       (read (source ∷ object ∷ []) needed object
       (at_tail source (object ∷ []) object (at_head object [])) fits.value fits.reads_object)
+  makes typed number (made.Saved is_object call) type [] wanted fits have needed kinds =
+      absurd have
+  makes typed number (made.Saved is_object call) type (rows ∷ inputs) wanted fits have needed
+      kinds =
+      record {
+        collection = rows_as rows;
+        made = refl;
+        is = rows_are type rows have.0.typed;
+        object = λ is. length-bag_of rows ∙ have.0.one is;
+      }
 
--- the rows behind a node's own
-pub rows_behind : (m : Made) (type : Ty) (inputs : List (List Value)) (wanted : List Wanted)
-    → HaveRows (wanted_by m type ++ wanted) inputs → HaveRows wanted (inputs_behind m inputs)
+-- the lists behind a node's own
+pub rows_behind : (m : Made) (type : Ty) (inputs : List (List Value)) (wanted : List Sourced)
+    → AreLists (sourced_by m type ++ wanted) inputs → AreLists wanted (inputs_behind m inputs)
 rows_behind (made.Input file columns) type [] wanted have = absurd have
 rows_behind (made.Input file columns) type (rows ∷ inputs) wanted have = have.1
 rows_behind (made.Do source called output) type inputs wanted have = have
@@ -305,3 +316,5 @@ rows_behind (made.Top many source) type inputs wanted have = have
 rows_behind (made.CombineAll source by) type inputs wanted have = have
 rows_behind (made.Operate objects called) type inputs wanted have = have
 rows_behind (made.DoWith source called object) type inputs wanted have = have
+rows_behind (made.Saved is_object call) type [] wanted have = absurd have
+rows_behind (made.Saved is_object call) type (rows ∷ inputs) wanted have = have.1

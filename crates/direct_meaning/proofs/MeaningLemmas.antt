@@ -17,32 +17,34 @@ use Rattle.direct_meaning.proofs.MakeLemmas.{makes, rows_behind}
 use Rattle.direct_meaning.proofs.PlaceLemmas.{at_end}
 use Rattle.direct_meaning.proofs.TableLemmas.{as_many, more_made}
 use Rattle.direct_meaning.specs.Direct.{collections, inputs_behind, made_as}
-use Rattle.direct_meaning.specs.Inputs.{AreInputs, HaveRows, Wanted, wanted_by}
+use Rattle.direct_meaning.specs.Inputs.{AreInputs, AreLists, Sourced, sourced_by}
 use Rattle.direct_meaning.specs.Made.{AreMade}
+use Rattle.script_program.specs.Sources.{in_order}
 use Rattle.script_program.specs.Needed.{is_needed, numbered, operands, outputs_read}
-use Rattle.direct_meaning.specs.inner.Stands.{wanted_from}
+use Rattle.direct_meaning.specs.inner.Stands.{sourced_from}
 
 -- what the nodes from a number on want, where the first is needed or not
-abbrev wanted_if : Bool → Script → ℕ → List ℕ × Node → Named Node → List Wanted
+abbrev wanted_if : Bool → Script → ℕ → List ℕ × Node → Named Node → List Sourced
 wanted_if needed script number entry rest =
-    flat_map (λ it. wanted_by it.1.1.made it.1.1.type)
+    flat_map (λ it. sourced_by it.1.1.made it.1.1.type)
     (cond needed
     ((number, entry) ∷ filter (λ it. is_needed script it.0) (numbered (suc number) rest))
     (filter (λ it. is_needed script it.0) (numbered (suc number) rest)))
 
 pub wanted_needed : (script : Script) (number : ℕ) (entry : List ℕ × Node) (rest : Named Node)
     (inputs : List (List Value)) → is_needed script number ≡ true
-    → HaveRows (wanted_from script number (entry ∷ rest)) inputs
-    → HaveRows (wanted_by entry.1.made entry.1.type ++ wanted_from script (suc number) rest) inputs
+    → AreLists (sourced_from script number (entry ∷ rest)) inputs
+    → AreLists (sourced_by entry.1.made entry.1.type ++ sourced_from script (suc number) rest)
+    inputs
 wanted_needed script number entry rest inputs needed have =
-    subst (λ (b : Bool). HaveRows (wanted_if b script number entry rest) inputs) needed have
+    subst (λ (b : Bool). AreLists (wanted_if b script number entry rest) inputs) needed have
 
 pub wanted_unneeded : (script : Script) (number : ℕ) (entry : List ℕ × Node) (rest : Named Node)
     (inputs : List (List Value)) → is_needed script number ≡ false
-    → HaveRows (wanted_from script number (entry ∷ rest)) inputs
-    → HaveRows (wanted_from script (suc number) rest) inputs
+    → AreLists (sourced_from script number (entry ∷ rest)) inputs
+    → AreLists (sourced_from script (suc number) rest) inputs
 wanted_unneeded script number entry rest inputs unneeded have =
-    subst (λ (b : Bool). HaveRows (wanted_if b script number entry rest) inputs) unneeded have
+    subst (λ (b : Bool). AreLists (wanted_if b script number entry rest) inputs) unneeded have
 
 -- going on behind a node, where it is needed or not
 abbrev next : Bool → Script → List ℕ × Node → Named Node → List (List Value)
@@ -128,19 +130,19 @@ module _ (script : Script) (well : IsWellFormed script) where
   Goes rest = (before : Named Node) → before ++ rest ≡ script.nodes
       → AllFit script.functions before rest → (inputs : List (List Value))
       → (table : List (Option Collection)) → AreMade script before table
-      → HaveRows (wanted_from script (length before) rest) inputs
+      → AreLists (sourced_from script (length before) rest) inputs
       → Meant script script.nodes rest inputs table
 
   needed_goes : (entry : List ℕ × Node) (rest : Named Node) → Goes rest → (before : Named Node)
       → before ++ entry ∷ rest ≡ script.nodes → AllFit script.functions before (entry ∷ rest)
       → (inputs : List (List Value)) (table : List (Option Collection))
       → AreMade script before table
-      → HaveRows (wanted_from script (length before) (entry ∷ rest)) inputs
+      → AreLists (sourced_from script (length before) (entry ∷ rest)) inputs
       → is_needed script (length before) ≡ true
       → Meant script script.nodes (entry ∷ rest) inputs table
   needed_goes entry rest goes before split fit inputs table are have needed =
       let m = entry.1.made in
-      let wanted = wanted_from script (suc (length before)) rest in
+      let wanted = sourced_from script (suc (length before)) rest in
       let rows = wanted_needed script (length before) entry rest inputs needed have in
       let same = as_many script before table are in
       let it = makes script before table are well.functions (length table) m entry.1.type inputs
@@ -153,7 +155,7 @@ module _ (script : Script) (well : IsWellFormed script) where
       (append_assoc before (entry ∷ []) rest ∙ split) fit.1 (inputs_behind m inputs)
       (table ++ Some it.collection ∷ [])
       (more_made script before table are entry (Some it.collection) it.is it.object (sym needed))
-      (subst (λ (n : ℕ). HaveRows (wanted_from script n rest) (inputs_behind m inputs))
+      (subst (λ (n : ℕ). AreLists (sourced_from script n rest) (inputs_behind m inputs))
       (sym longer) behind) in
       record {
         made = on.made;
@@ -166,7 +168,7 @@ module _ (script : Script) (well : IsWellFormed script) where
       → before ++ entry ∷ rest ≡ script.nodes → AllFit script.functions before (entry ∷ rest)
       → (inputs : List (List Value)) (table : List (Option Collection))
       → AreMade script before table
-      → HaveRows (wanted_from script (length before) (entry ∷ rest)) inputs
+      → AreLists (sourced_from script (length before) (entry ∷ rest)) inputs
       → is_needed script (length before) ≡ false
       → Meant script script.nodes (entry ∷ rest) inputs table
   unneeded_goes entry rest goes before split fit inputs table are have unneeded =
@@ -176,7 +178,7 @@ module _ (script : Script) (well : IsWellFormed script) where
       let on = goes (before ++ entry ∷ [])
       (append_assoc before (entry ∷ []) rest ∙ split) fit.1 inputs (table ++ None ∷ [])
       (more_made script before table are entry None tt tt (sym unneeded))
-      (subst (λ (n : ℕ). HaveRows (wanted_from script n rest) inputs) (sym longer) rows) in
+      (subst (λ (n : ℕ). AreLists (sourced_from script n rest) inputs) (sym longer) rows) in
       record {
         made = on.made;
         means = next_unneeded script entry rest inputs table
@@ -200,7 +202,7 @@ module _ (script : Script) (well : IsWellFormed script) where
       ] refl
 
   pub has_meaning : (inputs : List (List Value)) → AreInputs script inputs
-      → Meant script script.nodes script.nodes inputs []
+      → Meant script script.nodes script.nodes (in_order script inputs) []
   has_meaning inputs have =
-      goes_on script.nodes [] refl well.nodes inputs []
+      goes_on script.nodes [] refl well.nodes (in_order script inputs) []
       (record { each = tt; objects = tt; needed = λ number below. absurd (omega arith) }) have

@@ -24,12 +24,12 @@ use Rattle.direct_meaning.proofs.PlaceLemmas.{mapped, zip_back, zip_more}
 use Rattle.direct_meaning.proofs.TableLemmas.{IsMadeAt, as_many, more_made}
 use Rattle.direct_meaning.proofs.TrapLemmas.{same_front}
 use Rattle.direct_meaning.specs.Direct.{collections, inputs_behind, made_as, meaning, traps_behind, traps_of}
-use Rattle.direct_meaning.specs.Inputs.{HaveRows, wanted_by}
+use Rattle.direct_meaning.specs.Inputs.{AreLists, sourced_by}
 use Rattle.direct_meaning.specs.Made.{IsCollectionOf, IsObjectFor}
 use Rattle.script_program.specs.Needed.{is_needed, operands}
 use Rattle.direct_meaning.specs.declared.kept.Kept.{Kept}
 use Rattle.direct_meaning.specs.inner.Kept.{Keeps, KeepsAny}
-use Rattle.direct_meaning.specs.inner.Stands.{Stands, wanted_from}
+use Rattle.direct_meaning.specs.inner.Stands.{Stands, sourced_from}
 
 -- ---- the node of a number
 
@@ -153,8 +153,8 @@ module _ (script : Script) (well : IsWellFormed script) (inputs left : List (Lis
   split : stands.before ++ entry ∷ behind.others ≡ script.nodes
   split = ap (λ (l : Named Node). stands.before ++ l) (sym behind.is) ∙ stands.split
 
-  rows : HaveRows (wanted_from script number (entry ∷ behind.others)) left
-  rows = subst (λ (l : Named Node). HaveRows (wanted_from script number l) left) behind.is
+  rows : AreLists (sourced_from script number (entry ∷ behind.others)) left
+  rows = subst (λ (l : Named Node). AreLists (sourced_from script number l) left) behind.is
       stands.rows
 
   ahead : collections script (entry ∷ behind.others) left stands.table ≡ meaning script inputs
@@ -171,10 +171,10 @@ module _ (script : Script) (well : IsWellFormed script) (inputs left : List (Lis
   all_split = append_assoc stands.before (entry ∷ []) behind.others ∙ split
 
   wanted_next : (more : List (List Value))
-      → HaveRows (wanted_from script (suc number) behind.others) more
-      → HaveRows (wanted_from script (number + 1) behind.others) more
+      → AreLists (sourced_from script (suc number) behind.others) more
+      → AreLists (sourced_from script (number + 1) behind.others) more
   wanted_next more have =
-      subst (λ (n : ℕ). HaveRows (wanted_from script n behind.others) more)
+      subst (λ (n : ℕ). AreLists (sourced_from script n behind.others) more)
       (sym (add-one number)) have
 
   -- behind a node that is not needed
@@ -201,14 +201,14 @@ module _ (script : Script) (well : IsWellFormed script) (inputs left : List (Lis
     reads = reads_needed script well stands.before behind.others entry split
         (ap (is_needed script) stands.count ∙ needed)
 
-    pub own_rows : HaveRows (wanted_by entry.1.made entry.1.type
-        ++ wanted_from script (suc number) behind.others) left
+    pub own_rows : AreLists (sourced_by entry.1.made entry.1.type
+        ++ sourced_from script (suc number) behind.others) left
     own_rows = wanted_needed script number entry behind.others left needed rows
 
     made : Makes script number entry.1.made left stands.table entry.1.type
     made = makes script stands.before stands.table stands.are well.functions number entry.1.made
         entry.1.type left
-        (wanted_from script (suc number) behind.others) fit.0 own_rows reads
+        (sourced_from script (suc number) behind.others) fit.0 own_rows reads
         (objects_read script well stands.before behind.others entry split fit.0)
 
     same_made : (c : Collection) → made_as script number entry.1.made left stands.table ≡ Some c
@@ -245,7 +245,7 @@ module _ (script : Script) (well : IsWellFormed script) (inputs left : List (Lis
           (ap (λ (n : ℕ). made_as script n entry.1.made left stands.table) tabled ∙ is)) ∙ ahead;
       rows = wanted_next (inputs_behind entry.1.made left)
           (rows_behind entry.1.made entry.1.type left
-          (wanted_from script (suc number) behind.others) own_rows);
+          (sourced_from script (suc number) behind.others) own_rows);
       keeps = zip_more KeepsAny kept stands.table (Some held) (Some c) stands.keeps keeps;
       found = one_more stands.table c
           ∙ (has ∙ same_front (all_traps stands.table) traps own stands.found);

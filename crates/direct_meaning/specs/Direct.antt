@@ -23,10 +23,11 @@ use Rattle.direct_meaning.specs.Calls.{answer_of, calls_on}
 pub use Rattle.direct_meaning.specs.Calls.{called_by}
 use Rattle.direct_meaning.specs.Objects.{combined_whole, done_beside, operated_by}
 use Rattle.script_program.specs.Needed.{is_needed}
+use Rattle.script_program.specs.Sources.{in_order}
 
 -- ---- one equation for each way in which a collection is made
 
--- from the rows of an input
+-- from the rows of an input, or from what is kept of the collection
 abbrev pub rows_as : List Value → Collection
 rows_as rows = record { bag = bag_of rows; traps = [] }
 
@@ -104,8 +105,8 @@ done_beside_at origin function source object table =
     option_and_then (done_beside origin (answer_of function) c) (made_at table object))
     (made_at table source)
 
--- what the node of that number makes of the rows of the inputs to come and of the collections made
--- before it; there is none where it reads what is not made, or where a call has no answer
+-- what the node of that number makes of the lists of the sources to come and of the collections
+-- made before it; there is none where it reads what is not made, or where a call has no answer
 abbrev pub made_as : Script → ℕ → Made → List (List Value) → List (Option Collection)
     → Option Collection
 made_as script number (made.Input file columns) [] table = None
@@ -132,8 +133,10 @@ made_as script number (made.Operate objects called) inputs table =
 made_as script number (made.DoWith source called object) inputs table =
     option_and_then (λ function. done_beside_at number function source object table)
     (function_at script.functions called)
+made_as script number (made.Saved is_object call) [] table = None
+made_as script number (made.Saved is_object call) (rows ∷ inputs) table = Some (rows_as rows)
 
--- the inputs to come behind a node
+-- the lists of the sources to come behind a node
 abbrev pub inputs_behind : Made → List (List Value) → List (List Value)
 inputs_behind (made.Input file columns) [] = []
 inputs_behind (made.Input file columns) (rows ∷ inputs) = inputs
@@ -147,6 +150,8 @@ inputs_behind (made.Top many source) inputs = inputs
 inputs_behind (made.CombineAll source by) inputs = inputs
 inputs_behind (made.Operate objects called) inputs = inputs
 inputs_behind (made.DoWith source called object) inputs = inputs
+inputs_behind (made.Saved is_object call) [] = []
+inputs_behind (made.Saved is_object call) (rows ∷ inputs) = inputs
 
 -- nodes in order, behind those that made this table: one that is not needed makes nothing
 abbrev pub collections : Script → Named Node → List (List Value) → List (Option Collection)
@@ -160,10 +165,11 @@ collections script (entry ∷ nodes) inputs table =
     (made_as script (length table) entry.1.made inputs table)
     else collections script nodes inputs (table ++ None ∷ [])
 
--- The direct meaning of a script over the rows of its needed inputs, in their order: by number, the
--- collection of each needed node. There is none where the rows are not of as many inputs.
+-- The direct meaning of a script over the rows of its needed inputs, in their order, and behind
+-- them the members of its needed kept collections, in theirs: by number, the collection of each
+-- needed node. There is none where there are not as many lists.
 abbrev pub meaning : Script → List (List Value) → Option (List (Option Collection))
-meaning script inputs = collections script script.nodes inputs []
+meaning script inputs = collections script script.nodes (in_order script inputs) []
 
 -- ---- what is told of it
 

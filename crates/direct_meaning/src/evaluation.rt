@@ -1,6 +1,7 @@
 // The direct evaluation of a program.
 ghost use Rattle.std.specs.Prelude.{IfOk};
 ghost use Rattle.script_laws.specs.WellFormed.{IsWellFormed};
+ghost use Rattle.script_program.specs.Saved.{HasNoSaved};
 ghost use Rattle.direct_meaning.specs.Evaluated.{IsDirect};
 ghost use Rattle.direct_meaning.specs.Inputs.{AreInputs};
 
@@ -10,9 +11,12 @@ use flume_value::{Items, Pile};
 use script_laws::script_check::Program;
 use std::alloc::{AllocError, Global};
 
-/// Evaluates a program over the rows of its needed inputs, node by node.
+/// Evaluates a program over the rows of its needed inputs, node by node. Its collections are made
+/// as its text says: none is one that an earlier run has kept.
+#[tactic(auto, using(crate::proofs::EndLemmas::begins))]
 pub fn direct(alloc: Global, program: &Program, inputs: Pile<Items>) -> Result<Direct, AllocError>
     requires well_formed { IsWellFormed program.now.script }
+    requires written { HasNoSaved program.now.script }
     requires inputs { AreInputs program.now.script inputs }
     ensures { IfOk result (IsDirect program.now.script inputs) }
 {

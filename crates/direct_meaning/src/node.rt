@@ -78,10 +78,11 @@ pub(crate) fn make(
             let object = kept_at(table, *object);
             done_beside(alloc, program, number, *function, source, object, traps)
         }
+        Made::Saved { .. } => rows(inputs),
     }
 }
 
-/// The rows of the next input.
+/// The list of the next source.
 fn rows(inputs: &mut IntoIter<Items>) -> Result<Kept, AllocError>
     requires { 0 < length (into_iter_items inputs.old) }
     ensures members { IfOk result (λ kept. (rows : List Value_)

@@ -1,10 +1,10 @@
-//! The program `flume`: the top call over the files of the system and the standard output. Its
-//! hosts are sixteen calm ones.
+//! The program `flume`: the top call over the files of the system, those of a folder as its cache,
+//! and the standard output. Its hosts are sixteen calm ones.
 #![tactic(auto)]
 
-use flume_run::{Status, flume};
+use flume_run::{Status, flume_cached};
 use outside::{CalmHost, say};
-use real_outside::{FileShelf, FileSource, OutputScreen};
+use real_outside::{FileCache, FileShelf, FileSource, OutputScreen};
 use std::env::Env;
 use std::io::ErrorKind;
 use std::process::ExitCode;
@@ -32,8 +32,9 @@ fn main(rt: HostRuntime) -> ExitCode {
     };
     let mut source = FileSource::new(&rt);
     let mut shelf = FileShelf::new(&rt);
+    let mut cache = FileCache::new(&rt);
     let mut hosts = [CalmHost; 16];
-    let status = flume(
+    let status = flume_cached(
         &rt,
         alloc,
         &words,
@@ -41,6 +42,7 @@ fn main(rt: HostRuntime) -> ExitCode {
         &mut hosts,
         &mut shelf,
         &mut screen,
+        &mut cache,
     );
     ExitCode::from(status.code())
 }

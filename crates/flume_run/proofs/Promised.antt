@@ -1,6 +1,9 @@
 -- What a call promises, by what its words ask for.
-use Rattle.std.proofs.Common.{◌≡◌, ◌∙◌, ℕ, List, [], Option, Some, None, sym, ap, subst, inl}
+use Rattle.std.proofs.Common.{◌≡◌, ◌∙◌, ℕ, List, [], Option, Some, None, refl, sym, ap, subst, inl}
 use Rattle.std.specs.Option.{option_map_or}
+use Rattle.cache_store.specs.declared.entry.CacheEntry.{CacheEntry}
+use Rattle.cached_course.specs.Promises.{Promises as ReusePromises}
+use Rattle.command_words.specs.Cached.{CachedRun, cached_for}
 use Rattle.command_words.specs.Words.{workload_for}
 use Rattle.command_words.specs.declared.workload.Workload.{Workload}
 use Rattle.made_course.proofs.Promised.{makes}
@@ -16,6 +19,7 @@ use Rattle.made_course.specs.of_run_course.World.{Keeps, World, asks}
 use Rattle.run_settings.specs.Settings.{standard}
 use Rattle.run_texts.specs.declared.status.Status.{Status}
 use Rattle.run_texts.specs.declared.status.Status.TheVariants.{WantOfMemory}
+use Rattle.flume_run.specs.Cached.{CachedPromises, Reuses, lends_to}
 use Rattle.flume_run.specs.Lent.{lends}
 use Rattle.flume_run.specs.Promises.{Promises}
 
@@ -61,3 +65,49 @@ module _ (words : List (List ℕ)) where
       → lent_to words ≡ lends words
   lends_other is = ap (λ (o : Option Workload). option_map_or (λ v. standard.workers) o
       (lent_to words)) is
+
+  -- ---- over a cache
+
+  pub of_reused : (before after : World) (cache later : Seen (List CacheEntry)) (status : Status)
+      (run : CachedRun) → Some run ≡ cached_for words
+      → Reuses before after cache later status run
+      → CachedPromises words before after cache later status
+  of_reused before after cache later status run is reuses = record {
+    cached = λ other e.
+        let both : Some run ≡ Some other = is ∙ e in
+        let same : run ≡ other = cc both in
+        subst (λ (x : CachedRun). Reuses before after cache later status x) same reuses;
+    others = λ none. let both : Some run ≡ None = is ∙ none in absurd (cc both);
+    untouched = λ none. let both : Some run ≡ None = is ∙ none in absurd (cc both);
+  }
+
+  pub of_others : (before after : World) (cache : Seen (List CacheEntry)) (status : Status)
+      → ◌≡◌ {A = Option CachedRun} None (cached_for words) → Promises words before after status
+      → CachedPromises words before after cache cache status
+  of_others before after cache status is kept = record {
+    cached = λ other e.
+        let both : ◌≡◌ {A = Option CachedRun} None (Some other) = is ∙ e in absurd (cc both);
+    others = λ none. kept;
+    untouched = λ none. refl;
+  }
+
+  -- no memory was found for the words of a cached run
+  pub of_no_cache : (before after : World) (cache : Seen (List CacheEntry))
+      → ((others : List (List ℕ)) → ReusePromises others before after cache cache WantOfMemory)
+      → Promises words before after WantOfMemory
+      → CachedPromises words before after cache cache WantOfMemory
+  of_no_cache before after cache reuses kept = record {
+    cached = λ run is others asks. reuses others;
+    others = λ none. kept;
+    untouched = λ none. refl;
+  }
+
+  pub lends_reused : (run : CachedRun) → Some run ≡ cached_for words
+      → run.settings.workers ≡ lends_to words
+  lends_reused run is =
+      ap (λ (o : Option CachedRun). option_map_or (λ r. r.settings.workers) o (lends words)) is
+
+  pub lends_others : ◌≡◌ {A = Option CachedRun} None (cached_for words)
+      → lends words ≡ lends_to words
+  lends_others is =
+      ap (λ (o : Option CachedRun). option_map_or (λ r. r.settings.workers) o (lends words)) is

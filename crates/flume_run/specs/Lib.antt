@@ -1,2 +1,3 @@
+pub mod Cached
 pub mod Lent
 pub mod Promises

@@ -19,6 +19,11 @@
 //! their inputs, Plans of outer_plans for the files of plans, Direct of direct_meaning for the
 //! meaning, Told of plan_phases for the tasks of a run, Texts and Lines of run_texts for what is
 //! printed.
+//!
+//! `flume_cached` is the call over a cache, and `flume` the same over one that has nothing and
+//! keeps nothing. The course of a cached run is that of cached_course, whose specs/ have what it
+//! reuses (Looked, Reused) and keeps (Kept), and when a cache is sound (Sound). With all other
+//! words the cache is untouched, and the contract is the one above (specs/Cached.antt).
 #![tactic(auto)]
 
 mod top;
@@ -27,4 +32,4 @@ pub use flume_grammar::ScriptKind;
 pub use made_course::script_loading::{INPUT_LIMIT, PLAN_LIMIT, SCRIPT_LIMIT};
 pub use plan_faults::PlanKind;
 pub use run_texts::{Place, Status};
-pub use top::flume;
+pub use top::{flume, flume_cached};

@@ -1,6 +1,7 @@
 // The top call.
-ghost use Rattle.std.specs.Prelude.{◌≡◌, ◌≤◌, drop, length, map, string_bytes};
+ghost use Rattle.std.specs.Prelude.{◌≡◌, ◌≤◌, drop, length, map, string_bytes, ℕ};
 ghost use Rattle.crew.specs.Hosts.{account};
+ghost use Rattle.flume_run.specs.Cached.{CachedPromises, lends_to, without_entries};
 ghost use Rattle.flume_run.specs.Lent.{lends};
 ghost use Rattle.flume_run.specs.Promises.{Promises};
 ghost use Rattle.outside.specs.Says.{HasLine};
@@ -9,7 +10,9 @@ ghost use Rattle.made_course.specs.of_run_course.World.{world};
 ghost use Rattle.run_texts.specs.Lines.{line_of};
 ghost use Rattle.run_texts.specs.declared.status.Status.TheVariants.{WantOfMemory};
 
-use command_words::workload_for;
+use cache_store::{Cache, NoCache};
+use cached_course::{memory_law, run_cached};
+use command_words::{cached_for, workload_for};
 use made_course::make;
 use made_course::run_course::run;
 use outside::{Host, Screen, Shelf, Source};
@@ -40,10 +43,83 @@ use std::thread::Threads;
 /// tasks. Else it is the first refusal that is met, and the screen gets its line. Every growth
 /// comes before the shelf's first `begin`.
 ///
-/// What is promised is `Promises` (specs/Promises.antt): for `make` the fields of `Makes`
-/// (specs/Makes.antt of made_course), and for the others those of the `Promises` of run_course.
-/// Hosts that are not lent are as they were.
+/// With the flag `--cached` a run reuses what earlier ones have kept: what the outputs read is
+/// looked for in the cache, behind the inputs. What is found there is not worked out again, and
+/// what is not found is kept behind the last output file. No failure of the cache changes the
+/// answer.
+///
+/// What is promised is `CachedPromises` (specs/Cached.antt): for words with that flag the
+/// `Promises` of cached_course, and for all others `Promises` (specs/Promises.antt), with the cache
+/// untouched: for `make` the fields of `Makes` (specs/Makes.antt of made_course), and for the
+/// others those of the `Promises` of run_course. Hosts that are not lent are as they were.
+pub fn flume_cached<X: Threads + Sync, R: Source, H: Host + Send, K: Shelf, P: Screen, C: Cache>(
+    rt: &X,
+    alloc: Global,
+    words: &[String],
+    source: &mut R,
+    hosts: &mut [H],
+    shelf: &mut K,
+    screen: &mut P,
+    cache: &mut C,
+) -> Status
+    requires { length hosts.old ≡ 16 }
+    ensures promises { CachedPromises (map string_bytes words.now)
+        (world (seen R.files R.faults source.old) (R.asked source.old)
+        (seen_shelf K.files K.begun K.left K.faults shelf.old) (seen P.text P.faults screen.old)
+        (map (account H.notes H.losses) hosts.old))
+        (world (seen R.files R.faults source.new) (R.asked source.new)
+        (seen_shelf K.files K.begun K.left K.faults shelf.new) (seen P.text P.faults screen.new)
+        (map (account H.notes H.losses) hosts.new))
+        (seen C.entries C.faults cache.old) (seen C.entries C.faults cache.new) result }
+    ensures hosts { drop (lends_to (map string_bytes words.now)) hosts.new
+        ≡ drop (lends_to (map string_bytes words.now)) hosts.old }
+{
+    memory_law();
+    match cached_for(alloc, words) {
+        Ok(Some(wanted)) => run_cached(
+            rt,
+            alloc,
+            &wanted.settings,
+            wanted.script,
+            source,
+            hosts,
+            shelf,
+            screen,
+            cache,
+        ),
+        Ok(None) => uncached(rt, alloc, words, source, hosts, shelf, screen),
+        Err(_) => no_memory(screen),
+    }
+}
+
+/// The same over a cache that has nothing and keeps nothing.
 pub fn flume<X: Threads + Sync, R: Source, H: Host + Send, K: Shelf, P: Screen>(
+    rt: &X,
+    alloc: Global,
+    words: &[String],
+    source: &mut R,
+    hosts: &mut [H],
+    shelf: &mut K,
+    screen: &mut P,
+) -> Status
+    requires { length hosts.old ≡ 16 }
+    ensures promises { (failures : ℕ) × CachedPromises (map string_bytes words.now)
+        (world (seen R.files R.faults source.old) (R.asked source.old)
+        (seen_shelf K.files K.begun K.left K.faults shelf.old) (seen P.text P.faults screen.old)
+        (map (account H.notes H.losses) hosts.old))
+        (world (seen R.files R.faults source.new) (R.asked source.new)
+        (seen_shelf K.files K.begun K.left K.faults shelf.new) (seen P.text P.faults screen.new)
+        (map (account H.notes H.losses) hosts.new))
+        (without_entries 0) (without_entries failures) result }
+    ensures hosts { drop (lends_to (map string_bytes words.now)) hosts.new
+        ≡ drop (lends_to (map string_bytes words.now)) hosts.old }
+{
+    let mut cache = NoCache::new();
+    flume_cached(rt, alloc, words, source, hosts, shelf, screen, &mut cache)
+}
+
+// The same of words that ask for no cached run.
+fn uncached<X: Threads + Sync, R: Source, H: Host + Send, K: Shelf, P: Screen>(
     rt: &X,
     alloc: Global,
     words: &[String],

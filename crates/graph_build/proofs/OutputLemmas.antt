@@ -1,25 +1,22 @@
 -- One name of a call more.
-use Rattle.std.proofs.Common.{◌≡◌, ℕ, suc, ◌+◌, ◌-◌, ◌<◌, ◌≤◌, Bool, true, false, List, [], ◌∷◌, ◌++◌, map, refl, arith, ap, ◌∙◌, sym, subst, append_assoc, append-nil, add-one}
+use Rattle.std.proofs.Common.{◌≡◌, ℕ, suc, ◌+◌, ◌-◌, ◌<◌, ◌≤◌, Bool, List, [], ◌∷◌, ◌++◌, map, refl, arith, ap, ◌∙◌, sym, subst, append_assoc, append-nil, add-one}
 use Rattle.std.proofs.lemmas.List.{map-append}
-use Rattle.std.specs.Prelude.{◌||◌}
-use Rattle.std.specs.List.{list_any}
 use Rattle.exec_graph.specs.Forests.{Twig}
 use Rattle.exec_graph.specs.Twigs.{twig}
 use Rattle.exec_graph.specs.declared.step.Output.{Output}
 use Rattle.script_program.specs.Script.{Script}
-use Rattle.graph_build.specs.Calls.{names_needed, needed_from, next_if, number_behind, number_if, other_names, output_numbers}
+use Rattle.graph_build.specs.Calls.{emitted_at, needed_from, next_if, number_behind, number_if, output_numbers}
 use Rattle.graph_build.specs.Nodes.{bud}
-use Rattle.graph_build.specs.Wanted.{needed_at}
 
 -- the first of the names up to an end
 one_name : (script : Script) (name end : ℕ) → name < end
     → needed_from script name (end - name)
-    ≡ needed_at script name ∷ needed_from script (name + 1) (end - (name + 1))
+    ≡ emitted_at script name ∷ needed_from script (name + 1) (end - (name + 1))
 one_name script name end h =
     let e : end - name ≡ suc (end - (name + 1)) = omega arith in
     let next : suc name ≡ name + 1 = omega arith in
     ap (needed_from script name) e
-    ∙ ap (λ k. needed_at script name ∷ needed_from script k (end - (name + 1))) next
+    ∙ ap (λ k. emitted_at script name ∷ needed_from script k (end - (name + 1))) next
 
 no_name : (script : Script) (name end : ℕ) → end ≤ name
     → needed_from script name (end - name) ≡ []
@@ -32,39 +29,9 @@ pub so_many : (script : Script) (name more : ℕ)
 so_many script name more =
     let e : (name + more) - name ≡ more = omega arith in ap (needed_from script name) e
 
-abbrev any_of : List Bool → Bool
-any_of needed = list_any (λ one. one) needed
-
-or_assoc : (a b c : Bool) → ((a || b) || c) ≡ (a || (b || c))
-or_assoc true b c = refl
-or_assoc false b c = refl
-
-or_false : (a : Bool) → (a || false) ≡ a
-or_false true = refl
-or_false false = refl
-
--- whether one is needed
-pub any_next : (script : Script) (name end : ℕ) (found more all : Bool) → name < end
-    → more ≡ (found || needed_at script name)
-    → (found || any_of (needed_from script name (end - name))) ≡ all
-    → (more || any_of (needed_from script (name + 1) (end - (name + 1)))) ≡ all
-any_next script name end found more all below is h =
-    let rest : Bool = any_of (needed_from script (name + 1) (end - (name + 1))) in
-    ap (λ b. b || rest) is
-    ∙ or_assoc found (needed_at script name) rest
-    ∙ ap (λ names. found || any_of names) (sym (one_name script name end below))
-    ∙ h
-
-pub any_all : (script : Script) (name end : ℕ) (found all : Bool) → end ≤ name
-    → (found || any_of (needed_from script name (end - name))) ≡ all → found ≡ all
-any_all script name end found all past h =
-    sym (or_false found)
-    ∙ ap (λ names. found || any_of names) (sym (no_name script name end past))
-    ∙ h
-
 -- how many are needed
 pub count_next : (script : Script) (name end count more all : ℕ) → name < end
-    → more ≡ next_if (needed_at script name) count
+    → more ≡ next_if (emitted_at script name) count
     → number_behind count (needed_from script name (end - name)) ≡ all
     → number_behind more (needed_from script (name + 1) (end - (name + 1))) ≡ all
 count_next script name end count more all below is h =
@@ -83,19 +50,19 @@ buds next needed = map bud (output_numbers next needed)
 
 pub outputs_next : (script : Script) (name end number more : ℕ) (done outputs : List Output)
     (one : Output) (all : List Twig) → name < end
-    → twig one ≡ bud (number_if (needed_at script name) number)
-    → more ≡ next_if (needed_at script name) number
+    → twig one ≡ bud (number_if (emitted_at script name) number)
+    → more ≡ next_if (emitted_at script name) number
     → outputs ≡ done ++ one ∷ []
     → map twig done ++ buds number (needed_from script name (end - name)) ≡ all
     → map twig outputs ++ buds more (needed_from script (name + 1) (end - (name + 1))) ≡ all
 outputs_next script name end number more done outputs one all below is ahead pushed h =
     let rest : List Bool = needed_from script (name + 1) (end - (name + 1)) in
     (λ i. map twig (pushed i) ++ buds (ahead i) rest)
-    ∙ ap (λ twigs. twigs ++ buds (next_if (needed_at script name) number) rest)
+    ∙ ap (λ twigs. twigs ++ buds (next_if (emitted_at script name) number) rest)
     (map-append twig done (one ∷ []))
     ∙ append_assoc (map twig done) (twig one ∷ [])
-    (buds (next_if (needed_at script name) number) rest)
-    ∙ ap (λ t. map twig done ++ t ∷ buds (next_if (needed_at script name) number) rest) is
+    (buds (next_if (emitted_at script name) number) rest)
+    ∙ ap (λ t. map twig done ++ t ∷ buds (next_if (emitted_at script name) number) rest) is
     ∙ ap (λ names. map twig done ++ buds number names) (sym (one_name script name end below))
     ∙ h
 
@@ -107,12 +74,3 @@ outputs_all script name end number done all past h =
     sym (append-nil (map twig done))
     ∙ ap (λ names. map twig done ++ buds number names) (sym (no_name script name end past))
     ∙ h
-
--- of all names of a call
-pub any_names : (script : Script) (first f others : ℕ) (found : Bool)
-    → others ≡ other_names script f
-    → found ≡ any_of (needed_from script first (((first + 1) + others) - first))
-    → found ≡ any_of (names_needed script first f)
-any_names script first f others found many h =
-    let e : ((first + 1) + others) - first ≡ suc others = omega arith in
-    h ∙ ap (λ n. any_of (needed_from script first n)) (e ∙ ap suc many)

@@ -6,21 +6,20 @@ use Rattle.std.specs.Prelude.{map, slice_get}
 use Rattle.std.specs.Option.{option_map}
 use Rattle.exec_graph.specs.declared.graph.Entry.{Entry}
 use Rattle.exec_graph.specs.declared.graph.Place.{Place}
-use Rattle.script_program.specs.declared.made.Made.{Made}
 use Rattle.script_program.specs.Script.{Script}
 use Rattle.graph_build.specs.Graphs.{last_node, behind, giving_from, next_source, nodes_at, nodes_from}
-use Rattle.graph_build.specs.Built.{built, built_at}
+use Rattle.graph_build.specs.Built.{Built, built, built_at}
 use Rattle.graph_build.proofs.BuiltLemmas.{built_length}
 
-pub giving_step : (ws : List (Option Made)) (i n : ℕ) → i < length ws
+pub giving_step : (ws : List (Option Built)) (i n : ℕ) → i < length ws
     → giving_from n (drop i ws)
     ≡ last_node n (get_or ws i None) ∷ giving_from (behind n (get_or ws i None)) (drop (i + 1) ws)
 giving_step ws i n h = rw (add-one, drop-cons ws i None)
 
-pub nodes_step : (script : Script) (gives : ℕ → Place) (ws : List (Option Made)) (i source n : ℕ)
-    → i < length ws → nodes_from script gives i source n (drop i ws)
-    ≡ nodes_at script gives i source n (get_or ws i None)
-    ++ nodes_from script gives (i + 1) (next_source source (get_or ws i None))
+pub nodes_step : (script : Script) (gives : ℕ → Place) (ws : List (Option Built)) (i source n : ℕ)
+    → i < length ws → nodes_from script gives source n (drop i ws)
+    ≡ nodes_at script gives source n (get_or ws i None)
+    ++ nodes_from script gives (next_source source (get_or ws i None))
     (behind n (get_or ws i None)) (drop (i + 1) ws)
 nodes_step script gives ws i source n h = rw (add-one, drop-cons ws i None)
 
@@ -33,9 +32,9 @@ giving_done script i n h =
     ap (giving_from n) (all_dropped (built script) i (h ∙ sym (built_length script)))
 
 pub nodes_done : (gives : ℕ → Place) (script : Script) (i source n : ℕ)
-    → i ≡ length script.nodes → nodes_from script gives i source n (drop i (built script)) ≡ []
+    → i ≡ length script.nodes → nodes_from script gives source n (drop i (built script)) ≡ []
 nodes_done gives script i source n h =
-    ap (nodes_from script gives i source n)
+    ap (nodes_from script gives source n)
     (all_dropped (built script) i (h ∙ sym (built_length script)))
 
 -- one more is done
@@ -88,7 +87,7 @@ giving_all script done all i n end h =
 
 pub nodes_all : (gives : ℕ → Place) (script : Script) (done all : List Entry) (i source n : ℕ)
     → i ≡ length script.nodes
-    → done ++ nodes_from script gives i source n (drop i (built script)) ≡ all → done ≡ all
+    → done ++ nodes_from script gives source n (drop i (built script)) ≡ all → done ≡ all
 nodes_all gives script done all i source n end h =
     sym (append-nil done)
     ∙ ap (λ rest. done ++ rest) (sym (nodes_done gives script i source n end)) ∙ h

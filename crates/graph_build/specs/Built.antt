@@ -1,39 +1,46 @@
--- At which collections of a script nodes are built: where it is needed at each by itself, and at
--- the first name of a call, where one of the call's names is needed. Further names of a call have
--- no nodes of their own.
-use Rattle.std.specs.Prelude.{ℕ, Bool, false, List, [], ◌∷◌, Option, Some, None, if◌then◌else◌, slice_index_or}
-use Rattle.std.proofs.Common.{zero, suc}
-use Rattle.std.specs.List.{list_any}
+-- At which collections of a script nodes are built, and of which: at each by itself, where it is
+-- needed, but at the names of a call first of its kept names, and then of the call, where one of
+-- its names is needed that is not kept. Further names of a call have no nodes of their own.
+use Rattle.std.specs.Prelude.{ℕ, ◌-◌, List, [], ◌∷◌, Option, Some, None, if◌then◌else◌, option_and_then, slice_get, slice_index_or}
+use Rattle.std.proofs.Common.{suc}
+use Rattle.std.specs.Option.{option_map}
 use Rattle.written_types.specs.Named.{Named}
+use Rattle.script_program.specs.declared.made.Emitted.{Emitted}
 use Rattle.script_program.specs.declared.made.Made.{Made}
 use Rattle.script_program.specs.Script.{Node, Script}
-use Rattle.graph_build.specs.Calls.{Emitted, emitted_as, names_needed}
-use Rattle.graph_build.specs.Wanted.{needed_at}
+use Rattle.graph_build.specs.Calls.{call_built, emitted_as}
+use Rattle.graph_build.specs.Wanted.{needed_at, wanted_at}
 
--- at a call's output of that place
-abbrev pub is_call_built : Script → ℕ → ℕ → ℕ → Bool
-is_call_built script number function zero =
-    list_any (λ needed. needed) (names_needed script number function)
-is_call_built script number function (suc output) = false
+-- a collection of which nodes are built: its number, and how it is made. A call is built as the
+-- first name that it emits.
+pub record Built : Type 0 where
+  pub number : ℕ
+  pub made : Made
 
-abbrev pub is_built_as : Script → ℕ → Option Emitted → Bool
-is_built_as script number None = needed_at script number
-is_built_as script number (Some it) = is_call_built script number it.function it.output
+-- the collection that is built at the name of that number, by which output of a call it is
+abbrev pub built_as : Script → ℕ → Option Emitted → Option ℕ
+built_as script number None = if needed_at script number then Some number else None
+built_as script number (Some it) =
+    slice_get (call_built script (number - it.output) it.function) it.output
 
--- whether nodes are built at the collection of that number
-abbrev pub is_built : Script → ℕ → Made → Bool
-is_built script number how = is_built_as script number (emitted_as how)
+-- the same, with how it is made
+abbrev pub as_made : Script → ℕ → Option Built
+as_made script number =
+    option_map (λ how. record { number = number; made = how }) (wanted_at script number)
 
--- how each collection is made, from that number on, where nodes are built
-abbrev pub built_from : Script → ℕ → Named Node → List (Option Made)
+abbrev pub built_here : Script → ℕ → Made → Option Built
+built_here script number how =
+    option_and_then (as_made script) (built_as script number (emitted_as how))
+
+-- what is built at each collection, from that number on
+abbrev pub built_from : Script → ℕ → Named Node → List (Option Built)
 built_from script number [] = []
 built_from script number (entry ∷ nodes) =
-    (if is_built script number entry.1.made then Some entry.1.made else None)
-    ∷ built_from script (suc number) nodes
+    built_here script number entry.1.made ∷ built_from script (suc number) nodes
 
-abbrev pub built : Script → List (Option Made)
+abbrev pub built : Script → List (Option Built)
 built script = built_from script 0 script.nodes
 
--- how the collection of that number is made, where nodes are built
-abbrev pub built_at : Script → ℕ → Option Made
+-- what is built at the collection of that number
+abbrev pub built_at : Script → ℕ → Option Built
 built_at script number = slice_index_or (built script) number None

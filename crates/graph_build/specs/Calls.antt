@@ -1,27 +1,29 @@
 -- The calls of a script's functions: which outputs of a call are needed, and the numbers of these.
 --
 -- The names of one statement stand one after another, one for each output of the function: where
--- the first name has the number `first`, the collection first + k is the output k of the call.
-use Rattle.std.specs.Prelude.{ℕ, ◌+◌, ◌-◌, Bool, true, false, List, [], ◌∷◌, Option, Some, None, length, slice_get}
+-- the first name has the number `first`, the collection first + k is the output k of the call. Some
+-- of them may be kept by an earlier run: those the call need not emit.
+use Rattle.std.specs.Prelude.{ℕ, ◌+◌, ◌-◌, Bool, true, false, List, [], ◌∷◌, ◌++◌, Option, Some, None, length, slice_get}
+use Rattle.std.specs.Prelude.{if◌then◌else◌}
 use Rattle.std.proofs.Common.{zero, suc}
 use Rattle.std.specs.Option.{option_map}
+use Rattle.script_program.specs.declared.made.Emitted.{Emitted}
 use Rattle.script_program.specs.declared.made.Made.{Made}
 use Rattle.script_program.specs.declared.made.Made.TheVariants as made
 use Rattle.script_program.specs.Script.{Function, Script}
-use Rattle.graph_build.specs.Wanted.{needed_at}
+pub use Rattle.script_program.specs.Kinds.{emitted_as}
+use Rattle.graph_build.specs.Wanted.{wanted_at}
 
 -- ---- which outputs
 
--- an output of a call: of which function it is, and its place among the outputs
-pub record Emitted : Type 0 where
-  pub function : ℕ
-  pub output : ℕ
+-- a call emits it, where it is needed; a kept one is not emitted
+abbrev pub is_emitted : Option Made → Bool
+is_emitted (Some (made.Do source function output)) = true
+is_emitted _ = false
 
--- the output of a call that a collection is, if it is one
-abbrev pub emitted_as : Made → Option Emitted
-emitted_as (made.Do source function output) =
-    Some (record { function = function; output = output })
-emitted_as _ = None
+-- whether there is a collection of that number that is needed and that a call emits
+abbrev pub emitted_at : Script → ℕ → Bool
+emitted_at script number = is_emitted (wanted_at script number)
 
 -- how many outputs a function has beside its first
 abbrev pub beside_first : Option Function → ℕ
@@ -33,13 +35,13 @@ abbrev pub other_names : Script → ℕ → ℕ
 other_names script function =
     beside_first (option_map (λ entry. entry.1) (slice_get script.functions function))
 
--- of so many collections, from that number on, whether each is needed
+-- of so many collections, from that number on, whether each is needed of a call
 abbrev pub needed_from : Script → ℕ → ℕ → List Bool
 needed_from script number zero = []
 needed_from script number (suc more) =
-    needed_at script number ∷ needed_from script (suc number) more
+    emitted_at script number ∷ needed_from script (suc number) more
 
--- of the outputs of a call, whether each is needed
+-- of the outputs of a call, whether each is needed of it
 abbrev pub names_needed : Script → ℕ → ℕ → List Bool
 names_needed script first function = needed_from script first (suc (other_names script function))
 
@@ -64,3 +66,32 @@ output_numbers next (needed ∷ rest) =
 abbrev pub number_behind : ℕ → List Bool → ℕ
 number_behind next [] = next
 number_behind next (needed ∷ rest) = number_behind (next_if needed next) rest
+
+-- ---- kept names
+
+abbrev pub is_kept : Option Made → Bool
+is_kept (Some (made.Saved is_object call)) = true
+is_kept _ = false
+
+-- whether there is a collection of that number that is needed and kept
+abbrev pub kept_at : Script → ℕ → Bool
+kept_at script number = is_kept (wanted_at script number)
+
+-- the numbers of those among so many collections, from that number on
+abbrev pub kept_from : Script → ℕ → ℕ → List ℕ
+kept_from script number zero = []
+kept_from script number (suc more) =
+    (if kept_at script number then number ∷ [] else []) ++ kept_from script (suc number) more
+
+-- the number of the first that a call emits among so many collections, if it emits one
+abbrev pub first_emitted : Script → ℕ → ℕ → List ℕ
+first_emitted script number zero = []
+first_emitted script number (suc more) =
+    if emitted_at script number then number ∷ [] else first_emitted script (suc number) more
+
+-- what is built at the names of a call, one behind the other: its kept names, and then the call, by
+-- the first name that it emits
+abbrev pub call_built : Script → ℕ → ℕ → List ℕ
+call_built script first function =
+    kept_from script first (suc (other_names script function))
+    ++ first_emitted script first (suc (other_names script function))

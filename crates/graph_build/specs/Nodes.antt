@@ -1,7 +1,7 @@
 -- The graph nodes that make a collection of a script, of which the last gives it. Each has the
 -- collection as its origin, and numbers one after another. A call is one node, with an output for
 -- each of its names, and has the first of these as its origin.
-use Rattle.std.specs.Prelude.{ℕ, ◌+◌, Bool, true, false, List, [], ◌∷◌, map, Option, Some, None}
+use Rattle.std.specs.Prelude.{ℕ, ◌+◌, ◌-◌, Bool, true, false, List, [], ◌∷◌, map, Option, Some, None, slice_index}
 use Rattle.std.proofs.Common.{suc}
 use Rattle.combine_table.specs.declared.comb.Comb.TheVariants as by
 use Rattle.combine_table.specs.declared.comb.Comb.{Comb}
@@ -19,17 +19,25 @@ use Rattle.exec_graph.specs.Meaning.{place}
 use Rattle.script_program.specs.declared.made.Made.{Made}
 use Rattle.script_program.specs.declared.made.Made.TheVariants as made
 use Rattle.script_program.specs.Script.{Script}
-use Rattle.graph_build.specs.Calls.{needed_from, next_if, number_if, other_names, output_numbers}
-use Rattle.graph_build.specs.Wanted.{needed_at}
+use Rattle.script_program.specs.Sources.{source_numbers}
+use Rattle.graph_build.specs.Calls.{emitted_at, needed_from, next_if, number_if, other_names, output_numbers}
 
 -- ---- one node
 
 abbrev pub entry : ℕ → Node → Entry
 entry number node = record { number = number; node = node }
 
+-- the source of that number, an object or not
+abbrev pub read_source : ℕ → Bool → Input
+read_source number is_object = record { number = number; is_object = is_object }
+
 -- the input of that number, whose rows are read: it is no object
 abbrev pub read_input : ℕ → Input
-read_input number = record { number = number; is_object = false }
+read_input number = read_source number false
+
+-- the number of a source, by the order of the script
+abbrev pub source_number : Script → ℕ → ℕ
+source_number script source = slice_index (source_numbers script) source
 
 -- one step, whose one output is number 0
 abbrev pub one_step : ℕ → Bool → Does → Forest
@@ -65,7 +73,7 @@ call_step origin function first others = limb (call_branch origin function first
 abbrev pub call_in : Script → ℕ → ℕ → Place → Node
 call_in script origin function input =
     Pdo input
-    (call_step origin function (needed_at script origin)
+    (call_step origin function (emitted_at script origin)
     (needed_from script (suc origin) (other_names script function)))
 
 -- the groups behind the last step of a collection
@@ -130,19 +138,21 @@ before_last (made.Top number source) = 3
 before_last (made.CombineAll source by) = 3
 before_last (made.Operate objects function) = 0
 before_last (made.DoWith source function object) = 0
+before_last (made.Saved is_object call) = 0
 
 -- how many sources a collection has
 abbrev pub inputs_of : Made → ℕ
 inputs_of (made.Input file columns) = 1
+inputs_of (made.Saved is_object call) = 1
 inputs_of _ = 0
 
 -- the nodes of the collection `origin` of a script from number n on, where these places give the
--- script's collections, and `source` is the number of the next input
+-- script's collections, and `source` is the number of the next source in order of the script
 abbrev pub made_nodes : Script → (ℕ → Place) → ℕ → ℕ → ℕ → Made → List Entry
 made_nodes script gives origin source n (made.Input file columns) =
-    entry n (Source (read_input source)) ∷ []
+    entry n (Source (read_input (source_number script source))) ∷ []
 made_nodes script gives origin source n (made.Do input function output) =
-    entry n (call_in script origin function (gives input)) ∷ []
+    entry n (call_in script (origin - output) function (gives input)) ∷ []
 made_nodes script gives origin source n (made.Group input) =
     entry n (Gbk (gives input) origin true None) ∷ []
 made_nodes script gives origin source n (made.Combine input by) =
@@ -160,3 +170,5 @@ made_nodes script gives origin source n (made.Operate objects function) =
     entry n (barrier origin (Operate function) (map gives objects)) ∷ []
 made_nodes script gives origin source n (made.DoWith input function object) =
     entry n (barrier origin (SideInput function) (gives input ∷ gives object ∷ [])) ∷ []
+made_nodes script gives origin source n (made.Saved is_object call) =
+    entry n (Source (read_source (source_number script source) is_object)) ∷ []

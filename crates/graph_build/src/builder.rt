@@ -1,13 +1,16 @@
 // The graph of a program, built collection by collection in the order of the script.
-ghost use Rattle.std.specs.Prelude.{◌≡◌, ◌<◌, ◌^◌, [], ◌∷◌, ◌++◌, true, None, Some, length, map, IfOk, OnOk};
+ghost use Rattle.std.specs.Prelude.{◌≡◌, ◌+◌, ◌-◌, ◌<◌, ◌^◌, [], ◌∷◌, ◌++◌, true, None, Some, length, map, IfOk, OnOk};
 ghost use Rattle.exec_graph.specs.declared.graph.Node.TheVariants.{Flatten, Gbk};
 ghost use Rattle.exec_graph.specs.declared.step.Does.TheVariants as does;
 ghost use Rattle.graph_build.specs.Built.{built, built_at as built_in};
 ghost use Rattle.graph_build.specs.Graphs as spec;
-ghost use Rattle.graph_build.specs.Nodes.{call_in, entry, last_step as last_step_of, made_nodes};
+ghost use Rattle.graph_build.specs.Nodes.{call_in, entry, last_step as last_step_of, made_nodes, source_number};
+ghost use Rattle.graph_build.specs.Nodes.{before_last as before_last_of, inputs_of as inputs_in};
+ghost use Rattle.script_program.specs.Saved.{with_saved};
+ghost use Rattle.script_program.specs.Sources.{source_numbers as numbers_in};
 
 use crate::built::built_at;
-use crate::nodes::{call, last_step, push_node, read_input};
+use crate::nodes::{call, last_step, push_node, read_source};
 use crate::numbers::{Start, ahead_of, before_last, inputs_of, number_of};
 use crate::objects::{push_beside, push_operate, push_whole};
 use crate::operations::{push_count, push_join, push_top};
@@ -15,8 +18,25 @@ use crate::places::{place_in, places, places_in};
 use combine_table::Comb;
 use exec_graph::{Does, Entry, Graph, Node, Place};
 use flume_value::Pile;
-use script_program::{Made, Program};
+use script_program::{Made, Program, source_at, source_numbers};
 use std::alloc::{AllocError, Global};
+
+/// A program in which the collections of these numbers are those that an earlier run has kept, and
+/// its execution graph. What alone they read is not needed any more.
+pub fn build_with(
+    alloc: Global,
+    program: Program,
+    found: &[u32],
+) -> Result<(Program, Graph), AllocError>
+    ensures script { IfOk result (λ built.
+        built.0.script ≡ with_saved found.now program.script) }
+    ensures graph { IfOk result (λ built.
+        built.1 ≡ spec.graph_of (with_saved found.now program.script)) }
+{
+    let program = program.with_saved(found);
+    let graph = build(alloc, &program)?;
+    Ok((program, graph))
+}
 
 /// The execution graph of a program.
 pub fn build(alloc: Global, program: &Program) -> Result<Graph, AllocError>
@@ -44,9 +64,10 @@ fn nodes_of(
 ) -> Result<Pile<Entry>, AllocError>
     requires { count ≡ length program.now.script.nodes }
     ensures { IfOk result (λ nodes. nodes
-        ≡ spec.nodes_from program.now.script (spec.place_in places.now) 0 0 0
+        ≡ spec.nodes_from program.now.script (spec.place_in places.now) 0 0
         (built program.now.script)) }
 {
+    let sources = source_numbers(alloc, program)?;
     let mut nodes = Pile::new(alloc);
     let mut source = 0;
     let mut next = 0;
@@ -56,25 +77,33 @@ fn nodes_of(
             source,
             node: next,
         };
-        let behind = push_nodes(alloc, program, places, start, &mut nodes)?;
+        let behind = push_nodes(
+            alloc,
+            program,
+            places,
+            sources.as_slice(),
+            start,
+            &mut nodes,
+        )?;
         source = behind.source;
         next = behind.node;
     }
     Ok(nodes)
 }
 
-/// Adds the nodes of a collection, where it is needed. It gives where those of the next one begin.
+/// Adds the nodes that are built at a collection. It gives where those of the next one begin.
 fn push_nodes(
     alloc: Global,
     program: &Program,
     places: &[Place],
+    sources: &[u32],
     start: Start,
     nodes: &mut Pile<Entry>,
 ) -> Result<Start, AllocError>
-    requires { start.origin < length program.now.script.nodes }
+    requires at { start.origin < length program.now.script.nodes }
+    requires sources { sources.now ≡ numbers_in program.now.script }
     ensures pushed { OnOk result (nodes.new ≡ nodes.old
-        ++ spec.nodes_at program.now.script (spec.place_in places.now) start.origin start.source
-        start.node
+        ++ spec.nodes_at program.now.script (spec.place_in places.now) start.source start.node
         (built_in program.now.script start.origin)) }
     ensures source { IfOk result (λ behind. behind.source
         ≡ spec.next_source start.source (built_in program.now.script start.origin)) }
@@ -83,7 +112,14 @@ fn push_nodes(
 {
     match built_at(program, start.origin)? {
         None => Ok(start),
-        Some(made) => push_made(alloc, program, places, start, made, nodes),
+        Some((origin, made)) => {
+            let start = Start {
+                origin,
+                source: start.source,
+                node: start.node,
+            };
+            push_made(alloc, program, places, sources, start, made, nodes)
+        }
     }
 }
 
@@ -92,21 +128,25 @@ fn push_made(
     alloc: Global,
     program: &Program,
     places: &[Place],
+    sources: &[u32],
     start: Start,
     made: &Made,
     nodes: &mut Pile<Entry>,
 ) -> Result<Start, AllocError>
+    requires { sources.now ≡ numbers_in program.now.script }
     ensures pushed { OnOk result (nodes.new ≡ nodes.old
         ++ made_nodes program.now.script (spec.place_in places.now) start.origin start.source
         start.node made.now) }
     ensures source { IfOk result (λ behind. behind.source
-        ≡ spec.next_source start.source (Some made.now)) }
-    ensures node { IfOk result (λ behind. behind.node ≡ spec.behind start.node (Some made.now)) }
+        ≡ start.source + inputs_in made.now) }
+    ensures node { IfOk result (λ behind.
+        behind.node ≡ start.node + before_last_of made.now + 1) }
 {
     let last = ahead_of(start.node, before_last(made))?;
     let node = ahead_of(last, 1)?;
     let source = ahead_of(start.source, inputs_of(made))?;
-    push_operation(alloc, program, places, start, made, nodes)?;
+    let input = source_at(sources, start.source as usize);
+    push_operation(alloc, program, places, input, start, made, nodes)?;
     Ok(Start {
         origin: start.origin,
         source,
@@ -114,27 +154,34 @@ fn push_made(
     })
 }
 
-/// Adds the nodes of a collection.
+/// Adds the nodes of a collection, which has that input where it is a source.
 fn push_operation(
     alloc: Global,
     program: &Program,
     places: &[Place],
+    input: u32,
     start: Start,
     made: &Made,
     nodes: &mut Pile<Entry>,
 ) -> Result<(), AllocError>
-    requires { spec.behind start.node (Some made.now) < 2 ^ 32 }
+    requires few { start.node + before_last_of made.now + 1 < 2 ^ 32 }
+    requires input { input ≡ source_number program.now.script start.source }
     ensures { OnOk result (nodes.new ≡ nodes.old
         ++ made_nodes program.now.script (spec.place_in places.now) start.origin start.source
         start.node made.now) }
 {
     match made {
-        Made::Input { .. } => push_node(nodes, start.node, read_input(start.source)),
+        Made::Input { .. } => push_node(nodes, start.node, read_source(input, false)),
         Made::Do {
             source,
             function,
-            ..
-        } => push_call(alloc, program, places, start, *source, *function, nodes),
+            output,
+        } => {
+            let first = first_name(start.origin, *output);
+            push_call(
+                alloc, program, places, first, start, *source, *function, nodes,
+            )
+        }
         Made::Group { source } => push_groups(places, start, *source, nodes),
         Made::Combine { source, by } => push_combine(alloc, places, start, *source, *by, nodes),
         Made::Flatten { sources } => push_flatten(alloc, places, start, sources.as_slice(), nodes),
@@ -150,14 +197,25 @@ fn push_operation(
             function,
             object,
         } => push_beside(alloc, places, start, *source, *function, *object, nodes),
+        Made::Saved { is_object, .. } => {
+            push_node(nodes, start.node, read_source(input, *is_object))
+        }
     }
 }
 
-/// Adds the call of a function.
+/// The first name of a call, of which the output of that place has this number.
+fn first_name(number: u32, output: usize) -> u32
+    ensures { result ≡ number - output }
+{
+    (number as usize).saturating_sub(output) as u32
+}
+
+/// Adds the call of a function, whose first name has the number `first`.
 fn push_call(
     alloc: Global,
     program: &Program,
     places: &[Place],
+    first: u32,
     start: Start,
     source: usize,
     function: usize,
@@ -165,10 +223,10 @@ fn push_call(
 ) -> Result<(), AllocError>
     ensures { OnOk result (nodes.new ≡ nodes.old
         ++ entry start.node
-        (call_in program.now.script start.origin function (spec.place_in places.now source)) ∷ []) }
+        (call_in program.now.script first function (spec.place_in places.now source)) ∷ []) }
 {
     let input = place_in(places, source);
-    let node = call(alloc, program, start.origin, function, input)?;
+    let node = call(alloc, program, first, function, input)?;
     push_node(nodes, start.node, node)
 }
 

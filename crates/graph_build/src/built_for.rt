@@ -5,7 +5,7 @@ ghost use Rattle.graph_build.specs.Origins as spec;
 
 use crate::built::built_at;
 use crate::numbers::{before_last, number_of};
-use script_program::Program;
+use script_program::{Made, Program};
 use std::alloc::{AllocError, Global};
 
 /// By the number of each node of the program's graph, the number of the collection that the node is
@@ -21,16 +21,28 @@ pub fn origins(alloc: Global, program: &Program) -> Result<Vec<u32>, AllocError>
     Ok(origins)
 }
 
-/// Adds a collection, once for each of its nodes.
-fn push_origins(program: &Program, origin: u32, origins: &mut Vec<u32>) -> Result<(), AllocError>
-    requires { origin < length program.now.script.nodes }
+/// Adds the collection that nodes are built for at the one of a number, once for each of them.
+fn push_origins(program: &Program, number: u32, origins: &mut Vec<u32>) -> Result<(), AllocError>
+    requires { number < length program.now.script.nodes }
     ensures { OnOk result (origins.new.items
         ≡ origins.old.items
-        ++ spec.origins_at origin (built_in program.now.script origin)) }
+        ++ spec.origins_at (built_in program.now.script number)) }
 {
-    match built_at(program, origin)? {
+    match built_at(program, number)? {
         None => Ok(()),
-        Some(made) => push_times(before_last(made) + 1, origin, origins),
+        Some((number, made)) => {
+            push_times(before_last(made) + 1, origin_of(number, made), origins)
+        }
+    }
+}
+
+/// The first name of a call, for which it is built; else the collection itself.
+fn origin_of(number: u32, made: &Made) -> u32
+    ensures { result ≡ spec.origin_of number made.now }
+{
+    match made {
+        Made::Do { output, .. } => (number as usize).saturating_sub(*output) as u32,
+        _ => number,
     }
 }
 

@@ -6,9 +6,12 @@
 //! are made of steps, groups and combinations; of each of these the last node alone gives what the
 //! collection is. What takes objects is a barrier, and so is what makes one.
 //!
-//! A call of a function is one node, at the first of its names (specs/Built.antt), where one of
-//! them is needed. It has an output for each name, in order; those that are needed have numbers,
+//! A call of a function is one node, at its names (specs/Built.antt), where one of them is needed.
+//! It has an output for each name, in order; those that are needed have numbers,
 //! from 0 on, and no others are read (specs/Calls.antt).
+//!
+//! A collection that an earlier run has kept is a source, and so are inputs. Of the names of a call
+//! the kept ones stand first, and behind them the call, where one of its other names is needed.
 #![tactic(auto)]
 
 mod builder;
@@ -22,6 +25,6 @@ mod outputs;
 mod places;
 mod wanted;
 
-pub use builder::build;
+pub use builder::{build, build_with};
 pub use built_for::origins;
 pub use script_program;

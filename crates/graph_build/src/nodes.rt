@@ -1,4 +1,4 @@
-// Single nodes: inputs, steps, calls and groups.
+// Single nodes: sources, steps, calls and groups.
 ghost use Rattle.std.specs.Prelude.{◌≡◌, [], ◌∷◌, ◌++◌, Some, IfOk, OnOk};
 ghost use Rattle.exec_graph.specs.declared.graph.Node.TheVariants.{Pdo, Source};
 ghost use Rattle.exec_graph.specs.Forests.{Bare, grown};
@@ -6,8 +6,7 @@ ghost use Rattle.exec_graph.specs.Twigs.{twig};
 ghost use Rattle.graph_build.specs.Nodes as spec;
 
 use crate::numbers::number_of;
-use crate::outputs::{next_if, other_names, output, outputs_from};
-use crate::wanted::needed_at;
+use crate::outputs::{emitted_at, next_if, other_names, output, outputs_from};
 use exec_graph::{Does, Entry, Input, Node, Output, Place, Roots, Step};
 use flume_value::Pile;
 use script_program::Program;
@@ -20,14 +19,11 @@ pub(crate) fn push_node(nodes: &mut Pile<Entry>, number: u32, node: Node) -> Res
     nodes.push(Entry { number, node })
 }
 
-/// The input of that number, whose rows are read.
-pub(crate) fn read_input(number: u32) -> Node
-    ensures { result ≡ Source (spec.read_input number) }
+/// The source of that number, an object or not.
+pub(crate) fn read_source(number: u32, is_object: bool) -> Node
+    ensures { result ≡ Source (spec.read_source number is_object) }
 {
-    Node::Source(Input {
-        number,
-        is_object: false,
-    })
+    Node::Source(Input { number, is_object })
 }
 
 /// The step of a collection that does not give it.
@@ -64,7 +60,7 @@ pub(crate) fn call(
     let does = Does::Call(number_of(function)?);
     let others = other_names(program, function)?;
     let name = first as usize;
-    let needed = needed_at(program, name);
+    let needed = emitted_at(program, name);
     let next = next_if(needed, 0)?;
     let more = outputs_from(alloc, program, next, name + 1, name + 1 + others as usize)?;
     let step = Step::new(first, true, does, output(alloc, needed, 0), more);

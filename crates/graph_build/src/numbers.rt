@@ -9,8 +9,8 @@ use exec_graph::Place;
 use script_program::{Made, Program};
 use std::alloc::{AllocError, Global};
 
-/// Where the nodes of a collection begin: its number, that of the next input, and that of the next
-/// node.
+/// Where the nodes of a collection begin: its number, that of the next source in order of the
+/// script, and that of the next node.
 #[derive(Clone, Copy)]
 pub(crate) struct Start {
     pub(crate) origin: u32,
@@ -56,12 +56,12 @@ pub(crate) fn inputs_of(made: &Made) -> u32
     ensures { result ≡ inputs_in made.now }
 {
     match made {
-        Made::Input { .. } => 1,
+        Made::Input { .. } | Made::Saved { .. } => 1,
         _ => 0,
     }
 }
 
-/// The number of the last node of each collection.
+/// The number of the last node that is built at each collection.
 pub(crate) fn giving(alloc: Global, program: &Program, count: u32) -> Result<Vec<u32>, AllocError>
     requires { count ≡ length program.now.script.nodes }
     ensures { IfOk result (λ giving. giving.items ≡ spec.giving program.now.script) }
@@ -74,8 +74,8 @@ pub(crate) fn giving(alloc: Global, program: &Program, count: u32) -> Result<Vec
     Ok(giving)
 }
 
-/// Adds the number of the last node of a collection, whose first node has the number `next`. It
-/// gives the number behind its nodes.
+/// Adds the number of the last node that is built at a collection, whose first has the number
+/// `next`. It gives the number behind its nodes.
 fn push_giving(
     program: &Program,
     number: u32,
@@ -94,7 +94,7 @@ fn push_giving(
             giving.push(0)?;
             Ok(next)
         }
-        Some(made) => {
+        Some((_, made)) => {
             let last = ahead_of(next, before_last(made))?;
             giving.push(last)?;
             let behind = ahead_of(last, 1)?;

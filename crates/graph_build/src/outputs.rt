@@ -1,14 +1,13 @@
 // The outputs of calls: which of them are needed, and the numbers of these.
-ghost use Rattle.std.specs.Prelude.{◌≡◌, ◌-◌, ◌<◌, ◌||◌, IfOk, length, map};
-ghost use Rattle.std.specs.List.{list_any};
+ghost use Rattle.std.specs.Prelude.{◌≡◌, ◌-◌, ◌<◌, IfOk, length, map};
 ghost use Rattle.exec_graph.specs.Twigs.{twig};
 ghost use Rattle.graph_build.specs.Calls as spec;
 ghost use Rattle.graph_build.specs.Nodes.{bud};
 
 use crate::numbers::{ahead_of, number_of};
-use crate::wanted::needed_at;
+use crate::wanted::wanted_at;
 use exec_graph::Output;
-use script_program::Program;
+use script_program::{Made, Program};
 use std::alloc::{AllocError, Global};
 
 /// How many names a call of a function has beside its first.
@@ -31,33 +30,46 @@ fn beside_first(program: &Program, function: usize) -> usize
     outputs.saturating_sub(1)
 }
 
-/// Whether a collection from one number up to another is needed.
-pub(crate) fn is_one_needed(program: &Program, first: usize, end: usize) -> bool
-    ensures { result
-        ≡ list_any (λ needed. needed)
-        (spec.needed_from program.now.script first (end - first)) }
+/// Whether there is a collection of a number that is needed and that a call emits.
+pub(crate) fn emitted_at(program: &Program, number: usize) -> bool
+    ensures { result ≡ spec.emitted_at program.now.script number }
 {
-    let mut found = false;
-    for name in first..end {
-        found = either(found, needed_at(program, name));
+    match wanted_at(program, number) {
+        Some(Made::Do { .. }) => true,
+        _ => false,
     }
-    found
 }
 
-fn either(found: bool, needed: bool) -> bool
-    ensures { result ≡ (found || needed) }
+/// Whether there is a collection of a number that is needed and kept.
+pub(crate) fn kept_at(program: &Program, number: usize) -> bool
+    ensures { result ≡ spec.kept_at program.now.script number }
 {
-    found || needed
+    match wanted_at(program, number) {
+        Some(Made::Saved { .. }) => true,
+        _ => false,
+    }
 }
 
-/// How many collections from one number up to another are needed.
+/// How many collections from one number up to another are needed and kept.
+pub(crate) fn kept_count(program: &Program, first: usize, end: usize) -> Result<u32, AllocError>
+    ensures { IfOk result (λ count. count
+        ≡ length (spec.kept_from program.now.script first (end - first))) }
+{
+    let mut count = 0;
+    for name in first..end {
+        count = next_if(kept_at(program, name), count)?;
+    }
+    Ok(count)
+}
+
+/// How many collections from one number up to another are needed of a call.
 pub(crate) fn count_needed(program: &Program, first: usize, end: usize) -> Result<u32, AllocError>
     ensures { IfOk result (λ count. count
         ≡ spec.number_behind 0 (spec.needed_from program.now.script first (end - first))) }
 {
     let mut count = 0;
     for name in first..end {
-        count = next_if(needed_at(program, name), count)?;
+        count = next_if(emitted_at(program, name), count)?;
     }
     Ok(count)
 }
@@ -78,7 +90,7 @@ pub(crate) fn outputs_from(
     let mut outputs = Vec::new(alloc);
     let mut number = next;
     for name in first..end {
-        let needed = needed_at(program, name);
+        let needed = emitted_at(program, name);
         outputs.push(output(alloc, needed, number))?;
         number = next_if(needed, number)?;
     }

@@ -1,15 +1,15 @@
 // The places of collections in the graph.
-ghost use Rattle.std.specs.Prelude.{◌≡◌, ◌+◌, ◌<◌, ◌^◌, [], ◌∷◌, IfOk, length, map, slice_index};
-ghost use Rattle.graph_build.specs.Calls.{emitted_as};
+ghost use Rattle.std.specs.Prelude.{◌≡◌, ◌+◌, ◌<◌, ◌^◌, Some, IfOk, if◌then◌else◌, length, map, slice_index};
+ghost use Rattle.graph_build.specs.Calls.{emitted_as, is_kept};
 ghost use Rattle.graph_build.specs.Graphs as spec;
 ghost use Rattle.graph_build.specs.Wanted.{wanted_at as wanted_in};
 
-use crate::numbers::{first_of, giving};
-use crate::outputs::count_needed;
+use crate::numbers::{first_of, giving, number_of};
+use crate::outputs::{count_needed, kept_count, other_names};
 use crate::wanted::wanted_at;
 use exec_graph::Place;
 use flume_value::Pile;
-use script_program::{Made, Program};
+use script_program::{Emitted, Made, Program};
 use std::alloc::{AllocError, Global};
 
 /// The place of each collection of a program.
@@ -46,35 +46,74 @@ fn place_as(
     made: &Made,
 ) -> Result<Place, AllocError>
     ensures { IfOk result (λ place. place
-        ≡ spec.place_as program.now.script giving.now number (emitted_as made.now)) }
+        ≡ spec.place_as program.now.script giving.now number made.now (emitted_as made.now)) }
 {
-    match made {
-        Made::Do { output, .. } => {
-            call_place(program, giving, number.saturating_sub(*output), *output)
+    match made.emitted() {
+        None => Ok(first_of(last_node(giving, number))),
+        Some(it) => {
+            let first = number_of(number.saturating_sub(it.output))?;
+            place_of(program, giving, first, it, made)
         }
-        _ => Ok(first_of(last_node(giving, number))),
     }
 }
 
-/// The place of an output of a call, whose first name has that number.
-fn call_place(
+/// The place of an output of a call, which is so made. The call's first name has that number.
+fn place_of(
     program: &Program,
     giving: &[u32],
-    first: usize,
+    first: u32,
+    it: Emitted,
+    made: &Made,
+) -> Result<Place, AllocError>
+    requires { first + it.output < 2 ^ 64 }
+    ensures { IfOk result (λ place. place
+        ≡ (if is_kept (Some made.now)
+        then spec.kept_place program.now.script giving.now first it.output
+        else spec.call_place program.now.script giving.now first it.function it.output)) }
+{
+    match made {
+        Made::Saved { .. } => kept_place(program, giving, first, it.output),
+        _ => call_place(program, giving, first, it.function, it.output),
+    }
+}
+
+/// The place of an output of a call that is kept.
+fn kept_place(
+    program: &Program,
+    giving: &[u32],
+    first: u32,
     output: usize,
 ) -> Result<Place, AllocError>
     requires { first + output < 2 ^ 64 }
     ensures { IfOk result (λ place. place
-        ≡ spec.call_place program.now.script giving.now first output) }
+        ≡ spec.kept_place program.now.script giving.now first output) }
 {
-    let out = count_needed(program, first, first + output)?;
-    Ok(Place {
-        node: last_node(giving, first),
-        out,
-    })
+    let name = first as usize;
+    let before = kept_count(program, name, name + output)?;
+    Ok(first_of(last_node(giving, name + before as usize)))
 }
 
-/// The number of the last node of the collection of a number.
+/// The place of an output that a call emits.
+fn call_place(
+    program: &Program,
+    giving: &[u32],
+    first: u32,
+    function: usize,
+    output: usize,
+) -> Result<Place, AllocError>
+    requires { first + output < 2 ^ 64 }
+    ensures { IfOk result (λ place. place
+        ≡ spec.call_place program.now.script giving.now first function output) }
+{
+    let others = other_names(program, function)?;
+    let name = first as usize;
+    let kept = kept_count(program, name, name + 1 + others as usize)?;
+    let out = count_needed(program, name, name + output)?;
+    let node = last_node(giving, name + kept as usize);
+    Ok(Place { node, out })
+}
+
+/// The number of the last node that is built at the collection of a number.
 fn last_node(giving: &[u32], number: usize) -> u32
     ensures { result ≡ slice_index giving.now number }
 {

@@ -20,10 +20,11 @@ use Rattle.flume_collection.specs.Collection.{Collection}
 use Rattle.written_types.specs.Named.{Named}
 use Rattle.script_program.specs.Needed.{made_of}
 use Rattle.script_program.specs.Script.{Function, Node, Script}
+use Rattle.script_program.specs.declared.made.Emitted.{Emitted}
 use Rattle.script_program.specs.declared.made.Made.{Made}
 use Rattle.script_program.specs.declared.made.Made.TheVariants as made
 use Rattle.script_program.specs.declared.made.Output.{Output}
-use Rattle.script_laws.specs.WellFormed.{HasColumns, IsArgument, IsCallOf, IsDone, IsWellFormed, function_at, members_at, object_at}
+use Rattle.script_laws.specs.WellFormed.{HasColumns, IsArgument, IsCallOf, IsDone, IsNameOf, IsWellFormed, function_at, members_at, object_at}
 use Rattle.script_laws.specs.WellFormed.{IsDoneWith as DoesWith, IsOperated as Operates}
 use Rattle.bag_laws.specs.of_direct_meaning.Calls.{answer_of}
 use Rattle.bag_laws.specs.of_direct_meaning.Direct.{all_made, made_at}
@@ -72,6 +73,24 @@ one_entry (Some e) entry t is reads =
 one_function : (o : Option Function) (f g : Function) → o ≡ Some f → o ≡ Some g → f ≡ g
 one_function None f g first second = cc
 one_function (Some h) f g first second = cc
+
+-- ---- names of a call
+
+abbrev emission : ℕ → ℕ → Emitted
+emission called output = record { function = called; output = output }
+
+-- the call of a name reads what the name does
+same_source : (script : Script) (number source called output : ℕ)
+    (call : IsCallOf script number (emission called output))
+    → slice_get (made_of script) number ≡ Some (made.Do source called output)
+    → output < length call.function.signature.gives → call.source ≡ source
+same_source script number source called output call found below =
+    let own : IsSomeAnd (slice_get (made_of script) number) (IsNameOf call.source called output) =
+    subst (λ n. IsSomeAnd (slice_get (made_of script) n) (IsNameOf call.source called output))
+    call.place (call.names output below) in
+    let here : made.Do source called output ≡ made.Do call.source called output =
+    subst (λ o. IsSomeAnd o (IsNameOf call.source called output)) found own in
+    cc
 
 -- objects that a function takes are one at least
 some_objects : (R : ℕ → Ty → Type 0) (objects : List ℕ) (types : List Ty)
@@ -130,16 +149,18 @@ module _ (script : Script) (well : IsWellFormed script) (table : List (Option Co
         → IsCalled script table number source called output
     is_called source called output f found =
         let fit : IsDone script.functions f.before source called output f.type = f.fit in
-        let call : IsCallOf script number source called output =
-        well.calls number source called output found in
+        let call : IsCallOf script number (emission called output) =
+        well.calls number (made.Do source called output) (emission called output) found refl in
         let function = fit.function in
         let gives = function.signature.gives in
         let same : call.function ≡ function =
         one_function (function_at script.functions called) call.function function call.calls
         fit.calls in
         let few : output < length gives = within gives output f.type fit.gives in
-        let some : 0 < length call.function.signature.gives =
-        subst (λ (h : Function). 0 < length h.signature.gives) (sym same) (omega arith) in
+        let below : output < length call.function.signature.gives =
+        subst (λ (h : Function). output < length h.signature.gives) (sym same) few in
+        let some : 0 < length call.function.signature.gives = omega (arith, below) in
+        let reads = same_source script number source called output call found below in
         let place = call.place in
         let first : call.first + 0 ≡ number - output = omega arith in
         record {
@@ -153,9 +174,13 @@ module _ (script : Script) (well : IsWellFormed script) (table : List (Option Co
               (answers function (well_typed script well.functions called function fit.calls)
               member has)));
           behind = omega arith;
-          first = subst
-              (λ k. slice_get (made_of script) k ≡ Some (made.Do source called 0)) first
-              (call.outputs 0 some);
+          first =
+              subst
+              (λ s. IsSomeAnd (slice_get (made_of script) (number - output)) (IsNameOf s called 0))
+              reads
+              (subst
+              (λ k. IsSomeAnd (slice_get (made_of script) k) (IsNameOf call.source called 0))
+              first (call.names 0 some));
         }
 
     where_object : (n : ℕ) → object_at script.nodes n ≡ Some true → (o : Option Collection)
@@ -290,6 +315,7 @@ module _ (script : Script) (well : IsWellFormed script) (table : List (Option Co
         (λ bag typed. all_suit comb fit.member bag (taken comb fit.member f.type fit.suits).0 typed)
     has_all (made.Operate objects called) f found = operated objects called f found
     has_all (made.DoWith source called object) f found = done_with source called object f found
+    has_all (made.Saved is_object call) f found = tt
 
   pub reads_all : (number : ℕ) (how : Made) → slice_get (made_of script) number ≡ Some how
       → HasAll script table number how

@@ -12,7 +12,7 @@ use Rattle.script_program.specs.Script.{Function, Script}
 use Rattle.script_program.specs.declared.made.Made.{Made}
 use Rattle.script_program.specs.declared.made.Made.TheVariants as made
 use Rattle.script_program.specs.declared.made.Output.{Output}
-use Rattle.script_laws.specs.WellFormed.{function_at}
+use Rattle.script_laws.specs.WellFormed.{IsNameOf, function_at}
 use Rattle.bag_laws.specs.of_direct_meaning.Calls.{answer_of}
 use Rattle.bag_laws.specs.of_direct_meaning.Direct.{all_made, made_at}
 use Rattle.bag_laws.specs.of_direct_meaning.Objects.{IsObject, argument_of, value_of, values_of}
@@ -27,14 +27,15 @@ abbrev pub AnswersTo : Function → ℕ → Value → Type 0
 AnswersTo function output member = IsSomeAnd (answer_of function member) (HasOutput output)
 
 -- The collection of that number is an output of a call: the function answers on each member, and
--- its first output is the collection that stands that many before.
+-- its first output is the collection that stands that many before, or was where an earlier run has
+-- kept that.
 pub record IsCalled (script : Script) (table : List (Option Collection))
     (number source called output : ℕ) : Type 0 where
   pub function : Function
   pub calls : function_at script.functions called ≡ Some function
   pub answers : MembersAre table (AnswersTo function output) source
   pub behind : output ≤ number
-  pub first : slice_get (made_of script) (number - output) ≡ Some (made.Do source called 0)
+  pub first : IsSomeAnd (slice_get (made_of script) (number - output)) (IsNameOf source called 0)
 
 -- the collection of that number is an object, where it is made
 abbrev pub ObjectIs : List (Option Collection) → ℕ → Type 0

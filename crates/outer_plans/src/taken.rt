@@ -1,6 +1,5 @@
 // A plan from outside, as one of a program.
 ghost use Rattle.std.specs.Prelude.{◌≡◌, IfOk, length};
-ghost use Rattle.script_plans.specs.of_direct_meaning.Inputs.{inputs_of};
 ghost use Rattle.exec_graph.specs.Typing.{IsTyped, Signatures};
 ghost use Rattle.exec_graph.specs.Wellformed.{IsGraphOk};
 ghost use Rattle.exec_graph.specs.World.{World};
@@ -9,6 +8,7 @@ ghost use Rattle.exec_plan.specs.Wellformed.{IsPlanOk};
 ghost use Rattle.plan_texts.specs.of_graph_build.Graphs.{graph_of};
 ghost use Rattle.plan_laws.specs.Operations.{SamePlan};
 ghost use Rattle.script_plans.specs.of_script_laws.WellFormed.{IsWellFormed};
+ghost use Rattle.plan_texts.specs.of_script_program.Sources.{source_kinds};
 ghost use Rattle.outer_plans.specs.Plans.{IsAnswer};
 
 use crate::checks::check_plan;
@@ -37,7 +37,7 @@ pub fn taken_plan(
     ensures types { IfOk result (λ plan. (s : Signatures) →
         IsTyped s (graph_of program.now.script) → IsPlanTyped s plan) }
     ensures sources { IfOk result (λ plan.
-        plan.sources ≡ length (inputs_of program.now.script)) }
+        plan.sources ≡ length (source_kinds program.now.script)) }
 {
     one_step_law();
     check_plan(alloc, program, graph, bytes)

@@ -1,5 +1,5 @@
 -- The text of an execution graph: a line for each node, and for each output of the script.
-use Rattle.std.specs.Prelude.{ℕ, ◌==◌, List, [], ◌∷◌, ◌++◌, codes, decimal, if◌then◌else◌, slice_index}
+use Rattle.std.specs.Prelude.{ℕ, ◌==◌, List, [], ◌∷◌, ◌++◌, codes, decimal, if◌then◌else◌, slice_get, slice_index, Option, Some, None}
 use Rattle.std.specs.List.{flat_map}
 use Rattle.exec_graph.specs.declared.graph.Act.{Act}
 use Rattle.exec_graph.specs.declared.graph.Act.TheVariants.{SideInput, Operate, Singleton}
@@ -11,6 +11,9 @@ use Rattle.exec_graph.specs.declared.graph.Place.{Place}
 use Rattle.exec_graph.specs.Forests.{Forest, Bare, Grow}
 use Rattle.graph_build.specs.Origins.{origins_of}
 use Rattle.printing.specs.Printed.{quoted}
+use Rattle.graph_build.specs.of_script_program.Needed.{made_of}
+use Rattle.graph_build.specs.of_script_program.declared.made.Made.{Made}
+use Rattle.graph_build.specs.of_script_program.declared.made.Made.TheVariants as made
 use Rattle.graph_build.specs.of_script_program.declared.made.Output.{Output}
 use Rattle.graph_build.specs.of_script_program.Script.{Script}
 use Rattle.written_types.specs.Named.{Named}
@@ -46,9 +49,15 @@ taken_text (SideInput function) inputs = codes "do " ++ beside_text inputs
 taken_text (Operate function) inputs = codes "operate " ++ flat_map input_text inputs
 taken_text (Singleton combiner) inputs = codes "operate " ++ flat_map input_text inputs
 
+-- a source is an input, or a collection that an earlier run has kept
+abbrev pub source_word : Option Made → List ℕ
+source_word (Some (made.Saved is_object call)) = codes "saved "
+source_word _ = codes "source "
+
 -- the node of the collection `origin`, behind its number
 abbrev pub node_text : Script → ℕ → Node → List ℕ
-node_text script origin (Source input) = codes "source " ++ name_at script.nodes origin
+node_text script origin (Source input) =
+    source_word (slice_get (made_of script) origin) ++ name_at script.nodes origin
 node_text script origin (Flatten inputs) =
     codes "flatten " ++ (flat_map input_text inputs ++ name_at script.nodes origin)
 node_text script origin (Pdo input steps) =

@@ -4,14 +4,15 @@ ghost use Rattle.graph_build.specs.of_script_program.declared.made.Output.{Outpu
 ghost use Rattle.std.specs.List.{flat_map};
 ghost use Rattle.plan_print.specs.GraphText as spec;
 ghost use Rattle.plan_print.specs.Names.{name_at};
+ghost use Rattle.graph_build.specs.of_script_program.Needed.{made_of};
 ghost use Rattle.plan_print.specs.Steps.{act_text};
 
 use crate::names::{node_name, push_number};
 use crate::steps::{push_act, push_step};
 use exec_graph::{Act, Entry, Graph, Node, Place, Roots};
 use graph_build::origins;
-use graph_build::script_program::Program;
 use printing::push_quoted;
+use script_program::{Made, Program};
 use std::alloc::{AllocError, Global};
 
 /// The text of the graph that is built of the program.
@@ -96,10 +97,31 @@ fn push_node(
 
 fn push_source(text: &mut Vec<u8>, program: &Program, origin: u32) -> Result<(), AllocError>
     ensures { OnOk result (text.new.items ≡ text.old.items
-        ++ (codes "source " ++ name_at program.now.script.nodes origin)) }
+        ++ (spec.source_word (slice_get (made_of program.now.script) origin)
+        ++ name_at program.now.script.nodes origin)) }
 {
-    text.extend_from_slice(b"source ")?;
+    text.extend_from_slice(source_word(program, origin as usize))?;
     text.extend_from_slice(node_name(program, origin as usize))
+}
+
+/// How a source is called: an input, or a collection that an earlier run has kept.
+fn source_word(program: &Program, number: usize) -> &'static [u8]
+    ensures { result.now ≡ spec.source_word (slice_get (made_of program.now.script) number) }
+{
+    if number < program.node_count() {
+        word_of(&program.node(number).made)
+    } else {
+        b"source "
+    }
+}
+
+fn word_of(made: &Made) -> &'static [u8]
+    ensures { result.now ≡ spec.source_word (Some made.now) }
+{
+    match made {
+        Made::Saved { .. } => b"saved ",
+        _ => b"source ",
+    }
 }
 
 fn push_flatten(

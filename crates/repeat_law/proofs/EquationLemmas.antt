@@ -1,5 +1,5 @@
--- In the meaning of a well-formed script each needed node that reads no file meets its equation,
--- over the whole table.
+-- In the meaning of a well-formed script each needed node that reads no file and nothing that is
+-- kept meets its equation, over the whole table.
 use Rattle.std.proofs.Common.{◌≡◌, ℕ, zero, suc, ◌+◌, ◌<◌, Bool, true, false, List, [], ◌∷◌}
 use Rattle.std.proofs.Common.{◌++◌, length, Option, Some, None, if◌then◌else◌, slice_get, refl}
 use Rattle.std.proofs.Common.{sym, subst, arith, ap, ◌∙◌, append_assoc, append-nil}
@@ -11,6 +11,7 @@ use Rattle.flume_value.specs.declared.value.Value.{Value}
 use Rattle.written_types.specs.Named.{Named}
 use Rattle.script_program.specs.Needed.{is_needed, operands}
 use Rattle.script_program.specs.Script.{Node, Script}
+use Rattle.script_program.specs.Sources.{in_order}
 use Rattle.script_laws.proofs.NeededLemmas.{operand_before}
 use Rattle.script_laws.specs.WellFormed.{AllFit, IsWellFormed}
 use Rattle.direct_meaning.proofs.MeaningLemmas.{reads_needed}
@@ -190,11 +191,13 @@ module _ (script : Script) (well : IsWellFormed script) (inputs : List (List Val
       → FromNoFile entry.1.made
       → made_at whole number ≡ made_as script number entry.1.made [] whole
   equation number entry there needed none =
-      meets script script.nodes [] inputs [] whole well.nodes refl means number number
-      (omega arith) entry there needed none
+      meets script script.nodes [] (in_order script inputs) [] whole well.nodes refl means number
+      number (omega arith) entry there needed none
 
   pub as_long : length whole ≡ length script.nodes
-  as_long = let it = lengthens script script.nodes inputs [] whole means in omega arith
+  as_long =
+      let it = lengthens script script.nodes (in_order script inputs) [] whole means in
+      omega arith
 
 -- what a needed node reads is needed
 pub reads : (script : Script) → IsWellFormed script → (number : ℕ) (entry : List ℕ × Node)

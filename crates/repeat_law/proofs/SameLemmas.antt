@@ -19,7 +19,7 @@ use Rattle.repeat_law.specs.Turns.{only}
 use Rattle.repeat_law.specs.Reading.{IsLet}
 use Rattle.script_check.specs.Repeats.{renumbered}
 
--- from no file
+-- from no file, and from nothing that is kept
 abbrev pub FromNoFile : Made → Type 0
 FromNoFile (made.Input file columns) = ⊥
 FromNoFile (made.Do source called output) = Unit {0}
@@ -32,6 +32,7 @@ FromNoFile (made.Top many source) = Unit {0}
 FromNoFile (made.CombineAll source by) = Unit {0}
 FromNoFile (made.Operate objects called) = Unit {0}
 FromNoFile (made.DoWith source called object) = Unit {0}
+FromNoFile (made.Saved is_object call) = ⊥
 
 module _ (to : ℕ → ℕ) (here there : List (Option Collection)) where
   all_same : (numbers : List ℕ)
@@ -85,6 +86,7 @@ module _ (to : ℕ → ℕ) (here there : List (Option Collection)) where
       (λ function. option_and_then
       (λ c. option_and_then (done_beside number (answer_of function) c) (second i)) (first i))
       (function_at script.functions called)
+  same_made script number (made.Saved is_object call) inputs none same = absurd none
 
 -- ---- under the numbers that stand there
 
@@ -104,6 +106,7 @@ itself (made.Top many source) = refl
 itself (made.CombineAll source by) = refl
 itself (made.Operate objects called) = ap (λ l. made.Operate l called) (each_itself objects)
 itself (made.DoWith source called object) = refl
+itself (made.Saved is_object call) = refl
 
 -- over a table that holds the same
 pub kept_made : (script : Script) (number : ℕ) (how : Made) (here there : List (Option Collection))
@@ -130,6 +133,7 @@ let_no_file place front (made.Top many source) is = tt
 let_no_file place front (made.CombineAll source by) is = tt
 let_no_file place front (made.Operate objects called) is = tt
 let_no_file place front (made.DoWith source called object) is = tt
+let_no_file place front (made.Saved is_object call) is = absurd is
 
 pub renumbered_no_file : (to : ℕ → ℕ) (how : Made) → FromNoFile how
     → FromNoFile (renumbered to how)
@@ -144,6 +148,7 @@ renumbered_no_file to (made.Top many source) is = tt
 renumbered_no_file to (made.CombineAll source by) is = tt
 renumbered_no_file to (made.Operate objects called) is = tt
 renumbered_no_file to (made.DoWith source called object) is = tt
+renumbered_no_file to (made.Saved is_object call) is = absurd is
 
 pub renumbered_reads : (to : ℕ → ℕ) (how : Made)
     → operands (renumbered to how) ≡ map to (operands how)
@@ -158,6 +163,7 @@ renumbered_reads to (made.Top many source) = refl
 renumbered_reads to (made.CombineAll source by) = refl
 renumbered_reads to (made.Operate objects called) = refl
 renumbered_reads to (made.DoWith source called object) = refl
+renumbered_reads to (made.Saved is_object call) = refl
 
 each_has : (P : ℕ → Type 0) (xs : List ℕ) → Each P xs → (n : ℕ) → Contains xs n → P n
 each_has P [] each n is = absurd (not_in_none n is)
@@ -189,3 +195,4 @@ let_reads place front (made.Operate objects called) is n reads =
     each_has (λ n. n < front) objects is n reads
 let_reads place front (made.DoWith source called object) is n reads =
     each_has (λ n. n < front) (source ∷ object ∷ []) (is.0, (is.1, tt)) n reads
+let_reads place front (made.Saved is_object call) is n reads = absurd is

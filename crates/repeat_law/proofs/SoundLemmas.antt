@@ -63,6 +63,7 @@ module _ (functions : Named Function) where
         reads source (at_head source (object ∷ [])),
         reads object (at_tail source (object ∷ []) object (at_head object [])),
       )
+  is_let place front (made.Saved is_object call) type here fits = absurd here
 
   are_lets : (lets : Named Node) (place number : ℕ) (front : Named Node) → length front ≡ number
       → AreInPlace place (map (λ entry. entry.1.made) lets) → AllFit functions front lets

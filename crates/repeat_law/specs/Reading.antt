@@ -18,8 +18,8 @@ use Rattle.script_laws.specs.Fitting.{lets_of}
 abbrev pub in_front : Repeat → ℕ
 in_front repeat = repeat.outside + length repeat.from
 
--- A let reads so many collections in front of it alone, and no file. Of the outputs of a call those
--- before its own stand in front of it, as lets of the body.
+-- A let reads so many collections in front of it alone, and neither a file nor what is kept. Of the
+-- outputs of a call those before its own stand in front of it, as lets of the body.
 abbrev pub IsLet : ℕ → ℕ → Made → Type 0
 IsLet place front (made.Input file columns) = ⊥
 IsLet place front (made.Do source called output) = source < front × output ≤ place
@@ -32,6 +32,7 @@ IsLet place front (made.Top many source) = source < front
 IsLet place front (made.CombineAll source by) = source < front
 IsLet place front (made.Operate objects called) = Each (λ object. object < front) objects
 IsLet place front (made.DoWith source called object) = source < front × object < front
+IsLet place front (made.Saved is_object call) = ⊥
 
 -- the same of each let, where the first has that place in the body
 abbrev pub AreLets : ℕ → ℕ → List Made → Type 0

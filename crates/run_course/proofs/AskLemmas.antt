@@ -27,7 +27,7 @@ Names = List (List ℕ)
 -- ---- a command
 
 module _ (tries : ℕ) (names : Names) (before after : SeenAsks) where
-  whole_front : Asks tries names before after → AsksFront tries names before after
+  pub whole_front : Asks tries names before after → AsksFront tries names before after
   whole_front asks =
       asks_front tries names names [] before after (sym (append-nil names)) asks
 

@@ -128,7 +128,7 @@ module _ (words : Words) (before after : SeenSource) (olds news : List Account)
   input_cause wanted (Trap origin kind element) its cause = absurd cause
   input_cause wanted (PlanRefused step kind) its cause = absurd cause
 
-  inputs_cause : (script : Script) (status : Status) → Reads words before.told command script
+  pub inputs_cause : (script : Script) (status : Status) → Reads words before.told command script
       → IsInputsCause (tries_of command) before after (inputs_read command script) status
       → IsCause words before after olds news status
   inputs_cause script status read cause =

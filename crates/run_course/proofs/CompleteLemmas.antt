@@ -34,7 +34,7 @@ use Rattle.run_course.proofs.StopLemmas.{Stops, input_stops, no_file_stops, no_r
 
 -- ---- it is done
 
-done_end : (traps : List TrapOf) → traps ≡ [] → EndsWith traps Done
+pub done_end : (traps : List TrapOf) → traps ≡ [] → EndsWith traps Done
 done_end traps none = subst (λ (l : List TrapOf). EndsWith l Done) (sym none) refl
 
 -- the same script is written that can be read: its command came to its end
@@ -64,7 +64,7 @@ done_as words before after (Run s from) d p q rows files text can read writes =
 
 -- ---- it traps
 
-trapped_end : (traps : List TrapOf) (origin : ℕ) (kind : Kind) (element : Value) (trap : TrapOf)
+pub trapped_end : (traps : List TrapOf) (origin : ℕ) (kind : Kind) (element : Value) (trap : TrapOf)
     → Contains traps trap → EndsWith traps (Trap origin kind element)
 trapped_end [] origin kind element trap among = let below = among.1 in absurd (omega arith)
 trapped_end (first ∷ traps) origin kind element trap among = tt
@@ -157,8 +157,8 @@ stopped words before after status c script rows can stops =
     can.inputs can.plan)
 
 -- a source that fails less often than each file is tried lets all be read
-asked_as : (words : Words) (told : Told) (c d : Command) (p : Script) (name : List ℕ) (limit : ℕ)
-    → Reads words told c p → IsAskedFor words told d name limit → d ≡ c
+pub asked_as : (words : Words) (told : Told) (c d : Command) (p : Script) (name : List ℕ)
+    (limit : ℕ) → Reads words told c p → IsAskedFor words told d name limit → d ≡ c
 asked_as words told c d p name limit reads (inl asked) =
     (same_asked words d c name reads.0 asked.0 reads.2).0
 asked_as words told c d p name limit reads (inr (inl asked)) =

@@ -1,5 +1,5 @@
 -- What a call asks hosts for, by what comes of it.
-use Rattle.std.proofs.Common.{◌≡◌, ℕ, zero, suc, inl, inr, List, [], ◌∷◌, Option, drop, length, map, Result, Ok, Err, IfErr, refl, sym, ap, ◌∙◌, subst}
+use Rattle.std.proofs.Common.{◌≡◌, ℕ, zero, suc, inl, inr, List, [], ◌∷◌, ◌++◌, Option, drop, take, length, map, Result, Ok, Err, IfErr, refl, sym, ap, ◌∙◌, subst, arith}
 use Rattle.command_words.specs.declared.words.Command.{Command}
 use Rattle.command_words.specs.declared.words.Command.TheVariants.{Run}
 use Rattle.crew.specs.Hosts.{Account}
@@ -38,9 +38,23 @@ pub others_as : {A : Type 0} (f : A → Account) (n : ℕ) (xs ys : List A) → 
 others_as f n xs ys same =
     dropped_map f n ys ∙ (ap (map f) same ∙ sym (dropped_map f n xs))
 
+-- as many accounts as hosts
+pub map_size : {A B : Type 0} (f : A → B) (xs : List A) → length (map f xs) ≡ length xs
+map_size f [] = refl
+map_size f (x ∷ xs) = ap suc (map_size f xs)
+
+-- the accounts of the first hosts are those that are lent
+pub front_map : {A B : Type 0} (f : A → B) (n : ℕ) (xs ys : List A) → length xs ≡ n
+    → take n (map f (xs ++ ys)) ≡ map f xs
+front_map f zero [] ys size = refl
+front_map f zero (x ∷ xs) ys size = absurd (omega (arith, size))
+front_map f (suc n) [] ys size = absurd (omega (arith, size))
+front_map f (suc n) (x ∷ xs) ys size =
+    ap (λ l. f x ∷ l) (front_map f n xs ys (omega (arith, size)))
+
 module _ (s : RunSettings) (script : Script) (rows : List (List Value)) (plan : Plan)
     (olds news : List Account) where
-  may_stop : {T : Type 0} (r : Result T Stop) → IfErr r (IsRunStop s script rows plan olds news)
+  pub may_stop : {T : Type 0} (r : Result T Stop) → IfErr r (IsRunStop s script rows plan olds news)
       → MayHaveCome r
   may_stop (Ok it) stops = tt
   may_stop (Err (stop.Trapped trap)) stops = tt

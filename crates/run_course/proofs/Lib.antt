@@ -14,3 +14,5 @@ pub mod FileLemmas
 pub mod OriginLemmas
 pub mod MeaningLemmas
 pub mod RunLemmas
+pub use Rattle.script_loading.proofs as of_script_loading
+pub use Rattle.script_loading.proofs.of_build_law

@@ -23,6 +23,7 @@ use Rattle.script_loading.specs.of_direct_meaning.Objects.{answer_beside, answer
 use Rattle.script_program.specs.declared.made.Made.{Made}
 use Rattle.script_program.specs.declared.made.Made.TheVariants as made
 use Rattle.script_program.specs.Script.{Node, Script}
+use Rattle.script_program.specs.Sources.{in_order}
 use Rattle.script_loading.specs.of_script_laws.WellFormed.{function_at}
 use Rattle.script_program.specs.Needed.{is_needed}
 use Rattle.written_types.specs.Named.{Named}
@@ -271,6 +272,10 @@ own_below script n (made.DoWith source called object) inputs table d all is =
     let (o, other, does) = bound _ (spec.made_at table object) d more in
     beside_below n (answer_of function) c o (value_of o) d (behind_own n table source c all found)
     (behind_own n table object o all other) does
+own_below script n (made.Saved is_object call) [] table d all is = absurd (cc)
+own_below script n (made.Saved is_object call) (rows ∷ inputs) table d all is =
+    let same : spec.rows_as rows ≡ d = cc in
+    as_own n (spec.rows_as rows) d same (none_below (suc n))
 
 -- ---- all collections
 
@@ -346,7 +351,7 @@ pub origins : (script : Script) (inputs : List (List Value)) (made : Table)
     → spec.meaning script inputs ≡ Some made
     → Below (length script.nodes) (spec.traps_of made)
 origins script inputs made is =
-    let it = stands script script.nodes inputs [] made tt is in
+    let it = stands script script.nodes (in_order script inputs) [] made tt is in
     let long = it.long in
     set_below (length script.nodes) (flat_map spec.traps_behind made)
     (behind_below (length script.nodes) made

@@ -14,6 +14,7 @@ ghost use Rattle.run_course.specs.Asks.{files_behind, plan_file};
 ghost use Rattle.run_course.specs.Lent.{lends};
 ghost use Rattle.run_course.specs.Written.{ShowsPlan, Writes, WritesMeaning, WritesRun};
 ghost use Rattle.script_loading.specs.Loads.{file_names};
+ghost use Rattle.script_program.specs.Saved.{HasNoSaved};
 ghost use Rattle.script_loading.specs.Ready.{IsReady};
 ghost use Rattle.run_course.specs.inner.Course.{AsksHostsUntil, AsksUntil, IsCommandStop, IsMeaningStop};
 
@@ -53,6 +54,7 @@ pub fn carried_out<X: Threads + Sync, R: Source, H: Host + Send>(
     hosts: &mut [H],
 ) -> Result<Written, Stop>
     requires well_formed { IsWellFormed program.now.script }
+    requires written { HasNoSaved program.now.script }
     requires ready { IsReady program.now.script }
     requires graph { IsGraphOk (graph_of program.now.script) }
     requires sixteen { length hosts.old ≡ 16 }
@@ -111,6 +113,7 @@ fn planned(alloc: Global, program: &Program, form: PlanForm) -> Result<Written, 
 // What the meaning of a script writes.
 fn meant<R: Source>(alloc: Global, program: &Program, source: &mut R) -> Result<Written, Stop>
     requires well_formed { IsWellFormed program.now.script }
+    requires written { HasNoSaved program.now.script }
     requires ready { IsReady program.now.script }
     ensures written { IfOk result (λ it. WritesMeaning (R.files source.old) program.now.script
         [] (map output_file it.outputs.items) it.screen.items) }
@@ -136,6 +139,7 @@ fn run_on<X: Threads + Sync, R: Source, H: Host + Send>(
     from: &Option<FileName>,
 ) -> Result<Written, Stop>
     requires well_formed { IsWellFormed program.now.script }
+    requires written { HasNoSaved program.now.script }
     requires ready { IsReady program.now.script }
     requires graph { IsGraphOk (graph_of program.now.script) }
     requires sixteen { length hosts.old ≡ 16 }

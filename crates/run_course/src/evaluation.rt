@@ -7,6 +7,7 @@ ghost use Rattle.outside.specs.Saves.{output_file};
 ghost use Rattle.run_texts.specs.Texts.{NamedOutput, size_lines};
 ghost use Rattle.script_loading.specs.of_script_laws.WellFormed.{IsWellFormed};
 ghost use Rattle.script_loading.specs.Ready.{IsReady};
+ghost use Rattle.script_program.specs.Saved.{HasNoSaved};
 ghost use Rattle.run_course.specs.inner.Course.{AreFiles, HaveMembers, Gives, IsFileOf, IsStop};
 
 use crate::files::{Written, file_of, trapped, with_sizes};
@@ -25,6 +26,7 @@ pub fn written_meaning(
     inputs: Pile<Items>,
 ) -> Result<Written, Stop>
     requires well_formed { IsWellFormed program.now.script }
+    requires written { HasNoSaved program.now.script }
     requires ready { IsReady program.now.script }
     requires typed { AreInputs program.now.script inputs }
     ensures written { IfOk result (λ it. Gives program.now.script inputs []

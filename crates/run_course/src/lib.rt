@@ -19,10 +19,11 @@ mod showing;
 mod stop;
 
 pub use course::{deliver, run};
-pub use files::{Written, file_of};
+pub use files::{Written, file_of, trapped, with_sizes};
 pub use limits::TRIES;
-pub use running::ran_on;
+pub use running::{output_files, ran_on};
 pub use script_loading;
 pub use script_loading::build_law;
 pub use script_run;
 pub use showing::{ShownPlan, plan_shown};
+pub use stop::{Stop, Trapped};

@@ -121,7 +121,8 @@ fn write_out(
     Ok(Written { outputs, screen })
 }
 
-fn output_files(
+/// The files of the outputs, which write these members.
+pub fn output_files(
     alloc: Global,
     program: &Program,
     members: &[Items],

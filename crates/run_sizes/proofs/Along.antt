@@ -1,5 +1,5 @@
 -- Sizes along a script's nodes are those of the collections that its meaning makes.
-use Rattle.std.proofs.Common.{◌≡◌, ℕ, zero, suc, Bool, true, false, List, [], ◌∷◌, ◌++◌, drop, length, map, Option, Some, None, slice_get, refl, sym, ap, ◌∙◌, subst, arith, add-one, append_assoc, length-append}
+use Rattle.std.proofs.Common.{◌≡◌, ℕ, zero, suc, Bool, true, false, List, [], ◌∷◌, ◌++◌, drop, length, map, Option, Some, None, slice_get, slice_index, refl, sym, ap, ◌∙◌, subst, arith, add-one, append_assoc, length-append}
 use Rattle.std.proofs.lemmas.List.{length-map, map-append}
 use Rattle.std.proofs.lemmas.Option.{slice_get-map}
 use Rattle.std.specs.Prelude.{if◌then◌else◌, option_and_then, option_map, unwrap_or}
@@ -12,18 +12,21 @@ use Rattle.written_types.specs.Named.{Named}
 use Rattle.script_program.specs.Needed.{is_needed, made_of}
 use Rattle.script_program.specs.Script.{Node, Script}
 use Rattle.script_program.specs.declared.made.Made.{Made}
+use Rattle.script_program.specs.Sources.{in_order, source_numbers}
 use Rattle.script_program.specs.declared.made.Made.TheVariants as made
+use Rattle.script_program.proofs.SourceLemmas.{order-found}
 use Rattle.build_law.specs.of_direct_meaning.Direct.{all_made, collections, inputs_behind, made_as, made_at, meaning, rows_as, size_of, sizes_of}
 use Rattle.build_law.proofs.of_direct_meaning.PlaceLemmas.{at_end}
 use Rattle.build_law.specs.Means.{HasOwn}
 use Rattle.build_law.proofs.Tables.{and_then_some, continues, made_next, map_some}
 use Rattle.run_sizes.specs.Counts.{AreOwnCounts}
-use Rattle.run_sizes.specs.inner.Along.{behind, count_at, kept, named_sizes, sized_as, sizes_along}
+use Rattle.run_sizes.specs.inner.Along.{behind, count_at, kept, list_count, named_sizes, sized_as, sizes_along}
+use Rattle.run_sizes.proofs.Listed.{all_listed}
 use Rattle.run_sizes.proofs.Named.{meant_sizes}
 use Rattle.run_sizes.proofs.Stepping.{passed, taken}
 use Rattle.run_sizes.proofs.Together.{sized, together_sizes}
 
--- ---- rows to come
+-- ---- lists to come
 
 first_dropped : (rows : List (List Value)) (input : ℕ) (first : List Value)
     (rest : List (List Value)) → first ∷ rest ≡ drop input rows
@@ -55,20 +58,36 @@ rest_behind script rows n input (made.Top many source) left table c ahead h = ah
 rest_behind script rows n input (made.CombineAll source k) left table c ahead h = ahead
 rest_behind script rows n input (made.Operate objects f) left table c ahead h = ahead
 rest_behind script rows n input (made.DoWith source f object) left table c ahead h = ahead
+rest_behind script rows n input (made.Saved is_object call) [] table c ahead h = cc
+rest_behind script rows n input (made.Saved is_object call) (first ∷ left) table c ahead h =
+    ap (drop 1) ahead ∙ rw add-one (one_dropped input rows)
 
 -- ---- one collection
 
-module _ (script : Script) (rows : List (List Value)) (counts : List ℕ)
+module _ (script : Script) (lists rows : List (List Value)) (numbers counts : List ℕ)
+    (stand : (source : ℕ) (list : List Value) → slice_get rows source ≡ Some list
+    → slice_get lists (slice_index numbers source) ≡ Some list)
     (all : List (Option Collection)) where
+  -- a source that is next
+  next_size : (source : ℕ) (first : List Value) (left : List (List Value)) (c : Collection)
+      → first ∷ left ≡ drop source rows → Some (rows_as first) ≡ Some c
+      → list_count lists numbers source ≡ size_of c
+  next_size source first left c ahead h =
+      let same : rows_as first ≡ c = cc in
+      ap (λ o. kept (length (or_none o)))
+      (stand source first (first_dropped rows source first left ahead))
+      ∙ (ap kept (sym (length-bag_of first)) ∙ ap size_of same)
+
   one_size : (mk : Made) (n input : ℕ) (left : List (List Value))
       (table : List (Option Collection)) (c : Collection) → left ≡ drop input rows
       → made_as script n mk left table ≡ Some c → (HasOwn mk → count_at counts n ≡ size_of c)
-      → sized_as rows counts n mk input (map sized table) ≡ size_of c
+      → sized_as lists numbers counts n mk input (map sized table) ≡ size_of c
   one_size (made.Input file columns) n input [] table c ahead h own = cc
   one_size (made.Input file columns) n input (first ∷ left) table c ahead h own =
-      let same : rows_as first ≡ c = cc in
-      ap (λ o. kept (length (or_none o))) (first_dropped rows input first left ahead)
-      ∙ (ap kept (sym (length-bag_of first)) ∙ ap size_of same)
+      next_size input first left c ahead h
+  one_size (made.Saved is_object call) n input [] table c ahead h own = cc
+  one_size (made.Saved is_object call) n input (first ∷ left) table c ahead h own =
+      next_size input first left c ahead h
   one_size (made.Flatten sources) n input left table c ahead h own =
       let (cs, found, is) = map_some union (all_made table sources) c h in
       together_sizes table sources cs found
@@ -99,7 +118,7 @@ module _ (script : Script) (rows : List (List Value)) (counts : List ℕ)
       (before : Named Node) (table : List (Option Collection)) (input : ℕ)
       (left : List (List Value)) → before ++ nodes ≡ script.nodes → length before ≡ length table
       → left ≡ drop input rows → collections script nodes left table ≡ Some all
-      → sizes_along script rows counts nodes input (map sized table) ≡ map sized all
+      → sizes_along script lists numbers counts nodes input (map sized table) ≡ map sized all
 
   with_one : (table : List (Option Collection)) (made : Option Collection)
       → map sized table ++ sized made ∷ [] ≡ map sized (table ++ made ∷ [])
@@ -120,7 +139,8 @@ module _ (script : Script) (rows : List (List Value)) (counts : List ℕ)
         → collections script nodes (inputs_behind entry.1.made left) (table ++ Some c ∷ [])
         ≡ Some all
         → Ahead nodes
-        → sizes_along script rows counts (entry ∷ nodes) input (map sized table) ≡ map sized all
+        → sizes_along script lists numbers counts (entry ∷ nodes) input (map sized table)
+        ≡ map sized all
     next_taken entry nodes before table input left c needed split count ahead here rest more =
         let mk : Made = entry.1.made in
         let long : length (map sized table) ≡ length table = length-map table sized in
@@ -130,15 +150,17 @@ module _ (script : Script) (rows : List (List Value)) (counts : List ℕ)
         λ has. ap (λ o. unwrap_or o 0) (own (length table) mk c
         (made_here before nodes entry (length table) split count) has
         (ap (λ t. made_at t (length table)) is ∙ made_next table k.tail c)) in
-        let size : sized_as rows counts (length (map sized table)) mk input (map sized table)
+        let size : sized_as lists numbers counts (length (map sized table)) mk input
+        (map sized table)
         ≡ size_of c =
-        ap (λ n. sized_as rows counts n mk input (map sized table)) long
+        ap (λ n. sized_as lists numbers counts n mk input (map sized table)) long
         ∙ one_size mk (length table) input left table c ahead here counted in
-        taken script rows counts entry nodes input (map sized table)
+        taken script lists numbers counts entry nodes input (map sized table)
         (ap (is_needed script) long ∙ needed)
-        ∙ (ap (λ s. sizes_along script rows counts nodes (behind mk input)
+        ∙ (ap (λ s. sizes_along script lists numbers counts nodes (behind mk input)
         (map sized table ++ Some s ∷ [])) size
-        ∙ (ap (sizes_along script rows counts nodes (behind mk input)) (with_one table (Some c))
+        ∙ (ap (sizes_along script lists numbers counts nodes (behind mk input)) (with_one table
+        (Some c))
         ∙ more (before ++ entry ∷ []) (table ++ Some c ∷ []) (behind mk input)
         (inputs_behind mk left) (append_assoc before (entry ∷ []) nodes ∙ split)
         (one_longer before entry table (Some c) count)
@@ -150,11 +172,12 @@ module _ (script : Script) (rows : List (List Value)) (counts : List ℕ)
         → before ++ entry ∷ nodes ≡ script.nodes → length before ≡ length table
         → left ≡ drop input rows
         → collections script nodes left (table ++ None ∷ []) ≡ Some all → Ahead nodes
-        → sizes_along script rows counts (entry ∷ nodes) input (map sized table) ≡ map sized all
+        → sizes_along script lists numbers counts (entry ∷ nodes) input (map sized table)
+        ≡ map sized all
     next_passed entry nodes before table input left needless split count ahead rest more =
-        passed script rows counts entry nodes input (map sized table)
+        passed script lists numbers counts entry nodes input (map sized table)
         (ap (is_needed script) (length-map table sized) ∙ needless)
-        ∙ (ap (sizes_along script rows counts nodes input) (with_one table None)
+        ∙ (ap (sizes_along script lists numbers counts nodes input) (with_one table None)
         ∙ more (before ++ entry ∷ []) (table ++ None ∷ []) input left
         (append_assoc before (entry ∷ []) nodes ∙ split) (one_longer before entry table None count)
         ahead rest)
@@ -169,7 +192,8 @@ module _ (script : Script) (rows : List (List Value)) (counts : List ℕ)
         (made_as script (length table) entry.1.made left table)
         else collections script nodes left (table ++ None ∷ [])) ≡ Some all
         → Ahead nodes
-        → sizes_along script rows counts (entry ∷ nodes) input (map sized table) ≡ map sized all
+        → sizes_along script lists numbers counts (entry ∷ nodes) input (map sized table)
+        ≡ map sized all
     next entry nodes before table input left true needed split count ahead h more =
         let (c, here, rest) =
         and_then_some
@@ -188,12 +212,15 @@ module _ (script : Script) (rows : List (List Value)) (counts : List ℕ)
         ahead h (along nodes)
 
 -- the sizes that are computed are those of the meaning
-pub sizes_meant : (script : Script) (rows : List (List Value)) (counts : List ℕ)
-    (all : List (Option Collection)) → meaning script rows ≡ Some all
+pub sizes_meant : (script : Script) (lists : List (List Value)) (counts : List ℕ)
+    (all : List (Option Collection)) → meaning script lists ≡ Some all
     → AreOwnCounts script all counts
-    → named_sizes script.nodes (sizes_along script rows counts script.nodes 0 [])
+    → named_sizes script.nodes
+    (sizes_along script lists (source_numbers script) counts script.nodes 0 [])
     ≡ sizes_of script all
-sizes_meant script rows counts all means own =
+sizes_meant script lists counts all means own =
     ap (named_sizes script.nodes)
-    (along script rows counts all own script.nodes [] [] 0 rows refl refl refl means)
+    (along script lists (in_order script lists) (source_numbers script) counts
+    (λ source list is. order-found script lists source list (all_listed script lists all means) is)
+    all own script.nodes [] [] 0 (in_order script lists) refl refl refl means)
     ∙ meant_sizes script.nodes all

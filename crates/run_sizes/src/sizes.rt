@@ -3,14 +3,14 @@ ghost use Rattle.std.specs.Prelude.{◌≡◌, ◌<◌, ◌++◌, ◌-◌, ◌^�
 ghost use Rattle.flume_collection.specs.Collection.{Collection};
 ghost use Rattle.build_law.specs.of_direct_meaning.Direct.{meaning, sizes_of};
 ghost use Rattle.run_sizes.specs.Counts.{AreOwnCounts};
-ghost use Rattle.run_sizes.specs.inner.Along.{behind as behind_is, count_at as count_is, kept, named_sizes, row_count as rows_are, size_at as size_is, size_line, sized_as, sizes_along, together as together_is};
+ghost use Rattle.run_sizes.specs.inner.Along.{behind as behind_is, count_at as count_is, kept, list_count as list_is, named_sizes, size_at as size_is, size_line, sized_as, sizes_along, together as together_is};
 
 use flume_value::{Items, Str};
-use script_program::{Made, Program};
+use script_program::{Made, Program, source_at, source_numbers};
 use std::alloc::{AllocError, Global};
 
-/// The name of each needed collection in order, and how many members it has, over these rows of
-/// the needed inputs, where a run has counted so much for each collection by its number.
+/// The name of each needed collection in order, and how many members it has, over these lists of
+/// the needed sources, where a run has counted so much for each collection by its number.
 pub fn needed_sizes(
     alloc: Global,
     program: &Program,
@@ -22,29 +22,41 @@ pub fn needed_sizes(
         AreOwnCounts program.now.script made counts.now →
         sizes.items ≡ sizes_of program.now.script made) }
 {
-    let sizes = sizes_by_number(alloc, program, rows, counts)?;
+    let numbers = source_numbers(alloc, program)?;
+    let sizes = sizes_by_number(alloc, program, rows, numbers.as_slice(), counts)?;
     named(alloc, program, sizes.as_slice())
 }
 
-/// The size of each collection by its number, where it is needed.
+/// The size of each collection by its number, where it is needed. The lists of its sources stand by
+/// these numbers.
 fn sizes_by_number(
     alloc: Global,
     program: &Program,
     rows: &[Items],
+    numbers: &[u32],
     counts: &[u64],
 ) -> Result<Vec<Option<u64>>, AllocError>
     ensures along { IfOk result (λ sizes. sizes.items
-        ≡ sizes_along program.now.script rows.now counts.now program.now.script.nodes 0 []) }
+        ≡ sizes_along program.now.script rows.now numbers.now counts.now
+        program.now.script.nodes 0 []) }
     ensures count { IfOk result (λ sizes.
         length sizes.items ≡ length program.now.script.nodes) }
 {
-    let mut input = 0;
+    let mut source = 0;
     let mut sizes = Vec::new(alloc);
     for number in 0..program.node_count() {
         let size = if program.is_needed(number) {
             let made = &program.node(number).made;
-            let size = size_of(made, number, rows, input, counts, sizes.as_slice());
-            input = behind(made, input);
+            let size = size_of(
+                made,
+                number,
+                rows,
+                numbers,
+                source,
+                counts,
+                sizes.as_slice(),
+            );
+            source = behind(made, source);
             Some(size)
         } else {
             None
@@ -54,19 +66,22 @@ fn sizes_by_number(
     Ok(sizes)
 }
 
-/// The size of the collection of a number that is made so, behind collections of these sizes.
+/// The size of the collection of a number that is made so, behind collections of these sizes, where
+/// the next source has that place.
 fn size_of(
     made: &Made,
     number: usize,
     rows: &[Items],
-    input: usize,
+    numbers: &[u32],
+    source: usize,
     counts: &[u64],
     sizes: &[Option<u64>],
 ) -> u64
-    ensures { result ≡ sized_as rows.now counts.now number made.now input sizes.now }
+    ensures { result
+        ≡ sized_as rows.now numbers.now counts.now number made.now source sizes.now }
 {
     match made {
-        Made::Input { .. } => row_count(rows, input),
+        Made::Input { .. } | Made::Saved { .. } => list_count(rows, numbers, source),
         Made::Flatten { sources } => together(sources.as_slice(), sizes),
         Made::Do { .. }
         | Made::Group { .. }
@@ -80,12 +95,12 @@ fn size_of(
     }
 }
 
-/// How many rows the input of that place has.
-fn row_count(rows: &[Items], input: usize) -> u64
-    ensures { result ≡ rows_are rows.now input }
+/// How many members the source of that place has.
+fn list_count(rows: &[Items], numbers: &[u32], source: usize) -> u64
+    ensures { result ≡ list_is rows.now numbers.now source }
 {
-    match rows.get(input) {
-        Some(rows) => rows.len() as u64,
+    match rows.get(source_at(numbers, source) as usize) {
+        Some(list) => list.len() as u64,
         None => 0,
     }
 }
@@ -121,14 +136,14 @@ fn size_at(sizes: &[Option<u64>], number: usize) -> u64
     }
 }
 
-/// The place of the next input, behind a collection that is made so.
-fn behind(made: &Made, input: usize) -> usize
-    requires { input < 2 ^ 64 - 1 }
-    ensures { result ≡ behind_is made.now input }
+/// The place of the next source, behind a collection that is made so.
+fn behind(made: &Made, source: usize) -> usize
+    requires { source < 2 ^ 64 - 1 }
+    ensures { result ≡ behind_is made.now source }
 {
     match made {
-        Made::Input { .. } => input + 1,
-        _ => input,
+        Made::Input { .. } | Made::Saved { .. } => source + 1,
+        _ => source,
     }
 }
 

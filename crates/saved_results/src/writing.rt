@@ -1,6 +1,7 @@
 // What is kept of a collection, written.
-ghost use Rattle.std.specs.Prelude.{◌≡◌, ◌++◌, ◌∷◌, [], map, IfOk, pos};
+ghost use Rattle.std.specs.Prelude.{◌≡◌, ◌++◌, ◌∷◌, [], map, IfOk, OnOk, pos};
 ghost use Rattle.flume_value.specs.Canonical.{canonical};
+ghost use Rattle.flume_value.specs.Ranges.{IsHeld};
 ghost use Rattle.flume_value.specs.declared.value.Value.TheVariants as variant;
 ghost use Rattle.saved_results.specs.Saved.{saved_value, size_value};
 
@@ -10,7 +11,8 @@ use std::alloc::{AllocError, Global};
 
 /// The bytes of what is kept.
 pub fn saved_bytes(alloc: Global, saved: Saved) -> Result<Vec<u8>, AllocError>
-    ensures { IfOk result (λ bytes. bytes.items ≡ canonical (saved_value saved)) }
+    ensures bytes { IfOk result (λ bytes. bytes.items ≡ canonical (saved_value saved)) }
+    ensures held { OnOk result (IsHeld (saved_value saved)) }
 {
     let value = value_of(alloc, saved)?;
     canonical_bytes(alloc, &value)

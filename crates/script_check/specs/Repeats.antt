@@ -46,6 +46,7 @@ renumbered to (made.CombineAll source by) = made.CombineAll (to source) by
 renumbered to (made.Operate objects called) = made.Operate (map to objects) called
 renumbered to (made.DoWith source called object) =
     made.DoWith (to source) called (to object)
+renumbered to (made.Saved is_object call) = made.Saved is_object call
 
 -- the name of a let in a turn: `y@i`
 abbrev pub in_turn : ℕ → List ℕ → List ℕ

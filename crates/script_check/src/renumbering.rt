@@ -74,6 +74,10 @@ pub fn renumbered(
             function: *function,
             object: stands_for(outside, seen, *object),
         }),
+        Made::Saved { is_object, call } => Ok(Made::Saved {
+            is_object: *is_object,
+            call: *call,
+        }),
     }
 }
 

@@ -10,22 +10,23 @@ use Rattle.exec_graph.specs.Typing.{IsWorldTyped, Answers}
 use Rattle.build_law.specs.of_script_program.Script.{Function, Script}
 use Rattle.build_law.specs.of_script_laws.WellFormed.{IsWellFormed, IsWellTyped, function_at}
 use Rattle.build_law.specs.of_direct_meaning.Calls.{answer_of}
-use Rattle.build_law.specs.of_direct_meaning.Inputs.{AreInputs, HaveRows, Wanted, inputs_of}
+use Rattle.build_law.specs.of_direct_meaning.Inputs.{AreInputs, AreLists, Sourced}
 use Rattle.build_law.proofs.of_direct_meaning.CallLemmas.{CalledOf, answers}
 use Rattle.build_law.proofs.of_direct_meaning.MakeLemmas.{well_typed}
-use Rattle.build_law.specs.Signatures.{given_by, input_type, signatures_of, taken_by}
+use Rattle.build_law.specs.Signatures.{given_by, signatures_of, source_type, sources_of, taken_by}
 use Rattle.build_law.specs.Worlds.{answered_by, or_silent, world_of}
+use Rattle.build_law.proofs.SourceLists.{lists_by_number}
 
--- ---- rows
+-- ---- lists of sources
 
-rows_typed : (wanted : List Wanted) (inputs : List (List Value)) → HaveRows wanted inputs → (r : ℕ)
-    → AllHave (input_type (slice_get wanted r)) (slice_index_or inputs r [])
-rows_typed [] [] have r =
-    All-from_recursion (Has (input_type None)) [] tt
-rows_typed [] (rows ∷ inputs) have r = absurd have
-rows_typed (one ∷ wanted) [] have r = absurd have
-rows_typed (one ∷ wanted) (rows ∷ inputs) have zero = have.0
-rows_typed (one ∷ wanted) (rows ∷ inputs) have (suc r) = rows_typed wanted inputs have.1 r
+lists_typed : (sources : List Sourced) (lists : List (List Value)) → AreLists sources lists
+    → (r : ℕ) → AllHave (source_type (slice_get sources r)) (slice_index_or lists r [])
+lists_typed [] [] have r =
+    All-from_recursion (Has (source_type None)) [] tt
+lists_typed [] (list ∷ lists) have r = absurd have
+lists_typed (one ∷ sources) [] have r = absurd have
+lists_typed (one ∷ sources) (list ∷ lists) have zero = have.0.typed
+lists_typed (one ∷ sources) (list ∷ lists) have (suc r) = lists_typed sources lists have.1 r
 
 -- ---- calls
 
@@ -50,7 +51,7 @@ function_typed (Some function) typed x has = call_typed function (typed function
 pub world_typed : (script : Script) (inputs : List (List Value)) → IsWellFormed script
     → AreInputs script inputs → IsWorldTyped (signatures_of script) (world_of script inputs)
 world_typed script inputs well have = record {
-  rows = rows_typed (inputs_of script) inputs have;
+  rows = lists_typed (sources_of script) inputs (lists_by_number script inputs have);
   called = λ f x has. function_typed (function_at script.functions f)
       (well_typed script well.functions f) x has;
 }

@@ -8,7 +8,7 @@ ghost use Rattle.build_law.specs.of_direct_meaning.Inputs.{AreInputs};
 ghost use Rattle.build_law.specs.Signatures.{signatures_of};
 ghost use Rattle.build_law.specs.Worlds.{world_of};
 
-/// The world of a well-formed script, over rows of its needed inputs, is typed by the script's
+/// The world of a well-formed script, over lists of its needed sources, is typed by the script's
 /// signatures.
 pub fn world_law()
     ensures { (script : Script) (inputs : List (List Value)) →

@@ -116,6 +116,7 @@ other-in-place place (made.Top many source) other = tt
 other-in-place place (made.CombineAll source by) other = tt
 other-in-place place (made.Operate objects called) other = tt
 other-in-place place (made.DoWith source called object) other = tt
+other-in-place place (made.Saved is_object call) other = other
 
 outputs-in-place : (source called place output : ℕ) (types : List Ty) → output ≤ place
     → AreInPlace place (map how_making (outputs_from source called output types))

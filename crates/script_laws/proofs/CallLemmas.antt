@@ -15,7 +15,7 @@ use Rattle.script_laws.proofs.NewLemmas.{how_making}
 use Rattle.script_laws.proofs.PlaceLemmas.{IsBehind, behind-is, front-kept, front-or-behind}
 use Rattle.script_laws.proofs.PlaceLemmas.{mapped-kept}
 
--- as `IsCallOf` says it of a script, of how collections are made
+-- as `IsCallOf` says it of a script that keeps nothing, of how collections are made
 pub record Stands (functions : Named Function) (all : List Made)
     (number source called output : ℕ) : Type 0 where
   pub first : ℕ
@@ -95,6 +95,7 @@ other-no-call (made.Top number source) other = tt
 other-no-call (made.CombineAll source by) other = tt
 other-no-call (made.Operate objects function) other = tt
 other-no-call (made.DoWith source function object) other = tt
+other-no-call (made.Saved is_object call) other = tt
 
 no-call : (how : Made) (source called output : ℕ) → IsNoCall how
     → how ≡ made.Do source called output → ⊥

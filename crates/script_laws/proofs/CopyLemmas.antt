@@ -37,6 +37,7 @@ call-from to (made.Top many other) source called output e = cc
 call-from to (made.CombineAll other by) source called output e = cc
 call-from to (made.Operate objects function) source called output e = cc
 call-from to (made.DoWith other function object) source called output e = cc
+call-from to (made.Saved is_object call) source called output e = cc
 
 copied-mades : (turn : ℕ) (to : ℕ → ℕ) (nodes : Named Node)
     → map how_made (map (copied turn to) nodes) ≡ map (renumbered to) (map how_made nodes)

@@ -1,15 +1,28 @@
 -- What fits still fits, as functions and nodes are added.
-use Rattle.std.proofs.Common.{ℕ, List, [], ◌∷◌, ◌++◌, get_or, subst, append_assoc}
+use Rattle.std.proofs.Common.{ℕ, List, [], ◌∷◌, ◌++◌, Option, Some, None, get_or, subst}
+use Rattle.std.proofs.Common.{append_assoc}
 use Rattle.std.specs.List.{All}
 use Rattle.std.proofs.lemmas.List.{append-nil}
 use Rattle.flume_types.specs.declared.types.Ty.{Ty}
 use Rattle.written_types.specs.Named.{Named}
+use Rattle.script_check.specs.of_script_program.declared.made.Emitted.{Emitted}
 use Rattle.script_check.specs.of_script_program.declared.made.Made.{Made}
 use Rattle.script_check.specs.of_script_program.declared.made.Made.TheVariants as made
 use Rattle.script_check.specs.of_script_program.declared.made.Output.{Output}
 use Rattle.script_check.specs.of_script_program.Script.{Function, Node}
-use Rattle.script_laws.specs.WellFormed.{Fits, AllFit, AllReadKinds, HasColumns}
+use Rattle.script_laws.specs.WellFormed.{Fits, AllFit, AllReadKinds, HasColumns, IsKept}
 use Rattle.script_laws.proofs.PlaceLemmas.{mapped-kept}
+
+kept-more : (functions more : Named Function) (call : Option Emitted) (type : Ty)
+    → IsKept functions call type → IsKept (functions ++ more) call type
+kept-more functions more None type kept = tt
+kept-more functions more (Some it) type kept = record {
+  function = kept.function;
+  calls =
+      mapped-kept (λ (entry : List ℕ × Function). entry.1) functions more it.function
+      kept.function kept.calls;
+  gives = kept.gives;
+}
 
 fits-more : (functions more : Named Function) (nodes : Named Node) (made : Made) (type : Ty)
     → Fits functions nodes made type → Fits (functions ++ more) nodes made type
@@ -51,6 +64,8 @@ fits-more functions more nodes (made.DoWith source called object) type fits = re
   takes = fits.takes;
   gives = fits.gives;
 }
+fits-more functions more nodes (made.Saved is_object call) type fits =
+    kept-more functions more call type fits
 
 pub all-fit-more : (functions more : Named Function) (before nodes : Named Node)
     → AllFit functions before nodes → AllFit (functions ++ more) before nodes

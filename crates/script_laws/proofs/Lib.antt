@@ -15,7 +15,9 @@ pub mod SightLemmas
 pub mod FittingLemmas
 pub mod CopyLemmas
 pub mod RepeatLemmas
+pub mod UnsavedLemmas
 pub mod RuleLemmas
 pub mod NeededLemmas
+pub mod SavedLemmas
 pub use Rattle.script_check.proofs.of_body_check
 pub use Rattle.script_check.proofs as of_script_check

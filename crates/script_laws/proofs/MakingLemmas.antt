@@ -16,6 +16,7 @@ use Rattle.script_laws.proofs.OperandLemmas.{IsRead}
 abbrev pub IsOther : Made → Type 0
 IsOther (made.Input file columns) = ⊥
 IsOther (made.Do source function output) = ⊥
+IsOther (made.Saved is_object call) = ⊥
 IsOther _ = ⊤
 
 -- what is made behind these fits

@@ -96,6 +96,8 @@ operand_before functions before (made.DoWith source function object) type fits n
     ⊎_elim (λ (here : Contains (source ∷ []) n). at_source before source n _ fits.reads here)
     (λ there. at_source before object n _ fits.reads_object there)
     (Contains-append_cases (source ∷ []) (object ∷ []) n reads)
+operand_before functions before (made.Saved is_object call) type fits n reads =
+    let within = reads.1 in absurd (omega arith)
 
 -- ---- from what is read to the path
 

@@ -1,12 +1,13 @@
 -- Each statement's rules keep what is well formed so far.
 use Rattle.std.proofs.Common.{◌≡◌, ℕ, ◌+◌, ◌<◌, ◌≤◌, nat_le, nat_lt, List, []}
-use Rattle.std.proofs.Common.{◌∷◌, ◌++◌, length, map, Ok, refl, sym, ap, ◌∙◌, subst, arith}
-use Rattle.std.proofs.Common.{length-append}
+use Rattle.std.proofs.Common.{◌∷◌, ◌++◌, length, map, Ok, Some, refl, sym, ap, ◌∙◌, subst, arith}
+use Rattle.std.proofs.Common.{length-append, slice_get, IsSomeAnd}
 use Rattle.std.specs.List.{All}
 use Rattle.std.proofs.lemmas.Bool.{leb-true}
 use Rattle.std.proofs.lemmas.List.{map-append}
 use Rattle.std.proofs.lemmas.Bool.Decides.{Decides-ltb}
 use Rattle.std.proofs.lemmas.List.Elements.{All-push, All-nil}
+use Rattle.flume_value.proofs.EachLemmas.{Each-at, Each-map}
 use Rattle.flume_types.specs.Columns.{columns_of, input_columns_of}
 use Rattle.flume_types.specs.declared.types.Ty.{Ty}
 use Rattle.flume_grammar.specs.declared.tree.Type as tree
@@ -22,6 +23,10 @@ use Rattle.written_types.specs.Named.{Named, fresh}
 use Rattle.written_types.specs.Written.{whole_type}
 use Rattle.script_check.specs.of_body_check.Bodies.{body_of}
 use Rattle.script_check.specs.of_script_program.Limits.{most_collections, most_files, most_functions, most_outputs}
+use Rattle.script_check.specs.of_script_program.Kinds.{emitted_as}
+use Rattle.script_check.specs.of_script_program.Saved.{HasNoSaved, IsUnsaved}
+use Rattle.script_check.specs.of_script_program.declared.made.Emitted.{Emitted}
+use Rattle.script_check.specs.of_script_program.declared.made.Made.{Made}
 use Rattle.script_check.specs.of_script_program.declared.made.Made.TheVariants as made
 use Rattle.script_check.specs.of_script_program.declared.made.Output.{Output}
 use Rattle.script_check.specs.of_script_program.Script.{Function, Making, Node, Script, Signature, State, nothing}
@@ -32,7 +37,7 @@ use Rattle.script_check.specs.Repeats.{unrolled}
 use Rattle.script_check.specs.Rules as spec
 use Rattle.script_check.proofs.CheckedLemmas.{both, holds, there, ok-same}
 use Rattle.script_laws.specs.WellFormed.{Fits, AllFit, AllReadKinds, HasColumns, HasOutputs}
-use Rattle.script_laws.specs.WellFormed.{IsCallOf, IsWellTyped, IsWellFormed}
+use Rattle.script_laws.specs.WellFormed.{IsCallOf, IsNameOf, IsWellTyped, IsWellFormed}
 use Rattle.script_laws.proofs.FitLemmas.{all-fit-more, fit-append, kinds-append, outputs-kept}
 use Rattle.script_laws.proofs.OperandLemmas.{is-read}
 use Rattle.script_laws.proofs.NewLemmas.{how_made}
@@ -41,6 +46,8 @@ use Rattle.script_laws.proofs.CallLemmas.{Stands, CallsStand, calls-more, calls-
 use Rattle.script_laws.proofs.CopyLemmas.{calls-joined, turns-stand}
 use Rattle.script_laws.proofs.FittingLemmas.{unrolled-fits, unrolled-kinds}
 use Rattle.script_laws.proofs.RepeatLemmas.{has-turns, turns-long}
+use Rattle.script_laws.proofs.UnsavedLemmas.{AreUnsaved, both-unsaved, places-unsaved}
+use Rattle.script_laws.proofs.UnsavedLemmas.{turns-unsaved}
 
 -- what is defined so far is well formed
 record IsGood (s : State) : Type 0 where
@@ -49,6 +56,7 @@ record IsGood (s : State) : Type 0 where
   pub nodes : AllFit s.functions [] s.nodes
   pub kinds : AllReadKinds [] s.nodes
   pub calls : CallsStand s.functions (map how_made s.nodes)
+  pub unsaved : AreUnsaved s.nodes
   pub outputs : All (λ (entry : List ℕ × Output). HasColumns s.nodes entry.1) s.outputs
   pub few : length s.nodes ≤ most_collections
 
@@ -61,10 +69,10 @@ has-room line more limit names u room =
 -- what is as good as before, with more nodes, where they are not too many
 nodes-more : (s after : State) (more : Named Node) → IsGood s → AllFit s.functions s.nodes more
     → AllReadKinds s.nodes more
-    → CallsStand s.functions (map how_made s.nodes ++ map how_made more)
+    → CallsStand s.functions (map how_made s.nodes ++ map how_made more) → AreUnsaved more
     → after.nodes ≡ s.nodes ++ more → after.functions ≡ s.functions → after.outputs ≡ s.outputs
     → length after.nodes ≤ most_collections → IsGood after
-nodes-more s after more good fits kinds calls nodes functions outputs few =
+nodes-more s after more good fits kinds calls unsaved nodes functions outputs few =
     let all = fit-append s.functions [] s.nodes more good.nodes fits in
     let kept = outputs-kept s.nodes more s.outputs good.outputs in
     let mades = map-append how_made s.nodes more in
@@ -85,6 +93,8 @@ nodes-more s after more good fits kinds calls nodes functions outputs few =
           subst (λ all. CallsStand after.functions (map how_made all)) (sym nodes)
           (subst (λ fs. CallsStand fs (map how_made (s.nodes ++ more))) (sym functions)
           (subst (CallsStand s.functions) (sym mades) calls));
+      unsaved =
+          subst AreUnsaved (sym nodes) (both-unsaved s.nodes more good.unsaved unsaved);
       outputs =
           subst
           (λ all. All (λ (entry : List ℕ × Output). HasColumns all entry.1) after.outputs)
@@ -120,6 +130,7 @@ module _ (line : ℕ) (s after : State) (good : IsGood s) where
         nodes = good.nodes;
         kinds = good.kinds;
         calls = good.calls;
+        unsaved = good.unsaved;
         outputs = good.outputs;
         few = good.few;
       })
@@ -139,7 +150,8 @@ module _ (line : ℕ) (s after : State) (good : IsGood s) where
       subst IsGood (ok-same _ after columns.then)
       (nodes-more s (with_node name making s) more good (fits, tt)
       (record { members = tt; values = tt }, tt)
-      (calls-push s.functions (map how_made s.nodes) making.made tt good.calls) refl refl refl
+      (calls-push s.functions (map how_made s.nodes) making.made tt good.calls) (tt, tt)
+      refl refl refl
       (omega (arith, below, length-append s.nodes more)))
 
   given-good : (function : WrittenFunction) (types : List Ty)
@@ -190,6 +202,7 @@ module _ (line : ℕ) (s after : State) (good : IsGood s) where
         nodes = all-fit-more s.functions _ [] s.nodes good.nodes;
         kinds = good.kinds;
         calls = calls-more s.functions _ (map how_made s.nodes) good.calls;
+        unsaved = good.unsaved;
         outputs = good.outputs;
         few = good.few;
       })
@@ -203,6 +216,7 @@ module _ (line : ℕ) (s after : State) (good : IsGood s) where
       let has = it.has in
       nodes-more s after has.lets good has.fit has.kinds
       (has.calls (map how_made s.nodes) good.calls)
+      (places-unsaved 0 has.lets (has.in_place 0))
       has.nodes has.functions has.outputs (omega (arith, below, it.few))
 
   repeat-good : (names : List (List ℕ)) (written : WrittenRepeat)
@@ -221,6 +235,8 @@ module _ (line : ℕ) (s after : State) (good : IsGood s) where
       (unrolled-kinds s.functions s.nodes repeat has.fits)
       (calls-joined s.functions (map how_made s.nodes) (map how_made more) good.calls
       (turns-stand s.functions repeat has.calls repeat.turns 1 repeat.from repeat.outside))
+      (turns-unsaved repeat (places-unsaved 0 repeat.body has.fits.in_place) repeat.turns 1
+      repeat.from repeat.outside)
       has.nodes has.functions has.outputs
       (omega (arith, has.few, many, long, length-append s.nodes more)))
 
@@ -236,6 +252,7 @@ module _ (line : ℕ) (s after : State) (good : IsGood s) where
         nodes = good.nodes;
         kinds = good.kinds;
         calls = good.calls;
+        unsaved = good.unsaved;
         outputs =
             All-push (λ (entry : List ℕ × Output). HasColumns s.nodes entry.1) s.outputs _
             good.outputs
@@ -263,6 +280,7 @@ counted-good s good = record {
   nodes = good.nodes;
   kinds = good.kinds;
   calls = good.calls;
+  unsaved = good.unsaved;
   outputs = good.outputs;
   few = good.few;
 }
@@ -283,20 +301,51 @@ nothing-good = record {
   nodes = tt;
   kinds = tt;
   calls = λ number source called output is. cc;
+  unsaved = tt;
   outputs = All-nil (λ (entry : List ℕ × Output). HasColumns [] entry.1);
   few = omega arith;
 }
 
+-- ---- calls, where nothing is kept
+
+abbrev emission : ℕ → ℕ → Emitted
+emission called output = record { function = called; output = output }
+
 call-from : (s : State) (number source called output : ℕ)
     → Stands s.functions (map how_made s.nodes) number source called output
-    → IsCallOf (script_from s) number source called output
+    → IsCallOf (script_from s) number (emission called output)
 call-from s number source called output it = record {
   first = it.first;
   place = it.place;
   function = it.function;
   calls = it.calls;
-  outputs = it.outputs;
+  source = source;
+  names =
+      λ k below.
+      subst (λ o. IsSomeAnd o (IsNameOf source called k)) (sym (it.outputs k below)) refl;
 }
+
+call-at : (s : State) → CallsStand s.functions (map how_made s.nodes)
+    → (number : ℕ) (how : Made) (it : Emitted) → IsUnsaved how
+    → slice_get (map how_made s.nodes) number ≡ Some how → emitted_as how ≡ Some it
+    → IsCallOf (script_from s) number it
+call-at s stand number (made.Do source called output) it own is emitted =
+    let same : emission called output ≡ it = cc in
+    subst (IsCallOf (script_from s) number) same
+    (call-from s number source called output (stand number source called output is))
+call-at s stand number (made.Saved is_object call) it own is emitted = absurd own
+call-at s stand number (made.Input file columns) it own is emitted = cc
+call-at s stand number (made.Group source) it own is emitted = cc
+call-at s stand number (made.Combine source by) it own is emitted = cc
+call-at s stand number (made.Flatten sources) it own is emitted = cc
+call-at s stand number (made.Count source) it own is emitted = cc
+call-at s stand number (made.Join left right_) it own is emitted = cc
+call-at s stand number (made.Top many source) it own is emitted = cc
+call-at s stand number (made.CombineAll source by) it own is emitted = cc
+call-at s stand number (made.Operate objects called) it own is emitted = cc
+call-at s stand number (made.DoWith source called object) it own is emitted = cc
+
+-- ---- the whole
 
 well-formed-from : (s : State) → IsGood s → 0 < length s.outputs → IsWellFormed (script_from s)
 well-formed-from s good some = record {
@@ -305,18 +354,43 @@ well-formed-from s good some = record {
   nodes = good.nodes;
   kinds = good.kinds;
   calls =
-      λ number source called output is.
-      call-from s number source called output (good.calls number source called output is);
+      λ number how it is emitted.
+      call-at s good.calls number how it
+      (Each-at IsUnsaved (map how_made s.nodes) number how
+      (Each-map IsUnsaved how_made s.nodes good.unsaved) (sym is)) is emitted;
   outputs = good.outputs;
   some = some;
   few = good.few;
 }
 
+-- what an accepted script comes from
+record Comes (script : Script) : Type 0 where
+  state : State
+  is : script_from state ≡ script
+  good : IsGood state
+  some : 0 < length state.outputs
+
+comes : (statements : List Statement) (script : Script) → spec.script_of statements ≡ Ok script
+    → Comes script
+comes statements script e =
+    let s = both (spec.defined statements nothing) _ script e in
+    let some = both (unless 0 NoOutput (nat_lt 0 (length s.part.outputs))) _ script s.then in
+    record {
+      state = s.part;
+      is = ok-same _ script some.then;
+      good = defined-good statements nothing s.part nothing-good s.first;
+      some =
+          (Decides-ltb 0 (length s.part.outputs)).0 (holds 0 NoOutput _ some.part some.first);
+    }
+
 pub well-formed : (statements : List Statement) (script : Script)
     → spec.script_of statements ≡ Ok script → IsWellFormed script
 well-formed statements script e =
-    let s = both (spec.defined statements nothing) _ script e in
-    let some = both (unless 0 NoOutput (nat_lt 0 (length s.part.outputs))) _ script s.then in
-    subst IsWellFormed (ok-same _ script some.then)
-    (well-formed-from s.part (defined-good statements nothing s.part nothing-good s.first)
-    ((Decides-ltb 0 (length s.part.outputs)).0 (holds 0 NoOutput _ some.part some.first)))
+    let it = comes statements script e in
+    subst IsWellFormed it.is (well-formed-from it.state it.good it.some)
+
+pub unsaved : (statements : List Statement) (script : Script)
+    → spec.script_of statements ≡ Ok script → HasNoSaved script
+unsaved statements script e =
+    let it = comes statements script e in
+    subst HasNoSaved it.is it.good.unsaved

@@ -85,6 +85,7 @@ kind-kept to (made.Top many source) = refl
 kind-kept to (made.CombineAll source by) = refl
 kind-kept to (made.Operate objects called) = refl
 kind-kept to (made.DoWith source called object) = refl
+kind-kept to (made.Saved is_object call) = refl
 
 members-kept : (to : ℕ → ℕ) (how : Made)
     → members_read (renumbered to how) ≡ map to (members_read how)
@@ -99,6 +100,7 @@ members-kept to (made.Top many source) = refl
 members-kept to (made.CombineAll source by) = refl
 members-kept to (made.Operate objects called) = refl
 members-kept to (made.DoWith source called object) = refl
+members-kept to (made.Saved is_object call) = refl
 
 values-kept : (to : ℕ → ℕ) (how : Made)
     → values_read (renumbered to how) ≡ map to (values_read how)
@@ -113,6 +115,7 @@ values-kept to (made.Top many source) = refl
 values-kept to (made.CombineAll source by) = refl
 values-kept to (made.Operate objects called) = refl
 values-kept to (made.DoWith source called object) = refl
+values-kept to (made.Saved is_object call) = refl
 
 module _ (to : ℕ → ℕ) (front real : Named Node) (keeps : KeepsSight to front real) where
   keeps-type : (n : ℕ) (type : Ty) → members_at front n ≡ Some type
@@ -222,3 +225,4 @@ module _ (to : ℕ → ℕ) (front real : Named Node) (keeps : KeepsSight to fro
     takes = fits.takes;
     gives = fits.gives;
   }
+  fits-renumbered functions (made.Saved is_object call) type fits = fits

@@ -19,10 +19,12 @@ pub record IsOfType (nodes : Named Node) (number : ℕ) (entry : List ℕ × Nod
   pub members : members_at nodes number ≡ Some entry.1.type
   pub kind : object_at nodes number ≡ Some (gives_object entry.1.made)
 
--- a let at that place of a body reads no file, and stands behind the earlier outputs of its call
+-- a let at that place of a body reads no file and nothing that is kept, and stands behind the
+-- earlier outputs of its call
 abbrev pub IsInPlace : ℕ → Made → Type 0
 IsInPlace place (made.Input file columns) = ⊥
 IsInPlace place (made.Do source called output) = output ≤ place
+IsInPlace place (made.Saved is_object call) = ⊥
 IsInPlace place _ = ⊤
 
 -- the same of each let, where the first has that place

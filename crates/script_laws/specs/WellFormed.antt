@@ -2,8 +2,8 @@
 -- types that fit, and from objects just where their values are read, the outputs of a call stand
 -- one after another, each output of the script has the columns of the collection that it reads,
 -- and each function's body is well typed.
-use Rattle.std.specs.Prelude.{◌≡◌, ℕ, ◌+◌, ◌<◌, ◌≤◌, List, [], ◌∷◌, ◌++◌, Option, Some, Ok, length}
-use Rattle.std.specs.Prelude.{slice_get, Bool, true, false, ⊤}
+use Rattle.std.specs.Prelude.{◌≡◌, ℕ, ◌+◌, ◌<◌, ◌≤◌, List, [], ◌∷◌, ◌++◌, Option, Some, None, Ok, length}
+use Rattle.std.specs.Prelude.{slice_get, Bool, true, false, IsSomeAnd, ⊤}
 use Rattle.std.specs.List.{All, AllByRecursion as Each, AllZip}
 use Rattle.std.specs.Option.{option_map}
 use Rattle.flume_types.specs.declared.types.Ty.{Ty}
@@ -16,10 +16,11 @@ use Rattle.combine_table.specs.declared.comb.Comb.{Comb}
 use Rattle.written_types.specs.Named.{Named}
 use Rattle.script_check.specs.of_body_check.Bodies.{body_of}
 use Rattle.script_check.specs.of_script_program.Limits.{most_collections, most_outputs}
+use Rattle.script_check.specs.of_script_program.declared.made.Emitted.{Emitted}
 use Rattle.script_check.specs.of_script_program.declared.made.Made.{Made}
 use Rattle.script_check.specs.of_script_program.declared.made.Made.TheVariants as made
 use Rattle.script_check.specs.of_script_program.declared.made.Output.{Output}
-use Rattle.script_check.specs.of_script_program.Kinds.{gives_object, members_read, values_read}
+use Rattle.script_check.specs.of_script_program.Kinds.{emitted_as, gives_object, members_read, values_read}
 use Rattle.script_check.specs.of_script_program.Needed.{made_of}
 use Rattle.script_check.specs.of_script_program.Script.{Function, Node, Script}
 use Rattle.script_check.specs.of_operation_check.Operations.{sides_of, combined_type}
@@ -132,6 +133,17 @@ pub record IsDoneWith (functions : Named Function) (nodes : Named Node)
   pub takes : IsRecord (member ∷ value ∷ []) function.signature.takes
   pub gives : function.signature.gives ≡ type ∷ []
 
+-- as an output of a call, whose function gives this type to it
+pub record IsEmitted (functions : Named Function) (it : Emitted) (type : Ty) : Type 0 where
+  pub function : Function
+  pub calls : function_at functions it.function ≡ Some function
+  pub gives : slice_get function.signature.gives it.output ≡ Some type
+
+-- as an earlier run has kept it, which was an output of a call or not
+abbrev pub IsKept : Named Function → Option Emitted → Ty → Type 0
+IsKept functions None type = ⊤
+IsKept functions (Some it) type = IsEmitted functions it type
+
 -- how a collection behind these nodes is made fits the type of its members
 abbrev pub Fits : Named Function → Named Node → Made → Ty → Type 0
 Fits functions nodes (made.Input file columns) type = input_columns_of type ≡ Some columns
@@ -148,6 +160,7 @@ Fits functions nodes (made.Operate objects function) type =
     IsOperated functions nodes objects function type
 Fits functions nodes (made.DoWith source function object) type =
     IsDoneWith functions nodes source function object type
+Fits functions nodes (made.Saved is_object call) type = IsKept functions call type
 
 -- each node fits where it stands, behind these nodes
 abbrev pub AllFit : Named Function → Named Node → Named Node → Type 0
@@ -168,15 +181,25 @@ AllReadKinds before [] = ⊤
 AllReadKinds before (entry ∷ nodes) =
     ReadsKinds before entry.1.made × AllReadKinds (before ++ entry ∷ []) nodes
 
+-- a collection is the output k of a call of that function on a source, or was it where an earlier
+-- run has kept it
+abbrev pub IsNameOf : ℕ → ℕ → ℕ → Made → Type 0
+IsNameOf source called k (made.Do input function output) =
+    made.Do input function output ≡ made.Do source called k
+IsNameOf source called k (made.Saved is_object call) =
+    call ≡ Some (record { function = called; output = k })
+IsNameOf source called k _ = ⊥
+
 -- The collection of that number is an output of a call. The call's outputs stand one after another,
 -- as many as its function has; the first of them has the number `first`.
-pub record IsCallOf (script : Script) (number source called output : ℕ) : Type 0 where
+pub record IsCallOf (script : Script) (number : ℕ) (it : Emitted) : Type 0 where
   pub first : ℕ
-  pub place : first + output ≡ number
+  pub place : first + it.output ≡ number
   pub function : Function
-  pub calls : function_at script.functions called ≡ Some function
-  pub outputs : (k : ℕ) → k < length function.signature.gives
-      → slice_get (made_of script) (first + k) ≡ Some (made.Do source called k)
+  pub calls : function_at script.functions it.function ≡ Some function
+  pub source : ℕ
+  pub names : (k : ℕ) → k < length function.signature.gives
+      → IsSomeAnd (slice_get (made_of script) (first + k)) (IsNameOf source it.function k)
 
 -- an output has the columns of the collection that it reads
 pub record HasColumns (nodes : Named Node) (output : Output) : Type 0 where
@@ -201,9 +224,9 @@ pub record IsWellFormed (script : Script) : Type 0 where
   pub gives : All (λ entry. HasOutputs entry.1) script.functions
   pub nodes : AllFit script.functions [] script.nodes
   pub kinds : AllReadKinds [] script.nodes
-  pub calls : (number source called output : ℕ)
-      → slice_get (made_of script) number ≡ Some (made.Do source called output)
-      → IsCallOf script number source called output
+  pub calls : (number : ℕ) (how : Made) (it : Emitted)
+      → slice_get (made_of script) number ≡ Some how → emitted_as how ≡ Some it
+      → IsCallOf script number it
   pub outputs : All (λ entry. HasColumns script.nodes entry.1) script.outputs
   pub some : 0 < length script.outputs
   pub few : length script.nodes ≤ most_collections

@@ -136,7 +136,7 @@ passes_other told script number rows entry found needed other read =
     )
 
 -- the inputs, where this node is one of them
-turns : (script : Script) (number : ℕ) (entry : Entry) (it : Wanted) (done : List Wanted)
+pub turns : (script : Script) (number : ℕ) (entry : Entry) (it : Wanted) (done : List Wanted)
     → slice_get script.nodes number ≡ Some entry → is_needed script number ≡ true
     → wanted entry ≡ it ∷ []
     → inputs_of script ≡ done ++ inputs_from script number (drop number script.nodes)
@@ -260,6 +260,7 @@ other_made (made.Top many source) type other = refl
 other_made (made.CombineAll source by) type other = refl
 other_made (made.Operate objects function) type other = refl
 other_made (made.DoWith source function object) type other = refl
+other_made (made.Saved is_object call) type other = refl
 
 pub other_wants : (entry : Entry) (node : Node) → entry.1 ≡ node
     → ((file : List ℕ) (columns : List Column) → node.made ≡ made.Input file columns

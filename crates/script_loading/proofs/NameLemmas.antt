@@ -72,6 +72,7 @@ other-named (made.Top number source) other = tt
 other-named (made.CombineAll source by) other = tt
 other-named (made.Operate objects function) other = tt
 other-named (made.DoWith source function object) other = tt
+other-named (made.Saved is_object call) other = tt
 
 outputs-named : (source called output : ℕ) (types : List Ty)
     → AllNamed (op.outputs_from source called output types)
@@ -127,6 +128,7 @@ renumbered-named to (made.Top number source) named = tt
 renumbered-named to (made.CombineAll source by) named = tt
 renumbered-named to (made.Operate objects function) named = tt
 renumbered-named to (made.DoWith source function object) named = tt
+renumbered-named to (made.Saved is_object call) named = tt
 
 turns-named : (repeat : Repeat) (left turn : ℕ) (entering : List ℕ) (start : ℕ)
     → AllNodes repeat.body → AllNodes (nodes_left repeat left turn entering start)

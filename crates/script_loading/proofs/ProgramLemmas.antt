@@ -9,8 +9,9 @@ use Rattle.flume_grammar.specs.declared.fault.ScriptFault.{ScriptFault}
 use Rattle.flume_grammar.specs.declared.fault.ScriptFault.TheVariants as script_fault
 use Rattle.flume_grammar.specs.declared.tree.Ast.{Ast}
 use Rattle.build_law.specs.of_script_check.Rules.{script_of}
+use Rattle.script_program.specs.Saved.{HasNoSaved}
 use Rattle.script_program.specs.Script.{Script}
-use Rattle.build_law.proofs.of_script_laws.RuleLemmas.{well-formed}
+use Rattle.build_law.proofs.of_script_laws.RuleLemmas.{unsaved, well-formed}
 use Rattle.build_law.specs.of_script_laws.WellFormed.{IsWellFormed}
 use Rattle.written_types.specs.Answer.{Gives as Checks}
 use Rattle.script_loading.specs.Ready.{IsReady}
@@ -28,6 +29,12 @@ pub checked_well : {X : Type 0} (view : X → Script) (ast : Ast) (r : Result X 
     → Checks view r (script_of ast.statements) → IfOk r (λ x. IsWellFormed (view x))
 checked_well view ast (Ok x) is = well-formed ast.statements (view x) is
 checked_well view ast (Err e) is = tt
+
+-- and as it is written: none of its collections is kept
+pub checked_written : {X : Type 0} (view : X → Script) (ast : Ast) (r : Result X ScriptFault)
+    → Checks view r (script_of ast.statements) → IfOk r (λ x. HasNoSaved (view x))
+checked_written view ast (Ok x) is = unsaved ast.statements (view x) is
+checked_written view ast (Err e) is = tt
 
 -- and ready for what is done with it
 pub checked_ready : {X : Type 0} (view : X → Script) (bytes : List ℕ) (ast : Ast)

@@ -6,6 +6,7 @@ ghost use Rattle.flume_types.specs.declared.types.Ty.{Ty};
 ghost use Rattle.outside.specs.Asked.{Asks, AsksFront};
 ghost use Rattle.outside.specs.Seen.{seen};
 ghost use Rattle.build_law.specs.of_script_laws.WellFormed.{IsWellFormed};
+ghost use Rattle.script_program.specs.Saved.{HasNoSaved};
 ghost use Rattle.script_loading.specs.Causes.{IsInputCause, IsInputsCause};
 ghost use Rattle.script_loading.specs.Loads.{AllHaveRows, HasRows, file_names};
 ghost use Rattle.script_loading.specs.Ready.{IsReady};
@@ -24,7 +25,7 @@ use std::alloc::Global;
 use std::str;
 
 /// Loads and decodes the inputs that a script needs, in its order, each in so many tries. No other
-/// file is asked for.
+/// file is asked for. None of its collections is one that an earlier run has kept.
 pub fn rows_of_inputs<R: Source>(
     alloc: Global,
     program: &Program,
@@ -33,6 +34,7 @@ pub fn rows_of_inputs<R: Source>(
 ) -> Result<Pile<Items>, Status>
     requires tries { 0 < tries }
     requires well_formed { IsWellFormed program.now.script }
+    requires written { HasNoSaved program.now.script }
     requires ready { IsReady program.now.script }
     ensures files { R.files source.new ≡ R.files source.old }
     ensures ok { IfOk result
@@ -124,8 +126,8 @@ fn rows_of_file<R: Source>(
     }
 }
 
-// What a refused input is answered with.
-fn input_refused(alloc: Global, name: &str, fault: RowFault) -> Status
+/// What a refused input is answered with.
+pub fn input_refused(alloc: Global, name: &str, fault: RowFault) -> Status
     ensures { (result ≡ fault_status fault name.now) ⊎ (result ≡ Status.WantOfMemory) }
 {
     let Ok(name) = Str::from_slice(alloc, name.as_bytes()) else {

@@ -1,12 +1,14 @@
 // What holds of all scripts and inputs that are read, whatever reads them.
 ghost use Rattle.std.specs.Prelude.{◌≡◌, ◌⊎◌, List, Option, ℕ};
-ghost use Rattle.build_law.specs.of_direct_meaning.Inputs.{AreInputs, inputs_of};
+ghost use Rattle.build_law.specs.of_direct_meaning.Inputs.{AreInputs, HaveRows, inputs_of};
 ghost use Rattle.flume_grammar.specs.declared.fault.ScriptKind.{ScriptKind as Kind};
 ghost use Rattle.flume_value.specs.declared.value.Value.{Value};
 ghost use Rattle.outside.specs.declared.file.File.{File};
+ghost use Rattle.script_program.specs.Saved.{HasNoSaved, with_saved};
 ghost use Rattle.script_program.specs.Script.{Script};
 ghost use Rattle.script_loading.specs.Accepted.{Accepted, Refused};
 ghost use Rattle.script_loading.specs.Loads.{AllHaveRows};
+ghost use Rattle.script_loading.specs.Ready.{IsReady};
 
 use csv_rows::rows_law;
 
@@ -23,10 +25,19 @@ pub fn accepted_law()
         Refused bytes n j → Refused bytes m k → (n ≡ m) × (j ≡ k) }
 {}
 
-/// The rows that the files of a script's needed inputs have are of the types of these inputs.
+/// The rows that the files of a script's needed inputs have are of the types of these inputs. Where
+/// no collection is one that an earlier run has kept, they are all that its meaning is over.
 pub fn inputs_law()
     ensures typed { (told : Option (List File)) (script : Script) (rows : List (List Value)) →
-        AllHaveRows told (inputs_of script) rows → AreInputs script rows }
+        AllHaveRows told (inputs_of script) rows → HaveRows (inputs_of script) rows }
+    ensures inputs { (told : Option (List File)) (script : Script) (rows : List (List Value)) →
+        HasNoSaved script → AllHaveRows told (inputs_of script) rows → AreInputs script rows }
 {
     rows_law();
 }
+
+/// What an accepted script is ready for, that is one in which some collections are kept too.
+pub fn ready_law()
+    ensures { (script : Script) (found : List ℕ) →
+        IsReady script → IsReady (with_saved found script) }
+{}

@@ -17,8 +17,9 @@ mod script;
 
 pub use build_law;
 pub use build_law::{direct_meaning, graph_build};
-pub use inputs::rows_of_inputs;
-pub use laws::{accepted_law, inputs_law};
+pub use files::loaded;
+pub use inputs::{input_refused, rows_of_inputs};
+pub use laws::{accepted_law, inputs_law, ready_law};
 pub use limits::{INPUT_LIMIT, PLAN_LIMIT, SCRIPT_LIMIT};
 pub use plans::plan_bytes;
 pub use script::script_of;

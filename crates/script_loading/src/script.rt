@@ -3,6 +3,7 @@ ghost use Rattle.std.specs.Prelude.{◌≡◌, ◌≤◌, ◌<◌, ◌∷◌, []
 ghost use Rattle.outside.specs.Asked.{Asks};
 ghost use Rattle.outside.specs.Seen.{seen};
 ghost use Rattle.build_law.specs.of_script_laws.WellFormed.{IsWellFormed};
+ghost use Rattle.script_program.specs.Saved.{HasNoSaved};
 ghost use Rattle.script_loading.specs.Accepted.{Accepted};
 ghost use Rattle.script_loading.specs.Causes.{IsLoaded, IsScriptCause};
 ghost use Rattle.script_loading.specs.Ready.{IsReady};
@@ -30,6 +31,7 @@ pub fn script_of<R: Source>(
     ensures ok { IfOk result (λ program.
         IsLoaded (R.files source.old) name.now program.script) }
     ensures well_formed { IfOk result (λ program. IsWellFormed program.script) }
+    ensures written { IfOk result (λ program. HasNoSaved program.script) }
     ensures ready { IfOk result (λ program. IsReady program.script) }
     ensures err { IfErr result (IsScriptCause tries (seen R.files R.faults source.old)
         (seen R.files R.faults source.new) name.now) }
@@ -50,6 +52,7 @@ fn program_in(alloc: Global, file: Pieces) -> Result<Program, ScriptFault>
     ensures accepted { IfOk result (λ program. Accepted file program.script) }
     ensures refused { IfErr result (IsScriptFault file) }
     ensures well_formed { IfOk result (λ program. IsWellFormed program.script) }
+    ensures written { IfOk result (λ program. HasNoSaved program.script) }
     ensures ready { IfOk result (λ program. IsReady program.script) }
 {
     match file.into_vec(alloc) {
@@ -63,6 +66,7 @@ fn program_of(alloc: Global, bytes: &[u8]) -> Result<Program, ScriptFault>
     ensures accepted { IfOk result (λ program. Accepted bytes.now program.script) }
     ensures refused { IfErr result (IsScriptFault bytes.now) }
     ensures well_formed { IfOk result (λ program. IsWellFormed program.script) }
+    ensures written { IfOk result (λ program. HasNoSaved program.script) }
     ensures ready { IfOk result (λ program. IsReady program.script) }
 {
     let ast = parse(alloc, bytes)?;

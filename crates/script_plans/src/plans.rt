@@ -1,6 +1,5 @@
 // The plan of a program: what its execution graph keeps is what the optimiser asks for.
 ghost use Rattle.std.specs.Prelude.{◌≡◌, IfOk, length};
-ghost use Rattle.build_law.specs.of_direct_meaning.Inputs.{inputs_of};
 ghost use Rattle.exec_graph.specs.Typing.{IsTyped, Signatures};
 ghost use Rattle.exec_graph.specs.Wellformed.{IsGraphOk};
 ghost use Rattle.exec_graph.specs.World.{World};
@@ -9,6 +8,7 @@ ghost use Rattle.exec_plan.specs.Wellformed.{IsPlanOk};
 ghost use Rattle.build_law.specs.of_graph_build.Graphs.{graph_of};
 ghost use Rattle.plan_laws.specs.Operations.{SamePlan};
 ghost use Rattle.build_law.specs.of_script_laws.WellFormed.{IsWellFormed};
+ghost use Rattle.build_law.specs.of_script_program.Sources.{source_kinds};
 ghost use Rattle.script_plans.specs.Plans.{IsScriptPlan};
 
 use crate::scales::scales_of;
@@ -31,7 +31,7 @@ pub fn plan_of(alloc: Global, program: &Program, graph: Graph) -> Result<Plan, A
     ensures types { IfOk result (λ plan. (s : Signatures) →
         IsTyped s (graph_of program.now.script) → IsPlanTyped s plan) }
     ensures sources { IfOk result (λ plan.
-        plan.sources ≡ length (inputs_of program.now.script)) }
+        plan.sources ≡ length (source_kinds program.now.script)) }
 {
     one_step_law();
     let scales = scales_of(alloc, program)?;

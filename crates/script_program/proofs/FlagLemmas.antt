@@ -18,6 +18,7 @@ use Rattle.script_program.specs.declared.made.Node.{Node as HeldNode}
 use Rattle.script_program.specs.declared.made.Output.{Output}
 use Rattle.script_program.specs.Script.{Node}
 use Rattle.script_program.specs.Needed.{has, with_reads, read_from, is_needed}
+use Rattle.script_program.specs.Rested.{rests}
 use Rattle.script_program.specs.inner.Tables.{node_of, numbered_of}
 use Rattle.script_program.specs.inner.Flags.{AreFlags, held_made, held_reads, TellNeeded}
 
@@ -79,6 +80,24 @@ pub past : (flags : List Bool) (number : ℕ) (numbers : List ℕ) → length fl
     → AreFlags numbers flags → AreFlags (number ∷ numbers) flags
 past flags number numbers far are =
     λ n in_. are n in_ ∙ past-at number n numbers (omega (arith, in_, far)) (eqb number n) refl
+
+-- one flag more is unset, of those below a number
+unset-at : (flags : List Bool) (number n : ℕ) → number < length flags
+    → ((k : ℕ) → k < number → get_or flags k false ≡ false) → n < number + 1
+    → (b : Bool) → eqb n number ≡ b → get_or (set flags number false) n false ≡ false
+unset-at flags number n in_ before below true e =
+    let same : n ≡ number = eqb-true n number e in
+    subst (λ k. get_or (set flags number false) k false ≡ false) (sym same)
+    (get_or-set_same flags number false false in_)
+unset-at flags number n in_ before below false e =
+    let other : n ≡ number → ⊥ = λ same. let is = eq-eqb n number same in cc in
+    get_or-set_other flags number n false false other ∙ before n (omega arith)
+
+pub one-unset : (flags : List Bool) (number : ℕ) → number < length flags
+    → ((k : ℕ) → k < number → get_or flags k false ≡ false) → (n : ℕ) → n < number + 1
+    → get_or (set flags number false) n false ≡ false
+one-unset flags number in_ before n below =
+    unset-at flags number n in_ before below (eqb n number) refl
 
 -- ---- numbers of a list, one by one
 
@@ -152,3 +171,18 @@ tells known functions nodes outputs flags n flag tell in_ is =
     let within : n < length flags = omega (arith, in_, tell.many, same) in
     is ∙ get_or_default flags n flag false within ∙ tell.told n within
     ∙ ap (λ all. has (read_from (held_reads outputs) 0 all) n) (sym (same-made known.types nodes))
+
+-- flags that tell what a collection of a program rests on
+pub rests-told : (known : Known) (functions : Named HeldFunction) (nodes : Named HeldNode)
+    (outputs : Named Output) (asked : ℕ) (flags : List Bool)
+    → AreFlags (read_from (asked ∷ []) 0 (held_made nodes)) flags → (n : ℕ) → n < length flags
+    → get_or flags n false ≡ rests (numbered_of known functions nodes outputs).script asked n
+rests-told known functions nodes outputs asked flags told n within =
+    told n within
+    ∙ ap (λ all. has (read_from (asked ∷ []) 0 all) n) (sym (same-made known.types nodes))
+
+pub as-many-flags : (known : Known) (functions : Named HeldFunction) (nodes : Named HeldNode)
+    (outputs : Named Output) (flags : List Bool) → length flags ≡ length nodes
+    → length flags ≡ length (numbered_of known functions nodes outputs).script.nodes
+as-many-flags known functions nodes outputs flags many =
+    many ∙ sym (length-map nodes (node_of known.types))

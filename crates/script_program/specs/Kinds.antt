@@ -1,6 +1,7 @@
 -- Which collections are objects, and which are read for their members and which for the value of an
 -- object.
-use Rattle.std.specs.Prelude.{ℕ, Bool, true, false, List, [], ◌∷◌}
+use Rattle.std.specs.Prelude.{ℕ, Bool, true, false, List, [], ◌∷◌, Option, Some, None}
+use Rattle.script_program.specs.declared.made.Emitted.{Emitted}
 use Rattle.script_program.specs.declared.made.Made.{Made}
 use Rattle.script_program.specs.declared.made.Made.TheVariants as made
 
@@ -8,7 +9,16 @@ use Rattle.script_program.specs.declared.made.Made.TheVariants as made
 abbrev pub gives_object : Made → Bool
 gives_object (made.CombineAll source by) = true
 gives_object (made.Operate objects function) = true
+gives_object (made.Saved is_object call) = is_object
 gives_object _ = false
+
+-- which output of a call a collection is that is made so, if it is one, or was one where an earlier
+-- run has kept it
+abbrev pub emitted_as : Made → Option Emitted
+emitted_as (made.Do source function output) =
+    Some (record { function = function; output = output })
+emitted_as (made.Saved is_object call) = call
+emitted_as _ = None
 
 -- the numbers of the collections whose members one is made from
 abbrev pub members_read : Made → List ℕ
@@ -23,6 +33,7 @@ members_read (made.Top number source) = source ∷ []
 members_read (made.CombineAll source by) = source ∷ []
 members_read (made.Operate objects function) = []
 members_read (made.DoWith source function object) = source ∷ []
+members_read (made.Saved is_object call) = []
 
 -- the numbers of the objects whose values one is made from
 abbrev pub values_read : Made → List ℕ

@@ -3,5 +3,8 @@ pub mod Kinds
 pub mod Script
 pub mod Program
 pub mod Needed
+pub mod Rested
+pub mod Saved
+pub mod Sources
 pub mod Held
 pub mod inner

@@ -20,6 +20,7 @@ operands (made.Top number source) = source ∷ []
 operands (made.CombineAll source by) = source ∷ []
 operands (made.Operate objects function) = objects
 operands (made.DoWith source function object) = source ∷ object ∷ []
+operands (made.Saved is_object call) = []
 
 -- how a script's collections are made, in order
 abbrev pub made_of : Script → List Made

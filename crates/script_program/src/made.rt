@@ -1,6 +1,7 @@
 // What a script defines: how collections are made, functions and outputs.
 ghost use Rattle.std.specs.Prelude.{◌≡◌};
-ghost use Rattle.script_program.specs.Kinds.{gives_object};
+ghost use Rattle.script_program.specs.Kinds.{emitted_as, gives_object};
+ghost use Rattle.script_program.specs.Saved.{saved_as};
 
 use combine_table::Comb;
 use dofn_eval::Fun;
@@ -68,6 +69,19 @@ pub enum Made {
         function: usize,
         object: usize,
     },
+    /// From what an earlier run has kept of it: whether it is an object, and which output of a call
+    /// it was, if it was one. No text of a script makes a collection so.
+    Saved {
+        is_object: bool,
+        call: Option<Emitted>,
+    },
+}
+
+/// An output of a call: of which function, and its place among the outputs, from 0.
+#[derive(Clone, Copy)]
+pub struct Emitted {
+    pub function: usize,
+    pub output: usize,
 }
 
 impl Made {
@@ -77,7 +91,36 @@ impl Made {
     {
         match self {
             Made::CombineAll { .. } | Made::Operate { .. } => true,
+            Made::Saved { is_object, .. } => *is_object,
             _ => false,
+        }
+    }
+
+    /// Which output of a call a collection is that is made so, if it is one.
+    pub fn emitted(&self) -> Option<Emitted>
+        ensures { result ≡ emitted_as self.now }
+    {
+        match self {
+            Made::Do {
+                function,
+                output,
+                ..
+            } => Some(Emitted {
+                function: *function,
+                output: *output,
+            }),
+            Made::Saved { call, .. } => *call,
+            _ => None,
+        }
+    }
+
+    /// How it is made where an earlier run has kept it.
+    pub(crate) fn saved(&self) -> Made
+        ensures { result ≡ saved_as self.now }
+    {
+        Made::Saved {
+            is_object: self.gives_object(),
+            call: self.emitted(),
         }
     }
 }

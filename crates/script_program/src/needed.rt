@@ -24,6 +24,38 @@ pub fn needed(
     Ok(flags)
 }
 
+/// The same in flags that there are already, one for each collection. It takes no memory.
+pub fn needed_anew(nodes: &[(Str, Node)], outputs: &IndexMap<Str, Output>, flags: &mut Vec<bool>)
+    requires { length flags.old.items ≡ length nodes.now }
+    ensures { TellNeeded nodes.now outputs.now.entries flags.new.items }
+{
+    unmark_all(flags);
+    mark_outputs(outputs, flags);
+    mark_needed(nodes, flags);
+}
+
+/// For each collection whether the one of that number rests on it.
+pub fn rested(alloc: Global, nodes: &[(Str, Node)], asked: usize) -> Result<Vec<bool>, AllocError>
+    ensures many { IfOk result (λ flags. length flags.items ≡ length nodes.now) }
+    ensures told { IfOk result (λ flags.
+        AreFlags (read_from (asked ∷ []) 0 (held_made nodes.now)) flags.items) }
+{
+    let mut flags = unmarked(alloc, nodes.len())?;
+    mark(asked, &mut flags);
+    mark_needed(nodes, &mut flags);
+    Ok(flags)
+}
+
+/// Unmarks all.
+fn unmark_all(flags: &mut Vec<bool>)
+    ensures many { length flags.new.items ≡ length flags.old.items }
+    ensures none { AreFlags [] flags.new.items }
+{
+    for number in 0..flags.len() {
+        flags[number] = false;
+    }
+}
+
 /// So many flags, of which none is set.
 fn unmarked(alloc: Global, count: usize) -> Result<Vec<bool>, AllocError>
     ensures { IfOk result (λ flags. flags.items ≡ replicate count false) }
@@ -116,6 +148,10 @@ fn mark_operands(how: &Made, flags: &mut Vec<bool>)
             mark(*object, flags);
             mark(*source, flags)
         }
+        Made::Saved {
+            is_object: _,
+            call: _,
+        } => (),
     }
 }
 

@@ -1,14 +1,19 @@
 // The program that an accepted script is.
-ghost use Rattle.std.specs.Prelude.{◌≡◌, ◌<◌, Some, length, slice_get};
+ghost use Rattle.std.specs.Prelude.{◌≡◌, ◌<◌, ℕ, IfOk, Some, false, length, slice_get, slice_index_or};
 ghost use Rattle.std.specs.Option.{option_map};
 ghost use Rattle.script_program.specs.Program as spec;
 ghost use Rattle.script_program.specs.Needed.{is_needed};
+ghost use Rattle.script_program.specs.Rested.{rests};
+ghost use Rattle.script_program.specs.Saved.{with_saved};
 ghost use Rattle.script_program.specs.inner.Tables.{AreHeld, numbered_of};
 ghost use Rattle.script_program.specs.inner.Flags.{TellNeeded};
 
 use crate::made::{Function, Node, Output};
+use crate::needed::{needed_anew, rested};
+use crate::saved::save_found;
 use flume_value::{Pile, Str};
 use indexmap::IndexMap;
+use std::alloc::{AllocError, Global};
 use std::marker::Model;
 use type_table::Types;
 use written_types::TypeNames;
@@ -71,6 +76,25 @@ impl Program {
             outputs,
             needed,
         }
+    }
+
+    /// The same program, in which the collections of these numbers are those that an earlier run
+    /// has kept. What alone they read is not needed any more. It takes no memory.
+    pub fn with_saved(self, found: &[u32]) -> Program
+        ensures script { result.script ≡ with_saved found.now self.script }
+        ensures known { result.known ≡ self.known }
+    {
+        let Program {
+            known,
+            functions,
+            nodes,
+            outputs,
+            mut needed,
+        } = self;
+        let mut nodes = nodes.into_vec();
+        save_found(&mut nodes, found);
+        needed_anew(nodes.as_slice(), &outputs, &mut needed);
+        Program::new(known, functions, Pile::from_vec(nodes), outputs, needed)
     }
 
     /// The types under numbers.
@@ -152,6 +176,16 @@ impl Program {
         ensures { result ≡ is_needed self.now.script number }
     {
         self.needed[number]
+    }
+
+    /// For each collection whether the one of that number rests on it.
+    pub fn rested_on(&self, alloc: Global, asked: usize) -> Result<Vec<bool>, AllocError>
+        ensures many { IfOk result (λ flags.
+            length flags.items ≡ length self.now.script.nodes) }
+        ensures told { IfOk result (λ flags. (number : ℕ) → number < length flags.items →
+            slice_index_or flags.items number false ≡ rests self.now.script asked number) }
+    {
+        rested(alloc, self.nodes.as_slice(), asked)
     }
 
     /// How many outputs there are.

@@ -1,5 +1,5 @@
 -- What a plan's execution comes to, in the world of the script.
-use Rattle.std.proofs.Common.{◌≡◌, ℕ, zero, suc, ◌<◌, List, [], ◌∷◌, Option, Some, length, map, slice_get, slice_index_or, refl, sym, ap, subst}
+use Rattle.std.proofs.Common.{◌≡◌, ℕ, zero, suc, List, [], ◌∷◌, Option, Some, slice_get, slice_index_or, refl, sym, subst}
 use Rattle.std.specs.List.{Contains}
 use Rattle.run_sizes.specs.of_build_law.Signatures.{signatures_of}
 use Rattle.run_sizes.specs.of_build_law.Worlds.{world_of}
@@ -14,7 +14,6 @@ use Rattle.flume_collection.specs.Calls.{or_none}
 use Rattle.flume_collection.specs.Collection.{Collection}
 use Rattle.flume_collection.specs.declared.trap.Trap.{Trap}
 use Rattle.flume_value.specs.declared.value.Value.{Value}
-use Rattle.run_sizes.specs.of_direct_meaning.Inputs.{HaveRows, Wanted}
 use Rattle.plan_phases.specs.Phases.{phases, with_tasks}
 use Rattle.plan_phases.specs.Told.{AskedFront}
 use Rattle.plan_phases.specs.declared.winners.PhaseWinners.{PhaseWinners}
@@ -34,14 +33,6 @@ rows_same : (inputs : List (List Value)) (r : ℕ)
 rows_same [] r = refl
 rows_same (rows ∷ inputs) zero = refl
 rows_same (rows ∷ inputs) (suc r) = rows_same inputs r
-
--- as many lists of rows as inputs
-pub as_many_rows : (wanted : List Wanted) (inputs : List (List Value)) → HaveRows wanted inputs
-    → length inputs ≡ length wanted
-as_many_rows [] [] have = refl
-as_many_rows [] (rows ∷ inputs) have = absurd have
-as_many_rows (one ∷ wanted) [] have = absurd have
-as_many_rows (one ∷ wanted) (rows ∷ inputs) have = ap suc (as_many_rows wanted inputs have.1)
 
 module _ (script : Script) (inputs : List (List Value)) where
   -- the world of a run

@@ -5,7 +5,6 @@ use Rattle.run_sizes.specs.of_build_law.Signatures.{signatures_of}
 use Rattle.run_sizes.specs.of_build_law.Worlds.{world_of}
 use Rattle.crew.specs.Hosts.{Account}
 use Rattle.run_sizes.specs.of_direct_meaning.Direct.{meaning, sizes_of, traps_of}
-use Rattle.run_sizes.specs.of_direct_meaning.Inputs.{inputs_of}
 use Rattle.exec_graph.specs.World.{World}
 use Rattle.exec_plan.specs.Typing.{IsPlanTyped}
 use Rattle.exec_plan.specs.Wellformed.{IsPlanOk}
@@ -23,24 +22,25 @@ use Rattle.plan_phases.specs.declared.fault.RunFault.TheVariants as fault
 use Rattle.plan_phases.specs.declared.winners.PhaseWinners.{PhaseWinners}
 use Rattle.run_settings.specs.Settings.{RunSettings}
 use Rattle.run_sizes.specs.of_script_program.Script.{Script}
+use Rattle.run_sizes.specs.of_script_program.Sources.{source_kinds}
 use Rattle.task_lists.specs.Plans.{first_trap}
 use Rattle.task_lists.specs.Tasks.{Split}
 use Rattle.script_run.specs.Comes.{AreMembers}
 use Rattle.script_run.specs.declared.run.Ran.{Ran}
 
 -- the plan is well-formed and typed, and means what the script's graph means, over any rows; it has
--- a source for each input that the script needs
+-- as many sources as the script needs
 pub record IsPlanOf (script : Script) (plan : Plan) : Type 0 where
   pub well_formed : IsPlanOk plan
   pub typed : IsPlanTyped (signatures_of script) plan
   pub same : (w : World) → SamePlan w (graph_of script) plan
-  pub sources : plan.sources ≡ length (inputs_of script)
+  pub sources : plan.sources ≡ length (source_kinds script)
 
 -- into how many shards and partitions a run splits its channels
 abbrev pub split_of : RunSettings → Split
 split_of s = record { shards = s.shards; partitions = s.partitions }
 
--- the phases of a script's plan over the rows of its needed inputs: those that have tasks, and
+-- the phases of a script's plan over the lists of its needed sources: those that have tasks, and
 -- between them the makings of objects
 abbrev pub phases_of : RunSettings → Script → List (List Value) → Plan → List PlanPhase
 phases_of s script inputs plan = phases (world_of script inputs) (split_of s) plan

@@ -34,8 +34,8 @@ pub struct Ran {
     pub winners: Vec<PhaseWinners>,
 }
 
-/// Runs the plan of a program over the rows of its needed inputs, with a worker on each of the
-/// hosts.
+/// Runs the plan of a program over the lists of its needed sources, rows of inputs and behind them
+/// members of kept collections, with a worker on each of the hosts.
 pub fn run_script<X: Threads + Sync, H: Host + Send>(
     rt: &X,
     alloc: Global,

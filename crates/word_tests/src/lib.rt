@@ -2,6 +2,8 @@
 #![tactic(auto)]
 
 #[cfg(test)]
+mod cached;
+#[cfg(test)]
 mod options;
 #[cfg(test)]
 mod refused;

@@ -65,7 +65,7 @@ fn refuses_other_options(rt: HostRuntime) -> Result<(), Fail> {
 #[test]
 fn refuses_options_of_another_command(rt: HostRuntime) -> Result<(), Fail> {
     let alloc = rt.alloc();
-    let table: [&[&str]; 11] = [
+    let table: [&[&str]; 12] = [
         &["flume", "check", "s", "--workers", "2"],
         &["flume", "check", "s", "--plan", "p"],
         &["flume", "plan", "s", "--plan", "p"],
@@ -75,6 +75,8 @@ fn refuses_options_of_another_command(rt: HostRuntime) -> Result<(), Fail> {
         &["flume", "run", "s", "--json"],
         &["flume", "run", "s", "--rewrites"],
         &["flume", "check", "s", "--rewrites"],
+        // a cached run is asked for by words of its own
+        &["flume", "run", "s", "--cached"],
         // one flag at most
         &["flume", "plan", "s", "--json", "--rewrites"],
         &["flume", "plan", "--rewrites", "s", "--rewrites"],

@@ -11,10 +11,14 @@ pub struct Case {
     pub commands: Vec<Command>,
     /// The files of the source.
     pub files: Vec<TextFile>,
+    /// The files that it has behind the first call, in place of those of the same names.
+    pub later: Vec<TextFile>,
     /// The files that the shelf has before each call.
     pub before: Vec<TextFile>,
     /// The file of the source, by its name, that the screen of the first call is for those behind.
     pub keeps: Option<Vec<u8>>,
+    /// The entries that the cache has at the first.
+    pub entries: Vec<KeptText>,
     /// The room of the shelf.
     pub room: Room,
     /// What fails in each call.
@@ -23,6 +27,8 @@ pub struct Case {
     pub whens: Vec<When>,
     /// Whether each two of those are also met together.
     pub has_pairs: bool,
+    /// Whether each call has a cache of its own, and is made once more over what that has then.
+    pub is_twice: bool,
     /// Whether the losses of the hosts are told.
     pub tells_losses: bool,
 }
@@ -39,6 +45,13 @@ pub struct Command {
 pub struct TextFile {
     pub name: Vec<u8>,
     pub bytes: Vec<u8>,
+}
+
+/// An entry of a cache: its key and its value.
+#[derive(Drop)]
+pub struct KeptText {
+    pub key: Vec<u8>,
+    pub value: Vec<u8>,
 }
 
 /// For how many files, and how many bytes in all, their names included, a shelf has room.
@@ -66,6 +79,8 @@ pub enum Fault {
     Shelf(Fail),
     /// A call of the screen, by its number from 0.
     Screen(u32),
+    /// A call of the cache, by its number from 0.
+    Cache(u32),
     /// The host of this number is down at this place; with no number, each host is.
     Host { number: Option<u32>, at: At },
 }
@@ -75,6 +90,12 @@ const ROOM: Room = Room {
     bytes: 100_000,
 };
 
+/// For how many entries, and how many bytes in all, their keys included, a cache has room.
+pub const CACHE_ROOM: Room = Room {
+    files: 8,
+    bytes: 20_000,
+};
+
 impl Case {
     /// A case of this name with nothing in it.
     pub fn new(alloc: Global, name: Vec<u8>) -> Case {
@@ -82,12 +103,15 @@ impl Case {
             name,
             commands: Vec::new(alloc),
             files: Vec::new(alloc),
+            later: Vec::new(alloc),
             before: Vec::new(alloc),
             keeps: None,
+            entries: Vec::new(alloc),
             room: ROOM,
             always: Vec::new(alloc),
             whens: Vec::new(alloc),
             has_pairs: false,
+            is_twice: false,
             tells_losses: false,
         }
     }

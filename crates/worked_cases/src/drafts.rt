@@ -1,5 +1,5 @@
 // A case that is being read, line by line.
-use crate::cases::{Case, Room, TextFile};
+use crate::cases::{CACHE_ROOM, Case, KeptText, Room, TextFile};
 use crate::commands::command_of;
 use crate::faults::{push_faults, when_of};
 use crate::lines::{Line, Word, line_of};
@@ -22,6 +22,9 @@ enum Place {
     Nowhere,
     File,
     Before,
+    Later,
+    Key,
+    Value,
 }
 
 impl Draft {
@@ -51,18 +54,21 @@ impl Draft {
         if case.commands.is_empty() {
             return Err(Mistake::NoCall);
         }
-        if !fits(&case.before, case.room) {
+        if !fits(&case.before, case.room) || !entries_fit(&case.entries, CACHE_ROOM) {
             return Err(Mistake::NoRoom);
         }
         Ok(case)
     }
 
-    // A piece of the last file.
+    // A piece of the last file or entry.
     fn add_piece(&mut self, alloc: Global, piece: &[u8], texts: &[TextFile]) -> Result<(), Unread> {
         match self.place {
             Place::Nowhere => Err(Unread::Wrong(Mistake::NoFile)),
             Place::File => push_to_last(alloc, &mut self.case.files, piece, texts),
             Place::Before => push_to_last(alloc, &mut self.case.before, piece, texts),
+            Place::Later => push_to_last(alloc, &mut self.case.later, piece, texts),
+            Place::Key => push_to_key(alloc, &mut self.case.entries, piece, texts),
+            Place::Value => push_to_value(alloc, &mut self.case.entries, piece, texts),
         }
     }
 
@@ -74,8 +80,11 @@ impl Draft {
         texts: &[TextFile],
     ) -> Result<(), Unread> {
         match word {
-            Word::Script | Word::File | Word::Before => self.add_file(alloc, word, rest),
-            Word::Pairs | Word::Losses => self.add_wish(word, rest),
+            Word::Script | Word::File | Word::Before | Word::Later => {
+                self.add_file(alloc, word, rest)
+            }
+            Word::Entry | Word::Value => self.add_entry(alloc, word, rest),
+            Word::Pairs | Word::Twice | Word::Losses => self.add_wish(word, rest),
             Word::Flume => {
                 self.case.commands.push(command_of(alloc, rest)?)?;
                 Ok(())
@@ -110,13 +119,36 @@ impl Draft {
         };
         let bytes = Vec::new(alloc);
         let file = TextFile { name, bytes };
-        if word == Word::Before {
-            self.case.before.push(file)?;
-            self.place = Place::Before;
-        } else {
-            self.case.files.push(file)?;
-            self.place = Place::File;
+        match word {
+            Word::Before => {
+                self.case.before.push(file)?;
+                self.place = Place::Before;
+            }
+            Word::Later => {
+                self.case.later.push(file)?;
+                self.place = Place::Later;
+            }
+            _ => {
+                self.case.files.push(file)?;
+                self.place = Place::File;
+            }
         }
+        Ok(())
+    }
+
+    // An entry with an empty key and an empty value, or the value of the last one.
+    fn add_entry(&mut self, alloc: Global, word: Word, rest: &[u8]) -> Result<(), Unread> {
+        if !rest.is_empty() {
+            return Err(Unread::Wrong(Mistake::TooMuch));
+        }
+        if word == Word::Value {
+            self.place = Place::Value;
+            return Ok(());
+        }
+        let key = Vec::new(alloc);
+        let value = Vec::new(alloc);
+        self.case.entries.push(KeptText { key, value })?;
+        self.place = Place::Key;
         Ok(())
     }
 
@@ -124,10 +156,10 @@ impl Draft {
         if !rest.is_empty() {
             return Err(Unread::Wrong(Mistake::TooMuch));
         }
-        if word == Word::Pairs {
-            self.case.has_pairs = true;
-        } else {
-            self.case.tells_losses = true;
+        match word {
+            Word::Pairs => self.case.has_pairs = true,
+            Word::Twice => self.case.is_twice = true,
+            _ => self.case.tells_losses = true,
         }
         Ok(())
     }
@@ -154,6 +186,42 @@ fn fits(files: &[TextFile], room: Room) -> bool {
         bytes = bytes.saturating_add(file.bytes.len());
     }
     files.len() as u64 <= u64::from(room.files) && bytes as u64 <= room.bytes
+}
+
+// Whether these entries, with their keys, fit this room.
+fn entries_fit(entries: &[KeptText], room: Room) -> bool {
+    let mut bytes = 0usize;
+    for entry in entries {
+        bytes = bytes.saturating_add(entry.key.len());
+        bytes = bytes.saturating_add(entry.value.len());
+    }
+    entries.len() as u64 <= u64::from(room.files) && bytes as u64 <= room.bytes
+}
+
+// Adds a piece to the key of the last of these entries.
+fn push_to_key(
+    alloc: Global,
+    entries: &mut Vec<KeptText>,
+    piece: &[u8],
+    texts: &[TextFile],
+) -> Result<(), Unread> {
+    match entries.last_mut() {
+        Some(entry) => push_piece(alloc, &mut entry.key, piece, texts),
+        None => Err(Unread::Wrong(Mistake::NoFile)),
+    }
+}
+
+// The same to its value.
+fn push_to_value(
+    alloc: Global,
+    entries: &mut Vec<KeptText>,
+    piece: &[u8],
+    texts: &[TextFile],
+) -> Result<(), Unread> {
+    match entries.last_mut() {
+        Some(entry) => push_piece(alloc, &mut entry.value, piece, texts),
+        None => Err(Unread::Wrong(Mistake::NoFile)),
+    }
 }
 
 // Adds a piece to the last of these files.

@@ -34,6 +34,8 @@ fn fault_of(text: &[u8]) -> Result<Fault, Mistake> {
         Ok(Fault::Shelf(fail_of(rest)?))
     } else if kind == b"screen".as_slice() {
         Ok(Fault::Screen(number_of(rest)?))
+    } else if kind == b"cache".as_slice() {
+        Ok(Fault::Cache(number_of(rest)?))
     } else {
         host_of(kind, rest)
     }

@@ -18,7 +18,7 @@ mod reading;
 mod reports;
 mod telling;
 
-pub use cases::{Case, Command, Fault, Room, TextFile, When};
+pub use cases::{CACHE_ROOM, Case, Command, Fault, KeptText, Room, TextFile, When};
 pub use mistakes::{Misread, Mistake};
 pub use reading::{Entry, read_cases};
 pub use reports::{Counts, Outcome, Report};

@@ -21,26 +21,34 @@ pub enum Word {
     Script,
     File,
     Before,
+    Later,
+    Entry,
+    Value,
     Room,
     Fails,
     When,
     Pairs,
     Losses,
     Keeps,
+    Twice,
 }
 
-const WORDS: [(&[u8], Word); 11] = [
+const WORDS: [(&[u8], Word); 15] = [
     (b"flume", Word::Flume),
     (b"calls", Word::Calls),
     (b"script", Word::Script),
     (b"file", Word::File),
     (b"before", Word::Before),
+    (b"later", Word::Later),
+    (b"entry", Word::Entry),
+    (b"value", Word::Value),
     (b"room", Word::Room),
     (b"fails", Word::Fails),
     (b"when", Word::When),
     (b"pairs", Word::Pairs),
     (b"losses", Word::Losses),
     (b"keeps", Word::Keeps),
+    (b"twice", Word::Twice),
 ];
 
 /// What this line says.

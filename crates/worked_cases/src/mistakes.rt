@@ -32,7 +32,7 @@ pub enum Mistake {
     Fault,
     /// It names no place.
     Place,
-    /// The files before do not fit the shelf.
+    /// The files before do not fit the shelf, or the entries the cache.
     NoRoom,
     /// The case has no command line.
     NoCall,
@@ -47,7 +47,7 @@ impl Mistake {
             Mistake::NoCase => "only a text may stand below `text NAME`",
             Mistake::NoName => "a name is wanted",
             Mistake::TooMuch => "nothing may stand behind this word",
-            Mistake::NoFile => "a text with no script, file or before above it",
+            Mistake::NoFile => "a text with no script, file, before, later or entry above it",
             Mistake::Marks => {
                 "behind | stand %, ., <, # and *TIMES, as they are wanted, and a blank"
             }
@@ -57,10 +57,10 @@ impl Mistake {
             Mistake::TooLong => "a text of more than 100,000,000 bytes",
             Mistake::Utf8 => "a word is UTF-8",
             Mistake::Fault => {
-                "a fault is a step of the source, or of source, shelf, screen, a host or all hosts"
+                "a fault is a step, or of source, shelf, screen, cache, a host or all hosts"
             }
             Mistake::Place => "a place is STAGE, m or r, TASK.ATTEMPT@PLACE, as 1m0.1@0",
-            Mistake::NoRoom => "the files before do not fit the room of the shelf",
+            Mistake::NoRoom => "the files before, or the entries, do not fit their room",
             Mistake::NoCall => "a case without a flume line",
         }
     }

@@ -16,10 +16,13 @@ pub struct Outcome {
 /// What is counted in a call.
 #[derive(Drop)]
 pub struct Counts {
-    /// How often the source, the shelf and the screen failed.
+    /// How often the source, the shelf, the screen and the cache failed.
     pub source: u64,
     pub shelf: u64,
     pub screen: u64,
+    pub cache: u64,
+    /// How many entries the cache has then.
+    pub entries: u64,
     /// How often each host was down, where that is told.
     pub losses: Vec<u64>,
 }
@@ -164,6 +167,11 @@ fn push_counts(page: &mut String, counts: &Counts) -> Result<(), AllocError> {
     push_count(page, "source", counts.source)?;
     push_count(page, "shelf", counts.shelf)?;
     push_count(page, "screen", counts.screen)?;
+    push_count(page, "cache", counts.cache)?;
+    if counts.entries > 0 {
+        let entries = counts.entries;
+        write!(page, ", cache has {entries}")?;
+    }
     for (host, losses) in counts.losses.iter().enumerate() {
         if *losses > 0 {
             write!(page, ", host {host} lost {losses}")?;

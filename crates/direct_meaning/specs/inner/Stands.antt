@@ -9,16 +9,16 @@ use Rattle.written_types.specs.Named.{Named}
 use Rattle.script_program.specs.Script.{Node, Script}
 use Rattle.script_laws.specs.WellFormed.{AllFit}
 use Rattle.direct_meaning.specs.Direct.{collections, meaning, traps_of}
-use Rattle.direct_meaning.specs.Inputs.{HaveRows, Wanted, wanted_by}
+use Rattle.direct_meaning.specs.Inputs.{AreLists, Sourced, sourced_by}
 use Rattle.direct_meaning.specs.Made.{AreMade}
 use Rattle.script_program.specs.Needed.{is_needed, numbered}
 use Rattle.direct_meaning.specs.declared.kept.Kept.{Kept}
 use Rattle.direct_meaning.specs.inner.Kept.{KeepsAny}
 
--- the inputs that are needed among nodes from a number on
-abbrev pub wanted_from : Script → ℕ → Named Node → List Wanted
-wanted_from script number nodes =
-    flat_map (λ it. wanted_by it.1.1.made it.1.1.type)
+-- the sources that are needed among nodes from a number on
+abbrev pub sourced_from : Script → ℕ → Named Node → List Sourced
+sourced_from script number nodes =
+    flat_map (λ it. sourced_by it.1.1.made it.1.1.type)
     (filter (λ it. is_needed script it.0) (numbered number nodes))
 
 -- Before the node of this number, with these rows to come, this kept, and these traps found: the
@@ -33,6 +33,6 @@ pub record Stands (script : Script) (inputs : List (List Value)) (number : ℕ)
   pub table : List (Option Collection)
   pub are : AreMade script before table
   pub ahead : collections script rest left table ≡ meaning script inputs
-  pub rows : HaveRows (wanted_from script number rest) left
+  pub rows : AreLists (sourced_from script number rest) left
   pub keeps : AllZip KeepsAny kept table
   pub found : traps_of table ≡ trap_set traps

@@ -1,5 +1,5 @@
 -- The sizes of a script's collections, one after another, by their numbers.
-use Rattle.std.specs.Prelude.{ℕ, ◌+◌, ◌-◌, ◌^◌, List, [], ◌∷◌, ◌++◌, Option, Some, None, length, min, slice_get, unwrap_or, if◌then◌else◌}
+use Rattle.std.specs.Prelude.{ℕ, ◌+◌, ◌-◌, ◌^◌, List, [], ◌∷◌, ◌++◌, Option, Some, None, length, min, slice_get, slice_index, unwrap_or, if◌then◌else◌}
 use Rattle.std.specs.Option.{option_flatten}
 use Rattle.flume_value.specs.declared.value.Value.{Value}
 use Rattle.flume_collection.specs.Calls.{or_none}
@@ -13,9 +13,10 @@ use Rattle.written_types.specs.Named.{Named}
 abbrev pub kept : ℕ → ℕ
 kept n = min n (2 ^ 64 - 1)
 
--- how many rows the input of that place has
-abbrev pub row_count : List (List Value) → ℕ → ℕ
-row_count rows input = kept (length (or_none (slice_get rows input)))
+-- how many members the source of that place has, where these are the numbers of their lists
+abbrev pub list_count : List (List Value) → List ℕ → ℕ → ℕ
+list_count lists numbers source =
+    kept (length (or_none (slice_get lists (slice_index numbers source))))
 
 -- what was counted for a number
 abbrev pub count_at : List ℕ → ℕ → ℕ
@@ -29,26 +30,30 @@ abbrev pub together : List (Option ℕ) → List ℕ → ℕ
 together sizes [] = 0
 together sizes (number ∷ numbers) = size_at sizes number + together sizes numbers
 
--- the size of the collection of a number that is made so
-abbrev pub sized_as : List (List Value) → List ℕ → ℕ → Made → ℕ → List (Option ℕ) → ℕ
-sized_as rows counts number (made.Input file columns) input sizes = row_count rows input
-sized_as rows counts number (made.Flatten sources) input sizes = kept (together sizes sources)
-sized_as rows counts number _ input sizes = count_at counts number
+module _ (lists : List (List Value)) (numbers counts : List ℕ) where
+  -- the size of the collection of a number that is made so, where the next source has that place
+  abbrev pub sized_as : ℕ → Made → ℕ → List (Option ℕ) → ℕ
+  sized_as number (made.Input file columns) source sizes = list_count lists numbers source
+  sized_as number (made.Saved is_object call) source sizes = list_count lists numbers source
+  sized_as number (made.Flatten sources) source sizes = kept (together sizes sources)
+  sized_as number _ source sizes = count_at counts number
 
--- the place of the next input, behind a collection that is made so
+-- the place of the next source, behind a collection that is made so
 abbrev pub behind : Made → ℕ → ℕ
-behind (made.Input file columns) input = input + 1
-behind _ input = input
+behind (made.Input file columns) source = source + 1
+behind (made.Saved is_object call) source = source + 1
+behind _ source = source
 
-module _ (script : Script) (rows : List (List Value)) (counts : List ℕ) where
-  -- of the nodes behind those of these sizes, of which so many are inputs that are needed
+module _ (script : Script) (lists : List (List Value)) (numbers counts : List ℕ) where
+  -- of the nodes behind those of these sizes, of which so many are sources that are needed
   abbrev pub sizes_along : Named Node → ℕ → List (Option ℕ) → List (Option ℕ)
-  sizes_along [] input sizes = sizes
-  sizes_along (entry ∷ nodes) input sizes =
+  sizes_along [] source sizes = sizes
+  sizes_along (entry ∷ nodes) source sizes =
       if is_needed script (length sizes)
-      then sizes_along nodes (behind entry.1.made input)
-      (sizes ++ Some (sized_as rows counts (length sizes) entry.1.made input sizes) ∷ [])
-      else sizes_along nodes input (sizes ++ None ∷ [])
+      then sizes_along nodes (behind entry.1.made source)
+      (sizes
+      ++ Some (sized_as lists numbers counts (length sizes) entry.1.made source sizes) ∷ [])
+      else sizes_along nodes source (sizes ++ None ∷ [])
 
 -- the name and the size of a collection, where it is made
 abbrev pub size_line : List ℕ → Option ℕ → List (List ℕ × ℕ)

@@ -1,5 +1,5 @@
 -- What is in memory: types under numbers, and names with numbers of types.
-use Rattle.std.specs.Prelude.{ℕ, ◌<◌, ◌≤◌, List, length, map}
+use Rattle.std.specs.Prelude.{ℕ, suc, ◌<◌, ◌≤◌, List, [], ◌∷◌, length, map, if◌then◌else◌}
 use Rattle.std.specs.List.{All}
 use Rattle.flume_types.specs.declared.types.Ty.{Ty}
 use Rattle.written_types.specs.Named.{Named}
@@ -9,6 +9,8 @@ use Rattle.script_program.specs.declared.made.Node.{Node as HeldNode}
 use Rattle.script_program.specs.declared.made.Output.{Output}
 use Rattle.script_program.specs.declared.made.Standing.{Standing}
 use Rattle.script_program.specs.Script.{Function, Node}
+use Rattle.script_program.specs.Needed.{has}
+use Rattle.script_program.specs.Saved.{saved_as}
 use Rattle.script_program.specs.Held.{Checking}
 use Rattle.script_program.specs.Program.{Numbered, HasTypes, function_in, node_in, Does}
 
@@ -60,3 +62,23 @@ AreNodes known nodes = All (λ entry. NodeIn known entry.1) nodes
 
 abbrev pub AreHeld : Known → Named HeldFunction → Named HeldNode → Type 0
 AreHeld known functions nodes = AreFunctions known functions × AreNodes known nodes
+
+-- ---- kept collections
+
+-- a collection in memory that is kept
+abbrev pub held_saved : HeldNode → HeldNode
+held_saved held = record {
+  made = saved_as held.made;
+  ty = held.ty;
+  statement = held.statement;
+}
+
+-- the collection in memory of that number, which is kept where the number is among those found
+abbrev pub held_saved_at : List ℕ → ℕ → List ℕ × HeldNode → List ℕ × HeldNode
+held_saved_at found number entry =
+    if has found number then (entry.0, held_saved entry.1) else entry
+
+abbrev pub held_saved_from : List ℕ → ℕ → Named HeldNode → Named HeldNode
+held_saved_from found number [] = []
+held_saved_from found number (entry ∷ nodes) =
+    held_saved_at found number entry ∷ held_saved_from found (suc number) nodes

@@ -5,7 +5,7 @@ use Rattle.std.proofs.lemmas.Result.{IfOk-weaker}
 use Rattle.flume_value.specs.Bag.{bag_of}
 use Rattle.flume_collection.specs.declared.trap.Trap.{Trap}
 use Rattle.script_program.specs.declared.made.Made.TheVariants as made
-use Rattle.direct_meaning.proofs.ArmLemmas.{combine_goes, combine_read, count_goes, count_read, do_goes, do_read, flatten_goes, group_goes, group_read, input_goes, input_left, join_goes, left_read, right_read, top_goes, top_read}
+use Rattle.direct_meaning.proofs.ArmLemmas.{combine_goes, combine_read, count_goes, count_read, do_goes, do_read, flatten_goes, group_goes, group_read, input_goes, input_left, join_goes, left_read, right_read, saved_goes, saved_left, top_goes, top_read}
 use Rattle.direct_meaning.proofs.HereLemmas.{here_at}
 use Rattle.direct_meaning.proofs.ObjectArms.{beside_goes, beside_read, beside_typed, operate_goes, operate_read, operate_typed, whole_goes, whole_read, whole_suits}
 use Rattle.direct_meaning.proofs.ReadLemmas.{any_ascending, called_read, function_within, groups_read, pairs_read, table_ascending}
@@ -35,6 +35,26 @@ returns-in-Input c rows stands =
     input_goes c.in-Input.file c.in-Input.columns here members.0
     (into_iter_items c.rows.new.inputs) members.1 kept members.2 trapped)
     c.rows.ensures.members c.rows.ensures.trapped
+
+-- ---- kept collections
+
+pub rows-requires-in-Saved : goal.rows-requires-in-Saved
+rows-requires-in-Saved c =
+    saved_left c.in-Saved.is_object c.in-Saved.call
+    (here_at c.args.program.now.known.types c.node.result.now
+    (made.Saved c.in-Saved.is_object c.in-Saved.call) c.requires.well_formed c.requires.stands.1
+    c.requires.needed c.node.ensures.is c.in-Saved.is)
+
+pub returns-in-Saved : goal.returns-in-Saved
+returns-in-Saved c rows stands =
+    let here = here_at c.args.program.now.known.types c.node.result.now
+    (made.Saved c.in-Saved.is_object c.in-Saved.call) c.requires.well_formed stands
+    c.requires.needed c.node.ensures.is c.in-Saved.is in
+    if_both c.rows-in-Saved.result _ _ _
+    (λ kept members trapped.
+    saved_goes c.in-Saved.is_object c.in-Saved.call here members.0
+    (into_iter_items c.rows-in-Saved.new.inputs) members.1 kept members.2 trapped)
+    c.rows-in-Saved.ensures.members c.rows-in-Saved.ensures.trapped
 
 -- ---- groups
 

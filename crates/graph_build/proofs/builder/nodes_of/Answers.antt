@@ -8,6 +8,6 @@ pub returns : goal.returns
 returns c =
     let end : c.loop-origin.origin ≡ length c.args.program.now.script.nodes = omega arith in
     nodes_all (place_in c.args.places.now) c.args.program.now.script c.loop-origin.nodes
-    (nodes_from c.args.program.now.script (place_in c.args.places.now) 0 0 0
+    (nodes_from c.args.program.now.script (place_in c.args.places.now) 0 0
     (built c.args.program.now.script))
     c.loop-origin.origin c.loop-origin.source c.loop-origin.next end c.loop-origin.invariant

@@ -6,6 +6,6 @@ use Rattle.graph_build.proofs.builder.nodes_of.Given as goal
 abbrev pub invariant-loop-origin : goal.invariant-loop-origin
 invariant-loop-origin l =
     l.nodes
-    ++ nodes_from l.program.script (place_in l.places) l.origin l.source l.next
+    ++ nodes_from l.program.script (place_in l.places) l.source l.next
     (drop l.origin (built l.program.script))
-    ≡ nodes_from l.program.script (place_in l.places) 0 0 0 (built l.program.script)
+    ≡ nodes_from l.program.script (place_in l.places) 0 0 (built l.program.script)

@@ -8,5 +8,5 @@ loop-name-preserved c =
     let below : c.loop-name.name < c.args.end = omega arith in
     count_next c.args.program.now.script c.loop-name.name c.args.end c.loop-name.count _ _ below
     (c.in_ok-count.ensures
-    ∙ ap (λ needed. next_if needed c.loop-name.count) c.needed_at.ensures)
+    ∙ ap (λ needed. next_if needed c.loop-name.count) c.emitted_at.ensures)
     c.loop-name.invariant

@@ -10,7 +10,7 @@ loop-name-preserved c =
     outputs_next c.args.program.now.script c.loop-name.name c.args.end c.loop-name.number _
     c.loop-name.outputs.items _ _ _ below
     (c.output.ensures
-    ∙ ap (λ needed. bud (number_if needed c.loop-name.number)) c.needed_at-needed.ensures)
+    ∙ ap (λ needed. bud (number_if needed c.loop-name.number)) c.emitted_at-needed.ensures)
     (c.in_ok-number.ensures
-    ∙ ap (λ needed. next_if needed c.loop-name.number) c.needed_at-needed.ensures)
+    ∙ ap (λ needed. next_if needed c.loop-name.number) c.emitted_at-needed.ensures)
     c.in_ok-push.ensures.items c.loop-name.invariant

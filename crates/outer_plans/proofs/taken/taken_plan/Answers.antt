@@ -18,7 +18,7 @@ use Rattle.outer_plans.proofs.taken.taken_plan.Goals as goal
 pub check_plan-requires : goal.check_plan-requires
 check_plan-requires c =
     subst CanOptimise (sym c.requires.built) (can_optimise c.args.program.now.script
-    (subst IsGraphOk c.requires.built c.requires.ok)
+    c.requires.well_formed (subst IsGraphOk c.requires.built c.requires.ok)
     (c.one_step_law.ensures.unfused c.args.program.now.script)
     (c.one_step_law.ensures.narrow c.args.program.now.script c.requires.well_formed))
 
@@ -41,6 +41,6 @@ pub returns-clause-sources : goal.returns-clause-sources
 returns-clause-sources c =
     IfOk-weaker c.check_plan.result _ _ (λ plan same.
     same ∙ ap (λ (g : Graph). source_count g.nodes) c.requires.built
-    ∙ sources_counted c.args.program.now.script)
+    ∙ sources_counted c.args.program.now.script c.requires.well_formed)
     (its_sources (naming_of c.args.program.now.script) c.args.graph c.args.bytes.now
     c.check_plan.result c.check_plan.ensures.checked)

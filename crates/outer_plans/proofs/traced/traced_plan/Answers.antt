@@ -10,7 +10,7 @@ use Rattle.outer_plans.proofs.traced.traced_plan.Goals as goal
 pub optimise_traced-requires : goal.optimise_traced-requires
 optimise_traced-requires c = record {
   ok = subst CanOptimise (sym c.requires.built) (can_optimise c.args.program.now.script
-      (subst IsGraphOk c.requires.built c.requires.ok)
+      c.requires.well_formed (subst IsGraphOk c.requires.built c.requires.ok)
       (c.one_step_law.ensures.unfused c.args.program.now.script)
       (c.one_step_law.ensures.narrow c.args.program.now.script c.requires.well_formed));
 }

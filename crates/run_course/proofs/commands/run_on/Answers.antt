@@ -1,5 +1,6 @@
 use Rattle.std.proofs.Common.{ℕ, inl, inr, List, Option, ◌++◌, map, refl, sym, ◌∙◌, subst}
 use Rattle.std.proofs.lemmas.Result.{IfErr-weaker, err_from_is_err_and}
+use Rattle.script_loading.proofs.of_build_law.SourceLists.{as_many_inputs}
 use Rattle.crew.specs.Hosts.{account}
 use Rattle.crew.proofs.Accounts.{all_grew_not}
 use Rattle.script_loading.specs.of_direct_meaning.Inputs.{inputs_of}
@@ -10,7 +11,6 @@ use Rattle.outside.specs.Seen.{seen}
 use Rattle.outside.specs.declared.file.File.{File}
 use Rattle.script_loading.specs.Causes.{IsInputsCause}
 use Rattle.script_loading.specs.Loads.{file_names}
-use Rattle.script_run.proofs.Running.{as_many_rows}
 use Rattle.run_course.specs.Asks.{plan_file}
 use Rattle.run_course.specs.Lent.{lent}
 use Rattle.run_course.specs.Plans.{IsPlanFor}
@@ -170,7 +170,7 @@ returns-clause-asked_hosts g c =
     (subst (λ (t : Option (List File)). IsPlanFor t c.args.program.now.script c.args.from.now
     c.in_ok-shown.shown.plan) c.in_ok-inputs.ensures.files c.in_ok-shown.ensures.plan)
     (c.in_ok-shown.ensures.of_script.sources
-    ∙ sym (as_many_rows (inputs_of c.args.program.now.script) c.in_ok-inputs.inputs
+    ∙ sym (as_many_inputs c.args.program.now.script c.in_ok-inputs.inputs
     c.in_ok-inputs.ensures.typed))
     c.written_run.ensures.stop c.written_run.ensures.asked
     (others_as (account g.H.Host.notes g.H.Host.losses) c.args.settings.now.workers

@@ -16,6 +16,7 @@ pub loop-number-preserved : goal.loop-number-preserved
 loop-number-preserved c =
     let script = c.args.program.now.script in
     let rows = c.args.rows.now in
+    let numbers = c.args.numbers.now in
     let counts = c.args.counts.now in
     let n = c.loop-number.number in
     let sizes = c.loop-number.sizes.items in
@@ -26,18 +27,19 @@ loop-number-preserved c =
       | then-is_needed w ↦
           let mk = w.node.result.now.made in
           let size = w.size_of-size.result in
-          let is : size ≡ sized_as rows counts n mk c.loop-number.input sizes
+          let is : size ≡ sized_as rows numbers counts n mk c.loop-number.source sizes
           = w.size_of-size.ensures
-          ∙ ap (sized_as rows counts n mk c.loop-number.input) w.as_slice.ensures.value in
+          ∙ ap (sized_as rows numbers counts n mk c.loop-number.source) w.as_slice.ensures.value in
           record {
             count = count;
-            inputs = subst (λ k. k ≤ n + 1) (sym (w.input-is ∙ w.behind-input.ensures))
-                (few_behind mk c.loop-number.input n here.inputs);
+            sources = subst (λ k. k ≤ n + 1) (sym (w.source-is ∙ w.behind-source.ensures))
+                (few_behind mk c.loop-number.source n here.sources);
             ahead =
-                (λ i. sizes_along script rows counts (drop (n + 1) script.nodes)
-                ((w.input-is ∙ w.behind-input.ensures) i)
+                (λ i. sizes_along script rows numbers counts (drop (n + 1) script.nodes)
+                ((w.source-is ∙ w.behind-source.ensures) i)
                 ((c.in_ok-push.ensures.items ∙ (λ j. sizes ++ w.size-is j ∷ [])) i))
-                ∙ on_taken script rows counts script.nodes n c.loop-number.input sizes mk size _
+                ∙ on_taken script rows numbers counts script.nodes n c.loop-number.source sizes mk
+                size _
                 (made_there (slice_get script.nodes n) _ w.node.ensures.is) here.count
                 (sym c.is_needed.ensures ∙ w.if-is_needed.true) is here.ahead;
           }
@@ -45,12 +47,13 @@ loop-number-preserved c =
           let below : n < length script.nodes = omega arith in
           record {
             count = count;
-            inputs = subst (λ k. k ≤ n + 1) (sym w.input-is) (omega (arith, here.inputs));
+            sources = subst (λ k. k ≤ n + 1) (sym w.source-is) (omega (arith, here.sources));
             ahead =
-                (λ i. sizes_along script rows counts (drop (n + 1) script.nodes) (w.input-is i)
+                (λ i. sizes_along script rows numbers counts (drop (n + 1) script.nodes)
+                (w.source-is i)
                 ((c.in_ok-push.ensures.items ∙ (λ j. sizes ++ w.size-is j ∷ [])) i))
-                ∙ on_passed script rows counts script.nodes n c.loop-number.input sizes _ below
-                here.count (sym c.is_needed.ensures ∙ w.if-is_needed.false) here.ahead;
+                ∙ on_passed script rows numbers counts script.nodes n c.loop-number.source sizes _
+                below here.count (sym c.is_needed.ensures ∙ w.if-is_needed.false) here.ahead;
           }
     ]
 
@@ -60,6 +63,6 @@ returns-clause-along c =
     let nodes = script.nodes in
     let sizes = c.loop-number.sizes.items in
     let end : c.loop-number.number ≡ length nodes = omega arith in
-    sym (ap (λ (l : Named Node). sizes_along script c.args.rows.now c.args.counts.now l
-    c.loop-number.input sizes) (none_left nodes c.loop-number.number end))
+    sym (ap (λ (l : Named Node). sizes_along script c.args.rows.now c.args.numbers.now
+    c.args.counts.now l c.loop-number.source sizes) (none_left nodes c.loop-number.number end))
     ∙ c.loop-number.invariant.ahead

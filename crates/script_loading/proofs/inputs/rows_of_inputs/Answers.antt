@@ -57,6 +57,6 @@ returns-clause-typed g c =
       c.loop-number.auto.number-end,
       c.node_count-number-end.ensures,
     ) in
-    c.inputs_law.ensures.typed told script rows
+    c.inputs_law.ensures.inputs told script rows c.requires.written
     (all_read told script rows
     (subst (λ n. HasRead told script n rows) end c.loop-number.invariant.2))

@@ -6,6 +6,7 @@ use Rattle.script_plans.specs.Plans.{scales_of}
 pub returns-clause-some : goal.returns-clause-some
 returns-clause-some c statements script short e =
     c.one_law.ensures.some (scales_of script) (graph_of script) (can_optimise script
+    (c.well_formed_law.ensures.well_formed statements script e)
     (c.graph_law.ensures.accepted statements script short e)
     (c.one_step_law.ensures.unfused script)
     (c.one_step_law.ensures.narrow script
@@ -14,6 +15,7 @@ returns-clause-some c statements script short e =
 pub returns-clause-one : goal.returns-clause-one
 returns-clause-one c statements script p q short e =
     c.one_law.ensures.plan (scales_of script) (graph_of script) p q (can_optimise script
+    (c.well_formed_law.ensures.well_formed statements script e)
     (c.graph_law.ensures.accepted statements script short e)
     (c.one_step_law.ensures.unfused script)
     (c.one_step_law.ensures.narrow script

@@ -13,7 +13,7 @@ use Rattle.script_plans.proofs.plans.plan_of.Goals as goal
 pub optimise-requires : goal.optimise-requires
 optimise-requires c =
     subst CanOptimise (sym c.requires.built) (can_optimise c.args.program.now.script
-    (subst IsGraphOk c.requires.built c.requires.ok)
+    c.requires.well_formed (subst IsGraphOk c.requires.built c.requires.ok)
     (c.one_step_law.ensures.unfused c.args.program.now.script)
     (c.one_step_law.ensures.narrow c.args.program.now.script c.requires.well_formed))
 
@@ -30,4 +30,5 @@ returns-clause-types c = λ s.
 pub returns-clause-sources : goal.returns-clause-sources
 returns-clause-sources c =
     subst (λ (g : Graph). c.in_ok-plan.plan.sources ≡ source_count g.nodes) c.requires.built
-    c.in_ok-plan.ensures.sources ∙ sources_counted c.args.program.now.script
+    c.in_ok-plan.ensures.sources
+    ∙ sources_counted c.args.program.now.script c.requires.well_formed

@@ -1,11 +1,11 @@
 use denote.Param.Send.{sendable}
 use Rattle.std.proofs.Common.{◌∙◌, ap, arith, map, sym}
 use Rattle.std.proofs.lemmas.Result.{err_from_is_err_and}
+use Rattle.run_sizes.proofs.of_build_law.SourceLists.{as_many_inputs}
 use Rattle.run_sizes.specs.of_build_law.Worlds.{world_of}
 use Rattle.flume_value.specs.Bag.{bag_of}
 use Rattle.script_functions.proofs.Sharing.{functions_sync}
-use Rattle.run_sizes.specs.of_direct_meaning.Inputs.{inputs_of}
-use Rattle.script_run.proofs.Running.{as_many_rows, asked_as, executed, faulted, phases_asked, typed_run}
+use Rattle.script_run.proofs.Running.{asked_as, executed, faulted, phases_asked, typed_run}
 use Rattle.script_run.proofs.run.run_script.Goals as goal
 
 pub execute-requires-sync-F : goal.execute-requires-sync-F
@@ -22,7 +22,7 @@ execute-requires-clause-typed g c κs within =
 pub execute-requires-clause-sources : goal.execute-requires-clause-sources
 execute-requires-clause-sources g c κs within =
     rw c.as_slice-rows.ensures
-    (as_many_rows (inputs_of c.args.program.now.script) c.args.inputs c.requires.inputs
+    (as_many_inputs c.args.program.now.script c.args.inputs c.requires.inputs
     ∙ sym c.requires.plan.sources)
 
 pub execute-requires-clause-some : goal.execute-requires-clause-some

@@ -1,0 +1,306 @@
+-- What a call answers, from what it came to and what it left.
+use Rattle.std.proofs.Common.{◌≡◌, ◌∙◌, ◌≤◌, inl, inr, ℕ, List, Option, Some, None, Ok, is_some, ap, arith, subst, sym, true≢false}
+use Rattle.std.specs.Prelude.{IfSome}
+use Rattle.cache_store.specs.Entries.{with_entries}
+use Rattle.cache_store.specs.declared.entry.CacheEntry.{CacheEntry}
+use Rattle.crew.specs.Hosts.{Account}
+use Rattle.kept_results.specs.Keeping.{WereKept}
+use Rattle.kept_results.specs.Kept.{FindsEach}
+use Rattle.outside.specs.Cause.{Rose}
+use Rattle.outside.specs.Says.{HasLine}
+use Rattle.outside.specs.Seen.{Seen, SeenShelf}
+use Rattle.outside.specs.Told.{WhereTold}
+use Rattle.outside.specs.declared.file.File.{File as NamedBytes}
+use Rattle.run_course.specs.Answers.{IsRefused}
+use Rattle.run_course.specs.Asks.{AsksAll, AsksFor}
+use Rattle.run_course.specs.Hosts.{MayHaveRun}
+use Rattle.run_course.specs.World.{World}
+use Rattle.run_course.specs.declared.stop.Stop.TheVariants.{Refused, Trapped}
+use Rattle.run_course.specs.declared.stop.Trapped.{Trapped as NamedTrap}
+use Rattle.run_texts.specs.Lines.{trap_line}
+use Rattle.run_texts.specs.declared.status.Place.TheVariants.{File, Screen}
+use Rattle.run_texts.specs.declared.status.Status.{Status}
+use Rattle.run_texts.specs.declared.status.Status.TheVariants.{Done, GaveUp, Usage, ScriptRefused, InputRefused, Trap, ReadFault, WriteFault, WantOfMemory, TooLong, NoFile, PlanRefused}
+use Rattle.saved_results.specs.declared.saved.Saved.{Saved}
+use Rattle.script_program.specs.Script.{Script}
+use Rattle.cached_course.specs.Answers.{Answers, AsksHosts, AsksRun, HasLooked, IsKept, SeenCache, WasReused}
+use Rattle.cached_course.specs.Kept.{HasKept}
+use Rattle.cached_course.specs.inner.Course.{AsksHostsInCall, DeliversKept, IsPrepared, IsStop}
+
+-- ---- what comes to its writing
+
+may_deliver : (files : List NamedBytes) (text : List ℕ) (kept : List CacheEntry)
+    (shelf shelf' : SeenShelf) (screen screen' : Seen (List ℕ)) (cache later : SeenCache)
+    (status : Status)
+    → DeliversKept files text kept shelf shelf' screen screen' cache later status
+    → MayHaveRun status
+may_deliver files text kept shelf shelf' screen screen' cache later Done is = tt
+may_deliver files text kept shelf shelf' screen screen' cache later (WriteFault place) is = tt
+may_deliver files text kept shelf shelf' screen screen' cache later Usage is = absurd is
+may_deliver files text kept shelf shelf' screen screen' cache later
+    (ScriptRefused line kind) is = absurd is
+may_deliver files text kept shelf shelf' screen screen' cache later
+    (InputRefused name row column kind) is = absurd is
+may_deliver files text kept shelf shelf' screen screen' cache later
+    (Trap origin kind element) is = tt
+may_deliver files text kept shelf shelf' screen screen' cache later (ReadFault name) is = absurd is
+may_deliver files text kept shelf shelf' screen screen' cache later
+    (GaveUp stage phase task) is = tt
+may_deliver files text kept shelf shelf' screen screen' cache later WantOfMemory is = tt
+may_deliver files text kept shelf shelf' screen screen' cache later
+    (TooLong name limit) is = absurd is
+may_deliver files text kept shelf shelf' screen screen' cache later (NoFile name) is = absurd is
+may_deliver files text kept shelf shelf' screen screen' cache later
+    (PlanRefused step kind) is = absurd is
+
+-- all files that the run reads were asked for
+pub delivered_for : (words : List (List ℕ)) (told : Option (List NamedBytes))
+    (asked asked' : Seen (List (List ℕ))) (files : List NamedBytes) (text : List ℕ)
+    (kept : List CacheEntry) (shelf shelf' : SeenShelf) (screen screen' : Seen (List ℕ))
+    (cache later : SeenCache) (status : Status)
+    → DeliversKept files text kept shelf shelf' screen screen' cache later status
+    → AsksAll words told asked asked' → AsksFor words told asked asked' status
+delivered_for words told asked asked' files text kept shelf shelf' screen screen' cache later
+    Done is all = all
+delivered_for words told asked asked' files text kept shelf shelf' screen screen' cache later
+    (WriteFault place) is all = all
+delivered_for words told asked asked' files text kept shelf shelf' screen screen' cache later
+    Usage is all = absurd is
+delivered_for words told asked asked' files text kept shelf shelf' screen screen' cache later
+    (ScriptRefused line kind) is all = absurd is
+delivered_for words told asked asked' files text kept shelf shelf' screen screen' cache later
+    (InputRefused name row column kind) is all = absurd is
+delivered_for words told asked asked' files text kept shelf shelf' screen screen' cache later
+    (Trap origin kind element) is all = all
+delivered_for words told asked asked' files text kept shelf shelf' screen screen' cache later
+    (ReadFault name) is all = absurd is
+delivered_for words told asked asked' files text kept shelf shelf' screen screen' cache later
+    (GaveUp stage phase task) is all = all
+delivered_for words told asked asked' files text kept shelf shelf' screen screen' cache later
+    WantOfMemory is all = absurd is
+delivered_for words told asked asked' files text kept shelf shelf' screen screen' cache later
+    (TooLong name limit) is all = absurd is
+delivered_for words told asked asked' files text kept shelf shelf' screen screen' cache later
+    (NoFile name) is all = absurd is
+delivered_for words told asked asked' files text kept shelf shelf' screen screen' cache later
+    (PlanRefused step kind) is all = all
+
+-- ---- a cache that was to keep some entries
+
+where_kept : (kept : List CacheEntry) (before after : Option (List CacheEntry))
+    → is_some after ≡ is_some before
+    → IfSome before (λ entries. IfSome after (WereKept entries kept))
+    → WhereTold before after (λ old new. WereKept old kept new)
+where_kept kept None None same some = tt
+where_kept kept None (Some new) same some = absurd (true≢false same)
+where_kept kept (Some old) None same some = absurd (true≢false (sym same))
+where_kept kept (Some old) (Some new) same some = some
+
+all_kept : (kept : List CacheEntry) (before after : Option (List CacheEntry))
+    → is_some after ≡ is_some before
+    → IfSome before (λ entries. after ≡ Some (with_entries entries kept))
+    → WhereTold before after (λ old new. new ≡ with_entries old kept)
+all_kept kept None None same all = tt
+all_kept kept None (Some new) same all = absurd (true≢false same)
+all_kept kept (Some old) None same all = absurd (true≢false (sym same))
+all_kept kept (Some old) (Some new) same all = cc
+
+calm_all : (kept : List CacheEntry) (first last : ℕ) (before after : Option (List CacheEntry))
+    → IfSome before (λ entries. (Rose first last → ⊥) → after ≡ Some (with_entries entries kept))
+    → (Rose first last → ⊥)
+    → IfSome before (λ entries. after ≡ Some (with_entries entries kept))
+calm_all kept first last None after all calm = tt
+calm_all kept first last (Some old) after all calm = all calm
+
+pub has_kept : (kept : List CacheEntry) (before after : SeenCache)
+    → is_some after.told ≡ is_some before.told
+    → IfSome before.told (λ entries. IfSome after.told (WereKept entries kept))
+    → IfSome before.told (λ entries. (Rose before.faults after.faults → ⊥)
+    → after.told ≡ Some (with_entries entries kept))
+    → HasKept kept before after
+has_kept kept before after same some all = record {
+  some = where_kept kept before.told after.told same some;
+  all = λ calm.
+      all_kept kept before.told after.told same
+      (calm_all kept before.faults after.faults before.told after.told all calm);
+}
+
+-- ---- a cache that was called again
+
+module _ (cache middle later : SeenCache) (same : middle.told ≡ cache.told)
+    (first : cache.faults ≤ middle.faults) (second : middle.faults ≤ later.faults) where
+  rose_then : Rose cache.faults middle.faults → Rose cache.faults later.faults
+  rose_then rose = omega (arith, rose, second)
+
+  rose_since : Rose middle.faults later.faults → Rose cache.faults later.faults
+  rose_since rose = omega (arith, rose, first)
+
+  -- where it has not failed at all, it had not failed before
+  finds_then : (script : Script) (asked : List (ℕ × List ℕ)) (looked : List (Option Saved))
+      (o : Option (List CacheEntry))
+      → IfSome o (λ entries. (Rose cache.faults middle.faults → ⊥) →
+      FindsEach script entries asked looked)
+      → IfSome o (λ entries. (Rose cache.faults later.faults → ⊥) →
+      FindsEach script entries asked looked)
+  finds_then script asked looked None finds = tt
+  finds_then script asked looked (Some entries) finds =
+      λ calm. finds (λ rose. calm (rose_then rose))
+
+  abbrev looked_then : (words : List (List ℕ)) (told : Option (List NamedBytes))
+      → HasLooked words told cache middle → HasLooked words told cache later
+  looked_then words told it = record {
+    settings = it.settings;
+    name = it.name;
+    script = it.script;
+    asked = it.asked;
+    looked = it.looked;
+    asks = it.asks;
+    of_script = it.of_script;
+    was = record {
+      kept = it.was.kept;
+      found = it.was.found;
+      finds = finds_then it.script it.asked it.looked cache.told it.was.finds;
+    };
+  }
+
+  kept_since : (kept : List CacheEntry) → HasKept kept middle later → HasKept kept cache later
+  kept_since kept has = record {
+    some = subst
+        (λ (o : Option (List CacheEntry)).
+        WhereTold o later.told (λ old new. WereKept old kept new)) same has.some;
+    all = λ calm.
+        subst
+        (λ (o : Option (List CacheEntry)).
+        WhereTold o later.told (λ old new. new ≡ with_entries old kept)) same
+        (has.all (λ rose. calm (rose_since rose)));
+  }
+
+  -- ---- what was written
+
+  module _ (words : List (List ℕ)) (before after : World) (files : List NamedBytes)
+      (text : List ℕ) (kept : List CacheEntry)
+      (it : IsPrepared words before.source.told before.hosts after.hosts cache middle files text
+      kept) where
+    abbrev was_reused : WasReused words before after cache later files text
+    was_reused = record {
+      it = looked_then words before.source.told it.it;
+      table = it.table;
+      writes = it.writes;
+    }
+
+    is_kept : HasKept kept middle later → IsKept words before after cache later was_reused
+    is_kept has = record {
+      held = it.held;
+      has = subst (λ (l : List CacheEntry). HasKept l cache later) it.keeps
+          (kept_since kept has);
+    }
+
+    pub delivered : (status : Status)
+        → DeliversKept files text kept before.shelf after.shelf before.screen after.screen middle
+        later status
+        → Answers words before after cache later status
+    delivered Done left = (files, text, was_reused, left.0, is_kept left.1, left.2)
+    delivered (WriteFault (File name)) left =
+        (files, text, was_reused, left.0, ap (λ (c : SeenCache). c.told) left.1 ∙ same, left.2)
+    delivered (WriteFault Screen) left =
+        (files, text, was_reused, left.0, is_kept left.1, left.2)
+    delivered Usage left = absurd left
+    delivered (NoFile name) left = absurd left
+    delivered (PlanRefused step kind) left = absurd left
+    delivered (TooLong name limit) left = absurd left
+    delivered (ReadFault name) left = absurd left
+    delivered (GaveUp stage phase task) left = absurd left
+    delivered (ScriptRefused line kind) left = absurd left
+    delivered (InputRefused name row column kind) left = absurd left
+    delivered WantOfMemory left = absurd left
+    delivered (Trap origin kind element) left = absurd left
+
+  -- hosts were asked for what they were asked for before
+  asks_then : (words : List (List ℕ)) (told : Option (List NamedBytes)) (olds news : List Account)
+      → AsksRun words told olds news cache middle → AsksRun words told olds news cache later
+  asks_then words told olds news asks = record {
+    it = looked_then words told asks.it;
+    rows = asks.rows;
+    plan = asks.plan;
+    inputs = asks.inputs;
+    planned = asks.planned;
+    sources = asks.sources;
+    asked = asks.asked;
+    others = asks.others;
+  }
+
+  pub delivered_asks : {T : Type 0} (words : List (List ℕ)) (told : Option (List NamedBytes))
+      (olds news : List Account) (files : List NamedBytes) (text : List ℕ)
+      (kept : List CacheEntry) (shelf shelf' : SeenShelf) (screen screen' : Seen (List ℕ))
+      (status : Status) (it : T)
+      → DeliversKept files text kept shelf shelf' screen screen' middle later status
+      → AsksHostsInCall {T = T} words told olds news cache middle (Ok it)
+      → AsksHosts words told olds news cache later status
+  delivered_asks words told olds news files text kept shelf shelf' screen screen' status it left
+      (inl none) =
+      inl none
+  delivered_asks words told olds news files text kept shelf shelf' screen screen' status it left
+      (inr run) =
+      inr (
+        may_deliver files text kept shelf shelf' screen screen' middle later status left,
+        asks_then words told olds news run.1,
+      )
+
+-- ---- what writes nothing
+
+module _ (words : List (List ℕ)) (before after : World) (cache later : SeenCache)
+    (same : later.told ≡ cache.told) where
+  pub refusal : (status : Status)
+      → IsStop words before.source after.source before.hosts after.hosts cache later
+      (Refused status)
+      → IsRefused status before after → Answers words before after cache later status
+  refusal (GaveUp stage phase task) why left =
+      let run = why.0 in
+      record {
+        it = run.it;
+        rows = run.rows;
+        table = run.table;
+        plan = run.plan;
+        meant = run.meant;
+        planned = run.planned;
+        given_up = why.1;
+        refused = left;
+        entries = same;
+      }
+  refusal Usage why left = record { cause = why; refused = left; entries = same }
+  refusal (NoFile name) why left = record { cause = why; refused = left; entries = same }
+  refusal (PlanRefused step kind) why left = record { cause = why; refused = left; entries = same }
+  refusal (TooLong name limit) why left = record { cause = why; refused = left; entries = same }
+  refusal (ReadFault name) why left = record { cause = why; refused = left; entries = same }
+  refusal (ScriptRefused line kind) why left =
+      record { cause = why; refused = left; entries = same }
+  refusal (InputRefused name row column kind) why left =
+      record { cause = why; refused = left; entries = same }
+  refusal WantOfMemory why left = record { cause = why; refused = left; entries = same }
+  refusal Done why left = absurd why
+  refusal (WriteFault place) why left = absurd why
+  refusal (Trap origin kind element) why left = absurd why
+
+  pub trapped : (trap : NamedTrap)
+      → IsStop words before.source after.source before.hosts after.hosts cache later (Trapped trap)
+      → after.shelf ≡ before.shelf
+      → HasLine (trap_line trap.name trap.trap.kind trap.trap.element) before.screen after.screen
+      → Answers words before after cache later
+      (Trap trap.trap.origin trap.trap.kind trap.trap.element)
+  trapped trap why shelf line =
+      let run = why.0 in
+      record {
+        it = run.it;
+        rows = run.rows;
+        table = run.table;
+        plan = run.plan;
+        name = trap.name;
+        meant = run.meant;
+        trap = why.1;
+        planned = run.planned;
+        first = why.2;
+        named = why.3;
+        shelf = shelf;
+        line = line;
+        entries = same;
+      }

@@ -1,0 +1,15 @@
+pub mod AskedLemmas
+pub mod CoverLemmas
+pub mod SizedLemmas
+pub mod KeyedLemmas
+pub mod FoundLemmas
+pub mod MissingLemmas
+pub mod RunLemmas
+pub mod StopLemmas
+pub mod SoundLemmas
+pub mod MeantLemmas
+pub mod ReadLemmas
+pub mod AnswerLemmas
+pub mod PromiseLemmas
+pub mod CourseLemmas
+pub mod GivenLemmas

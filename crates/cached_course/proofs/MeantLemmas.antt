@@ -1,0 +1,415 @@
+-- A run over a sound cache means what the script means, and leaves a sound cache.
+use Rattle.std.proofs.Common.{◌≡◌, ◌∙◌, ◌⊎◌, inl, inr, ℕ, Bool, true, false, List, [], ◌∷◌, ◌++◌, map, Option, Some, None, if◌then◌else◌, refl, sym, ap, subst, true≢false}
+use Rattle.std.specs.Prelude.{IfSome, IsSome, IsSomeAnd}
+use Rattle.std.specs.List.{AllByRecursion as Each, Contains}
+use Rattle.std.specs.Str.{bytes_eq}
+use Rattle.std.proofs.lemmas.Slice.Eq.{bytes_eq-Decides}
+use Rattle.cache_store.specs.Entries.{found_in, with_entry}
+use Rattle.cache_store.specs.declared.entry.CacheEntry.{CacheEntry}
+use Rattle.flume_collection.specs.declared.trap.Trap.{Trap}
+use Rattle.flume_value.proofs.EachLemmas.{Each-both, Each-map, Each-weaker}
+use Rattle.flume_value.specs.Canonical.{canonical}
+use Rattle.flume_value.specs.Ranges.{IsHeld}
+use Rattle.flume_value.specs.declared.value.Value.{Value}
+use Rattle.kept_results.specs.Asked.{asked_nodes}
+use Rattle.kept_results.specs.Keeping.{WereKept}
+use Rattle.kept_results.specs.Kept.{AreFound, AreKept}
+use Rattle.kept_results.specs.Lists.{HasMembers, found_of, given_to, later_of}
+use Rattle.kept_results.specs.of_direct_meaning.Direct.{made_at, meaning, traps_of}
+use Rattle.kept_results.specs.of_direct_meaning.Inputs.{AreInputs, inputs_of}
+use Rattle.kept_results.specs.of_direct_meaning.Made.{AreMade}
+use Rattle.kept_results.specs.of_saved_meaning.Found.{IsSame, IsSound as IsClean, MeansSame, lists_for}
+use Rattle.kept_results.specs.of_script_laws.WellFormed.{IsWellFormed}
+use Rattle.kept_results.proofs.FoundLemmas.{IsRead, firsts, found_each}
+use Rattle.kept_results.proofs.ListLemmas.{numbers_of}
+use Rattle.kept_results.proofs.of_saved_meaning.Clean.{clean-table}
+use Rattle.kept_results.proofs.of_script_laws.RuleLemmas.{unsaved, well-formed}
+use Rattle.kept_results.proofs.of_script_laws.SavedLemmas.{saved-well}
+use Rattle.key_meaning.specs.Keyed.{IsSameFor, Keyed, key}
+use Rattle.key_meaning.specs.Rested.{rested_sizes}
+use Rattle.outside.specs.Told.{WhereTold}
+use Rattle.outside.specs.declared.file.File.{File}
+use Rattle.run_course.specs.of_script_loading.Loads.{AllHaveRows}
+use Rattle.run_course.specs.Written.{Table}
+use Rattle.saved_results.specs.Saved.{saved_value}
+use Rattle.saved_results.specs.declared.saved.Saved.{Saved}
+use Rattle.saved_results.specs.declared.saved.Size.{Size}
+use Rattle.script_program.specs.Saved.{HasNoSaved, with_saved}
+use Rattle.script_program.specs.Script.{Script}
+use Rattle.cached_course.specs.Answers.{HasLooked, SeenCache, found}
+use Rattle.cached_course.specs.Kept.{HasKept, bytes_kept, entries_kept, value_kept}
+use Rattle.cached_course.specs.Looked.{missing_as, not_found}
+use Rattle.cached_course.specs.Promises.{IsAsMeant}
+use Rattle.cached_course.specs.Reused.{IsReused}
+use Rattle.cached_course.specs.Sound.{AreSound, IsSound, IsValueOf, line_size, saved_of, value_of}
+use Rattle.cached_course.proofs.AskedLemmas.{keyed_read, same_firsts}
+use Rattle.cached_course.proofs.KeyedLemmas.{IsKeyedBy, IsMeantBy, all_keyed, found_meant, has_members, is_clean, keyed_here}
+use Rattle.cached_course.proofs.SoundLemmas.{files_same, sizes_same, table_same, value_same}
+
+-- what the laws of the crates below say
+pub record Laws : Type 0 where
+  pub meaning_of : (script : Script) (inputs : List (List Value)) → IsWellFormed script
+      → AreInputs script inputs
+      → (made : Table) × (meaning script inputs ≡ Some made) × AreMade script script.nodes made
+  pub rows_are : (told : Option (List File)) (script : Script) (rows : List (List Value))
+      → HasNoSaved script → AllHaveRows told (inputs_of script) rows → AreInputs script rows
+  pub given_are : (script : Script) (asked : List (ℕ × List ℕ)) (looked : List (Option Saved))
+      (rows : List (List Value)) → IsWellFormed script → HasNoSaved script
+      → firsts asked ≡ firsts (asked_nodes script) → AreKept script asked looked
+      → AreInputs script rows
+      → AreInputs (later_of script (found_of asked looked))
+      (given_to script (found_of asked looked) rows)
+  pub given_same : (script : Script) (asked : List (ℕ × List ℕ)) (looked : List (Option Saved))
+      (rows : List (List Value)) (table : Table) → IsWellFormed script → HasNoSaved script
+      → firsts asked ≡ firsts (asked_nodes script) → AreKept script asked looked
+      → Each (HasMembers table) (found_of asked looked)
+      → given_to script (found_of asked looked) rows
+      ≡ lists_for script (later_of script (found_of asked looked)) rows table
+  pub saved_means : (script : Script) (numbers : List ℕ) (rows : List (List Value))
+      (table : Table) → IsWellFormed script → HasNoSaved script
+      → meaning script rows ≡ Some table → AreMade script script.nodes table
+      → Each (IsClean table) numbers → MeansSame script (with_saved numbers script) rows table
+  pub saved_through : (script : Script) (numbers : List ℕ) (rows : List (List Value))
+      (table own : Table) → IsWellFormed script → HasNoSaved script
+      → meaning script rows ≡ Some table → AreMade script script.nodes table
+      → IsSame (with_saved numbers script) table own → traps_of own ≡ [] → traps_of table ≡ []
+  pub saved_trapped : (script : Script) (numbers : List ℕ) (table own : Table) (trap : Trap)
+      → IsSame (with_saved numbers script) table own → Contains (traps_of own) trap
+      → Contains (traps_of table) trap
+
+-- ---- sizes
+
+sizes_kept_so : (lines : List (List ℕ × ℕ))
+    → map (λ (size : Size). size.members) (map line_size lines)
+    ≡ map (λ (line : List ℕ × ℕ). line.1) lines
+sizes_kept_so [] = refl
+sizes_kept_so (line ∷ lines) = ap (λ l. line.1 ∷ l) (sizes_kept_so lines)
+
+-- ---- entries
+
+-- an entry is right for each collection with its key
+abbrev pub IsSoundEntry : CacheEntry → Type 0
+IsSoundEntry entry = (it : Keyed) → key it ≡ entry.key → IsValueOf it entry.value
+
+-- what is found under a key behind an entry more: that, or what was found before
+abbrev FindsBehind : List CacheEntry → List ℕ → List ℕ → List ℕ → Type 0
+FindsBehind entries own value name =
+    ((found_in (with_entry entries own value) name ≡ Some value) × (name ≡ own))
+    ⊎ (found_in (with_entry entries own value) name ≡ found_in entries name)
+
+module _ (own value name : List ℕ) where
+  last_found : (b : Bool) → bytes_eq own name ≡ b
+      → (((if b then Some value else None) ≡ Some value) × (name ≡ own))
+      ⊎ ((if b then Some value else None) ≡ None)
+  last_found true is = inl (refl, sym ((bytes_eq-Decides own name).0 is))
+  last_found false is = inr refl
+
+  -- in place of an entry of its key
+  placed_found : (entry : CacheEntry) (entries : List CacheEntry) → entry.key ≡ own → (b : Bool)
+      → bytes_eq own name ≡ b
+      → (((if b then Some value else found_in entries name) ≡ Some value) × (name ≡ own))
+      ⊎ ((if b then Some value else found_in entries name) ≡ found_in (entry ∷ entries) name)
+  placed_found entry entries same true is = inl (refl, sym ((bytes_eq-Decides own name).0 is))
+  placed_found entry entries same false is =
+      inr
+      (sym
+      (ap (λ k. if bytes_eq k name then Some entry.value else found_in entries name) same
+      ∙ ap (λ b. if b then Some entry.value else found_in entries name) is))
+
+  -- behind an entry of another
+  behind_found : (entry : CacheEntry) (entries : List CacheEntry)
+      → FindsBehind entries own value name → (b : Bool)
+      → (((if b then Some entry.value else found_in (with_entry entries own value) name)
+      ≡ Some value) × (name ≡ own))
+      ⊎ ((if b then Some entry.value else found_in (with_entry entries own value) name)
+      ≡ (if b then Some entry.value else found_in entries name))
+  behind_found entry entries rest true = inr refl
+  behind_found entry entries rest false = rest
+
+  either_found : (entry : CacheEntry) (entries : List CacheEntry)
+      → FindsBehind entries own value name → (b : Bool) → bytes_eq entry.key own ≡ b
+      → ((found_in
+      (if b then record { key = own; value = value } ∷ entries
+      else entry ∷ with_entry entries own value) name ≡ Some value) × (name ≡ own))
+      ⊎ (found_in
+      (if b then record { key = own; value = value } ∷ entries
+      else entry ∷ with_entry entries own value) name ≡ found_in (entry ∷ entries) name)
+  either_found entry entries rest true is =
+      placed_found entry entries ((bytes_eq-Decides entry.key own).0 is) (bytes_eq own name) refl
+  either_found entry entries rest false is =
+      behind_found entry entries rest (bytes_eq entry.key name)
+
+  found_behind : (entries : List CacheEntry) → FindsBehind entries own value name
+  found_behind [] = last_found (bytes_eq own name) refl
+  found_behind (entry ∷ entries) =
+      either_found entry entries (found_behind entries) (bytes_eq entry.key own) refl
+
+value_with : (entries : List CacheEntry) (entry : CacheEntry) → AreSound entries
+    → IsSoundEntry entry → (it : Keyed) → FindsBehind entries entry.key entry.value (key it)
+    → IfSome (found_in (with_entry entries entry.key entry.value) (key it)) (IsValueOf it)
+value_with entries entry sound own it (inl here) =
+    subst (λ (o : Option (List ℕ)). IfSome o (IsValueOf it)) (sym here.0) (own it here.1)
+value_with entries entry sound own it (inr before) =
+    subst (λ (o : Option (List ℕ)). IfSome o (IsValueOf it)) (sym before) (sound it)
+
+with_sound : (entries : List CacheEntry) (entry : CacheEntry) → AreSound entries
+    → IsSoundEntry entry → AreSound (with_entry entries entry.key entry.value)
+with_sound entries entry sound own = λ it.
+    value_with entries entry sound own it (found_behind entry.key entry.value (key it) entries)
+
+kept_sound : (entries kept after : List CacheEntry) → AreSound entries → Each IsSoundEntry kept
+    → WereKept entries kept after → AreSound after
+kept_sound entries [] after sound own are = subst AreSound (sym are) sound
+kept_sound entries (entry ∷ kept) after sound own (inl are) =
+    kept_sound (with_entry entries entry.key entry.value) kept after
+    (with_sound entries entry sound own.0) own.1 are
+kept_sound entries (entry ∷ kept) after sound own (inr are) =
+    kept_sound entries kept after sound own.1 are
+
+told_sound : (kept entries : List CacheEntry) → AreSound entries → Each IsSoundEntry kept
+    → (o : Option (List CacheEntry)) → WhereTold (Some entries) o (λ old new. WereKept old kept new)
+    → IsSomeAnd o AreSound
+told_sound kept entries sound own None are = absurd are
+told_sound kept entries sound own (Some after) are =
+    kept_sound entries kept after sound own are
+
+-- what holds of numbers holds of what stands beside them
+each_first : (P : ℕ → Type 0) (asked : List (ℕ × List ℕ)) → Each P (firsts asked)
+    → Each (λ (it : ℕ × List ℕ). P it.0) asked
+each_first P [] all = tt
+each_first P (it ∷ asked) all = (all.0, each_first P asked all.1)
+
+-- those that were not found are among those that are asked for
+missing_among : (P : ℕ × List ℕ → Type 0) (it : ℕ × List ℕ) (rest : List (ℕ × List ℕ)) → P it
+    → Each P rest → (o : Option Saved) → Each P (missing_as it o ++ rest)
+missing_among P it rest own all None = (own, all)
+missing_among P it rest own all (Some saved) = all
+
+not_found_all : (P : ℕ × List ℕ → Type 0) (asked : List (ℕ × List ℕ))
+    (looked : List (Option Saved)) → Each P asked → Each P (not_found asked looked)
+not_found_all P [] looked all = tt
+not_found_all P (it ∷ asked) [] all = tt
+not_found_all P (it ∷ asked) (o ∷ looked) all =
+    missing_among P it (not_found asked looked) all.0 (not_found_all P asked looked all.1) o
+
+-- ---- a run
+
+module _ (laws : Laws) (words : List (List ℕ)) (told : List File) (cache later : SeenCache)
+    (entries : List CacheEntry) (tells : cache.told ≡ Some entries) (sound : AreSound entries)
+    (it : HasLooked words (Some told) cache later) (rows : List (List Value)) (table : Table)
+    (reused : IsReused (Some told) it.script (found it) rows table) where
+  abbrev script : Script
+  script = it.script
+
+  abbrev numbers : List ℕ
+  numbers = numbers_of (found it)
+
+  well : IsWellFormed script
+  well = well-formed it.of_script.loaded.2.ast.statements script it.of_script.loaded.2.checked
+
+  plain : HasNoSaved script
+  plain = unsaved it.of_script.loaded.2.ast.statements script it.of_script.loaded.2.checked
+
+  inputs : AreInputs script rows
+  inputs = laws.rows_are (Some told) script rows plain reused.inputs
+
+  abbrev made : Table
+  made = (laws.meaning_of script rows well inputs).0
+
+  means : meaning script rows ≡ Some made
+  means = (laws.meaning_of script rows well inputs).1
+
+  are : AreMade script script.nodes made
+  are = (laws.meaning_of script rows well inputs).2
+
+  firsts_here : firsts it.asked ≡ firsts (asked_nodes script)
+  firsts_here =
+      ap firsts it.of_script.keyed
+      ∙ same_firsts script it.of_script.outlines it.of_script.texts it.of_script.files
+
+  reads : Each (IsRead script.outputs) (firsts it.asked)
+  reads =
+      subst (λ (l : List (ℕ × List ℕ)). Each (IsRead script.outputs) (firsts l))
+      (sym it.of_script.keyed)
+      (keyed_read script it.of_script.outlines it.of_script.texts it.of_script.files)
+
+  found_reads : Each (IsRead script.outputs) numbers
+  found_reads =
+      Each-map (IsRead script.outputs) (λ (x : ℕ × Saved). x.0) (found it)
+      (found_each (IsRead script.outputs) it.asked it.looked reads)
+
+  -- what was found is what the script means
+  abbrev IsMeant : ℕ × Saved → Type 0
+  IsMeant = IsMeantBy told it.name script it.asked it.of_script rows reused.inputs made means
+
+  meant : Each IsMeant (found it)
+  meant =
+      found_meant told it.name script it.asked it.of_script rows reused.inputs made means entries
+      sound it.looked
+      (subst (λ (o : Option (List CacheEntry)).
+      IfSome o (λ es. AreFound script es it.asked it.looked)) tells it.was.found)
+
+  members : Each (HasMembers made) (found it)
+  members =
+      Each-weaker IsMeant (HasMembers made)
+      (has_members told it.name script it.asked it.of_script rows reused.inputs made means)
+      (found it) meant
+
+  cleans : Each (IsClean made) numbers
+  cleans =
+      Each-map (IsClean made) (λ (x : ℕ × Saved). x.0) (found it)
+      (Each-weaker IsMeant (λ (x : ℕ × Saved). IsClean made x.0)
+      (is_clean told it.name script it.asked it.of_script rows reused.inputs made means)
+      (found it) meant)
+
+  abbrev HasSizes : ℕ × Saved → Type 0
+  HasSizes x = map (λ (size : Size). size.members) x.1.sizes
+      ≡ map (λ (line : List ℕ × ℕ). line.1) (rested_sizes script made x.0)
+
+  sizes : Each HasSizes (found it)
+  sizes =
+      Each-weaker IsMeant HasSizes
+      (λ x own.
+      ap (λ (saved : Saved). map (λ (size : Size). size.members) saved.sizes) own.saved
+      ∙ sizes_kept_so (rested_sizes script made x.0)) (found it) meant
+
+  same : IsSame (later_of script (found it)) made table
+  same =
+      table_same script (found it) rows made table
+      (laws.saved_means script numbers rows made well plain means are cleans)
+      (laws.given_same script it.asked it.looked rows made well plain firsts_here it.was.kept
+      members)
+      reused.means
+
+  own : AreMade (later_of script (found it)) (later_of script (found it)).nodes table
+  own =
+      let all = laws.meaning_of (later_of script (found it)) (given_to script (found it) rows)
+      (saved-well script well numbers)
+      (laws.given_are script it.asked it.looked rows well plain firsts_here it.was.kept inputs) in
+      let both : Some all.0 ≡ Some table = sym all.1 ∙ reused.means in
+      let is : all.0 ≡ table = cc both in
+      subst
+      (λ (t : Table). AreMade (later_of script (found it)) (later_of script (found it)).nodes t) is
+      all.2
+
+  through : traps_of table ≡ [] → traps_of made ≡ []
+  through none = laws.saved_through script numbers rows made table well plain means are same none
+
+  pub as_meant : IsAsMeant (Some told) script (found it) rows table
+  as_meant = record {
+    made = made;
+    meant = record { inputs = reused.inputs; means = means };
+    files = files_same script well (found it) found_reads made table are own same sizes;
+    sizes = sizes_same script well (found it) found_reads made table are own same sizes;
+    through = through;
+    trapped = λ trap among. laws.saved_trapped script numbers made table trap same among;
+  }
+
+  -- ---- what it leaves
+
+  module _ (none : traps_of table ≡ [])
+      (key_law : (one other : Keyed) → key one ≡ key other → IsSameFor one other)
+      (clean_law : (one other : Keyed) (alike : IsSameFor one other) → alike.here.traps ≡ []
+      → alike.there.traps ≡ []) where
+    abbrev IsKeyed : ℕ × List ℕ → Type 0
+    IsKeyed = IsKeyedBy told it.name script it.asked it.of_script rows reused.inputs made means
+
+    abbrev keyed : (x : ℕ × List ℕ) → IsKeyed x → Keyed
+    keyed x by =
+        keyed_here told it.name script it.asked it.of_script rows reused.inputs made means by.output
+        by.among
+
+    -- what is kept of a collection is right for each with its key
+    right_for : (x : ℕ × List ℕ) → IsKeyed x → IsRead script.outputs x.0
+        → IsHeld (value_kept script (found it) table x.0)
+        → IsSoundEntry (record { key = x.1; value = bytes_kept script (found it) table x.0 })
+    right_for x by reads_it held = λ other e.
+        let alike = key_law (keyed x by) other (sym by.key_is ∙ sym e) in
+        let here : made_at made x.0 ≡ Some alike.here =
+        ap (made_at made) (sym by.reads) ∙ alike.made_here in
+        let is : value_kept script (found it) table x.0 ≡ value_of other alike.there =
+        value_same script well (found it) found_reads made table are own same sizes x.0 reads_it
+        alike.here here
+        ∙ ap (λ n. saved_value (saved_of alike.here (rested_sizes script made n))) (sym by.reads)
+        ∙ (λ i. saved_value (record {
+          members = alike.same.bag i;
+          sizes = map line_size (alike.sizes i);
+        })) in
+        record {
+          collection = alike.there;
+          made = alike.made_there;
+          clean = clean_law (keyed x by) other alike
+              (clean-table made (through none) x.0 alike.here here);
+          held = subst IsHeld is held;
+          bytes = ap canonical is;
+        }
+
+    abbrev entry_for : ℕ × List ℕ → CacheEntry
+    entry_for x = record { key = x.1; value = bytes_kept script (found it) table x.0 }
+
+    -- all that is kept is
+    all_right : Each (λ (x : ℕ × List ℕ). IsHeld (value_kept script (found it) table x.0))
+        (not_found it.asked it.looked)
+        → Each IsSoundEntry (entries_kept script it.asked it.looked table)
+    all_right held =
+        Each-map IsSoundEntry entry_for (not_found it.asked it.looked)
+        (Each-both (λ (x : ℕ × List ℕ). IsKeyed x × IsRead script.outputs x.0)
+        (λ (x : ℕ × List ℕ). IsHeld (value_kept script (found it) table x.0))
+        (λ (x : ℕ × List ℕ). IsSoundEntry (entry_for x))
+        (λ x by own_held. right_for x by.0 by.1 own_held) (not_found it.asked it.looked)
+        (not_found_all (λ (x : ℕ × List ℕ). IsKeyed x × IsRead script.outputs x.0) it.asked
+        it.looked
+        (Each-both IsKeyed (λ (x : ℕ × List ℕ). IsRead script.outputs x.0)
+        (λ (x : ℕ × List ℕ). IsKeyed x × IsRead script.outputs x.0) (λ x one two. (one, two))
+        it.asked
+        (all_keyed told it.name script it.asked it.of_script rows reused.inputs made means)
+        (each_first (IsRead script.outputs) it.asked reads)))
+        held)
+
+    pub left_sound : Each (λ (x : ℕ × List ℕ). IsHeld (value_kept script (found it) table x.0))
+        (not_found it.asked it.looked)
+        → HasKept (entries_kept script it.asked it.looked table) cache later → IsSound later
+    left_sound held kept =
+        told_sound (entries_kept script it.asked it.looked table) entries sound (all_right held)
+        later.told
+        (subst (λ (o : Option (List CacheEntry)).
+        WhereTold o later.told
+        (λ old new. WereKept old (entries_kept script it.asked it.looked table) new)) tells
+        kept.some)
+
+-- ---- whatever is told
+
+told_entries : (o : Option (List CacheEntry)) → IsSomeAnd o AreSound
+    → (entries : List CacheEntry) × (o ≡ Some entries) × AreSound entries
+told_entries None sound = absurd sound
+told_entries (Some entries) sound = (entries, refl, sound)
+
+pub meant_for : Laws → (words : List (List ℕ)) (told : Option (List File))
+    (cache later : SeenCache) (it : HasLooked words told cache later) (rows : List (List Value))
+    (table : Table) → IsSome told → IsSound cache
+    → IsReused told it.script (found it) rows table
+    → IsAsMeant told it.script (found it) rows table
+meant_for laws words None cache later it rows table some sound reused =
+    absurd (true≢false (sym some))
+meant_for laws words (Some files) cache later it rows table some sound reused =
+    let own = told_entries cache.told sound in
+    as_meant laws words files cache later own.0 own.1 own.2 it rows table reused
+
+pub sound_for : Laws → ((one other : Keyed) → key one ≡ key other → IsSameFor one other)
+    → ((one other : Keyed) (alike : IsSameFor one other) → alike.here.traps ≡ []
+    → alike.there.traps ≡ [])
+    → (words : List (List ℕ)) (told : Option (List File)) (cache later : SeenCache)
+    (it : HasLooked words told cache later) (rows : List (List Value)) (table : Table)
+    → IsSome told → IsSound cache → IsReused told it.script (found it) rows table
+    → traps_of table ≡ []
+    → Each (λ (x : ℕ × List ℕ). IsHeld (value_kept it.script (found it) table x.0))
+    (not_found it.asked it.looked)
+    → HasKept (entries_kept it.script it.asked it.looked table) cache later → IsSound later
+sound_for laws key_law clean_law words None cache later it rows table some sound reused none held
+    kept =
+    absurd (true≢false (sym some))
+sound_for laws key_law clean_law words (Some files) cache later it rows table some sound reused none
+    held kept =
+    let own = told_entries cache.told sound in
+    left_sound laws words files cache later own.0 own.1 own.2 it rows table reused none key_law
+    clean_law held kept

@@ -1,0 +1,345 @@
+-- What a call promises, from what its answer says.
+use Rattle.std.proofs.Common.{◌≡◌, ◌≤◌, ◌⊎◌, inl, inr, ℕ, false, List, [], Option, None, is_some, refl, arith, sym, subst}
+use Rattle.std.specs.Prelude.{IsSome, IsSomeAnd}
+use Rattle.std.specs.List.{AllByRecursion}
+use Rattle.cache_store.specs.declared.entry.CacheEntry.{CacheEntry}
+use Rattle.command_words.specs.declared.words.Command.{Command}
+use Rattle.command_words.specs.declared.words.Command.TheVariants.{Run}
+use Rattle.flume_value.specs.Ranges.{IsHeld}
+use Rattle.flume_value.specs.declared.value.Value.{Value}
+use Rattle.kept_results.specs.of_direct_meaning.Direct.{traps_of}
+use Rattle.kept_results.specs.of_direct_meaning.Inputs.{inputs_of}
+use Rattle.outside.proofs.AskLemmas.{asks_none}
+use Rattle.outside.specs.Asked.{Asks}
+use Rattle.outside.specs.Cause.{RoseBy}
+use Rattle.outside.specs.Seen.{Seen}
+use Rattle.outside.specs.declared.file.File.{File as NamedBytes}
+use Rattle.outside.specs.declared.host.Phase.{Phase}
+use Rattle.plan_phases.specs.Phases.{with_tasks}
+use Rattle.plan_phases.specs.Told.{CanFinishAll}
+use Rattle.run_course.specs.Answers.{IsReadFault, IsRefused}
+use Rattle.run_course.specs.Asked.{tries_of}
+use Rattle.run_course.specs.Asks.{AsksFor}
+use Rattle.run_course.specs.Lent.{lent}
+use Rattle.run_course.specs.Promises.{EndsWith, IsEnded, IsUnlessFailed}
+use Rattle.run_course.specs.World.{Keeps, World, asks}
+use Rattle.run_course.specs.Written.{Table}
+use Rattle.run_course.specs.of_script_loading.Loads.{AllHaveRows}
+use Rattle.run_course.specs.of_script_run.Runs.{phases_of}
+use Rattle.run_course.proofs.AlwaysLemmas.{none_asked}
+use Rattle.run_course.proofs.CompleteLemmas.{asked_as, done_end, trapped_end}
+use Rattle.run_course.proofs.GivenUpLemmas.{not_given_up}
+use Rattle.run_course.proofs.LeftLemmas.{begun_then, left_then, same_begun, same_left}
+use Rattle.run_course.proofs.ReadLemmas.{same_command, same_rows, same_script}
+use Rattle.run_course.proofs.StopLemmas.{Stops, asked_some, input_stops, no_file_stops, no_run, one_stop, plan_stops, script_stops, too_long_stops}
+use Rattle.run_settings.specs.Settings.{RunSettings}
+use Rattle.run_texts.specs.declared.status.Place.TheVariants.{File, Screen}
+use Rattle.run_texts.specs.declared.status.Status.{Status}
+use Rattle.run_texts.specs.declared.status.Status.TheVariants.{Done, GaveUp, Usage, ScriptRefused, InputRefused, Trap, ReadFault, WriteFault, WantOfMemory, TooLong, NoFile, PlanRefused}
+use Rattle.script_program.specs.Script.{Script}
+use Rattle.cached_course.specs.Answers.{Answers, AsksHosts, HasLooked, IsGaveUp, IsKept, SeenCache, WasReused, found, lists_run, script_run}
+use Rattle.cached_course.specs.Kept.{HasKept, entries_kept, value_kept}
+use Rattle.cached_course.specs.Looked.{not_found}
+use Rattle.cached_course.specs.Promises.{CanRun, Ends, IsAsMeant, Promises}
+use Rattle.cached_course.specs.Reused.{IsReused}
+use Rattle.cached_course.specs.Sound.{AreSound, IsSound}
+use Rattle.cached_course.proofs.ReadLemmas.{looked_reads}
+
+-- what the laws of a sound cache say
+abbrev pub MeantLaw : Type 0
+MeantLaw =
+    (words : List (List ℕ)) (told : Option (List NamedBytes)) (cache later : SeenCache)
+    (it : HasLooked words told cache later) (rows : List (List Value)) (table : Table)
+    → IsSome told → IsSound cache → IsReused told it.script (found it) rows table
+    → IsAsMeant told it.script (found it) rows table
+
+abbrev pub SoundLaw : Type 0
+SoundLaw =
+    (words : List (List ℕ)) (told : Option (List NamedBytes)) (cache later : SeenCache)
+    (it : HasLooked words told cache later) (rows : List (List Value)) (table : Table)
+    → IsSome told → IsSound cache → IsReused told it.script (found it) rows table
+    → traps_of table ≡ []
+    → AllByRecursion (λ (one : ℕ × List ℕ). IsHeld (value_kept it.script (found it) table one.0))
+    (not_found it.asked it.looked)
+    → HasKept (entries_kept it.script it.asked it.looked table) cache later → IsSound later
+
+-- settings of one command
+settings_of : (s t : RunSettings) → Run s None ≡ Run t None → s ≡ t
+settings_of s t same = cc
+
+module _ (words : List (List ℕ)) (before after : World) (cache later : SeenCache) where
+  abbrev told : Option (List NamedBytes)
+  told = before.source.told
+
+  abbrev Says : Status → Type 0
+  Says status = Answers words before after cache later status
+
+  -- ---- files
+
+  ended : (status : Status) → before.shelf.begun ≡ false → Says status
+      → IsEnded status after.shelf
+  ended Done none answers = begun_then answers.0 before.shelf after.shelf none answers.3.begun
+  ended (Trap origin kind element) none answers =
+      same_begun before.shelf after.shelf none answers.shelf
+  ended (WriteFault (File name)) none answers = tt
+  ended (WriteFault Screen) none answers =
+      begun_then answers.0 before.shelf after.shelf none answers.3.begun
+  ended Usage none answers =
+      same_begun before.shelf after.shelf none answers.refused.shelf
+  ended (NoFile name) none answers =
+      same_begun before.shelf after.shelf none answers.refused.shelf
+  ended (TooLong name limit) none answers =
+      same_begun before.shelf after.shelf none answers.refused.shelf
+  ended (ReadFault name) none answers =
+      same_begun before.shelf after.shelf none answers.refused.shelf
+  ended (ScriptRefused line kind) none answers =
+      same_begun before.shelf after.shelf none answers.refused.shelf
+  ended (InputRefused name row column kind) none answers =
+      same_begun before.shelf after.shelf none answers.refused.shelf
+  ended (PlanRefused step kind) none answers =
+      same_begun before.shelf after.shelf none answers.refused.shelf
+  ended (GaveUp stage phase task) none answers =
+      same_begun before.shelf after.shelf none answers.refused.shelf
+  ended WantOfMemory none answers =
+      same_begun before.shelf after.shelf none answers.refused.shelf
+
+  left : (status : Status) → before.shelf.begun ≡ false → Says status
+      → after.shelf.left ≡ before.shelf.left
+  left Done none answers = left_then answers.0 before.shelf after.shelf none answers.3.left
+  left (Trap origin kind element) none answers = same_left before.shelf after.shelf answers.shelf
+  left (WriteFault (File name)) none answers =
+      left_then answers.0 before.shelf after.shelf none answers.3.4.left
+  left (WriteFault Screen) none answers =
+      left_then answers.0 before.shelf after.shelf none answers.3.left
+  left Usage none answers = same_left before.shelf after.shelf answers.refused.shelf
+  left (NoFile name) none answers = same_left before.shelf after.shelf answers.refused.shelf
+  left (TooLong name limit) none answers = same_left before.shelf after.shelf answers.refused.shelf
+  left (ReadFault name) none answers = same_left before.shelf after.shelf answers.refused.shelf
+  left (ScriptRefused line kind) none answers =
+      same_left before.shelf after.shelf answers.refused.shelf
+  left (InputRefused name row column kind) none answers =
+      same_left before.shelf after.shelf answers.refused.shelf
+  left (PlanRefused step kind) none answers =
+      same_left before.shelf after.shelf answers.refused.shelf
+  left (GaveUp stage phase task) none answers =
+      same_left before.shelf after.shelf answers.refused.shelf
+  left WantOfMemory none answers = same_left before.shelf after.shelf answers.refused.shelf
+
+  -- ---- refusals
+
+  -- what has looked has read all, so nothing stops it
+  looked_not : {A : Type 0} (wanted : Status) → IsSome told → Stops words told wanted
+      → (it : HasLooked words told cache later) (rows : List (List Value))
+      → AllHaveRows told (inputs_of it.script) rows → A
+  looked_not wanted tells stops it rows have =
+      absurd (no_run words told wanted (Run it.settings None) it.script rows tells stops
+      (looked_reads words told cache later it) have tt)
+
+  written_not : {A : Type 0} (wanted : Status) → IsSome told → Stops words told wanted
+      → (files : List NamedBytes) (text : List ℕ)
+      → WasReused words before after cache later files text → A
+  written_not wanted tells stops files text was =
+      looked_not wanted tells stops was.it was.writes.rows was.writes.through.meant.inputs
+
+  always : (status wanted : Status) → IsSome told → Stops words told wanted → Says status
+      → IsUnlessFailed wanted status
+  always Done wanted tells stops answers =
+      written_not wanted tells stops answers.0 answers.1 answers.2
+  always (Trap origin kind element) wanted tells stops answers =
+      looked_not wanted tells stops answers.it answers.rows answers.meant.inputs
+  always (WriteFault (File name)) wanted tells stops answers =
+      written_not wanted tells stops answers.0 answers.1 answers.2
+  always (WriteFault Screen) wanted tells stops answers =
+      written_not wanted tells stops answers.0 answers.1 answers.2
+  always (GaveUp stage phase task) wanted tells stops answers =
+      looked_not wanted tells stops answers.it answers.rows answers.meant.inputs
+  always Usage wanted tells stops answers =
+      absurd (asked_some words told wanted stops answers.cause)
+  always (NoFile name) wanted tells stops answers =
+      one_stop words told (NoFile name) wanted tells
+      (no_file_stops words before.source name answers.cause) stops
+  always (TooLong name limit) wanted tells stops answers =
+      one_stop words told (TooLong name limit) wanted tells
+      (too_long_stops words before.source name limit answers.cause) stops
+  always (ScriptRefused line kind) wanted tells stops answers =
+      one_stop words told (ScriptRefused line kind) wanted tells
+      (script_stops words before.source line kind answers.cause) stops
+  always (InputRefused name row column kind) wanted tells stops answers =
+      one_stop words told (InputRefused name row column kind) wanted tells
+      (input_stops words before.source name row column kind answers.cause) stops
+  always (PlanRefused step kind) wanted tells stops answers =
+      one_stop words told (PlanRefused step kind) wanted tells
+      (plan_stops words before.source step kind answers.cause) stops
+  always (ReadFault name) wanted tells stops answers = tt
+  always WantOfMemory wanted tells stops answers = tt
+
+  -- ---- the end
+
+  module _ (s : RunSettings) (script : Script) (rows : List (List Value))
+      (can : CanRun words before after cache later s script rows) where
+    -- the script that was looked for is that which can be read, and so are its rows
+    script_same : (it : HasLooked words told cache later) → script ≡ it.script
+    script_same it =
+        same_script words told (Run s None) (Run it.settings None) script it.script can.told
+        can.reads (looked_reads words told cache later it)
+
+    rows_same : (it : HasLooked words told cache later) (own : List (List Value))
+        → AllHaveRows told (inputs_of it.script) own → own ≡ rows
+    rows_same it own have =
+        same_rows told (inputs_of it.script) own rows can.told have
+        (subst (λ (p : Script). AllHaveRows told (inputs_of p) rows) (script_same it) can.inputs)
+
+    settings_same : (it : HasLooked words told cache later) → s ≡ it.settings
+    settings_same it =
+        settings_of s it.settings
+        (same_command words told (Run s None) (Run it.settings None) script it.script can.reads
+        (looked_reads words told cache later it))
+
+    ends_with : (status : Status) (it : HasLooked words told cache later)
+        (own : List (List Value)) (table : Table)
+        → IsReused told it.script (found it) own table → EndsWith (traps_of table) status
+        → Ends words before cache later rows status
+    ends_with status it own table meant ends = record {
+      it = it;
+      table = table;
+      meant = subst (λ (r : List (List Value)). IsReused told it.script (found it) r table)
+          (rows_same it own meant.inputs) meant;
+      ends = ends;
+    }
+
+    stopped : {A : Type 0} (status : Status) → Stops words told status → A
+    stopped status stops =
+        absurd (no_run words told status (Run s None) script rows can.told stops can.reads
+        can.inputs tt)
+
+    -- hosts that can end all tasks give none up
+    given_up : {A : Type 0} (stage : ℕ) (phase : Phase) (task : ℕ)
+        → IsGaveUp words before after cache later stage phase task → A
+    given_up stage phase task up =
+        let it = up.it in
+        let Finishes : RunSettings → List (List Value) → Type 0
+        = λ t r. CanFinishAll t.tries t.drill
+        (with_tasks (phases_of t (script_run it) (lists_run it r) up.plan))
+        (lent t before.hosts) (lent t after.hosts) in
+        let ends : Finishes it.settings up.rows
+        = subst (λ (r : List (List Value)). Finishes it.settings r)
+        (sym (rows_same it up.rows up.meant.inputs))
+        (subst (λ (t : RunSettings). Finishes t rows) (settings_same it)
+        (can.hosts it up.plan up.planned)) in
+        absurd (not_given_up it.settings.tries it.settings.drill _
+        (phases_of it.settings (script_run it) (lists_run it up.rows) up.plan)
+        (lent it.settings before.hosts) (lent it.settings after.hosts) stage phase task up.given_up
+        ends)
+
+    read_calm : {A : Type 0} (name : List ℕ)
+        → IsReadFault name words before.source after.source → A
+    read_calm name cause =
+        let same : cause.0 ≡ Run s None
+        = asked_as words told (Run s None) cause.0 script name cause.1 can.reads cause.2 in
+        absurd (can.source
+        (subst (λ (d : Command).
+        RoseBy (tries_of d) before.source.faults after.source.faults) same cause.3))
+
+    complete : (status : Status) → Says status
+        → (status ≡ WantOfMemory) ⊎ Ends words before cache later rows status
+    complete Done answers =
+        let was = answers.2 in
+        let through = was.writes.through in
+        inr (ends_with Done was.it was.writes.rows was.table through.meant
+        (done_end (traps_of was.table) through.through))
+    complete (Trap origin kind element) answers =
+        inr (ends_with (Trap origin kind element) answers.it answers.rows answers.table
+        answers.meant
+        (trapped_end (traps_of answers.table) origin kind element
+        (record { origin = origin; element = element; kind = kind }) answers.trap))
+    complete WantOfMemory answers = inl refl
+    complete (WriteFault (File name)) answers = absurd (can.shelf answers.3.4.faults)
+    complete (WriteFault Screen) answers = absurd (can.screen answers.5.faults)
+    complete (ReadFault name) answers = read_calm name answers.cause
+    complete (GaveUp stage phase task) answers = given_up stage phase task answers
+    complete Usage answers = none_asked words (Run s None) can.reads.0 answers.cause can.reads.2
+    complete (NoFile name) answers =
+        stopped (NoFile name) (no_file_stops words before.source name answers.cause)
+    complete (TooLong name limit) answers =
+        stopped (TooLong name limit)
+        (too_long_stops words before.source name limit answers.cause)
+    complete (ScriptRefused line kind) answers =
+        stopped (ScriptRefused line kind)
+        (script_stops words before.source line kind answers.cause)
+    complete (PlanRefused step kind) answers =
+        stopped (PlanRefused step kind) (plan_stops words before.source step kind answers.cause)
+    complete (InputRefused name row column kind) answers =
+        stopped (InputRefused name row column kind)
+        (input_stops words before.source name row column kind answers.cause)
+
+  -- ---- the cache
+
+  module _ (law : SoundLaw) (tells : IsSome told) (is : IsSound cache) where
+    kept_sound : (files : List NamedBytes) (text : List ℕ)
+        (was : WasReused words before after cache later files text)
+        → IsKept words before after cache later was → IsSound later
+    kept_sound files text was kept =
+        let through = was.writes.through in
+        law words told cache later was.it was.writes.rows was.table tells is through.meant
+        through.through kept.held kept.has
+
+    same_sound : later.told ≡ cache.told → IsSound later
+    same_sound same = subst (λ (o : Option (List CacheEntry)). IsSomeAnd o AreSound) (sym same) is
+
+    sound : (status : Status) → Says status → IsSound later
+    sound Done answers = kept_sound answers.0 answers.1 answers.2 answers.4
+    sound (WriteFault (File name)) answers = same_sound answers.4
+    sound (WriteFault Screen) answers = kept_sound answers.0 answers.1 answers.2 answers.4
+    sound (Trap origin kind element) answers = same_sound answers.entries
+    sound Usage answers = same_sound answers.entries
+    sound (NoFile name) answers = same_sound answers.entries
+    sound (TooLong name limit) answers = same_sound answers.entries
+    sound (ReadFault name) answers = same_sound answers.entries
+    sound (ScriptRefused line kind) answers = same_sound answers.entries
+    sound (InputRefused name row column kind) answers = same_sound answers.entries
+    sound (PlanRefused step kind) answers = same_sound answers.entries
+    sound (GaveUp stage phase task) answers = same_sound answers.entries
+    sound WantOfMemory answers = same_sound answers.entries
+
+  -- ---- all of it
+
+  pub promises : MeantLaw → SoundLaw → (status : Status) → Says status → Keeps before after
+      → AsksFor words told (asks before) (asks after) status
+      → AsksHosts words told before.hosts after.hosts cache later status
+      → is_some later.told ≡ is_some cache.told → cache.faults ≤ later.faults
+      → Promises words before after cache later status
+  promises meant_law sound_law status answers kept asked hosts tells rises = record {
+    answers = answers;
+    asked = asked;
+    asked_hosts = hosts;
+    always_too_long = λ some name limit cause.
+        always status (TooLong name limit) some
+        (too_long_stops words before.source name limit cause) answers;
+    always_script_refused = λ some line kind cause.
+        always status (ScriptRefused line kind) some
+        (script_stops words before.source line kind cause) answers;
+    always_input_refused = λ some name row column kind cause.
+        always status (InputRefused name row column kind) some
+        (input_stops words before.source name row column kind cause) answers;
+    complete = λ s script rows can. complete s script rows can status answers;
+    as_meant = λ some is it rows table reused.
+        meant_law words told cache later it rows table some is reused;
+    sound = λ some is. sound sound_law some is status answers;
+    kept = kept;
+    tells = tells;
+    rises = rises;
+    ended = λ none. ended status none answers;
+    left = λ none. left status none answers;
+  }
+
+-- no memory was found, and nothing was asked for
+pub of_memory : MeantLaw → SoundLaw → (words : List (List ℕ)) (before after : World)
+    (cache : SeenCache) → IsRefused WantOfMemory before after → Keeps before after
+    → asks after ≡ asks before → after.hosts ≡ before.hosts
+    → Promises words before after cache cache WantOfMemory
+of_memory meant_law sound_law words before after cache refused kept same hosts =
+    promises words before after cache cache meant_law sound_law WantOfMemory
+    (record { cause = tt; refused = refused; entries = refl }) kept
+    (inl (subst (λ (it : Seen (List (List ℕ))). Asks 0 [] (asks before) it) (sym same)
+    (asks_none 0 (asks before))))
+    (inl (sym hosts)) refl (omega arith)

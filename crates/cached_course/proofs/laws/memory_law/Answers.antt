@@ -1,0 +1,5 @@
+use Rattle.cached_course.proofs.PromiseLemmas.{of_memory}
+use Rattle.cached_course.proofs.laws.memory_law.Goals as goal
+
+pub returns : goal.returns
+returns c = of_memory c.meant_law.ensures c.sound_law.ensures

@@ -1,0 +1,35 @@
+use Rattle.std.proofs.Common.{◌<◌, ◌∙◌, ℕ, List, length, subst, sym}
+use Rattle.std.specs.Prelude.{All}
+use Rattle.outside.specs.Seen.{seen}
+use Rattle.run_course.proofs.RunLemmas.{as_many}
+use Rattle.cached_course.specs.inner.Course.{WasLookedUp}
+use Rattle.cached_course.proofs.AskedLemmas.{keyed_below}
+use Rattle.cached_course.proofs.looking.looked_for.Goals as goal
+
+pub find_each-requires : goal.find_each-requires
+find_each-requires g c =
+    let script = c.args.program.now.script in
+    subst
+    (λ (l : List (ℕ × List ℕ)). All (λ (it : ℕ × List ℕ). it.0 < length script.nodes) l)
+    (sym (c.as_slice-asked.ensures.value ∙ c.in_ok-keyed.ensures))
+    (keyed_below script c.args.outlines.now c.args.texts.now c.args.files.now)
+
+pub gone_on-requires : goal.gone_on-requires
+gone_on-requires g c = as_many _ _ _ c.in_ok-looked.ensures.kept
+
+pub returns-clause-seen : goal.returns-clause-seen
+returns-clause-seen g c =
+    subst
+    (λ (l : List (ℕ × List ℕ)). WasLookedUp c.args.program.now.script l
+    (seen g.C.Cache.entries g.C.Cache.faults c.args.cache.now)
+    (seen g.C.Cache.entries g.C.Cache.faults c.find_each.new.cache) c.in_ok-it.it)
+    (c.as_slice-asked.ensures.value ∙ c.in_ok-keyed.ensures)
+    (record {
+      looked = c.in_ok-looked.looked.items;
+      was = record {
+        kept = c.in_ok-looked.ensures.kept;
+        found = c.in_ok-looked.ensures.found;
+        finds = c.in_ok-looked.ensures.finds;
+      };
+      goes = c.in_ok-it.ensures;
+    })

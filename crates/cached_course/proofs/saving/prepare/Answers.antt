@@ -1,0 +1,285 @@
+use Rattle.std.proofs.Common.{ℕ, inl, inr, List, [], ◌∷◌, Option, None, map, refl, subst, ⊎_elim}
+use Rattle.std.proofs.lemmas.Result.{IfErr-weaker, IfOk-weaker, err_from_is_err_and}
+use Rattle.crew.specs.Hosts.{account}
+use Rattle.crew.proofs.Accounts.{all_grew_not}
+use Rattle.kept_results.specs.Keyed.{keyed_nodes}
+use Rattle.kept_results.specs.of_direct_meaning.Inputs.{inputs_of}
+use Rattle.outside.specs.Asked.{Asks, AsksFront}
+use Rattle.outside.specs.Saves.{output_file}
+use Rattle.outside.specs.Seen.{seen}
+use Rattle.outside.specs.declared.file.File.{File}
+use Rattle.run_course.specs.Lent.{lent}
+use Rattle.run_course.specs.of_script_loading.Causes.{IsInputsCause, IsScriptCause}
+use Rattle.run_course.specs.of_script_loading.Loads.{AllHaveRows, file_names}
+use Rattle.run_course.proofs.AskLemmas.{script_for}
+use Rattle.run_course.proofs.HostLemmas.{others_as}
+use Rattle.command_words.specs.declared.words.Command.TheVariants.{Run}
+use Rattle.cached_course.proofs.CourseLemmas.{are_asked, inputs_asked, inputs_stop, is_loaded, may_come, memory_asked, run_asked, script_stops}
+use Rattle.cached_course.proofs.StopLemmas.{asks_here, prepared, stops}
+use Rattle.cached_course.proofs.saving.prepare.Goals as goal
+
+-- ---- the script is not there
+
+pub returns-in_err-script-clause-grew : goal.returns-in_err-script-clause-grew
+returns-in_err-script-clause-grew g c =
+    all_grew_not (map (account g.H.Host.notes g.H.Host.losses) c.args.hosts.now)
+
+pub returns-in_err-script-clause-err : goal.returns-in_err-script-clause-err
+returns-in_err-script-clause-err g c =
+    let end = c.from_residual in
+    let p = err_from_is_err_and end.result end.ensures.1 in
+    rw (p.1, p.2)
+    (λ words asks.
+    script_stops words (seen g.R.Source.files g.R.Source.faults c.args.source.now)
+    (seen g.R.Source.files g.R.Source.faults c.args.source.now)
+    (seen g.R.Source.files g.R.Source.faults c.keyed_script.new.source)
+    (map (account g.H.Host.notes g.H.Host.losses) c.args.hosts.now)
+    (map (account g.H.Host.notes g.H.Host.losses) c.args.hosts.now)
+    (seen g.C.Cache.entries g.C.Cache.faults c.args.cache.now)
+    (seen g.C.Cache.entries g.C.Cache.faults c.args.cache.now)
+    c.args.settings.now c.args.name.now asks c.in_err-script.field-0.0
+    (subst (λ (n : ℕ). IsScriptCause n
+    (seen g.R.Source.files g.R.Source.faults c.args.source.now)
+    (seen g.R.Source.files g.R.Source.faults c.keyed_script.new.source)
+    c.args.name.now c.in_err-script.field-0.0) c.tries-tries.ensures.value
+    c.in_err-script.ensures.err))
+
+pub returns-in_err-script-clause-asked : goal.returns-in_err-script-clause-asked
+returns-in_err-script-clause-asked g c =
+    let end = c.from_residual in
+    let p = err_from_is_err_and end.result end.ensures.1 in
+    rw (p.1, p.2)
+    (λ words asks.
+    script_for words (g.R.Source.files c.args.source.now) (Run c.args.settings.now None)
+    c.args.name.now
+    (seen g.R.Source.files g.R.Source.faults c.args.source.now)
+    (seen g.R.Source.files g.R.Source.faults c.keyed_script.new.source)
+    (seen g.R.Source.asked g.R.Source.faults c.args.source.now)
+    (seen g.R.Source.asked g.R.Source.faults c.keyed_script.new.source) _ asks
+    (subst (λ (n : ℕ). IsScriptCause n
+    (seen g.R.Source.files g.R.Source.faults c.args.source.now)
+    (seen g.R.Source.files g.R.Source.faults c.keyed_script.new.source)
+    c.args.name.now c.in_err-script.field-0.0) c.tries-tries.ensures.value
+    c.in_err-script.ensures.err)
+    (subst (λ (n : ℕ). Asks n (c.args.name.now ∷ [])
+    (seen g.R.Source.asked g.R.Source.faults c.args.source.now)
+    (seen g.R.Source.asked g.R.Source.faults c.keyed_script.new.source))
+    c.tries-tries.ensures.value c.in_err-script.ensures.asked))
+
+pub returns-in_err-script-clause-asked_hosts : goal.returns-in_err-script-clause-asked_hosts
+returns-in_err-script-clause-asked_hosts g c = λ words asks. inl refl
+
+-- ---- its inputs have no rows
+
+pub returns-in_err-inputs-clause-grew : goal.returns-in_err-inputs-clause-grew
+returns-in_err-inputs-clause-grew g c =
+    all_grew_not (map (account g.H.Host.notes g.H.Host.losses) c.args.hosts.now)
+
+pub returns-in_err-inputs-clause-err : goal.returns-in_err-inputs-clause-err
+returns-in_err-inputs-clause-err g c =
+    let end = c.from_residual-in_err-inputs in
+    let p = err_from_is_err_and end.result end.ensures.1 in
+    let it = c.in_ok-script.script in
+    rw (p.1, p.2)
+    (λ words asks.
+    inputs_stop words (seen g.R.Source.files g.R.Source.faults c.args.source.now)
+    (seen g.R.Source.files g.R.Source.faults c.keyed_script.new.source)
+    (seen g.R.Source.files g.R.Source.faults c.keyed_inputs.new.source)
+    (map (account g.H.Host.notes g.H.Host.losses) c.args.hosts.now)
+    (map (account g.H.Host.notes g.H.Host.losses) c.args.hosts.now)
+    (seen g.C.Cache.entries g.C.Cache.faults c.args.cache.now)
+    (seen g.C.Cache.entries g.C.Cache.faults c.args.cache.now)
+    c.args.settings.now c.args.name.now asks it.program.script
+    (is_loaded (g.R.Source.files c.args.source.now) c.args.name.now it.program.script it.outlines
+    it.texts c.in_ok-script.ensures.ok)
+    c.in_ok-script.ensures.files c.in_ok-script.ensures.later c.in_err-inputs.field-0.0
+    (subst (λ (n : ℕ). IsInputsCause n
+    (seen g.R.Source.files g.R.Source.faults c.keyed_script.new.source)
+    (seen g.R.Source.files g.R.Source.faults c.keyed_inputs.new.source)
+    (inputs_of it.program.script) c.in_err-inputs.field-0.0) c.tries-tries.ensures.value
+    c.in_err-inputs.ensures.err))
+
+pub returns-in_err-inputs-clause-asked : goal.returns-in_err-inputs-clause-asked
+returns-in_err-inputs-clause-asked g c =
+    let end = c.from_residual-in_err-inputs in
+    let p = err_from_is_err_and end.result end.ensures.1 in
+    let it = c.in_ok-script.script in
+    rw (p.1, p.2)
+    (λ words asks.
+    inputs_asked words (g.R.Source.files c.args.source.now)
+    (seen g.R.Source.asked g.R.Source.faults c.args.source.now)
+    (seen g.R.Source.asked g.R.Source.faults c.keyed_script.new.source)
+    (seen g.R.Source.asked g.R.Source.faults c.keyed_inputs.new.source)
+    c.args.settings.now c.args.name.now asks it.program.script
+    (is_loaded (g.R.Source.files c.args.source.now) c.args.name.now it.program.script it.outlines
+    it.texts c.in_ok-script.ensures.ok)
+    (subst (λ (n : ℕ). Asks n (c.args.name.now ∷ [])
+    (seen g.R.Source.asked g.R.Source.faults c.args.source.now)
+    (seen g.R.Source.asked g.R.Source.faults c.keyed_script.new.source))
+    c.tries-tries.ensures.value c.in_ok-script.ensures.asked)
+    (seen g.R.Source.files g.R.Source.faults c.keyed_script.new.source)
+    (seen g.R.Source.files g.R.Source.faults c.keyed_inputs.new.source)
+    c.in_err-inputs.field-0.0
+    (subst (λ (n : ℕ). IsInputsCause n
+    (seen g.R.Source.files g.R.Source.faults c.keyed_script.new.source)
+    (seen g.R.Source.files g.R.Source.faults c.keyed_inputs.new.source)
+    (inputs_of it.program.script) c.in_err-inputs.field-0.0) c.tries-tries.ensures.value
+    c.in_err-inputs.ensures.err)
+    (subst (λ (n : ℕ). AsksFront n (file_names (inputs_of it.program.script))
+    (seen g.R.Source.asked g.R.Source.faults c.keyed_script.new.source)
+    (seen g.R.Source.asked g.R.Source.faults c.keyed_inputs.new.source))
+    c.tries-tries.ensures.value c.in_err-inputs.ensures.asked_front))
+
+pub returns-in_err-inputs-clause-asked_hosts : goal.returns-in_err-inputs-clause-asked_hosts
+returns-in_err-inputs-clause-asked_hosts g c = λ words asks. inl refl
+
+-- ---- no memory is found for what was kept
+
+pub returns-in_err-given-clause-grew : goal.returns-in_err-given-clause-grew
+returns-in_err-given-clause-grew g c =
+    all_grew_not (map (account g.H.Host.notes g.H.Host.losses) c.args.hosts.now)
+
+pub returns-in_err-given-clause-err : goal.returns-in_err-given-clause-err
+returns-in_err-given-clause-err g c =
+    let end = c.from_residual-in_err-given in
+    let p = err_from_is_err_and end.result end.ensures.1 in
+    rw (p.1, p.2) (λ words asks. tt)
+
+pub returns-in_err-given-clause-asked : goal.returns-in_err-given-clause-asked
+returns-in_err-given-clause-asked g c =
+    let end = c.from_residual-in_err-given in
+    let p = err_from_is_err_and end.result end.ensures.1 in
+    let it = c.in_ok-script.script in
+    rw (p.1, p.2)
+    (λ words asks.
+    memory_asked words (g.R.Source.files c.args.source.now)
+    (seen g.R.Source.asked g.R.Source.faults c.args.source.now)
+    (seen g.R.Source.asked g.R.Source.faults c.keyed_script.new.source)
+    (seen g.R.Source.asked g.R.Source.faults c.keyed_inputs.new.source)
+    c.args.settings.now c.args.name.now asks it.program.script
+    (is_loaded (g.R.Source.files c.args.source.now) c.args.name.now it.program.script it.outlines
+    it.texts c.in_ok-script.ensures.ok)
+    (subst (λ (n : ℕ). Asks n (c.args.name.now ∷ [])
+    (seen g.R.Source.asked g.R.Source.faults c.args.source.now)
+    (seen g.R.Source.asked g.R.Source.faults c.keyed_script.new.source))
+    c.tries-tries.ensures.value c.in_ok-script.ensures.asked)
+    (subst (λ (n : ℕ). Asks n (file_names (inputs_of it.program.script))
+    (seen g.R.Source.asked g.R.Source.faults c.keyed_script.new.source)
+    (seen g.R.Source.asked g.R.Source.faults c.keyed_inputs.new.source))
+    c.tries-tries.ensures.value c.in_ok-inputs.ensures.asked))
+
+pub returns-in_err-given-clause-asked_hosts : goal.returns-in_err-given-clause-asked_hosts
+returns-in_err-given-clause-asked_hosts g c = λ words asks. inl refl
+
+-- ---- what was given is run
+
+pub returns-clause-ok : goal.returns-clause-ok
+returns-clause-ok g c =
+    let told = g.R.Source.files c.args.source.now in
+    let it = c.in_ok-script.script in
+    let inputs = c.in_ok-inputs.inputs in
+    let asked = keyed_nodes it.outlines it.texts inputs.files it.program.script in
+    IfOk-weaker c.run_given.result _ _
+    (λ reused run words asks.
+    prepared words (seen g.R.Source.files g.R.Source.faults c.args.source.now)
+    (seen g.R.Source.files g.R.Source.faults c.keyed_inputs.new.source)
+    (map (account g.H.Host.notes g.H.Host.losses) c.args.hosts.now)
+    (map (account g.H.Host.notes g.H.Host.losses) c.run_given.new.hosts)
+    (seen g.C.Cache.entries g.C.Cache.faults c.args.cache.now)
+    (seen g.C.Cache.entries g.C.Cache.faults c.look_up.new.cache)
+    c.args.settings.now c.args.name.now it.program.script asked asks
+    (are_asked told (g.R.Source.files c.keyed_script.new.source) c.args.name.now it.program.script
+    it.outlines it.texts c.as_slice-texts.result.now inputs.files
+    c.in_ok-script.ensures.files c.as_slice-texts.ensures c.in_ok-script.ensures.ok
+    c.in_ok-inputs.ensures.loaded c.texts_short.ensures c.names_short.ensures)
+    inputs.rows
+    (subst (λ (t : Option (List File)). AllHaveRows t (inputs_of it.program.script) inputs.rows)
+    c.in_ok-script.ensures.files c.in_ok-inputs.ensures.ok)
+    c.in_ok-given.given c.in_ok-given.ensures.given
+    (map output_file reused.written.outputs.items) reused.written.screen.items reused.kept.items
+    run)
+    c.run_given.ensures.ran
+
+pub returns-clause-err : goal.returns-clause-err
+returns-clause-err g c =
+    let told = g.R.Source.files c.args.source.now in
+    let it = c.in_ok-script.script in
+    let inputs = c.in_ok-inputs.inputs in
+    let asked = keyed_nodes it.outlines it.texts inputs.files it.program.script in
+    IfErr-weaker c.run_given.result _ _
+    (λ why stop words asks.
+    stops words (seen g.R.Source.files g.R.Source.faults c.args.source.now)
+    (seen g.R.Source.files g.R.Source.faults c.keyed_inputs.new.source)
+    (map (account g.H.Host.notes g.H.Host.losses) c.args.hosts.now)
+    (map (account g.H.Host.notes g.H.Host.losses) c.run_given.new.hosts)
+    (seen g.C.Cache.entries g.C.Cache.faults c.args.cache.now)
+    (seen g.C.Cache.entries g.C.Cache.faults c.look_up.new.cache)
+    c.args.settings.now c.args.name.now it.program.script asked asks
+    (are_asked told (g.R.Source.files c.keyed_script.new.source) c.args.name.now it.program.script
+    it.outlines it.texts c.as_slice-texts.result.now inputs.files
+    c.in_ok-script.ensures.files c.as_slice-texts.ensures c.in_ok-script.ensures.ok
+    c.in_ok-inputs.ensures.loaded c.texts_short.ensures c.names_short.ensures)
+    inputs.rows
+    (subst (λ (t : Option (List File)). AllHaveRows t (inputs_of it.program.script) inputs.rows)
+    c.in_ok-script.ensures.files c.in_ok-inputs.ensures.ok)
+    c.in_ok-given.given c.in_ok-given.ensures.given why stop)
+    c.run_given.ensures.stop
+
+pub returns-clause-asked : goal.returns-clause-asked
+returns-clause-asked g c =
+    let it = c.in_ok-script.script in
+    λ words asks.
+    run_asked words (g.R.Source.files c.args.source.now)
+    (seen g.R.Source.asked g.R.Source.faults c.args.source.now)
+    (seen g.R.Source.asked g.R.Source.faults c.keyed_script.new.source)
+    (seen g.R.Source.asked g.R.Source.faults c.keyed_inputs.new.source)
+    c.args.settings.now c.args.name.now asks it.program.script
+    (is_loaded (g.R.Source.files c.args.source.now) c.args.name.now it.program.script it.outlines
+    it.texts c.in_ok-script.ensures.ok)
+    (subst (λ (n : ℕ). Asks n (c.args.name.now ∷ [])
+    (seen g.R.Source.asked g.R.Source.faults c.args.source.now)
+    (seen g.R.Source.asked g.R.Source.faults c.keyed_script.new.source))
+    c.tries-tries.ensures.value c.in_ok-script.ensures.asked)
+    (subst (λ (n : ℕ). Asks n (file_names (inputs_of it.program.script))
+    (seen g.R.Source.asked g.R.Source.faults c.keyed_script.new.source)
+    (seen g.R.Source.asked g.R.Source.faults c.keyed_inputs.new.source))
+    c.tries-tries.ensures.value c.in_ok-inputs.ensures.asked)
+    c.in_ok-given.given
+    (lent c.args.settings.now (map (account g.H.Host.notes g.H.Host.losses) c.args.hosts.now))
+    (lent c.args.settings.now (map (account g.H.Host.notes g.H.Host.losses) c.run_given.new.hosts))
+    c.run_given.result c.run_given.ensures.stop
+
+pub returns-clause-asked_hosts : goal.returns-clause-asked_hosts
+returns-clause-asked_hosts g c =
+    let it = c.in_ok-script.script in
+    let inputs = c.in_ok-inputs.inputs in
+    let asked = keyed_nodes it.outlines it.texts inputs.files it.program.script in
+    λ words asks.
+    ⊎_elim (λ none. inl none)
+    (λ phases. inr (
+      may_come c.args.settings.now c.in_ok-given.given
+          (lent c.args.settings.now (map (account g.H.Host.notes g.H.Host.losses) c.args.hosts.now))
+          (lent c.args.settings.now
+          (map (account g.H.Host.notes g.H.Host.losses) c.run_given.new.hosts))
+          c.run_given.result c.run_given.ensures.stop,
+      asks_here words (seen g.R.Source.files g.R.Source.faults c.args.source.now)
+          (seen g.R.Source.files g.R.Source.faults c.keyed_inputs.new.source)
+          (map (account g.H.Host.notes g.H.Host.losses) c.args.hosts.now)
+          (map (account g.H.Host.notes g.H.Host.losses) c.run_given.new.hosts)
+          (seen g.C.Cache.entries g.C.Cache.faults c.args.cache.now)
+          (seen g.C.Cache.entries g.C.Cache.faults c.look_up.new.cache)
+          c.args.settings.now c.args.name.now it.program.script asked asks
+          (are_asked (g.R.Source.files c.args.source.now)
+          (g.R.Source.files c.keyed_script.new.source) c.args.name.now it.program.script
+          it.outlines it.texts c.as_slice-texts.result.now inputs.files
+          c.in_ok-script.ensures.files c.as_slice-texts.ensures c.in_ok-script.ensures.ok
+          c.in_ok-inputs.ensures.loaded c.texts_short.ensures c.names_short.ensures)
+          inputs.rows
+          (subst
+          (λ (t : Option (List File)). AllHaveRows t (inputs_of it.program.script) inputs.rows)
+          c.in_ok-script.ensures.files c.in_ok-inputs.ensures.ok)
+          c.in_ok-given.given c.in_ok-given.ensures.given phases
+          (others_as (account g.H.Host.notes g.H.Host.losses) c.args.settings.now.workers
+          c.args.hosts.now c.run_given.new.hosts c.run_given.ensures.hosts),
+    ))
+    c.run_given.ensures.asked

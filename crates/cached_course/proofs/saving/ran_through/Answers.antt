@@ -1,0 +1,23 @@
+use Rattle.std.proofs.Common.{List, map, subst}
+use Rattle.crew.specs.Hosts.{Account, account}
+use Rattle.plan_phases.specs.declared.fault.RunFault.{RunFault}
+use Rattle.run_course.specs.Lent.{lent}
+use Rattle.run_course.specs.of_script_run.Runs.{IsRunFault}
+use Rattle.run_course.proofs.RunLemmas.{within}
+use Rattle.cached_course.proofs.saving.ran_through.Goals as goal
+
+pub trapped-requires : goal.trapped-requires
+trapped-requires g c =
+    let s = c.args.settings.now in
+    let script = c.args.program.now.script in
+    let olds : List Account
+    = lent s (map (account g.H.Host.notes g.H.Host.losses) c.args.hosts.now) in
+    let news : List Account
+    = lent s (map (account g.H.Host.notes g.H.Host.losses) c.ran_on.new.hosts) in
+    record {
+      within = within s script c.args.lists c.args.plan.now olds news c.in-Err-Trap.trap
+          (subst
+          (λ (f : RunFault).
+          IsRunFault s script c.args.lists c.args.plan.now olds news f)
+          c.in-Err-Trap.field-0-is c.in-Err-Trap.ensures.fault);
+    }

@@ -1,0 +1,35 @@
+use Rattle.std.proofs.Common.{inl, inr, map, refl, sym, ◌∙◌}
+use Rattle.std.proofs.lemmas.Result.{IfErr-weaker}
+use Rattle.crew.specs.Hosts.{account}
+use Rattle.crew.proofs.Accounts.{all_grew_not}
+use Rattle.run_course.proofs.of_build_law.SourceLists.{as_many_inputs}
+use Rattle.cached_course.proofs.saving.run_given.Goals as goal
+
+pub plan_shown-requires-clause-graph : goal.plan_shown-requires-clause-graph
+plan_shown-requires-clause-graph g c =
+    c.graph_law.ensures.well_formed c.args.given.program.script c.requires.well_formed
+    c.requires.ready.short
+
+pub returns-in_err-shown-clause-grew : goal.returns-in_err-shown-clause-grew
+returns-in_err-shown-clause-grew g c =
+    all_grew_not (map (account g.H.Host.notes g.H.Host.losses) c.args.hosts.now)
+
+pub returns-in_err-shown-clause-asked : goal.returns-in_err-shown-clause-asked
+returns-in_err-shown-clause-asked g c = inl refl
+
+pub returns-clause-stop : goal.returns-clause-stop
+returns-clause-stop g c =
+    IfErr-weaker c.carried_out.result _ _
+    (λ why stops. inr (c.in_ok-shown.shown.plan, c.in_ok-shown.ensures.optimised, stops))
+    c.carried_out.ensures.stop
+
+pub returns-clause-asked : goal.returns-clause-asked
+returns-clause-asked g c =
+    inr (
+      c.in_ok-shown.shown.plan,
+      c.in_ok-shown.ensures.optimised,
+      c.in_ok-shown.ensures.of_script.sources
+          ∙ sym (as_many_inputs c.args.given.program.script c.args.given.lists
+          c.requires.inputs),
+      c.carried_out.ensures.asked,
+    )

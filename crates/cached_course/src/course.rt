@@ -1,0 +1,173 @@
+// The course of a run that reuses what was kept: every growth comes first, then the output files,
+// then what is kept, then the screen.
+ghost use Rattle.std.specs.Prelude.{◌≡◌, ◌≤◌, ◌<◌, List, None, Some, ℕ, drop, is_some, length, map, slice_get};
+ghost use Rattle.std.specs.Option.{option_map};
+ghost use Rattle.command_words.specs.declared.words.Command.TheVariants.{Run};
+ghost use Rattle.crew.specs.Hosts.{account};
+ghost use Rattle.outside.specs.Saves.{output_file};
+ghost use Rattle.outside.specs.Seen.{seen, seen_shelf};
+ghost use Rattle.run_course.specs.Asked.{AskFor};
+ghost use Rattle.run_course.specs.Asks.{AsksFor};
+ghost use Rattle.run_course.specs.World.{Keeps, world};
+ghost use Rattle.cached_course.specs.Answers.{Answers, AsksHosts};
+ghost use Rattle.cached_course.specs.Kept.{HasKept};
+ghost use Rattle.cached_course.specs.Promises.{Promises};
+ghost use Rattle.cached_course.specs.inner.Course.{DeliversKept};
+
+use crate::laws::{meant_law, sound_law};
+use crate::saving::{Reused, prepare};
+use cache_store::{Cache, CacheEntry};
+use flume_value::Str;
+use kept_results::keep_each;
+use outside::{Host, Output, Screen, Shelf, Source, save_all, say};
+use run_course::Stop;
+use run_settings::Settings;
+use run_texts::{Place, Status, tell, tell_trap};
+use std::alloc::Global;
+use std::thread::Threads;
+
+/// Runs the script of that name with these settings, reuses what the cache has kept, and answers
+/// how that ended. What is promised is said of words that ask for the same run without a cache.
+pub fn run_cached<X: Threads + Sync, R: Source, H: Host + Send, K: Shelf, P: Screen, C: Cache>(
+    rt: &X,
+    alloc: Global,
+    settings: &Settings,
+    name: &str,
+    source: &mut R,
+    hosts: &mut [H],
+    shelf: &mut K,
+    screen: &mut P,
+    cache: &mut C,
+) -> Status
+    requires { length hosts.old ≡ 16 }
+    ensures promises { (words : List (List ℕ)) →
+        AskFor words (Run settings.now None) name.now → Promises words
+        (world (seen R.files R.faults source.old) (R.asked source.old)
+        (seen_shelf K.files K.begun K.left K.faults shelf.old) (seen P.text P.faults screen.old)
+        (map (account H.notes H.losses) hosts.old))
+        (world (seen R.files R.faults source.new) (R.asked source.new)
+        (seen_shelf K.files K.begun K.left K.faults shelf.new) (seen P.text P.faults screen.new)
+        (map (account H.notes H.losses) hosts.new))
+        (seen C.entries C.faults cache.old) (seen C.entries C.faults cache.new) result }
+    ensures hosts { drop settings.now.workers hosts.new ≡ drop settings.now.workers hosts.old }
+{
+    meant_law();
+    sound_law();
+    answer(
+        rt, alloc, settings, name, source, hosts, shelf, screen, cache,
+    )
+}
+
+// Runs the script, and tells of a refusal or a trap.
+fn answer<X: Threads + Sync, R: Source, H: Host + Send, K: Shelf, P: Screen, C: Cache>(
+    rt: &X,
+    alloc: Global,
+    settings: &Settings,
+    name: &str,
+    source: &mut R,
+    hosts: &mut [H],
+    shelf: &mut K,
+    screen: &mut P,
+    cache: &mut C,
+) -> Status
+    requires { length hosts.old ≡ 16 }
+    ensures answers { (words : List (List ℕ)) →
+        AskFor words (Run settings.now None) name.now → Answers words
+        (world (seen R.files R.faults source.old) (R.asked source.old)
+        (seen_shelf K.files K.begun K.left K.faults shelf.old) (seen P.text P.faults screen.old)
+        (map (account H.notes H.losses) hosts.old))
+        (world (seen R.files R.faults source.new) (R.asked source.new)
+        (seen_shelf K.files K.begun K.left K.faults shelf.new) (seen P.text P.faults screen.new)
+        (map (account H.notes H.losses) hosts.new))
+        (seen C.entries C.faults cache.old) (seen C.entries C.faults cache.new) result }
+    ensures kept { Keeps
+        (world (seen R.files R.faults source.old) (R.asked source.old)
+        (seen_shelf K.files K.begun K.left K.faults shelf.old) (seen P.text P.faults screen.old)
+        (map (account H.notes H.losses) hosts.old))
+        (world (seen R.files R.faults source.new) (R.asked source.new)
+        (seen_shelf K.files K.begun K.left K.faults shelf.new) (seen P.text P.faults screen.new)
+        (map (account H.notes H.losses) hosts.new)) }
+    ensures asked { (words : List (List ℕ)) → AskFor words (Run settings.now None) name.now →
+        AsksFor words (R.files source.old) (seen R.asked R.faults source.old)
+        (seen R.asked R.faults source.new) result }
+    ensures asked_hosts { (words : List (List ℕ)) →
+        AskFor words (Run settings.now None) name.now →
+        AsksHosts words (R.files source.old) (map (account H.notes H.losses) hosts.old)
+        (map (account H.notes H.losses) hosts.new) (seen C.entries C.faults cache.old)
+        (seen C.entries C.faults cache.new) result }
+    ensures tells { is_some (C.entries cache.new) ≡ is_some (C.entries cache.old) }
+    ensures rises { C.faults cache.old ≤ C.faults cache.new }
+    ensures hosts { drop settings.now.workers hosts.new ≡ drop settings.now.workers hosts.old }
+{
+    match prepare(rt, alloc, settings, name, source, hosts, cache) {
+        Ok(reused) => deliver(reused, shelf, screen, cache),
+        Err(Stop::Refused(status)) => {
+            tell(screen, &status);
+            status
+        }
+        Err(Stop::Trapped(trapped)) => {
+            let trap = trapped.trap;
+            tell_trap(screen, trapped.name.as_bytes(), trap.kind, &trap.element);
+            Status::Trap {
+                origin: trap.origin,
+                kind: trap.kind,
+                element: trap.element,
+            }
+        }
+    }
+}
+
+// Writes the files, keeps what was not found, and then writes the text of the screen. It takes no
+// memory.
+fn deliver<K: Shelf, P: Screen, C: Cache>(
+    reused: Reused,
+    shelf: &mut K,
+    screen: &mut P,
+    cache: &mut C,
+) -> Status
+    ensures delivered { DeliversKept (map output_file reused.written.outputs.items)
+        reused.written.screen.items reused.kept.items
+        (seen_shelf K.files K.begun K.left K.faults shelf.old)
+        (seen_shelf K.files K.begun K.left K.faults shelf.new)
+        (seen P.text P.faults screen.old) (seen P.text P.faults screen.new)
+        (seen C.entries C.faults cache.old) (seen C.entries C.faults cache.new) result }
+    ensures shelf { K.faults shelf.old ≤ K.faults shelf.new }
+    ensures screen { P.faults screen.old ≤ P.faults screen.new }
+    ensures cache { C.faults cache.old ≤ C.faults cache.new }
+    ensures tells { is_some (C.entries cache.new) ≡ is_some (C.entries cache.old) }
+{
+    let Reused { written, kept } = reused;
+    if let Err(place) = save_all(shelf, &written.outputs) {
+        let status = Status::WriteFault {
+            place: Place::File(name_of(written.outputs, place)),
+        };
+        tell(screen, &status);
+        return status;
+    }
+    keep_behind(&kept, cache);
+    if say(screen, &written.screen).is_err() {
+        return Status::WriteFault {
+            place: Place::Screen,
+        };
+    }
+    Status::Done
+}
+
+// Keeps these one after the other, as far as the cache takes them.
+fn keep_behind<C: Cache>(kept: &[CacheEntry], cache: &mut C)
+    ensures kept { HasKept kept.now (seen C.entries C.faults cache.old)
+        (seen C.entries C.faults cache.new) }
+    ensures later { C.faults cache.old ≤ C.faults cache.new }
+    ensures tells { is_some (C.entries cache.new) ≡ is_some (C.entries cache.old) }
+{
+    keep_each(kept, cache);
+}
+
+// The name of one of the outputs. It takes no memory.
+fn name_of(mut outputs: Vec<Output>, place: usize) -> Str
+    requires { place < length outputs.items }
+    ensures { option_map (λ file. file.name) (slice_get (map output_file outputs.items) place)
+        ≡ Some result }
+{
+    outputs.swap_remove(place).name.into_text()
+}

@@ -1,0 +1,64 @@
+use Rattle.std.proofs.Common.{◌<◌, ◌∙◌, ℕ, List, arith, length, subst, sym}
+use Rattle.std.specs.Prelude.{IfSome}
+use Rattle.std.proofs.lemmas.List.{take_all}
+use Rattle.outside.specs.Cause.{Rose}
+use Rattle.kept_results.specs.Kept.{AreFound, AreKept, FindsEach}
+use Rattle.kept_results.proofs.FindLemmas.{finds_next, found_next, kept_next}
+use Rattle.kept_results.proofs.finding.find_each.Goals as goal
+
+pub find_next-requires : goal.find_next-requires
+find_next-requires g c =
+    subst (λ (it : ℕ × List ℕ). it.0 < length c.args.program.now.script.nodes)
+    (sym c.one-item.is)
+    (c.requires c.loop-one.one-index c.one-item.result c.loop-one-test.true)
+
+pub loop-one-preserved : goal.loop-one-preserved
+loop-one-preserved g c =
+    let script = c.args.program.now.script in
+    let asked = c.args.asked.now in
+    let i = c.loop-one.one-index in
+    let one = c.one-item.result in
+    let looked = c.loop-one.looked.items in
+    let new = c.push.new.self.items in
+    let found = c.in_ok-find_next.field-0 in
+    let within = c.loop-one-test.true in
+    let at = c.one-item.is in
+    let is = c.in_ok-push.ensures.items in
+    let so_far = c.loop-one.invariant in record {
+      entries = c.in_ok-find_next.ensures.entries ∙ so_far.entries;
+      later = omega (arith, so_far.later, c.in_ok-find_next.ensures.later);
+      kept = kept_next script asked i one looked new found within at is
+          c.in_ok-find_next.ensures.kept so_far.kept;
+      found = found_next script asked i one looked new found within at is
+          (g.C.Cache.entries c.loop-one.cache) (g.C.Cache.entries c.args.cache.now)
+          so_far.entries c.in_ok-find_next.ensures.found so_far.found;
+      finds = finds_next script asked i one looked new found within at is
+          (g.C.Cache.entries c.loop-one.cache) (g.C.Cache.entries c.args.cache.now)
+          (g.C.Cache.faults c.args.cache.now) (g.C.Cache.faults c.loop-one.cache)
+          (g.C.Cache.faults c.find_next.new.cache) so_far.entries so_far.later
+          c.in_ok-find_next.ensures.later c.in_ok-find_next.ensures.finds so_far.finds;
+    }
+
+pub returns-clause-kept : goal.returns-clause-kept
+returns-clause-kept g c =
+    subst
+    (λ (l : List (ℕ × List ℕ)). AreKept c.args.program.now.script l c.loop-one.looked.items)
+    (take_all c.loop-one.one-index c.args.asked.now (omega (arith, c.loop-one-test.false)))
+    c.loop-one.invariant.kept
+
+pub returns-clause-found : goal.returns-clause-found
+returns-clause-found g c =
+    subst
+    (λ (l : List (ℕ × List ℕ)). IfSome (g.C.Cache.entries c.args.cache.now) (λ entries.
+    AreFound c.args.program.now.script entries l c.loop-one.looked.items))
+    (take_all c.loop-one.one-index c.args.asked.now (omega (arith, c.loop-one-test.false)))
+    c.loop-one.invariant.found
+
+pub returns-clause-finds : goal.returns-clause-finds
+returns-clause-finds g c =
+    subst
+    (λ (l : List (ℕ × List ℕ)). IfSome (g.C.Cache.entries c.args.cache.now) (λ entries.
+    (Rose (g.C.Cache.faults c.args.cache.now) (g.C.Cache.faults c.loop-one.cache) → ⊥)
+    → FindsEach c.args.program.now.script entries l c.loop-one.looked.items))
+    (take_all c.loop-one.one-index c.args.asked.now (omega (arith, c.loop-one-test.false)))
+    c.loop-one.invariant.finds

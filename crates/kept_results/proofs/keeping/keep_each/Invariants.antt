@@ -1,0 +1,22 @@
+use Rattle.std.proofs.Common.{◌≡◌, ◌≤◌, List, drop}
+use Rattle.std.specs.Prelude.{IfSome, is_some}
+use Rattle.cache_store.specs.Entries.{with_entries}
+use Rattle.cache_store.specs.declared.entry.CacheEntry.{CacheEntry}
+use Rattle.outside.specs.Cause.{Rose}
+use Rattle.kept_results.specs.Keeping.{WereKept}
+use Rattle.kept_results.proofs.keeping.keep_each.Given as goal
+
+abbrev pub invariant-loop-entry : goal.invariant-loop-entry
+invariant-loop-entry g l =
+    let started = g.C.Cache.entries l.fn.cache in
+    let now = g.C.Cache.entries l.cache in
+    let left = drop l.entry-index l.kept in record {
+      later : g.C.Cache.faults l.fn.cache ≤ g.C.Cache.faults l.cache;
+      told : is_some now ≡ is_some started;
+      all : IfSome started (λ entries.
+          (Rose (g.C.Cache.faults l.fn.cache) (g.C.Cache.faults l.cache) → ⊥)
+          → IfSome now (λ so_far. with_entries so_far left ≡ with_entries entries l.kept));
+      some : IfSome started (λ entries. IfSome now (λ so_far.
+          (after : List CacheEntry) → WereKept so_far left after
+          → WereKept entries l.kept after));
+    }

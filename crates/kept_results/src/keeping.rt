@@ -1,0 +1,59 @@
+// What is kept of collections that were not found.
+ghost use Rattle.std.specs.Prelude.{◌≡◌, ◌≤◌, IfOk, IfSome, OnOk, Some, if◌then◌else◌, is_ok, is_some};
+ghost use Rattle.std.specs.Option.{option_map};
+ghost use Rattle.cache_store.specs.Entries.{with_entries, with_entry};
+ghost use Rattle.flume_value.specs.Canonical.{canonical};
+ghost use Rattle.flume_value.specs.Ranges.{IsHeld};
+ghost use Rattle.outside.specs.Cause.{HasCause, Rose};
+ghost use Rattle.saved_results.specs.Saved.{saved_value};
+ghost use Rattle.kept_results.specs.Keeping.{WereKept};
+ghost use Rattle.kept_results.specs.Sizes as spec;
+
+use crate::sizes::to_keep;
+use cache_store::{Cache, CacheEntry};
+use flume_value::{Items, Str};
+use outside::Failed;
+use saved_results::saved_bytes;
+use std::alloc::{AllocError, Global};
+
+/// The bytes that are kept of a collection of these members, which rests on these, where this is
+/// known of sizes.
+pub fn kept_bytes(
+    alloc: Global,
+    known: &[(u32, u64)],
+    nodes: &[(u32, Str)],
+    members: Items,
+) -> Result<Str, AllocError>
+    ensures bytes { IfOk result (λ bytes. bytes
+        ≡ canonical (saved_value (spec.to_keep known.now nodes.now members))) }
+    ensures held { OnOk result (IsHeld (saved_value (spec.to_keep known.now nodes.now members))) }
+{
+    let saved = to_keep(alloc, known, nodes, members)?;
+    Str::from_vec(saved_bytes(alloc, saved)?)
+}
+
+/// Puts these values under their keys, one after the other. Where the cache fails a value is not
+/// kept, and the others are.
+pub fn keep_each<C: Cache>(kept: &[CacheEntry], cache: &mut C)
+    ensures later { C.faults cache.old ≤ C.faults cache.new }
+    ensures told { is_some (C.entries cache.new) ≡ is_some (C.entries cache.old) }
+    ensures all { IfSome (C.entries cache.old) (λ entries.
+        (Rose (C.faults cache.old) (C.faults cache.new) → ⊥) →
+        C.entries cache.new ≡ Some (with_entries entries kept.now)) }
+    ensures some { IfSome (C.entries cache.old) (λ entries. IfSome (C.entries cache.new)
+        (WereKept entries kept.now)) }
+{
+    for entry in kept {
+        let _ = keep_one(entry, cache);
+    }
+}
+
+// Keeps one of them.
+fn keep_one<C: Cache>(entry: &CacheEntry, cache: &mut C) -> Result<(), Failed>
+    ensures entries { C.entries cache.new ≡ (if is_ok result
+        then option_map (λ entries. with_entry entries entry.now.key entry.now.value)
+        (C.entries cache.old) else C.entries cache.old) }
+    ensures cause { HasCause (C.faults cache.old) (C.faults cache.new) result }
+{
+    cache.keep(entry.key.as_bytes(), entry.value.as_bytes())
+}

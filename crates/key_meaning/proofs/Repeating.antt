@@ -1,0 +1,224 @@
+-- What the rules of a let with repeat have found, and the names behind it.
+use Rattle.std.proofs.Common.{◌≡◌, ℕ, zero, suc, ◌+◌, eqb, true, List, [], ◌∷◌, ◌++◌, length, map, take, drop, Some, None, Ok, refl, sym, ap, ◌∙◌, subst, arith, append_assoc, length-append}
+use Rattle.std.specs.List.{list_any}
+use Rattle.std.specs.Map.{keys_of}
+use Rattle.std.specs.Str.{bytes_eq}
+use Rattle.std.proofs.lemmas.Bool.{eqb-true}
+use Rattle.std.proofs.lemmas.List.{append-nil, drop_at, length-map, take_at}
+use Rattle.flume_value.proofs.BoolLemmas.{both_true}
+use Rattle.flume_grammar.specs.declared.tree.Operation.{Operation}
+use Rattle.flume_grammar.specs.declared.tree.Repeat.{Repeat as WrittenRepeat}
+use Rattle.flume_grammar.specs.declared.tree.TurnLet.{TurnLet}
+use Rattle.flume_grammar.specs.declared.fault.ScriptKind.TheVariants.{BadNumber, Mistyped}
+use Rattle.written_types.specs.Answer.{or_fault, unless}
+use Rattle.written_types.specs.Named.{Named, find}
+use Rattle.expression_check.specs.Numbers.{number_within}
+use Rattle.script_program.specs.declared.made.Standing.{Standing}
+use Rattle.script_program.specs.declared.made.Standing.TheVariants.{Hidden}
+use Rattle.script_program.specs.Script.{Operand, State, given, with_hidden, with_name}
+use Rattle.direct_meaning.specs.of_operation_check.Operations.{collection, collections_behind, made_by, numbers}
+use Rattle.direct_meaning.specs.of_script_check.Repeats.{Repeat, gives_left, last_gives, turn_gives, turn_to}
+use Rattle.direct_meaning.specs.of_script_check.Rules as spec
+use Rattle.direct_meaning.proofs.of_script_check.CheckedLemmas.{both, holds, ok-same, there}
+use Rattle.direct_meaning.proofs.of_script_check.FoundLemmas.{before, found, own}
+use Rattle.key_meaning.proofs.Standing.{hidden, names_are, new_found, standing, types_are}
+
+-- ---- states in front of and behind a body
+
+pub names_hidden : (names : List (List ℕ)) (s : State)
+    → (with_hidden names s).names ≡ s.names ++ hidden names
+names_hidden [] s = sym (append-nil s.names)
+names_hidden (name ∷ names) s =
+    names_hidden names (with_name name Hidden s)
+    ∙ append_assoc s.names ((name, Hidden) ∷ []) (hidden names)
+
+pub types_hidden : (names : List (List ℕ)) (s : State) → (with_hidden names s).types ≡ s.types
+types_hidden [] s = refl
+types_hidden (name ∷ names) s = types_hidden names (with_name name Hidden s)
+
+pub functions_hidden : (names : List (List ℕ)) (s : State)
+    → (with_hidden names s).functions ≡ s.functions
+functions_hidden [] s = refl
+functions_hidden (name ∷ names) s = functions_hidden names (with_name name Hidden s)
+
+-- names more, and the same types
+pub record More (s after : State) : Type 0 where
+  pub rest : Named Standing
+  pub names : after.names ≡ s.names ++ rest
+  pub types : after.types ≡ s.types
+
+pub named_more : (line : ℕ) (names : List (List ℕ)) (by : Operation) (s after : State)
+    → spec.named line names by s ≡ Ok after → More s after
+named_more line names by s after e =
+    let new = both (spec.all_fresh line (keys_of s.names) names) _ after e in
+    let makings = both (made_by line by s) _ after new.then in
+    let fit = both (spec.all_fit line (length names) makings.part) _ after makings.then in
+    subst (More s) (ok-same _ after fit.then) (record {
+      rest = standing names makings.part (length s.nodes);
+      names = names_are names makings.part s;
+      types = types_are names makings.part s;
+    })
+
+then_more : (s middle after : State) → More s middle → More middle after → More s after
+then_more s middle after first second = record {
+  rest = first.rest ++ second.rest;
+  names =
+      second.names ∙ ap (λ ns. ns ++ second.rest) first.names
+      ∙ append_assoc s.names first.rest second.rest;
+  types = second.types ∙ first.types;
+}
+
+pub all_more : (lets : List TurnLet) (s after : State) → spec.all_named lets s ≡ Ok after
+    → More s after
+all_more [] s after e =
+    subst (More s) (ok-same s after e)
+    (record { rest = []; names = sym (append-nil s.names); types = refl })
+all_more (it ∷ lets) s after e =
+    let next = both (spec.named it.line it.names it.by s) _ after e in
+    then_more s next.part after (named_more it.line it.names it.by s next.part next.first)
+    (all_more lets next.part after next.then)
+
+-- ---- what is found
+
+found_many : (line : ℕ) (s : State) (found : List Operand) (names : List (List ℕ))
+    (all : List Operand) → collections_behind line found names s ≡ Ok all
+    → length all ≡ length found + length names
+found_many line s found [] all e =
+    let same = ap length (ok-same found all e) in
+    omega (arith, same)
+found_many line s found (name ∷ names) all e =
+    let one = both (collection line name s) _ all e in
+    let rest = found_many line s (found ++ one.part ∷ []) names all one.then in
+    omega (arith, rest, length-append found (one.part ∷ []))
+
+module _ (line : ℕ) (names : List (List ℕ)) (written : WrittenRepeat) (s : State) where
+  -- what enters a repeat
+  pub record Enters (entry : spec.Entry) : Type 0 where
+    pub new : (name : List ℕ) → list_any (bytes_eq name) names ≡ true → find name s.names ≡ None
+    pub free : (name : List ℕ) → list_any (bytes_eq name) written.entering ≡ true
+        → find name (with_hidden names s).names ≡ None
+    pub from : collections_behind line [] written.from (with_hidden names s) ≡ Ok entry.from
+    pub turns : number_within 1 256 written.turns ≡ Some entry.turns
+    pub many : length entry.from ≡ length names
+    pub entering : length written.entering ≡ length names
+    pub gives : length written.gives ≡ length names
+
+  pub enters : (entry : spec.Entry) → spec.entry_of line names written s ≡ Ok entry
+      → Enters entry
+  enters entry e =
+      let taken = with_hidden names s in
+      let new = both (spec.all_fresh line (keys_of s.names) names) _ entry e in
+      let free = both (spec.all_fresh line (keys_of taken.names) written.entering) _ entry
+      new.then in
+      let from = both (collections_behind line [] written.from taken) _ entry free.then in
+      let turns = both (or_fault line BadNumber (number_within 1 256 written.turns)) _ entry
+      from.then in
+      let many = both (unless line Mistyped (spec.as_many (length names) written)) _ entry
+      turns.then in
+      let counts = both_true (eqb (length written.from) (length names)) _
+      (holds line Mistyped _ many.part many.first) in
+      let others = both_true (eqb (length written.entering) (length names)) _ counts.1 in
+      subst Enters (ok-same _ entry many.then) (record {
+        new = new_found line s.names names new.part new.first;
+        free = new_found line taken.names written.entering free.part free.first;
+        from = from.first;
+        turns = there line BadNumber _ turns.part turns.first;
+        many =
+            omega (
+              arith,
+              found_many line taken [] written.from from.part from.first,
+              eqb-true (length written.from) (length names) counts.0,
+            );
+        entering = eqb-true (length written.entering) (length names) others.0;
+        gives = eqb-true (length written.gives) (length names) others.1;
+      })
+
+  -- what its body gives
+  pub record Gives (from : List Operand) (body : State) (gives : List ℕ) : Type 0 where
+    pub given : List Operand
+    pub found : collections_behind line [] written.gives body ≡ Ok given
+    pub are : numbers given ≡ gives
+    pub many : length gives ≡ length written.gives
+
+  pub gives_found : (from : List Operand) (body : State) (gives : List ℕ)
+      → spec.gives_of line written.gives from body ≡ Ok gives → Gives from body gives
+  gives_found from body gives e =
+      let given = both (collections_behind line [] written.gives body) _ gives e in
+      let same = both (unless line Mistyped (spec.alike from given.part)) _ gives given.then in
+      let are = ok-same (numbers given.part) gives same.then in
+      record {
+        given = given.part;
+        found = given.first;
+        are = are;
+        many =
+            omega (
+              arith,
+              ap length (sym are),
+              length-map given.part (λ (one : Operand). one.number),
+              found_many line body [] written.gives given.part given.first,
+            );
+      }
+
+-- ---- names behind it
+
+-- the last turn gives as many as enter the first, where a turn does
+pub gives_long : (repeat : Repeat) (many left : ℕ) (entering : List ℕ) (start : ℕ)
+    → length entering ≡ many → length repeat.gives ≡ many
+    → length (gives_left repeat left entering start) ≡ many
+gives_long repeat many zero entering start here gives = here
+gives_long repeat many (suc left) entering start here gives =
+    gives_long repeat many left (turn_gives repeat entering start) (start + length repeat.body)
+    (length-map repeat.gives (turn_to repeat entering start) ∙ gives) gives
+
+module _ (line : ℕ) (names : List (List ℕ)) (written : WrittenRepeat) (s : State)
+    (it : spec.Repeated) (e : spec.repeated line names written s ≡ Ok it) where
+  abbrev pub after_repeat : State
+  after_repeat = spec.with_repeat it.repeat (length s.names) it.behind
+
+  -- the let's names stand for what is given, and all others behind them for none
+  pub record NamesBehind : Type 0 where
+    pub rest : Named Standing
+    pub naming : after_repeat.names
+        ≡ s.names ++ given (last_gives it.repeat) (hidden names ++ rest)
+    pub typing : after_repeat.types ≡ s.types
+    pub many : length (last_gives it.repeat) ≡ length names
+
+  pub names_behind : NamesBehind
+  names_behind =
+      let has = found line names written s it e in
+      let entry = has.entry in
+      let front = before line names written s entry in
+      let taken = with_hidden names s in
+      let enter = enters line names written s entry has.enters in
+      let body = all_more written.lets front has.body has.lets in
+      let entered = names_are written.entering (map spec.entered entry.from) taken in
+      let more = standing written.entering (map spec.entered entry.from) (length taken.nodes) in
+      let rest = more ++ body.rest in
+      let gives = gives_found line names written s entry.from has.body has.gives has.given in
+      let whole : has.body.names ≡ s.names ++ (hidden names ++ rest) =
+      body.names
+      ∙ ap (λ ns. ns ++ body.rest) (entered ∙ ap (λ ns. ns ++ more) (names_hidden names s))
+      ∙ ap (λ ns. ns ++ body.rest) (append_assoc s.names (hidden names) more)
+      ∙ append_assoc s.names (hidden names ++ more) body.rest
+      ∙ ap (λ ns. s.names ++ ns) (append_assoc (hidden names) more body.rest) in
+      let behind : it.behind.names ≡ s.names ++ (hidden names ++ rest) =
+      ap (λ (t : State). t.names) (sym has.behind) ∙ whole in
+      let first = length s.names in
+      record {
+        rest = rest;
+        naming =
+            ap (λ ns. take first ns ++ given (last_gives it.repeat) (drop first ns)) behind
+            ∙ (λ i. take_at s.names (hidden names ++ rest) first refl i
+            ++ given (last_gives it.repeat) (drop_at s.names (hidden names ++ rest) first refl i));
+        typing =
+            ap (λ (t : State). t.types) (sym has.behind)
+            ∙ body.types
+            ∙ types_are written.entering (map spec.entered entry.from) taken
+            ∙ types_hidden names s;
+        many =
+            ap (λ (r : Repeat). length (last_gives r)) (sym has.repeat)
+            ∙ gives_long (own line names written s entry has.body has.gives) (length names)
+            entry.turns (numbers entry.from) (length s.nodes)
+            (length-map entry.from (λ (one : Operand). one.number) ∙ enter.many)
+            (gives.many ∙ enter.gives);
+      }

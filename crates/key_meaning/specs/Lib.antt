@@ -1,0 +1,4 @@
+pub mod Keyed
+pub mod Rested
+pub mod Same
+pub mod Told

@@ -1,0 +1,9 @@
+pub mod SameMakes
+pub mod StillNeeded
+pub mod Tables
+pub mod Going
+pub mod InTurn
+pub mod Given
+pub mod HandedOn
+pub mod Clean
+pub mod Trapped

@@ -1,0 +1,51 @@
+-- A script in which some collections are those that an earlier run has kept, in place of how it
+-- makes them.
+use Rattle.std.specs.Prelude.{ℕ, suc, List, [], ◌∷◌, ⊤, if◌then◌else◌}
+use Rattle.std.specs.List.{AllByRecursion}
+use Rattle.written_types.specs.Named.{Named}
+use Rattle.script_program.specs.declared.made.Made.{Made}
+use Rattle.script_program.specs.declared.made.Made.TheVariants as made
+use Rattle.script_program.specs.Kinds.{emitted_as, gives_object}
+use Rattle.script_program.specs.Needed.{has}
+use Rattle.script_program.specs.Script.{Node, Script}
+
+-- how a collection is made that is kept: it is an object, or an output of a call, where it was
+abbrev pub saved_as : Made → Made
+saved_as how = made.Saved (gives_object how) (emitted_as how)
+
+abbrev pub saved_node : Node → Node
+saved_node node = record {
+  made = saved_as node.made;
+  type = node.type;
+  statement = node.statement;
+}
+
+-- the collection of that number, which is kept where the number is among those found
+abbrev pub saved_at : List ℕ → ℕ → List ℕ × Node → List ℕ × Node
+saved_at found number entry =
+    if has found number then (entry.0, saved_node entry.1) else entry
+
+-- the collections from a number on
+abbrev pub saved_from : List ℕ → ℕ → Named Node → Named Node
+saved_from found number [] = []
+saved_from found number (entry ∷ nodes) =
+    saved_at found number entry ∷ saved_from found (suc number) nodes
+
+-- the script in which the collections of these numbers are kept ones; what alone they read is not
+-- needed any more
+abbrev pub with_saved : List ℕ → Script → Script
+with_saved found script = record {
+  functions = script.functions;
+  nodes = saved_from found 0 script.nodes;
+  outputs = script.outputs;
+}
+
+-- ---- scripts as they are written
+
+abbrev pub IsUnsaved : Made → Type 0
+IsUnsaved (made.Saved is_object call) = ⊥
+IsUnsaved _ = ⊤
+
+-- no collection is a kept one
+abbrev pub HasNoSaved : Script → Type 0
+HasNoSaved script = AllByRecursion (λ entry. IsUnsaved entry.1.made) script.nodes
