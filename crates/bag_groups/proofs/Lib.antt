@@ -5,3 +5,4 @@ pub mod LastRuns
 pub mod MemberLemmas
 pub mod PairLemmas
 pub mod PairOrder
+pub use Rattle.flume_value.proofs as of_flume_value

@@ -16,6 +16,7 @@ mod groups;
 mod laws;
 mod pairs;
 
+pub use flume_value;
 pub use groups::{group, group_borrowed};
 pub use laws::{combining_law, groups_law};
 pub use pairs::{key, pair, value};

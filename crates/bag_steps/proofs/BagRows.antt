@@ -8,12 +8,12 @@ use Rattle.flume_value.specs.declared.value.Value.{Value}
 use Rattle.flume_value.specs.Bag.{bag_of}
 use Rattle.flume_value.specs.Equality.{value_eq}
 use Rattle.flume_value.proofs.BagLemmas.{bag_of-sum, bag_of-twice, times-bag_of}
-use Rattle.bag_groups.specs.Pairs.{pair, parts_of, pairs_of}
-use Rattle.bag_groups.specs.Groups.{distinct, keys_of, values_of}
-use Rattle.bag_groups.specs.Combining.{combined_pair, trapped_key}
-use Rattle.bag_groups.proofs.BagParts.{chosen-bag_of}
-use Rattle.bag_groups.proofs.PairLemmas.{Parts}
-use Rattle.combine_table.specs.Combinations.{int_or_overflow, wrapped}
+use Rattle.keyed_steps.specs.of_bag_groups.Pairs.{pair, parts_of, pairs_of}
+use Rattle.keyed_steps.specs.of_bag_groups.Groups.{distinct, keys_of, values_of}
+use Rattle.keyed_steps.specs.of_bag_groups.Combining.{combined_pair, trapped_key}
+use Rattle.keyed_steps.proofs.of_bag_groups.BagParts.{chosen-bag_of}
+use Rattle.keyed_steps.proofs.of_bag_groups.PairLemmas.{Parts}
+use Rattle.keyed_steps.specs.of_combine_table.Combinations.{int_or_overflow, wrapped}
 use Rattle.bag_steps.specs.Counts.{counted, counted_traps}
 use Rattle.bag_steps.specs.Joins.{joined, sides}
 

@@ -16,11 +16,11 @@ use Rattle.flume_value.specs.Bag.{bag_of, times}
 use Rattle.flume_value.proofs.EachLemmas.{each_from, Each-drop, Each-weaker}
 use Rattle.flume_value.proofs.RisesLemmas.{Rises-drop}
 use Rattle.flume_value.proofs.BagLemmas.{NotBelow, Rises, Each-bag_of, rises_from}
-use Rattle.bag_groups.specs.Pairs.{pair}
-use Rattle.bag_groups.specs.Groups.{distinct}
-use Rattle.bag_groups.specs.Combining.{combined_pair, trapped_key}
-use Rattle.bag_groups.proofs.MemberLemmas.{Each-distinct}
-use Rattle.combine_table.specs.Combinations.{int_or_overflow, wrapped}
+use Rattle.keyed_steps.specs.of_bag_groups.Pairs.{pair}
+use Rattle.keyed_steps.specs.of_bag_groups.Groups.{distinct}
+use Rattle.keyed_steps.specs.of_bag_groups.Combining.{combined_pair, trapped_key}
+use Rattle.keyed_steps.proofs.of_bag_groups.MemberLemmas.{Each-distinct}
+use Rattle.keyed_steps.specs.of_combine_table.Combinations.{int_or_overflow, wrapped}
 use Rattle.bag_steps.specs.Counts.{counted, counted_traps, number_of}
 use Rattle.bag_steps.specs.inner.Runs.{IsRun}
 use Rattle.bag_steps.proofs.GroupSteps.{one_more}

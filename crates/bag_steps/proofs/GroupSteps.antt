@@ -11,8 +11,8 @@ use Rattle.flume_value.specs.Bag.{bag_of}
 use Rattle.flume_value.proofs.EachLemmas.{each_from, Each-drop}
 use Rattle.flume_value.proofs.RisesLemmas.{Rises-drop}
 use Rattle.flume_value.proofs.BagLemmas.{NotBelow, Rises, bag_of-settled, rises_from}
-use Rattle.bag_groups.specs.Pairs.{pair, IsPair, key_of, pairs_of}
-use Rattle.bag_groups.specs.Groups.{grouped, grouped_pairs}
+use Rattle.keyed_steps.specs.of_bag_groups.Pairs.{pair, IsPair, key_of, pairs_of}
+use Rattle.keyed_steps.specs.of_bag_groups.Groups.{grouped, grouped_pairs}
 use Rattle.bag_steps.specs.inner.Runs.{IsRun, first_key, held_by}
 use Rattle.bag_steps.proofs.RunLemmas.{NotBelow-same}
 use Rattle.bag_steps.proofs.KeyRuns.{grouped-begin, held, length-run, pairs_of-drop, pairs_of-take, run_some, runs_from}

@@ -10,9 +10,9 @@ use Rattle.flume_value.specs.Order.{value_cmp}
 use Rattle.flume_value.proofs.EachLemmas.{each_from, Each-drop}
 use Rattle.flume_value.proofs.RisesLemmas.{Rises-drop}
 use Rattle.flume_value.proofs.BagLemmas.{NotBelow, Rises, rises_from}
-use Rattle.bag_groups.specs.Pairs.{pair, IsPair, key_of, parts_of, pairs_of}
-use Rattle.bag_groups.proofs.PairLemmas.{Parts}
-use Rattle.combine_table.proofs.Popped.{lower}
+use Rattle.keyed_steps.specs.of_bag_groups.Pairs.{pair, IsPair, key_of, parts_of, pairs_of}
+use Rattle.keyed_steps.proofs.of_bag_groups.PairLemmas.{Parts}
+use Rattle.keyed_steps.proofs.of_combine_table.Popped.{lower}
 use Rattle.bag_steps.specs.Joins.{joined, sides}
 use Rattle.bag_steps.specs.inner.Runs.{IsRun, first_key, held_by, least_of}
 use Rattle.bag_steps.proofs.GroupSteps.{one_more}

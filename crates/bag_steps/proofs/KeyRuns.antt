@@ -11,11 +11,11 @@ use Rattle.flume_value.specs.Equality.{value_eq}
 use Rattle.flume_value.proofs.EachLemmas.{each_from, Each-append, Each-drop, Each-map, Each-weaker}
 use Rattle.flume_value.proofs.RisesLemmas.{Rises-drop, Rises-take}
 use Rattle.flume_value.proofs.BagLemmas.{NotBelow, Rises, Each-bag_of, sorted_from, bag_of-settled, bag_of-times, times-append}
-use Rattle.bag_groups.specs.Pairs.{pair, IsPair, key_of, pairs_of}
-use Rattle.bag_groups.specs.Groups.{distinct, keys_of, values_of, grouped_pairs}
-use Rattle.bag_groups.proofs.MemberLemmas.{Each-distinct, filter_all, filter_none, map_same}
-use Rattle.bag_groups.proofs.PairLemmas.{Parts, packed, key_of-pair, packed-pairs_of, pairs_of-packed}
-use Rattle.bag_groups.proofs.PairOrder.{Rises-keys, Rises-values, value_eq-same, value_eq-other}
+use Rattle.keyed_steps.specs.of_bag_groups.Pairs.{pair, IsPair, key_of, pairs_of}
+use Rattle.keyed_steps.specs.of_bag_groups.Groups.{distinct, keys_of, values_of, grouped_pairs}
+use Rattle.keyed_steps.proofs.of_bag_groups.MemberLemmas.{Each-distinct, filter_all, filter_none, map_same}
+use Rattle.keyed_steps.proofs.of_bag_groups.PairLemmas.{Parts, packed, key_of-pair, packed-pairs_of, pairs_of-packed}
+use Rattle.keyed_steps.proofs.of_bag_groups.PairOrder.{Rises-keys, Rises-values, value_eq-same, value_eq-other}
 use Rattle.bag_steps.specs.Joins.{sides}
 use Rattle.bag_steps.specs.inner.Runs.{IsRun, first_key}
 use Rattle.bag_steps.proofs.RunLemmas.{AreAll, AreFrom, AreOther, all_from, distinct_bag-ahead, others_from, slice_get-drop}

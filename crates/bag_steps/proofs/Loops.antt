@@ -6,8 +6,8 @@ use Rattle.std.proofs.lemmas.List.{map-append, take_more}
 use Rattle.std.proofs.lemmas.List.Elements.{All-more, filter_map-append}
 use Rattle.std.proofs.lemmas.Option.{get_or_from_slice_get}
 use Rattle.flume_value.specs.declared.value.Value.{Value}
-use Rattle.bag_groups.specs.Pairs.{parts_of, pairs_of, value_of}
-use Rattle.bag_groups.proofs.PairLemmas.{Parts, parts_by, parts_of-pair}
+use Rattle.keyed_steps.specs.of_bag_groups.Pairs.{parts_of, pairs_of, value_of}
+use Rattle.keyed_steps.proofs.of_bag_groups.PairLemmas.{Parts, parts_by, parts_of-pair}
 use Rattle.bag_steps.specs.inner.Runs.{IsRun, held_by}
 
 -- ---- runs

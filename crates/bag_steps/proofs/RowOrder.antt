@@ -14,12 +14,12 @@ use Rattle.flume_value.specs.Bag.{bag_of}
 use Rattle.flume_value.proofs.EachLemmas.{Each-both, Each-filter, Each-filter_passes}
 use Rattle.flume_value.proofs.RisesLemmas.{Rises-drop}
 use Rattle.flume_value.proofs.BagLemmas.{NotBelow, Rises, Rises-bag_of, bag_of-settled, sorted_from}
-use Rattle.bag_groups.specs.Pairs.{pair, pairs_of}
-use Rattle.bag_groups.specs.Groups.{distinct, keys_of, values_of}
-use Rattle.bag_groups.specs.Combining.{combined_pair}
-use Rattle.bag_groups.proofs.MemberLemmas.{Each-distinct}
-use Rattle.bag_groups.proofs.PairOrder.{less_from, pairs-NotBelow}
-use Rattle.combine_table.specs.Combinations.{greatest}
+use Rattle.keyed_steps.specs.of_bag_groups.Pairs.{pair, pairs_of}
+use Rattle.keyed_steps.specs.of_bag_groups.Groups.{distinct, keys_of, values_of}
+use Rattle.keyed_steps.specs.of_bag_groups.Combining.{combined_pair}
+use Rattle.keyed_steps.proofs.of_bag_groups.MemberLemmas.{Each-distinct}
+use Rattle.keyed_steps.proofs.of_bag_groups.PairOrder.{less_from, pairs-NotBelow}
+use Rattle.keyed_steps.specs.of_combine_table.Combinations.{greatest}
 use Rattle.bag_steps.specs.Counts.{counted, number_of}
 use Rattle.bag_steps.specs.Joins.{joined, sides}
 

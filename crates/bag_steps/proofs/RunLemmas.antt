@@ -11,9 +11,9 @@ use Rattle.flume_value.specs.Bag.{put, bag_of, times}
 use Rattle.flume_value.proofs.OrderLemmas.{value_cmp-same}
 use Rattle.flume_value.proofs.EachLemmas.{Each-append, Each-weaker}
 use Rattle.flume_value.proofs.BagLemmas.{NotBelow, Rises, apart, Each-bag_of, NotBelow-trans, times-append}
-use Rattle.bag_groups.specs.Groups.{distinct}
-use Rattle.bag_groups.proofs.MemberLemmas.{Each-distinct, filter_all}
-use Rattle.bag_groups.proofs.PairOrder.{value_eq-same, value_eq-other}
+use Rattle.keyed_steps.specs.of_bag_groups.Groups.{distinct}
+use Rattle.keyed_steps.proofs.of_bag_groups.MemberLemmas.{Each-distinct, filter_all}
+use Rattle.keyed_steps.proofs.of_bag_groups.PairOrder.{value_eq-same, value_eq-other}
 
 -- the values are all k
 abbrev pub AreAll : Value → List Value → Type 0

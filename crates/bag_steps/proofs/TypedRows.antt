@@ -18,12 +18,12 @@ use Rattle.flume_types.specs.Tables.{table_of}
 use Rattle.flume_types.specs.Typing.{AllHave, Has, has_type}
 use Rattle.flume_types.proofs.PartLemmas.{has_int, has_list}
 use Rattle.flume_types.proofs.TypingLemmas.{has_type-Rec}
-use Rattle.bag_groups.specs.Pairs.{pair, pairs_of}
-use Rattle.bag_groups.specs.Groups.{distinct, keys_of, values_of}
-use Rattle.bag_groups.specs.Combining.{combined_pair}
-use Rattle.bag_groups.proofs.MemberLemmas.{Each-distinct}
-use Rattle.bag_groups.proofs.PairLemmas.{Parts}
-use Rattle.combine_table.specs.Combinations.{greatest, int_or_overflow, wrapped}
+use Rattle.keyed_steps.specs.of_bag_groups.Pairs.{pair, pairs_of}
+use Rattle.keyed_steps.specs.of_bag_groups.Groups.{distinct, keys_of, values_of}
+use Rattle.keyed_steps.specs.of_bag_groups.Combining.{combined_pair}
+use Rattle.keyed_steps.proofs.of_bag_groups.MemberLemmas.{Each-distinct}
+use Rattle.keyed_steps.proofs.of_bag_groups.PairLemmas.{Parts}
+use Rattle.keyed_steps.specs.of_combine_table.Combinations.{greatest, int_or_overflow, wrapped}
 use Rattle.keyed_steps.proofs.TypedFacts.{Has-pair, table_pair}
 use Rattle.bag_steps.specs.Counts.{counted, number_of}
 use Rattle.bag_steps.specs.Joins.{joined, sides}

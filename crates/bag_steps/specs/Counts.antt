@@ -4,9 +4,9 @@ use Rattle.std.specs.List.{flat_map}
 use Rattle.flume_value.specs.declared.fault.Kind.{Kind}
 use Rattle.flume_value.specs.declared.value.Value.{Value}
 use Rattle.flume_value.specs.Bag.{bag_of, times}
-use Rattle.bag_groups.specs.Groups.{distinct}
-use Rattle.bag_groups.specs.Combining.{combined_pair, trapped_key}
-use Rattle.combine_table.specs.Combinations.{int_or_overflow, wrapped}
+use Rattle.keyed_steps.specs.of_bag_groups.Groups.{distinct}
+use Rattle.keyed_steps.specs.of_bag_groups.Combining.{combined_pair, trapped_key}
+use Rattle.keyed_steps.specs.of_combine_table.Combinations.{int_or_overflow, wrapped}
 
 -- how often the value is in the bag, as 128 bits with a sign hold it: an int, or the trap where
 -- it is none

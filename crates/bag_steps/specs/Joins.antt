@@ -2,8 +2,8 @@
 use Rattle.std.specs.Prelude.{List, [], ◌∷◌, ◌++◌, map}
 use Rattle.flume_value.specs.declared.value.Value.{Value}
 use Rattle.flume_value.specs.declared.value.Value.TheVariants as value
-use Rattle.bag_groups.specs.Pairs.{pair, pairs_of}
-use Rattle.bag_groups.specs.Groups.{keys_of, values_of}
+use Rattle.keyed_steps.specs.of_bag_groups.Pairs.{pair, pairs_of}
+use Rattle.keyed_steps.specs.of_bag_groups.Groups.{keys_of, values_of}
 
 -- the record of the list of the left side and that of the right side
 abbrev pub sides : List Value → List Value → Value

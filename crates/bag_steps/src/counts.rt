@@ -3,12 +3,12 @@ ghost use Rattle.std.specs.Prelude.{◌≡◌, [], IfOk};
 ghost use Rattle.std.specs.List.Sorted.{IsSorted};
 ghost use Rattle.flume_value.specs.Order.{value_cmp};
 ghost use Rattle.flume_value.specs.Bag.{bag_of};
-ghost use Rattle.bag_groups.specs.Pairs.{pair as pair_of};
+ghost use Rattle.keyed_steps.specs.of_bag_groups.Pairs.{pair as pair_of};
 ghost use Rattle.bag_steps.specs.Counts.{counted, counted_traps};
 
 use crate::runs::run_of_value;
-use bag_groups::pair;
 use flume_value::Value;
+use keyed_steps::bag_groups::pair;
 use std::alloc::{AllocError, Global};
 
 /// For each distinct value of the ascending bag the pair of it and how often it is there. It copies

@@ -3,13 +3,13 @@ ghost use Rattle.std.specs.Prelude.{◌≡◌, All, IfOk};
 ghost use Rattle.std.specs.List.Sorted.{IsSorted};
 ghost use Rattle.flume_value.specs.Order.{value_cmp};
 ghost use Rattle.flume_value.specs.Bag.{bag_of};
-ghost use Rattle.bag_groups.specs.Pairs.{IsPair, pair as pair_of};
-ghost use Rattle.bag_groups.specs.Groups.{grouped};
+ghost use Rattle.keyed_steps.specs.of_bag_groups.Pairs.{IsPair, pair as pair_of};
+ghost use Rattle.keyed_steps.specs.of_bag_groups.Groups.{grouped};
 ghost use Rattle.bag_steps.specs.inner.Runs.{held_by};
 
 use crate::runs::{run_of_key, values_of};
-use bag_groups::{key, pair};
 use flume_value::Value;
+use keyed_steps::bag_groups::{key, pair};
 use std::alloc::{AllocError, Global};
 
 /// For each key of the ascending pairs the pair of it and the list of its values, ascending. It

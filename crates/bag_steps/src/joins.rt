@@ -4,13 +4,13 @@ ghost use Rattle.std.specs.Option.{option_copied};
 ghost use Rattle.std.specs.List.Sorted.{IsSorted};
 ghost use Rattle.flume_value.specs.Order.{value_cmp};
 ghost use Rattle.flume_value.specs.Bag.{bag_of};
-ghost use Rattle.bag_groups.specs.Pairs.{IsPair, pair as pair_of};
+ghost use Rattle.keyed_steps.specs.of_bag_groups.Pairs.{IsPair, pair as pair_of};
 ghost use Rattle.bag_steps.specs.Joins.{joined, sides};
 ghost use Rattle.bag_steps.specs.inner.Runs.{held_by, first_key, least_of};
 
 use crate::runs::{run_of_key, values_of};
-use bag_groups::{key, pair};
 use flume_value::{Pile, Value, compare};
+use keyed_steps::bag_groups::{key, pair};
 use std::alloc::{AllocError, Global};
 
 /// For each key of the ascending pairs of either side the pair of it and the record of the lists of

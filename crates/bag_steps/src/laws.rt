@@ -8,7 +8,7 @@ ghost use Rattle.flume_types.specs.declared.types.Ty.{Ty};
 ghost use Rattle.flume_types.specs.declared.types.Ty.TheVariants as ty;
 ghost use Rattle.flume_types.specs.Tables.{table_of};
 ghost use Rattle.flume_types.specs.Typing.{AllHave};
-ghost use Rattle.combine_table.specs.Combinations.{greatest};
+ghost use Rattle.keyed_steps.specs.of_combine_table.Combinations.{greatest};
 ghost use Rattle.bag_steps.specs.Counts.{counted, counted_traps};
 ghost use Rattle.bag_steps.specs.Joins.{joined};
 ghost use Rattle.bag_steps.specs.Sides.{sides_of};

@@ -19,5 +19,6 @@ mod tops;
 pub use counts::count;
 pub use groups::group;
 pub use joins::join;
+pub use keyed_steps::combine_table;
 pub use laws::{ascending_law, bags_law, types_law};
 pub use tops::greatest;

@@ -1,10 +1,10 @@
 // Runs of one value or of one key, in ascending order.
 ghost use Rattle.std.specs.Prelude.{◌≡◌, All, IfOk, Some};
-ghost use Rattle.bag_groups.specs.Pairs.{IsPair, key_of};
+ghost use Rattle.keyed_steps.specs.of_bag_groups.Pairs.{IsPair, key_of};
 ghost use Rattle.bag_steps.specs.inner.Runs.{IsRun, held_by};
 
-use bag_groups::{key, value};
 use flume_value::{Items, Pile, Value, equals};
+use keyed_steps::bag_groups::{key, value};
 use std::alloc::{AllocError, Global};
 
 /// How many values ahead are this one.

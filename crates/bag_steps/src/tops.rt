@@ -3,7 +3,7 @@ ghost use Rattle.std.specs.Prelude.{◌≡◌, IfOk};
 ghost use Rattle.std.specs.List.Sorted.{IsSorted};
 ghost use Rattle.flume_value.specs.Order.{value_cmp};
 ghost use Rattle.flume_value.specs.Bag.{bag_of};
-ghost use Rattle.combine_table.specs.Combinations.{greatest as greatest_of};
+ghost use Rattle.keyed_steps.specs.of_combine_table.Combinations.{greatest as greatest_of};
 
 use flume_value::{Value, copy_all};
 use std::alloc::{AllocError, Global};

@@ -7,8 +7,8 @@ use Rattle.dofn_eval.specs.Outcome.{Outcome, Gives, then}
 use Rattle.dofn_eval.specs.Run as slots
 use Rattle.dofn_eval.specs.Run.{Emissions}
 use Rattle.dofn_eval.specs.Typed.{BlockTyped}
-use Rattle.written_types.specs.Answer.{Checked, ◌>>=◌}
-use Rattle.expression_types.specs.Sight.{Sight}
+use Rattle.expression_check.specs.of_written_types.Answer.{Checked, ◌>>=◌}
+use Rattle.expression_check.specs.of_expression_types.Sight.{Sight}
 use Rattle.expression_check.specs.Given.{Thing, Environment}
 use Rattle.expression_check.specs.Right.{types, bound}
 use Rattle.body_check.specs.Call.{State, state, Emits}

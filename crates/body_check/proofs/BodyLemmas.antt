@@ -13,15 +13,15 @@ use Rattle.dofn_eval.specs.declared.stmt.Stmt.TheVariants as stmt
 use Rattle.dofn_eval.specs.Outcome.{Gives, then}
 use Rattle.dofn_eval.specs.Typed as typing
 use Rattle.dofn_eval.specs.Typed.{BlockTyped}
-use Rattle.written_types.specs.Answer.{Checked, ◌>>=◌, unless, or_fault}
-use Rattle.written_types.specs.Named.{Named, fresh}
-use Rattle.expression_types.specs.Sight.{Sight}
-use Rattle.expression_types.specs.Types.{is_same, is_bool}
+use Rattle.expression_check.specs.of_written_types.Answer.{Checked, ◌>>=◌, unless, or_fault}
+use Rattle.expression_check.specs.of_written_types.Named.{Named, fresh}
+use Rattle.expression_check.specs.of_expression_types.Sight.{Sight}
+use Rattle.expression_check.specs.of_expression_types.Types.{is_same, is_bool}
 use Rattle.expression_check.specs.Types.{type_of}
 use Rattle.expression_check.specs.Given.{given_in}
 use Rattle.expression_check.specs.Slots.{slots_of}
 use Rattle.expression_check.specs.Right.{IsRight}
-use Rattle.expression_types.proofs.TypeLemmas.{bool_is}
+use Rattle.expression_check.proofs.of_expression_types.TypeLemmas.{bool_is}
 use Rattle.expression_check.proofs.RightLemmas.{right}
 use Rattle.body_check.specs.Bodies.{after_all, layer_after, after as sight_after}
 use Rattle.body_check.specs.Outputs.{output_of}

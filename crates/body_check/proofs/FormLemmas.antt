@@ -6,12 +6,12 @@ use Rattle.flume_grammar.specs.declared.fault.ScriptKind.TheVariants.{Mistyped}
 use Rattle.dofn_eval.specs.Outcome.{Outcome, Gives, then}
 use Rattle.dofn_eval.specs.Operations.{chosen}
 use Rattle.dofn_eval.proofs.MeaningLemmas.{then_same}
-use Rattle.written_types.specs.Answer.{Checked, ◌>>=◌, unless, or_fault}
-use Rattle.written_types.specs.Named.{Named, fresh}
-use Rattle.written_types.proofs.FailsLemmas.{bind-same}
-use Rattle.expression_types.specs.Sight.{Sight, with_name}
-use Rattle.expression_types.specs.Fields.{member_type, side_types}
-use Rattle.expression_types.specs.Types.{is_bool}
+use Rattle.expression_check.specs.of_written_types.Answer.{Checked, ◌>>=◌, unless, or_fault}
+use Rattle.expression_check.specs.of_written_types.Named.{Named, fresh}
+use Rattle.expression_check.proofs.of_written_types.FailsLemmas.{bind-same}
+use Rattle.expression_check.specs.of_expression_types.Sight.{Sight, with_name}
+use Rattle.expression_check.specs.of_expression_types.Fields.{member_type, side_types}
+use Rattle.expression_check.specs.of_expression_types.Types.{is_bool}
 use Rattle.expression_check.specs.Types.{type_of}
 use Rattle.expression_check.specs.Given.{valued, given_in}
 use Rattle.body_check.specs.Bodies.{after_all, layer_after, after as sight_after}

@@ -2,8 +2,8 @@
 use Rattle.std.proofs.Common.{ℕ, List, length, arith}
 use Rattle.std.proofs.lemmas.Option.{slice_get-map}
 use Rattle.flume_types.specs.declared.types.Ty.{Ty}
-use Rattle.type_table.specs.Table.{Extends}
-use Rattle.expression_types.specs.Held.{AreTypes}
+use Rattle.expression_check.specs.of_type_table.Table.{Extends}
+use Rattle.expression_check.specs.of_expression_types.Held.{AreTypes}
 use Rattle.expression_check.proofs.KeptLemmas.{types-kept}
 
 pub more-types : (old new : List Ty) → Extends old new → (ids : List ℕ)

@@ -12,10 +12,10 @@ use Rattle.dofn_eval.specs.Run.{means as slots_mean}
 use Rattle.dofn_eval.specs.Typed.{BlockTyped}
 use Rattle.dofn_eval.specs.Answer.{HasAnswer}
 use Rattle.dofn_eval.proofs.SoundCalls.{answered_call}
-use Rattle.type_table.specs.Table.{type_at}
-use Rattle.written_types.specs.Answer.{Checked, ◌>>=◌, Gives}
-use Rattle.written_types.specs.Named.{Named}
-use Rattle.expression_types.specs.Sight.{Sight}
+use Rattle.expression_check.specs.of_type_table.Table.{type_at}
+use Rattle.expression_check.specs.of_written_types.Answer.{Checked, ◌>>=◌, Gives}
+use Rattle.expression_check.specs.of_written_types.Named.{Named}
+use Rattle.expression_check.specs.of_expression_types.Sight.{Sight}
 use Rattle.body_check.specs.Bodies.{after_all, after, at_start, body_of}
 use Rattle.body_check.specs.Call.{block, emitted_in, means}
 use Rattle.body_check.specs.inner.Frames.{InBody}

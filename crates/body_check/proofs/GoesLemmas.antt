@@ -7,8 +7,8 @@ use Rattle.dofn_eval.specs.Outcome.{Outcome, Gives, Traps, Stuck, then, with_par
 use Rattle.dofn_eval.specs.Run as slots
 use Rattle.dofn_eval.specs.Run.{Emissions, emitted_to}
 use Rattle.dofn_eval.proofs.MeaningLemmas.{then_same}
-use Rattle.expression_types.specs.Sight.{Newest}
-use Rattle.expression_types.specs.Fields.{member_type, side_types}
+use Rattle.expression_check.specs.of_expression_types.Sight.{Newest}
+use Rattle.expression_check.specs.of_expression_types.Fields.{member_type, side_types}
 use Rattle.expression_check.specs.Given.{tagged, valued}
 use Rattle.expression_check.specs.Right.{bound}
 use Rattle.body_check.specs.Call.{State, state, Emits, each, for_each, side, by_side, after}

@@ -8,3 +8,5 @@ pub mod OutputLemmas
 pub mod PlacedLemmas
 pub mod SightLemmas
 pub mod StatementLemmas
+pub use Rattle.expression_check.proofs as of_expression_check
+pub use Rattle.expression_check.proofs.of_written_types

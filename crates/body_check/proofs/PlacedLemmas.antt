@@ -5,9 +5,9 @@ use Rattle.flume_grammar.specs.declared.tree.Expr.{Expr}
 use Rattle.flume_grammar.specs.declared.tree.Body.{Body, Body-F, out-Body, map-Body, fold_out-Body}
 use Rattle.flume_grammar.specs.declared.tree.Body.TheVariants as body
 use Rattle.dofn_eval.specs.declared.stmt.Stmt.{Stmt}
-use Rattle.written_types.specs.Answer.{Checked, ◌>>=◌}
-use Rattle.written_types.proofs.FailsLemmas.{bind-same}
-use Rattle.expression_types.specs.Sight.{Sight}
+use Rattle.expression_check.specs.of_written_types.Answer.{Checked, ◌>>=◌}
+use Rattle.expression_check.proofs.of_written_types.FailsLemmas.{bind-same}
+use Rattle.expression_check.specs.of_expression_types.Sight.{Sight}
 use Rattle.body_check.specs.inner.Slots.{Placed, block_slots, block, let_slots, emit_slots}
 use Rattle.body_check.specs.inner.Slots.{if_slots, for_slots, case_slots, layer_placed, placed_of}
 

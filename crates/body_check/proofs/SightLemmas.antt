@@ -8,9 +8,9 @@ use Rattle.flume_grammar.specs.declared.tree.Expr.{Expr}
 use Rattle.flume_grammar.specs.declared.tree.Body.{Body}
 use Rattle.dofn_eval.specs.declared.stmt.Stmt.{Stmt}
 use Rattle.dofn_eval.specs.declared.stmt.Stmt.TheVariants as stmt
-use Rattle.written_types.specs.Answer.{◌>>=◌, or_fault}
-use Rattle.expression_types.specs.Sight.{Newest, Sight}
-use Rattle.expression_types.specs.Fields.{side_types}
+use Rattle.expression_check.specs.of_written_types.Answer.{◌>>=◌, or_fault}
+use Rattle.expression_check.specs.of_expression_types.Sight.{Newest, Sight}
+use Rattle.expression_check.specs.of_expression_types.Fields.{side_types}
 use Rattle.expression_check.specs.Slots.{Typed, slots_of}
 use Rattle.body_check.specs.inner.Frames.{IsBehind}
 use Rattle.body_check.specs.inner.Slots.{Placed, InBlock, block_slots, both_slots, case_slots}

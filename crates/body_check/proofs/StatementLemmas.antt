@@ -17,13 +17,13 @@ use Rattle.dofn_eval.specs.Typed as typing
 use Rattle.dofn_eval.specs.Typed.{BlockTyped}
 use Rattle.dofn_eval.proofs.MeaningLemmas.{run_one-Let, run_one-Emit, run_one-If, run_one-For}
 use Rattle.dofn_eval.proofs.MeaningLemmas.{run_one-Case, then_same}
-use Rattle.written_types.specs.Answer.{Checked, ◌>>=◌, unless, or_fault}
-use Rattle.expression_types.specs.Sight.{Newest, Sight, with_name}
-use Rattle.expression_types.specs.Fields.{member_type, side_types}
+use Rattle.expression_check.specs.of_written_types.Answer.{Checked, ◌>>=◌, unless, or_fault}
+use Rattle.expression_check.specs.of_expression_types.Sight.{Newest, Sight, with_name}
+use Rattle.expression_check.specs.of_expression_types.Fields.{member_type, side_types}
 use Rattle.expression_check.specs.Given.{tagged, valued}
 use Rattle.expression_check.specs.Slots.{Typed}
 use Rattle.expression_check.specs.Right.{types, bound, IsRight}
-use Rattle.expression_types.proofs.TypeLemmas.{list_type_is, either_type_is}
+use Rattle.expression_check.proofs.of_expression_types.TypeLemmas.{list_type_is, either_type_is}
 use Rattle.body_check.specs.Outputs.{output_of}
 use Rattle.body_check.specs.Call.{state, Emits, for_each, by_side, emitted_by, after}
 use Rattle.body_check.specs.inner.Slots.{Placed, InBlock}

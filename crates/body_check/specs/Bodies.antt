@@ -3,11 +3,11 @@ use Rattle.std.specs.Prelude.{ℕ, List, [], ◌∷◌, Ok, length, slice_get}
 use Rattle.flume_types.specs.declared.types.Ty.{Ty, out-Ty}
 use Rattle.flume_grammar.specs.declared.tree.Body.{Body, Body-F, fold-Body}
 use Rattle.flume_grammar.specs.declared.fault.ScriptKind.TheVariants.{BadNumber, Mistyped}
-use Rattle.written_types.specs.Answer.{Checked, ◌>>=◌, unless, or_fault}
-use Rattle.written_types.specs.Named.{Named, fresh}
-use Rattle.expression_types.specs.Sight.{Sight, with_name}
-use Rattle.expression_types.specs.Fields.{member_type, side_types}
-use Rattle.expression_types.specs.Types.{is_same, is_bool}
+use Rattle.expression_check.specs.of_written_types.Answer.{Checked, ◌>>=◌, unless, or_fault}
+use Rattle.expression_check.specs.of_written_types.Named.{Named, fresh}
+use Rattle.expression_check.specs.of_expression_types.Sight.{Sight, with_name}
+use Rattle.expression_check.specs.of_expression_types.Fields.{member_type, side_types}
+use Rattle.expression_check.specs.of_expression_types.Types.{is_same, is_bool}
 use Rattle.expression_check.specs.Types.{type_of}
 use Rattle.body_check.specs.Outputs.{output_of}
 

@@ -8,8 +8,8 @@ use Rattle.flume_grammar.specs.declared.tree.Body.{Body, Body-F, fold-Body}
 use Rattle.dofn_eval.specs.Outcome.{Outcome, Gives, Stuck, then, with_part}
 use Rattle.dofn_eval.specs.Operations.{chosen}
 use Rattle.dofn_eval.specs.Run.{Emissions, emitted_to}
-use Rattle.written_types.specs.Named.{Named}
-use Rattle.expression_types.specs.Fields.{member_type, side_types}
+use Rattle.expression_check.specs.of_written_types.Named.{Named}
+use Rattle.expression_check.specs.of_expression_types.Fields.{member_type, side_types}
 use Rattle.expression_check.specs.Given.{Thing, Environment, valued, given_in}
 use Rattle.body_check.specs.Outputs.{output_of}
 

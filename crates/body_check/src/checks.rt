@@ -4,9 +4,9 @@ ghost use Rattle.flume_value.specs.declared.value.Value.{Value as Value_};
 ghost use Rattle.dofn_eval.specs.Run.{means as slots_mean};
 ghost use Rattle.dofn_eval.specs.Typed.{BlockTyped};
 ghost use Rattle.dofn_eval.specs.Function.{FunTyped};
-ghost use Rattle.type_table.specs.Table.{type_at, Extends};
-ghost use Rattle.written_types.specs.Answer.{Gives};
-ghost use Rattle.expression_types.specs.Held.{AreTypes};
+ghost use Rattle.expression_check.specs.of_type_table.Table.{type_at, Extends};
+ghost use Rattle.expression_check.specs.of_written_types.Answer.{Gives};
+ghost use Rattle.expression_check.specs.of_expression_types.Held.{AreTypes};
 ghost use Rattle.body_check.specs.Bodies.{at_start, body_of};
 ghost use Rattle.body_check.specs.Call.{means};
 ghost use Rattle.body_check.specs.inner.Slots as spec;
@@ -14,13 +14,13 @@ ghost use Rattle.body_check.specs.inner.Slots as spec;
 use crate::frame::Frame;
 use crate::statements::block;
 use dofn_eval::{Block, Fun};
-use expression_types::Scope;
+use expression_check::expression_types::Scope;
+use expression_check::type_table::TypeId;
+use expression_check::written_types::TypeNames;
 use flume_grammar::{Body, ScriptFault};
 use flume_value::Str;
 use std::alloc::Global;
 use std::mem::replace;
-use type_table::TypeId;
-use written_types::TypeNames;
 
 /// The function that takes and gives values of these types, one for each output, by this body,
 /// with slots in place of names; or its first fault, on the line of the innermost statement. The

@@ -4,20 +4,20 @@
 ghost use Rattle.std.specs.Prelude.{◌≡◌, ◌<◌, ◌≤◌, ◌-◌, None, length, map, drop, slice_get};
 ghost use Rattle.std.specs.Prelude.{is_some, IfOk, IfSome, OnOk};
 ghost use Rattle.std.specs.Option.{option_map};
-ghost use Rattle.type_table.specs.Table.{type_at, Extends};
-ghost use Rattle.written_types.specs.Answer.{Gives};
-ghost use Rattle.written_types.specs.Named.{find};
-ghost use Rattle.expression_types.specs.Sight.{with_name};
+ghost use Rattle.expression_check.specs.of_type_table.Table.{type_at, Extends};
+ghost use Rattle.expression_check.specs.of_written_types.Answer.{Gives};
+ghost use Rattle.expression_check.specs.of_written_types.Named.{find};
+ghost use Rattle.expression_check.specs.of_expression_types.Sight.{with_name};
 ghost use Rattle.expression_check.specs.Slots.{slots_of, typed};
-ghost use Rattle.expression_types.specs.Held.{AreTypes};
+ghost use Rattle.expression_check.specs.of_expression_types.Held.{AreTypes};
 
+use expression_check::expression_types::Scope;
+use expression_check::type_table::{TypeId, Types};
 use expression_check::{Typed, resolve};
-use expression_types::Scope;
 use flume_grammar::{Expr, ScriptFault};
 use flume_value::Str;
 use std::alloc::{AllocError, Global};
 use std::marker::Model;
-use type_table::{TypeId, Types};
 
 /// What is in sight of a statement, and the types of what the function emits to its outputs.
 #[derive(Drop)]
@@ -28,7 +28,7 @@ pub struct Frame<'a> {
 
 impl<'a> Model for Frame<'a> {
     ghost use Rattle.std.specs.Prelude.{◌≤◌, length};
-    ghost use Rattle.expression_types.specs.Held.{AreTypes};
+    ghost use Rattle.expression_check.specs.of_expression_types.Held.{AreTypes};
     ghost use Rattle.std.specs.Coded.{codes};
     ghost use Rattle.flume_types.specs.contracts.types.Ty as coded_types;
     ghost use Rattle.body_check.specs.inner.Frames.{InBody, in_body};

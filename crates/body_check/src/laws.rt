@@ -5,8 +5,8 @@ ghost use Rattle.flume_types.specs.declared.types.Ty.{Ty as Ty_};
 ghost use Rattle.flume_types.specs.Typing.{Has};
 ghost use Rattle.flume_grammar.specs.declared.tree.Body.{Body as Body_, out-Body};
 ghost use Rattle.dofn_eval.specs.Answer.{HasAnswer};
-ghost use Rattle.written_types.specs.Named.{Named};
-ghost use Rattle.expression_types.specs.Sight.{Sight};
+ghost use Rattle.expression_check.specs.of_written_types.Named.{Named};
+ghost use Rattle.expression_check.specs.of_expression_types.Sight.{Sight};
 ghost use Rattle.body_check.specs.Bodies.{layer_after, after, body_of};
 ghost use Rattle.body_check.specs.Call.{State, layer_emitted, emitted_in, means};
 

@@ -15,4 +15,6 @@ mod laws;
 mod statements;
 
 pub use checks::check_body;
+pub use expression_check;
+pub use expression_check::written_types;
 pub use laws::{call_law, statement_law};

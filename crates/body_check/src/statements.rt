@@ -2,12 +2,12 @@
 ghost use Rattle.std.specs.Prelude.{◌≡◌, ◌<◌, [], Some, None, length, slice_get, IfOk, OnOk};
 ghost use Rattle.flume_grammar.specs.declared.fault.ScriptKind.TheVariants.{BadNumber as Bad};
 ghost use Rattle.flume_types.specs.declared.types.Ty.{out-Ty};
-ghost use Rattle.type_table.specs.Table.{type_at, Extends};
-ghost use Rattle.written_types.specs.Answer.{Gives, or_fault};
-ghost use Rattle.written_types.specs.Named.{find, fresh};
-ghost use Rattle.expression_types.specs.Sight.{with_name};
+ghost use Rattle.expression_check.specs.of_type_table.Table.{type_at, Extends};
+ghost use Rattle.expression_check.specs.of_written_types.Answer.{Gives, or_fault};
+ghost use Rattle.expression_check.specs.of_written_types.Named.{find, fresh};
+ghost use Rattle.expression_check.specs.of_expression_types.Sight.{with_name};
 ghost use Rattle.expression_check.specs.Slots.{typed};
-ghost use Rattle.expression_types.specs.Types.{is_bool as is_bool_type};
+ghost use Rattle.expression_check.specs.of_expression_types.Types.{is_bool as is_bool_type};
 ghost use Rattle.body_check.specs.Outputs.{output_of as output_meant};
 ghost use Rattle.body_check.specs.inner.Frames.{IsBehind};
 ghost use Rattle.body_check.specs.inner.Slots as spec;
@@ -15,13 +15,13 @@ ghost use Rattle.body_check.specs.inner.Slots.{placed_of};
 
 use crate::frame::Frame;
 use dofn_eval::{Block, Expr as Slots, Stmt};
+use expression_check::expression_types::{Sides, is_bool, member_of, sides_of};
+use expression_check::type_table::TypeId;
+use expression_check::written_types::refused;
 use expression_check::{Typed, number_within};
-use expression_types::{Sides, is_bool, member_of, sides_of};
 use flume_grammar::{Body, Expr, ScriptFault, ScriptKind};
 use flume_value::{Pile, Str};
 use std::alloc::Global;
-use type_table::TypeId;
-use written_types::refused;
 
 /// The two blocks of a statement.
 #[derive(Clone, Copy)]

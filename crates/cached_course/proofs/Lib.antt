@@ -7,6 +7,7 @@ pub mod MissingLemmas
 pub mod RunLemmas
 pub mod StopLemmas
 pub mod SoundLemmas
+pub mod EntryLemmas
 pub mod MeantLemmas
 pub mod ReadLemmas
 pub mod AnswerLemmas

@@ -43,9 +43,9 @@ fn note_node(node: &Node, readings: &mut HashMap<u32, Reader>) -> Result<(), All
     match node {
         Node::Source(_) => Ok(()),
         Node::Flatten(inputs) => note_places(inputs.as_slice(), readings),
-        Node::Pdo(input, roots) => note(*input, reader_of(roots), readings),
-        Node::Gbk(input, _, _, _) => note(*input, Reader::Other, readings),
-        Node::Barrier(inputs, _, _, _) => note_places(inputs.as_slice(), readings),
+        Node::Pdo { input, roots } => note(*input, reader_of(roots), readings),
+        Node::Gbk { input, .. } => note(*input, Reader::Other, readings),
+        Node::Barrier { inputs, .. } => note_places(inputs.as_slice(), readings),
     }
 }
 

@@ -8,3 +8,4 @@ pub mod Popped
 pub mod Ends
 pub mod Refs
 pub mod Rows
+pub use Rattle.flume_value.proofs as of_flume_value

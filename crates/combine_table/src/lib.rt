@@ -20,6 +20,7 @@ mod partial;
 mod whole;
 
 pub use comb::Comb;
+pub use flume_value;
 pub use laws::{merge_law, parts_law, quotient_law, rows_law};
 pub use partial::{finish, lift, merge, zero};
 pub use whole::combine;

@@ -14,8 +14,8 @@ use Rattle.dofn_eval.specs.Answer.{AreOf, HasAnswer}
 use Rattle.dofn_eval.specs.Function.{Accepts, Function as Fun}
 use Rattle.dofn_eval.specs.Outcome.{Outcome, Gives, Traps, Stuck}
 use Rattle.dofn_eval.specs.Run.{means as slots_mean}
-use Rattle.script_laws.proofs.of_body_check.FunctionLemmas.{answered as has_answer}
-use Rattle.script_laws.specs.of_body_check.Call.{means}
+use Rattle.body_check.proofs.FunctionLemmas.{answered as has_answer}
+use Rattle.body_check.specs.Call.{means}
 use Rattle.flume_collection.specs.Calls.{Called, emissions, or_none, trap_of}
 use Rattle.flume_collection.specs.declared.trap.Trap.{Trap}
 use Rattle.script_program.specs.Program.{Does}

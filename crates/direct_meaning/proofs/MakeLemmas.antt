@@ -11,7 +11,7 @@ use Rattle.flume_types.specs.declared.types.Ty.{Ty}
 use Rattle.flume_types.specs.declared.types.Ty.TheVariants as ty
 use Rattle.flume_value.proofs.BagLemmas.{length-bag_of}
 use Rattle.flume_value.specs.declared.value.Value.{Value}
-use Rattle.written_types.specs.Named.{Named}
+use Rattle.script_laws.specs.of_written_types.Named.{Named}
 use Rattle.script_program.specs.declared.made.Made.{Made}
 use Rattle.script_program.specs.declared.made.Made.TheVariants as made
 use Rattle.script_program.specs.Kinds.{gives_object, values_read}

@@ -6,7 +6,7 @@ use Rattle.std.specs.Option.{option_and_then}
 use Rattle.flume_collection.proofs.Members.{at_head, at_tail}
 use Rattle.flume_collection.specs.Collection.{Collection}
 use Rattle.flume_value.specs.declared.value.Value.{Value}
-use Rattle.written_types.specs.Named.{Named}
+use Rattle.script_laws.specs.of_written_types.Named.{Named}
 use Rattle.script_program.specs.declared.made.Made.{Made}
 use Rattle.script_program.specs.declared.made.Output.{Output}
 use Rattle.script_program.specs.Script.{Node, Script}

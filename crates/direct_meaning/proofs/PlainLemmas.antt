@@ -4,7 +4,7 @@ use Rattle.std.proofs.Common.{◌≡◌, ℕ, suc, Bool, true, false, cond, List
 use Rattle.std.specs.List.{AllByRecursion as Each, filter, flat_map}
 use Rattle.flume_types.specs.declared.types.Ty.{Ty}
 use Rattle.flume_value.specs.declared.value.Value.{Value}
-use Rattle.written_types.specs.Named.{Named}
+use Rattle.script_laws.specs.of_written_types.Named.{Named}
 use Rattle.script_program.specs.declared.made.Made.{Made}
 use Rattle.script_program.specs.declared.made.Made.TheVariants as made
 use Rattle.script_program.specs.Needed.{is_needed, numbered}

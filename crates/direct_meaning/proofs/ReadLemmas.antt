@@ -12,7 +12,7 @@ use Rattle.combine_table.specs.declared.comb.Comb.{Comb}
 use Rattle.keyed_steps.proofs.TypedFacts.{all_pairs, all_suited}
 use Rattle.keyed_steps.specs.Keyed.{IsGroup}
 use Rattle.flume_collection.specs.Collection.{Collection}
-use Rattle.written_types.specs.Named.{Named}
+use Rattle.script_laws.specs.of_written_types.Named.{Named}
 use Rattle.script_laws.specs.of_operation_check.Operations.{combined_type}
 use Rattle.script_program.specs.Script.{Function, Script}
 use Rattle.script_laws.specs.WellFormed.{IsWellTyped, function_at}

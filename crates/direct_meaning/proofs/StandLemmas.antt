@@ -11,7 +11,7 @@ use Rattle.flume_types.specs.declared.types.Ty.{Ty}
 use Rattle.flume_collection.specs.Collection.{Collection}
 use Rattle.flume_collection.specs.Traps.{trap_set}
 use Rattle.flume_collection.specs.declared.trap.Trap.{Trap}
-use Rattle.written_types.specs.Named.{Named}
+use Rattle.script_laws.specs.of_written_types.Named.{Named}
 use Rattle.script_program.specs.declared.made.Made.{Made}
 use Rattle.script_program.specs.Program.{node_in}
 use Rattle.script_program.specs.Script.{Node, Script}

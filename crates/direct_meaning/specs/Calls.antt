@@ -4,7 +4,7 @@ use Rattle.std.specs.List.{flat_map}
 use Rattle.flume_value.specs.Bag.{bag_of}
 use Rattle.flume_value.specs.declared.value.Value.{Value}
 use Rattle.dofn_eval.specs.Outcome.{Outcome, Gives, Traps, Stuck}
-use Rattle.script_laws.specs.of_body_check.Call.{means}
+use Rattle.body_check.specs.Call.{means}
 use Rattle.script_program.specs.Script.{Function}
 use Rattle.flume_collection.specs.Calls.{Called, emissions, trap_of}
 use Rattle.flume_collection.specs.Collection.{Collection}

@@ -14,7 +14,7 @@ use Rattle.flume_collection.specs.Calls.{trap_named}
 use Rattle.flume_collection.specs.Collection.{Collection, by_key, together, unless_trapped}
 use Rattle.flume_collection.specs.Traps.{trap_set}
 use Rattle.flume_collection.specs.declared.trap.Trap.{Trap}
-use Rattle.written_types.specs.Named.{Named}
+use Rattle.script_laws.specs.of_written_types.Named.{Named}
 use Rattle.script_program.specs.declared.made.Made.{Made}
 use Rattle.script_program.specs.declared.made.Made.TheVariants as made
 use Rattle.script_program.specs.Script.{Function, Node, Script}

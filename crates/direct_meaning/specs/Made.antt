@@ -8,7 +8,7 @@ use Rattle.flume_types.specs.Typing.{AllHave}
 use Rattle.flume_types.specs.declared.types.Ty.{Ty}
 use Rattle.flume_collection.specs.Collection.{Collection}
 use Rattle.flume_collection.specs.Traps.{trap_set}
-use Rattle.written_types.specs.Named.{Named}
+use Rattle.script_laws.specs.of_written_types.Named.{Named}
 use Rattle.script_program.specs.Script.{Node, Script}
 use Rattle.script_program.specs.Kinds.{gives_object}
 use Rattle.script_program.specs.Needed.{is_needed}

@@ -15,14 +15,14 @@ use Rattle.flume_types.specs.declared.types.Ty.TheVariants as type
 use Rattle.flume_types.specs.Tables.{table_of}
 use Rattle.flume_types.specs.Typing.{Has, HaveTypes, AllHave}
 use Rattle.flume_types.proofs.PartLemmas.{has_int, has_list, has_record}
-use Rattle.bag_groups.specs.Pairs.{pair, value_of}
-use Rattle.bag_groups.specs.Combining.{combined_pair, group_of}
-use Rattle.bag_groups.proofs.CombiningLemmas.{Group, group_by}
-use Rattle.bag_groups.proofs.PairLemmas.{Parts, parts_of-pair}
+use Rattle.flume_collection.specs.of_bag_groups.Pairs.{pair, value_of}
+use Rattle.flume_collection.specs.of_bag_groups.Combining.{combined_pair, group_of}
+use Rattle.flume_collection.proofs.of_bag_groups.CombiningLemmas.{Group, group_by}
+use Rattle.flume_collection.proofs.of_bag_groups.PairLemmas.{Parts, parts_of-pair}
 use Rattle.combine_table.specs.declared.comb.Comb.{Comb}
 use Rattle.combine_table.specs.Combinations.{combined}
-use Rattle.keyed_steps.specs.Types.{TakesType, gives_type}
-use Rattle.keyed_steps.proofs.TypedFacts.{combined_pairs_have, table_pair, Has-pair}
+use Rattle.bag_steps.specs.of_keyed_steps.Types.{TakesType, gives_type}
+use Rattle.bag_steps.proofs.of_keyed_steps.TypedFacts.{combined_pairs_have, table_pair, Has-pair}
 use Rattle.flume_collection.specs.declared.trap.Trap.{Trap}
 use Rattle.flume_collection.specs.Collection.{Collection, unless_trapped}
 use Rattle.flume_collection.specs.Calls.{Called, emissions, or_none}

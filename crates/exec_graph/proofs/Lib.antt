@@ -18,3 +18,6 @@ pub mod Wholes
 pub mod Rooted
 pub mod Checking
 pub mod OutCounts
+pub use Rattle.flume_collection.proofs.of_bag_groups
+pub use Rattle.flume_collection.proofs as of_flume_collection
+pub use Rattle.bag_steps.proofs.of_keyed_steps

@@ -12,12 +12,12 @@ use Rattle.flume_types.specs.declared.types.Ty.{Ty}
 use Rattle.flume_types.specs.declared.types.Ty.TheVariants as type
 use Rattle.flume_types.specs.Tables.{table_of}
 use Rattle.flume_types.specs.Typing.{Has, AllHave}
-use Rattle.bag_groups.specs.Combining.{combined_pair, group_of}
-use Rattle.bag_groups.specs.Groups.{grouped}
+use Rattle.flume_collection.specs.of_bag_groups.Combining.{combined_pair, group_of}
+use Rattle.flume_collection.specs.of_bag_groups.Groups.{grouped}
 use Rattle.combine_table.specs.declared.comb.Comb.{Comb}
 use Rattle.combine_table.specs.Combinations.{combined}
-use Rattle.keyed_steps.specs.Types.{gives_type}
-use Rattle.keyed_steps.proofs.TypedFacts.{combined_pairs_have, groups_have}
+use Rattle.bag_steps.specs.of_keyed_steps.Types.{gives_type}
+use Rattle.bag_steps.proofs.of_keyed_steps.TypedFacts.{combined_pairs_have, groups_have}
 use Rattle.flume_collection.specs.declared.trap.Trap.{Trap}
 use Rattle.flume_collection.specs.Collection.{Collection, unless_trapped}
 use Rattle.flume_collection.specs.Calls.{Called, emissions}

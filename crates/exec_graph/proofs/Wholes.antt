@@ -9,7 +9,7 @@ use Rattle.flume_value.specs.declared.fault.Kind.{Kind}
 use Rattle.flume_value.specs.Bag.{bag_of}
 use Rattle.flume_value.proofs.BoolLemmas.{both_true}
 use Rattle.flume_value.proofs.EachLemmas.{Each-both}
-use Rattle.bag_groups.specs.Pairs.{value_of}
+use Rattle.flume_collection.specs.of_bag_groups.Pairs.{value_of}
 use Rattle.combine_table.specs.declared.comb.Comb.{Comb}
 use Rattle.combine_table.specs.Combinations.{combined}
 use Rattle.flume_collection.specs.declared.trap.Trap.{Trap}

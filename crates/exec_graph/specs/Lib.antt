@@ -11,3 +11,8 @@ pub mod Typing
 pub mod Wellformed
 pub mod ObjectFree
 pub mod inner
+pub use Rattle.flume_collection.specs.of_bag_groups
+pub use Rattle.combine_table.specs as of_combine_table
+pub use Rattle.flume_collection.specs as of_flume_collection
+pub use Rattle.flume_types.specs as of_flume_types
+pub use Rattle.bag_steps.specs.of_keyed_steps

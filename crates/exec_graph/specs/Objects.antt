@@ -12,7 +12,7 @@ use Rattle.flume_value.specs.declared.value.Value.{Value}
 use Rattle.flume_value.specs.declared.value.Value.TheVariants as value
 use Rattle.flume_value.specs.declared.fault.Kind.{Kind}
 use Rattle.flume_value.specs.declared.fault.Kind.TheVariants as kind
-use Rattle.bag_groups.specs.Pairs.{value_of}
+use Rattle.flume_collection.specs.of_bag_groups.Pairs.{value_of}
 use Rattle.combine_table.specs.Combinations.{combined}
 use Rattle.combine_table.specs.declared.comb.Comb.{Comb}
 use Rattle.flume_collection.specs.declared.trap.Trap.{Trap}

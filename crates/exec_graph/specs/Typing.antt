@@ -9,7 +9,7 @@ use Rattle.flume_types.specs.declared.types.Field.{Field}
 use Rattle.flume_types.specs.Tables.{table_of}
 use Rattle.flume_types.specs.Typing.{AllHave, Has, types_of}
 use Rattle.bag_steps.specs.Sides.{sides_of}
-use Rattle.keyed_steps.specs.Types.{TakesType, gives_type}
+use Rattle.bag_steps.specs.of_keyed_steps.Types.{TakesType, gives_type}
 use Rattle.combine_table.specs.declared.comb.Comb.{Comb}
 use Rattle.flume_collection.specs.Calls.{Called}
 use Rattle.exec_graph.specs.declared.step.Does.{Does}

@@ -55,9 +55,9 @@ fn node_edges(alloc: Global, numbers: &[u32], node: &Node) -> Result<Pile<usize>
     match node {
         Node::Source(_) => Ok(Pile::new(alloc)),
         Node::Flatten(inputs) => edges_in(alloc, numbers, inputs.as_slice()),
-        Node::Barrier(inputs, _, _, _) => edges_in(alloc, numbers, inputs.as_slice()),
-        Node::Pdo(c, _) => one_edge(alloc, numbers, *c),
-        Node::Gbk(c, _, _, _) => one_edge(alloc, numbers, *c),
+        Node::Barrier { inputs, .. } => edges_in(alloc, numbers, inputs.as_slice()),
+        Node::Pdo { input: c, .. } => one_edge(alloc, numbers, *c),
+        Node::Gbk { input: c, .. } => one_edge(alloc, numbers, *c),
     }
 }
 

@@ -36,15 +36,14 @@ fn is_forest_ok(
     ensures { IfOk result (λ b. b ≡ forest_ok graph.now entry.now.number entry.now.node) }
 {
     match &entry.node {
-        Node::Pdo(_, roots) => {
+        Node::Pdo { roots, .. } => {
             let spots = spots_of(alloc, roots)?;
             Ok(
                 is_in_order(spots.as_slice())
                     && are_all_read(graph, read, entry.number, spots.as_slice()),
             )
         }
-        Node::Source(_) | Node::Flatten(_) | Node::Gbk(_, _, _, _) | Node::Barrier(_, _, _, _) =>
-            Ok(true),
+        Node::Source(_) | Node::Flatten(_) | Node::Gbk { .. } | Node::Barrier { .. } => Ok(true),
     }
 }
 

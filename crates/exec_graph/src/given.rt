@@ -26,7 +26,7 @@ fn add_given(alloc: Global, entry: &Entry, places: &mut HashSet<u64>) -> Result<
     ensures { OnOk result (HasAlso places.old places.new (λ d. gives_place d entry.now)) }
 {
     match &entry.node {
-        Node::Pdo(_, roots) => {
+        Node::Pdo { roots, .. } => {
             let spots = spots_of(alloc, roots)?;
             add_spots(entry.number, spots.as_slice(), places)
         }
@@ -82,9 +82,9 @@ fn are_reads_given(nodes: &[Entry], given: &HashSet<u64>, node: &Node) -> bool
     match node {
         Node::Source(_) => true,
         Node::Flatten(inputs) => are_given(nodes, given, inputs.as_slice()),
-        Node::Barrier(inputs, _, _, _) => are_given(nodes, given, inputs.as_slice()),
-        Node::Pdo(c, _) => is_place_given(nodes, given, *c),
-        Node::Gbk(c, _, _, _) => is_place_given(nodes, given, *c),
+        Node::Barrier { inputs, .. } => are_given(nodes, given, inputs.as_slice()),
+        Node::Pdo { input: c, .. } => is_place_given(nodes, given, *c),
+        Node::Gbk { input: c, .. } => is_place_given(nodes, given, *c),
     }
 }
 

@@ -41,14 +41,27 @@ pub enum Node {
     /// The collections together.
     Flatten(Pile<Place>),
     /// The steps on each element.
-    Pdo(Place, Roots),
-    /// The groups of the pairs: the script node, whether they are its own bag, and the combiner
-    /// that it is lifted with.
-    Gbk(Place, u32, bool, Option<Comb>),
-    /// What the act makes of the collections: the script node, and whether it is its own bag. A
-    /// barrier takes collections whole: all that it reads is finished before it begins. No rewrite
-    /// changes what it does, and nothing is fused with it.
-    Barrier(Pile<Place>, u32, bool, Act),
+    Pdo {
+        input: Place,
+        roots: Roots,
+    },
+    /// The groups of the pairs, by key: of the script node `origin`, whose own bag they are or not,
+    /// and lifted with a combiner or not.
+    Gbk {
+        input: Place,
+        origin: u32,
+        is_own: bool,
+        lifted: Option<Comb>,
+    },
+    /// What the act makes of the collections: of the script node `origin`, whose own bag it is or
+    /// not. A barrier takes collections whole: all that it reads is finished before it begins. No
+    /// rewrite changes what it does, and nothing is fused with it.
+    Barrier {
+        inputs: Pile<Place>,
+        origin: u32,
+        is_own: bool,
+        act: Act,
+    },
 }
 
 /// An operation under its number.

@@ -2,7 +2,7 @@
 // types.
 ghost use Rattle.std.specs.Prelude.{◌≡◌, ℕ, List, [], ◌∷◌, map, true};
 ghost use Rattle.std.specs.List.{flat_map};
-ghost use Rattle.bag_groups.specs.Combining.{combined_each, traps_of_each};
+ghost use Rattle.flume_collection.specs.of_bag_groups.Combining.{combined_each, traps_of_each};
 ghost use Rattle.combine_table.specs.Combinations.{combined};
 ghost use Rattle.combine_table.specs.declared.comb.Comb.{Comb};
 ghost use Rattle.flume_value.specs.Bag.{bag_of};

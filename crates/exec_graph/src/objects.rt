@@ -40,8 +40,8 @@ fn is_object(node: &Node) -> bool
 {
     match node {
         Node::Source(input) => input.is_object,
-        Node::Barrier(_, _, _, act) => gives_object(*act),
-        Node::Flatten(_) | Node::Pdo(_, _) | Node::Gbk(_, _, _, _) => false,
+        Node::Barrier { act, .. } => gives_object(*act),
+        Node::Flatten(_) | Node::Pdo { .. } | Node::Gbk { .. } => false,
     }
 }
 
@@ -59,8 +59,8 @@ fn has_objects(nodes: &[Entry], objects: &HashSet<u32>, node: &Node) -> bool
     ensures { result ≡ objects_in nodes.now node.now }
 {
     match node {
-        Node::Barrier(inputs, _, _, act) => takes_such(nodes, objects, *act, inputs.as_slice()),
-        Node::Source(_) | Node::Flatten(_) | Node::Pdo(_, _) | Node::Gbk(_, _, _, _) => true,
+        Node::Barrier { inputs, act, .. } => takes_such(nodes, objects, *act, inputs.as_slice()),
+        Node::Source(_) | Node::Flatten(_) | Node::Pdo { .. } | Node::Gbk { .. } => true,
     }
 }
 

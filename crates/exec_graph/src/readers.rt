@@ -38,9 +38,9 @@ fn add_collected(node: &Node, places: &mut HashSet<u64>) -> Result<(), AllocErro
 {
     match node {
         Node::Flatten(inputs) => add_places(inputs.as_slice(), places),
-        Node::Barrier(inputs, _, _, _) => add_places(inputs.as_slice(), places),
-        Node::Gbk(c, _, _, _) => add_place(*c, places),
-        Node::Source(_) | Node::Pdo(_, _) => Ok(()),
+        Node::Barrier { inputs, .. } => add_places(inputs.as_slice(), places),
+        Node::Gbk { input: c, .. } => add_place(*c, places),
+        Node::Source(_) | Node::Pdo { .. } => Ok(()),
     }
 }
 
@@ -49,9 +49,8 @@ fn add_called(node: &Node, places: &mut HashSet<u64>) -> Result<(), AllocError>
     ensures { OnOk result (HasAlso places.old places.new (λ d. calls_on d node.now)) }
 {
     match node {
-        Node::Pdo(c, _) => add_place(*c, places),
-        Node::Source(_) | Node::Flatten(_) | Node::Gbk(_, _, _, _) | Node::Barrier(_, _, _, _) =>
-            Ok(()),
+        Node::Pdo { input: c, .. } => add_place(*c, places),
+        Node::Source(_) | Node::Flatten(_) | Node::Gbk { .. } | Node::Barrier { .. } => Ok(()),
     }
 }
 

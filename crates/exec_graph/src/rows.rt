@@ -3,7 +3,7 @@ ghost use Rattle.std.specs.Prelude.{◌≡◌, ℕ, pos, [], ◌∷◌, Ok};
 ghost use Rattle.flume_value.specs.declared.value.Value.{Value};
 ghost use Rattle.flume_value.specs.declared.value.Value.TheVariants as value;
 ghost use Rattle.flume_value.specs.declared.fault.Kind.TheVariants as kind;
-ghost use Rattle.bag_groups.specs.Pairs.{pair};
+ghost use Rattle.flume_collection.specs.of_bag_groups.Pairs.{pair};
 ghost use Rattle.combine_table.specs.declared.comb.Comb.TheVariants as by;
 ghost use Rattle.exec_graph.specs.World.{World};
 ghost use Rattle.exec_graph.specs.Objects.{operated, side_input, singleton_value, trap_object, untrapped, value_object};

@@ -36,12 +36,11 @@ pub fn size_of(alloc: Global, node: &Node) -> Result<usize, AllocError>
     ensures { IfOk result (λ n. n ≡ size node.now) }
 {
     match node {
-        Node::Pdo(_, roots) => {
+        Node::Pdo { roots, .. } => {
             let spots = spots_of(alloc, roots)?;
             Ok(count_steps(spots.as_slice()))
         }
-        Node::Source(_) | Node::Flatten(_) | Node::Gbk(_, _, _, _) | Node::Barrier(_, _, _, _) =>
-            Ok(1),
+        Node::Source(_) | Node::Flatten(_) | Node::Gbk { .. } | Node::Barrier { .. } => Ok(1),
     }
 }
 
@@ -100,7 +99,6 @@ fn is_flatten_ok(node: &Node) -> bool
             let count = inputs.as_slice().len();
             0 < count && count <= MOST_NODES
         }
-        Node::Source(_) | Node::Pdo(_, _) | Node::Gbk(_, _, _, _) | Node::Barrier(_, _, _, _) =>
-            true,
+        Node::Source(_) | Node::Pdo { .. } | Node::Gbk { .. } | Node::Barrier { .. } => true,
     }
 }

@@ -2,9 +2,9 @@
 use Rattle.std.proofs.Common.{◌≡◌, ℕ, ◌<◌, Bool, true, false, cond, eqb, List, [], ◌∷◌, ◌++◌, map, Option, Some, None, suc, refl, ap, ◌∙◌, arith}
 use Rattle.std.proofs.lemmas.Bool.{eqb-true}
 use Rattle.std.specs.Prelude.{option_map}
-use Rattle.flume_value.proofs.EachLemmas.{Each-left, Each-right}
+use Rattle.combine_table.proofs.of_flume_value.EachLemmas.{Each-left, Each-right}
 use Rattle.std.specs.List.{AllByRecursion as Each, flat_map, slice_get}
-use Rattle.flume_collection.specs.Collection.{Collection, together}
+use Rattle.exec_graph.specs.of_flume_collection.Collection.{Collection, together}
 use Rattle.exec_graph.specs.World.{World}
 use Rattle.exec_graph.specs.Objects.{act_result}
 use Rattle.exec_graph.specs.Meaning.{or_nothing}

@@ -2,11 +2,11 @@
 use Rattle.std.specs.Prelude.{◌≡◌, ◌<◌, ℕ, Bool, cond, ◌==◌, ◌&&◌, List, [], ◌∷◌, ◌++◌, map, length, Option, Some, None}
 use Rattle.std.proofs.Common.{suc}
 use Rattle.std.specs.List.{flat_map, slice_get}
-use Rattle.flume_value.specs.declared.value.Value.{Value}
-use Rattle.flume_value.specs.Bag.{bag_of}
-use Rattle.flume_collection.specs.declared.trap.Trap.{Trap}
-use Rattle.flume_collection.specs.Traps.{trap_set}
-use Rattle.flume_collection.specs.Collection.{Collection, together}
+use Rattle.combine_table.specs.of_flume_value.declared.value.Value.{Value}
+use Rattle.combine_table.specs.of_flume_value.Bag.{bag_of}
+use Rattle.exec_graph.specs.of_flume_collection.declared.trap.Trap.{Trap}
+use Rattle.exec_graph.specs.of_flume_collection.Traps.{trap_set}
+use Rattle.exec_graph.specs.of_flume_collection.Collection.{Collection, together}
 use Rattle.exec_graph.specs.World.{World}
 use Rattle.exec_graph.specs.Objects.{act_result}
 use Rattle.exec_graph.specs.Forests.{Forest, Label}

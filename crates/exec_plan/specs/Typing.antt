@@ -3,7 +3,7 @@
 use Rattle.std.specs.Prelude.{◌≡◌, ℕ, ◌+◌, List, [], ◌∷◌, map, Option, Some, None}
 use Rattle.std.proofs.Common.{suc}
 use Rattle.std.specs.List.{AllByRecursion}
-use Rattle.flume_types.specs.declared.types.Ty.{Ty}
+use Rattle.exec_graph.specs.of_flume_types.declared.types.Ty.{Ty}
 use Rattle.exec_graph.specs.declared.graph.Act.TheVariants.{SideInput}
 use Rattle.exec_graph.specs.declared.step.Does.TheVariants as does
 use Rattle.exec_graph.specs.Forests.{Label, Forest, Bare, Grow}

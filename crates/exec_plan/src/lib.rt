@@ -26,5 +26,7 @@ mod plan;
 mod stages;
 
 pub use checks::plan_ok;
+pub use combine_table::flume_value;
+pub use exec_graph;
 pub use laws::meaning_law;
 pub use plan::{Grouping, InChannel, Mscr, OutChannel, Plan, PlanPlace, Stage, Take};

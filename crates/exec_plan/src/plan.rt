@@ -1,7 +1,7 @@
 // Plans as data: stages with their channels, and the places of collections.
 use combine_table::Comb;
+use combine_table::flume_value::Pile;
 use exec_graph::{Act, Roots};
-use flume_value::Pile;
 
 /// A collection of a plan.
 #[derive(Clone, Copy, Debug, PartialEq, Eq, Drop)]

@@ -1,13 +1,13 @@
 -- The types of expressions and what they give, one level at a time.
 use Rattle.std.proofs.Common.{◌≡◌, ℕ, Ok, List, [], ◌∷◌, ◌++◌, map, refl, ap, ◌∙◌}
 use Rattle.flume_value.specs.declared.value.Value.{Value}
-use Rattle.flume_types.specs.declared.types.Ty.{Ty}
+use Rattle.type_table.specs.of_flume_types.declared.types.Ty.{Ty}
 use Rattle.flume_grammar.specs.declared.tree.Expr.{Expr, Expr-F, out-Expr, map-Expr, fold_out-Expr}
 use Rattle.dofn_eval.specs.Outcome.{Outcome, then}
 use Rattle.dofn_eval.proofs.MeaningLemmas.{then_same}
-use Rattle.written_types.specs.Answer.{Checked, ◌>>=◌}
-use Rattle.written_types.specs.Named.{Named}
-use Rattle.written_types.proofs.FailsLemmas.{bind-same}
+use Rattle.expression_types.specs.of_written_types.Answer.{Checked, ◌>>=◌}
+use Rattle.expression_types.specs.of_written_types.Named.{Named}
+use Rattle.expression_types.proofs.of_written_types.FailsLemmas.{bind-same}
 use Rattle.expression_types.specs.Sight.{Sight}
 use Rattle.expression_types.specs.Types.{record_type, list_type}
 use Rattle.expression_check.specs.Types.{all_types, layer_type, type_of}

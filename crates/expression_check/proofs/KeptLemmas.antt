@@ -2,12 +2,12 @@
 use Rattle.std.proofs.Common.{◌≡◌, ℕ, ◌+◌, ◌<◌, List, [], ◌∷◌, ◌++◌, length, map, drop, get_or, Ok, arith, sym, ap, ◌∙◌}
 use Rattle.std.proofs.lemmas.List.{map_push, drop_more}
 use Rattle.std.proofs.lemmas.List.Elements.{All-same, All-push}
-use Rattle.flume_types.specs.declared.types.Ty.{Ty}
+use Rattle.type_table.specs.of_flume_types.declared.types.Ty.{Ty}
 use Rattle.flume_grammar.specs.declared.tree.Expr.{Expr}
 use Rattle.dofn_eval.specs.declared.expr.Expr.{Expr as Slots}
 use Rattle.type_table.specs.Table.{type_at, Extends}
-use Rattle.written_types.specs.Answer.{◌>>=◌}
-use Rattle.written_types.proofs.NamedLemmas.{same-map}
+use Rattle.expression_types.specs.of_written_types.Answer.{◌>>=◌}
+use Rattle.expression_types.proofs.of_written_types.NamedLemmas.{same-map}
 use Rattle.expression_check.specs.declared.typed.Operand.{Operand}
 use Rattle.expression_types.specs.Held.{AreTypes}
 use Rattle.expression_types.specs.Sight.{Sight}

@@ -3,10 +3,10 @@ use Rattle.std.proofs.Common.{◌≡◌, ℕ, suc, ◌+◌, ℤ, Bool, true, fal
 use Rattle.std.specs.Str.{bytes_eq}
 use Rattle.flume_value.specs.declared.value.Value.{Value}
 use Rattle.flume_value.specs.declared.value.Value.TheVariants as value
-use Rattle.flume_types.specs.declared.types.Ty.{Ty}
-use Rattle.flume_types.specs.declared.types.Ty.TheVariants as ty
-use Rattle.flume_types.specs.declared.types.Field.{Field}
-use Rattle.flume_types.proofs.PartLemmas.{has_int, has_bool, has_text}
+use Rattle.type_table.specs.of_flume_types.declared.types.Ty.{Ty}
+use Rattle.type_table.specs.of_flume_types.declared.types.Ty.TheVariants as ty
+use Rattle.type_table.specs.of_flume_types.declared.types.Field.{Field}
+use Rattle.type_table.proofs.of_flume_types.PartLemmas.{has_int, has_bool, has_text}
 use Rattle.flume_grammar.specs.declared.fault.ScriptKind.TheVariants.{Unknown, BadNumber, Mistyped}
 use Rattle.dofn_eval.specs.declared.expr.Expr.{Expr as Slots}
 use Rattle.dofn_eval.specs.declared.expr.Expr.TheVariants as expr
@@ -14,9 +14,9 @@ use Rattle.dofn_eval.specs.Outcome.{Outcome, Gives, then, with_part}
 use Rattle.dofn_eval.specs.Operations.{field_in}
 use Rattle.dofn_eval.specs.Typed as typing
 use Rattle.dofn_eval.proofs.MeaningLemmas.{value_of-Literal, value_of-Variable, value_of-Field, value_of-List}
-use Rattle.written_types.specs.Answer.{Checked, ◌>>=◌, or_fault}
-use Rattle.written_types.specs.Named.{find}
-use Rattle.written_types.specs.Written.{shallow}
+use Rattle.expression_types.specs.of_written_types.Answer.{Checked, ◌>>=◌, or_fault}
+use Rattle.expression_types.specs.of_written_types.Named.{find}
+use Rattle.expression_types.specs.of_written_types.Written.{shallow}
 use Rattle.expression_types.specs.Sight.{Newest}
 use Rattle.expression_types.specs.Fields.{record_fields, field_at}
 use Rattle.expression_types.specs.Types.{place_under}

@@ -2,7 +2,7 @@
 use Rattle.std.proofs.Common.{◌≡◌, ℕ, true, false, Some, Ok, Err, List, sym, ap, ◌∙◌, subst}
 use Rattle.flume_value.specs.declared.value.Value.{Value}
 use Rattle.flume_value.specs.declared.value.Value.TheVariants as value
-use Rattle.flume_types.specs.declared.types.Ty.{Ty}
+use Rattle.type_table.specs.of_flume_types.declared.types.Ty.{Ty}
 use Rattle.flume_grammar.specs.declared.fault.ScriptKind.TheVariants.{Mistyped}
 use Rattle.flume_grammar.specs.declared.tree.Unary.{Unary}
 use Rattle.flume_grammar.specs.declared.tree.Side.{Side}
@@ -13,8 +13,8 @@ use Rattle.dofn_eval.specs.Operations.{of_one, of_two, member_in, chosen}
 use Rattle.dofn_eval.specs.Meaning.{value_of}
 use Rattle.dofn_eval.specs.Typed as typing
 use Rattle.dofn_eval.proofs.MeaningLemmas.{value_of-Unary, value_of-Binary, value_of-And, value_of-Or, value_of-Index, value_of-Pick}
-use Rattle.written_types.specs.Answer.{Checked, ◌>>=◌, or_fault}
-use Rattle.written_types.specs.Written.{shallow}
+use Rattle.expression_types.specs.of_written_types.Answer.{Checked, ◌>>=◌, or_fault}
+use Rattle.expression_types.specs.of_written_types.Written.{shallow}
 use Rattle.expression_types.specs.declared.operator.Operator.{Operator}
 use Rattle.expression_types.specs.declared.operator.Operator.TheVariants.{And, Or, Two}
 use Rattle.expression_types.specs.Sight.{Newest}

@@ -2,13 +2,13 @@
 use Rattle.std.proofs.Common.{◌≡◌, Bool, true, false, cond, Option, Some, None, Ok, Err, List, refl, sym, ap, ◌∙◌}
 use Rattle.flume_value.specs.declared.value.Value.{Value}
 use Rattle.flume_value.specs.Parts.{bool_of}
-use Rattle.flume_types.specs.declared.types.Ty.{Ty}
+use Rattle.type_table.specs.of_flume_types.declared.types.Ty.{Ty}
 use Rattle.dofn_eval.specs.declared.expr.Expr.{Expr as Slots}
 use Rattle.dofn_eval.specs.Outcome.{Outcome, Gives, Traps, Stuck, then, then_both, with_part}
 use Rattle.dofn_eval.specs.Operations.{chosen}
 use Rattle.dofn_eval.specs.Meaning.{value_of}
 use Rattle.dofn_eval.specs.Typed as typing
-use Rattle.written_types.specs.Answer.{Checked, ◌>>=◌}
+use Rattle.expression_types.specs.of_written_types.Answer.{Checked, ◌>>=◌}
 use Rattle.expression_types.specs.Sight.{Newest}
 use Rattle.expression_check.specs.Given.{Thing, Environment, tagged, valued}
 use Rattle.expression_check.specs.Right.{types, bound, IsRight}

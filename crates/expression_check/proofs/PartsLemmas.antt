@@ -6,10 +6,10 @@ use Rattle.std.proofs.lemmas.Bool.{eqb-true}
 use Rattle.flume_value.specs.declared.value.Value.{Value}
 use Rattle.flume_value.specs.declared.value.Value.TheVariants as value
 use Rattle.flume_value.proofs.BoolLemmas.{both_true}
-use Rattle.flume_types.specs.declared.types.Ty.{Ty}
-use Rattle.flume_types.specs.declared.types.Ty.TheVariants as ty
-use Rattle.flume_types.specs.Typing.{types_of}
-use Rattle.flume_types.proofs.SameLemmas.{tells_apart, ty_eq-Decides}
+use Rattle.type_table.specs.of_flume_types.declared.types.Ty.{Ty}
+use Rattle.type_table.specs.of_flume_types.declared.types.Ty.TheVariants as ty
+use Rattle.type_table.specs.of_flume_types.Typing.{types_of}
+use Rattle.type_table.proofs.of_flume_types.SameLemmas.{tells_apart, ty_eq-Decides}
 use Rattle.flume_grammar.specs.declared.fault.ScriptKind.TheVariants.{Twice, Mistyped}
 use Rattle.dofn_eval.specs.declared.expr.Expr.{Expr as Slots}
 use Rattle.dofn_eval.specs.declared.expr.Expr.TheVariants as expr
@@ -17,8 +17,8 @@ use Rattle.dofn_eval.specs.Outcome.{Outcome, Gives, Traps, Stuck, then}
 use Rattle.dofn_eval.specs.Meaning.{values_of, value_of}
 use Rattle.dofn_eval.specs.Typed as typing
 use Rattle.dofn_eval.proofs.MeaningLemmas.{value_of-Record, value_of-List}
-use Rattle.written_types.specs.Answer.{Checked, ◌>>=◌, unless}
-use Rattle.written_types.specs.Written.{shallow}
+use Rattle.expression_types.specs.of_written_types.Answer.{Checked, ◌>>=◌, unless}
+use Rattle.expression_types.specs.of_written_types.Written.{shallow}
 use Rattle.expression_types.specs.Sight.{Newest}
 use Rattle.expression_types.specs.Fields.{are_different, fields_of}
 use Rattle.expression_types.specs.Types.{is_same, record_type, list_type}

@@ -1,14 +1,14 @@
 -- The slots of an expression have its type, and give what it gives.
 use Rattle.std.proofs.Common.{ℕ, Ok, Err, List, [], ◌∷◌, map, refl, sym, ◌∙◌, subst}
-use Rattle.flume_types.specs.declared.types.Ty.{Ty}
+use Rattle.type_table.specs.of_flume_types.declared.types.Ty.{Ty}
 use Rattle.flume_grammar.specs.declared.tree.Side.{Side}
 use Rattle.flume_grammar.specs.declared.tree.Expr.{Expr, Expr-F, out-Expr, roll-Expr, out-roll-Expr, map-Expr, ind-Expr}
 use Rattle.int_text.specs.Ints.{int_of_text}
 use Rattle.dofn_eval.specs.declared.expr.Expr.{Expr as Slots}
 use Rattle.dofn_eval.specs.Outcome.{then}
 use Rattle.dofn_eval.specs.Operations.{of_one}
-use Rattle.written_types.specs.Answer.{Checked, ◌>>=◌}
-use Rattle.written_types.specs.Written.{shallow, whole_type}
+use Rattle.expression_types.specs.of_written_types.Answer.{Checked, ◌>>=◌}
+use Rattle.expression_types.specs.of_written_types.Written.{shallow, whole_type}
 use Rattle.expression_types.specs.Sight.{Newest, Sight}
 use Rattle.expression_types.specs.Operators.{operator, concat, side_of}
 use Rattle.expression_types.specs.Types.{either_of}

@@ -1,8 +1,8 @@
 -- The slots of each form, by those of its parts.
 use Rattle.std.proofs.Common.{◌≡◌, ℕ, Bool, Ok, List, [], ◌∷◌, ◌++◌, map, refl, ap, ◌∙◌}
 use Rattle.flume_value.specs.declared.value.Value.TheVariants as value
-use Rattle.flume_types.specs.declared.types.Ty.{Ty}
-use Rattle.flume_types.specs.declared.types.Ty.TheVariants as ty
+use Rattle.type_table.specs.of_flume_types.declared.types.Ty.{Ty}
+use Rattle.type_table.specs.of_flume_types.declared.types.Ty.TheVariants as ty
 use Rattle.flume_grammar.specs.declared.tree.Unary.{Unary}
 use Rattle.flume_grammar.specs.declared.tree.Binary.{Binary}
 use Rattle.flume_grammar.specs.declared.tree.Side.{Side}
@@ -12,8 +12,8 @@ use Rattle.flume_grammar.specs.declared.tree.Expr.TheVariants as parsed
 use Rattle.int_text.specs.Ints.{int_of_text}
 use Rattle.dofn_eval.specs.declared.expr.Expr.{Expr as Slots}
 use Rattle.dofn_eval.specs.declared.expr.Expr.TheVariants as expr
-use Rattle.written_types.specs.Answer.{Checked, ◌>>=◌}
-use Rattle.written_types.proofs.FailsLemmas.{bind-same}
+use Rattle.expression_types.specs.of_written_types.Answer.{Checked, ◌>>=◌}
+use Rattle.expression_types.proofs.of_written_types.FailsLemmas.{bind-same}
 use Rattle.expression_types.specs.Operators.{operator, concat}
 use Rattle.expression_types.specs.Sight.{Sight}
 use Rattle.expression_check.specs.Slots.{Typed, literal, variable, empty, fields, members, all_slots, unary_slots, field_slots, record_slots, list_slots, two_slots, index_slots, pick_slots, side_slots, layer_slots, slots_of}

@@ -3,15 +3,15 @@
 use Rattle.std.specs.Prelude.{ℕ, true, false, Option, Ok, Err, List, [], ◌∷◌, ◌++◌}
 use Rattle.flume_value.specs.declared.value.Value.{Value}
 use Rattle.flume_value.specs.declared.value.Value.TheVariants as value
-use Rattle.flume_types.specs.declared.types.Ty.{Ty}
-use Rattle.flume_types.specs.declared.types.Ty.TheVariants as ty
+use Rattle.type_table.specs.of_flume_types.declared.types.Ty.{Ty}
+use Rattle.type_table.specs.of_flume_types.declared.types.Ty.TheVariants as ty
 use Rattle.flume_grammar.specs.declared.tree.Expr.{Expr, Expr-F, fold-Expr}
 use Rattle.int_text.specs.Ints.{int_of_text}
 use Rattle.dofn_eval.specs.Outcome.{Outcome, Gives, Stuck, then, then_both, with_part}
 use Rattle.dofn_eval.specs.Operations.{of_one, of_two, field_in, member_in, chosen}
-use Rattle.written_types.specs.Answer.{Checked}
-use Rattle.written_types.specs.Named.{Named, find}
-use Rattle.written_types.specs.Written.{whole_type}
+use Rattle.expression_types.specs.of_written_types.Answer.{Checked}
+use Rattle.expression_types.specs.of_written_types.Named.{Named, find}
+use Rattle.expression_types.specs.of_written_types.Written.{whole_type}
 use Rattle.expression_types.specs.declared.operator.Operator.{Operator}
 use Rattle.expression_types.specs.declared.operator.Operator.TheVariants.{And, Or, Two}
 use Rattle.expression_types.specs.Operators.{operator, concat, one, side_of}

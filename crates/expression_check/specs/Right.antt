@@ -1,12 +1,12 @@
 -- What holds of an expression's slots: they have its type, and give what it gives.
 use Rattle.std.specs.Prelude.{◌≡◌, ℕ, Ok, Err, List, [], ◌∷◌}
 use Rattle.flume_value.specs.declared.value.Value.{Value}
-use Rattle.flume_types.specs.declared.types.Ty.{Ty}
+use Rattle.type_table.specs.of_flume_types.declared.types.Ty.{Ty}
 use Rattle.flume_grammar.specs.declared.tree.Expr.{Expr}
 use Rattle.dofn_eval.specs.Outcome.{Outcome}
 use Rattle.dofn_eval.specs.Meaning.{value_of}
 use Rattle.dofn_eval.specs.Typed as typing
-use Rattle.written_types.specs.Answer.{Checked}
+use Rattle.expression_types.specs.of_written_types.Answer.{Checked}
 use Rattle.expression_types.specs.Sight.{Newest, Sight}
 use Rattle.expression_check.specs.Types.{type_of}
 use Rattle.expression_check.specs.Given.{Thing, Environment, tagged, given_in}

@@ -1,8 +1,8 @@
 -- The slots of expressions, with the types of what they give; or the first fault.
 use Rattle.std.specs.Prelude.{ℕ, ℤ, Ok, Option, List, [], ◌∷◌, ◌++◌, map}
 use Rattle.flume_value.specs.declared.value.Value.TheVariants as value
-use Rattle.flume_types.specs.declared.types.Ty.{Ty}
-use Rattle.flume_types.specs.declared.types.Ty.TheVariants as ty
+use Rattle.type_table.specs.of_flume_types.declared.types.Ty.{Ty}
+use Rattle.type_table.specs.of_flume_types.declared.types.Ty.TheVariants as ty
 use Rattle.flume_grammar.specs.declared.tree.Side.{Side}
 use Rattle.flume_grammar.specs.declared.tree.Unary.{Unary}
 use Rattle.flume_grammar.specs.declared.tree.Type as tree
@@ -12,8 +12,8 @@ use Rattle.int_text.specs.Ints.{int_of_text}
 use Rattle.dofn_eval.specs.declared.expr.Expr.{Expr as Slots}
 use Rattle.dofn_eval.specs.declared.expr.Expr.TheVariants as expr
 use Rattle.type_table.specs.Table.{type_at}
-use Rattle.written_types.specs.Answer.{Checked, ◌>>=◌, or_fault}
-use Rattle.written_types.specs.Written.{shallow, whole_type}
+use Rattle.expression_types.specs.of_written_types.Answer.{Checked, ◌>>=◌, or_fault}
+use Rattle.expression_types.specs.of_written_types.Written.{shallow, whole_type}
 use Rattle.expression_check.specs.declared.typed.Typed.{Typed as Made}
 use Rattle.expression_check.specs.declared.typed.Operand.{Operand}
 use Rattle.expression_check.specs.declared.typed.Pair.{Pair}

@@ -1,13 +1,13 @@
 -- The types of expressions, or their first fault.
 use Rattle.std.specs.Prelude.{ℕ, List, [], ◌∷◌, Ok}
-use Rattle.flume_types.specs.declared.types.Ty.{Ty}
-use Rattle.flume_types.specs.declared.types.Ty.TheVariants as ty
+use Rattle.type_table.specs.of_flume_types.declared.types.Ty.{Ty}
+use Rattle.type_table.specs.of_flume_types.declared.types.Ty.TheVariants as ty
 use Rattle.flume_grammar.specs.declared.tree.Expr.{Expr, Expr-F, fold-Expr}
 use Rattle.flume_grammar.specs.declared.fault.ScriptKind.TheVariants.{Unknown, BadNumber, Mistyped}
 use Rattle.int_text.specs.Ints.{int_of_text}
-use Rattle.written_types.specs.Answer.{Checked, ◌>>=◌, or_fault}
-use Rattle.written_types.specs.Named.{find}
-use Rattle.written_types.specs.Written.{shallow, whole_type}
+use Rattle.expression_types.specs.of_written_types.Answer.{Checked, ◌>>=◌, or_fault}
+use Rattle.expression_types.specs.of_written_types.Named.{find}
+use Rattle.expression_types.specs.of_written_types.Written.{shallow, whole_type}
 use Rattle.expression_types.specs.Operators.{operator, concat}
 use Rattle.expression_types.specs.Sight.{Sight}
 use Rattle.expression_types.specs.Types.{unary_type, binary_type, index_type, pick_type, either_of, place_under, record_type, list_type, empty_type}

@@ -1,7 +1,7 @@
 // From an expression with names to one with slots and its type, or its first fault.
 ghost use Rattle.std.specs.Prelude.{◌≡◌, ◌<◌, [], length, IfOk};
 ghost use Rattle.type_table.specs.Table.{Extends};
-ghost use Rattle.written_types.specs.Answer.{Gives};
+ghost use Rattle.expression_types.specs.of_written_types.Answer.{Gives};
 ghost use Rattle.expression_types.specs.Held.{AreTypes};
 ghost use Rattle.expression_check.specs.Slots as spec;
 

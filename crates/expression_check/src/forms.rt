@@ -1,16 +1,17 @@
 //! Each form of expression, from the slots and types of its parts.
 ghost use Rattle.std.specs.Prelude.{◌≡◌, ◌<◌, Ok, length, IfOk};
 ghost use Rattle.flume_value.specs.declared.value.Value.TheVariants as value;
-ghost use Rattle.flume_types.specs.declared.types.Ty.TheVariants as ty_;
+ghost use Rattle.type_table.specs.of_flume_types.declared.types.Ty.TheVariants as ty_;
 ghost use Rattle.int_text.specs.Ints.{int_of_text as int_in};
 ghost use Rattle.dofn_eval.specs.declared.expr.Expr.TheVariants as slots;
 ghost use Rattle.type_table.specs.Table.{type_at, Extends};
-ghost use Rattle.written_types.specs.Answer.{Gives};
+ghost use Rattle.expression_types.specs.of_written_types.Answer.{Gives};
 ghost use Rattle.expression_types.specs.Held.{AreTypes};
 ghost use Rattle.expression_check.specs.Slots as spec;
 
 use crate::typed::{AllTyped, Operand, Typed};
 use dofn_eval::Expr as Slots;
+use expression_types::written_types::refused;
 use expression_types::{
     Operator, Scope, binary_type, index_type, list_of, list_type, one, pick_type, place_under,
     record_type, side_of, side_type, unary_type,
@@ -20,7 +21,6 @@ use flume_value::{Held, Pile, Str, Value};
 use int_text::int_of_text;
 use std::alloc::Global;
 use type_table::{Shape, TypeId, Types};
-use written_types::refused;
 
 pub fn number(line: u32, digits: &Str, scope: &mut Scope) -> Result<Typed, ScriptFault>
     ensures gives { Gives (spec.typed scope.new.types) result

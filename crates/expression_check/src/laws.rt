@@ -1,8 +1,8 @@
 // Slots have the type of their expression and give what it gives; the equations of both.
 ghost use Rattle.std.specs.Prelude.{◌≡◌, ℕ};
-ghost use Rattle.flume_types.specs.declared.types.Ty.{Ty as Ty_};
+ghost use Rattle.type_table.specs.of_flume_types.declared.types.Ty.{Ty as Ty_};
 ghost use Rattle.flume_grammar.specs.declared.tree.Expr.{Expr as Expr_, out-Expr};
-ghost use Rattle.written_types.specs.Named.{Named};
+ghost use Rattle.expression_types.specs.of_written_types.Named.{Named};
 ghost use Rattle.expression_check.specs.Given.{Environment, layer_given, given_in};
 ghost use Rattle.expression_check.specs.Right.{IsRightExpr};
 ghost use Rattle.expression_types.specs.Sight.{Sight};

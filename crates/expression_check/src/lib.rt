@@ -18,6 +18,9 @@ mod numbers;
 mod typed;
 
 pub use expression::resolve;
+pub use expression_types;
+pub use expression_types::written_types;
 pub use laws::{expression_law, slots_law};
 pub use numbers::number_within;
+pub use type_table;
 pub use typed::Typed;

@@ -4,3 +4,4 @@ pub mod Fields
 pub mod Types
 pub mod Held
 pub mod Places
+pub use Rattle.written_types.specs as of_written_types

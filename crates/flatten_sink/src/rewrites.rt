@@ -90,7 +90,7 @@ fn calls_first_at(nodes: &[Entry], flatten: u32, pdo: u32) -> bool
     ensures { result ≡ pairs.calls_first flatten (node_at nodes.now pdo) }
 {
     match find_node(nodes, pdo) {
-        Some(Node::Pdo(input, _)) => is_first_of(flatten, *input),
+        Some(Node::Pdo { input, .. }) => is_first_of(flatten, *input),
         _ => false,
     }
 }

@@ -13,5 +13,6 @@
 mod laws;
 mod trap;
 
+pub use flume_value;
 pub use laws::{least_law, passed_law, trap_law};
 pub use trap::{Trap, trap_set};

@@ -4,7 +4,7 @@ ghost use Rattle.std.specs.Prelude.{◌≡◌, [], length, OnOk};
 ghost use Rattle.flume_grammar.specs.Parts.{none, with_part};
 
 use crate::tree::{Binary, Expr};
-use flume_value::{Pile, Str};
+use flume_tokens::flume_value::{Pile, Str};
 use std::alloc::{AllocError, Global};
 
 /// The fields of a record so far, with the depth of the deepest.

@@ -20,6 +20,7 @@ mod token;
 
 pub use cutting::tokens;
 pub use fault::{Refusal, TokenFault};
+pub use flume_value;
 pub use keyword::{Keyword, keyword_law, keyword_of};
 pub use law::text_law;
 pub use sign::Sign;

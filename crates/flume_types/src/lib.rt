@@ -21,6 +21,7 @@ pub use column::{Column, ColumnFault, ColumnKind, Columns};
 pub use copies::{copy, copy_fields};
 pub use deep::{depth, depth_law};
 pub use flat::{columns, columns_law, input_columns};
+pub use flume_value;
 pub use same::{same_law, same_type};
 pub use table::table_type;
 pub use types::{Field, Fields, Ty};

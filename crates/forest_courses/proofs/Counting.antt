@@ -6,9 +6,9 @@ use Rattle.std.proofs.lemmas.List.{map-append}
 use Rattle.std.proofs.lemmas.Grind.{flat_map-append}
 use Rattle.flume_value.specs.declared.value.Value.{Value}
 use Rattle.flume_collection.specs.Calls.{Called, emissions, or_none}
-use Rattle.exec_graph.specs.Calls.{called, emitted}
-use Rattle.exec_graph.specs.Forests.{Label, Forest, Bare, Grow}
-use Rattle.exec_graph.specs.World.{World}
+use Rattle.forest_steps.specs.of_exec_graph.Calls.{called, emitted}
+use Rattle.forest_steps.specs.of_exec_graph.Forests.{Label, Forest, Bare, Grow}
+use Rattle.forest_steps.specs.of_exec_graph.World.{World}
 use Rattle.task_lists.specs.Runs.{kept_count, step_lists}
 use Rattle.forest_steps.specs.Running.{Given, Run, and_then, below, behind, counted, kept, place, raised, run, run_answer, run_each, run_out}
 use Rattle.forest_steps.specs.Places.{outputs_in, sizes_in}

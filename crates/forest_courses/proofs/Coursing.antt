@@ -5,9 +5,9 @@ use Rattle.std.specs.List.{flat_map}
 use Rattle.flume_value.specs.declared.value.Value.{Value}
 use Rattle.flume_collection.specs.declared.trap.Trap.{Trap}
 use Rattle.shards.proofs.Alike.{flat_map-itself, flat_map-nothing}
-use Rattle.exec_graph.specs.Calls.{trapped}
-use Rattle.exec_graph.specs.Forests.{Forest, after, numbered}
-use Rattle.exec_graph.specs.World.{World}
+use Rattle.forest_steps.specs.of_exec_graph.Calls.{trapped}
+use Rattle.forest_steps.specs.of_exec_graph.Forests.{Forest, after, numbered}
+use Rattle.forest_steps.specs.of_exec_graph.World.{World}
 use Rattle.task_lists.specs.Runs.{visits}
 use Rattle.forest_steps.specs.Fresh.{none_given}
 use Rattle.forest_steps.specs.Places.{outputs_in, sizes_in}

@@ -6,11 +6,11 @@ use Rattle.std.proofs.Math.ListN.{length-set}
 use Rattle.flume_value.specs.declared.value.Value.{Value}
 use Rattle.flume_collection.specs.Calls.{or_none}
 use Rattle.shards.proofs.Alike.{flat_map-nothing}
-use Rattle.exec_graph.specs.Calls.{emitted}
-use Rattle.exec_graph.specs.Forests.{Forest, Bare, Grow, after, after_out, new_out, numbered}
-use Rattle.exec_graph.specs.Meaning.{is_out, has_out}
-use Rattle.exec_graph.specs.World.{World}
-use Rattle.exec_plan.specs.Channels.{kept_out, outs_of}
+use Rattle.forest_steps.specs.of_exec_graph.Calls.{emitted}
+use Rattle.forest_steps.specs.of_exec_graph.Forests.{Forest, Bare, Grow, after, after_out, new_out, numbered}
+use Rattle.forest_steps.specs.of_exec_graph.Meaning.{is_out, has_out}
+use Rattle.forest_steps.specs.of_exec_graph.World.{World}
+use Rattle.task_lists.specs.of_exec_plan.Channels.{kept_out, outs_of}
 use Rattle.task_lists.specs.Runs.{out_at}
 use Rattle.forest_steps.specs.Running.{Lists, put}
 use Rattle.forest_steps.specs.Fresh.{empties}

@@ -4,9 +4,9 @@ use Rattle.std.specs.Prelude.{Ok, Err}
 use Rattle.std.specs.List.{fold, slice_get}
 use Rattle.flume_value.specs.declared.value.Value.{Value}
 use Rattle.flume_collection.specs.Calls.{Called, emissions, or_none}
-use Rattle.exec_graph.specs.Calls.{called, emitted}
-use Rattle.exec_graph.specs.Forests.{Forest, Bare, Grow}
-use Rattle.exec_graph.specs.World.{World}
+use Rattle.forest_steps.specs.of_exec_graph.Calls.{called, emitted}
+use Rattle.forest_steps.specs.of_exec_graph.Forests.{Forest, Bare, Grow}
+use Rattle.forest_steps.specs.of_exec_graph.World.{World}
 use Rattle.forest_steps.specs.Running.{Given, Lists, Run, and_then, below, behind, counted, kept, put, run, run_answer, run_each}
 
 -- what the steps put behind the lists

@@ -5,9 +5,9 @@ use Rattle.std.specs.List.{flat_map, slice_get}
 use Rattle.flume_value.specs.declared.value.Value.{Value}
 use Rattle.flume_collection.specs.declared.trap.Trap.{Trap}
 use Rattle.flume_collection.specs.Calls.{Called, emissions, or_none, trap_of}
-use Rattle.exec_graph.specs.Calls.{called, emitted, trapped}
-use Rattle.exec_graph.specs.Forests.{Forest, Bare, Grow}
-use Rattle.exec_graph.specs.World.{World}
+use Rattle.forest_steps.specs.of_exec_graph.Calls.{called, emitted, trapped}
+use Rattle.forest_steps.specs.of_exec_graph.Forests.{Forest, Bare, Grow}
+use Rattle.forest_steps.specs.of_exec_graph.World.{World}
 use Rattle.task_lists.specs.Runs.{visits}
 use Rattle.forest_steps.specs.Running.{Given, Run, and_then, below, behind, counted, kept, run, run_answer, run_each}
 

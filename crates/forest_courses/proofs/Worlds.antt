@@ -3,13 +3,13 @@ use Rattle.std.proofs.Common.{◌≡◌, ℕ, cond, List, [], ◌∷◌, ◌++�
 use Rattle.std.specs.List.{AllByRecursion, flat_map}
 use Rattle.flume_value.specs.declared.value.Value.{Value}
 use Rattle.flume_collection.specs.Calls.{emissions, trap_of}
-use Rattle.exec_graph.specs.Calls.{called, emitted, trapped}
-use Rattle.exec_graph.specs.Forests.{Label, Forest, Bare, Grow}
-use Rattle.exec_graph.specs.Meaning.{is_out, has_out}
-use Rattle.exec_graph.specs.World.{World}
-use Rattle.exec_graph.specs.declared.step.Does.{Does}
-use Rattle.exec_graph.specs.declared.step.Does.TheVariants as does
-use Rattle.exec_plan.specs.Channels.{numbers}
+use Rattle.forest_steps.specs.of_exec_graph.Calls.{called, emitted, trapped}
+use Rattle.forest_steps.specs.of_exec_graph.Forests.{Label, Forest, Bare, Grow}
+use Rattle.forest_steps.specs.of_exec_graph.Meaning.{is_out, has_out}
+use Rattle.forest_steps.specs.of_exec_graph.World.{World}
+use Rattle.forest_steps.specs.of_exec_graph.declared.step.Does.{Does}
+use Rattle.forest_steps.specs.of_exec_graph.declared.step.Does.TheVariants as does
+use Rattle.task_lists.specs.of_exec_plan.Channels.{numbers}
 use Rattle.task_lists.specs.Runs.{all_given, counts_of, gives, out_at, output_at, step_lists, traps_of, visits, visits_of}
 use Rattle.forest_steps.specs.Safety.{Safe, SafeOf}
 

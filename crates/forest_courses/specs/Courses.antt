@@ -2,8 +2,8 @@
 use Rattle.std.specs.Prelude.{◌≡◌, List, [], map, Option, Some, Result, Ok, Err, slice_get}
 use Rattle.flume_value.specs.declared.value.Value.{Value}
 use Rattle.flume_collection.specs.declared.trap.Trap.{Trap}
-use Rattle.exec_graph.specs.Forests.{Forest}
-use Rattle.exec_graph.specs.World.{World}
+use Rattle.forest_steps.specs.of_exec_graph.Forests.{Forest}
+use Rattle.forest_steps.specs.of_exec_graph.World.{World}
 use Rattle.task_lists.specs.Runs.{all_given, counts_of, kept_count, traps_of}
 use Rattle.forest_steps.specs.Running.{Given}
 

@@ -2,8 +2,8 @@
 ghost use Rattle.std.specs.Prelude.{◌≡◌, ◌<◌, ◌^◌, ◌∷◌, [], ℕ, List, Option, Some, None, Ok, Err};
 ghost use Rattle.flume_value.specs.declared.value.Value.{Value};
 ghost use Rattle.flume_collection.specs.declared.trap.Trap.{Trap};
-ghost use Rattle.exec_graph.specs.Forests.{Forest, after, numbered};
-ghost use Rattle.exec_graph.specs.World.{World};
+ghost use Rattle.forest_steps.specs.of_exec_graph.Forests.{Forest, after, numbered};
+ghost use Rattle.forest_steps.specs.of_exec_graph.World.{World};
 ghost use Rattle.task_lists.specs.Runs.{all_given, counts_of, traps_of};
 ghost use Rattle.forest_steps.specs.Fresh.{none_given};
 ghost use Rattle.forest_steps.specs.Places.{outputs_in, sizes_in};

@@ -9,4 +9,6 @@
 
 mod laws;
 
+pub use forest_steps;
 pub use laws::{course_law, worlds_law};
+pub use task_lists;

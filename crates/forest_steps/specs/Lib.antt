@@ -5,3 +5,4 @@ pub mod Turns
 pub mod Fresh
 pub mod Places
 pub mod inner
+pub use Rattle.exec_graph.specs as of_exec_graph

@@ -14,7 +14,7 @@ use Rattle.exec_graph.specs.declared.graph.Node.TheVariants.{Source, Flatten, Pd
 use Rattle.exec_graph.specs.declared.graph.Entry.{Entry}
 use Rattle.exec_graph.specs.declared.graph.Blocked.{Blocked}
 use Rattle.exec_graph.proofs.Bools.{or_left, or_right, not_true}
-use Rattle.fusion_blocks.specs.Feeding.{flattens}
+use Rattle.plan_roles.specs.of_fusion_blocks.Feeding.{flattens}
 use Rattle.plan_laws.specs.Operations.{inputs_at, inputs_of}
 use Rattle.plan_roles.specs.Levels.{level}
 use Rattle.plan_roles.specs.Reading.{feeds_other, goes_on, takes}

@@ -17,7 +17,7 @@ use Rattle.exec_graph.proofs.Entries.{entry}
 use Rattle.exec_graph.proofs.Solving.{each_found}
 use Rattle.exec_graph.proofs.Bools.{or_left, or_right, or_cases, or_false}
 use Rattle.plan_rules.specs.of_exec_plan.Channels.{kept_out, outs_of}
-use Rattle.fusion_blocks.specs.Feeding.{flattens}
+use Rattle.plan_roles.specs.of_fusion_blocks.Feeding.{flattens}
 use Rattle.plan_rules.proofs.of_graph_laws.ReadPlaces.{same_self}
 use Rattle.plan_rules.proofs.of_graph_laws.Reading.{those_has}
 use Rattle.plan_laws.proofs.Running.{place_same}

@@ -80,7 +80,7 @@ fn mark_fed(
         (fed nodes.now entry.now.number entry.now.node))) }
 {
     match &entry.node {
-        Node::Gbk(c, _, _, _) => {
+        Node::Gbk { input: c, .. } => {
             mark_all(nodes, index, estimates, slice::from_ref(c), before, marks)
         }
         Node::Flatten(inputs) => {
@@ -89,7 +89,7 @@ fn mark_fed(
             }
             mark_all(nodes, index, estimates, inputs.as_slice(), before, marks)
         }
-        Node::Source(_) | Node::Pdo(_, _) | Node::Barrier(_, _, _, _) => Ok(()),
+        Node::Source(_) | Node::Pdo { .. } | Node::Barrier { .. } => Ok(()),
     }
 }
 
@@ -135,7 +135,7 @@ fn mark_chain(
     ensures marked { OnOk result (MarksAlso marks.old.places.items marks.new.places.items
         (IsMarkOf nodes.now (known estimates.now) c)) }
 {
-    if let Some(Node::Pdo(_, _)) = find_node(nodes, index, c.node) {
+    if let Some(Node::Pdo { .. }) = find_node(nodes, index, c.node) {
         let stretch = stretch_to(nodes, index, estimates, nodes.len() + 1, c, before)?;
         mark_least(stretch, marks)?;
     }

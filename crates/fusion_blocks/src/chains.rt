@@ -55,7 +55,7 @@ pub(crate) fn stretch_to(
     ensures is { IfOk result (λ s. IsStretch nodes.now (known estimates.now) c s) }
 {
     match find_node(nodes, index, c.node) {
-        Some(Node::Pdo(input, _)) => {
+        Some(Node::Pdo { input, .. }) => {
             let stretch = stretch_before(
                 nodes,
                 index,
@@ -67,9 +67,14 @@ pub(crate) fn stretch_to(
             )?;
             Ok(longer(estimates, stretch, c))
         }
-        Some(Node::Gbk(_, _, _, None)) => Ok(Stretch::Least(c)),
-        Some(Node::Gbk(_, _, _, Some(_))) => Ok(Stretch::Empty),
-        Some(Node::Source(_)) | Some(Node::Flatten(_)) | Some(Node::Barrier(_, _, _, _)) | None => {
+        Some(Node::Gbk { lifted: None, .. }) => Ok(Stretch::Least(c)),
+        Some(
+            Node::Gbk {
+                lifted: Some(_),
+                ..
+            },
+        ) => Ok(Stretch::Empty),
+        Some(Node::Source(_)) | Some(Node::Flatten(_)) | Some(Node::Barrier { .. }) | None => {
             Ok(Stretch::Open)
         }
     }

@@ -112,9 +112,9 @@ fn estimate_of(scales: &[u32], estimates: &HashMap<u32, u64>, node: &Node) -> u6
     match node {
         Node::Source(_) => SOURCE,
         Node::Flatten(inputs) => sum_of(estimates, inputs.as_slice()),
-        Node::Pdo(c, roots) => scaled(known(estimates, c.node), scale_of(scales, roots)),
-        Node::Gbk(c, _, _, _) => known(estimates, c.node),
-        Node::Barrier(inputs, _, _, act) => {
+        Node::Pdo { input: c, roots } => scaled(known(estimates, c.node), scale_of(scales, roots)),
+        Node::Gbk { input: c, .. } => known(estimates, c.node),
+        Node::Barrier { inputs, act, .. } => {
             act_estimate(scales, estimates, *act, inputs.as_slice())
         }
     }

@@ -26,8 +26,8 @@ fn add_grouped(node: &Node, grouped: &mut HashSet<u32>) -> Result<(), AllocError
         ≡ (contains nat_eq grouped.old n || groups (place n 0) node.now)) }
 {
     match node {
-        Node::Gbk(c, _, _, _) => add_first(*c, grouped),
-        Node::Source(_) | Node::Flatten(_) | Node::Pdo(_, _) | Node::Barrier(_, _, _, _) => Ok(()),
+        Node::Gbk { input: c, .. } => add_first(*c, grouped),
+        Node::Source(_) | Node::Flatten(_) | Node::Pdo { .. } | Node::Barrier { .. } => Ok(()),
     }
 }
 

@@ -2,7 +2,7 @@
 use Rattle.std.proofs.Common.{◌≡◌, ℕ, suc, zero, ◌+◌, ◌-◌, ◌<◌, ◌≤◌, Bool, true, false, List, [], ◌∷◌, ◌++◌, length, get_or, refl, arith, ap, ◌∙◌, sym, subst, add-zero}
 use Rattle.std.specs.Prelude.{Option, Some, None, if◌then◌else◌, slice_get}
 use Rattle.std.specs.Option.{option_map}
-use Rattle.written_types.specs.Named.{Named}
+use Rattle.script_program.specs.of_written_types.Named.{Named}
 use Rattle.script_program.specs.Script.{Node, Script}
 use Rattle.graph_build.specs.Built.{built, built_at, built_from, built_here}
 use Rattle.graph_build.specs.Calls.{call_built, emitted_at, first_emitted, kept_at, kept_from, next_if, other_names}

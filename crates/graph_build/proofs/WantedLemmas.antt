@@ -2,7 +2,7 @@
 use Rattle.std.proofs.Common.{◌≡◌, ℕ, suc, zero, ◌+◌, ◌<◌, ◌≤◌, Bool, true, false, List, [], ◌∷◌, length, get_or, refl, arith, ap, ◌∙◌, sym, subst, add-zero}
 use Rattle.std.specs.Prelude.{Option, Some, None, if◌then◌else◌, is_some, slice_get}
 use Rattle.std.specs.Option.{option_map}
-use Rattle.written_types.specs.Named.{Named}
+use Rattle.script_program.specs.of_written_types.Named.{Named}
 use Rattle.script_program.specs.declared.made.Made.{Made}
 use Rattle.script_program.specs.Script.{Node, Script}
 use Rattle.script_program.specs.Needed.{is_needed}

@@ -4,7 +4,7 @@
 use Rattle.std.specs.Prelude.{ℕ, ◌-◌, List, [], ◌∷◌, Option, Some, None, if◌then◌else◌, option_and_then, slice_get, slice_index_or}
 use Rattle.std.proofs.Common.{suc}
 use Rattle.std.specs.Option.{option_map}
-use Rattle.written_types.specs.Named.{Named}
+use Rattle.script_program.specs.of_written_types.Named.{Named}
 use Rattle.script_program.specs.declared.made.Emitted.{Emitted}
 use Rattle.script_program.specs.declared.made.Made.{Made}
 use Rattle.script_program.specs.Script.{Node, Script}

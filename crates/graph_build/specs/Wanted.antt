@@ -1,7 +1,7 @@
 -- What is built of a script: its needed collections.
 use Rattle.std.specs.Prelude.{ℕ, Bool, List, [], ◌∷◌, Option, Some, None, if◌then◌else◌, is_some, slice_index_or}
 use Rattle.std.proofs.Common.{suc}
-use Rattle.written_types.specs.Named.{Named}
+use Rattle.script_program.specs.of_written_types.Named.{Named}
 use Rattle.script_program.specs.declared.made.Made.{Made}
 use Rattle.script_program.specs.Needed.{is_needed}
 use Rattle.script_program.specs.Script.{Node, Script}

@@ -244,7 +244,12 @@ fn push_groups(
     push_node(
         nodes,
         start.node,
-        Node::Gbk(input, start.origin, true, None),
+        Node::Gbk {
+            input,
+            origin: start.origin,
+            is_own: true,
+            lifted: None,
+        },
     )
 }
 

@@ -71,7 +71,12 @@ pub(crate) fn call(
 pub(crate) fn groups(origin: u32, input: Place) -> Node
     ensures { result ≡ spec.groups origin input }
 {
-    Node::Gbk(input, origin, false, None)
+    Node::Gbk {
+        input,
+        origin,
+        is_own: false,
+        lifted: None,
+    }
 }
 
 fn first_output(alloc: Global) -> Output
@@ -85,5 +90,8 @@ fn only(alloc: Global, input: Place, step: Step) -> Result<Node, AllocError>
 {
     let mut steps = Vec::new(alloc);
     steps.push(step)?;
-    Ok(Node::Pdo(input, Roots::new(steps)))
+    Ok(Node::Pdo {
+        input,
+        roots: Roots::new(steps),
+    })
 }

@@ -106,5 +106,10 @@ fn both(alloc: Global, input: Place, object: Place) -> Result<Pile<Place>, Alloc
 fn barrier(origin: u32, act: Act, inputs: Pile<Place>) -> Node
     ensures { result ≡ spec.barrier origin act inputs }
 {
-    Node::Barrier(inputs, origin, true, act)
+    Node::Barrier {
+        inputs,
+        origin,
+        is_own: true,
+        act,
+    }
 }

@@ -43,9 +43,9 @@ fn flag_node(flags: &mut Vec<bool>, reader: &Node, by: Apart) -> Result<(), Allo
     match reader {
         Node::Source(_) => Ok(()),
         Node::Flatten(inputs) => flag_places(flags, inputs.as_slice(), by),
-        Node::Pdo(input, _) => flag_place(flags, *input, by),
-        Node::Gbk(input, _, _, _) => flag_place(flags, *input, by),
-        Node::Barrier(inputs, _, _, _) => flag_places(flags, inputs.as_slice(), by),
+        Node::Pdo { input, .. } => flag_place(flags, *input, by),
+        Node::Gbk { input, .. } => flag_place(flags, *input, by),
+        Node::Barrier { inputs, .. } => flag_places(flags, inputs.as_slice(), by),
     }
 }
 

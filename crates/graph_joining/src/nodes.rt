@@ -45,7 +45,7 @@ pub fn input_at(nodes: &[Entry], number: u32) -> Place
     ensures { result ≡ input_of (node_at nodes.now number) }
 {
     match find_node(nodes, number) {
-        Some(Node::Pdo(input, _)) => *input,
+        Some(Node::Pdo { input, .. }) => *input,
         _ => Place { node: 0, out: 0 },
     }
 }
@@ -95,7 +95,7 @@ pub(crate) fn emptied(alloc: Global, nodes: Vec<Entry>, number: u32, input: Plac
     match index_of(nodes.as_slice(), number) {
         Some(i) => {
             let none = Roots::new(Vec::new(alloc));
-            let pdo = Node::Pdo(input, none);
+            let pdo = Node::Pdo { input, roots: none };
             replaced(alloc, nodes, i, Entry { number, node: pdo })
         }
         None => unopened(alloc, nodes),
@@ -145,11 +145,12 @@ fn steps_of(alloc: Global, node: Node) -> Vec<Step>
     ensures { grown result.items ≡ forest_of (Some node) }
 {
     match node {
-        Node::Pdo(_, roots) => {
+        Node::Pdo { roots, .. } => {
             let Roots { steps } = roots;
             steps
         }
-        Node::Source(_) | Node::Flatten(_) | Node::Gbk(_, _, _, _) | Node::Barrier(_, _, _, _) =>
-            Vec::new(alloc),
+        Node::Source(_) | Node::Flatten(_) | Node::Gbk { .. } | Node::Barrier { .. } => Vec::new(
+            alloc,
+        ),
     }
 }

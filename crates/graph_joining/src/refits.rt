@@ -137,7 +137,7 @@ fn with_pdo(graph: Graph, number: u32, input: Place, roots: Roots) -> Graph
         outputs,
         next,
     } = graph;
-    let changed = with_node(nodes.into_vec(), number, Node::Pdo(input, roots));
+    let changed = with_node(nodes.into_vec(), number, Node::Pdo { input, roots });
     Graph {
         nodes: Pile::from_vec(changed),
         outputs,

@@ -36,9 +36,9 @@ fn reread(alloc: Global, node: &mut Node, by: &Placed) -> Result<(), AllocError>
     match node {
         Node::Source(_) => Ok(()),
         Node::Flatten(inputs) => reread_list(alloc, inputs, by),
-        Node::Pdo(input, _) => move_place(input, by),
-        Node::Gbk(input, _, _, _) => move_place(input, by),
-        Node::Barrier(inputs, _, _, _) => reread_list(alloc, inputs, by),
+        Node::Pdo { input, .. } => move_place(input, by),
+        Node::Gbk { input, .. } => move_place(input, by),
+        Node::Barrier { inputs, .. } => reread_list(alloc, inputs, by),
     }
 }
 

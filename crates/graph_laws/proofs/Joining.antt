@@ -3,17 +3,17 @@ use Rattle.std.proofs.Common.{◌≡◌, ℕ, Bool, true, false, cond, eqb, ◌&
 use Rattle.std.proofs.lemmas.Bool.{eqb-true, eq-eqb}
 use Rattle.std.proofs.lemmas.List.Folds.{flat_map-map}
 use Rattle.std.specs.List.{flat_map, AllByRecursion}
-use Rattle.flume_value.specs.Bag.{put}
-use Rattle.flume_value.specs.declared.value.Value.{Value}
-use Rattle.flume_collection.specs.Sets.{put_new, gather}
+use Rattle.combine_table.specs.of_flume_value.Bag.{put}
+use Rattle.combine_table.specs.of_flume_value.declared.value.Value.{Value}
+use Rattle.exec_graph.specs.of_flume_collection.Sets.{put_new, gather}
 use Rattle.exec_graph.specs.Meaning.{through, place, IsKept, FitsForest, total, step_own, step_traps, Holds, Meets, own, traps, node_at, reads, is_out, has_out, gives_at, IsThere, IsSound, KeepsMeaning}
-use Rattle.flume_collection.specs.Collection.{Collection, together, by_key}
+use Rattle.exec_graph.specs.of_flume_collection.Collection.{Collection, together, by_key}
 use Rattle.exec_graph.specs.World.{World}
 use Rattle.exec_graph.specs.Objects.{act_result}
-use Rattle.flume_collection.specs.declared.trap.Trap.{Trap}
-use Rattle.flume_collection.specs.Traps.{trap_le}
-use Rattle.flume_collection.proofs.Bagging.{Swaps, gather-append, gather-gather}
-use Rattle.flume_collection.proofs.Orders.{bags, sets, one_bag}
+use Rattle.exec_graph.specs.of_flume_collection.declared.trap.Trap.{Trap}
+use Rattle.exec_graph.specs.of_flume_collection.Traps.{trap_le}
+use Rattle.exec_graph.proofs.of_flume_collection.Bagging.{Swaps, gather-append, gather-gather}
+use Rattle.exec_graph.proofs.of_flume_collection.Orders.{bags, sets, one_bag}
 use Rattle.exec_graph.specs.Forests.{Label, Forest, Bare, Grow}
 use Rattle.graph_laws.specs.Joining.{beside, grafted, HasOne, set_node, without, moved, reread, reread_entry, joined, CanJoin, as_kid, as_sibling}
 use Rattle.exec_graph.proofs.Entries.{entry, all_map, all_found, flat_map_alike}
@@ -25,7 +25,7 @@ use Rattle.exec_graph.specs.declared.graph.Entry.{Entry}
 use Rattle.exec_graph.specs.declared.graph.Graph.{Graph}
 use Rattle.exec_graph.proofs.Bools.{or_left, or_right, or_false, not_true}
 use Rattle.exec_graph.proofs.Solving.{kept_value}
-use Rattle.flume_value.proofs.EachLemmas.{Each-both, Each-weaker}
+use Rattle.combine_table.proofs.of_flume_value.EachLemmas.{Each-both, Each-weaker}
 
 kept_moved : (m k : Place → Collection) (n i : ℕ) (o : Option ℕ) (u : Collection)
     → ((j : ℕ) → is_out o j ≡ true → k (place i j) ≡ m (place n j)) → IsKept m n o u

@@ -1,7 +1,7 @@
 -- The order of pairs of numbers in which the first decides, and then the second.
 use Rattle.std.proofs.Common.{◌≡◌, ℕ, ◌<◌, ◌≤◌, ◌⊎◌, ltb, eqb, Bool, true, false, ◌&&◌, ◌||◌, refl, sym, ◌∙◌, arith, inl, inr}
 use Rattle.std.proofs.lemmas.Bool.{eqb-true, eq-eqb, false≢true, le-ltb, ltb-true, ltb-false}
-use Rattle.flume_value.proofs.BoolLemmas.{both_true}
+use Rattle.combine_table.proofs.of_flume_value.BoolLemmas.{both_true}
 use Rattle.exec_graph.proofs.Bools.{no_or, not_true, or_cases, or_false}
 
 -- (a, b) is before (c, d)

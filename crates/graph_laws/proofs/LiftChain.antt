@@ -3,7 +3,7 @@ use Rattle.std.proofs.Common.{◌≡◌, ℕ, ◌<◌, Bool, true, false, cond, 
 use Rattle.std.proofs.lemmas.Bool.{eqb-true, eq-eqb, false≢true}
 use Rattle.std.specs.List.{AllByRecursion}
 use Rattle.combine_table.specs.declared.comb.Comb.{Comb}
-use Rattle.flume_value.proofs.EachLemmas.{Each-both, Each-weaker}
+use Rattle.combine_table.proofs.of_flume_value.EachLemmas.{Each-both, Each-weaker}
 use Rattle.exec_graph.specs.Wellformed.{IsGraphOk, IsNodeOk, comb_at}
 use Rattle.exec_graph.specs.Meaning.{AllDiffer, HasOuts, IsSound, IsThere, SameMeaning, place, node_at, reads}
 use Rattle.exec_graph.specs.Readers.{among, any_node, calls_on, collects, readers}

@@ -4,16 +4,16 @@ use Rattle.std.specs.List.{flat_map, AllByRecursion}
 use Rattle.std.proofs.lemmas.Bool.{eqb-true}
 use Rattle.std.proofs.lemmas.List.Folds.{flat_map-map}
 use Rattle.combine_table.specs.declared.comb.Comb.{Comb}
-use Rattle.flume_types.specs.declared.types.Ty.{Ty}
-use Rattle.flume_value.specs.Bag.{bag_of}
-use Rattle.flume_collection.specs.declared.trap.Trap.{Trap}
-use Rattle.flume_collection.specs.Traps.{trap_le}
-use Rattle.flume_collection.specs.Sets.{set_of}
+use Rattle.exec_graph.specs.of_flume_types.declared.types.Ty.{Ty}
+use Rattle.combine_table.specs.of_flume_value.Bag.{bag_of}
+use Rattle.exec_graph.specs.of_flume_collection.declared.trap.Trap.{Trap}
+use Rattle.exec_graph.specs.of_flume_collection.Traps.{trap_le}
+use Rattle.exec_graph.specs.of_flume_collection.Sets.{set_of}
 use Rattle.exec_graph.specs.Objects.{takes_such}
 use Rattle.exec_graph.proofs.ObjectLemmas.{map_same}
 use Rattle.exec_graph.specs.Wellformed.{HaveObjects, has_objects, is_object, is_object_at, comb_at, IsLiftedOk, IsNodeOk, size, total_size, Ascends, IsGraphOk, most_nodes}
 use Rattle.exec_graph.specs.Meaning.{place, Holds, own, traps, node_at, reads, gives, gives_at, IsThere, KeepsMeaning, SameMeaning}
-use Rattle.flume_collection.specs.Collection.{Collection}
+use Rattle.exec_graph.specs.of_flume_collection.Collection.{Collection}
 use Rattle.exec_graph.specs.World.{World}
 use Rattle.exec_graph.specs.Readers.{among, calls_on, collects, any_node, those, readers, uses, is_read}
 use Rattle.exec_graph.specs.Typing.{KeepsTypes, NodeTyped, Signatures}
@@ -25,7 +25,7 @@ use Rattle.exec_graph.specs.declared.graph.Node.{Node}
 use Rattle.exec_graph.specs.declared.graph.Node.TheVariants.{Source, Flatten, Pdo, Gbk, Barrier}
 use Rattle.exec_graph.specs.declared.graph.Entry.{Entry}
 use Rattle.exec_graph.specs.declared.graph.Graph.{Graph}
-use Rattle.flume_value.proofs.EachLemmas.{Each-weaker}
+use Rattle.combine_table.proofs.of_flume_value.EachLemmas.{Each-weaker}
 
 -- ---- what does not see a mark
 pub reads-marked : (h : Option Comb → Option Comb) (x : Node) → reads (marked h x) ≡ reads x

@@ -4,7 +4,7 @@ use Rattle.std.specs.List.{AllByRecursion as Each}
 use Rattle.std.proofs.lemmas.List.{length-map}
 use Rattle.std.proofs.lemmas.Bool.{eqb-true, eq-eqb, false≢true}
 use Rattle.combine_table.specs.declared.comb.Comb.{Comb}
-use Rattle.flume_value.proofs.EachLemmas.{Each-weaker}
+use Rattle.combine_table.proofs.of_flume_value.EachLemmas.{Each-weaker}
 use Rattle.exec_graph.specs.declared.graph.Place.{Place}
 use Rattle.exec_graph.specs.declared.graph.Node.{Node}
 use Rattle.exec_graph.specs.declared.graph.Node.TheVariants.{Source, Flatten, Pdo, Gbk, Barrier}
@@ -15,7 +15,7 @@ use Rattle.exec_graph.specs.Meaning.{node_at, place}
 use Rattle.exec_graph.specs.Readers.{among, any_node, calls_on, collects, is_read, same_place, uses}
 use Rattle.exec_graph.specs.Wellformed.{HaveObjects, Ascends, IsForestOk, IsGraphOk, IsLiftedOk, IsNodeOk, comb_at, root_comb, total_size, most_nodes}
 use Rattle.exec_graph.proofs.Bools.{not_true, or_else, or_left, or_right}
-use Rattle.flume_value.proofs.BoolLemmas.{both_true}
+use Rattle.combine_table.proofs.of_flume_value.BoolLemmas.{both_true}
 use Rattle.exec_graph.proofs.Entries.{all_found, all_map, entry}
 use Rattle.exec_graph.proofs.Soundness.{differ_ascends}
 use Rattle.graph_laws.specs.Joining.{reread, reread_entry, set_node}

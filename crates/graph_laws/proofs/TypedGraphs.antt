@@ -1,8 +1,8 @@
 -- Types that fit a graph fit it after a rewrite of its Pdos.
 use Rattle.std.proofs.Common.{◌≡◌, ℕ, eqb, List, [], ◌∷◌, map, Some, refl, sym, ◌∙◌, subst}
 use Rattle.std.specs.List.{AllByRecursion}
-use Rattle.flume_types.specs.declared.types.Ty.{Ty}
-use Rattle.flume_value.proofs.EachLemmas.{Each-both, Each-weaker}
+use Rattle.exec_graph.specs.of_flume_types.declared.types.Ty.{Ty}
+use Rattle.combine_table.proofs.of_flume_value.EachLemmas.{Each-both, Each-weaker}
 use Rattle.exec_graph.specs.Forests.{Forest}
 use Rattle.exec_graph.specs.Meaning.{place, node_at, reads, IsThere, IsSound}
 use Rattle.exec_graph.specs.Typing.{ActTyped, Signatures, ForestTyped, IsGrouped, KeepsTypes, NodeTyped}

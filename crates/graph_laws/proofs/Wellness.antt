@@ -15,7 +15,7 @@ use Rattle.exec_graph.specs.declared.graph.Node.TheVariants.{Source, Flatten, Pd
 use Rattle.exec_graph.specs.declared.graph.Entry.{Entry}
 use Rattle.exec_graph.specs.declared.graph.Graph.{Graph}
 use Rattle.exec_graph.proofs.Solving.{gives_found}
-use Rattle.flume_value.proofs.EachLemmas.{Each-weaker}
+use Rattle.combine_table.proofs.of_flume_value.EachLemmas.{Each-weaker}
 use Rattle.graph_laws.proofs.Disjoint.{has_out-beside, has_out-grafted, differ_beside, differ_grafted}
 
 -- ---- graphs

@@ -83,7 +83,7 @@ fn is_pdo_at(nodes: &[Entry], number: u32) -> bool
     ensures { result ≡ tests.is_pdo (node_at nodes.now number) }
 {
     match find_node(nodes, number) {
-        Some(Node::Pdo(_, _)) => true,
+        Some(Node::Pdo { .. }) => true,
         _ => false,
     }
 }

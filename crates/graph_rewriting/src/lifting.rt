@@ -29,7 +29,7 @@ fn is_group_at(nodes: &[Entry], number: u32) -> bool
     ensures { result ≡ tests.is_gbk (node_at nodes.now number) }
 {
     match find_node(nodes, number) {
-        Some(Node::Gbk(_, _, _, _)) => true,
+        Some(Node::Gbk { .. }) => true,
         _ => false,
     }
 }
@@ -77,9 +77,9 @@ fn collects_first(node: u32, reader: &Node) -> bool
     match reader {
         Node::Source(_) => false,
         Node::Flatten(inputs) => is_among(node, inputs.as_slice()),
-        Node::Pdo(_, _) => false,
-        Node::Gbk(input, _, _, _) => is_first_of(node, *input),
-        Node::Barrier(inputs, _, _, _) => is_among(node, inputs.as_slice()),
+        Node::Pdo { .. } => false,
+        Node::Gbk { input, .. } => is_first_of(node, *input),
+        Node::Barrier { inputs, .. } => is_among(node, inputs.as_slice()),
     }
 }
 
@@ -104,9 +104,8 @@ fn calls_first(node: u32, reader: &Node) -> bool
     ensures { result ≡ calls_on (place node 0) reader.now }
 {
     match reader {
-        Node::Pdo(input, _) => is_first_of(node, *input),
-        Node::Source(_) | Node::Flatten(_) | Node::Gbk(_, _, _, _) | Node::Barrier(_, _, _, _) =>
-            false,
+        Node::Pdo { input, .. } => is_first_of(node, *input),
+        Node::Source(_) | Node::Flatten(_) | Node::Gbk { .. } | Node::Barrier { .. } => false,
     }
 }
 
@@ -115,7 +114,7 @@ fn comb_at(nodes: &[Entry], number: u32) -> Option<Comb>
     ensures { result ≡ comb_at (node_at nodes.now number) }
 {
     match find_node(nodes, number) {
-        Some(Node::Pdo(_, roots)) => root_comb(roots),
+        Some(Node::Pdo { roots, .. }) => root_comb(roots),
         _ => None,
     }
 }
@@ -153,7 +152,7 @@ fn mark(entry: &mut Entry, group: u32, comb: Comb)
 fn mark_node(node: &mut Node, comb: Comb)
     ensures { node.new ≡ lifting.marked (λ k. Some comb) node.old }
 {
-    if let Node::Gbk(_, _, _, lifted) = node {
+    if let Node::Gbk { lifted, .. } = node {
         *lifted = Some(comb);
     }
 }

@@ -38,9 +38,9 @@ fn can_mark_of(node: &Node, output: u32) -> bool
     ensures { result ≡ tests.can_mark (Some node.now) output }
 {
     match node {
-        Node::Pdo(_, roots) => has_out(roots, output),
-        Node::Gbk(_, _, _, lifted) => lifted.is_none() && output == 0,
-        Node::Source(_) | Node::Flatten(_) | Node::Barrier(_, _, _, _) => false,
+        Node::Pdo { roots, .. } => has_out(roots, output),
+        Node::Gbk { lifted, .. } => lifted.is_none() && output == 0,
+        Node::Source(_) | Node::Flatten(_) | Node::Barrier { .. } => false,
     }
 }
 

@@ -1,10 +1,11 @@
 // Rewrites one after another.
-ghost use Rattle.std.specs.Prelude.{◌≡◌, ◌+◌, IfOk};
+ghost use Rattle.std.specs.Prelude.{◌≡◌, ◌+◌, IfOk, IfSome};
 ghost use Rattle.exec_graph.specs.Wellformed.{IsGraphOk};
 ghost use Rattle.graph_rewrites.specs.Replays.{group_of};
 ghost use Rattle.graph_rewriting.specs.Replayed.{Follows, IsReplayed};
+ghost use Rattle.graph_rewriting.specs.inner.Standings.{IsStanding, blocked_of, shown};
 
-use crate::applying::apply;
+use crate::standing::{Standing, applied, ended};
 use exec_graph::{Blocked, Graph};
 use flume_value::Pile;
 use graph_rewrites::Rewrite;
@@ -36,10 +37,10 @@ pub fn replay(alloc: Global, graph: Graph, rewrites: &[Rewrite]) -> Result<Block
     requires { IsGraphOk graph }
     ensures { IsReplayed graph rewrites.now result }
 {
-    let mut now = Blocked {
+    let mut now = Standing::Plain(Blocked {
         graph,
         marks: Pile::new(alloc),
-    };
+    });
     let mut group = 0;
     let mut step: u32 = 0;
     for rewrite in rewrites {
@@ -50,7 +51,8 @@ pub fn replay(alloc: Global, graph: Graph, rewrites: &[Rewrite]) -> Result<Block
         }
         group = group_of(*rewrite);
     }
-    Ok(now)
+    let last = ended(alloc, now)?;
+    Ok(last)
 }
 
 /// The next number; more than 32 bits count are more rewrites than memory holds.
@@ -64,18 +66,20 @@ fn one_more(step: u32) -> Result<u32, AllocError>
 /// or may not be made.
 fn follow(
     alloc: Global,
-    blocked: Blocked,
+    now: Standing,
     group: u32,
     rewrite: Rewrite,
-) -> Result<Option<Blocked>, AllocError>
-    requires { IsGraphOk blocked.graph }
-    ensures { IfOk result (λ made. Follows group blocked rewrite made) }
+) -> Result<Option<Standing>, AllocError>
+    requires ok { IsGraphOk (blocked_of now).graph }
+    requires standing { IsStanding now }
+    ensures follows { IfOk result (λ made. Follows group (blocked_of now) rewrite (shown made)) }
+    ensures standing { IfOk result (λ made. IfSome made (λ s. IsStanding s)) }
 {
     let own = group_of(rewrite);
     if own < group {
         return Ok(None);
     }
-    let made = apply(alloc, blocked, rewrite)?;
+    let made = applied(alloc, now, rewrite)?;
     Ok(made)
 }
 

@@ -32,7 +32,10 @@ fn pdo(alloc: Global, input: u32, does: Does, number: u32) -> Result<Node, Alloc
     let output = Output::new(Some(number), Vec::new(alloc));
     let mut steps = Vec::new(alloc);
     steps.push(Step::new(1, true, does, output, Vec::new(alloc)))?;
-    Ok(Node::Pdo(first_of(input), Roots::new(steps)))
+    Ok(Node::Pdo {
+        input: first_of(input),
+        roots: Roots::new(steps),
+    })
 }
 
 fn lift(change: Change) -> Option<Comb> {
@@ -49,7 +52,12 @@ fn node(alloc: Global, number: u32, change: Change) -> Result<Node, AllocError> 
         0 => Ok(Node::Source(WORDS)),
         1 => pdo(alloc, 0, Does::Call(0), 0),
         2 => pdo(alloc, 1, Does::Pair, 0),
-        3 => Ok(Node::Gbk(first_of(2), 1, false, lift(change))),
+        3 => Ok(Node::Gbk {
+            input: first_of(2),
+            origin: 1,
+            is_own: false,
+            lifted: lift(change),
+        }),
         4 if change == Change::NumberedFromOne => pdo(alloc, 3, Does::Combine(Comb::Sum), 1),
         4 => pdo(alloc, 3, Does::Combine(Comb::Sum), 0),
         _ => pdo(alloc, 3, Does::Combine(Comb::Sum), 0),

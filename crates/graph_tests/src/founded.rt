@@ -37,14 +37,22 @@ fn sums(alloc: Global, input: u32) -> Result<Node, AllocError> {
     let does = Does::Combine(Comb::Sum);
     let mut steps = Vec::new(alloc);
     steps.push(Step::new(2, true, does, output, Vec::new(alloc)))?;
-    Ok(Node::Pdo(first_of(input), Roots::new(steps)))
+    Ok(Node::Pdo {
+        input: first_of(input),
+        roots: Roots::new(steps),
+    })
 }
 
 fn node(alloc: Global, shape: Shape) -> Result<Node, AllocError> {
     match shape {
         Shape::Source => Ok(Node::Source(ROWS)),
         Shape::Flatten(one, other) => flatten(alloc, one, other),
-        Shape::Group(input) => Ok(Node::Gbk(first_of(input), 1, true, None)),
+        Shape::Group(input) => Ok(Node::Gbk {
+            input: first_of(input),
+            origin: 1,
+            is_own: true,
+            lifted: None,
+        }),
         Shape::Sums(input) => sums(alloc, input),
     }
 }

@@ -14,7 +14,10 @@ fn pdo(alloc: Global, input: u32, origin: u32, does: Does) -> Result<Node, Alloc
     let output = Output::new(Some(0), Vec::new(alloc));
     let mut steps = Vec::new(alloc);
     steps.push(Step::new(origin, false, does, output, Vec::new(alloc)))?;
-    Ok(Node::Pdo(first_of(input), Roots::new(steps)))
+    Ok(Node::Pdo {
+        input: first_of(input),
+        roots: Roots::new(steps),
+    })
 }
 
 fn barrier(alloc: Global, inputs: &[u32], act: Act) -> Result<Node, AllocError> {
@@ -22,7 +25,12 @@ fn barrier(alloc: Global, inputs: &[u32], act: Act) -> Result<Node, AllocError> 
     for input in inputs {
         places.push(first_of(*input))?;
     }
-    Ok(Node::Barrier(places, 3, true, act))
+    Ok(Node::Barrier {
+        inputs: places,
+        origin: 3,
+        is_own: true,
+        act,
+    })
 }
 
 fn push(nodes: &mut Pile<Entry>, number: u32, node: Node) -> Result<(), AllocError> {
@@ -45,7 +53,16 @@ fn graph(alloc: Global, inputs: &[u32], act: Act) -> Result<Graph, AllocError> {
     push(&mut nodes, 0, Node::Source(rows))?;
     push(&mut nodes, 1, pdo(alloc, 0, 1, Does::Call(0))?)?;
     push(&mut nodes, 2, pdo(alloc, 1, 2, Does::Solo)?)?;
-    push(&mut nodes, 3, Node::Gbk(first_of(2), 2, false, None))?;
+    push(
+        &mut nodes,
+        3,
+        Node::Gbk {
+            input: first_of(2),
+            origin: 2,
+            is_own: false,
+            lifted: None,
+        },
+    )?;
     push(&mut nodes, 4, pdo(alloc, 3, 2, Does::Combine(Comb::Sum))?)?;
     push(
         &mut nodes,

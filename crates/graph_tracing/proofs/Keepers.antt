@@ -4,7 +4,7 @@ use Rattle.std.proofs.lemmas.Bool.{eq-eqb, eqb-true, false≢true, lt-ltb, ltb-t
 use Rattle.exec_graph.specs.Forests.{Forest}
 use Rattle.exec_graph.specs.Meaning.{AllDiffer, node_at, place}
 use Rattle.exec_graph.specs.Readers.{calls_on}
-use Rattle.exec_graph.specs.Wellformed.{Ascends, IsGraphOk}
+use Rattle.exec_graph.specs.Wellformed.{Ascends}
 use Rattle.exec_graph.specs.declared.graph.Entry.{Entry}
 use Rattle.exec_graph.specs.declared.graph.Graph.{Graph}
 use Rattle.exec_graph.specs.declared.graph.Node.{Node}
@@ -126,27 +126,27 @@ below_none q o p u less h =
     let both : None ≡ Some first = sym h ∙ some in
     let bad : ⊥ = cc in bad
 
-keeper_at : (g : Graph) (q p : ℕ) (o : Option Node) → IsGraphOk g → node_at g.nodes q ≡ o
+keeper_at : (g : Graph) (q p : ℕ) (o : Option Node) → Ascends g.nodes → node_at g.nodes q ≡ o
     → keeper_by g.nodes q o ≡ Some p → (p < q) × CanBeSibling g p q
 keeper_at g q p None ok at h = let bad : ⊥ = cc in absurd bad
 keeper_at g q p (Some (Source r)) ok at h = let bad : ⊥ = cc in absurd bad
 keeper_at g q p (Some (Flatten ins)) ok at h = let bad : ⊥ = cc in absurd bad
 keeper_at g q p (Some (Pdo c f)) ok at h =
     let s = below_some q p (first_caller c g.nodes) h in
-    let there = first_found c g.nodes p (differ_ascends g.nodes ok.founded.ascends) s.0 in
+    let there = first_found c g.nodes p (differ_ascends g.nodes ok) s.0 in
     (s.1, can_pair g p q c there (f, at) (λ e. let less = s.1 in omega arith))
 keeper_at g q p (Some (Gbk c o l k)) ok at h = let bad : ⊥ = cc in absurd bad
 keeper_at g q p (Some (Barrier ins o l a)) ok at h = let bad : ⊥ = cc in absurd bad
 
-pub keeper_some : (g : Graph) (q p : ℕ) → IsGraphOk g → keeper_in g.nodes q ≡ Some p
+pub keeper_some : (g : Graph) (q p : ℕ) → Ascends g.nodes → keeper_in g.nodes q ≡ Some p
     → (p < q) × CanBeSibling g p q
 keeper_some g q p ok h = keeper_at g q p (node_at g.nodes q) ok refl h
 
-pub keeper_none : (g : Graph) (q p : ℕ) → IsGraphOk g → keeper_in g.nodes q ≡ None → p < q
+pub keeper_none : (g : Graph) (q p : ℕ) → Ascends g.nodes → keeper_in g.nodes q ≡ None → p < q
     → CanBeSibling g p q → ⊥
 keeper_none g q p ok h less can =
     below_none q (first_caller (input_at g p) g.nodes) p
-    (first_least (input_at g p) g.nodes p (forest_at g p) ok.founded.ascends can.keeper) less
+    (first_least (input_at g p) g.nodes p (forest_at g p) ok can.keeper) less
     (sym (ap (keeper_by g.nodes q) can.other) ∙ h)
 
 -- ---- a kid

@@ -4,18 +4,15 @@ use Rattle.std.proofs.lemmas.Bool.{false≢true}
 use Rattle.std.specs.List.{AllByRecursion as Each}
 use Rattle.exec_graph.specs.Forests.{Forest}
 use Rattle.exec_graph.specs.Meaning.{IsSound, node_at}
-use Rattle.exec_graph.specs.Wellformed.{IsGraphOk}
 use Rattle.exec_graph.specs.declared.graph.Graph.{Graph}
 use Rattle.exec_graph.specs.declared.graph.Node.TheVariants.{Pdo}
 use Rattle.exec_graph.specs.declared.graph.Place.{Place}
 use Rattle.pass_rewrites.specs.of_fuse_chain.Numbers.{after_kids}
 use Rattle.pass_rewrites.specs.of_fuse_chain.Rewrites.{IsSibling, Kid, Sibling, Leads, Rewrite as Fusion, is_sibling, other_of}
-use Rattle.fusion_blocks.specs.Blocks.{unmarked}
 use Rattle.graph_laws.specs.Kids.{with_sibling}
 use Rattle.graph_rewrites.specs.Rewrites.{CanBeSibling, after_sibling, forest_at, input_at, input_of}
 use Rattle.graph_rewrites.specs.declared.rewrite.Rewrite.{Rewrite}
 use Rattle.graph_rewrites.specs.declared.rewrite.Rewrite.TheVariants as rewrite
-use Rattle.graph_rewrites.proofs.Keeping.{apply_good}
 use Rattle.pass_rewrites.specs.Passes.{as_rewrite, present}
 use Rattle.sink_laws.specs.Chain.{forest_of}
 use Rattle.graph_tracing.specs.Traces.{GoesOn}
@@ -25,11 +22,6 @@ use Rattle.graph_tracing.proofs.Keepers.{can_pair}
 use Rattle.graph_tracing.proofs.Effects.{Calls}
 use Rattle.graph_tracing.proofs.Traces.{goes_more}
 use Rattle.graph_tracing.proofs.Waiting.{calls_kept, made_sound, not_up_to}
-
-pub sibling_ok : (g h : Graph) (p q : ℕ) → IsGraphOk g → p < q → CanBeSibling g p q
-    → h ≡ after_sibling g p q → IsGraphOk h
-sibling_ok g h p q ok less can is =
-    subst IsGraphOk (sym is) (apply_good (unmarked g) (rewrite.Sibling p q) ok (less, can)).ok
 
 pub sibling_goes : (old new : Trace) (p q : ℕ) → p < q → CanBeSibling old.graph p q
     → new.graph ≡ after_sibling old.graph p q

@@ -12,6 +12,9 @@ use Rattle.pass_rewrites.proofs.Lists.{last_is}
 use Rattle.graph_tracing.specs.Traces.{GoesOn, IsTrace}
 use Rattle.graph_tracing.specs.declared.trace.Trace.{Trace}
 
+abbrev pub as_trace : Graph → List Rewrite → Trace
+as_trace g rs = record { graph = g; rewrites = rs }
+
 pub begun : (group : ℕ) (g : Graph) (rs : List Rewrite) → rs ≡ [] → IsTrace group g rs g
 begun group g rs none =
     subst (λ (l : List Rewrite). IsTrace group g l g) (sym none) (record { all = tt; leads = refl })

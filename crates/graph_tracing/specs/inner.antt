@@ -1,4 +1,5 @@
 pub mod Turns
 pub mod Callers
+pub mod Named
 pub mod Waiting
 pub mod Numbers

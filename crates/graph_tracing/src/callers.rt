@@ -15,7 +15,7 @@ pub(crate) fn keeper_of(nodes: &[Entry], number: u32) -> Option<u32>
     ensures { result ≡ callers.keeper_in nodes.now number }
 {
     match find_node(nodes, number) {
-        Some(Node::Pdo(input, _)) => below(number, first_caller(nodes, *input)),
+        Some(Node::Pdo { input, .. }) => below(number, first_caller(nodes, *input)),
         _ => None,
     }
 }
@@ -45,9 +45,8 @@ fn calls(node: &Node, read: Place) -> bool
     ensures { result ≡ calls_on read node.now }
 {
     match node {
-        Node::Pdo(input, _) => read.node == input.node && read.out == input.out,
-        Node::Source(_) | Node::Flatten(_) | Node::Gbk(_, _, _, _) | Node::Barrier(_, _, _, _) =>
-            false,
+        Node::Pdo { input, .. } => read.node == input.node && read.out == input.out,
+        Node::Source(_) | Node::Flatten(_) | Node::Gbk { .. } | Node::Barrier { .. } => false,
     }
 }
 
@@ -57,7 +56,7 @@ pub(crate) fn read_of(nodes: &[Entry], number: u32) -> Option<Place>
     ensures { result ≡ callers.read_in nodes.now number }
 {
     match find_node(nodes, number) {
-        Some(Node::Pdo(input, _)) => {
+        Some(Node::Pdo { input, .. }) => {
             if is_pdo_at(nodes, input.node) {
                 Some(*input)
             } else {
@@ -73,7 +72,7 @@ pub(crate) fn is_pdo_at(nodes: &[Entry], number: u32) -> bool
     ensures { result ≡ is_pdo (node_at nodes.now number) }
 {
     match find_node(nodes, number) {
-        Some(Node::Pdo(_, _)) => true,
+        Some(Node::Pdo { .. }) => true,
         _ => false,
     }
 }

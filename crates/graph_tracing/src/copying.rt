@@ -44,14 +44,32 @@ fn copy_node(alloc: Global, node: &Node) -> Result<Node, AllocError>
     match node {
         Node::Source(input) => Ok(Node::Source(*input)),
         Node::Flatten(inputs) => Ok(Node::Flatten(copy_places(alloc, inputs.as_slice())?)),
-        Node::Pdo(input, roots) => Ok(Node::Pdo(*input, roots.copy(alloc)?)),
-        Node::Gbk(input, origin, last, lifted) => Ok(Node::Gbk(*input, *origin, *last, *lifted)),
-        Node::Barrier(inputs, origin, last, act) => Ok(Node::Barrier(
-            copy_places(alloc, inputs.as_slice())?,
-            *origin,
-            *last,
-            *act,
-        )),
+        Node::Pdo { input, roots } => Ok(Node::Pdo {
+            input: *input,
+            roots: roots.copy(alloc)?,
+        }),
+        Node::Gbk {
+            input,
+            origin,
+            is_own: last,
+            lifted,
+        } => Ok(Node::Gbk {
+            input: *input,
+            origin: *origin,
+            is_own: *last,
+            lifted: *lifted,
+        }),
+        Node::Barrier {
+            inputs,
+            origin,
+            is_own: last,
+            act,
+        } => Ok(Node::Barrier {
+            inputs: copy_places(alloc, inputs.as_slice())?,
+            origin: *origin,
+            is_own: *last,
+            act: *act,
+        }),
     }
 }
 

@@ -1,79 +1,23 @@
-// The siblings and the kids that fusing is.
-ghost use Rattle.std.specs.Prelude.{◌≡◌, ◌<◌, ◌++◌, ◌∷◌, [], ℕ, List, IfOk, true};
+// A kid of a graph as it is.
+ghost use Rattle.std.specs.Prelude.{◌≡◌, ◌++◌, ◌∷◌, [], ℕ, List, IfOk};
 ghost use Rattle.exec_graph.specs.Wellformed.{IsGraphOk};
 ghost use Rattle.exec_graph.specs.declared.graph.Graph.{Graph as GhostGraph};
 ghost use Rattle.pass_rewrites.specs.of_fuse_chain.Numbers as after;
 ghost use Rattle.graph_rewrites.specs.Rewrites as rewrites;
 ghost use Rattle.graph_rewrites.specs.declared.rewrite.Rewrite.{Rewrite as GhostRewrite};
 ghost use Rattle.graph_rewrites.specs.declared.rewrite.Rewrite.TheVariants as rewrite;
-ghost use Rattle.graph_tracing.specs.Traces.{GoesOn, GoesUnder};
+ghost use Rattle.graph_tracing.specs.Traces.{GoesUnder};
 ghost use Rattle.graph_tracing.specs.inner.Numbers.{KeepsAll, number_in};
-ghost use Rattle.graph_tracing.specs.inner.Waiting.{AreApart, IsLeaving, IsUnderway};
+ghost use Rattle.graph_tracing.specs.inner.Waiting.{IsLeaving};
 
-use crate::callers::{keeper_of, read_of};
+use crate::callers::read_of;
 use crate::numbers::{number_of, take_lesser};
 use crate::trace::Trace;
 use exec_graph::Place;
-use graph_joining::{join_sibling, kid_under};
+use graph_joining::kid_under;
 use graph_rewrites::Rewrite;
 use std::alloc::{AllocError, Global};
 use std::collections::HashMap;
-
-/// Of the Pdos of these numbers each becomes a sibling of the first that reads the same, where that
-/// has a lesser number.
-pub(crate) fn with_siblings(
-    alloc: Global,
-    trace: Trace,
-    numbers: &[u32],
-) -> Result<Trace, AllocError>
-    requires { IsGraphOk trace.graph }
-    ensures ok { IfOk result (λ t. IsGraphOk t.graph) }
-    ensures traced { IfOk result (λ t. GoesOn 2 trace t) }
-    ensures whole { IfOk result (λ t. (m : GhostGraph) (f : ℕ → ℕ) (all : List GhostRewrite) →
-        AreApart m → IsUnderway true (λ n. n) f trace m numbers.now all →
-        IsUnderway true (λ n. n) f t m [] all) }
-{
-    let mut trace = trace;
-    for number in numbers {
-        trace = with_sibling(alloc, trace, *number)?;
-    }
-    Ok(trace)
-}
-
-fn with_sibling(alloc: Global, trace: Trace, number: u32) -> Result<Trace, AllocError>
-    requires { IsGraphOk trace.graph }
-    ensures ok { IfOk result (λ t. IsGraphOk t.graph) }
-    ensures traced { IfOk result (λ t. GoesOn 2 trace t) }
-    ensures whole { IfOk result (λ t. (m : GhostGraph) (f : ℕ → ℕ) (ns : List ℕ)
-        (all : List GhostRewrite) → AreApart m →
-        IsUnderway true (λ n. n) f trace m (number ∷ ns) all →
-        IsUnderway true (λ n. n) f t m ns all) }
-{
-    match keeper_of(trace.graph.nodes.as_slice(), number) {
-        Some(keeper) => {
-            let next = after_sibling(alloc, trace, keeper, number)?;
-            Ok(next)
-        }
-        None => Ok(trace),
-    }
-}
-
-fn after_sibling(alloc: Global, trace: Trace, keeper: u32, other: u32) -> Result<Trace, AllocError>
-    requires ok { IsGraphOk trace.graph }
-    requires can { rewrites.CanBeSibling trace.graph keeper other }
-    ensures graph { IfOk result (λ t.
-        t.graph ≡ rewrites.after_sibling trace.graph keeper other) }
-    ensures rewrites { IfOk result (λ t.
-        t.rewrites ≡ trace.rewrites ++ rewrite.Sibling keeper other ∷ []) }
-{
-    let Trace {
-        graph,
-        mut rewrites,
-    } = trace;
-    rewrites.push(Rewrite::Sibling { keeper, other })?;
-    let graph = join_sibling(alloc, graph, keeper, other)?;
-    Ok(Trace { graph, rewrites })
-}
 
 /// A graph whose kids are under the numbers of the Pdos that they read, the numbers that its nodes
 /// have where what comes of two takes the lesser one, and the rewrites that led to it under these.
@@ -83,28 +27,8 @@ pub(crate) struct KidTrace {
     pub(crate) numbers: HashMap<u32, u32>,
 }
 
-/// Of the Pdos of these numbers each that is still there becomes a kid of the Pdo that it reads.
-pub(crate) fn with_kids(
-    alloc: Global,
-    kids: KidTrace,
-    numbers: &[u32],
-) -> Result<KidTrace, AllocError>
-    requires ok { IsGraphOk kids.trace.graph }
-    requires keeps { KeepsAll (number_in kids.numbers) }
-    ensures traced { IfOk result (λ t. GoesUnder (number_in kids.numbers) (number_in t.numbers)
-        kids.trace t.trace) }
-    ensures whole { IfOk result (λ t. (m : GhostGraph) (f : ℕ → ℕ) (all : List GhostRewrite) →
-        IsLeaving (number_in kids.numbers) f kids.trace m numbers.now all →
-        IsLeaving (number_in t.numbers) f t.trace m [] all) }
-{
-    let mut kids = kids;
-    for number in numbers {
-        kids = with_kid(alloc, kids, *number)?;
-    }
-    Ok(kids)
-}
-
-fn with_kid(alloc: Global, kids: KidTrace, number: u32) -> Result<KidTrace, AllocError>
+/// The Pdo of that number, where it is still there, becomes a kid of the Pdo that it reads.
+pub(crate) fn with_kid(alloc: Global, kids: KidTrace, number: u32) -> Result<KidTrace, AllocError>
     requires ok { IsGraphOk kids.trace.graph }
     requires keeps { KeepsAll (number_in kids.numbers) }
     ensures ok { IfOk result (λ t. IsGraphOk t.trace.graph) }

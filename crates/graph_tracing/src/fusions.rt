@@ -9,7 +9,9 @@ ghost use Rattle.graph_tracing.specs.Fusions.{IsFusion};
 ghost use Rattle.graph_tracing.specs.inner.Callers as callers;
 
 use crate::callers::is_pdo_at;
-use crate::fusing::{KidTrace, with_kids, with_siblings};
+use crate::fusing::KidTrace;
+use crate::hanging::with_kids;
+use crate::pairing::with_siblings;
 use crate::trace::Trace;
 use exec_graph::{Entry, Graph, Node, Place, add_place, code_of};
 use flume_value::Pile;
@@ -73,9 +75,8 @@ fn goes(nodes: &[Entry], marks: &[Place], marked: &HashSet<u64>, node: &Node) ->
     ensures { result ≡ callers.goes_by nodes.now marks.now node.now }
 {
     match node {
-        Node::Pdo(c, _) => is_unmarked(nodes, marks, marked, *c),
-        Node::Source(_) | Node::Flatten(_) | Node::Gbk(_, _, _, _) | Node::Barrier(_, _, _, _) =>
-            false,
+        Node::Pdo { input: c, .. } => is_unmarked(nodes, marks, marked, *c),
+        Node::Source(_) | Node::Flatten(_) | Node::Gbk { .. } | Node::Barrier { .. } => false,
     }
 }
 

@@ -37,7 +37,7 @@ fn call_at(nodes: &[Entry], number: u32, node: &Node) -> Option<Pair>
     ensures { result ≡ chain.call_at nodes.now number node.now }
 {
     match node {
-        Node::Pdo(input, _) => match find_node(nodes, input.node) {
+        Node::Pdo { input, .. } => match find_node(nodes, input.node) {
             Some(Node::Flatten(_)) => Some(Pair {
                 flatten: input.node,
                 other: number,

@@ -1,9 +1,9 @@
 -- Outputs and steps that have all their numbers.
 use Rattle.std.proofs.Common.{◌≡◌, ◌≤◌, ℕ, List, ◌++◌, map, take, drop, length, Option, sym, ap, ap₂, ◌∙◌, append_assoc, append-nil, length-append}
 use Rattle.std.proofs.lemmas.List.{drop_all, take_all}
-use Rattle.exec_graph.specs.Forests.{Branch, Forest, Twig, after_out, grown, new_out, numbered}
-use Rattle.exec_graph.specs.Twigs.{twig}
-use Rattle.exec_graph.specs.declared.step.Output.{Output}
+use Rattle.graph_laws.specs.of_exec_graph.Forests.{Branch, Forest, Twig, after_out, grown, new_out, numbered}
+use Rattle.graph_laws.specs.of_exec_graph.Twigs.{twig}
+use Rattle.graph_laws.specs.of_exec_graph.declared.step.Output.{Output}
 use Rattle.graph_walks.specs.Outs.{out_list, outs}
 use Rattle.graph_walks.specs.inner.Numbering.{after_twig, branches_outs, numbered_branches, numbered_twig, numbered_twigs, twig_outs, twigs_outs}
 use Rattle.graph_walks.specs.inner.Relabels.{relabelled, relabelled_branch, relabelled_twig}

@@ -1,6 +1,6 @@
 -- Outputs numbered one behind the other, as the steps are held.
 use Rattle.std.proofs.Common.{◌≡◌, ℕ, suc, ◌+◌, Bool, List, [], ◌∷◌, ◌++◌, map, length, Option, Some, None, refl, sym, ap, ap₂, ◌∙◌, arith, append_assoc, length-append}
-use Rattle.exec_graph.specs.Forests.{Branch, Forest, Bare, Grow, Twig, after, after_out, grown, label_at, limb, new_label, numbered, twigs}
+use Rattle.graph_laws.specs.of_exec_graph.Forests.{Branch, Forest, Bare, Grow, Twig, after, after_out, grown, label_at, limb, new_label, numbered, twigs}
 use Rattle.graph_laws.specs.Kids.{kept_by, out_kept}
 use Rattle.graph_walks.specs.Outs.{out_list, outs}
 use Rattle.graph_walks.specs.inner.Numbering.{after_branch, after_twig, after_twigs, branch_outs, branches_outs, numbered_branch, numbered_branches, numbered_twig, numbered_twigs, twig_outs, twigs_outs}

@@ -2,8 +2,8 @@
 use Rattle.std.proofs.Common.{◌≡◌, ℕ, suc, ◌+◌, Bool, true, false, cond, eqb, ◌||◌, List, [], ◌∷◌, ◌++◌, length, Option, Some, None, refl, sym, ap, ◌∙◌, arith}
 use Rattle.std.proofs.lemmas.Bool.{false≢true}
 use Rattle.std.specs.List.{list_any}
-use Rattle.exec_graph.specs.Forests.{Forest, Bare, Grow, after, after_out}
-use Rattle.exec_graph.specs.Meaning.{has_out, is_out}
+use Rattle.graph_laws.specs.of_exec_graph.Forests.{Forest, Bare, Grow, after, after_out}
+use Rattle.graph_laws.specs.of_exec_graph.Meaning.{has_out, is_out}
 use Rattle.graph_laws.specs.Kids.{number_in}
 use Rattle.graph_walks.specs.Outs.{out_list, outs, place_of}
 use Rattle.graph_walks.proofs.NumberLemmas.{after_count}

@@ -1,8 +1,8 @@
 -- Roots on an output, as the steps are held.
 use Rattle.std.proofs.Common.{◌≡◌, ℕ, suc, Bool, true, false, cond, ◌||◌, List, [], ◌∷◌, refl, sym, ap, ap₂, ◌∙◌}
-use Rattle.exec_graph.specs.Forests.{Branch, Forest, Bare, Grow, Twig, grown, label_at, limb, twigs}
-use Rattle.exec_graph.specs.Meaning.{OutsDiffer, has_out, is_out}
-use Rattle.exec_graph.proofs.Bools.{or_false}
+use Rattle.graph_laws.specs.of_exec_graph.Forests.{Branch, Forest, Bare, Grow, Twig, grown, label_at, limb, twigs}
+use Rattle.graph_laws.specs.of_exec_graph.Meaning.{OutsDiffer, has_out, is_out}
+use Rattle.graph_laws.proofs.of_exec_graph.Bools.{or_false}
 use Rattle.graph_laws.specs.Joining.{beside, grafted}
 use Rattle.graph_walks.specs.inner.Plants.{on_branch, on_branches, on_twig, on_twigs, planted, planted_branch, planted_branches, planted_twigs}
 

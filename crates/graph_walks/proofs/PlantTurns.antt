@@ -1,10 +1,10 @@
 -- One turn more of the walks that look for an output.
 use Rattle.std.proofs.Common.{◌≡◌, ◌≤◌, ℕ, ◌+◌, ◌<◌, Bool, true, false, cond, ◌||◌, List, [], ◌∷◌, ◌++◌, map, set, take, drop, length, get_or, Option, sym, ap, ap₂, ◌∙◌, append_assoc, append-nil, suc, arith}
 use Rattle.std.proofs.lemmas.List.{drop_all, map-append, set_split, take_all}
-use Rattle.exec_graph.specs.Forests.{Branch, Forest, Twig, grown}
-use Rattle.exec_graph.specs.Meaning.{has_out, is_out}
-use Rattle.exec_graph.specs.Twigs.{twig}
-use Rattle.exec_graph.specs.declared.step.Output.{Output}
+use Rattle.graph_laws.specs.of_exec_graph.Forests.{Branch, Forest, Twig, grown}
+use Rattle.graph_laws.specs.of_exec_graph.Meaning.{has_out, is_out}
+use Rattle.graph_laws.specs.of_exec_graph.Twigs.{twig}
+use Rattle.graph_laws.specs.of_exec_graph.declared.step.Output.{Output}
 use Rattle.graph_laws.specs.Joining.{beside}
 use Rattle.graph_walks.specs.inner.Plants.{on_branch, on_branches, on_twig, on_twigs, planted, planted_branch, planted_branches, planted_twig, planted_twigs}
 use Rattle.graph_walks.proofs.InPlace.{left_here, set_done, set_left}

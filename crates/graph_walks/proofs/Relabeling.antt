@@ -1,6 +1,6 @@
 -- Forests under other numbers, as the steps are held.
 use Rattle.std.proofs.Common.{◌≡◌, ℕ, suc, Bool, List, [], ◌∷◌, ◌++◌, map, Option, refl, sym, ap, ap₂, ◌∙◌}
-use Rattle.exec_graph.specs.Forests.{Branch, Forest, Bare, Grow, Twig, grown, label_at, limb, twigs, with_out}
+use Rattle.graph_laws.specs.of_exec_graph.Forests.{Branch, Forest, Bare, Grow, Twig, grown, label_at, limb, twigs, with_out}
 use Rattle.graph_laws.specs.Joining.{beside}
 use Rattle.graph_laws.specs.Kids.{kept_by, named_by, out_kept, out_named}
 use Rattle.graph_walks.specs.inner.Relabels.{relabelled, relabelled_branch, relabelled_twig}

@@ -2,7 +2,7 @@
 use Rattle.std.proofs.Common.{◌≡◌, ℕ, suc, ◌+◌, ◌<◌, ◌≤◌, Bool, true, false, cond, eqb, ◌&&◌, List, ◌∷◌, drop, length, get_or, refl, sym, ap, ◌∙◌, arith}
 use Rattle.std.proofs.lemmas.Bool.{eqb-true}
 use Rattle.std.proofs.lemmas.List.{drop_all, drop_more}
-use Rattle.exec_graph.proofs.Bools.{not_true}
+use Rattle.graph_laws.proofs.of_exec_graph.Bools.{not_true}
 use Rattle.graph_walks.specs.Outs.{place_of}
 
 -- a number that has no place yet is among those that are left

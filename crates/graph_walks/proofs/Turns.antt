@@ -1,9 +1,9 @@
 -- One turn more of the walks that number.
 use Rattle.std.proofs.Common.{◌≡◌, ℕ, ◌+◌, ◌<◌, List, [], ◌∷◌, ◌++◌, map, set, take, drop, length, get_or, sym, ap, ◌∙◌}
 use Rattle.std.proofs.lemmas.List.{map-append}
-use Rattle.exec_graph.specs.Forests.{Branch, Twig}
-use Rattle.exec_graph.specs.Twigs.{twig}
-use Rattle.exec_graph.specs.declared.step.Output.{Output}
+use Rattle.graph_laws.specs.of_exec_graph.Forests.{Branch, Twig}
+use Rattle.graph_laws.specs.of_exec_graph.Twigs.{twig}
+use Rattle.graph_laws.specs.of_exec_graph.declared.step.Output.{Output}
 use Rattle.graph_walks.specs.inner.Numbering.{branch_outs, branches_outs, numbered_branch, numbered_branches, numbered_twig, numbered_twigs, twig_outs, twigs_outs}
 use Rattle.graph_walks.proofs.InPlace.{left_here, set_done, set_left}
 use Rattle.graph_walks.proofs.NumberLemmas.{branch_more, outs_more, twig_more, twig_outs_more}

@@ -1,7 +1,7 @@
 -- The outputs that a forest keeps, in preorder.
 use Rattle.std.specs.Prelude.{ℕ, ◌==◌, cond, Bool, false, List, [], ◌∷◌, ◌++◌, Option, Some, None, slice_index_or}
 use Rattle.std.proofs.Common.{suc}
-use Rattle.exec_graph.specs.Forests.{Forest, Bare, Grow}
+use Rattle.graph_laws.specs.of_exec_graph.Forests.{Forest, Bare, Grow}
 
 abbrev pub out_list : Option ℕ → List ℕ
 out_list None = []

@@ -1,11 +1,11 @@
 // Whether a step keeps an output.
 ghost use Rattle.std.specs.Prelude.{◌≡◌, map};
-ghost use Rattle.exec_graph.specs.Forests.{grown};
-ghost use Rattle.exec_graph.specs.Meaning.{has_out, is_out};
-ghost use Rattle.exec_graph.specs.Twigs.{twig};
+ghost use Rattle.graph_laws.specs.of_exec_graph.Forests.{grown};
+ghost use Rattle.graph_laws.specs.of_exec_graph.Meaning.{has_out, is_out};
+ghost use Rattle.graph_laws.specs.of_exec_graph.Twigs.{twig};
 ghost use Rattle.graph_walks.specs.inner.Plants as spec;
 
-use exec_graph::{Output, Step};
+use graph_laws::exec_graph::{Output, Step};
 
 /// Whether one of the steps, or of those on their outputs, keeps the output of that number.
 #[tactic(auto, using(crate::proofs::PlantLemmas::has_grown))]

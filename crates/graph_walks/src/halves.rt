@@ -1,12 +1,12 @@
 // Outputs under even numbers, or under odd ones.
 ghost use Rattle.std.specs.Prelude.{◌≡◌, IfOk, OnOk, map};
-ghost use Rattle.exec_graph.specs.Forests.{grown};
-ghost use Rattle.exec_graph.specs.Twigs.{twig};
+ghost use Rattle.graph_laws.specs.of_exec_graph.Forests.{grown};
+ghost use Rattle.graph_laws.specs.of_exec_graph.Twigs.{twig};
 ghost use Rattle.graph_laws.specs.Kids.{named_by, out_named};
 ghost use Rattle.graph_walks.specs.Halves.{half_of};
 ghost use Rattle.graph_walks.specs.inner.Relabels.{relabelled_branch, relabelled_twig};
 
-use exec_graph::{Output, Step};
+use graph_laws::exec_graph::{Output, Step};
 use std::alloc::AllocError;
 
 /// The numbers twice, or twice and one more.

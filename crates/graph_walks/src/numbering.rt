@@ -1,13 +1,13 @@
 // Some outputs alone, under numbers from 0 on.
 ghost use Rattle.std.specs.Prelude.{◌≡◌, ◌++◌, IfOk, OnOk, length, map};
-ghost use Rattle.exec_graph.specs.Forests.{grown, new_out, numbered};
-ghost use Rattle.exec_graph.specs.Twigs.{twig};
+ghost use Rattle.graph_laws.specs.of_exec_graph.Forests.{grown, new_out, numbered};
+ghost use Rattle.graph_laws.specs.of_exec_graph.Twigs.{twig};
 ghost use Rattle.graph_laws.specs.Kids.{kept_by, out_kept};
 ghost use Rattle.graph_walks.specs.Outs.{flag, out_list, outs};
 ghost use Rattle.graph_walks.specs.inner.Numbering as spec;
 ghost use Rattle.graph_walks.specs.inner.Relabels.{relabelled_branch, relabelled_twig};
 
-use exec_graph::{Output, Step};
+use graph_laws::exec_graph::{Output, Step};
 use std::alloc::{AllocError, Global};
 
 /// Keeps the outputs alone whose flag stands, under numbers from 0 on in preorder. Gives the

@@ -1,13 +1,13 @@
 // Steps on an output of a step.
 ghost use Rattle.std.specs.Prelude.{◌≡◌, IfOk, OnOk, false, map};
-ghost use Rattle.exec_graph.specs.Forests.{grown};
-ghost use Rattle.exec_graph.specs.Meaning.{OutsDiffer};
-ghost use Rattle.exec_graph.specs.Twigs.{twig};
+ghost use Rattle.graph_laws.specs.of_exec_graph.Forests.{grown};
+ghost use Rattle.graph_laws.specs.of_exec_graph.Meaning.{OutsDiffer};
+ghost use Rattle.graph_laws.specs.of_exec_graph.Twigs.{twig};
 ghost use Rattle.graph_laws.specs.Joining.{grafted};
 ghost use Rattle.graph_walks.specs.inner.Plants as spec;
 
 use crate::finding::is_out;
-use exec_graph::{Output, Step};
+use graph_laws::exec_graph::{Output, Step};
 use std::alloc::AllocError;
 
 /// Puts the others behind the steps on that output, if there is one.

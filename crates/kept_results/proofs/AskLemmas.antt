@@ -7,7 +7,7 @@ use Rattle.std.proofs.lemmas.Bool.{eq-eqb, ne_eqb}
 use Rattle.std.proofs.lemmas.List.{drop_all}
 use Rattle.written_types.specs.Named.{Named}
 use Rattle.script_program.specs.declared.made.Output.{Output}
-use Rattle.direct_meaning.proofs.PlaceLemmas.{mapped}
+use Rattle.saved_meaning.proofs.of_direct_meaning.PlaceLemmas.{mapped}
 use Rattle.kept_results.specs.Asked.{name_read}
 use Rattle.kept_results.proofs.Steps.{front_of}
 

@@ -12,7 +12,7 @@ use Rattle.saved_results.specs.declared.saved.Saved.{Saved}
 use Rattle.outside.specs.Cause.{Rose}
 use Rattle.script_program.specs.Script.{Script}
 use Rattle.value_reading.specs.Written.{IsWritten}
-use Rattle.direct_meaning.proofs.PlaceLemmas.{zip_more}
+use Rattle.saved_meaning.proofs.of_direct_meaning.PlaceLemmas.{zip_more}
 use Rattle.saved_meaning.specs.Found.{chosen}
 use Rattle.kept_results.specs.Kept.{AreFound, AreKept, Finds, FindsEach, IsFound, IsKeptOf}
 use Rattle.kept_results.proofs.SameLemmas.{saved_same}

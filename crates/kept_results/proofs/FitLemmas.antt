@@ -17,7 +17,7 @@ use Rattle.saved_results.specs.declared.saved.Saved.{Saved}
 use Rattle.saved_results.specs.declared.saved.Size.{Size}
 use Rattle.script_program.specs.Rested.{rested_names}
 use Rattle.script_program.specs.Script.{Node, Script}
-use Rattle.direct_meaning.proofs.PlaceLemmas.{mapped}
+use Rattle.saved_meaning.proofs.of_direct_meaning.PlaceLemmas.{mapped}
 use Rattle.kept_results.specs.Kept.{AreMembersOf, IsKeptOf}
 use Rattle.kept_results.specs.inner.Named.{are_named}
 use Rattle.kept_results.proofs.NameLemmas.{equal-named, named-equal}

@@ -14,12 +14,12 @@ use Rattle.script_program.specs.Kinds.{gives_object}
 use Rattle.script_program.specs.Needed.{is_needed, outputs_read}
 use Rattle.script_program.specs.Saved.{with_saved}
 use Rattle.script_program.specs.Script.{Node, Script}
-use Rattle.script_laws.specs.WellFormed.{IsWellFormed}
-use Rattle.script_laws.proofs.NeededLemmas.{needed_law}
-use Rattle.script_laws.proofs.SavedLemmas.{saved-well}
+use Rattle.saved_meaning.specs.of_script_laws.WellFormed.{IsWellFormed}
+use Rattle.saved_meaning.proofs.of_script_laws.NeededLemmas.{needed_law}
+use Rattle.saved_meaning.proofs.of_script_laws.SavedLemmas.{saved-well}
 use Rattle.flume_collection.specs.Collection.{Collection}
-use Rattle.direct_meaning.specs.Direct.{made_at}
-use Rattle.direct_meaning.specs.Inputs.{IsListOf}
+use Rattle.saved_meaning.specs.of_direct_meaning.Direct.{made_at}
+use Rattle.saved_meaning.specs.of_direct_meaning.Inputs.{IsListOf}
 use Rattle.saved_meaning.specs.Found.{IsKeptList, members_of}
 use Rattle.kept_results.specs.Asked.{asked_as, asked_nodes, name_read}
 use Rattle.kept_results.specs.Kept.{AreKept, IsKeptOf}

@@ -10,6 +10,6 @@ pub mod SortLemmas
 pub mod FindLemmas
 pub mod SizeLemmas
 pub mod AskLemmas
-pub use Rattle.direct_meaning.proofs as of_direct_meaning
-pub use Rattle.script_laws.proofs as of_script_laws
+pub use Rattle.saved_meaning.proofs.of_direct_meaning as of_direct_meaning
+pub use Rattle.saved_meaning.proofs.of_script_laws as of_script_laws
 pub use Rattle.saved_meaning.proofs as of_saved_meaning

@@ -13,8 +13,8 @@ use Rattle.script_program.specs.declared.made.Made.TheVariants as made
 use Rattle.script_program.specs.Needed.{has, is_needed, needed_nodes, numbered}
 use Rattle.script_program.specs.Saved.{HasNoSaved, IsUnsaved, saved_from, saved_node, with_saved}
 use Rattle.script_program.specs.Script.{Node, Script}
-use Rattle.direct_meaning.proofs.PlainLemmas.{flat-if, more_if}
-use Rattle.direct_meaning.specs.Direct.{made_at}
+use Rattle.saved_meaning.proofs.of_direct_meaning.PlainLemmas.{flat-if, more_if}
+use Rattle.saved_meaning.specs.of_direct_meaning.Direct.{made_at}
 use Rattle.saved_meaning.specs.Found.{all_kept, members_kept, members_of, needed_too, needs_input}
 use Rattle.saved_meaning.specs.Found.{still_needed}
 use Rattle.kept_results.specs.Lists.{input_numbers, kept_at, number_of_input}

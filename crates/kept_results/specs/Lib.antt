@@ -5,6 +5,6 @@ pub mod Sizes
 pub mod Keyed
 pub mod Keeping
 pub mod inner
-pub use Rattle.direct_meaning.specs as of_direct_meaning
+pub use Rattle.saved_meaning.specs.of_direct_meaning as of_direct_meaning
 pub use Rattle.saved_meaning.specs as of_saved_meaning
-pub use Rattle.script_laws.specs as of_script_laws
+pub use Rattle.saved_meaning.specs.of_script_laws as of_script_laws

@@ -9,7 +9,7 @@ use Rattle.script_program.specs.declared.made.Made.TheVariants as made
 use Rattle.script_program.specs.Needed.{needed_nodes, numbered}
 use Rattle.script_program.specs.Saved.{with_saved}
 use Rattle.script_program.specs.Script.{Script}
-use Rattle.direct_meaning.specs.Direct.{made_at}
+use Rattle.saved_meaning.specs.of_direct_meaning.Direct.{made_at}
 use Rattle.saved_meaning.specs.Found.{chosen, members_of, needs_input}
 
 -- ---- what is found

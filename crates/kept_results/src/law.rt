@@ -1,12 +1,12 @@
 // What is given to a run that reuses what was found.
 ghost use Rattle.std.specs.Prelude.{◌≡◌, ℕ, List, Option, map};
 ghost use Rattle.std.specs.List.{AllByRecursion};
-ghost use Rattle.direct_meaning.specs.Inputs.{AreInputs};
+ghost use Rattle.saved_meaning.specs.of_direct_meaning.Inputs.{AreInputs};
 ghost use Rattle.flume_collection.specs.Collection.{Collection};
 ghost use Rattle.flume_value.specs.declared.value.Value.{Value};
 ghost use Rattle.saved_meaning.specs.Found.{lists_for};
 ghost use Rattle.saved_results.specs.declared.saved.Saved.{Saved};
-ghost use Rattle.script_laws.specs.WellFormed.{IsWellFormed};
+ghost use Rattle.saved_meaning.specs.of_script_laws.WellFormed.{IsWellFormed};
 ghost use Rattle.script_program.specs.Saved.{HasNoSaved};
 ghost use Rattle.script_program.specs.Script.{Script};
 ghost use Rattle.kept_results.specs.Asked.{asked_nodes};

@@ -15,6 +15,9 @@ mod laws;
 mod parts;
 mod steps;
 
+pub use bag_groups;
+pub use combine_table;
 pub use fault::KeyFault;
+pub use flume_value;
 pub use laws::tables_law;
 pub use steps::{combine_each, combine_group};

@@ -61,11 +61,11 @@ fn add_key_reads(
             Ok(())
         }
         Key::Mapper(number) => match find_node(nodes, index, number) {
-            Some(Node::Pdo(c, _)) => {
+            Some(Node::Pdo { input: c, .. }) => {
                 all.push(*c)?;
                 Ok(())
             }
-            Some(Node::Barrier(inputs, _, _, act)) => {
+            Some(Node::Barrier { inputs, act, .. }) => {
                 add_side(number, *act, inputs.as_slice(), all)
             }
             _ => add_itself(number, all),
@@ -105,7 +105,7 @@ fn flatten_reads(
             let copied = Vec::from_slice(alloc, inputs.as_slice())?;
             Ok(Pile::from_vec(copied))
         }
-        Some(Node::Barrier(inputs, _, _, _)) => {
+        Some(Node::Barrier { inputs, .. }) => {
             let copied = Vec::from_slice(alloc, inputs.as_slice())?;
             Ok(Pile::from_vec(copied))
         }
@@ -142,9 +142,7 @@ fn add_source(entry: &Entry, places: &mut HashSet<u64>) -> Result<(), AllocError
             },
             places,
         ),
-        Node::Flatten(_) | Node::Pdo(_, _) | Node::Gbk(_, _, _, _) | Node::Barrier(_, _, _, _) => {
-            Ok(())
-        }
+        Node::Flatten(_) | Node::Pdo { .. } | Node::Gbk { .. } | Node::Barrier { .. } => { Ok(()) }
     }
 }
 

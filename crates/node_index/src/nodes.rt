@@ -68,8 +68,8 @@ pub fn reads_of(node: &Node) -> &[Place]
     match node {
         Node::Source(_) => &[],
         Node::Flatten(inputs) => inputs.as_slice(),
-        Node::Barrier(inputs, _, _, _) => inputs.as_slice(),
-        Node::Pdo(c, _) => slice::from_ref(c),
-        Node::Gbk(c, _, _, _) => slice::from_ref(c),
+        Node::Barrier { inputs, .. } => inputs.as_slice(),
+        Node::Pdo { input: c, .. } => slice::from_ref(c),
+        Node::Gbk { input: c, .. } => slice::from_ref(c),
     }
 }

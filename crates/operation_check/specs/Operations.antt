@@ -19,7 +19,7 @@ use Rattle.flume_grammar.specs.declared.fault.ScriptFault.TheVariants.{Refused}
 pub use Rattle.bag_steps.specs.Sides.{sides_of}
 use Rattle.combine_table.specs.declared.comb.Comb.{Comb}
 use Rattle.combine_table.specs.declared.comb.Comb.TheVariants as comb
-use Rattle.written_types.specs.Answer.{Checked, ◌>>=◌, unless, or_fault}
+use Rattle.script_program.specs.of_written_types.Answer.{Checked, ◌>>=◌, unless, or_fault}
 use Rattle.script_program.specs.declared.made.Made.TheVariants as made
 use Rattle.expression_check.specs.Numbers.{number_within}
 use Rattle.script_program.specs.Script.{Making, State, Operand, find_node, Callee, find_function}

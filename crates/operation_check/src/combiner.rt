@@ -1,15 +1,15 @@
 // The combiner that a script writes, and the type of what it makes of a list.
 ghost use Rattle.std.specs.Prelude.{◌≡◌, ◌<◌, length, IfOk};
 ghost use Rattle.type_table.specs.Table.{type_at, tree_of, IsWithin, Extends};
-ghost use Rattle.written_types.specs.Answer.{Gives, or_fault};
+ghost use Rattle.script_program.specs.of_written_types.Answer.{Gives, or_fault};
 ghost use Rattle.operation_check.specs.Operations as spec;
 
 use crate::top::top_number;
 use combine_table::Comb;
 use flume_grammar::{Combiner, ScriptFault, ScriptKind};
 use script_program::State;
+use script_program::written_types::refused;
 use type_table::{Shape, TypeId};
-use written_types::refused;
 
 /// The combiner that is written.
 pub fn comb_of(line: u32, combiner: &Combiner) -> Result<Comb, ScriptFault>

@@ -3,7 +3,7 @@ ghost use Rattle.std.specs.Prelude.{◌≡◌, ◌<◌, List, [], length, map, I
 ghost use Rattle.std.specs.List.{All};
 ghost use Rattle.flume_types.specs.declared.types.Ty.{Ty};
 ghost use Rattle.type_table.specs.Table.{type_at};
-ghost use Rattle.written_types.specs.Answer.{Gives};
+ghost use Rattle.script_program.specs.of_written_types.Answer.{Gives};
 ghost use Rattle.operation_check.specs.Operations as spec;
 ghost use Rattle.script_program.specs.Program.{making_in};
 ghost use Rattle.script_program.specs.Held.{operand_in};
@@ -11,10 +11,10 @@ ghost use Rattle.script_program.specs.Held.{operand_in};
 use crate::operation::collection;
 use flume_grammar::{ScriptFault, ScriptKind};
 use flume_value::{Pile, Str};
+use script_program::written_types::refused;
 use script_program::{Made, Making, Operand, State};
 use std::alloc::{AllocError, Global};
 use type_table::{TypeId, Types};
-use written_types::refused;
 
 /// The members of collections of one type.
 pub fn flatten(

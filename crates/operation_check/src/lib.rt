@@ -14,6 +14,7 @@ mod pairs;
 mod sides;
 mod top;
 
-pub use expression_check;
 pub use flatten::{collections, numbers};
 pub use operation::{collection, made_by};
+pub use script_program;
+pub use script_program::{expression_check, written_types};

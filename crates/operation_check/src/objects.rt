@@ -4,8 +4,8 @@ ghost use Rattle.std.specs.Prelude.{◌≡◌, ℕ, ◌<◌, List, length, map, 
 ghost use Rattle.std.specs.List.{All};
 ghost use Rattle.flume_types.specs.declared.types.Ty.{Ty, out-Ty};
 ghost use Rattle.type_table.specs.Table.{type_at, field_at, AreWithin, Extends};
-ghost use Rattle.written_types.specs.Answer.{Gives, or_fault};
-ghost use Rattle.expression_types.specs.Held.{AreTypes};
+ghost use Rattle.script_program.specs.of_written_types.Answer.{Gives, or_fault};
+ghost use Rattle.script_program.specs.of_expression_types.Held.{AreTypes};
 ghost use Rattle.operation_check.specs.Arguments as arguments;
 ghost use Rattle.operation_check.specs.Operations as spec;
 ghost use Rattle.script_program.specs.Program.{HasTypes, making_in};
@@ -17,10 +17,10 @@ use crate::operation::{callee, collection, plain};
 use combine_table::Comb;
 use flume_grammar::{Combiner, ScriptFault, ScriptKind};
 use flume_value::Str;
+use script_program::written_types::refused;
 use script_program::{Callee, Made, Making, Operand, State};
 use std::alloc::Global;
 use type_table::{Part, Shape, TypeId, Types};
-use written_types::refused;
 
 /// What a combiner makes of all members of a collection, by its name.
 pub fn combined_whole(

@@ -3,8 +3,8 @@ ghost use Rattle.std.specs.Prelude.{◌≡◌, ℕ, ◌<◌, List, length, map, 
 ghost use Rattle.std.specs.List.{All};
 ghost use Rattle.flume_types.specs.declared.types.Ty.{Ty};
 ghost use Rattle.type_table.specs.Table.{type_at, Extends};
-ghost use Rattle.written_types.specs.Answer.{Checked, Gives, unless};
-ghost use Rattle.expression_types.specs.Held.{AreTypes};
+ghost use Rattle.script_program.specs.of_written_types.Answer.{Checked, Gives, unless};
+ghost use Rattle.script_program.specs.of_expression_types.Held.{AreTypes};
 ghost use Rattle.operation_check.specs.Operations as spec;
 ghost use Rattle.script_program.specs.Program.{HasTypes, making_in};
 ghost use Rattle.script_program.specs.Held.{operand_in, callee_in};
@@ -19,10 +19,10 @@ use crate::top::top_number;
 use combine_table::Comb;
 use flume_grammar::{Combiner, Operation, ScriptFault, ScriptKind};
 use flume_value::{Pile, Str};
+use script_program::written_types::refused;
 use script_program::{Callee, Made, Making, Operand, State};
 use std::alloc::{AllocError, Global};
 use type_table::{Shape, TypeId};
-use written_types::refused;
 
 /// The collections that an operation makes, one for each name. Nothing else changes.
 pub fn made_by(

@@ -1,11 +1,11 @@
 // How many of the greatest are asked for.
-ghost use Rattle.written_types.specs.Answer.{Gives};
+ghost use Rattle.script_program.specs.of_written_types.Answer.{Gives};
 ghost use Rattle.operation_check.specs.Operations.{top_number as top_of};
 
 use expression_check::number_within;
 use flume_grammar::{ScriptFault, ScriptKind};
 use flume_value::Str;
-use written_types::refused;
+use script_program::written_types::refused;
 
 /// How many of the greatest are asked for, from 1 to 1000.
 pub fn top_number(line: u32, digits: &Str) -> Result<u32, ScriptFault>

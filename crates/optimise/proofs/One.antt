@@ -12,10 +12,10 @@ use Rattle.mscr_form.proofs.of_form_laws.SameMarks.{plan_same, some_plan}
 use Rattle.mscr_form.proofs.of_fusion_blocks.Blocking.{blocked_can, can_ok, ranked_ok}
 use Rattle.mscr_form.proofs.of_fusion_blocks.Existing.{some_blocked}
 use Rattle.mscr_form.proofs.of_fusion_blocks.Unique.{marks_agree}
-use Rattle.graph_laws.proofs.Lifting.{IsGraphOk-lifted}
-use Rattle.graph_laws.proofs.SingleSteps.{AllSteps-remarked}
-use Rattle.graph_laws.specs.Lifting.{lift_of, lifted}
-use Rattle.graph_laws.specs.Single.{HasNarrowSteps, IsOneStep, IsUnfused}
+use Rattle.combine_lift.proofs.of_graph_laws.Lifting.{IsGraphOk-lifted}
+use Rattle.combine_lift.proofs.of_graph_laws.SingleSteps.{AllSteps-remarked}
+use Rattle.combine_lift.specs.of_graph_laws.Lifting.{lift_of, lifted}
+use Rattle.combine_lift.specs.of_graph_laws.Single.{HasNarrowSteps, IsOneStep, IsUnfused}
 use Rattle.optimise.specs.Optimised.{IsOptimised, IsRefined, source_count}
 use Rattle.optimise.proofs.Passes.{fusible}
 use Rattle.graph_bounds.specs.of_pardo_fuse.Fusing.{fused}

@@ -10,8 +10,8 @@ use Rattle.exec_graph.specs.Wellformed.{IsGraphOk}
 use Rattle.mscr_form.specs.of_form_laws.Formed.{IsFormed}
 use Rattle.mscr_form.specs.of_fusion_blocks.Blocks.{IsBlocked}
 use Rattle.graph_bounds.specs.Sources.{AreOfKinds}
-use Rattle.graph_laws.specs.Lifting.{lifted}
-use Rattle.graph_laws.specs.Single.{HasNarrowSteps, IsUnfused}
+use Rattle.combine_lift.specs.of_graph_laws.Lifting.{lifted}
+use Rattle.combine_lift.specs.of_graph_laws.Single.{HasNarrowSteps, IsUnfused}
 use Rattle.graph_bounds.specs.of_pardo_fuse.Fusing.{fused}
 use Rattle.graph_bounds.specs.of_plan_rules.Fitting.{HasSourcesBelow}
 use Rattle.flatten_sink.specs.of_sink_laws.Chain.{IsSunk}

@@ -1,7 +1,7 @@
 -- Nodes of other numbers, which read elsewhere.
 use Rattle.std.proofs.Common.{◌≡◌, ℕ, true, List, [], ◌∷◌, map, refl, sym, ap, ◌∙◌, subst, inl, inr}
 use Rattle.std.specs.List.{AllByRecursion as Each}
-use Rattle.flume_collection.specs.Collection.{Collection, by_key, together}
+use Rattle.exec_graph.specs.of_flume_collection.Collection.{Collection, by_key, together}
 use Rattle.flume_types.specs.declared.types.Ty.{Ty}
 use Rattle.exec_graph.specs.Meaning.{FitsForest, Holds, gives, place, reads}
 use Rattle.exec_graph.specs.Objects.{act_result}

@@ -3,7 +3,7 @@ use Rattle.std.proofs.Common.{◌≡◌, ℕ, ◌+◌, Bool, true, false, cond, 
 use Rattle.std.proofs.lemmas.Bool.{eqb-true, eq-eqb, false≢true}
 use Rattle.std.specs.List.{flat_map, AllByRecursion}
 use Rattle.exec_graph.specs.Forests.{Label, Forest, Bare, Grow, numbered}
-use Rattle.combine_table.specs.declared.comb.Comb.{Comb}
+use Rattle.graph_laws.specs.of_combine_table.declared.comb.Comb.{Comb}
 use Rattle.exec_graph.specs.declared.graph.Place.{Place}
 use Rattle.exec_graph.specs.declared.graph.Node.{Node}
 use Rattle.exec_graph.specs.declared.graph.Node.TheVariants.{Source, Flatten, Pdo, Gbk, Barrier}

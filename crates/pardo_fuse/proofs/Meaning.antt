@@ -4,12 +4,12 @@ use Rattle.std.proofs.lemmas.List.Concat.{flat_map-append}
 use Rattle.std.proofs.lemmas.List.Folds.{flat_map-map}
 use Rattle.std.specs.List.{flat_map, AllByRecursion}
 use Rattle.flume_value.specs.Bag.{put}
-use Rattle.flume_collection.specs.Sets.{put_new, gather}
+use Rattle.exec_graph.specs.of_flume_collection.Sets.{put_new, gather}
 use Rattle.exec_graph.specs.World.{World}
-use Rattle.flume_collection.specs.Collection.{Collection}
-use Rattle.flume_collection.specs.Traps.{trap_le}
-use Rattle.flume_collection.proofs.Bagging.{Swaps}
-use Rattle.flume_collection.proofs.Orders.{bags, sets, one_bag}
+use Rattle.exec_graph.specs.of_flume_collection.Collection.{Collection}
+use Rattle.exec_graph.specs.of_flume_collection.Traps.{trap_le}
+use Rattle.exec_graph.proofs.of_flume_collection.Bagging.{Swaps}
+use Rattle.exec_graph.proofs.of_flume_collection.Orders.{bags, sets, one_bag}
 use Rattle.exec_graph.specs.Forests.{Label, Forest, Bare, Grow, numbered, new_out, with_out}
 use Rattle.exec_graph.specs.declared.graph.Place.{Place}
 use Rattle.exec_graph.specs.declared.graph.Node.{Node}

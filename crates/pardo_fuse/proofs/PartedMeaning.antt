@@ -5,8 +5,8 @@ use Rattle.std.specs.List.{flat_map, AllByRecursion}
 use Rattle.flume_value.specs.Bag.{bag_of}
 use Rattle.flume_value.proofs.EachLemmas.{Each-weaker}
 use Rattle.flume_types.specs.declared.types.Ty.{Ty}
-use Rattle.flume_collection.specs.Collection.{Collection}
-use Rattle.flume_collection.specs.Traps.{trap_set}
+use Rattle.exec_graph.specs.of_flume_collection.Collection.{Collection}
+use Rattle.exec_graph.specs.of_flume_collection.Traps.{trap_set}
 use Rattle.exec_graph.specs.World.{World}
 use Rattle.exec_graph.specs.Forests.{Label, Forest, Bare, Grow, new_label, new_out}
 use Rattle.exec_graph.specs.Meaning.{through, place, node_at, reads, total, step_own, step_traps, own, traps, IsKept, FitsForest, Holds, IsThere, KeepsMeaning}

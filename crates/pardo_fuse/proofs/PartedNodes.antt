@@ -3,7 +3,7 @@ use Rattle.std.proofs.Common.{◌≡◌, ℕ, Bool, true, false, cond, eqb, ◌|
 use Rattle.std.proofs.lemmas.Bool.{eqb-true, false≢true}
 use Rattle.std.specs.List.{AllByRecursion}
 use Rattle.flume_value.proofs.EachLemmas.{Each-weaker, Each-both}
-use Rattle.combine_table.specs.declared.comb.Comb.{Comb}
+use Rattle.graph_laws.specs.of_combine_table.declared.comb.Comb.{Comb}
 use Rattle.exec_graph.specs.Forests.{Label, Forest, Bare, Grow, new_out}
 use Rattle.exec_graph.specs.Meaning.{node_at, reads, place, is_out, has_out, IsThere}
 use Rattle.exec_graph.specs.Readers.{among, any_node, calls_on, collects, is_read, readers, same_place, those, uses}

@@ -5,11 +5,11 @@ use Rattle.std.specs.List.{AllByRecursion as Each, flat_map}
 use Rattle.std.proofs.lemmas.Bool.{false≢true}
 use Rattle.std.proofs.lemmas.List.{length-map}
 use Rattle.std.proofs.lemmas.List.Folds.{flat_map-map}
-use Rattle.combine_table.specs.declared.comb.Comb.{Comb}
-use Rattle.flume_collection.specs.Collection.{Collection}
-use Rattle.flume_collection.specs.Sets.{gather, put_new}
-use Rattle.flume_collection.specs.Traps.{trap_le}
-use Rattle.flume_collection.proofs.Orders.{bags, one_bag, sets}
+use Rattle.graph_laws.specs.of_combine_table.declared.comb.Comb.{Comb}
+use Rattle.exec_graph.specs.of_flume_collection.Collection.{Collection}
+use Rattle.exec_graph.specs.of_flume_collection.Sets.{gather, put_new}
+use Rattle.exec_graph.specs.of_flume_collection.Traps.{trap_le}
+use Rattle.exec_graph.proofs.of_flume_collection.Orders.{bags, one_bag, sets}
 use Rattle.flume_types.specs.declared.types.Ty.{Ty}
 use Rattle.flume_value.proofs.EachLemmas.{Each-both, Each-weaker}
 use Rattle.flume_value.specs.Bag.{put}

@@ -2,8 +2,8 @@
 use Rattle.std.proofs.Common.{◌≡◌, ℕ, ◌+◌, ◌<◌, ◌≤◌, Bool, true, false, cond, eqb, ltb, List, [], ◌∷◌, Option, Some, refl, sym, ap, ◌∙◌, arith}
 use Rattle.std.specs.List.{AllByRecursion as Each, flat_map}
 use Rattle.std.proofs.lemmas.Bool.{eqb-true, lt-ltb, ltb-false, ltb-true}
-use Rattle.flume_collection.specs.Sets.{gather}
-use Rattle.flume_collection.proofs.Bagging.{Swaps, bag_by, put_by, spread-bag}
+use Rattle.exec_graph.specs.of_flume_collection.Sets.{gather}
+use Rattle.exec_graph.proofs.of_flume_collection.Bagging.{Swaps, bag_by, put_by, spread-bag}
 use Rattle.flume_value.proofs.EachLemmas.{Each-weaker}
 use Rattle.exec_graph.specs.Meaning.{AllDiffer, node_at}
 use Rattle.exec_graph.specs.Wellformed.{Ascends, size, total_size}

@@ -135,9 +135,9 @@ fn reread(alloc: Global, node: &mut Node, index: &HashMap<u64, Place>)
             let former = mem::replace(inputs, Pile::new(alloc));
             *inputs = places_of(former, index);
         }
-        Node::Pdo(c, _) => *c = place_of(*c, index),
-        Node::Gbk(c, _, _, _) => *c = place_of(*c, index),
-        Node::Barrier(inputs, _, _, _) => {
+        Node::Pdo { input: c, .. } => *c = place_of(*c, index),
+        Node::Gbk { input: c, .. } => *c = place_of(*c, index),
+        Node::Barrier { inputs, .. } => {
             let former = mem::replace(inputs, Pile::new(alloc));
             *inputs = places_of(former, index);
         }

@@ -70,20 +70,48 @@ fn push_left(
             let copy = copied(alloc, inputs.as_slice())?;
             push_node(number, Node::Flatten(copy), nodes)
         }
-        Node::Pdo(c, _) => {
+        Node::Pdo { input: c, .. } => {
             if !leads(blocked, tables, number, *c) {
                 return Ok(());
             }
             let roots = forest_of(alloc, blocked, tables, number, *c, naming)?;
-            push_node(number, Node::Pdo(*c, roots), nodes)?;
+            push_node(number, Node::Pdo { input: *c, roots }, nodes)?;
             Ok(())
         }
-        Node::Gbk(c, origin, last, lifted) => {
-            push_node(number, Node::Gbk(*c, *origin, *last, *lifted), nodes)
+        Node::Gbk {
+            input: c,
+            origin,
+            is_own: last,
+            lifted,
+        } => {
+            push_node(
+                number,
+                Node::Gbk {
+                    input: *c,
+                    origin: *origin,
+                    is_own: *last,
+                    lifted: *lifted,
+                },
+                nodes,
+            )
         }
-        Node::Barrier(inputs, origin, last, act) => {
+        Node::Barrier {
+            inputs,
+            origin,
+            is_own: last,
+            act,
+        } => {
             let copy = copied(alloc, inputs.as_slice())?;
-            push_node(number, Node::Barrier(copy, *origin, *last, *act), nodes)
+            push_node(
+                number,
+                Node::Barrier {
+                    inputs: copy,
+                    origin: *origin,
+                    is_own: *last,
+                    act: *act,
+                },
+                nodes,
+            )
         }
     }
 }

@@ -31,9 +31,8 @@ fn is_narrow(node: &Node) -> bool
     ensures { IsTrue result ↔ IsNarrow node.now }
 {
     match node {
-        Node::Pdo(_, roots) => is_one_short(roots.steps()),
-        Node::Source(_) | Node::Flatten(_) | Node::Gbk(_, _, _, _) | Node::Barrier(_, _, _, _) =>
-            true,
+        Node::Pdo { roots, .. } => is_one_short(roots.steps()),
+        Node::Source(_) | Node::Flatten(_) | Node::Gbk { .. } | Node::Barrier { .. } => true,
     }
 }
 

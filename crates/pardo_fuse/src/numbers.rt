@@ -39,9 +39,8 @@ fn least_at(blocked: &Blocked, tables: &Tables, number: u32, node: &Node) -> u32
     ensures { result ≡ least_at (cut_of blocked.now) number (Some node.now) }
 {
     match node {
-        Node::Pdo(c, _) => least_over(blocked, tables, number, *c),
-        Node::Source(_) | Node::Flatten(_) | Node::Gbk(_, _, _, _) | Node::Barrier(_, _, _, _) =>
-            number,
+        Node::Pdo { input: c, .. } => least_over(blocked, tables, number, *c),
+        Node::Source(_) | Node::Flatten(_) | Node::Gbk { .. } | Node::Barrier { .. } => number,
     }
 }
 

@@ -150,8 +150,7 @@ fn is_pdo_node(node: &Node) -> bool
     ensures { result ≡ is_pdo (Some node.now) }
 {
     match node {
-        Node::Pdo(_, _) => true,
-        Node::Source(_) | Node::Flatten(_) | Node::Gbk(_, _, _, _) | Node::Barrier(_, _, _, _) =>
-            false,
+        Node::Pdo { .. } => true,
+        Node::Source(_) | Node::Flatten(_) | Node::Gbk { .. } | Node::Barrier { .. } => false,
     }
 }

@@ -96,9 +96,9 @@ fn reread(alloc: Global, node: &mut Node, numbers: &HashMap<u32, u32>)
             let former = mem::replace(inputs, Pile::new(alloc));
             *inputs = places_under(former, numbers);
         }
-        Node::Pdo(c, _) => *c = place_under(*c, numbers),
-        Node::Gbk(c, _, _, _) => *c = place_under(*c, numbers),
-        Node::Barrier(inputs, _, _, _) => {
+        Node::Pdo { input: c, .. } => *c = place_under(*c, numbers),
+        Node::Gbk { input: c, .. } => *c = place_under(*c, numbers),
+        Node::Barrier { inputs, .. } => {
             let former = mem::replace(inputs, Pile::new(alloc));
             *inputs = places_under(former, numbers);
         }

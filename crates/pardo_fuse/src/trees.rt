@@ -241,8 +241,7 @@ fn node_steps(node: &Node) -> &[Step]
     ensures { grown result.now ≡ step_in (Some node.now) }
 {
     match node {
-        Node::Pdo(_, roots) => roots.steps(),
-        Node::Source(_) | Node::Flatten(_) | Node::Gbk(_, _, _, _) | Node::Barrier(_, _, _, _) =>
-            &[],
+        Node::Pdo { roots, .. } => roots.steps(),
+        Node::Source(_) | Node::Flatten(_) | Node::Gbk { .. } | Node::Barrier { .. } => &[],
     }
 }

@@ -12,3 +12,4 @@ mod laws;
 
 pub use laws::file_law;
 pub use plan_files;
+pub use plan_json;

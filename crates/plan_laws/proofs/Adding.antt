@@ -2,20 +2,20 @@
 use Rattle.std.proofs.Common.{◌≡◌, ℕ, Bool, ◌+◌, List, [], ◌∷◌, ◌++◌, map, Option, Some, None, append-nil, refl, sym, ap, ◌∙◌}
 use Rattle.std.proofs.lemmas.List.Concat.{flat_map-append}
 use Rattle.std.specs.List.{flat_map, AllByRecursion as Each}
-use Rattle.flume_collection.specs.Collection.{Collection, together, by_key}
-use Rattle.exec_graph.specs.World.{World}
-use Rattle.exec_graph.specs.Objects.{act_result}
-use Rattle.exec_graph.specs.declared.graph.Act.{Act}
-use Rattle.exec_graph.specs.declared.graph.Act.TheVariants.{SideInput, Operate as Operates, Singleton}
-use Rattle.exec_graph.specs.declared.step.Does.TheVariants as does
-use Rattle.exec_graph.proofs.Barriers.{barrier_side_input}
+use Rattle.exec_plan.specs.of_flume_collection.Collection.{Collection, together, by_key}
+use Rattle.exec_plan.specs.of_exec_graph.World.{World}
+use Rattle.exec_plan.specs.of_exec_graph.Objects.{act_result}
+use Rattle.exec_plan.specs.of_exec_graph.declared.graph.Act.{Act}
+use Rattle.exec_plan.specs.of_exec_graph.declared.graph.Act.TheVariants.{SideInput, Operate as Operates, Singleton}
+use Rattle.exec_plan.specs.of_exec_graph.declared.step.Does.TheVariants as does
+use Rattle.exec_plan.proofs.of_exec_graph.Barriers.{barrier_side_input}
 use Rattle.exec_plan.specs.Channels.{value_on, world_in}
-use Rattle.exec_graph.specs.Forests.{Forest}
-use Rattle.exec_graph.specs.Meaning.{through, place, Meets, node_at, reads, IsThere, total, own, traps}
-use Rattle.exec_graph.specs.declared.graph.Place.{Place}
-use Rattle.exec_graph.specs.declared.graph.Node.{Node}
-use Rattle.exec_graph.specs.declared.graph.Node.TheVariants.{Source, Flatten, Pdo, Gbk, Barrier}
-use Rattle.exec_graph.specs.declared.graph.Entry.{Entry}
+use Rattle.exec_plan.specs.of_exec_graph.Forests.{Forest}
+use Rattle.exec_plan.specs.of_exec_graph.Meaning.{through, place, Meets, node_at, reads, IsThere, total, own, traps}
+use Rattle.exec_plan.specs.of_exec_graph.declared.graph.Place.{Place}
+use Rattle.exec_plan.specs.of_exec_graph.declared.graph.Node.{Node}
+use Rattle.exec_plan.specs.of_exec_graph.declared.graph.Node.TheVariants.{Source, Flatten, Pdo, Gbk, Barrier}
+use Rattle.exec_plan.specs.of_exec_graph.declared.graph.Entry.{Entry}
 use Rattle.exec_plan.specs.declared.plan.Grouping.{Grouping}
 use Rattle.exec_plan.specs.declared.plan.OutChannel.{OutChannel}
 use Rattle.exec_plan.specs.declared.plan.OutChannel.TheVariants.{Group, Pass}

@@ -4,27 +4,27 @@ use Rattle.std.proofs.lemmas.Bool.{eqb-true, eq-eqb, false≢true}
 use Rattle.std.proofs.lemmas.List.Concat.{flat_map-append}
 use Rattle.std.proofs.lemmas.List.{map-append}
 use Rattle.std.specs.List.{flat_map, AllByRecursion as Each, slice_get}
-use Rattle.flume_value.proofs.EachLemmas.{Each-append, Each-weaker}
-use Rattle.flume_collection.specs.Collection.{Collection, together, by_key}
-use Rattle.exec_graph.specs.World.{World}
-use Rattle.exec_graph.specs.Calls.{called}
-use Rattle.exec_graph.specs.Objects.{act_result, side_input}
-use Rattle.exec_graph.specs.declared.graph.Act.{Act}
-use Rattle.exec_graph.specs.declared.graph.Act.TheVariants.{SideInput, Operate as Operates, Singleton}
-use Rattle.exec_graph.specs.declared.step.Does.TheVariants as does
-use Rattle.exec_graph.proofs.Barriers.{barrier_side_input}
-use Rattle.exec_graph.proofs.StepFacts.{call_answers}
-use Rattle.flume_collection.specs.Calls.{Called, passed}
-use Rattle.flume_value.specs.declared.value.Value.{Value}
-use Rattle.exec_graph.specs.Forests.{Label, Forest, Bare, Grow}
-use Rattle.exec_graph.specs.Meaning.{through, place, IsKept, FitsForest, Holds, Meets, node_at, reads, is_out, has_out, gives_at, IsThere, first, out_of, or_nothing}
-use Rattle.exec_graph.specs.declared.graph.Place.{Place}
-use Rattle.exec_graph.specs.declared.graph.Node.{Node}
-use Rattle.exec_graph.specs.declared.graph.Node.TheVariants.{Source, Flatten, Pdo, Gbk, Barrier}
-use Rattle.exec_graph.specs.declared.graph.Entry.{Entry}
-use Rattle.exec_graph.proofs.Entries.{all_found}
-use Rattle.exec_graph.proofs.Bools.{or_left, or_right}
-use Rattle.exec_graph.proofs.Solving.{out_lacks}
+use Rattle.exec_plan.proofs.of_flume_value.EachLemmas.{Each-append, Each-weaker}
+use Rattle.exec_plan.specs.of_flume_collection.Collection.{Collection, together, by_key}
+use Rattle.exec_plan.specs.of_exec_graph.World.{World}
+use Rattle.exec_plan.specs.of_exec_graph.Calls.{called}
+use Rattle.exec_plan.specs.of_exec_graph.Objects.{act_result, side_input}
+use Rattle.exec_plan.specs.of_exec_graph.declared.graph.Act.{Act}
+use Rattle.exec_plan.specs.of_exec_graph.declared.graph.Act.TheVariants.{SideInput, Operate as Operates, Singleton}
+use Rattle.exec_plan.specs.of_exec_graph.declared.step.Does.TheVariants as does
+use Rattle.exec_plan.proofs.of_exec_graph.Barriers.{barrier_side_input}
+use Rattle.exec_plan.proofs.of_exec_graph.StepFacts.{call_answers}
+use Rattle.exec_plan.specs.of_flume_collection.Calls.{Called, passed}
+use Rattle.exec_plan.specs.of_flume_value.declared.value.Value.{Value}
+use Rattle.exec_plan.specs.of_exec_graph.Forests.{Label, Forest, Bare, Grow}
+use Rattle.exec_plan.specs.of_exec_graph.Meaning.{through, place, IsKept, FitsForest, Holds, Meets, node_at, reads, is_out, has_out, gives_at, IsThere, first, out_of, or_nothing}
+use Rattle.exec_plan.specs.of_exec_graph.declared.graph.Place.{Place}
+use Rattle.exec_plan.specs.of_exec_graph.declared.graph.Node.{Node}
+use Rattle.exec_plan.specs.of_exec_graph.declared.graph.Node.TheVariants.{Source, Flatten, Pdo, Gbk, Barrier}
+use Rattle.exec_plan.specs.of_exec_graph.declared.graph.Entry.{Entry}
+use Rattle.exec_plan.proofs.of_exec_graph.Entries.{all_found}
+use Rattle.exec_plan.proofs.of_exec_graph.Bools.{or_left, or_right}
+use Rattle.exec_plan.proofs.of_exec_graph.Solving.{out_lacks}
 use Rattle.exec_plan.specs.declared.plan.OutChannel.{OutChannel}
 use Rattle.exec_plan.specs.declared.plan.OutChannel.TheVariants.{Group, Pass}
 use Rattle.exec_plan.specs.Channels.{Fed, value_on, world_in, kept_out, outs_of, numbers, output_of, channel_out, taken, groups, given}

@@ -3,25 +3,25 @@ use Rattle.std.proofs.Common.{◌≡◌, ℕ, ◌+◌, ◌⊎◌, Bool, true, fa
 use Rattle.std.proofs.lemmas.Bool.{eqb-true, false≢true}
 use Rattle.std.proofs.lemmas.List.Folds.{flat_map-map}
 use Rattle.std.specs.List.{flat_map, AllByRecursion as Each}
-use Rattle.flume_value.specs.declared.value.Value.{Value}
-use Rattle.flume_value.specs.Bag.{put, bag_of}
-use Rattle.flume_value.proofs.EachLemmas.{Each-weaker}
-use Rattle.flume_collection.proofs.Orders.{bags, one_bag}
-use Rattle.exec_graph.specs.Meaning.{AllDiffer, IsSound, node_at, own, own_bag}
-use Rattle.exec_graph.proofs.Entries.{flat_map_alike}
-use Rattle.exec_graph.proofs.Solving.{each_found}
+use Rattle.exec_plan.specs.of_flume_value.declared.value.Value.{Value}
+use Rattle.exec_plan.specs.of_flume_value.Bag.{put, bag_of}
+use Rattle.exec_plan.proofs.of_flume_value.EachLemmas.{Each-weaker}
+use Rattle.exec_plan.proofs.of_flume_collection.Orders.{bags, one_bag}
+use Rattle.exec_plan.specs.of_exec_graph.Meaning.{AllDiffer, IsSound, node_at, own, own_bag}
+use Rattle.exec_plan.proofs.of_exec_graph.Entries.{flat_map_alike}
+use Rattle.exec_plan.proofs.of_exec_graph.Solving.{each_found}
 use Rattle.exec_plan.specs.Meaning.{Parts, own_parts}
 use Rattle.plan_laws.specs.declared.operations.Operation.{Operation}
 use Rattle.plan_laws.specs.Operations.{DoAll, runs, times, works_at}
 use Rattle.plan_laws.proofs.Adding.{node_sum, own_is, sum_at}
 use Rattle.plan_laws.proofs.Totals.{sum_once}
-use Rattle.flume_collection.specs.Collection.{Collection}
-use Rattle.exec_graph.specs.World.{World}
-use Rattle.exec_graph.specs.declared.graph.Place.{Place}
-use Rattle.exec_graph.specs.declared.graph.Node.{Node}
-use Rattle.exec_graph.specs.declared.graph.Node.TheVariants.{Source, Flatten, Pdo, Gbk, Barrier}
-use Rattle.exec_graph.specs.declared.graph.Entry.{Entry}
-use Rattle.exec_graph.specs.declared.graph.Graph.{Graph}
+use Rattle.exec_plan.specs.of_flume_collection.Collection.{Collection}
+use Rattle.exec_plan.specs.of_exec_graph.World.{World}
+use Rattle.exec_plan.specs.of_exec_graph.declared.graph.Place.{Place}
+use Rattle.exec_plan.specs.of_exec_graph.declared.graph.Node.{Node}
+use Rattle.exec_plan.specs.of_exec_graph.declared.graph.Node.TheVariants.{Source, Flatten, Pdo, Gbk, Barrier}
+use Rattle.exec_plan.specs.of_exec_graph.declared.graph.Entry.{Entry}
+use Rattle.exec_plan.specs.of_exec_graph.declared.graph.Graph.{Graph}
 
 abbrev pub numbers_of : List Entry → List ℕ
 numbers_of es = map (λ e. e.number) es

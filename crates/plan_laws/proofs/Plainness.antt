@@ -1,35 +1,35 @@
 -- A collection of a graph together with none else is the collection.
 use Rattle.std.proofs.Common.{◌≡◌, ℕ, Bool, true, false, cond, List, [], ◌∷◌, ◌++◌, length, map, append-nil, Option, Some, None, Result, Ok, Err, zero, suc, refl, sym, ap, ◌∙◌, subst}
 use Rattle.std.specs.List.{flat_map, slice_get}
-use Rattle.flume_value.specs.declared.value.Value.{Value}
-use Rattle.flume_value.specs.Bag.{bag_of}
-use Rattle.flume_value.proofs.BagLemmas.{bag_of-settled, bag_of-twice}
-use Rattle.bag_groups.specs.Groups.{grouped}
-use Rattle.bag_groups.proofs.Grouping.{grouped-IsSorted}
-use Rattle.flume_collection.specs.declared.trap.Trap.{Trap}
-use Rattle.flume_collection.specs.Traps.{trap_le, trap_set}
-use Rattle.flume_collection.specs.Collection.{Collection, together, by_key}
-use Rattle.flume_collection.proofs.Bagging.{set-gathered}
-use Rattle.flume_collection.proofs.Orders.{trap_order}
-use Rattle.exec_graph.specs.World.{World}
-use Rattle.exec_graph.specs.Objects.{argument, beside, called_beside, value_object, trap_object, act_result, none_of, one_answer, one_emitted, singleton_value, only, operated_on, or_of_nothing, side_input_on, unless_behind, value_in, values_in, whole_combined}
-use Rattle.exec_graph.specs.declared.graph.Act.{Act}
-use Rattle.exec_graph.specs.declared.graph.Act.TheVariants.{SideInput, Operate as Operates, Singleton}
-use Rattle.combine_table.specs.declared.comb.Comb.{Comb}
-use Rattle.combine_table.specs.Combinations.{combined}
-use Rattle.flume_value.specs.declared.fault.Kind.{Kind}
-use Rattle.bag_groups.specs.Pairs.{value_of}
-use Rattle.flume_collection.specs.Calls.{Called, emissions, or_none, trap_of}
+use Rattle.exec_plan.specs.of_flume_value.declared.value.Value.{Value}
+use Rattle.exec_plan.specs.of_flume_value.Bag.{bag_of}
+use Rattle.exec_plan.proofs.of_flume_value.BagLemmas.{bag_of-settled, bag_of-twice}
+use Rattle.exec_plan.specs.of_bag_groups.Groups.{grouped}
+use Rattle.exec_plan.proofs.of_bag_groups.Grouping.{grouped-IsSorted}
+use Rattle.exec_plan.specs.of_flume_collection.declared.trap.Trap.{Trap}
+use Rattle.exec_plan.specs.of_flume_collection.Traps.{trap_le, trap_set}
+use Rattle.exec_plan.specs.of_flume_collection.Collection.{Collection, together, by_key}
+use Rattle.exec_plan.proofs.of_flume_collection.Bagging.{set-gathered}
+use Rattle.exec_plan.proofs.of_flume_collection.Orders.{trap_order}
+use Rattle.exec_plan.specs.of_exec_graph.World.{World}
+use Rattle.exec_plan.specs.of_exec_graph.Objects.{argument, beside, called_beside, value_object, trap_object, act_result, none_of, one_answer, one_emitted, singleton_value, only, operated_on, or_of_nothing, side_input_on, unless_behind, value_in, values_in, whole_combined}
+use Rattle.exec_plan.specs.of_exec_graph.declared.graph.Act.{Act}
+use Rattle.exec_plan.specs.of_exec_graph.declared.graph.Act.TheVariants.{SideInput, Operate as Operates, Singleton}
+use Rattle.exec_plan.specs.of_combine_table.declared.comb.Comb.{Comb}
+use Rattle.exec_plan.specs.of_combine_table.Combinations.{combined}
+use Rattle.exec_plan.specs.of_flume_value.declared.fault.Kind.{Kind}
+use Rattle.exec_plan.specs.of_bag_groups.Pairs.{value_of}
+use Rattle.exec_plan.specs.of_flume_collection.Calls.{Called, emissions, or_none, trap_of}
 use Rattle.std.specs.Option.{option_and_then}
-use Rattle.exec_graph.specs.Calls.{emitted, trapped}
-use Rattle.exec_graph.specs.Forests.{Forest, Bare, Grow}
-use Rattle.exec_graph.specs.Meaning.{collection, first, is_out, or_nothing, node_at, out_of, solve, through, value_at}
-use Rattle.exec_graph.specs.declared.graph.Place.{Place}
-use Rattle.exec_graph.specs.declared.graph.Node.{Node}
-use Rattle.exec_graph.specs.declared.graph.Node.TheVariants.{Source, Flatten, Pdo, Gbk, Barrier}
-use Rattle.exec_graph.specs.declared.graph.Entry.{Entry}
-use Rattle.exec_graph.specs.declared.graph.Graph.{Graph}
-use Rattle.exec_graph.proofs.Solving.{collection_is}
+use Rattle.exec_plan.specs.of_exec_graph.Calls.{emitted, trapped}
+use Rattle.exec_plan.specs.of_exec_graph.Forests.{Forest, Bare, Grow}
+use Rattle.exec_plan.specs.of_exec_graph.Meaning.{collection, first, is_out, or_nothing, node_at, out_of, solve, through, value_at}
+use Rattle.exec_plan.specs.of_exec_graph.declared.graph.Place.{Place}
+use Rattle.exec_plan.specs.of_exec_graph.declared.graph.Node.{Node}
+use Rattle.exec_plan.specs.of_exec_graph.declared.graph.Node.TheVariants.{Source, Flatten, Pdo, Gbk, Barrier}
+use Rattle.exec_plan.specs.of_exec_graph.declared.graph.Entry.{Entry}
+use Rattle.exec_plan.specs.of_exec_graph.declared.graph.Graph.{Graph}
+use Rattle.exec_plan.proofs.of_exec_graph.Solving.{collection_is}
 use Rattle.plan_laws.proofs.Carrying.{IsPlain}
 
 pub record IsNormal (v : Collection) : Type 0 where

@@ -1,11 +1,11 @@
 -- A plan of operations that carry out a graph means what the graph means.
 use Rattle.std.proofs.Common.{◌≡◌, ℕ, ◌+◌, List, [], ◌∷◌, length, Option, Some, sym, ap, ◌∙◌, inl, inr}
 use Rattle.std.specs.List.{flat_map, AllByRecursion as Each}
-use Rattle.flume_value.specs.Bag.{bag_of}
-use Rattle.flume_value.proofs.EachLemmas.{Each-weaker}
-use Rattle.flume_collection.specs.Traps.{trap_set}
-use Rattle.exec_graph.specs.Meaning.{Holds, IsSound, IsThere, Meets, collection, node_at, reads}
-use Rattle.exec_graph.proofs.Solving.{collection_meets, each_found}
+use Rattle.exec_plan.specs.of_flume_value.Bag.{bag_of}
+use Rattle.exec_plan.proofs.of_flume_value.EachLemmas.{Each-weaker}
+use Rattle.exec_plan.specs.of_flume_collection.Traps.{trap_set}
+use Rattle.exec_plan.specs.of_exec_graph.Meaning.{Holds, IsSound, IsThere, Meets, collection, node_at, reads}
+use Rattle.exec_plan.proofs.of_exec_graph.Solving.{collection_meets, each_found}
 use Rattle.exec_plan.specs.declared.plan.PlanPlace.{PlanPlace}
 use Rattle.exec_plan.specs.declared.plan.PlanPlace.TheVariants as at
 use Rattle.exec_plan.specs.Meaning.{Parts, own_parts, run, sources, stage_sum, trap_parts}
@@ -17,13 +17,13 @@ use Rattle.plan_laws.proofs.Adding.{operations_sum, sum_at}
 use Rattle.plan_laws.proofs.Counting.{own_same}
 use Rattle.plan_laws.proofs.Trapping.{traps_same}
 use Rattle.plan_laws.proofs.Plainness.{collection_plain}
-use Rattle.flume_collection.specs.Collection.{Collection}
-use Rattle.exec_graph.specs.World.{World}
-use Rattle.exec_graph.specs.declared.graph.Place.{Place}
-use Rattle.exec_graph.specs.declared.graph.Node.{Node}
-use Rattle.exec_graph.specs.declared.graph.Node.TheVariants.{Source, Flatten, Pdo, Gbk, Barrier}
-use Rattle.exec_graph.specs.declared.graph.Entry.{Entry}
-use Rattle.exec_graph.specs.declared.graph.Graph.{Graph}
+use Rattle.exec_plan.specs.of_flume_collection.Collection.{Collection}
+use Rattle.exec_plan.specs.of_exec_graph.World.{World}
+use Rattle.exec_plan.specs.of_exec_graph.declared.graph.Place.{Place}
+use Rattle.exec_plan.specs.of_exec_graph.declared.graph.Node.{Node}
+use Rattle.exec_plan.specs.of_exec_graph.declared.graph.Node.TheVariants.{Source, Flatten, Pdo, Gbk, Barrier}
+use Rattle.exec_plan.specs.of_exec_graph.declared.graph.Entry.{Entry}
+use Rattle.exec_plan.specs.of_exec_graph.declared.graph.Graph.{Graph}
 
 -- ---- sources
 source_tells : (w : World) (m : Place → Collection) (all : List Entry) (n : ℕ) (x : Node)

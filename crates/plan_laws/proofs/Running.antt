@@ -3,17 +3,17 @@ use Rattle.std.proofs.Common.{◌≡◌, ℕ, ◌+◌, ◌⊎◌, Bool, true, fa
 use Rattle.std.proofs.lemmas.Bool.{eqb-true, eq-eqb, false≢true}
 use Rattle.std.specs.Prelude.{option_map}
 use Rattle.std.specs.List.{flat_map, AllByRecursion as Each, slice_get}
-use Rattle.flume_value.proofs.BoolLemmas.{both_true}
-use Rattle.flume_value.proofs.EachLemmas.{Each-left, Each-right, Each-weaker}
-use Rattle.flume_collection.specs.Collection.{Collection, together}
-use Rattle.exec_graph.specs.World.{World}
-use Rattle.exec_graph.specs.Objects.{act_result}
-use Rattle.exec_graph.specs.declared.graph.Node.{Node}
-use Rattle.exec_graph.specs.declared.graph.Node.TheVariants.{Source, Flatten, Pdo, Gbk, Barrier}
-use Rattle.exec_graph.specs.Meaning.{place, or_nothing}
-use Rattle.exec_graph.specs.Readers.{same_place}
-use Rattle.exec_graph.specs.declared.graph.Place.{Place}
-use Rattle.exec_graph.specs.declared.graph.Entry.{Entry}
+use Rattle.exec_plan.proofs.of_flume_value.BoolLemmas.{both_true}
+use Rattle.exec_plan.proofs.of_flume_value.EachLemmas.{Each-left, Each-right, Each-weaker}
+use Rattle.exec_plan.specs.of_flume_collection.Collection.{Collection, together}
+use Rattle.exec_plan.specs.of_exec_graph.World.{World}
+use Rattle.exec_plan.specs.of_exec_graph.Objects.{act_result}
+use Rattle.exec_plan.specs.of_exec_graph.declared.graph.Node.{Node}
+use Rattle.exec_plan.specs.of_exec_graph.declared.graph.Node.TheVariants.{Source, Flatten, Pdo, Gbk, Barrier}
+use Rattle.exec_plan.specs.of_exec_graph.Meaning.{place, or_nothing}
+use Rattle.exec_plan.specs.of_exec_graph.Readers.{same_place}
+use Rattle.exec_plan.specs.of_exec_graph.declared.graph.Place.{Place}
+use Rattle.exec_plan.specs.of_exec_graph.declared.graph.Entry.{Entry}
 use Rattle.exec_plan.specs.declared.plan.PlanPlace.{PlanPlace}
 use Rattle.exec_plan.specs.declared.plan.PlanPlace.TheVariants as at
 use Rattle.exec_plan.specs.Channels.{Fed, fed, given}
@@ -22,7 +22,7 @@ use Rattle.exec_plan.proofs.Running.{IsBelow, more_below, run_below, with_below}
 use Rattle.plan_laws.specs.declared.operations.Operation.{Operation}
 use Rattle.plan_laws.specs.declared.operations.Operation.TheVariants.{Flat, Class}
 use Rattle.plan_laws.specs.Operations.{AreReady, IsIn, Reading, channels_of, class_outs, flat_inputs, flat_stage, gives_of, made_by, named, placed, places_of, reading_reads, reads_of, with_object, stage_of, stages_of, valued}
-use Rattle.exec_graph.specs.Meaning.{node_at}
+use Rattle.exec_plan.specs.of_exec_graph.Meaning.{node_at}
 
 -- ---- what an operation gives, and adds up to, where m says what the graph's collections are
 abbrev pub flat_value : World → Option Node → List Collection → Collection

@@ -3,15 +3,15 @@
 use Rattle.std.proofs.Common.{◌≡◌, ℕ, ◌<◌, true, ◌||◌, List, [], ◌∷◌, ◌++◌, map, Option, Some, None, zero, suc, refl, sym, ap, ◌∙◌, subst, arith, inl, inr}
 use Rattle.std.proofs.lemmas.Bool.{eqb-true, false≢true}
 use Rattle.std.specs.List.{flat_map, AllByRecursion as Each}
-use Rattle.flume_value.proofs.EachLemmas.{Each-both, Each-weaker}
-use Rattle.flume_collection.specs.declared.trap.Trap.{Trap}
-use Rattle.flume_collection.specs.Sets.{gather, put_new}
-use Rattle.flume_collection.specs.Traps.{trap_le, trap_set}
-use Rattle.exec_graph.specs.Forests.{Forest, Bare, Grow}
-use Rattle.exec_graph.specs.Meaning.{AllDiffer, FitsForest, IsRankedBy, IsSound, IsThere, Meets, all_traps, gives, has_out, is_out, node_at, place, reads, step_traps, through, total, traps}
-use Rattle.exec_graph.proofs.Bools.{or_cases}
-use Rattle.exec_graph.proofs.Entries.{all_found}
-use Rattle.exec_graph.proofs.Solving.{each_found, ranked_at, there_found}
+use Rattle.exec_plan.proofs.of_flume_value.EachLemmas.{Each-both, Each-weaker}
+use Rattle.exec_plan.specs.of_flume_collection.declared.trap.Trap.{Trap}
+use Rattle.exec_plan.specs.of_flume_collection.Sets.{gather, put_new}
+use Rattle.exec_plan.specs.of_flume_collection.Traps.{trap_le, trap_set}
+use Rattle.exec_plan.specs.of_exec_graph.Forests.{Forest, Bare, Grow}
+use Rattle.exec_plan.specs.of_exec_graph.Meaning.{AllDiffer, FitsForest, IsRankedBy, IsSound, IsThere, Meets, all_traps, gives, has_out, is_out, node_at, place, reads, step_traps, through, total, traps}
+use Rattle.exec_plan.proofs.of_exec_graph.Bools.{or_cases}
+use Rattle.exec_plan.proofs.of_exec_graph.Entries.{all_found}
+use Rattle.exec_plan.proofs.of_exec_graph.Solving.{each_found, ranked_at, there_found}
 use Rattle.exec_plan.specs.Meaning.{trap_parts}
 use Rattle.plan_laws.specs.declared.operations.Operation.{Operation}
 use Rattle.plan_laws.specs.Operations.{DoAll, runs, times, works_at}
@@ -19,13 +19,13 @@ use Rattle.plan_laws.proofs.Absorbing.{Absorbs, absorbs_all, absorbs_both, absor
 use Rattle.plan_laws.proofs.Adding.{sum_at, traps_are}
 use Rattle.plan_laws.proofs.Carrying.{holds_at, kept_at}
 use Rattle.plan_laws.proofs.Counting.{nodes_sum, numbers_of, times_one}
-use Rattle.flume_collection.specs.Collection.{Collection}
-use Rattle.exec_graph.specs.World.{World}
-use Rattle.exec_graph.specs.declared.graph.Place.{Place}
-use Rattle.exec_graph.specs.declared.graph.Node.{Node}
-use Rattle.exec_graph.specs.declared.graph.Node.TheVariants.{Source, Flatten, Pdo, Gbk, Barrier}
-use Rattle.exec_graph.specs.declared.graph.Entry.{Entry}
-use Rattle.exec_graph.specs.declared.graph.Graph.{Graph}
+use Rattle.exec_plan.specs.of_flume_collection.Collection.{Collection}
+use Rattle.exec_plan.specs.of_exec_graph.World.{World}
+use Rattle.exec_plan.specs.of_exec_graph.declared.graph.Place.{Place}
+use Rattle.exec_plan.specs.of_exec_graph.declared.graph.Node.{Node}
+use Rattle.exec_plan.specs.of_exec_graph.declared.graph.Node.TheVariants.{Source, Flatten, Pdo, Gbk, Barrier}
+use Rattle.exec_plan.specs.of_exec_graph.declared.graph.Entry.{Entry}
+use Rattle.exec_plan.specs.of_exec_graph.declared.graph.Graph.{Graph}
 
 out_absorbed : (w : World) (m : Place → Collection) (n j : ℕ) (v : Collection) (f : Forest)
     (b : List Trap) → FitsForest w m n v f → has_out j f ≡ true → Absorbs b (total w (step_traps w)

@@ -97,7 +97,7 @@ fn mapper(
         (operations.pdo_channel number (node_at nodes.now number))) }
 {
     match find_node(nodes, index, number) {
-        Some(Node::Pdo(c, roots)) => {
+        Some(Node::Pdo { input: c, roots }) => {
             let does = roots.copy(alloc)?;
             Ok(InChannel {
                 reads: named(nodes, index, names, *c),
@@ -105,7 +105,14 @@ fn mapper(
                 does: Some(does),
             })
         }
-        Some(Node::Barrier(inputs, origin, last, act)) => {
+        Some(
+            Node::Barrier {
+                inputs,
+                origin,
+                is_own: last,
+                act,
+            },
+        ) => {
             let call = Call {
                 node: number,
                 origin: *origin,
@@ -244,7 +251,7 @@ fn flat_takes(
             let takes = all_named(alloc, nodes, index, names, inputs.as_slice())?;
             Ok(takes)
         }
-        Some(Node::Barrier(inputs, _, _, _)) => {
+        Some(Node::Barrier { inputs, .. }) => {
             let takes = all_named(alloc, nodes, index, names, inputs.as_slice())?;
             Ok(takes)
         }
@@ -263,7 +270,14 @@ fn flat_stage(
     ensures { result ≡ operations.flat_stage (node_at nodes.now number) takes }
 {
     match find_node(nodes, index, number) {
-        Some(Node::Barrier(_, origin, last, act)) => Stage::Operate(takes, *origin, *last, *act),
+        Some(
+            Node::Barrier {
+                origin,
+                is_own: last,
+                act,
+                ..
+            },
+        ) => Stage::Operate(takes, *origin, *last, *act),
         _ => Stage::Flatten(takes),
     }
 }

@@ -8,11 +8,11 @@ use Rattle.flume_collection.specs.declared.trap.Trap.{Trap}
 use Rattle.shards.specs.Shards.{joined}
 use Rattle.shards.proofs.Joined.{flat_map-joined, joined_same}
 use Rattle.exec_graph.specs.World.{World}
-use Rattle.exec_plan.specs.declared.plan.Grouping.{Grouping}
-use Rattle.exec_plan.specs.declared.plan.Mscr.{Mscr as Channels}
-use Rattle.exec_plan.specs.declared.plan.Stage.{Stage}
-use Rattle.exec_plan.specs.declared.plan.Stage.TheVariants.{Mscr, Flatten, Operate}
-use Rattle.exec_plan.specs.declared.plan.Plan.{Plan}
+use Rattle.task_lists.specs.of_exec_plan.declared.plan.Grouping.{Grouping}
+use Rattle.task_lists.specs.of_exec_plan.declared.plan.Mscr.{Mscr as Channels}
+use Rattle.task_lists.specs.of_exec_plan.declared.plan.Stage.{Stage}
+use Rattle.task_lists.specs.of_exec_plan.declared.plan.Stage.TheVariants.{Mscr, Flatten, Operate}
+use Rattle.task_lists.specs.of_exec_plan.declared.plan.Plan.{Plan}
 use Rattle.task_lists.specs.Runs.{traps_of}
 use Rattle.task_lists.specs.Tasks.{Split, Lists, Task, world_for, groupings, grouping_at, map_count, map_phase, map_task_at, no_task, reduce_count, reduce_phase, reduce_task, reduce_task_at}
 use Rattle.task_lists.specs.Lists.{object_made, result_lists, source_lists, with_lists}

@@ -7,11 +7,11 @@ use Rattle.outside.specs.declared.host.Phase.TheVariants.{Map, Reduce}
 use Rattle.flume_collection.specs.declared.trap.Trap.{Trap}
 use Rattle.shards.specs.Shards.{joined}
 use Rattle.exec_graph.specs.World.{World}
-use Rattle.exec_plan.specs.declared.plan.Grouping.{Grouping}
-use Rattle.exec_plan.specs.declared.plan.Mscr.{Mscr as Channels}
-use Rattle.exec_plan.specs.declared.plan.Stage.{Stage}
-use Rattle.exec_plan.specs.declared.plan.Stage.TheVariants.{Mscr, Flatten, Operate}
-use Rattle.exec_plan.specs.declared.plan.Plan.{Plan}
+use Rattle.task_lists.specs.of_exec_plan.declared.plan.Grouping.{Grouping}
+use Rattle.task_lists.specs.of_exec_plan.declared.plan.Mscr.{Mscr as Channels}
+use Rattle.task_lists.specs.of_exec_plan.declared.plan.Stage.{Stage}
+use Rattle.task_lists.specs.of_exec_plan.declared.plan.Stage.TheVariants.{Mscr, Flatten, Operate}
+use Rattle.task_lists.specs.of_exec_plan.declared.plan.Plan.{Plan}
 use Rattle.task_lists.specs.Runs.{traps_of}
 use Rattle.task_lists.specs.Tasks.{Split, Lists, Task, world_for, groupings, map_count, map_task_at, reduce_count, reduce_task_at}
 use Rattle.task_lists.specs.Lists.{object_made, result_lists, source_lists, with_lists}

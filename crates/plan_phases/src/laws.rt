@@ -3,7 +3,7 @@ ghost use Rattle.std.specs.Prelude.{◌≡◌, ◌<◌, Some, None};
 ghost use Rattle.std.specs.List.{AllByRecursion, flat_map};
 ghost use Rattle.flume_collection.specs.declared.trap.Trap.{Trap};
 ghost use Rattle.exec_graph.specs.World.{World};
-ghost use Rattle.exec_plan.specs.declared.plan.Plan.{Plan};
+ghost use Rattle.task_lists.specs.of_exec_plan.declared.plan.Plan.{Plan};
 ghost use Rattle.task_lists.specs.Tasks.{Split};
 ghost use Rattle.task_lists.specs.Plans.{all_tasks, first_trap, task_traps};
 ghost use Rattle.plan_phases.specs.Phases.{phases, phase_traps};

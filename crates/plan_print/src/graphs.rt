@@ -87,11 +87,21 @@ fn push_node(
     match node {
         Node::Source(_) => push_source(text, program, origin),
         Node::Flatten(inputs) => push_flatten(text, program, origin, inputs.as_slice()),
-        Node::Pdo(input, steps) => push_do(text, program, *input, steps),
-        Node::Gbk(input, group, _, _) => push_group(text, program, *input, *group),
-        Node::Barrier(inputs, own, _, act) => {
-            push_barrier(text, program, *own, *act, inputs.as_slice())
-        }
+        Node::Pdo {
+            input,
+            roots: steps,
+        } => push_do(text, program, *input, steps),
+        Node::Gbk {
+            input,
+            origin: group,
+            ..
+        } => push_group(text, program, *input, *group),
+        Node::Barrier {
+            inputs,
+            origin: own,
+            act,
+            ..
+        } => { push_barrier(text, program, *own, *act, inputs.as_slice()) }
     }
 }
 

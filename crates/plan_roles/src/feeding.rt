@@ -3,7 +3,7 @@ ghost use Rattle.std.specs.Prelude.{◌≡◌, ◌&&◌, ◌==◌, not, OnOk, If
 ghost use Rattle.std.proofs.Common.{suc};
 ghost use Rattle.exec_graph.specs.Places.{HasAlso};
 ghost use Rattle.exec_graph.specs.Readers.{among, same_place};
-ghost use Rattle.node_index.specs.Index.{IsIndex};
+ghost use Rattle.fusion_blocks.specs.of_node_index.Index.{IsIndex};
 ghost use Rattle.plan_laws.specs.Operations.{inputs_of};
 ghost use Rattle.plan_roles.specs.Levels.{level};
 ghost use Rattle.plan_roles.specs.Reading.{takes};
@@ -12,7 +12,7 @@ ghost use Rattle.plan_roles.specs.inner.Tables.{IsFeeding};
 
 use crate::levels::Levels;
 use exec_graph::{Entry, Node, Place, add_place};
-use node_index::find_node;
+use fusion_blocks::node_index::find_node;
 use std::alloc::{AllocError, Global};
 use std::collections::{HashMap, HashSet};
 use std::slice;
@@ -74,13 +74,13 @@ fn add_taken(
         && not (level nodes.now entry.now.number == suc (level nodes.now d.node)))) }
 {
     match &entry.node {
-        Node::Gbk(c, _, _, _) => {
+        Node::Gbk { input: c, .. } => {
             let gbk_level = levels.of(entry.number);
             add_fed(nodes, levels, gbk_level, *c, feeding)?;
             let inputs = inputs_of(nodes, &levels.index, c);
             add_all_fed(nodes, levels, gbk_level, inputs, feeding)
         }
-        Node::Source(_) | Node::Flatten(_) | Node::Pdo(_, _) | Node::Barrier(_, _, _, _) => Ok(()),
+        Node::Source(_) | Node::Flatten(_) | Node::Pdo { .. } | Node::Barrier { .. } => Ok(()),
     }
 }
 

@@ -69,14 +69,14 @@ fn add_reducer(
         || reduces blocked.now entry.now.number entry.now.node n)) }
 {
     match &entry.node {
-        Node::Gbk(_, _, _, _) => match reducer_of(blocked, found, mappers, entry.number) {
+        Node::Gbk { .. } => match reducer_of(blocked, found, mappers, entry.number) {
             Some(reducer) => {
                 reducers.insert(reducer)?;
                 Ok(())
             }
             None => Ok(()),
         },
-        Node::Source(_) | Node::Flatten(_) | Node::Pdo(_, _) | Node::Barrier(_, _, _, _) => Ok(()),
+        Node::Source(_) | Node::Flatten(_) | Node::Pdo { .. } | Node::Barrier { .. } => Ok(()),
     }
 }
 

@@ -3,13 +3,13 @@ ghost use Rattle.std.specs.Prelude.{◌≡◌, ◌+◌, ◌<◌, ◌≤◌, ◌^
 ghost use Rattle.exec_graph.specs.declared.graph.Node.TheVariants.{Barrier};
 ghost use Rattle.exec_graph.specs.declared.graph.Place.{Place as GhostPlace};
 ghost use Rattle.exec_graph.specs.declared.graph.Entry.{Entry as GhostEntry};
-ghost use Rattle.node_index.specs.Index.{IsIndex};
+ghost use Rattle.fusion_blocks.specs.of_node_index.Index.{IsIndex};
 ghost use Rattle.fusion_blocks.specs.inner.Tables.{AllBelow, IsBelow, IsRanked};
 ghost use Rattle.plan_roles.specs.Levels.{greatest, level, one_gbk};
 ghost use Rattle.plan_roles.specs.inner.Known.{AreKnown, AreLevels, level_in};
 
 use exec_graph::{Act, Entry, Node, Place};
-use node_index::{find_node, index_of, reads_of};
+use fusion_blocks::node_index::{find_node, index_of, reads_of};
 use std::alloc::{AllocError, Global};
 use std::collections::HashMap;
 
@@ -162,8 +162,8 @@ fn risen(node: &Node, read: u32) -> u32
     ensures { result ≡ one_gbk node.now + read }
 {
     match node {
-        Node::Gbk(_, _, _, _) => read + 1,
-        Node::Barrier(inputs, _, _, act) => risen_by(*act, inputs.as_slice(), read),
-        Node::Source(_) | Node::Flatten(_) | Node::Pdo(_, _) => read,
+        Node::Gbk { .. } => read + 1,
+        Node::Barrier { inputs, act, .. } => risen_by(*act, inputs.as_slice(), read),
+        Node::Source(_) | Node::Flatten(_) | Node::Pdo { .. } => read,
     }
 }

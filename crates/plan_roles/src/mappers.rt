@@ -4,7 +4,7 @@ ghost use Rattle.std.specs.HashSet.{contains};
 ghost use Rattle.std.specs.List.{list_any};
 ghost use Rattle.exec_graph.specs.Meaning.{AllDiffer, node_at};
 ghost use Rattle.exec_graph.specs.Wellformed.{is_lifted};
-ghost use Rattle.node_index.specs.Index.{IsIndex};
+ghost use Rattle.fusion_blocks.specs.of_node_index.Index.{IsIndex};
 ghost use Rattle.plan_roles.specs.Mappers.{feeds_unmarked, is_mapper, maps};
 ghost use Rattle.plan_roles.specs.Reading.{goes_past};
 ghost use Rattle.plan_roles.specs.inner.Tables.{AreFound, HasNumbers};
@@ -12,7 +12,7 @@ ghost use Rattle.plan_roles.specs.inner.Tables.{AreFound, HasNumbers};
 use crate::found::Found;
 use crate::outputs::outputs_of;
 use exec_graph::{Blocked, Entry, Node, Place, code_of};
-use node_index::find_node;
+use fusion_blocks::node_index::find_node;
 use std::alloc::{AllocError, Global};
 use std::collections::{HashMap, HashSet};
 
@@ -58,7 +58,7 @@ fn maps(alloc: Global, blocked: &Blocked, found: &Found, entry: &Entry) -> Resul
     ensures { IfOk result (λ r. r ≡ maps blocked.now entry.now.number entry.now.node) }
 {
     match &entry.node {
-        Node::Pdo(c, roots) => {
+        Node::Pdo { input: c, roots } => {
             if is_lifted(blocked.graph.nodes.as_slice(), &found.levels.index, c.node) {
                 return Ok(false);
             }
@@ -68,7 +68,7 @@ fn maps(alloc: Global, blocked: &Blocked, found: &Found, entry: &Entry) -> Resul
                     && !any_past(blocked, found, outputs.as_slice()),
             )
         }
-        Node::Source(_) | Node::Flatten(_) | Node::Gbk(_, _, _, _) | Node::Barrier(_, _, _, _) => {
+        Node::Source(_) | Node::Flatten(_) | Node::Gbk { .. } | Node::Barrier { .. } => {
             Ok(false)
         }
     }
@@ -80,7 +80,12 @@ fn is_lifted(nodes: &[Entry], index: &HashMap<u32, usize>, number: u32) -> bool
     ensures { result ≡ is_lifted (node_at nodes.now number) }
 {
     match find_node(nodes, index, number) {
-        Some(Node::Gbk(_, _, _, Some(_))) => true,
+        Some(
+            Node::Gbk {
+                lifted: Some(_),
+                ..
+            },
+        ) => true,
         _ => false,
     }
 }

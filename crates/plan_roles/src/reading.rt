@@ -57,10 +57,10 @@ fn add_on(node: &Node, all: &mut HashSet<u64>) -> Result<(), AllocError>
         (λ d. works_on d node.now || flattens d node.now)) }
 {
     match node {
-        Node::Pdo(c, _) => add_place(*c, all),
+        Node::Pdo { input: c, .. } => add_place(*c, all),
         Node::Flatten(inputs) => add_places(inputs.as_slice(), all),
-        Node::Barrier(inputs, _, _, _) => add_places(inputs.as_slice(), all),
-        Node::Source(_) | Node::Gbk(_, _, _, _) => Ok(()),
+        Node::Barrier { inputs, .. } => add_places(inputs.as_slice(), all),
+        Node::Source(_) | Node::Gbk { .. } => Ok(()),
     }
 }
 
@@ -100,15 +100,15 @@ fn add_past(
     ensures { OnOk result (HasAlso all.old all.new (λ d. carries_on nodes.now d entry.now)) }
 {
     match &entry.node {
-        Node::Pdo(c, _) => add_place(*c, all),
+        Node::Pdo { input: c, .. } => add_place(*c, all),
         Node::Flatten(inputs) => {
             if !is_on(nodes, on, entry.number) {
                 return Ok(());
             }
             add_places(inputs.as_slice(), all)
         }
-        Node::Barrier(inputs, _, _, _) => add_places(inputs.as_slice(), all),
-        Node::Source(_) | Node::Gbk(_, _, _, _) => Ok(()),
+        Node::Barrier { inputs, .. } => add_places(inputs.as_slice(), all),
+        Node::Source(_) | Node::Gbk { .. } => Ok(()),
     }
 }
 
@@ -166,8 +166,6 @@ fn add_staged(
             }
             add_places(inputs.as_slice(), all)
         }
-        Node::Source(_) | Node::Pdo(_, _) | Node::Gbk(_, _, _, _) | Node::Barrier(_, _, _, _) => Ok(
-            (),
-        ),
+        Node::Source(_) | Node::Pdo { .. } | Node::Gbk { .. } | Node::Barrier { .. } => Ok(()),
     }
 }

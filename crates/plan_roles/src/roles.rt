@@ -103,7 +103,7 @@ fn part_of(
     match &entry.node {
         Node::Source(_) => Ok(Part::Source),
         Node::Flatten(_) => Ok(part_of_flatten(blocked, found, entry.number)),
-        Node::Pdo(_, roots) => {
+        Node::Pdo { roots, .. } => {
             let part = part_of_pdo(
                 alloc,
                 blocked,
@@ -115,11 +115,11 @@ fn part_of(
             )?;
             Ok(part)
         }
-        Node::Gbk(c, _, _, _) => {
+        Node::Gbk { input: c, .. } => {
             let keys = keys_in(alloc, blocked, found, mappers, entry.number, c)?;
             Ok(Part::Group(keys, reducer_of(blocked, found, mappers, entry.number)))
         }
-        Node::Barrier(_, _, _, act) => {
+        Node::Barrier { act, .. } => {
             let part = part_of_act(alloc, entry.number, *act)?;
             Ok(part)
         }

@@ -4,10 +4,10 @@ use Rattle.std.proofs.Common.{◌≡◌, ℕ, ◌+◌, ◌<◌, ◌≤◌, ◌�
 use Rattle.std.proofs.lemmas.Bool.{eqb-true, eq-eqb, false≢true}
 use Rattle.std.specs.List.{AllByRecursion}
 use Rattle.flume_value.proofs.EachLemmas.{Each-append, Each-weaker}
-use Rattle.exec_graph.specs.Meaning.{node_at, place}
-use Rattle.exec_graph.specs.Wellformed.{Ascends}
-use Rattle.exec_graph.specs.declared.graph.Place.{Place}
-use Rattle.exec_graph.specs.declared.graph.Entry.{Entry}
+use Rattle.graph_laws.specs.of_exec_graph.Meaning.{node_at, place}
+use Rattle.graph_laws.specs.of_exec_graph.Wellformed.{Ascends}
+use Rattle.graph_laws.specs.of_exec_graph.declared.graph.Place.{Place}
+use Rattle.graph_laws.specs.of_exec_graph.declared.graph.Entry.{Entry}
 use Rattle.plan_rules.proofs.Apart.{Misses}
 use Rattle.plan_rules.proofs.Collections.{collections, node_outs}
 use Rattle.plan_rules.proofs.Keys.{outs_of_number}

@@ -1,15 +1,15 @@
 -- A graph has at most 8 collections for each node and step.
 use Rattle.std.proofs.Common.{◌≡◌, ℕ, ◌+◌, ◌-◌, ◌*◌, ◌<◌, ◌≤◌, ◌⊎◌, List, [], ◌∷◌, map, length, Option, Some, None, zero, suc, ap, arith, inl, inr, length-append}
 use Rattle.std.specs.List.{AllByRecursion, flat_map}
-use Rattle.exec_graph.specs.Forests.{Forest, Bare, Grow, one_at, steps}
-use Rattle.exec_graph.specs.Meaning.{place}
-use Rattle.exec_graph.specs.Wellformed.{size, total_size}
-use Rattle.exec_graph.specs.declared.graph.Place.{Place}
-use Rattle.exec_graph.specs.declared.graph.Node.{Node}
-use Rattle.exec_graph.specs.declared.graph.Node.TheVariants.{Source, Flatten, Pdo, Gbk, Barrier}
-use Rattle.exec_graph.specs.declared.graph.Entry.{Entry}
-use Rattle.exec_plan.specs.Channels.{outs_of}
-use Rattle.exec_plan.specs.Wellformed.{kept, out_count}
+use Rattle.graph_laws.specs.of_exec_graph.Forests.{Forest, Bare, Grow, one_at, steps}
+use Rattle.graph_laws.specs.of_exec_graph.Meaning.{place}
+use Rattle.graph_laws.specs.of_exec_graph.Wellformed.{size, total_size}
+use Rattle.graph_laws.specs.of_exec_graph.declared.graph.Place.{Place}
+use Rattle.graph_laws.specs.of_exec_graph.declared.graph.Node.{Node}
+use Rattle.graph_laws.specs.of_exec_graph.declared.graph.Node.TheVariants.{Source, Flatten, Pdo, Gbk, Barrier}
+use Rattle.graph_laws.specs.of_exec_graph.declared.graph.Entry.{Entry}
+use Rattle.plan_making.specs.of_exec_plan.Channels.{outs_of}
+use Rattle.plan_making.specs.of_exec_plan.Wellformed.{kept, out_count}
 use Rattle.plan_rules.specs.Fitting.{HasFewOutputs, IsNarrow}
 use Rattle.plan_rules.proofs.Widths.{length_map, outs_length}
 

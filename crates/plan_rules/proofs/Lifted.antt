@@ -3,16 +3,16 @@ use Rattle.std.proofs.Common.{◌≡◌, ℕ, Bool, true, false, cond, eqb, List
 use Rattle.std.proofs.lemmas.Bool.{eqb-true}
 use Rattle.std.specs.List.{AllByRecursion}
 use Rattle.combine_table.specs.declared.comb.Comb.{Comb}
-use Rattle.exec_graph.specs.Meaning.{node_at, place}
-use Rattle.exec_graph.specs.Readers.{calls_on, readers, those}
-use Rattle.exec_graph.specs.Wellformed.{IsGraphOk, IsNodeOk, comb_at, is_lifted}
-use Rattle.exec_graph.specs.declared.graph.Place.{Place}
-use Rattle.exec_graph.specs.declared.graph.Node.{Node}
-use Rattle.exec_graph.specs.declared.graph.Node.TheVariants.{Source, Flatten, Pdo, Gbk, Barrier}
-use Rattle.exec_graph.specs.declared.graph.Entry.{Entry}
-use Rattle.exec_graph.specs.declared.graph.Graph.{Graph}
-use Rattle.exec_graph.proofs.Entries.{all_found}
-use Rattle.exec_plan.specs.Wellformed.{IsLiftOk}
+use Rattle.graph_laws.specs.of_exec_graph.Meaning.{node_at, place}
+use Rattle.graph_laws.specs.of_exec_graph.Readers.{calls_on, readers, those}
+use Rattle.graph_laws.specs.of_exec_graph.Wellformed.{IsGraphOk, IsNodeOk, comb_at, is_lifted}
+use Rattle.graph_laws.specs.of_exec_graph.declared.graph.Place.{Place}
+use Rattle.graph_laws.specs.of_exec_graph.declared.graph.Node.{Node}
+use Rattle.graph_laws.specs.of_exec_graph.declared.graph.Node.TheVariants.{Source, Flatten, Pdo, Gbk, Barrier}
+use Rattle.graph_laws.specs.of_exec_graph.declared.graph.Entry.{Entry}
+use Rattle.graph_laws.specs.of_exec_graph.declared.graph.Graph.{Graph}
+use Rattle.graph_laws.proofs.of_exec_graph.Entries.{all_found}
+use Rattle.plan_making.specs.of_exec_plan.Wellformed.{IsLiftOk}
 use Rattle.plan_laws.specs.declared.operations.Key.{Key}
 use Rattle.plan_laws.specs.declared.operations.Grouped.{Grouped}
 use Rattle.plan_laws.specs.Operations.{IsGroupedOk, IsReducer, Reads, forest_at, reducer_of}

@@ -4,16 +4,16 @@ use Rattle.std.proofs.Common.{◌≡◌, ℕ, ◌-◌, ◌<◌, ◌≤◌, Bool,
 use Rattle.std.proofs.lemmas.Bool.{eqb-true, false≢true}
 use Rattle.std.specs.List.{AllByRecursion}
 use Rattle.flume_value.proofs.EachLemmas.{Each-weaker}
-use Rattle.exec_graph.specs.Forests.{Forest, Bare, Grow}
-use Rattle.exec_graph.specs.Meaning.{IsThere, gives, has_out, is_out, node_at, place}
-use Rattle.exec_graph.specs.Wellformed.{Ascends}
-use Rattle.exec_graph.specs.declared.graph.Place.{Place}
-use Rattle.exec_graph.specs.declared.graph.Node.{Node}
-use Rattle.exec_graph.specs.declared.graph.Node.TheVariants.{Source, Flatten, Pdo, Gbk, Barrier}
-use Rattle.exec_graph.specs.declared.graph.Entry.{Entry}
-use Rattle.exec_graph.proofs.Bools.{or_else}
-use Rattle.exec_graph.proofs.Solving.{there_found}
-use Rattle.exec_plan.specs.Channels.{kept_out, outs_of}
+use Rattle.graph_laws.specs.of_exec_graph.Forests.{Forest, Bare, Grow}
+use Rattle.graph_laws.specs.of_exec_graph.Meaning.{IsThere, gives, has_out, is_out, node_at, place}
+use Rattle.graph_laws.specs.of_exec_graph.Wellformed.{Ascends}
+use Rattle.graph_laws.specs.of_exec_graph.declared.graph.Place.{Place}
+use Rattle.graph_laws.specs.of_exec_graph.declared.graph.Node.{Node}
+use Rattle.graph_laws.specs.of_exec_graph.declared.graph.Node.TheVariants.{Source, Flatten, Pdo, Gbk, Barrier}
+use Rattle.graph_laws.specs.of_exec_graph.declared.graph.Entry.{Entry}
+use Rattle.graph_laws.proofs.of_exec_graph.Bools.{or_else}
+use Rattle.graph_laws.proofs.of_exec_graph.Solving.{there_found}
+use Rattle.plan_making.specs.of_exec_plan.Channels.{kept_out, outs_of}
 use Rattle.plan_rules.proofs.Collections.{collections, node_outs}
 use Rattle.plan_rules.proofs.Members.{Has, has_left, has_map, has_right, weight}
 use Rattle.plan_rules.proofs.Widths.{length_map}

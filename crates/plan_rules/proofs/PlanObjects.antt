@@ -4,21 +4,21 @@ use Rattle.std.specs.List.{AllByRecursion as Each, flat_map, list_all, slice_get
 use Rattle.std.proofs.lemmas.Bool.{eqb-true}
 use Rattle.flume_value.proofs.BoolLemmas.{and_both}
 use Rattle.flume_value.proofs.EachLemmas.{Each-weaker}
-use Rattle.exec_graph.specs.Meaning.{node_at, place}
-use Rattle.exec_graph.specs.Readers.{same_place}
-use Rattle.exec_graph.specs.Objects.{gives_object, takes_such}
-use Rattle.exec_graph.specs.Wellformed.{has_objects, is_object, is_object_at}
-use Rattle.exec_graph.specs.declared.graph.Act.{Act}
-use Rattle.exec_graph.specs.declared.graph.Act.TheVariants.{SideInput, Operate as Operates, Singleton}
-use Rattle.exec_graph.specs.declared.graph.Place.{Place}
-use Rattle.exec_graph.specs.declared.graph.Node.{Node}
-use Rattle.exec_graph.specs.declared.graph.Node.TheVariants.{Source, Flatten, Pdo, Gbk, Barrier}
-use Rattle.exec_graph.specs.declared.graph.Entry.{Entry}
-use Rattle.exec_plan.specs.declared.plan.PlanPlace.{PlanPlace}
-use Rattle.exec_plan.specs.declared.plan.PlanPlace.TheVariants as at
-use Rattle.exec_plan.specs.declared.plan.InChannel.{InChannel}
-use Rattle.exec_plan.specs.declared.plan.Stage.{Stage}
-use Rattle.exec_plan.specs.Wellformed.{has_object, has_objects as stage_has, is_object as is_place, is_operate}
+use Rattle.graph_laws.specs.of_exec_graph.Meaning.{node_at, place}
+use Rattle.graph_laws.specs.of_exec_graph.Readers.{same_place}
+use Rattle.graph_laws.specs.of_exec_graph.Objects.{gives_object, takes_such}
+use Rattle.graph_laws.specs.of_exec_graph.Wellformed.{has_objects, is_object, is_object_at}
+use Rattle.graph_laws.specs.of_exec_graph.declared.graph.Act.{Act}
+use Rattle.graph_laws.specs.of_exec_graph.declared.graph.Act.TheVariants.{SideInput, Operate as Operates, Singleton}
+use Rattle.graph_laws.specs.of_exec_graph.declared.graph.Place.{Place}
+use Rattle.graph_laws.specs.of_exec_graph.declared.graph.Node.{Node}
+use Rattle.graph_laws.specs.of_exec_graph.declared.graph.Node.TheVariants.{Source, Flatten, Pdo, Gbk, Barrier}
+use Rattle.graph_laws.specs.of_exec_graph.declared.graph.Entry.{Entry}
+use Rattle.plan_making.specs.of_exec_plan.declared.plan.PlanPlace.{PlanPlace}
+use Rattle.plan_making.specs.of_exec_plan.declared.plan.PlanPlace.TheVariants as at
+use Rattle.plan_making.specs.of_exec_plan.declared.plan.InChannel.{InChannel}
+use Rattle.plan_making.specs.of_exec_plan.declared.plan.Stage.{Stage}
+use Rattle.plan_making.specs.of_exec_plan.Wellformed.{has_object, has_objects as stage_has, is_object as is_place, is_operate}
 use Rattle.plan_laws.specs.declared.operations.Key.{Key}
 use Rattle.plan_laws.specs.declared.operations.Key.TheVariants.{Mapper, Whole}
 use Rattle.plan_laws.specs.declared.operations.Grouped.{Grouped}

@@ -3,18 +3,18 @@
 use Rattle.std.proofs.Common.{◌≡◌, ℕ, ◌+◌, ◌-◌, Bool, true, false, cond, eqb, List, [], ◌∷◌, ◌++◌, Option, Some, refl, sym, ap, ◌∙◌, inl, inr}
 use Rattle.std.specs.List.{AllByRecursion as Each, flat_map, list_any}
 use Rattle.std.proofs.lemmas.Bool.{eqb-true, eq-eqb, false≢true}
-use Rattle.exec_graph.specs.Meaning.{node_at}
-use Rattle.exec_graph.specs.Wellformed.{HaveObjects, has_objects, is_object, is_object_at}
-use Rattle.exec_graph.specs.declared.graph.Input.{Input}
-use Rattle.exec_graph.specs.declared.graph.Place.{Place}
-use Rattle.exec_graph.specs.declared.graph.Node.{Node}
-use Rattle.exec_graph.specs.declared.graph.Node.TheVariants.{Source, Flatten, Pdo, Gbk, Barrier}
-use Rattle.exec_graph.specs.declared.graph.Entry.{Entry}
-use Rattle.exec_graph.specs.declared.graph.Graph.{Graph}
-use Rattle.exec_graph.proofs.Entries.{all_found}
-use Rattle.exec_graph.proofs.Bools.{or_cases, or_left, or_right}
-use Rattle.exec_plan.specs.declared.plan.Stage.{Stage}
-use Rattle.exec_plan.specs.Wellformed.{has_objects as stage_has}
+use Rattle.graph_laws.specs.of_exec_graph.Meaning.{node_at}
+use Rattle.graph_laws.specs.of_exec_graph.Wellformed.{HaveObjects, has_objects, is_object, is_object_at}
+use Rattle.graph_laws.specs.of_exec_graph.declared.graph.Input.{Input}
+use Rattle.graph_laws.specs.of_exec_graph.declared.graph.Place.{Place}
+use Rattle.graph_laws.specs.of_exec_graph.declared.graph.Node.{Node}
+use Rattle.graph_laws.specs.of_exec_graph.declared.graph.Node.TheVariants.{Source, Flatten, Pdo, Gbk, Barrier}
+use Rattle.graph_laws.specs.of_exec_graph.declared.graph.Entry.{Entry}
+use Rattle.graph_laws.specs.of_exec_graph.declared.graph.Graph.{Graph}
+use Rattle.graph_laws.proofs.of_exec_graph.Entries.{all_found}
+use Rattle.graph_laws.proofs.of_exec_graph.Bools.{or_cases, or_left, or_right}
+use Rattle.plan_making.specs.of_exec_plan.declared.plan.Stage.{Stage}
+use Rattle.plan_making.specs.of_exec_plan.Wellformed.{has_objects as stage_has}
 use Rattle.plan_laws.specs.declared.operations.Operation.{Operation}
 use Rattle.plan_laws.specs.Operations.{DoAll, IsIn, at_source, object_source, source_at, source_place, source_places, stages_of}
 use Rattle.plan_laws.proofs.Running.{in_append}

@@ -2,21 +2,21 @@
 use Rattle.std.proofs.Common.{◌≡◌, ℕ, ◌<◌, ◌^◌, List, [], ◌∷◌, ◌++◌, length, Some, suc, refl, sym, ap, ◌∙◌, subst, arith, inl, inr, append_assoc, length-append}
 use Rattle.std.specs.List.{AllByRecursion}
 use Rattle.flume_value.proofs.EachLemmas.{Each-weaker}
-use Rattle.exec_graph.specs.Meaning.{node_at}
-use Rattle.exec_graph.specs.declared.graph.Place.{Place}
-use Rattle.exec_graph.specs.declared.graph.Node.{Node}
-use Rattle.exec_graph.specs.declared.graph.Node.TheVariants.{Source, Flatten, Pdo, Gbk, Barrier}
-use Rattle.exec_graph.specs.declared.graph.Entry.{Entry}
-use Rattle.exec_graph.specs.declared.graph.Graph.{Graph}
-use Rattle.exec_plan.specs.declared.plan.PlanPlace.{PlanPlace}
-use Rattle.exec_plan.specs.declared.plan.Stage.{Stage}
-use Rattle.exec_plan.specs.Wellformed.{AreStages, IsMade, IsPlanOk, results_at}
+use Rattle.graph_laws.specs.of_exec_graph.Meaning.{node_at}
+use Rattle.graph_laws.specs.of_exec_graph.declared.graph.Place.{Place}
+use Rattle.graph_laws.specs.of_exec_graph.declared.graph.Node.{Node}
+use Rattle.graph_laws.specs.of_exec_graph.declared.graph.Node.TheVariants.{Source, Flatten, Pdo, Gbk, Barrier}
+use Rattle.graph_laws.specs.of_exec_graph.declared.graph.Entry.{Entry}
+use Rattle.graph_laws.specs.of_exec_graph.declared.graph.Graph.{Graph}
+use Rattle.plan_making.specs.of_exec_plan.declared.plan.PlanPlace.{PlanPlace}
+use Rattle.plan_making.specs.of_exec_plan.declared.plan.Stage.{Stage}
+use Rattle.plan_making.specs.of_exec_plan.Wellformed.{AreStages, IsMade, IsPlanOk, results_at}
 use Rattle.plan_laws.specs.declared.operations.Operation.{Operation}
 use Rattle.plan_laws.specs.Operations.{AreReady, DoAll, IsHonest, IsIn, at_source, gives_of, made_by, placed, places_of, plan_of, reads_of, source_at, source_place, source_places, stage_of, stages_of}
 use Rattle.plan_laws.proofs.Running.{in_append}
 use Rattle.plan_rules.specs.Fitting.{IsSourceBelow, SourcesAgree}
 use Rattle.plan_rules.proofs.Made.{made_more, placed_made, results_here}
-use Rattle.exec_graph.specs.Wellformed.{HaveObjects}
+use Rattle.graph_laws.specs.of_exec_graph.Wellformed.{HaveObjects}
 use Rattle.plan_rules.proofs.PlanObjects.{PassesCollections}
 use Rattle.plan_rules.proofs.PlanSources.{plan_objects}
 use Rattle.plan_rules.proofs.Staging.{IsShort, places_made, stage_ok}

@@ -2,19 +2,19 @@
 use Rattle.std.proofs.Common.{◌≡◌, ℕ, ◌<◌, Bool, true, false, cond, List, [], ◌∷◌, map, Option, Some, None, suc, refl, sym, ap, ◌∙◌, subst, arith}
 use Rattle.std.proofs.lemmas.Bool.{eqb-true}
 use Rattle.std.specs.List.{AllByRecursion, slice_get}
-use Rattle.exec_graph.specs.Forests.{Forest, after, numbered}
-use Rattle.exec_graph.specs.Meaning.{IsThere, gives_at, has_out, node_at}
-use Rattle.exec_graph.specs.declared.graph.Place.{Place}
-use Rattle.exec_graph.specs.declared.graph.Act.{Act}
-use Rattle.exec_graph.specs.declared.graph.Act.TheVariants.{SideInput, Operate as Operates, Singleton}
-use Rattle.exec_graph.specs.declared.graph.Node.{Node}
-use Rattle.exec_graph.specs.declared.graph.Node.TheVariants.{Source, Flatten, Pdo, Gbk, Barrier}
-use Rattle.exec_graph.specs.declared.graph.Entry.{Entry}
-use Rattle.exec_graph.proofs.Entries.{all_found}
-use Rattle.exec_graph.proofs.Numbered.{numbered_within}
-use Rattle.exec_plan.specs.declared.plan.PlanPlace.{PlanPlace}
-use Rattle.exec_plan.specs.declared.plan.InChannel.{InChannel}
-use Rattle.exec_plan.specs.Wellformed.{Exists, IsNumbered, kept, outs, outs_at}
+use Rattle.graph_laws.specs.of_exec_graph.Forests.{Forest, after, numbered}
+use Rattle.graph_laws.specs.of_exec_graph.Meaning.{IsThere, gives_at, has_out, node_at}
+use Rattle.graph_laws.specs.of_exec_graph.declared.graph.Place.{Place}
+use Rattle.graph_laws.specs.of_exec_graph.declared.graph.Act.{Act}
+use Rattle.graph_laws.specs.of_exec_graph.declared.graph.Act.TheVariants.{SideInput, Operate as Operates, Singleton}
+use Rattle.graph_laws.specs.of_exec_graph.declared.graph.Node.{Node}
+use Rattle.graph_laws.specs.of_exec_graph.declared.graph.Node.TheVariants.{Source, Flatten, Pdo, Gbk, Barrier}
+use Rattle.graph_laws.specs.of_exec_graph.declared.graph.Entry.{Entry}
+use Rattle.graph_laws.proofs.of_exec_graph.Entries.{all_found}
+use Rattle.graph_laws.proofs.of_exec_graph.Numbered.{numbered_within}
+use Rattle.plan_making.specs.of_exec_plan.declared.plan.PlanPlace.{PlanPlace}
+use Rattle.plan_making.specs.of_exec_plan.declared.plan.InChannel.{InChannel}
+use Rattle.plan_making.specs.of_exec_plan.Wellformed.{Exists, IsNumbered, kept, outs, outs_at}
 use Rattle.plan_laws.specs.declared.operations.Key.{Key}
 use Rattle.plan_laws.specs.declared.operations.Key.TheVariants.{Mapper, Whole}
 use Rattle.plan_laws.specs.Operations.{IsSide, side_channel, HasKey, IsKeyOk, IsPdo, IsTaken, channel_of, forest_at, has_key, key_out, named, out_in, pdo_channel, position, reducer_of, take_of}

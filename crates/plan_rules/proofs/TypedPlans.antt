@@ -3,18 +3,18 @@ use Rattle.std.proofs.Common.{◌≡◌, ℕ, ◌+◌, ◌-◌, ◌⊎◌, Bool,
 use Rattle.std.specs.List.{AllByRecursion, slice_get}
 use Rattle.flume_value.proofs.EachLemmas.{Each-weaker}
 use Rattle.flume_types.specs.declared.types.Ty.{Ty}
-use Rattle.exec_graph.specs.Meaning.{node_at}
-use Rattle.exec_graph.specs.Readers.{same_place}
-use Rattle.exec_graph.specs.Typing.{IsTypedBy, NodeTyped, Signatures}
-use Rattle.exec_graph.specs.Wellformed.{IsGraphOk}
-use Rattle.exec_graph.specs.declared.graph.Place.{Place}
-use Rattle.exec_graph.specs.declared.graph.Node.{Node}
-use Rattle.exec_graph.specs.declared.graph.Node.TheVariants.{Source, Flatten, Pdo, Gbk, Barrier}
-use Rattle.exec_graph.specs.declared.graph.Entry.{Entry}
-use Rattle.exec_graph.specs.declared.graph.Graph.{Graph}
-use Rattle.exec_plan.specs.declared.plan.PlanPlace.{PlanPlace}
-use Rattle.exec_plan.specs.declared.plan.PlanPlace.TheVariants as at
-use Rattle.exec_plan.specs.Typing.{AreStagesTyped, IsPlanTypedBy}
+use Rattle.graph_laws.specs.of_exec_graph.Meaning.{node_at}
+use Rattle.graph_laws.specs.of_exec_graph.Readers.{same_place}
+use Rattle.graph_laws.specs.of_exec_graph.Typing.{IsTypedBy, NodeTyped, Signatures}
+use Rattle.graph_laws.specs.of_exec_graph.Wellformed.{IsGraphOk}
+use Rattle.graph_laws.specs.of_exec_graph.declared.graph.Place.{Place}
+use Rattle.graph_laws.specs.of_exec_graph.declared.graph.Node.{Node}
+use Rattle.graph_laws.specs.of_exec_graph.declared.graph.Node.TheVariants.{Source, Flatten, Pdo, Gbk, Barrier}
+use Rattle.graph_laws.specs.of_exec_graph.declared.graph.Entry.{Entry}
+use Rattle.graph_laws.specs.of_exec_graph.declared.graph.Graph.{Graph}
+use Rattle.plan_making.specs.of_exec_plan.declared.plan.PlanPlace.{PlanPlace}
+use Rattle.plan_making.specs.of_exec_plan.declared.plan.PlanPlace.TheVariants as at
+use Rattle.plan_making.specs.of_exec_plan.Typing.{AreStagesTyped, IsPlanTypedBy}
 use Rattle.plan_laws.specs.declared.operations.Operation.{Operation}
 use Rattle.plan_laws.specs.Operations.{AreReady, DoAll, IsHonest, IsIn, at_source, gives_of, made_by, placed, places_of, plan_of, reads_of, source_at, source_place, source_places, stages_of}
 use Rattle.plan_laws.proofs.Running.{in_append, place_same}

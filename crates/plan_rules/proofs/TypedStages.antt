@@ -2,19 +2,19 @@
 use Rattle.std.proofs.Common.{◌≡◌, ℕ, ◌+◌, List, [], ◌∷◌, ◌++◌, map, length, Option, Some, None, zero, suc, refl, sym, ap, ◌∙◌, subst, arith, append_assoc}
 use Rattle.std.specs.List.{AllByRecursion, flat_map, slice_get}
 use Rattle.flume_types.specs.declared.types.Ty.{Ty}
-use Rattle.exec_graph.specs.Forests.{numbered}
-use Rattle.exec_graph.specs.Meaning.{IsThere, node_at, place, reads}
-use Rattle.exec_graph.specs.Typing.{ActTyped, ForestTyped, Signatures}
-use Rattle.exec_graph.specs.declared.graph.Place.{Place}
-use Rattle.exec_graph.specs.declared.graph.Node.{Node}
-use Rattle.exec_graph.specs.declared.graph.Node.TheVariants.{Source, Flatten, Pdo, Gbk, Barrier}
-use Rattle.exec_graph.specs.declared.graph.Entry.{Entry}
-use Rattle.exec_graph.proofs.Entries.{all_found}
-use Rattle.exec_plan.specs.declared.plan.PlanPlace.{PlanPlace}
-use Rattle.exec_plan.specs.declared.plan.PlanPlace.TheVariants as at
-use Rattle.exec_plan.specs.Channels.{outs_of}
-use Rattle.exec_plan.specs.Typing.{ChannelTyped, GroupTyped, OutTyped, StageTyped, types_from}
-use Rattle.exec_plan.specs.Wellformed.{width}
+use Rattle.graph_laws.specs.of_exec_graph.Forests.{numbered}
+use Rattle.graph_laws.specs.of_exec_graph.Meaning.{IsThere, node_at, place, reads}
+use Rattle.graph_laws.specs.of_exec_graph.Typing.{ActTyped, ForestTyped, Signatures}
+use Rattle.graph_laws.specs.of_exec_graph.declared.graph.Place.{Place}
+use Rattle.graph_laws.specs.of_exec_graph.declared.graph.Node.{Node}
+use Rattle.graph_laws.specs.of_exec_graph.declared.graph.Node.TheVariants.{Source, Flatten, Pdo, Gbk, Barrier}
+use Rattle.graph_laws.specs.of_exec_graph.declared.graph.Entry.{Entry}
+use Rattle.graph_laws.proofs.of_exec_graph.Entries.{all_found}
+use Rattle.plan_making.specs.of_exec_plan.declared.plan.PlanPlace.{PlanPlace}
+use Rattle.plan_making.specs.of_exec_plan.declared.plan.PlanPlace.TheVariants as at
+use Rattle.plan_making.specs.of_exec_plan.Channels.{outs_of}
+use Rattle.plan_making.specs.of_exec_plan.Typing.{ChannelTyped, GroupTyped, OutTyped, StageTyped, types_from}
+use Rattle.plan_making.specs.of_exec_plan.Wellformed.{width}
 use Rattle.graph_laws.proofs.TypedForests.{typed_moved}
 use Rattle.plan_laws.specs.declared.operations.Key.{Key}
 use Rattle.plan_laws.specs.declared.operations.Grouped.{Grouped}

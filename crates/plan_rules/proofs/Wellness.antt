@@ -2,15 +2,15 @@
 use Rattle.std.proofs.Common.{◌≡◌, ℕ, ◌<◌, ◌≤◌, ◌^◌, List, [], ◌∷◌, Some, length, arith}
 use Rattle.std.specs.List.{AllByRecursion, flat_map}
 use Rattle.flume_value.proofs.EachLemmas.{Each-weaker}
-use Rattle.exec_graph.specs.Meaning.{node_at}
-use Rattle.exec_graph.specs.Wellformed.{IsGraphOk, IsNodeOk, most_nodes, total_size}
-use Rattle.exec_graph.specs.declared.graph.Node.{Node}
-use Rattle.exec_graph.specs.declared.graph.Node.TheVariants.{Source, Flatten, Pdo, Gbk, Barrier}
-use Rattle.exec_graph.specs.declared.graph.Entry.{Entry}
-use Rattle.exec_graph.specs.declared.graph.Graph.{Graph}
-use Rattle.exec_graph.proofs.Solving.{each_found}
-use Rattle.exec_graph.proofs.Soundness.{differ_ascends}
-use Rattle.exec_plan.specs.Wellformed.{IsPlanOk}
+use Rattle.graph_laws.specs.of_exec_graph.Meaning.{node_at}
+use Rattle.graph_laws.specs.of_exec_graph.Wellformed.{IsGraphOk, IsNodeOk, most_nodes, total_size}
+use Rattle.graph_laws.specs.of_exec_graph.declared.graph.Node.{Node}
+use Rattle.graph_laws.specs.of_exec_graph.declared.graph.Node.TheVariants.{Source, Flatten, Pdo, Gbk, Barrier}
+use Rattle.graph_laws.specs.of_exec_graph.declared.graph.Entry.{Entry}
+use Rattle.graph_laws.specs.of_exec_graph.declared.graph.Graph.{Graph}
+use Rattle.graph_laws.proofs.of_exec_graph.Solving.{each_found}
+use Rattle.graph_laws.proofs.of_exec_graph.Soundness.{differ_ascends}
+use Rattle.plan_making.specs.of_exec_plan.Wellformed.{IsPlanOk}
 use Rattle.plan_laws.specs.declared.operations.Operation.{Operation}
 use Rattle.plan_laws.specs.declared.operations.Operation.TheVariants.{Flat, Class}
 use Rattle.plan_laws.specs.Operations.{DoAll, IsHonest, gives_of, plan_of, runs}

@@ -1,17 +1,17 @@
 -- A stage gives as many results as its operation gives collections.
 use Rattle.std.proofs.Common.{◌≡◌, ℕ, ◌+◌, List, [], ◌∷◌, ◌++◌, map, length, Option, Some, None, refl, sym, ◌∙◌, arith, length-append}
 use Rattle.std.specs.List.{AllByRecursion, flat_map}
-use Rattle.exec_graph.specs.Forests.{Forest, Bare, Grow}
-use Rattle.exec_graph.specs.Meaning.{node_at, place}
-use Rattle.exec_graph.specs.declared.graph.Place.{Place}
-use Rattle.exec_graph.specs.declared.graph.Node.{Node}
-use Rattle.exec_graph.specs.declared.graph.Node.TheVariants.{Source, Flatten, Pdo, Gbk, Barrier}
-use Rattle.exec_graph.specs.declared.graph.Entry.{Entry}
-use Rattle.exec_plan.specs.declared.plan.PlanPlace.{PlanPlace}
-use Rattle.exec_plan.specs.declared.plan.OutChannel.{OutChannel}
-use Rattle.exec_plan.specs.declared.plan.OutChannel.TheVariants.{Group, Pass}
-use Rattle.exec_plan.specs.Channels.{kept_out, outs_of}
-use Rattle.exec_plan.specs.Wellformed.{kept, out_count, outs, stage_width, width, widths}
+use Rattle.graph_laws.specs.of_exec_graph.Forests.{Forest, Bare, Grow}
+use Rattle.graph_laws.specs.of_exec_graph.Meaning.{node_at, place}
+use Rattle.graph_laws.specs.of_exec_graph.declared.graph.Place.{Place}
+use Rattle.graph_laws.specs.of_exec_graph.declared.graph.Node.{Node}
+use Rattle.graph_laws.specs.of_exec_graph.declared.graph.Node.TheVariants.{Source, Flatten, Pdo, Gbk, Barrier}
+use Rattle.graph_laws.specs.of_exec_graph.declared.graph.Entry.{Entry}
+use Rattle.plan_making.specs.of_exec_plan.declared.plan.PlanPlace.{PlanPlace}
+use Rattle.plan_making.specs.of_exec_plan.declared.plan.OutChannel.{OutChannel}
+use Rattle.plan_making.specs.of_exec_plan.declared.plan.OutChannel.TheVariants.{Group, Pass}
+use Rattle.plan_making.specs.of_exec_plan.Channels.{kept_out, outs_of}
+use Rattle.plan_making.specs.of_exec_plan.Wellformed.{kept, out_count, outs, stage_width, width, widths}
 use Rattle.plan_laws.specs.declared.operations.Key.{Key}
 use Rattle.plan_laws.specs.declared.operations.Grouped.{Grouped}
 use Rattle.plan_laws.specs.declared.operations.Operation.{Operation}

@@ -1,17 +1,17 @@
 -- What operations keep to, beside carrying out a graph, so that their plan is well-formed.
 use Rattle.std.specs.Prelude.{◌≡◌, ℕ, ◌+◌, ◌<◌, ◌≤◌, ◌^◌, ◌⊎◌, Bool, true, false, ◌==◌, List, [], ◌∷◌, length, Option, Some, None}
 use Rattle.std.specs.List.{AllByRecursion, IsDistinct, flat_map, list_any}
-use Rattle.exec_graph.specs.Forests.{Forest, Bare, Grow}
-use Rattle.exec_graph.specs.Meaning.{node_at}
-use Rattle.exec_graph.specs.Readers.{same_place}
-use Rattle.exec_graph.specs.Wellformed.{is_lifted, is_object_at}
-use Rattle.exec_graph.specs.declared.graph.Place.{Place}
-use Rattle.exec_graph.specs.declared.graph.Input.{Input}
-use Rattle.exec_graph.specs.declared.graph.Node.{Node}
-use Rattle.exec_graph.specs.declared.graph.Node.TheVariants.{Source, Flatten, Pdo, Gbk, Barrier}
-use Rattle.exec_graph.specs.declared.graph.Entry.{Entry}
+use Rattle.graph_laws.specs.of_exec_graph.Forests.{Forest, Bare, Grow}
+use Rattle.graph_laws.specs.of_exec_graph.Meaning.{node_at}
+use Rattle.graph_laws.specs.of_exec_graph.Readers.{same_place}
+use Rattle.graph_laws.specs.of_exec_graph.Wellformed.{is_lifted, is_object_at}
+use Rattle.graph_laws.specs.of_exec_graph.declared.graph.Place.{Place}
+use Rattle.graph_laws.specs.of_exec_graph.declared.graph.Input.{Input}
+use Rattle.graph_laws.specs.of_exec_graph.declared.graph.Node.{Node}
+use Rattle.graph_laws.specs.of_exec_graph.declared.graph.Node.TheVariants.{Source, Flatten, Pdo, Gbk, Barrier}
+use Rattle.graph_laws.specs.of_exec_graph.declared.graph.Entry.{Entry}
 use Rattle.graph_laws.specs.Single.{most_outputs}
-use Rattle.exec_graph.specs.declared.graph.Graph.{Graph}
+use Rattle.graph_laws.specs.of_exec_graph.declared.graph.Graph.{Graph}
 use Rattle.plan_laws.specs.declared.operations.Key.{Key}
 use Rattle.plan_laws.specs.declared.operations.Key.TheVariants.{Mapper, Whole}
 use Rattle.plan_laws.specs.declared.operations.Grouped.{Grouped}

@@ -42,10 +42,10 @@ fn is_lifted(node: &Node) -> bool
     ensures { result ≡ is_lifted (Some node.now) }
 {
     match node {
-        Node::Gbk(_, _, _, lifted) => match lifted {
+        Node::Gbk { lifted, .. } => match lifted {
             Some(_) => true,
             None => false,
         },
-        Node::Source(_) | Node::Flatten(_) | Node::Pdo(_, _) | Node::Barrier(_, _, _, _) => false,
+        Node::Source(_) | Node::Flatten(_) | Node::Pdo { .. } | Node::Barrier { .. } => false,
     }
 }

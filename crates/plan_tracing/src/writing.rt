@@ -2,12 +2,12 @@
 ghost use Rattle.std.specs.Prelude.{◌≡◌, IfOk};
 ghost use Rattle.serde_json.specs.Written.{compact_text};
 ghost use Rattle.plan_file_law.specs.of_plan_files.Written.{file_json};
-ghost use Rattle.plan_json.specs.PlanJson.{plan_json_of};
+ghost use Rattle.plan_file_law.specs.of_plan_json.PlanJson.{plan_json_of};
 
 use exec_plan::Plan;
 use graph_rewrites::Rewrite;
 use plan_file_law::plan_files::file_text;
-use plan_json::plan_json;
+use plan_file_law::plan_json::plan_json;
 use plan_writing::Names;
 use std::alloc::{AllocError, Global};
 

@@ -1,17 +1,18 @@
 // A cache over a folder of the system: a file for each entry.
 //
-// A file is named by the hash of its key. It has the value, then the key, then how long both are.
-// It is written under a name of its own, and renamed when it is whole: so no run takes a part of an
-// entry for it, where two write at once or one dies.
+// A file is named by the hash of its key. It has how long the key and the value are, then the key,
+// then the value. It is written under a name of its own, and renamed when it is whole: so no run
+// takes a part of an entry for it, where two write at once or one dies.
 ghost use Rattle.std.specs.Prelude.{◌≡◌, ◌<◌, None};
+ghost use Rattle.cache_store.specs.Cause.{HasFindCause};
 
 use crate::faults::FaultCount;
-use crate::source::FileSource;
+use crate::source::open;
 use cache_store::{Cache, FindFault};
-use outside::{Failed, LoadFault, load};
+use outside::{BeginFault, Failed};
 use std::alloc::Global;
-use std::fs::OpenOptions;
-use std::io::{ErrorKind, Write};
+use std::fs::{OpenFile, OpenOptions};
+use std::io::{ErrorKind, Read, Write};
 use std::marker::Model;
 use std::rt::Files;
 use std::{fs, io, str};
@@ -19,8 +20,8 @@ use std::{fs, io, str};
 /// The folder of the entries, in the directory in which the program works.
 pub const CACHE_FOLDER: &str = ".flume-cache";
 
-// The longest file of an entry.
-const ENTRY_LIMIT: u64 = 1 << 40;
+// How many bytes of a file are held beside a key.
+const PIECE: usize = 65_536;
 
 // The names that a file may have that is not whole yet.
 const NEW_NAMES: u8 = 8;
@@ -64,16 +65,10 @@ impl<R: Files> Cache for FileCache<'_, R> {
         let Ok(name) = str::from_utf8(&path) else {
             return Ok(None);
         };
-        let mut source = FileSource::new(self.system);
-        match load(alloc, &mut source, name, ENTRY_LIMIT) {
-            Ok(file) => Ok(value_in(file.into_vec(alloc)?, key)),
-            Err(LoadFault::Missing) => Ok(None),
-            Err(LoadFault::TooLong) => Ok(None),
-            Err(LoadFault::Failed) => {
-                self.faults.raise();
-                Err(FindFault::Failed)
-            }
-            Err(LoadFault::Memory) => Err(FindFault::Memory),
+        match self.faults.opened(open(self.system, name)) {
+            Ok(file) => entry_in(alloc, file, key, &mut self.faults),
+            Err(BeginFault::Missing) => Ok(None),
+            Err(BeginFault::Failed) => Err(FindFault::Failed),
         }
     }
 
@@ -124,20 +119,70 @@ fn hash_of(bytes: &[u8]) -> u64 {
 // ---- files
 
 // The value in the file of an entry, where it is one of this key and whole.
-fn value_in(bytes: Vec<u8>, key: &[u8]) -> Option<Vec<u8>> {
-    let mut bytes = bytes;
-    let lengths = bytes.len().checked_sub(16)?;
-    let many = lengths.checked_sub(key.len())?;
-    let of_key = (key.len() as u64).to_be_bytes();
-    let of_value = (many as u64).to_be_bytes();
-    let is_whole = &bytes[many..lengths] == key
-        && &bytes[lengths..lengths + 8] == of_key.as_slice()
-        && &bytes[lengths + 8..] == of_value.as_slice();
-    if !is_whole {
-        return None;
+fn entry_in<F: Read + OpenFile + Drop>(
+    alloc: Global,
+    file: F,
+    key: &[u8],
+    faults: &mut FaultCount,
+) -> Result<Option<Vec<u8>>, FindFault>
+    ensures { HasFindCause faults.old.count faults.new.count result }
+{
+    let mut file = file;
+    match faults.told(length_behind(&mut file, key)) {
+        Ok(Some(length)) => value_in(alloc, file, length, faults),
+        Ok(None) => Ok(None),
+        Err(Failed) => Err(FindFault::Failed),
     }
-    bytes.truncate(many);
-    Some(bytes)
+}
+
+// The next bytes of a file, so many.
+fn value_in<F: Read + Drop>(
+    alloc: Global,
+    file: F,
+    length: usize,
+    faults: &mut FaultCount,
+) -> Result<Option<Vec<u8>>, FindFault>
+    ensures { HasFindCause faults.old.count faults.new.count result }
+{
+    let mut file = file;
+    let mut value = Vec::new(alloc);
+    value.resize(length, 0)?;
+    match faults.told(file.read_exact(value.as_mut_slice())) {
+        Ok(()) => Ok(Some(value)),
+        Err(Failed) => Err(FindFault::Failed),
+    }
+}
+
+// How long the value behind the key is, where the file has an entry of this key and is whole.
+fn length_behind<F: Read + OpenFile>(file: &mut F, key: &[u8]) -> io::Result<Option<usize>> {
+    let whole = file.metadata()?.len();
+    let of_key = key.len() as u64;
+    let Some(of_value) = whole
+        .checked_sub(16)
+        .and_then(|both| both.checked_sub(of_key))
+    else {
+        return Ok(None);
+    };
+    if begins_with(file, &of_key.to_be_bytes())?
+        && begins_with(file, &of_value.to_be_bytes())?
+        && begins_with(file, key)?
+    {
+        return Ok(usize::try_from(of_value).ok());
+    }
+    Ok(None)
+}
+
+// Whether the next bytes of a file are these. No more than a piece of them is held.
+fn begins_with<F: Read>(file: &mut F, bytes: &[u8]) -> io::Result<bool> {
+    let mut buf = [0u8; PIECE];
+    for piece in bytes.chunks(PIECE) {
+        let many = piece.len().min(PIECE);
+        file.read_exact(&mut buf[..many])?;
+        if &buf[..many] != piece {
+            return Ok(false);
+        }
+    }
+    Ok(true)
 }
 
 // Writes the file of an entry under a name that no other has, and renames it.
@@ -205,9 +250,9 @@ fn put_in<R: Files>(
 // Writes an entry, and closes its file.
 fn written<W: Write + Drop>(file: W, key: &[u8], value: &[u8]) -> io::Result<()> {
     let mut file = file;
-    file.write_all(value)?;
-    file.write_all(key)?;
     file.write_all(&(key.len() as u64).to_be_bytes())?;
     file.write_all(&(value.len() as u64).to_be_bytes())?;
+    file.write_all(key)?;
+    file.write_all(value)?;
     file.flush()
 }

@@ -40,8 +40,8 @@ impl<'a, R: Files> FileSource<'a, R> {
     }
 }
 
-// Opens a file that has bytes. The system opens a folder too, and refuses only to read it.
-fn open<R: Files>(system: &R, name: &str) -> io::Result<R::File> {
+/// Opens a file that has bytes. The system opens a folder too, and refuses only to read it.
+pub fn open<R: Files>(system: &R, name: &str) -> io::Result<R::File> {
     let file = fs::open(system, name)?;
     let is_folder = file.metadata()?.is_dir();
     unless_folder(file, is_folder)

@@ -13,8 +13,8 @@ use Rattle.written_types.specs.Named.{Named}
 use Rattle.script_program.specs.declared.made.Made.{Made}
 use Rattle.script_program.specs.Needed.{LeadsToOutput, is_needed, made_of, operands, outputs_read}
 use Rattle.script_program.specs.Script.{Node, Script}
-use Rattle.script_laws.specs.WellFormed.{IsWellFormed}
-use Rattle.script_laws.proofs.NeededLemmas.{needed_law}
+use Rattle.direct_meaning.specs.of_script_laws.WellFormed.{IsWellFormed}
+use Rattle.direct_meaning.proofs.of_script_laws.NeededLemmas.{needed_law}
 use Rattle.direct_meaning.specs.Direct.{collections, inputs_behind, made_as, made_at, traps_behind, traps_of}
 use Rattle.direct_meaning.specs.Made.{AreMade, IsMadeFor}
 use Rattle.saved_meaning.proofs.Going.{Table, made-here}

@@ -13,7 +13,7 @@ use Rattle.script_program.specs.Kinds.{gives_object}
 use Rattle.script_program.specs.Needed.{has, is_needed, numbered}
 use Rattle.script_program.specs.Saved.{IsUnsaved, saved_as, saved_from, saved_node, with_saved}
 use Rattle.script_program.specs.Script.{Node, Script}
-use Rattle.script_laws.specs.WellFormed.{IsWellFormed}
+use Rattle.direct_meaning.specs.of_script_laws.WellFormed.{IsWellFormed}
 use Rattle.direct_meaning.proofs.PlainLemmas.{flat-if, more_if}
 use Rattle.direct_meaning.specs.Direct.{inputs_behind, made_at}
 use Rattle.direct_meaning.specs.Inputs.{AreLists, IsListOf, Sourced, sourced_by}

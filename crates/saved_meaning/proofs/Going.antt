@@ -12,7 +12,7 @@ use Rattle.script_program.specs.Kinds.{emitted_as, gives_object}
 use Rattle.script_program.specs.Needed.{has, is_needed, made_of, operands}
 use Rattle.script_program.specs.Saved.{IsUnsaved, saved_as, saved_from, saved_node, with_saved}
 use Rattle.script_program.specs.Script.{Node, Script}
-use Rattle.script_laws.specs.WellFormed.{IsWellFormed}
+use Rattle.direct_meaning.specs.of_script_laws.WellFormed.{IsWellFormed}
 use Rattle.direct_meaning.specs.Direct.{collections, inputs_behind, made_as, made_at, rows_as}
 use Rattle.direct_meaning.specs.Made.{IsMadeFor}
 use Rattle.saved_meaning.specs.Found.{IsSound, members_of, where_needed}

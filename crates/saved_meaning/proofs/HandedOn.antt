@@ -16,7 +16,7 @@ use Rattle.script_program.specs.declared.made.Made.{Made}
 use Rattle.script_program.specs.declared.made.Made.TheVariants as made
 use Rattle.script_program.specs.Needed.{operands}
 use Rattle.script_program.specs.Script.{Script}
-use Rattle.script_laws.specs.WellFormed.{function_at}
+use Rattle.direct_meaning.specs.of_script_laws.WellFormed.{function_at}
 use Rattle.direct_meaning.specs.Calls.{answer_of, called_by, calls_on}
 use Rattle.direct_meaning.specs.Direct.{all_made, combined_by, counted_by, counts_behind, done_at, done_beside_at, done_by, joined_at, joined_by, made_as, made_at, operated_at, top_by}
 use Rattle.direct_meaning.specs.Objects.{answer_beside, combined_whole, done_beside, done_on, nothing_behind, only, operated_by, operated_on, value_of, values_of, whole_behind}

@@ -13,8 +13,8 @@ use Rattle.script_program.specs.Needed.{has, is_needed, made_of, needed_nodes, n
 use Rattle.script_program.specs.Saved.{IsUnsaved, saved_as, saved_from, saved_node, with_saved}
 use Rattle.script_program.specs.Script.{Node, Script}
 use Rattle.script_program.specs.Sources.{in_order, in_turn, input_count, ordered, source_kind, source_kinds}
-use Rattle.script_laws.specs.WellFormed.{IsWellFormed}
-use Rattle.script_laws.proofs.SavedLemmas.{made-saved}
+use Rattle.direct_meaning.specs.of_script_laws.WellFormed.{IsWellFormed}
+use Rattle.direct_meaning.proofs.of_script_laws.SavedLemmas.{made-saved}
 use Rattle.direct_meaning.specs.Direct.{collections, inputs_behind, made_as, made_at}
 use Rattle.direct_meaning.proofs.PlainLemmas.{flat-if, more_if}
 use Rattle.saved_meaning.specs.Found.{all_kept, chosen, is_input, lists_for, members_kept, members_of, needed_too, needs_input, still_needed}

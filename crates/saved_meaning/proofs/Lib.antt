@@ -7,3 +7,5 @@ pub mod Given
 pub mod HandedOn
 pub mod Clean
 pub mod Trapped
+pub use Rattle.direct_meaning.proofs as of_direct_meaning
+pub use Rattle.direct_meaning.proofs.of_script_laws

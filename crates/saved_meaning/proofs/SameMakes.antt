@@ -13,7 +13,7 @@ use Rattle.script_program.specs.declared.made.Made.TheVariants as made
 use Rattle.script_program.specs.Needed.{operands}
 use Rattle.script_program.specs.Saved.{with_saved}
 use Rattle.script_program.specs.Script.{Script}
-use Rattle.script_laws.specs.WellFormed.{function_at}
+use Rattle.direct_meaning.specs.of_script_laws.WellFormed.{function_at}
 use Rattle.direct_meaning.specs.Calls.{answer_of}
 use Rattle.direct_meaning.specs.Direct.{all_made, combined_by, counted_by, done_by, inputs_behind}
 use Rattle.direct_meaning.specs.Direct.{joined_by, made_as, made_at, top_by}

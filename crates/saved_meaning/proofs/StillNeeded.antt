@@ -7,9 +7,9 @@ use Rattle.script_program.specs.declared.made.Made.{Made}
 use Rattle.script_program.specs.Needed.{LeadsToOutput, Reads, has, is_needed, made_of, operands}
 use Rattle.script_program.specs.Saved.{saved_as, with_saved}
 use Rattle.script_program.specs.Script.{Script}
-use Rattle.script_laws.specs.WellFormed.{IsWellFormed}
-use Rattle.script_laws.proofs.NeededLemmas.{needed_law}
-use Rattle.script_laws.proofs.SavedLemmas.{made-saved, saved-well}
+use Rattle.direct_meaning.specs.of_script_laws.WellFormed.{IsWellFormed}
+use Rattle.direct_meaning.proofs.of_script_laws.NeededLemmas.{needed_law}
+use Rattle.direct_meaning.proofs.of_script_laws.SavedLemmas.{made-saved, saved-well}
 
 reads-if : (b : Bool) (o : Option Made) (n : ℕ)
     → IsSomeAnd (option_map (λ how. if b then saved_as how else how) o)

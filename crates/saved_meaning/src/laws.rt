@@ -6,7 +6,7 @@ ghost use Rattle.flume_collection.specs.Collection.{Collection};
 ghost use Rattle.flume_collection.specs.declared.trap.Trap.{Trap};
 ghost use Rattle.script_program.specs.Saved.{HasNoSaved, with_saved};
 ghost use Rattle.script_program.specs.Script.{Script};
-ghost use Rattle.script_laws.specs.WellFormed.{IsWellFormed};
+ghost use Rattle.direct_meaning.specs.of_script_laws.WellFormed.{IsWellFormed};
 ghost use Rattle.direct_meaning.specs.Direct.{meaning, traps_of};
 ghost use Rattle.direct_meaning.specs.Inputs.{AreInputs};
 ghost use Rattle.direct_meaning.specs.Made.{AreMade};

@@ -10,10 +10,10 @@ use Rattle.flume_grammar.specs.declared.tree.Operation.{Operation}
 use Rattle.flume_grammar.specs.declared.tree.Repeat.{Repeat as WrittenRepeat}
 use Rattle.flume_grammar.specs.declared.tree.TurnLet.{TurnLet}
 use Rattle.flume_grammar.specs.declared.fault.ScriptKind.TheVariants.{NotFlat}
-use Rattle.written_types.specs.Answer.{or_fault}
-use Rattle.written_types.specs.Named.{fresh}
-use Rattle.written_types.specs.Written.{whole_type}
-use Rattle.body_check.specs.Bodies.{body_of}
+use Rattle.operation_check.specs.of_written_types.Answer.{or_fault}
+use Rattle.operation_check.specs.of_written_types.Named.{fresh}
+use Rattle.operation_check.specs.of_written_types.Written.{whole_type}
+use Rattle.operation_check.specs.of_body_check.Bodies.{body_of}
 use Rattle.script_program.specs.Limits.{most_collections, most_files}
 use Rattle.script_program.specs.declared.made.Standing.TheVariants.{Hidden}
 use Rattle.script_program.specs.Script.{Making, Operand, State, with_hidden, with_name}

@@ -10,8 +10,8 @@ use Rattle.flume_grammar.specs.declared.tree.TurnLet.{TurnLet}
 use Rattle.flume_grammar.specs.declared.fault.ScriptFault.{ScriptFault}
 use Rattle.flume_grammar.specs.declared.fault.ScriptFault.TheVariants.{Refused, Memory}
 use Rattle.type_table.specs.Table.{Extends}
-use Rattle.written_types.specs.Answer.{Checked, Gives, ◌>>=◌}
-use Rattle.written_types.proofs.NamedLemmas.{same-map}
+use Rattle.operation_check.specs.of_written_types.Answer.{Checked, Gives, ◌>>=◌}
+use Rattle.operation_check.proofs.of_written_types.NamedLemmas.{same-map}
 use Rattle.script_program.specs.declared.made.Standing.TheVariants.{Hidden}
 use Rattle.script_program.specs.declared.operand.Operand.{Operand as HeldOperand}
 use Rattle.script_program.specs.Held.{operand_in}

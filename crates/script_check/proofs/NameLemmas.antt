@@ -7,8 +7,8 @@ use Rattle.std.specs.Map.{keys_of}
 use Rattle.std.specs.Str.{bytes_eq}
 use Rattle.std.proofs.lemmas.List.Folds.{list_any-append}
 use Rattle.flume_grammar.specs.declared.fault.ScriptKind.TheVariants.{Twice}
-use Rattle.written_types.specs.Answer.{unless}
-use Rattle.written_types.specs.Named.{Named, find}
+use Rattle.operation_check.specs.of_written_types.Answer.{unless}
+use Rattle.operation_check.specs.of_written_types.Named.{Named, find}
 use Rattle.flume_types.specs.declared.types.Ty.{Ty}
 use Rattle.script_program.specs.declared.made.Making.{Making as HeldMaking}
 use Rattle.script_program.specs.Program.{making_in}

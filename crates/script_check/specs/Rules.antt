@@ -18,10 +18,10 @@ use Rattle.flume_grammar.specs.declared.tree.TurnLet.{TurnLet}
 use Rattle.flume_grammar.specs.declared.tree.Statement.{Statement}
 use Rattle.flume_grammar.specs.declared.fault.ScriptKind.TheVariants.{TooMany, NotFlat, NoOutput}
 use Rattle.flume_grammar.specs.declared.fault.ScriptKind.TheVariants.{BadNumber, Mistyped, Twice}
-use Rattle.written_types.specs.Answer.{Checked, ◌>>=◌, unless, or_fault}
-use Rattle.written_types.specs.Named.{Named, fresh}
-use Rattle.written_types.specs.Written.{shallow, whole_type}
-use Rattle.body_check.specs.Bodies.{body_of}
+use Rattle.operation_check.specs.of_written_types.Answer.{Checked, ◌>>=◌, unless, or_fault}
+use Rattle.operation_check.specs.of_written_types.Named.{Named, fresh}
+use Rattle.operation_check.specs.of_written_types.Written.{shallow, whole_type}
+use Rattle.operation_check.specs.of_body_check.Bodies.{body_of}
 use Rattle.script_program.specs.Limits.{most_collections, most_files, most_functions}
 use Rattle.script_program.specs.Limits.{most_outputs}
 use Rattle.combine_table.specs.declared.comb.Comb.TheVariants as comb

@@ -1,14 +1,14 @@
 // The check of a whole script, statement after statement.
 ghost use Rattle.std.specs.Prelude.{◌≡◌};
-ghost use Rattle.written_types.specs.Answer.{Gives};
+ghost use Rattle.operation_check.specs.of_written_types.Answer.{Gives};
 ghost use Rattle.script_check.specs.Rules as spec;
 
 use crate::rules::rule;
 use flume_grammar::{Ast, ScriptFault, ScriptKind, Statement};
 use flume_value::Pile;
+use operation_check::written_types::refused;
 use script_program::{Program, State};
 use std::alloc::Global;
-use written_types::refused;
 
 /// The program that a script is, or its first fault: statements in order, and the rules of each in
 /// theirs.

@@ -1,10 +1,10 @@
 // Two rules of each definition: there is room for it, and its name is new.
 ghost use Rattle.flume_grammar.specs.declared.fault.ScriptKind.TheVariants.{TooMany};
 ghost use Rattle.std.specs.Prelude.{◌≡◌, ◌+◌, false, nat_le, not, OnOk};
-ghost use Rattle.written_types.specs.Answer.{Gives, unless};
+ghost use Rattle.operation_check.specs.of_written_types.Answer.{Gives, unless};
 
 use flume_grammar::{ScriptFault, ScriptKind};
-use written_types::refused;
+use operation_check::written_types::refused;
 
 /// Room for so many more.
 pub fn room(line: u32, more: usize, count: usize, limit: usize) -> Result<(), ScriptFault>

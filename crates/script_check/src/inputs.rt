@@ -2,8 +2,8 @@
 ghost use Rattle.std.specs.Prelude.{◌≡◌, ◌<◌, ℕ, List, false, is_some, length, IfOk, OnOk};
 ghost use Rattle.flume_types.specs.Columns.{input_columns_of};
 ghost use Rattle.type_table.specs.Table.{type_at};
-ghost use Rattle.written_types.specs.Answer.{Gives, or_fault};
-ghost use Rattle.written_types.specs.Named.{find};
+ghost use Rattle.operation_check.specs.of_written_types.Answer.{Gives, or_fault};
+ghost use Rattle.operation_check.specs.of_written_types.Named.{find};
 ghost use Rattle.script_program.specs.Script.{with_node};
 ghost use Rattle.script_check.specs.Rules as spec;
 
@@ -11,10 +11,10 @@ use crate::fresh::{fresh, room};
 use flume_grammar::{ScriptFault, ScriptKind, Type};
 use flume_types::{ColumnFault, Columns};
 use flume_value::Str;
+use operation_check::written_types::refused;
 use script_program::{MOST_COLLECTIONS, Made, Making, State};
 use std::alloc::Global;
 use type_table::{TypeId, input_columns};
-use written_types::refused;
 
 /// The rows of an input: their type, and its columns.
 #[derive(Drop)]

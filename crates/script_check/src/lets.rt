@@ -4,7 +4,7 @@ ghost use Rattle.std.specs.List.{All, list_any};
 ghost use Rattle.std.specs.Map.{keys_of};
 ghost use Rattle.std.specs.Str.{bytes_eq};
 ghost use Rattle.type_table.specs.Table.{Extends};
-ghost use Rattle.written_types.specs.Answer.{Gives};
+ghost use Rattle.operation_check.specs.of_written_types.Answer.{Gives};
 ghost use Rattle.script_program.specs.Program.{making_in};
 ghost use Rattle.script_program.specs.Script.{with_nodes};
 ghost use Rattle.script_check.specs.Rules as spec;
@@ -14,10 +14,10 @@ use crate::fresh::fresh;
 use flume_grammar::{Operation, ScriptFault, ScriptKind};
 use flume_value::{Pile, Str};
 use operation_check::made_by;
+use operation_check::written_types::{refused, shallow};
 use script_program::{Making, State};
 use std::alloc::{AllocError, Global};
 use type_table::Types;
-use written_types::{refused, shallow};
 
 /// A let, where there is room for what it names.
 pub fn add_let(

@@ -2,8 +2,8 @@
 ghost use Rattle.std.specs.Prelude.{◌≡◌, ◌<◌, false, is_some, length, OnOk};
 ghost use Rattle.flume_types.specs.Columns.{columns_of};
 ghost use Rattle.type_table.specs.Table.{type_at};
-ghost use Rattle.written_types.specs.Answer.{Gives, or_fault};
-ghost use Rattle.written_types.specs.Named.{find};
+ghost use Rattle.operation_check.specs.of_written_types.Answer.{Gives, or_fault};
+ghost use Rattle.operation_check.specs.of_written_types.Named.{find};
 ghost use Rattle.script_program.specs.Script.{with_output};
 ghost use Rattle.script_check.specs.Rules as spec;
 
@@ -12,10 +12,10 @@ use flume_grammar::{ScriptFault, ScriptKind};
 use flume_types::{ColumnFault, Columns};
 use flume_value::Str;
 use operation_check::collection;
+use operation_check::written_types::refused;
 use script_program::{MOST_FILES, Output, State};
 use std::alloc::Global;
 use type_table::{TypeId, columns};
-use written_types::refused;
 
 /// What an output reads: the number of its collection, and the columns of that.
 #[derive(Drop)]

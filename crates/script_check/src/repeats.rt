@@ -3,7 +3,7 @@ ghost use Rattle.std.specs.Prelude.{◌≡◌, ◌≤◌, ◌<◌, ◌+◌, ◌*
 ghost use Rattle.std.specs.List.{All};
 ghost use Rattle.flume_types.specs.declared.types.Ty.{Ty};
 ghost use Rattle.type_table.specs.Table.{Extends};
-ghost use Rattle.written_types.specs.Answer.{Gives, or_fault, unless};
+ghost use Rattle.operation_check.specs.of_written_types.Answer.{Gives, or_fault, unless};
 ghost use Rattle.operation_check.specs.of_expression_check.Numbers.{number_within as within};
 ghost use Rattle.script_program.specs.Program.{making_in};
 ghost use Rattle.script_program.specs.Held.{operand_in};
@@ -19,11 +19,11 @@ use combine_table::Comb;
 use flume_grammar::{Repeat as Written, ScriptFault, ScriptKind, TurnLet};
 use flume_value::{Pile, Str};
 use operation_check::expression_check::number_within;
+use operation_check::written_types::refused;
 use operation_check::{collections, numbers};
 use script_program::{MOST_COLLECTIONS, Made, Making, Operand, State};
 use std::alloc::{AllocError, Global};
 use type_table::Types;
-use written_types::refused;
 
 /// What enters the first turn of a repeat, and how many turns it has.
 #[derive(Drop)]

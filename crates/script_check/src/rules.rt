@@ -1,8 +1,8 @@
 // The rules of each kind of statement, in order.
 ghost use Rattle.std.specs.Prelude.{◌≡◌, ◌<◌, false, is_some, length, IfOk, OnOk};
 ghost use Rattle.type_table.specs.Table.{type_at};
-ghost use Rattle.written_types.specs.Answer.{Gives};
-ghost use Rattle.written_types.specs.Named.{find};
+ghost use Rattle.operation_check.specs.of_written_types.Answer.{Gives};
+ghost use Rattle.operation_check.specs.of_written_types.Named.{find};
 ghost use Rattle.script_program.specs.Script.{with_type};
 ghost use Rattle.script_check.specs.Rules as spec;
 
@@ -14,10 +14,10 @@ use crate::repeats::rule_repeat;
 use crate::signatures::checked;
 use flume_grammar::{Form, Function as Written, Operation, ScriptFault, Statement, Type};
 use flume_value::{Pile, Str};
+use operation_check::written_types::shallow;
 use script_program::{MOST_COLLECTIONS, State};
 use std::alloc::Global;
 use type_table::TypeId;
-use written_types::shallow;
 
 /// A statement's rules, in order.
 pub fn rule(alloc: Global, statement: Statement, state: &mut State) -> Result<(), ScriptFault>

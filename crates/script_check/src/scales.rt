@@ -1,12 +1,12 @@
 // The scale of a function: how many emissions are expected of a hundred calls.
 ghost use Rattle.std.specs.Prelude.{Some};
-ghost use Rattle.written_types.specs.Answer.{Gives};
+ghost use Rattle.operation_check.specs.of_written_types.Answer.{Gives};
 ghost use Rattle.script_check.specs.Rules.{scale_of};
 
 use flume_grammar::{ScriptFault, ScriptKind};
 use flume_value::Str;
 use operation_check::expression_check::number_within;
-use written_types::refused;
+use operation_check::written_types::refused;
 
 /// How many emissions are expected of a hundred calls, from 0 to 10000: as many, where nothing is
 /// said.

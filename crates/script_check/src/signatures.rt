@@ -2,8 +2,8 @@
 ghost use Rattle.std.specs.Prelude.{◌≡◌, ◌≤◌, ◌+◌, [], ◌∷◌, false, is_some, length, map, IfOk, OnOk};
 ghost use Rattle.operation_check.specs.of_expression_types.Held.{AreTypes};
 ghost use Rattle.type_table.specs.Table.{type_at, Extends};
-ghost use Rattle.written_types.specs.Answer.{Gives};
-ghost use Rattle.written_types.specs.Named.{find};
+ghost use Rattle.operation_check.specs.of_written_types.Answer.{Gives};
+ghost use Rattle.operation_check.specs.of_written_types.Named.{find};
 ghost use Rattle.script_program.specs.Program.{signature_in, HasTypes, Does};
 ghost use Rattle.script_program.specs.Script.{function_from, with_function};
 ghost use Rattle.script_check.specs.Rules as spec;
@@ -13,10 +13,10 @@ use crate::scales::scale;
 use dofn_eval::Fun;
 use flume_grammar::{Function as Written, ScriptFault, ScriptKind, Type};
 use flume_value::Pile;
+use operation_check::written_types::refused;
 use script_program::{MOST_FUNCTIONS, MOST_OUTPUTS, Signature, State};
 use std::alloc::Global;
 use type_table::TypeId;
-use written_types::refused;
 
 /// What a function that may be defined here takes and gives, and its slots.
 pub fn checked(

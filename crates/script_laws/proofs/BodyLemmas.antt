@@ -9,8 +9,8 @@ use Rattle.flume_types.specs.declared.types.Ty.{Ty}
 use Rattle.flume_grammar.specs.declared.tree.Operation.{Operation}
 use Rattle.flume_grammar.specs.declared.tree.TurnLet.{TurnLet}
 use Rattle.flume_grammar.specs.declared.fault.ScriptKind.TheVariants.{Mistyped}
-use Rattle.written_types.specs.Answer.{unless}
-use Rattle.written_types.specs.Named.{Named}
+use Rattle.script_check.specs.of_written_types.Answer.{unless}
+use Rattle.script_check.specs.of_written_types.Named.{Named}
 use Rattle.script_check.specs.of_script_program.declared.made.Made.{Made}
 use Rattle.script_check.specs.of_script_program.declared.made.Made.TheVariants as made
 use Rattle.script_check.specs.of_script_program.Script.{Making, Node, State, with_nodes}

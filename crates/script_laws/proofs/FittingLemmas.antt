@@ -6,7 +6,7 @@ use Rattle.std.proofs.Common.{append-nil, below_more, length-append}
 use Rattle.std.proofs.lemmas.Bool.{ltb-false, ltb-true}
 use Rattle.std.proofs.lemmas.List.{length-map}
 use Rattle.flume_types.specs.declared.types.Ty.{Ty}
-use Rattle.written_types.specs.Named.{Named}
+use Rattle.script_check.specs.of_written_types.Named.{Named}
 use Rattle.script_check.specs.of_script_program.Kinds.{gives_object}
 use Rattle.script_check.specs.of_script_program.Script.{Function, Node}
 use Rattle.script_check.specs.Repeats.{Repeat, copied, nodes_left, seen, turn_gives, turn_nodes}

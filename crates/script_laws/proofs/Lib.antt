@@ -19,5 +19,4 @@ pub mod UnsavedLemmas
 pub mod RuleLemmas
 pub mod NeededLemmas
 pub mod SavedLemmas
-pub use Rattle.script_check.proofs.of_body_check
 pub use Rattle.script_check.proofs as of_script_check

@@ -3,7 +3,7 @@ use Rattle.std.proofs.Common.{◌≡◌, ℕ, Bool, true, false, not, List, [], 
 use Rattle.std.proofs.Common.{◌∙◌}
 use Rattle.std.specs.Prelude.{⊤}
 use Rattle.flume_grammar.specs.declared.fault.ScriptKind.TheVariants.{Mistyped}
-use Rattle.written_types.specs.Named.{Named}
+use Rattle.script_check.specs.of_written_types.Named.{Named}
 use Rattle.script_check.specs.of_script_program.declared.made.Made.{Made}
 use Rattle.script_check.specs.of_script_program.declared.made.Made.TheVariants as made
 use Rattle.script_check.specs.of_script_program.Script.{Function, Making, Node, Operand}

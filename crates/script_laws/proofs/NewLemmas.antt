@@ -3,7 +3,7 @@ use Rattle.std.proofs.Common.{◌≡◌, ℕ, zero, suc, ◌+◌, ◌≤◌, Lis
 use Rattle.std.proofs.Common.{false, slice_get, refl, sym, ap, ◌∙◌, subst, arith, append_assoc}
 use Rattle.std.proofs.lemmas.List.{append-nil}
 use Rattle.flume_types.specs.declared.types.Ty.{Ty}
-use Rattle.written_types.specs.Named.{Named}
+use Rattle.script_check.specs.of_written_types.Named.{Named}
 use Rattle.script_check.specs.of_operation_check.Operations.{outputs_from}
 use Rattle.script_check.specs.of_script_program.declared.made.Made.{Made}
 use Rattle.script_check.specs.of_script_program.Script.{Function, Making, Node, State, node_from, with_node}

@@ -10,8 +10,8 @@ use Rattle.flume_types.specs.Equality.{type_eq}
 use Rattle.flume_types.specs.Typing.{types_of}
 use Rattle.flume_grammar.specs.declared.fault.ScriptKind.TheVariants.{Mistyped}
 use Rattle.combine_table.specs.declared.comb.Comb.{Comb}
-use Rattle.written_types.specs.Answer.{unless, or_fault}
-use Rattle.written_types.specs.Named.{Named}
+use Rattle.script_check.specs.of_written_types.Answer.{unless, or_fault}
+use Rattle.script_check.specs.of_written_types.Named.{Named}
 use Rattle.script_check.specs.of_script_program.Script.{Callee, Function, Making, Node, Operand}
 use Rattle.script_check.specs.of_operation_check.Arguments.{are_both, are_objects, each_fits, is_beside}
 use Rattle.script_check.specs.of_operation_check.Arguments.{is_record_of, sole, takes_both, takes_objects}

@@ -10,8 +10,8 @@ use Rattle.flume_types.specs.Equality.{type_eq}
 use Rattle.flume_types.specs.Tables.{table_of}
 use Rattle.flume_grammar.specs.declared.fault.ScriptKind.TheVariants.{Mistyped, NotTable}
 use Rattle.combine_table.specs.declared.comb.Comb.{Comb}
-use Rattle.written_types.specs.Answer.{unless, or_fault}
-use Rattle.written_types.specs.Named.{Named}
+use Rattle.script_check.specs.of_written_types.Answer.{unless, or_fault}
+use Rattle.script_check.specs.of_written_types.Named.{Named}
 use Rattle.script_check.specs.of_script_program.Script.{Function, Node, Operand, Callee, Making}
 use Rattle.script_check.specs.of_operation_check.Arguments.{are_plain, takes_members}
 use Rattle.script_check.specs.of_operation_check.Operations as spec

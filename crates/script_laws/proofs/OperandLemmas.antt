@@ -4,7 +4,7 @@ use Rattle.std.proofs.Common.{Option, Some, None, option_and_then, Ok}
 use Rattle.std.proofs.Common.{slice_get, refl, ap, subst}
 use Rattle.std.specs.Option.{option_map}
 use Rattle.flume_grammar.specs.declared.fault.ScriptKind.TheVariants.{Unknown}
-use Rattle.written_types.specs.Named.{Named, find}
+use Rattle.script_check.specs.of_written_types.Named.{Named, find}
 use Rattle.script_check.specs.of_script_program.Script.{Function, Node, State, Operand, Callee, place}
 use Rattle.script_check.specs.of_script_program.Script.{operand_at, operand_of}
 use Rattle.script_check.specs.of_script_program.Kinds.{gives_object}

@@ -11,7 +11,7 @@ use Rattle.flume_grammar.specs.declared.tree.Operation.TheVariants as operation
 use Rattle.flume_grammar.specs.declared.fault.ScriptKind.TheVariants.{BadNumber}
 use Rattle.flume_grammar.specs.declared.tree.Combiner.{Combiner}
 use Rattle.int_text.specs.Ints.{int_of_text}
-use Rattle.written_types.specs.Answer.{Checked}
+use Rattle.script_check.specs.of_written_types.Answer.{Checked}
 use Rattle.script_check.specs.of_expression_check.Numbers.{within}
 use Rattle.script_check.specs.of_script_program.Script.{State, Operand, Making}
 use Rattle.script_check.specs.of_operation_check.Operations as spec

@@ -12,8 +12,8 @@ use Rattle.flume_types.specs.Equality.{type_eq}
 use Rattle.flume_grammar.specs.declared.tree.Repeat.{Repeat as WrittenRepeat}
 use Rattle.flume_grammar.specs.declared.tree.TurnLet.{TurnLet}
 use Rattle.flume_grammar.specs.declared.fault.ScriptKind.TheVariants.{BadNumber, Mistyped, TooMany}
-use Rattle.written_types.specs.Answer.{or_fault, unless}
-use Rattle.written_types.specs.Named.{Named}
+use Rattle.script_check.specs.of_written_types.Answer.{or_fault, unless}
+use Rattle.script_check.specs.of_written_types.Named.{Named}
 use Rattle.script_check.specs.of_expression_check.Numbers.{number_within}
 use Rattle.script_check.specs.of_script_program.Kinds.{gives_object}
 use Rattle.script_check.specs.of_script_program.Limits.{most_collections}

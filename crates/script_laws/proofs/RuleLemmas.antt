@@ -18,9 +18,9 @@ use Rattle.flume_grammar.specs.declared.tree.Operation.{Operation}
 use Rattle.flume_grammar.specs.declared.tree.Repeat.{Repeat as WrittenRepeat}
 use Rattle.flume_grammar.specs.declared.tree.Statement.{Statement}
 use Rattle.flume_grammar.specs.declared.fault.ScriptKind.TheVariants.{NotFlat, NoOutput, TooMany}
-use Rattle.written_types.specs.Answer.{unless, or_fault}
-use Rattle.written_types.specs.Named.{Named, fresh}
-use Rattle.written_types.specs.Written.{whole_type}
+use Rattle.script_check.specs.of_written_types.Answer.{unless, or_fault}
+use Rattle.script_check.specs.of_written_types.Named.{Named, fresh}
+use Rattle.script_check.specs.of_written_types.Written.{whole_type}
 use Rattle.script_check.specs.of_body_check.Bodies.{body_of}
 use Rattle.script_check.specs.of_script_program.Limits.{most_collections, most_files, most_functions, most_outputs}
 use Rattle.script_check.specs.of_script_program.Kinds.{emitted_as}

@@ -6,7 +6,7 @@ use Rattle.std.proofs.lemmas.List.Elements.{All-map}
 use Rattle.std.specs.List.{AllByRecursion as Each, AllZip}
 use Rattle.std.specs.Option.{option_map}
 use Rattle.flume_types.specs.declared.types.Ty.{Ty}
-use Rattle.written_types.specs.Named.{Named}
+use Rattle.script_check.specs.of_written_types.Named.{Named}
 use Rattle.script_check.specs.of_script_program.Kinds.{gives_object, members_read, values_read}
 use Rattle.script_check.specs.of_script_program.declared.made.Made.{Made}
 use Rattle.script_check.specs.of_script_program.declared.made.Made.TheVariants as made

@@ -3,3 +3,5 @@ pub mod Fitting
 pub use Rattle.script_check.specs.of_body_check
 pub use Rattle.script_check.specs.of_operation_check
 pub use Rattle.script_check.specs as of_script_check
+pub use Rattle.script_check.specs.of_script_program
+pub use Rattle.script_check.specs.of_written_types

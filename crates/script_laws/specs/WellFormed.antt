@@ -13,7 +13,7 @@ use Rattle.flume_types.specs.Columns.{columns_of, input_columns_of}
 use Rattle.flume_types.specs.Tables.{table_of}
 use Rattle.flume_types.specs.Typing.{types_of}
 use Rattle.combine_table.specs.declared.comb.Comb.{Comb}
-use Rattle.written_types.specs.Named.{Named}
+use Rattle.script_check.specs.of_written_types.Named.{Named}
 use Rattle.script_check.specs.of_body_check.Bodies.{body_of}
 use Rattle.script_check.specs.of_script_program.Limits.{most_collections, most_outputs}
 use Rattle.script_check.specs.of_script_program.declared.made.Emitted.{Emitted}

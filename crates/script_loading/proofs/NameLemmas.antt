@@ -22,7 +22,7 @@ use Rattle.flume_grammar.specs.declared.fault.ScriptKind.TheVariants.{NotFlat, N
 use Rattle.written_types.specs.Answer.{or_fault, unless}
 use Rattle.written_types.specs.Named.{Named, fresh}
 use Rattle.written_types.specs.Written.{whole_type}
-use Rattle.body_check.specs.Bodies.{body_of}
+use Rattle.script_program.specs.of_body_check.Bodies.{body_of}
 use Rattle.script_program.specs.Limits.{most_collections, most_files}
 use Rattle.script_program.specs.declared.made.Made.{Made}
 use Rattle.script_program.specs.declared.made.Made.TheVariants as made

@@ -22,8 +22,8 @@ use Rattle.expression_types.specs.Types.{is_bool, is_same, either_of, place_unde
 use Rattle.expression_types.specs.Types.{list_type, unary_type, binary_type, index_type}
 use Rattle.expression_types.specs.Types.{pick_type}
 use Rattle.expression_check.specs.Types.{all_types, layer_type, type_of}
-use Rattle.body_check.specs.Bodies.{after_all, layer_after, after, at_start, body_of}
-use Rattle.body_check.specs.Outputs.{output_of}
+use Rattle.script_program.specs.of_body_check.Bodies.{after_all, layer_after, after, at_start, body_of}
+use Rattle.script_program.specs.of_body_check.Outputs.{output_of}
 use Rattle.script_loading.proofs.ToldLemmas.{IsTold, told-then, told-test, told-option}
 use Rattle.script_loading.proofs.ToldLemmas.{told-found, told-kept}
 use Rattle.script_loading.proofs.ToldLemmas.{told-shallow, told-whole}

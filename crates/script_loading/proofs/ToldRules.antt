@@ -23,7 +23,7 @@ use Rattle.flume_grammar.specs.declared.tree.Repeat.{Repeat as WrittenRepeat}
 use Rattle.flume_grammar.specs.declared.tree.Statement.{Statement}
 use Rattle.flume_grammar.specs.declared.tree.TurnLet.{TurnLet}
 use Rattle.flume_grammar.specs.declared.tree.Type as tree
-use Rattle.body_check.specs.Bodies.{body_of}
+use Rattle.script_program.specs.of_body_check.Bodies.{body_of}
 use Rattle.build_law.specs.of_operation_check.Arguments.{are_plain, sole, takes_both, takes_members}
 use Rattle.build_law.specs.of_operation_check.Arguments.{takes_objects}
 use Rattle.build_law.specs.of_operation_check.Operations as spec

@@ -11,8 +11,8 @@ use Rattle.std.proofs.lemmas.List.Folds.{list_any-append}
 use Rattle.std.proofs.Math.Seq.{drop-cons}
 use Rattle.script_program.specs.declared.made.Made.{Made}
 use Rattle.flume_types.specs.declared.types.Ty.{Ty}
-use Rattle.written_types.specs.Named.{Named}
-use Rattle.written_types.specs.Known.{Known}
+use Rattle.body_check.specs.of_written_types.Named.{Named}
+use Rattle.body_check.specs.of_written_types.Known.{Known}
 use Rattle.script_program.specs.declared.made.Function.{Function as HeldFunction}
 use Rattle.script_program.specs.declared.made.Node.{Node as HeldNode}
 use Rattle.script_program.specs.declared.made.Output.{Output}

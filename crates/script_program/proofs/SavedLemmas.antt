@@ -4,8 +4,8 @@ use Rattle.std.proofs.Common.{length, map, take, drop, get_or, set, if◌then◌
 use Rattle.std.proofs.Common.{subst, arith, append-nil}
 use Rattle.std.proofs.lemmas.List.{drop_all, take_all}
 use Rattle.flume_types.specs.declared.types.Ty.{Ty}
-use Rattle.written_types.specs.Named.{Named}
-use Rattle.written_types.specs.Known.{Known}
+use Rattle.body_check.specs.of_written_types.Named.{Named}
+use Rattle.body_check.specs.of_written_types.Known.{Known}
 use Rattle.script_program.specs.declared.made.Function.{Function as HeldFunction}
 use Rattle.script_program.specs.declared.made.Node.{Node as HeldNode}
 use Rattle.script_program.specs.Needed.{has}

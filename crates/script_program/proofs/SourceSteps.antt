@@ -3,7 +3,7 @@ use Rattle.std.proofs.Common.{◌≡◌, ℕ, zero, suc, ◌+◌, ◌<◌, Bool,
 use Rattle.std.proofs.Common.{◌∷◌, ◌++◌, length, drop, refl, arith, ap, ◌∙◌, sym, append_assoc}
 use Rattle.std.specs.Prelude.{Some, if◌then◌else◌, slice_get}
 use Rattle.std.specs.List.{filter, flat_map}
-use Rattle.written_types.specs.Named.{Named}
+use Rattle.body_check.specs.of_written_types.Named.{Named}
 use Rattle.script_program.specs.Needed.{is_needed, numbered}
 use Rattle.script_program.specs.Script.{Node, Script}
 use Rattle.script_program.specs.Sources.{source_kind, source_kinds}

@@ -2,7 +2,7 @@
 use Rattle.std.proofs.Common.{◌≡◌, ℕ, zero, suc, ◌+◌, ◌-◌, ◌<◌, ◌≤◌, List, [], ◌∷◌, ◌++◌, length}
 use Rattle.std.proofs.Common.{take, drop, slice_get, refl, ap, subst, ◌∙◌, arith}
 use Rattle.indexmap.specs.IndexMap.{set_value_at}
-use Rattle.written_types.specs.Named.{Named}
+use Rattle.body_check.specs.of_written_types.Named.{Named}
 use Rattle.script_program.specs.declared.made.Standing.{Standing}
 use Rattle.script_program.specs.Script.{given}
 use Rattle.script_program.specs.inner.Standings.{standing_at, standing_of}

@@ -11,9 +11,9 @@ use Rattle.std.proofs.lemmas.List.Elements.{All-push, All-same, All-nil, All-tak
 use Rattle.std.proofs.lemmas.Option.{cond_some}
 use Rattle.flume_types.specs.declared.types.Ty.{Ty}
 use Rattle.type_table.specs.Table.{type_at, Extends}
-use Rattle.written_types.specs.Named.{Named, find}
-use Rattle.written_types.specs.Known.{Known}
-use Rattle.written_types.proofs.NamedLemmas.{mapped, find-mapped, keys-mapped, same-map}
+use Rattle.body_check.specs.of_written_types.Named.{Named, find}
+use Rattle.body_check.specs.of_written_types.Known.{Known}
+use Rattle.body_check.proofs.of_written_types.NamedLemmas.{mapped, find-mapped, keys-mapped, same-map}
 use Rattle.script_program.specs.declared.made.Function.{Function as HeldFunction}
 use Rattle.script_program.specs.declared.made.Signature.{Signature as HeldSignature}
 use Rattle.script_program.specs.declared.made.Node.{Node as HeldNode}
@@ -23,7 +23,7 @@ use Rattle.script_program.specs.Script.{place}
 use Rattle.script_program.specs.inner.Tables.{function_of, node_of, FunctionIn, NodeIn, AreHeld}
 use Rattle.script_program.specs.inner.Tables.{checking_of}
 use Rattle.script_program.specs.Program.{signature_in, HasTypes, function_in, Does}
-use Rattle.expression_check.proofs.KeptLemmas.{types-kept}
+use Rattle.body_check.proofs.of_expression_check.KeptLemmas.{types-kept}
 use Rattle.body_check.proofs.FrameLemmas.{more-types}
 
 -- ---- look-ups

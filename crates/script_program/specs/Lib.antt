@@ -8,3 +8,7 @@ pub mod Saved
 pub mod Sources
 pub mod Held
 pub mod inner
+pub use Rattle.body_check.specs as of_body_check
+pub use Rattle.body_check.specs.of_expression_check
+pub use Rattle.body_check.specs.of_expression_types
+pub use Rattle.body_check.specs.of_written_types

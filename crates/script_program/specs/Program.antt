@@ -6,8 +6,8 @@ use Rattle.dofn_eval.specs.Run.{means as slots_mean}
 use Rattle.dofn_eval.specs.Function.{Function as Fun, FunTyped}
 use Rattle.body_check.specs.Call.{means}
 use Rattle.type_table.specs.Table.{type_at}
-use Rattle.expression_types.specs.Held.{AreTypes}
-use Rattle.written_types.specs.Known.{Known}
+use Rattle.body_check.specs.of_expression_types.Held.{AreTypes}
+use Rattle.body_check.specs.of_written_types.Known.{Known}
 use Rattle.script_program.specs.declared.made.Signature.{Signature as HeldSignature}
 use Rattle.script_program.specs.declared.made.Function.{Function as HeldFunction}
 use Rattle.script_program.specs.declared.made.Making.{Making as HeldMaking}

@@ -2,7 +2,7 @@
 -- makes them.
 use Rattle.std.specs.Prelude.{ℕ, suc, List, [], ◌∷◌, ⊤, if◌then◌else◌}
 use Rattle.std.specs.List.{AllByRecursion}
-use Rattle.written_types.specs.Named.{Named}
+use Rattle.body_check.specs.of_written_types.Named.{Named}
 use Rattle.script_program.specs.declared.made.Made.{Made}
 use Rattle.script_program.specs.declared.made.Made.TheVariants as made
 use Rattle.script_program.specs.Kinds.{emitted_as, gives_object}

@@ -22,6 +22,7 @@ mod saved;
 mod sources;
 mod state;
 
+pub use body_check::{expression_check, written_types};
 pub use limits::{MOST_COLLECTIONS, MOST_FILES, MOST_FUNCTIONS, MOST_OUTPUTS};
 pub use made::{Emitted, Function, Made, Making, Node, Output, Signature, Standing};
 pub use operand::{Callee, Operand};

@@ -11,12 +11,12 @@ ghost use Rattle.script_program.specs.inner.Flags.{TellNeeded};
 use crate::made::{Function, Node, Output};
 use crate::needed::{needed_anew, rested};
 use crate::saved::save_found;
+use body_check::written_types::TypeNames;
 use flume_value::{Pile, Str};
 use indexmap::IndexMap;
 use std::alloc::{AllocError, Global};
 use std::marker::Model;
 use type_table::Types;
-use written_types::TypeNames;
 
 /// The program that an accepted script is. Contracts see it as the script, over types as trees.
 #[derive(Drop)]

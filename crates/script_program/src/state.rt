@@ -6,9 +6,9 @@ ghost use Rattle.std.specs.Prelude.{◌-◌, ◌^◌, OnOk};
 ghost use Rattle.std.specs.Option.{option_map};
 ghost use Rattle.flume_types.specs.Tables.{table_of};
 ghost use Rattle.type_table.specs.Table.{type_at, tree_of, IsWithin, Extends};
-ghost use Rattle.written_types.specs.Answer.{Gives};
-ghost use Rattle.written_types.specs.Named.{find};
-ghost use Rattle.written_types.specs.Written.{whole_type as whole};
+ghost use Rattle.body_check.specs.of_written_types.Answer.{Gives};
+ghost use Rattle.body_check.specs.of_written_types.Named.{find};
+ghost use Rattle.body_check.specs.of_written_types.Written.{whole_type as whole};
 ghost use Rattle.script_program.specs.Program.{signature_in, HasTypes, making_in, Does};
 ghost use Rattle.body_check.specs.Bodies.{body_of};
 ghost use Rattle.script_program.specs.Script as spec;
@@ -19,6 +19,7 @@ use crate::needed::needed;
 use crate::operand::{Callee, Operand};
 use crate::program::Program;
 use body_check::check_body;
+use body_check::written_types::{TypeNames, table, whole_type};
 use dofn_eval::Fun;
 use flume_grammar::{Body, Function as Written, ScriptFault, Type};
 use flume_value::{Pile, Str};
@@ -26,7 +27,6 @@ use indexmap::IndexMap;
 use std::alloc::{AllocError, Global};
 use std::marker::Model;
 use type_table::{Shape, TypeId, Types};
-use written_types::{TypeNames, table, whole_type};
 
 /// What the statements so far define. Contracts see it over types as trees.
 #[derive(Drop)]

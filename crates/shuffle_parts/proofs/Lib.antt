@@ -5,3 +5,4 @@ pub mod Parting
 pub mod Passing
 pub mod Ranged
 pub mod Whole
+pub use Rattle.partial_tables.proofs as of_partial_tables

@@ -1,2 +1,3 @@
 pub mod Outs
 pub mod Partitions
+pub use Rattle.partial_tables.specs as of_partial_tables

@@ -3,17 +3,17 @@ use Rattle.std.proofs.Common.{◌≡◌, ℕ, ◌<◌, ◌≤◌, Bool, true, fa
 use Rattle.std.proofs.lemmas.Bool.{eqb-true, leb-true, leb-false}
 use Rattle.std.specs.List.{AllByRecursion}
 use Rattle.flume_value.proofs.EachLemmas.{Each-both, Each-weaker}
-use Rattle.exec_graph.specs.Forests.{Forest}
-use Rattle.exec_graph.specs.Meaning.{place, node_at, reads, IsThere}
-use Rattle.exec_graph.specs.Readers.{among}
-use Rattle.exec_graph.specs.Wellformed.{IsGraphOk, most_nodes, total_size}
-use Rattle.exec_graph.specs.declared.graph.Place.{Place}
-use Rattle.exec_graph.specs.declared.graph.Node.{Node}
-use Rattle.exec_graph.specs.declared.graph.Node.TheVariants.{Source, Flatten, Pdo, Gbk, Barrier}
-use Rattle.exec_graph.specs.declared.graph.Entry.{Entry}
-use Rattle.exec_graph.specs.declared.graph.Graph.{Graph}
-use Rattle.exec_graph.proofs.Solving.{each_found}
-use Rattle.exec_graph.proofs.Soundness.{differ_ascends}
+use Rattle.graph_laws.specs.of_exec_graph.Forests.{Forest}
+use Rattle.graph_laws.specs.of_exec_graph.Meaning.{place, node_at, reads, IsThere}
+use Rattle.graph_laws.specs.of_exec_graph.Readers.{among}
+use Rattle.graph_laws.specs.of_exec_graph.Wellformed.{IsGraphOk, most_nodes, total_size}
+use Rattle.graph_laws.specs.of_exec_graph.declared.graph.Place.{Place}
+use Rattle.graph_laws.specs.of_exec_graph.declared.graph.Node.{Node}
+use Rattle.graph_laws.specs.of_exec_graph.declared.graph.Node.TheVariants.{Source, Flatten, Pdo, Gbk, Barrier}
+use Rattle.graph_laws.specs.of_exec_graph.declared.graph.Entry.{Entry}
+use Rattle.graph_laws.specs.of_exec_graph.declared.graph.Graph.{Graph}
+use Rattle.graph_laws.proofs.of_exec_graph.Solving.{each_found}
+use Rattle.graph_laws.proofs.of_exec_graph.Soundness.{differ_ascends}
 use Rattle.graph_laws.proofs.ReadPlaces.{all_among}
 use Rattle.graph_laws.proofs.Wellness.{gives_of}
 use Rattle.sink_laws.specs.declared.pair.Pair.{Pair}

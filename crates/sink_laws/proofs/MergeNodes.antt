@@ -3,20 +3,20 @@ use Rattle.std.proofs.Common.{◌≡◌, ℕ, ◌+◌, ◌<◌, ◌≤◌, Bool,
 use Rattle.std.proofs.lemmas.Bool.{false≢true}
 use Rattle.std.proofs.lemmas.List.Folds.{list_any-append}
 use Rattle.std.specs.List.{AllByRecursion}
-use Rattle.combine_table.specs.declared.comb.Comb.{Comb}
-use Rattle.exec_graph.specs.Meaning.{place, node_at}
-use Rattle.exec_graph.specs.Readers.{same_place, among, any_node, calls_on, collects, uses, is_read}
-use Rattle.exec_graph.specs.Wellformed.{IsLiftedOk, IsNodeOk, comb_at, size, total_size, most_nodes}
-use Rattle.exec_graph.specs.declared.graph.Place.{Place}
-use Rattle.exec_graph.specs.declared.graph.Node.{Node}
-use Rattle.exec_graph.specs.declared.graph.Node.TheVariants.{Source, Flatten, Pdo, Gbk, Barrier}
-use Rattle.exec_graph.specs.declared.graph.Entry.{Entry}
-use Rattle.exec_graph.specs.declared.graph.Graph.{Graph}
-use Rattle.exec_graph.proofs.Bools.{no_or, or_false, or_left, or_right}
-use Rattle.exec_graph.proofs.Entries.{entry, all_found}
-use Rattle.exec_graph.proofs.Solving.{each_found}
-use Rattle.exec_graph.proofs.Soundness.{differ_ascends}
-use Rattle.exec_graph.specs.Wellformed.{Ascends}
+use Rattle.graph_laws.specs.of_combine_table.declared.comb.Comb.{Comb}
+use Rattle.graph_laws.specs.of_exec_graph.Meaning.{place, node_at}
+use Rattle.graph_laws.specs.of_exec_graph.Readers.{same_place, among, any_node, calls_on, collects, uses, is_read}
+use Rattle.graph_laws.specs.of_exec_graph.Wellformed.{IsLiftedOk, IsNodeOk, comb_at, size, total_size, most_nodes}
+use Rattle.graph_laws.specs.of_exec_graph.declared.graph.Place.{Place}
+use Rattle.graph_laws.specs.of_exec_graph.declared.graph.Node.{Node}
+use Rattle.graph_laws.specs.of_exec_graph.declared.graph.Node.TheVariants.{Source, Flatten, Pdo, Gbk, Barrier}
+use Rattle.graph_laws.specs.of_exec_graph.declared.graph.Entry.{Entry}
+use Rattle.graph_laws.specs.of_exec_graph.declared.graph.Graph.{Graph}
+use Rattle.graph_laws.proofs.of_exec_graph.Bools.{no_or, or_false, or_left, or_right}
+use Rattle.graph_laws.proofs.of_exec_graph.Entries.{entry, all_found}
+use Rattle.graph_laws.proofs.of_exec_graph.Solving.{each_found}
+use Rattle.graph_laws.proofs.of_exec_graph.Soundness.{differ_ascends}
+use Rattle.graph_laws.specs.of_exec_graph.Wellformed.{Ascends}
 use Rattle.graph_laws.specs.Joining.{set_node}
 use Rattle.graph_laws.proofs.Changes.{all_set_others}
 use Rattle.graph_laws.proofs.Wellness.{node_at-set_other}

@@ -1,17 +1,17 @@
 -- What is next in the chain is the least that could be, and each link of the chain may be made.
 use Rattle.std.proofs.Common.{◌≡◌, ℕ, ◌≤◌, ◌⊎◌, Bool, true, false, cond, eqb, leb, List, [], ◌∷◌, length, Option, Some, None, refl, sym, ap, ◌∙◌, subst, inl, inr}
 use Rattle.std.proofs.lemmas.Bool.{eqb-true, false≢true, le-leb, leb-true}
-use Rattle.exec_graph.specs.Forests.{Forest}
-use Rattle.exec_graph.specs.Meaning.{place, node_at}
-use Rattle.exec_graph.specs.Readers.{among, same_place}
-use Rattle.exec_graph.specs.Wellformed.{IsGraphOk, most_nodes, total_size}
-use Rattle.exec_graph.specs.declared.graph.Place.{Place}
-use Rattle.exec_graph.specs.declared.graph.Node.{Node}
-use Rattle.exec_graph.specs.declared.graph.Node.TheVariants.{Flatten, Pdo}
-use Rattle.exec_graph.specs.declared.graph.Entry.{Entry}
-use Rattle.exec_graph.specs.declared.graph.Graph.{Graph}
-use Rattle.exec_graph.proofs.Bools.{or_cases}
-use Rattle.exec_graph.proofs.Entries.{entry}
+use Rattle.graph_laws.specs.of_exec_graph.Forests.{Forest}
+use Rattle.graph_laws.specs.of_exec_graph.Meaning.{place, node_at}
+use Rattle.graph_laws.specs.of_exec_graph.Readers.{among, same_place}
+use Rattle.graph_laws.specs.of_exec_graph.Wellformed.{IsGraphOk, most_nodes, total_size}
+use Rattle.graph_laws.specs.of_exec_graph.declared.graph.Place.{Place}
+use Rattle.graph_laws.specs.of_exec_graph.declared.graph.Node.{Node}
+use Rattle.graph_laws.specs.of_exec_graph.declared.graph.Node.TheVariants.{Flatten, Pdo}
+use Rattle.graph_laws.specs.of_exec_graph.declared.graph.Entry.{Entry}
+use Rattle.graph_laws.specs.of_exec_graph.declared.graph.Graph.{Graph}
+use Rattle.graph_laws.proofs.of_exec_graph.Bools.{or_cases}
+use Rattle.graph_laws.proofs.of_exec_graph.Entries.{entry}
 use Rattle.graph_laws.proofs.Lexicographic.{Le, le_not, le_self, le_trans, less_le, not_less}
 use Rattle.sink_laws.specs.declared.pair.Pair.{Pair}
 use Rattle.sink_laws.specs.Kept.{IsKept}

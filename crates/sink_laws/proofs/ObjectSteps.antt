@@ -3,18 +3,18 @@ use Rattle.std.proofs.Common.{◌≡◌, ℕ, ◌+◌, ◌-◌, Bool, true, fals
 use Rattle.std.specs.List.{AllByRecursion as Each}
 use Rattle.std.proofs.lemmas.Bool.{eqb-true, eq-eqb, false≢true}
 use Rattle.flume_value.proofs.EachLemmas.{Each-weaker}
-use Rattle.exec_graph.specs.declared.graph.Place.{Place}
-use Rattle.exec_graph.specs.declared.graph.Node.{Node}
-use Rattle.exec_graph.specs.declared.graph.Node.TheVariants.{Source, Flatten, Pdo, Gbk, Barrier}
-use Rattle.exec_graph.specs.declared.graph.Entry.{Entry}
-use Rattle.exec_graph.specs.declared.graph.Graph.{Graph}
-use Rattle.exec_graph.specs.Forests.{Forest, numbered}
-use Rattle.exec_graph.specs.Meaning.{AllDiffer, IsThere, node_at, place, reads}
-use Rattle.exec_graph.specs.Objects.{takes_such}
-use Rattle.exec_graph.specs.Wellformed.{Ascends, HaveObjects, IsFounded, has_objects, is_object, is_object_at}
-use Rattle.exec_graph.proofs.ObjectLemmas.{map_same}
-use Rattle.exec_graph.proofs.Solving.{gives_found}
-use Rattle.exec_graph.proofs.Soundness.{differ_ascends}
+use Rattle.graph_laws.specs.of_exec_graph.declared.graph.Place.{Place}
+use Rattle.graph_laws.specs.of_exec_graph.declared.graph.Node.{Node}
+use Rattle.graph_laws.specs.of_exec_graph.declared.graph.Node.TheVariants.{Source, Flatten, Pdo, Gbk, Barrier}
+use Rattle.graph_laws.specs.of_exec_graph.declared.graph.Entry.{Entry}
+use Rattle.graph_laws.specs.of_exec_graph.declared.graph.Graph.{Graph}
+use Rattle.graph_laws.specs.of_exec_graph.Forests.{Forest, numbered}
+use Rattle.graph_laws.specs.of_exec_graph.Meaning.{AllDiffer, IsThere, node_at, place, reads}
+use Rattle.graph_laws.specs.of_exec_graph.Objects.{takes_such}
+use Rattle.graph_laws.specs.of_exec_graph.Wellformed.{Ascends, HaveObjects, IsFounded, has_objects, is_object, is_object_at}
+use Rattle.graph_laws.proofs.of_exec_graph.ObjectLemmas.{map_same}
+use Rattle.graph_laws.proofs.of_exec_graph.Solving.{gives_found}
+use Rattle.graph_laws.proofs.of_exec_graph.Soundness.{differ_ascends}
 use Rattle.graph_laws.specs.Joining.{set_node, without}
 use Rattle.graph_laws.proofs.Changes.{all_set, all_without}
 use Rattle.graph_laws.proofs.NearJoins.{without_lacks}

@@ -2,21 +2,21 @@
 use Rattle.std.proofs.Common.{◌≡◌, ℕ, ◌+◌, ◌-◌, ◌<◌, ◌≤◌, Bool, true, false, ◌||◌, List, [], ◌∷◌, ◌++◌, Option, Some, None, map, length, zero, suc, refl, sym, ap, ◌∙◌, subst, arith}
 use Rattle.std.proofs.lemmas.Bool.{false≢true}
 use Rattle.std.specs.List.{AllByRecursion}
-use Rattle.combine_table.specs.declared.comb.Comb.{Comb}
+use Rattle.graph_laws.specs.of_combine_table.declared.comb.Comb.{Comb}
 use Rattle.flume_value.proofs.EachLemmas.{Each-append}
-use Rattle.exec_graph.specs.Forests.{Forest, numbered}
-use Rattle.exec_graph.specs.Meaning.{place, node_at, has_out}
-use Rattle.exec_graph.specs.Readers.{same_place, among, any_node, calls_on, collects, uses, is_read}
-use Rattle.exec_graph.specs.Wellformed.{IsFounded, IsForestOk, IsLiftedOk, IsNodeOk, comb_at, most_nodes}
-use Rattle.exec_graph.specs.declared.graph.Place.{Place}
-use Rattle.exec_graph.specs.declared.graph.Node.{Node}
-use Rattle.exec_graph.specs.declared.graph.Node.TheVariants.{Source, Flatten, Pdo, Gbk, Barrier}
-use Rattle.exec_graph.specs.declared.graph.Entry.{Entry}
-use Rattle.exec_graph.specs.declared.graph.Graph.{Graph}
-use Rattle.exec_graph.proofs.Bools.{or_left, or_right}
-use Rattle.exec_graph.proofs.Entries.{all_found}
-use Rattle.exec_graph.proofs.Solving.{each_found}
-use Rattle.exec_graph.proofs.Soundness.{differ_ascends}
+use Rattle.graph_laws.specs.of_exec_graph.Forests.{Forest, numbered}
+use Rattle.graph_laws.specs.of_exec_graph.Meaning.{place, node_at, has_out}
+use Rattle.graph_laws.specs.of_exec_graph.Readers.{same_place, among, any_node, calls_on, collects, uses, is_read}
+use Rattle.graph_laws.specs.of_exec_graph.Wellformed.{IsFounded, IsForestOk, IsLiftedOk, IsNodeOk, comb_at, most_nodes}
+use Rattle.graph_laws.specs.of_exec_graph.declared.graph.Place.{Place}
+use Rattle.graph_laws.specs.of_exec_graph.declared.graph.Node.{Node}
+use Rattle.graph_laws.specs.of_exec_graph.declared.graph.Node.TheVariants.{Source, Flatten, Pdo, Gbk, Barrier}
+use Rattle.graph_laws.specs.of_exec_graph.declared.graph.Entry.{Entry}
+use Rattle.graph_laws.specs.of_exec_graph.declared.graph.Graph.{Graph}
+use Rattle.graph_laws.proofs.of_exec_graph.Bools.{or_left, or_right}
+use Rattle.graph_laws.proofs.of_exec_graph.Entries.{all_found}
+use Rattle.graph_laws.proofs.of_exec_graph.Solving.{each_found}
+use Rattle.graph_laws.proofs.of_exec_graph.Soundness.{differ_ascends}
 use Rattle.graph_laws.specs.Joining.{reread, reread_entry}
 use Rattle.graph_laws.proofs.ReadPlaces.{same_self}
 use Rattle.graph_laws.proofs.Wellness.{differ_map}

@@ -2,19 +2,19 @@
 use Rattle.std.proofs.Common.{◌≡◌, ℕ, ◌+◌, ◌<◌, ◌≤◌, Bool, true, false, cond, eqb, List, [], ◌∷◌, Some, map, length, refl, sym, ap, ◌∙◌, subst, arith, inl, inr}
 use Rattle.std.proofs.lemmas.Bool.{eqb-true, false≢true}
 use Rattle.std.specs.List.{AllByRecursion}
-use Rattle.exec_graph.specs.Forests.{Forest}
-use Rattle.exec_graph.specs.Meaning.{place, node_at, IsRankedBy, KeepsMeaning}
-use Rattle.exec_graph.specs.Readers.{same_place, among, uses, is_read}
-use Rattle.exec_graph.specs.Wellformed.{HaveObjects, IsForestOk, IsFounded, IsGraphOk, IsNodeOk, most_nodes, total_size}
-use Rattle.exec_graph.specs.declared.graph.Place.{Place}
-use Rattle.exec_graph.specs.declared.graph.Node.{Node}
-use Rattle.exec_graph.specs.declared.graph.Node.TheVariants.{Flatten, Pdo}
-use Rattle.exec_graph.specs.declared.graph.Entry.{Entry}
-use Rattle.exec_graph.specs.declared.graph.Graph.{Graph}
-use Rattle.exec_graph.proofs.Bools.{not_true, or_cases, or_left}
-use Rattle.exec_graph.proofs.Entries.{all_found}
-use Rattle.exec_graph.proofs.Solving.{ranked_at}
-use Rattle.exec_graph.proofs.Soundness.{IsSound-ok}
+use Rattle.graph_laws.specs.of_exec_graph.Forests.{Forest}
+use Rattle.graph_laws.specs.of_exec_graph.Meaning.{place, node_at, IsRankedBy, KeepsMeaning}
+use Rattle.graph_laws.specs.of_exec_graph.Readers.{same_place, among, uses, is_read}
+use Rattle.graph_laws.specs.of_exec_graph.Wellformed.{HaveObjects, IsForestOk, IsFounded, IsGraphOk, IsNodeOk, most_nodes, total_size}
+use Rattle.graph_laws.specs.of_exec_graph.declared.graph.Place.{Place}
+use Rattle.graph_laws.specs.of_exec_graph.declared.graph.Node.{Node}
+use Rattle.graph_laws.specs.of_exec_graph.declared.graph.Node.TheVariants.{Flatten, Pdo}
+use Rattle.graph_laws.specs.of_exec_graph.declared.graph.Entry.{Entry}
+use Rattle.graph_laws.specs.of_exec_graph.declared.graph.Graph.{Graph}
+use Rattle.graph_laws.proofs.of_exec_graph.Bools.{not_true, or_cases, or_left}
+use Rattle.graph_laws.proofs.of_exec_graph.Entries.{all_found}
+use Rattle.graph_laws.proofs.of_exec_graph.Solving.{ranked_at}
+use Rattle.graph_laws.proofs.of_exec_graph.Soundness.{IsSound-ok}
 use Rattle.graph_laws.specs.Joining.{set_node, without}
 use Rattle.graph_laws.proofs.Changes.{node_at-without_other}
 use Rattle.graph_laws.proofs.Kids.{KeepsMeaning-then}

@@ -3,20 +3,20 @@ use Rattle.std.proofs.Common.{◌≡◌, ℕ, ◌+◌, ◌-◌, ◌<◌, ◌≤�
 use Rattle.std.proofs.lemmas.Bool.{eqb-true, lt-ltb, le-ltb}
 use Rattle.std.specs.List.{AllByRecursion}
 use Rattle.flume_value.proofs.EachLemmas.{Each-both, Each-weaker}
-use Rattle.flume_types.specs.declared.types.Ty.{Ty}
-use Rattle.exec_graph.specs.Forests.{Forest, Bare, Grow}
-use Rattle.exec_graph.specs.Meaning.{place, node_at, reads, IsThere}
-use Rattle.exec_graph.specs.Readers.{is_read}
-use Rattle.exec_graph.specs.Typing.{ActTyped, Signatures, OutTyped, ForestTyped, IsGrouped, NodeTyped, IsTyped}
-use Rattle.exec_graph.specs.declared.graph.Place.{Place}
-use Rattle.exec_graph.specs.declared.graph.Node.{Node}
-use Rattle.exec_graph.specs.declared.graph.Node.TheVariants.{Source, Flatten, Pdo, Gbk, Barrier}
-use Rattle.exec_graph.specs.declared.graph.Entry.{Entry}
-use Rattle.exec_graph.specs.declared.graph.Graph.{Graph}
-use Rattle.exec_graph.specs.Wellformed.{IsGraphOk}
-use Rattle.exec_graph.proofs.Entries.{all_found, all_map}
-use Rattle.exec_graph.proofs.Solving.{each_found}
-use Rattle.exec_graph.proofs.Soundness.{differ_ascends}
+use Rattle.graph_laws.specs.of_flume_types.declared.types.Ty.{Ty}
+use Rattle.graph_laws.specs.of_exec_graph.Forests.{Forest, Bare, Grow}
+use Rattle.graph_laws.specs.of_exec_graph.Meaning.{place, node_at, reads, IsThere}
+use Rattle.graph_laws.specs.of_exec_graph.Readers.{is_read}
+use Rattle.graph_laws.specs.of_exec_graph.Typing.{ActTyped, Signatures, OutTyped, ForestTyped, IsGrouped, NodeTyped, IsTyped}
+use Rattle.graph_laws.specs.of_exec_graph.declared.graph.Place.{Place}
+use Rattle.graph_laws.specs.of_exec_graph.declared.graph.Node.{Node}
+use Rattle.graph_laws.specs.of_exec_graph.declared.graph.Node.TheVariants.{Source, Flatten, Pdo, Gbk, Barrier}
+use Rattle.graph_laws.specs.of_exec_graph.declared.graph.Entry.{Entry}
+use Rattle.graph_laws.specs.of_exec_graph.declared.graph.Graph.{Graph}
+use Rattle.graph_laws.specs.of_exec_graph.Wellformed.{IsGraphOk}
+use Rattle.graph_laws.proofs.of_exec_graph.Entries.{all_found, all_map}
+use Rattle.graph_laws.proofs.of_exec_graph.Solving.{each_found}
+use Rattle.graph_laws.proofs.of_exec_graph.Soundness.{differ_ascends}
 use Rattle.graph_laws.specs.Joining.{reread, reread_entry}
 use Rattle.graph_laws.specs.Single.{AllSteps, HasSteps}
 use Rattle.graph_laws.proofs.TypedGraphs.{types_reread}

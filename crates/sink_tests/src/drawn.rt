@@ -89,12 +89,20 @@ fn pushed(mut steps: Vec<Step>, step: Step) -> Result<Vec<Step>, AllocError> {
 /// A Pdo of one step with these outputs.
 fn pdo(alloc: Global, number: u32, input: Spot, read: &[bool]) -> Result<Node, AllocError> {
     let steps = pushed(Vec::new(alloc), step_of(alloc, number, read)?)?;
-    Ok(Node::Pdo(place_of(input), Roots::new(steps)))
+    Ok(Node::Pdo {
+        input: place_of(input),
+        roots: Roots::new(steps),
+    })
 }
 
 /// A barrier on these collections, which it takes whole.
 fn barrier(alloc: Global, number: u32, inputs: &[Spot], act: Act) -> Result<Node, AllocError> {
-    Ok(Node::Barrier(places_of(alloc, inputs)?, number, true, act))
+    Ok(Node::Barrier {
+        inputs: places_of(alloc, inputs)?,
+        origin: number,
+        is_own: true,
+        act,
+    })
 }
 
 fn node_of(alloc: Global, number: u32, made: Made) -> Result<Node, AllocError> {
@@ -115,7 +123,12 @@ fn node_of(alloc: Global, number: u32, made: Made) -> Result<Node, AllocError> {
         ),
         Made::Operate(objects) => barrier(alloc, number, objects, Act::Operate(number)),
         Made::Call(input, read) => pdo(alloc, number, input, read),
-        Made::Group(input) => Ok(Node::Gbk(place_of(input), number, true, None)),
+        Made::Group(input) => Ok(Node::Gbk {
+            input: place_of(input),
+            origin: number,
+            is_own: true,
+            lifted: None,
+        }),
         Made::Flatten(inputs) => Ok(Node::Flatten(places_of(alloc, inputs)?)),
         Made::Times(input, count) => Ok(Node::Flatten(times(alloc, input, count)?)),
     }

@@ -268,7 +268,7 @@ fn is_seen(alloc: Global, after: &Blocked, case: Case) -> Result<bool, AllocErro
 fn has_given(alloc: Global, nodes: &[Entry], wanted: &[Given]) -> Result<bool, AllocError> {
     let mut all = Vec::new(alloc);
     for entry in nodes {
-        if let Node::Pdo(_, roots) = &entry.node {
+        if let Node::Pdo { roots, .. } = &entry.node {
             add_steps(entry.number, roots.steps(), &mut all)?;
         }
     }
@@ -306,13 +306,13 @@ fn has_reads(alloc: Global, nodes: &[Entry], wanted: &[(u32, Spot)]) -> Result<b
 
 fn add_reads(entry: &Entry, all: &mut Vec<(u32, Spot)>) -> Result<(), AllocError> {
     match &entry.node {
-        Node::Source(_) | Node::Pdo(_, _) => {}
-        Node::Flatten(inputs) | Node::Barrier(inputs, _, _, _) => {
+        Node::Source(_) | Node::Pdo { .. } => {}
+        Node::Flatten(inputs) | Node::Barrier { inputs, .. } => {
             for input in inputs.as_slice() {
                 all.push((entry.number, (input.node, input.out)))?;
             }
         }
-        Node::Gbk(input, _, _, _) => all.push((entry.number, (input.node, input.out)))?,
+        Node::Gbk { input, .. } => all.push((entry.number, (input.node, input.out)))?,
     }
     Ok(())
 }

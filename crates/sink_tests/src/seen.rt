@@ -59,8 +59,8 @@ fn is_seen(node: &Node, seen: Seen) -> bool {
     match (node, seen) {
         (Node::Source(_), Seen::Source) => true,
         (Node::Flatten(_), Seen::Flatten) => true,
-        (Node::Gbk(_, _, _, _), Seen::Gbk) => true,
-        (Node::Pdo(_, roots), Seen::Pdo(numbers)) => has_numbers(roots.steps(), numbers),
+        (Node::Gbk { .. }, Seen::Gbk) => true,
+        (Node::Pdo { roots, .. }, Seen::Pdo(numbers)) => has_numbers(roots.steps(), numbers),
         _ => false,
     }
 }
@@ -87,9 +87,9 @@ fn reads(node: &Node, wanted: &[Spot]) -> bool {
     match node {
         Node::Source(_) => wanted.is_empty(),
         Node::Flatten(inputs) => are_spots(inputs.as_slice(), wanted),
-        Node::Barrier(inputs, _, _, _) => are_spots(inputs.as_slice(), wanted),
-        Node::Pdo(input, _) => are_spots(&[*input], wanted),
-        Node::Gbk(input, _, _, _) => are_spots(&[*input], wanted),
+        Node::Barrier { inputs, .. } => are_spots(inputs.as_slice(), wanted),
+        Node::Pdo { input, .. } => are_spots(&[*input], wanted),
+        Node::Gbk { input, .. } => are_spots(&[*input], wanted),
     }
 }
 

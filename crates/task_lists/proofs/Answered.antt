@@ -9,10 +9,10 @@ use Rattle.bag_groups.specs.Groups.{grouped, keys_of, values_of}
 use Rattle.bag_groups.specs.Pairs.{pair, pairs_of}
 use Rattle.combine_table.specs.declared.comb.Comb.{Comb}
 use Rattle.combine_table.specs.Combinations.{combined}
-use Rattle.partial_tables.specs.Merges.{combined_groups}
-use Rattle.exec_graph.specs.World.{World}
-use Rattle.exec_graph.specs.Calls.{called, of_combine, of_group}
-use Rattle.exec_graph.specs.declared.step.Does.TheVariants as does
+use Rattle.shuffle_parts.specs.of_partial_tables.Merges.{combined_groups}
+use Rattle.exec_plan.specs.of_exec_graph.World.{World}
+use Rattle.exec_plan.specs.of_exec_graph.Calls.{called, of_combine, of_group}
+use Rattle.exec_plan.specs.of_exec_graph.declared.step.Does.TheVariants as does
 use Rattle.task_lists.specs.Outs.{answers_of}
 use Rattle.task_lists.proofs.Groupable.{group_is}
 

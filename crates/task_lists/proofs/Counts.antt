@@ -7,9 +7,9 @@ use Rattle.std.proofs.lemmas.List.Sums.{sum_by-append}
 use Rattle.flume_value.specs.declared.value.Value.{Value}
 use Rattle.shards.specs.Shards.{joined}
 use Rattle.shards.proofs.Alike.{alike_length, flat_map-nothing, flat_map-itself}
-use Rattle.exec_graph.specs.World.{World}
-use Rattle.exec_graph.specs.Calls.{emitted, is_own}
-use Rattle.exec_graph.specs.Forests.{Label, Forest, Bare, Grow}
+use Rattle.exec_plan.specs.of_exec_graph.World.{World}
+use Rattle.exec_plan.specs.of_exec_graph.Calls.{emitted, is_own}
+use Rattle.exec_plan.specs.of_exec_graph.Forests.{Label, Forest, Bare, Grow}
 use Rattle.exec_plan.specs.declared.plan.Grouping.{Grouping}
 use Rattle.exec_plan.specs.declared.plan.Stage.{Stage}
 use Rattle.exec_plan.specs.declared.plan.Stage.TheVariants.{Mscr, Flatten, Operate}

@@ -10,10 +10,10 @@ use Rattle.flume_value.proofs.BagLemmas.{bag_of-twice}
 use Rattle.flume_collection.specs.Collection.{Collection}
 use Rattle.flume_collection.specs.Traps.{trap_set}
 use Rattle.shards.proofs.Alike.{Alike, alike_is, alike_back, alike_then, alike_append, alike_bag, alike_flat_map, alike_both, flat_map-flat_map, flat_map-nothing, flat_map-itself, append_empty}
-use Rattle.exec_graph.specs.World.{World}
-use Rattle.exec_graph.specs.Calls.{emitted, trapped}
-use Rattle.exec_graph.specs.Forests.{Label, Forest, Bare, Grow}
-use Rattle.exec_graph.specs.Meaning.{through, is_out, has_out, first, out_of, or_nothing, nothing, total}
+use Rattle.exec_plan.specs.of_exec_graph.World.{World}
+use Rattle.exec_plan.specs.of_exec_graph.Calls.{emitted, trapped}
+use Rattle.exec_plan.specs.of_exec_graph.Forests.{Label, Forest, Bare, Grow}
+use Rattle.exec_plan.specs.of_exec_graph.Meaning.{through, is_out, has_out, first, out_of, or_nothing, nothing, total}
 use Rattle.exec_plan.specs.Channels.{output_of}
 use Rattle.exec_plan.specs.Meaning.{total_of}
 use Rattle.task_lists.specs.Runs.{out_at, visits, output_at, visits_of}

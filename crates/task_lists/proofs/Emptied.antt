@@ -5,10 +5,10 @@ use Rattle.flume_value.specs.declared.value.Value.{Value}
 use Rattle.flume_value.specs.Bag.{bag_of}
 use Rattle.flume_collection.specs.Collection.{Collection}
 use Rattle.shards.specs.Shards.{shard}
-use Rattle.exec_graph.specs.Objects.{only, operated_on, value_in, values_in, with_first}
-use Rattle.exec_graph.specs.World.{World}
-use Rattle.exec_graph.specs.declared.graph.Act.TheVariants as act
-use Rattle.exec_graph.proofs.Barriers.{barrier_operate}
+use Rattle.exec_plan.specs.of_exec_graph.Objects.{only, operated_on, value_in, values_in, with_first}
+use Rattle.exec_plan.specs.of_exec_graph.World.{World}
+use Rattle.exec_plan.specs.of_exec_graph.declared.graph.Act.TheVariants as act
+use Rattle.exec_plan.proofs.of_exec_graph.Barriers.{barrier_operate}
 use Rattle.exec_plan.specs.declared.plan.InChannel.{InChannel}
 use Rattle.exec_plan.specs.declared.plan.PlanPlace.{PlanPlace}
 use Rattle.task_lists.specs.Lists.{calm, object_made}

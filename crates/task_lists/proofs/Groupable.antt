@@ -18,15 +18,15 @@ use Rattle.bag_groups.proofs.CombiningLemmas.{group_by}
 use Rattle.bag_groups.proofs.PairLemmas.{parts_of-pair, key_of-pair}
 use Rattle.combine_table.specs.declared.comb.Comb.{Comb}
 use Rattle.combine_table.specs.Combinations.{Suits}
-use Rattle.keyed_steps.specs.Keyed.{IsGroup}
-use Rattle.keyed_steps.proofs.TypedFacts.{table_pair, Has-pair, all_pairs, group_suits}
-use Rattle.partial_tables.specs.Merges.{IsCombinable}
-use Rattle.exec_graph.specs.declared.step.Does.{Does}
-use Rattle.exec_graph.specs.declared.step.Does.TheVariants as does
-use Rattle.exec_graph.specs.declared.graph.Place.{Place}
-use Rattle.exec_graph.specs.Forests.{Forest, Bare, Grow}
-use Rattle.exec_graph.specs.Typing.{Signatures, StepTyped, ForestTyped, IsCombined}
-use Rattle.exec_graph.specs.Wellformed.{comb_of, root_comb}
+use Rattle.exec_plan.specs.of_keyed_steps.Keyed.{IsGroup}
+use Rattle.exec_plan.proofs.of_keyed_steps.TypedFacts.{table_pair, Has-pair, all_pairs, group_suits}
+use Rattle.shuffle_parts.specs.of_partial_tables.Merges.{IsCombinable}
+use Rattle.exec_plan.specs.of_exec_graph.declared.step.Does.{Does}
+use Rattle.exec_plan.specs.of_exec_graph.declared.step.Does.TheVariants as does
+use Rattle.exec_plan.specs.of_exec_graph.declared.graph.Place.{Place}
+use Rattle.exec_plan.specs.of_exec_graph.Forests.{Forest, Bare, Grow}
+use Rattle.exec_plan.specs.of_exec_graph.Typing.{Signatures, StepTyped, ForestTyped, IsCombined}
+use Rattle.exec_plan.specs.of_exec_graph.Wellformed.{comb_of, root_comb}
 use Rattle.exec_plan.specs.declared.plan.PlanPlace.{PlanPlace}
 use Rattle.exec_plan.specs.declared.plan.Grouping.{Grouping}
 use Rattle.exec_plan.specs.Typing.{ChannelTyped, GroupTyped, types_from}

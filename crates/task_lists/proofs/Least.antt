@@ -6,7 +6,7 @@ use Rattle.std.proofs.lemmas.Bool.{cases_lt}
 use Rattle.flume_collection.specs.declared.trap.Trap.{Trap}
 use Rattle.shards.specs.Shards.{joined}
 use Rattle.shards.proofs.Joined.{joined_nothing, joined_same}
-use Rattle.exec_graph.specs.World.{World}
+use Rattle.exec_plan.specs.of_exec_graph.World.{World}
 use Rattle.exec_plan.specs.declared.plan.Grouping.{Grouping}
 use Rattle.exec_plan.specs.declared.plan.Mscr.{Mscr as Channels}
 use Rattle.exec_plan.specs.declared.plan.Stage.TheVariants.{Mscr}

@@ -13,8 +13,8 @@ use Rattle.flume_collection.specs.Traps.{trap_set}
 use Rattle.shards.specs.Shards.{joined, shard}
 use Rattle.shards.proofs.Alike.{Alike, alike_bag, alike_each, append_empty}
 use Rattle.shards.proofs.Joined.{joined_same, joined_alike, flat_map-joined, joined_each, joined_nothing, joined_if, joined_before, joined_at, shards_join}
-use Rattle.exec_graph.specs.World.{World}
-use Rattle.exec_graph.specs.Objects.{beside}
+use Rattle.exec_plan.specs.of_exec_graph.World.{World}
+use Rattle.exec_plan.specs.of_exec_graph.Objects.{beside}
 use Rattle.exec_plan.specs.declared.plan.PlanPlace.{PlanPlace}
 use Rattle.exec_plan.specs.declared.plan.Take.{Take}
 use Rattle.exec_plan.specs.declared.plan.InChannel.{InChannel}

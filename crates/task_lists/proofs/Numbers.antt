@@ -4,7 +4,7 @@ use Rattle.std.specs.List.{flat_map, slice_get, AllZip}
 use Rattle.std.specs.Option.{option_map_or, IsSomeAnd}
 use Rattle.std.proofs.lemmas.Nat.{div-mul-add, mod-mul-add}
 use Rattle.shards.specs.Shards.{joined}
-use Rattle.exec_graph.specs.World.{World}
+use Rattle.exec_plan.specs.of_exec_graph.World.{World}
 use Rattle.exec_plan.specs.declared.plan.Grouping.{Grouping}
 use Rattle.exec_plan.specs.declared.plan.InChannel.{InChannel}
 use Rattle.exec_plan.specs.declared.plan.Mscr.{Mscr}

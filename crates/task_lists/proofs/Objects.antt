@@ -16,10 +16,10 @@ use Rattle.flume_collection.specs.Calls.{Called, emissions, or_none}
 use Rattle.flume_collection.specs.Collection.{Collection, unless_trapped}
 use Rattle.flume_collection.specs.Traps.{trap_set}
 use Rattle.shards.proofs.Alike.{bag_alike}
-use Rattle.exec_graph.specs.declared.graph.Act.{Act}
-use Rattle.exec_graph.specs.declared.graph.Act.TheVariants.{SideInput, Operate, Singleton}
-use Rattle.exec_graph.specs.Objects.{act_result, argument, beside, called_beside, none_of, one_answer, one_emitted, only, operated_on, or_of_nothing, side_input_on, singleton_value, unless_behind, value_in, values_in, whole_combined}
-use Rattle.exec_graph.specs.World.{World}
+use Rattle.exec_plan.specs.of_exec_graph.declared.graph.Act.{Act}
+use Rattle.exec_plan.specs.of_exec_graph.declared.graph.Act.TheVariants.{SideInput, Operate, Singleton}
+use Rattle.exec_plan.specs.of_exec_graph.Objects.{act_result, argument, beside, called_beside, none_of, one_answer, one_emitted, only, operated_on, or_of_nothing, side_input_on, singleton_value, unless_behind, value_in, values_in, whole_combined}
+use Rattle.exec_plan.specs.of_exec_graph.World.{World}
 use Rattle.exec_plan.specs.Channels.{value_on, world_in}
 use Rattle.exec_plan.specs.declared.plan.PlanPlace.{PlanPlace}
 use Rattle.task_lists.specs.Tasks.{Lists, elements_beside, if_valued, value_beside}

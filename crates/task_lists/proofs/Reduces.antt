@@ -18,8 +18,8 @@ use Rattle.shards.proofs.Alike.{Alike, alike_back, alike_then, alike_append, ali
 use Rattle.shards.proofs.Joined.{flat_map-joined, joined_alike}
 use Rattle.shuffle_parts.specs.Partitions.{part_of}
 use Rattle.shuffle_parts.proofs.Whole.{parts_whole}
-use Rattle.exec_graph.specs.World.{World}
-use Rattle.exec_graph.specs.Calls.{trapped}
+use Rattle.exec_plan.specs.of_exec_graph.World.{World}
+use Rattle.exec_plan.specs.of_exec_graph.Calls.{trapped}
 use Rattle.exec_plan.specs.declared.plan.PlanPlace.{PlanPlace}
 use Rattle.exec_plan.specs.declared.plan.Grouping.{Grouping}
 use Rattle.exec_plan.specs.declared.plan.InChannel.{InChannel}

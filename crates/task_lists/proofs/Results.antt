@@ -9,12 +9,12 @@ use Rattle.flume_collection.specs.Calls.{or_none}
 use Rattle.flume_collection.specs.Collection.{Collection, together}
 use Rattle.flume_collection.specs.Traps.{trap_set}
 use Rattle.shards.proofs.Alike.{Alike, alike_append, alike_bag, alike_each, alike_empty, alike_is, alike_then, append_empty}
-use Rattle.exec_graph.specs.World.{World}
-use Rattle.exec_graph.specs.declared.graph.Act.{Act}
-use Rattle.exec_graph.specs.Calls.{trapped}
-use Rattle.exec_graph.specs.Forests.{Forest}
-use Rattle.exec_graph.specs.Meaning.{or_nothing}
-use Rattle.exec_graph.specs.Objects.{act_result}
+use Rattle.exec_plan.specs.of_exec_graph.World.{World}
+use Rattle.exec_plan.specs.of_exec_graph.declared.graph.Act.{Act}
+use Rattle.exec_plan.specs.of_exec_graph.Calls.{trapped}
+use Rattle.exec_plan.specs.of_exec_graph.Forests.{Forest}
+use Rattle.exec_plan.specs.of_exec_graph.Meaning.{or_nothing}
+use Rattle.exec_plan.specs.of_exec_graph.Objects.{act_result}
 use Rattle.exec_plan.specs.declared.plan.PlanPlace.{PlanPlace}
 use Rattle.exec_plan.specs.declared.plan.PlanPlace.TheVariants as at
 use Rattle.exec_plan.specs.declared.plan.InChannel.{InChannel}

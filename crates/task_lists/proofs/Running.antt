@@ -6,8 +6,8 @@ use Rattle.std.specs.List.{AllByRecursion, flat_map, slice_get}
 use Rattle.std.proofs.lemmas.Bool.{cases_lt}
 use Rattle.std.proofs.lemmas.Option.{slice_get_past}
 use Rattle.flume_collection.specs.Collection.{Collection, together}
-use Rattle.exec_graph.specs.Objects.{act_result}
-use Rattle.exec_graph.specs.World.{World}
+use Rattle.exec_plan.specs.of_exec_graph.Objects.{act_result}
+use Rattle.exec_plan.specs.of_exec_graph.World.{World}
 use Rattle.exec_plan.specs.declared.plan.PlanPlace.{PlanPlace}
 use Rattle.exec_plan.specs.declared.plan.PlanPlace.TheVariants as at
 use Rattle.exec_plan.specs.declared.plan.InChannel.{InChannel}

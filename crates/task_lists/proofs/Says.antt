@@ -8,10 +8,10 @@ use Rattle.flume_value.proofs.EachLemmas.{Each-left, Each-right}
 use Rattle.flume_collection.specs.declared.trap.Trap.{Trap}
 use Rattle.flume_collection.specs.Collection.{Collection}
 use Rattle.shards.proofs.Alike.{Alike, alike_append, alike_back, alike_bag, alike_is, alike_then, flat_map-nothing, flat_map-itself}
-use Rattle.exec_graph.specs.World.{World}
-use Rattle.exec_graph.specs.Calls.{emitted, trapped, is_own}
-use Rattle.exec_graph.specs.Forests.{Label, Forest, Bare, Grow}
-use Rattle.exec_graph.specs.Meaning.{through, total}
+use Rattle.exec_plan.specs.of_exec_graph.World.{World}
+use Rattle.exec_plan.specs.of_exec_graph.Calls.{emitted, trapped, is_own}
+use Rattle.exec_plan.specs.of_exec_graph.Forests.{Label, Forest, Bare, Grow}
+use Rattle.exec_plan.specs.of_exec_graph.Meaning.{through, total}
 use Rattle.exec_plan.specs.Channels.{Fed, value_on, world_in}
 use Rattle.exec_plan.specs.Meaning.{Parts, fed_sum, in_sum, own_parts, total_of}
 use Rattle.task_lists.specs.Runs.{labels_in, visits_of, traps_of}

@@ -9,9 +9,9 @@ use Rattle.bag_groups.specs.Combining.{groups_in}
 use Rattle.bag_groups.specs.Groups.{grouped}
 use Rattle.bag_groups.specs.Pairs.{pairs_of}
 use Rattle.combine_table.specs.declared.comb.Comb.{Comb}
-use Rattle.partial_tables.specs.Merges.{StandFor, merged_by_key, finished_each, combined_groups}
-use Rattle.partial_tables.proofs.Merged.{merged-accumulated}
-use Rattle.partial_tables.proofs.Finishing.{finished-accumulated}
+use Rattle.shuffle_parts.specs.of_partial_tables.Merges.{StandFor, merged_by_key, finished_each, combined_groups}
+use Rattle.shuffle_parts.proofs.of_partial_tables.Merged.{merged-accumulated}
+use Rattle.shuffle_parts.proofs.of_partial_tables.Finishing.{finished-accumulated}
 use Rattle.shards.specs.Shards.{joined}
 use Rattle.shards.proofs.Joined.{flat_map-joined, joined_same}
 use Rattle.shuffle_parts.specs.declared.out.MapOut.{MapOut}
@@ -22,9 +22,9 @@ use Rattle.shuffle_parts.specs.Partitions.{is_in, part_of}
 use Rattle.shuffle_parts.proofs.Finding.{found_zip}
 use Rattle.shuffle_parts.proofs.Gathered.{all_pairs-are, all_partials-stand}
 use Rattle.shuffle_parts.proofs.Passing.{grouped-passing}
-use Rattle.exec_graph.specs.World.{World}
-use Rattle.exec_graph.specs.Calls.{called}
-use Rattle.exec_graph.specs.declared.step.Does.TheVariants as does
+use Rattle.exec_plan.specs.of_exec_graph.World.{World}
+use Rattle.exec_plan.specs.of_exec_graph.Calls.{called}
+use Rattle.exec_plan.specs.of_exec_graph.declared.step.Does.TheVariants as does
 use Rattle.exec_plan.specs.declared.plan.Grouping.{Grouping}
 use Rattle.exec_plan.specs.declared.plan.Mscr.{Mscr}
 use Rattle.exec_plan.specs.declared.plan.OutChannel.{OutChannel}

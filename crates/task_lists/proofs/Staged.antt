@@ -5,7 +5,7 @@ use Rattle.std.specs.List.{AllByRecursion, flat_map, slice_get, Contains}
 use Rattle.flume_collection.specs.declared.trap.Trap.{Trap}
 use Rattle.flume_collection.specs.Collection.{Collection}
 use Rattle.shards.proofs.Alike.{alike_empty, append_empty}
-use Rattle.exec_graph.specs.World.{World}
+use Rattle.exec_plan.specs.of_exec_graph.World.{World}
 use Rattle.exec_plan.specs.declared.plan.PlanPlace.{PlanPlace}
 use Rattle.exec_plan.specs.declared.plan.InChannel.{InChannel}
 use Rattle.exec_plan.specs.declared.plan.Stage.{Stage}

@@ -8,10 +8,10 @@ use Rattle.flume_collection.specs.Traps.{trap_le, trap_set}
 use Rattle.flume_collection.proofs.Members.{not_in_none, set_members}
 use Rattle.flume_collection.proofs.Orders.{trap_order}
 use Rattle.shards.proofs.Alike.{append_empty, flat_map-nothing}
-use Rattle.exec_graph.specs.World.{World}
-use Rattle.exec_graph.specs.Calls.{trapped}
-use Rattle.exec_graph.specs.Forests.{Label, Forest, Bare, Grow}
-use Rattle.exec_graph.specs.Meaning.{through, total, step_traps}
+use Rattle.exec_plan.specs.of_exec_graph.World.{World}
+use Rattle.exec_plan.specs.of_exec_graph.Calls.{trapped}
+use Rattle.exec_plan.specs.of_exec_graph.Forests.{Label, Forest, Bare, Grow}
+use Rattle.exec_plan.specs.of_exec_graph.Meaning.{through, total, step_traps}
 use Rattle.exec_plan.specs.declared.plan.Grouping.{Grouping}
 use Rattle.exec_plan.specs.declared.plan.OutChannel.{OutChannel}
 use Rattle.exec_plan.specs.declared.plan.OutChannel.TheVariants.{Group, Pass}

@@ -10,17 +10,17 @@ use Rattle.flume_value.proofs.EachLemmas.{each_from, Each-append, Each-drop, Eac
 use Rattle.flume_types.specs.declared.types.Ty.{Ty}
 use Rattle.flume_types.specs.Typing.{Has, AllHave}
 use Rattle.bag_groups.specs.Groups.{grouped}
-use Rattle.keyed_steps.proofs.TypedFacts.{groups_have}
+use Rattle.exec_plan.proofs.of_keyed_steps.TypedFacts.{groups_have}
 use Rattle.shards.specs.Shards.{joined, shard, begins}
 use Rattle.shuffle_parts.specs.Partitions.{falls_in}
-use Rattle.exec_graph.specs.World.{World}
-use Rattle.exec_graph.specs.Calls.{emitted}
-use Rattle.exec_graph.specs.Forests.{Forest, Bare, Grow}
-use Rattle.exec_graph.specs.Objects.{beside, only}
-use Rattle.exec_graph.specs.Meaning.{is_out, has_out, place}
-use Rattle.exec_graph.specs.declared.graph.Place.{Place}
-use Rattle.exec_graph.specs.Typing.{Signatures, OutTyped, ForestTyped, IsWorldTyped}
-use Rattle.exec_graph.proofs.Typed.{step_typed}
+use Rattle.exec_plan.specs.of_exec_graph.World.{World}
+use Rattle.exec_plan.specs.of_exec_graph.Calls.{emitted}
+use Rattle.exec_plan.specs.of_exec_graph.Forests.{Forest, Bare, Grow}
+use Rattle.exec_plan.specs.of_exec_graph.Objects.{beside, only}
+use Rattle.exec_plan.specs.of_exec_graph.Meaning.{is_out, has_out, place}
+use Rattle.exec_plan.specs.of_exec_graph.declared.graph.Place.{Place}
+use Rattle.exec_plan.specs.of_exec_graph.Typing.{Signatures, OutTyped, ForestTyped, IsWorldTyped}
+use Rattle.exec_plan.proofs.of_exec_graph.Typed.{step_typed}
 use Rattle.exec_plan.specs.declared.plan.PlanPlace.{PlanPlace}
 use Rattle.exec_plan.specs.declared.plan.PlanPlace.TheVariants as at
 use Rattle.exec_plan.specs.declared.plan.Take.{Take}

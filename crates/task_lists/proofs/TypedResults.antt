@@ -8,11 +8,11 @@ use Rattle.flume_value.proofs.EachLemmas.{each_from, Each-append}
 use Rattle.flume_types.specs.declared.types.Ty.{Ty}
 use Rattle.flume_types.specs.Typing.{Has, AllHave}
 use Rattle.flume_collection.specs.Calls.{or_none}
-use Rattle.exec_graph.specs.World.{World}
-use Rattle.exec_graph.specs.Forests.{Forest, Bare, Grow, after_out, after, new_out, numbered}
-use Rattle.exec_graph.specs.declared.graph.Place.{Place}
-use Rattle.exec_graph.specs.Typing.{Signatures, IsWorldTyped}
-use Rattle.exec_graph.proofs.Barriers.{barrier_typed}
+use Rattle.exec_plan.specs.of_exec_graph.World.{World}
+use Rattle.exec_plan.specs.of_exec_graph.Forests.{Forest, Bare, Grow, after_out, after, new_out, numbered}
+use Rattle.exec_plan.specs.of_exec_graph.declared.graph.Place.{Place}
+use Rattle.exec_plan.specs.of_exec_graph.Typing.{Signatures, IsWorldTyped}
+use Rattle.exec_plan.proofs.of_exec_graph.Barriers.{barrier_typed}
 use Rattle.exec_plan.specs.declared.plan.PlanPlace.{PlanPlace}
 use Rattle.exec_plan.specs.declared.plan.PlanPlace.TheVariants as at
 use Rattle.exec_plan.specs.declared.plan.InChannel.{InChannel}

@@ -9,15 +9,15 @@ use Rattle.flume_types.specs.declared.types.Ty.{Ty}
 use Rattle.flume_types.specs.Typing.{AllHave, Has, HaveTypes}
 use Rattle.flume_types.proofs.PartLemmas.{has_record}
 use Rattle.flume_collection.specs.Calls.{Called, emissions, or_none}
-use Rattle.exec_graph.specs.Calls.{called, emitted}
-use Rattle.exec_graph.specs.Forests.{Forest}
-use Rattle.exec_graph.specs.Objects.{beside, naming, only}
-use Rattle.exec_graph.specs.Typing.{Answers, IsRecord, IsWorldTyped, Signatures}
-use Rattle.exec_graph.specs.World.{World}
-use Rattle.exec_graph.specs.Meaning.{place}
-use Rattle.exec_graph.specs.declared.graph.Place.{Place}
-use Rattle.exec_graph.proofs.Barriers.{AllGood}
-use Rattle.exec_graph.proofs.StepFacts.{call_answers}
+use Rattle.exec_plan.specs.of_exec_graph.Calls.{called, emitted}
+use Rattle.exec_plan.specs.of_exec_graph.Forests.{Forest}
+use Rattle.exec_plan.specs.of_exec_graph.Objects.{beside, naming, only}
+use Rattle.exec_plan.specs.of_exec_graph.Typing.{Answers, IsRecord, IsWorldTyped, Signatures}
+use Rattle.exec_plan.specs.of_exec_graph.World.{World}
+use Rattle.exec_plan.specs.of_exec_graph.Meaning.{place}
+use Rattle.exec_plan.specs.of_exec_graph.declared.graph.Place.{Place}
+use Rattle.exec_plan.proofs.of_exec_graph.Barriers.{AllGood}
+use Rattle.exec_plan.proofs.of_exec_graph.StepFacts.{call_answers}
 use Rattle.exec_plan.specs.declared.plan.PlanPlace.{PlanPlace}
 use Rattle.exec_plan.specs.Typing.{IsSideTyped}
 use Rattle.task_lists.specs.Lists.{calm}

@@ -9,7 +9,7 @@ use Rattle.flume_collection.specs.Traps.{trap_le, trap_set}
 use Rattle.flume_collection.proofs.Members.{not_in_none, set_members}
 use Rattle.flume_collection.proofs.Orders.{trap_order}
 use Rattle.shards.proofs.Alike.{Alike, alike_back, alike_bag, bag_alike, alike_append, alike_length, append_empty}
-use Rattle.exec_graph.specs.World.{World}
+use Rattle.exec_plan.specs.of_exec_graph.World.{World}
 use Rattle.exec_plan.specs.declared.plan.PlanPlace.{PlanPlace}
 use Rattle.exec_plan.specs.declared.plan.PlanPlace.TheVariants as at
 use Rattle.exec_plan.specs.declared.plan.Stage.{Stage}

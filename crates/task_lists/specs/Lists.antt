@@ -7,9 +7,9 @@ use Rattle.flume_value.specs.Bag.{bag_of}
 use Rattle.flume_collection.specs.Calls.{or_none}
 use Rattle.flume_collection.specs.Collection.{Collection}
 use Rattle.shards.specs.Shards.{joined}
-use Rattle.exec_graph.specs.Objects.{act_result}
-use Rattle.exec_graph.specs.World.{World}
-use Rattle.exec_graph.specs.declared.graph.Act.{Act}
+use Rattle.exec_plan.specs.of_exec_graph.Objects.{act_result}
+use Rattle.exec_plan.specs.of_exec_graph.World.{World}
+use Rattle.exec_plan.specs.of_exec_graph.declared.graph.Act.{Act}
 use Rattle.exec_plan.specs.Channels.{numbers}
 use Rattle.exec_plan.specs.declared.plan.PlanPlace.{PlanPlace}
 use Rattle.exec_plan.specs.declared.plan.PlanPlace.TheVariants as at

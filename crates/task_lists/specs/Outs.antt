@@ -11,8 +11,8 @@ use Rattle.shuffle_parts.specs.declared.out.Sent.{Sent}
 use Rattle.shuffle_parts.specs.declared.out.Sent.TheVariants.{Passed}
 use Rattle.shuffle_parts.specs.declared.out.MapOut.{MapOut}
 use Rattle.shuffle_parts.specs.Outs.{ArePairsOf, ArePartialsOf}
-use Rattle.exec_graph.specs.World.{World}
-use Rattle.exec_graph.specs.Calls.{of_combine}
+use Rattle.exec_plan.specs.of_exec_graph.World.{World}
+use Rattle.exec_plan.specs.of_exec_graph.Calls.{of_combine}
 use Rattle.exec_plan.specs.declared.plan.Take.{Take}
 use Rattle.exec_plan.specs.declared.plan.OutChannel.{OutChannel}
 use Rattle.exec_plan.specs.declared.plan.OutChannel.TheVariants.{Group, Pass}

@@ -4,8 +4,8 @@ use Rattle.std.proofs.Common.{suc}
 use Rattle.std.specs.List.{AllByRecursion, slice_get}
 use Rattle.flume_collection.specs.declared.trap.Trap.{Trap}
 use Rattle.flume_collection.specs.Collection.{Collection}
-use Rattle.exec_graph.specs.World.{World}
-use Rattle.exec_graph.specs.Forests.{Forest}
+use Rattle.exec_plan.specs.of_exec_graph.World.{World}
+use Rattle.exec_plan.specs.of_exec_graph.Forests.{Forest}
 use Rattle.exec_plan.specs.declared.plan.Grouping.{Grouping}
 use Rattle.exec_plan.specs.declared.plan.Stage.{Stage}
 use Rattle.exec_plan.specs.declared.plan.Stage.TheVariants.{Mscr, Flatten, Operate}

@@ -3,10 +3,10 @@ use Rattle.std.specs.Prelude.{ℕ, cond, min, ◌+◌, ◌-◌, ◌^◌, List, [
 use Rattle.std.specs.List.{flat_map}
 use Rattle.flume_value.specs.declared.value.Value.{Value}
 use Rattle.flume_collection.specs.declared.trap.Trap.{Trap}
-use Rattle.exec_graph.specs.World.{World}
-use Rattle.exec_graph.specs.Calls.{emitted, trapped, is_own}
-use Rattle.exec_graph.specs.Forests.{Label, Forest, Bare, Grow}
-use Rattle.exec_graph.specs.Meaning.{is_out, has_out}
+use Rattle.exec_plan.specs.of_exec_graph.World.{World}
+use Rattle.exec_plan.specs.of_exec_graph.Calls.{emitted, trapped, is_own}
+use Rattle.exec_plan.specs.of_exec_graph.Forests.{Label, Forest, Bare, Grow}
+use Rattle.exec_plan.specs.of_exec_graph.Meaning.{is_out, has_out}
 use Rattle.exec_plan.specs.Channels.{numbers}
 
 -- ---- of one element

@@ -6,9 +6,9 @@ use Rattle.flume_value.specs.declared.value.Value.{Value}
 use Rattle.bag_groups.specs.Groups.{grouped}
 use Rattle.shards.specs.Shards.{joined, shard}
 use Rattle.shuffle_parts.specs.Partitions.{part_of}
-use Rattle.exec_graph.specs.World.{World}
-use Rattle.exec_graph.specs.Objects.{beside, only}
-use Rattle.exec_graph.specs.Forests.{Forest}
+use Rattle.exec_plan.specs.of_exec_graph.World.{World}
+use Rattle.exec_plan.specs.of_exec_graph.Objects.{beside, only}
+use Rattle.exec_plan.specs.of_exec_graph.Forests.{Forest}
 use Rattle.exec_plan.specs.declared.plan.PlanPlace.{PlanPlace}
 use Rattle.exec_plan.specs.declared.plan.Take.{Take}
 use Rattle.exec_plan.specs.declared.plan.InChannel.{InChannel}

@@ -5,10 +5,10 @@ use Rattle.flume_types.specs.declared.types.Ty.{Ty}
 use Rattle.flume_types.specs.Typing.{AllHave, Has}
 use Rattle.bag_groups.specs.Pairs.{IsPair}
 use Rattle.combine_table.specs.declared.comb.Comb.{Comb}
-use Rattle.partial_tables.specs.Merges.{IsCombinable}
-use Rattle.exec_graph.specs.declared.graph.Place.{Place}
-use Rattle.exec_graph.specs.Forests.{Forest}
-use Rattle.exec_graph.specs.Typing.{Signatures}
+use Rattle.shuffle_parts.specs.of_partial_tables.Merges.{IsCombinable}
+use Rattle.exec_plan.specs.of_exec_graph.declared.graph.Place.{Place}
+use Rattle.exec_plan.specs.of_exec_graph.Forests.{Forest}
+use Rattle.exec_plan.specs.of_exec_graph.Typing.{Signatures}
 use Rattle.exec_plan.specs.declared.plan.PlanPlace.{PlanPlace}
 use Rattle.exec_plan.specs.Typing.{BesideTyped, ChannelTyped}
 use Rattle.task_lists.specs.Tasks.{Lists, Task, places}

@@ -12,10 +12,10 @@ use Rattle.exec_graph.specs.Objects.{argument, value_in, values_in, with_first}
 use Rattle.exec_graph.specs.Typing.{IsArgument, IsRecord, Signatures}
 use Rattle.exec_graph.proofs.Barriers.{AllGood}
 use Rattle.exec_plan.specs.declared.plan.PlanPlace.{PlanPlace}
-use Rattle.task_lists.specs.Lists.{calm}
-use Rattle.task_lists.specs.Tasks.{Lists}
-use Rattle.task_lists.specs.Typing.{AreListsTyped}
-use Rattle.task_lists.proofs.TypedSides.{calm_good, only_has}
+use Rattle.forest_courses.specs.of_task_lists.Lists.{calm}
+use Rattle.forest_courses.specs.of_task_lists.Tasks.{Lists}
+use Rattle.forest_courses.specs.of_task_lists.Typing.{AreListsTyped}
+use Rattle.forest_courses.proofs.of_task_lists.TypedSides.{calm_good, only_has}
 use Rattle.task_safety.specs.Taking.{Takes}
 
 -- ---- the values of objects have their types

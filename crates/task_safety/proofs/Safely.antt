@@ -18,10 +18,10 @@ use Rattle.exec_graph.specs.Typing.{Signatures, StepTyped, ForestTyped, IsCombin
 use Rattle.exec_graph.specs.World.{World}
 use Rattle.exec_graph.proofs.Typed.{step_typed}
 use Rattle.exec_plan.specs.Typing.{ChannelTyped, IsSideTyped}
-use Rattle.forest_steps.specs.Safety.{CanCall, Safe, SafeOf}
-use Rattle.task_lists.specs.Tasks.{Task, world_for}
-use Rattle.task_lists.specs.Typing.{IsTaskTyped, StepsTyped}
-use Rattle.task_lists.proofs.TypedSides.{side_takes}
+use Rattle.forest_courses.specs.of_forest_steps.Safety.{CanCall, Safe, SafeOf}
+use Rattle.forest_courses.specs.of_task_lists.Tasks.{Task, world_for}
+use Rattle.forest_courses.specs.of_task_lists.Typing.{IsTaskTyped, StepsTyped}
+use Rattle.forest_courses.proofs.of_task_lists.TypedSides.{side_takes}
 use Rattle.task_safety.specs.Taking.{Takes, taking}
 
 combine_taken : (c : Comb) (t u : Ty) → IsCombined c t u → (x : Value) → Has t x → IsGroup c x

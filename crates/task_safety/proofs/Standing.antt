@@ -13,10 +13,10 @@ use Rattle.exec_plan.specs.declared.plan.PlanPlace.{PlanPlace}
 use Rattle.exec_plan.specs.declared.plan.Stage.{Stage}
 use Rattle.exec_plan.specs.Typing.{AreStagesTyped, StageTyped}
 use Rattle.exec_plan.specs.Wellformed.{AreStages, IsPlanOk, IsStageOk}
-use Rattle.task_lists.specs.Lists.{result_lists, run_lists, source_lists, with_lists}
-use Rattle.task_lists.specs.Tasks.{Lists, Split}
-use Rattle.task_lists.specs.Typing.{AreListsTyped}
-use Rattle.task_lists.proofs.TypedResults.{begin_typed, table_typed}
+use Rattle.forest_courses.specs.of_task_lists.Lists.{result_lists, run_lists, source_lists, with_lists}
+use Rattle.forest_courses.specs.of_task_lists.Tasks.{Lists, Split}
+use Rattle.forest_courses.specs.of_task_lists.Typing.{AreListsTyped}
+use Rattle.forest_courses.proofs.of_task_lists.TypedResults.{begin_typed, table_typed}
 use Rattle.task_safety.specs.Stages.{AreSoFar, CanRunStage, IsTypedRun, lists_before}
 
 module _ (signatures : Signatures) (w : World) (world : IsWorldTyped signatures w)

@@ -11,7 +11,7 @@ use Rattle.exec_graph.specs.Calls.{emitted}
 use Rattle.exec_graph.specs.Forests.{Forest, Bare, Grow}
 use Rattle.exec_graph.specs.Objects.{beside, naming}
 use Rattle.exec_graph.specs.World.{World}
-use Rattle.forest_steps.specs.Safety.{CanCall, Safe, SafeOf}
+use Rattle.forest_courses.specs.of_forest_steps.Safety.{CanCall, Safe, SafeOf}
 use Rattle.forest_courses.proofs.Worlds.{same_safe_of}
 use Rattle.task_safety.specs.Taking.{taking}
 

@@ -9,9 +9,9 @@ use Rattle.exec_plan.specs.declared.plan.PlanPlace.{PlanPlace}
 use Rattle.exec_plan.specs.declared.plan.Stage.{Stage}
 use Rattle.exec_plan.specs.Typing.{IsPlanTyped, StageTyped}
 use Rattle.exec_plan.specs.Wellformed.{IsStageOk}
-use Rattle.task_lists.specs.Lists.{run_lists, source_lists}
-use Rattle.task_lists.specs.Tasks.{Lists, Split}
-use Rattle.task_lists.specs.Typing.{AreListsTyped}
+use Rattle.forest_courses.specs.of_task_lists.Lists.{run_lists, source_lists}
+use Rattle.forest_courses.specs.of_task_lists.Tasks.{Lists, Split}
+use Rattle.forest_courses.specs.of_task_lists.Typing.{AreListsTyped}
 use Rattle.task_safety.specs.Taking.{Takes}
 
 -- ---- a stage

@@ -12,15 +12,15 @@ ghost use Rattle.exec_plan.specs.declared.plan.PlanPlace.{PlanPlace};
 ghost use Rattle.exec_plan.specs.declared.plan.Stage.{Stage};
 ghost use Rattle.exec_plan.specs.declared.plan.Stage.TheVariants as stage;
 ghost use Rattle.exec_plan.specs.Wellformed.{IsPlanOk};
-ghost use Rattle.forest_steps.specs.Functions.{world_of};
-ghost use Rattle.forest_steps.specs.Safety.{SafeOf};
-ghost use Rattle.task_lists.specs.Lists.{calm};
-ghost use Rattle.task_lists.specs.Tasks.{Lists, Split, Task, world_for};
-ghost use Rattle.task_lists.specs.Typing.{IsTaskTyped};
+ghost use Rattle.forest_courses.specs.of_forest_steps.Functions.{world_of};
+ghost use Rattle.forest_courses.specs.of_forest_steps.Safety.{SafeOf};
+ghost use Rattle.forest_courses.specs.of_task_lists.Lists.{calm};
+ghost use Rattle.forest_courses.specs.of_task_lists.Tasks.{Lists, Split, Task, world_for};
+ghost use Rattle.forest_courses.specs.of_task_lists.Typing.{IsTaskTyped};
 ghost use Rattle.task_safety.specs.Stages.{AreSoFar, CanRunStage, IsTypedRun};
 ghost use Rattle.task_safety.specs.Taking.{Takes, taking};
 
-use forest_steps::Functions;
+use forest_courses::forest_steps::Functions;
 
 /// Over a typed world the steps of a task that fits its types may be called on its elements, beside
 /// the value of its object where there is one.

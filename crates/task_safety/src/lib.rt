@@ -12,5 +12,5 @@
 
 mod laws;
 
+pub use forest_courses::task_lists;
 pub use laws::{act_law, safe_law, stage_law, taken_law};
-pub use task_lists;

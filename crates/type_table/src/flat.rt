@@ -7,8 +7,8 @@ ghost use Rattle.type_table.specs.Table as spec;
 
 use crate::shape::{Part, Shape, TypeId};
 use crate::table::Types;
+use flume_types::flume_value::{Pile, Str};
 use flume_types::{Column, ColumnFault, ColumnKind, Columns};
-use flume_value::{Pile, Str};
 use std::alloc::{AllocError, Global};
 
 /// The columns of a flat type, as `flume_types::columns` gives them. `NotFlat` comes exactly

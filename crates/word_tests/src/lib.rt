@@ -1,15 +1,6 @@
-//! Tests of the words of a command line: literal words, and what they ask for.
+//! Tests of the words of a command line: a table of literal words, and what they ask for, where a
+//! run of them does not show it. Words that are refused are worked cases.
 #![tactic(auto)]
 
 #[cfg(test)]
-mod cached;
-#[cfg(test)]
-mod options;
-#[cfg(test)]
-mod refused;
-#[cfg(test)]
-mod taken;
-#[cfg(test)]
-mod texts;
-#[cfg(test)]
-mod workloads;
+mod asked;

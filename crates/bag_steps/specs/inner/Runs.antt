@@ -3,7 +3,7 @@ use Rattle.std.specs.Prelude.{◌≡◌, ◌≢◌, ◌≤◌, ℕ, All, List, [
 use Rattle.std.specs.Ordering.{is_lt}
 use Rattle.flume_value.specs.declared.value.Value.{Value}
 use Rattle.flume_value.specs.Order.{value_cmp}
-use Rattle.bag_groups.specs.Pairs.{key_of, pairs_of}
+use Rattle.keyed_steps.specs.of_bag_groups.Pairs.{key_of, pairs_of}
 
 -- f makes k of the first n values, and not of the next, where there is one
 pub record IsRun {A : Type 0} (f : Value → A) (k : A) (values : List Value) (n : ℕ) : Type 0 where

@@ -1,9 +1,9 @@
 -- What a body's statements find: types under numbers, what is in sight, and the outputs' types.
 use Rattle.std.specs.Prelude.{◌≡◌, ℕ, ◌-◌, List, length, map, drop}
 use Rattle.flume_types.specs.declared.types.Ty.{Ty}
-use Rattle.type_table.specs.Table.{type_at}
-use Rattle.expression_types.specs.Sight.{Newest, Sight}
-use Rattle.expression_types.specs.Held.{InSight}
+use Rattle.expression_check.specs.of_type_table.Table.{type_at}
+use Rattle.expression_check.specs.of_expression_types.Sight.{Newest, Sight}
+use Rattle.expression_check.specs.of_expression_types.Held.{InSight}
 
 pub record InBody : Type 0 where
   pub types : List Ty

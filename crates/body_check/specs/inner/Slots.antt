@@ -7,11 +7,11 @@ use Rattle.flume_grammar.specs.declared.fault.ScriptKind.TheVariants.{BadNumber,
 use Rattle.dofn_eval.specs.declared.expr.Expr.{Expr as Slots}
 use Rattle.dofn_eval.specs.declared.stmt.Stmt.{Stmt}
 use Rattle.dofn_eval.specs.declared.stmt.Stmt.TheVariants as stmt
-use Rattle.written_types.specs.Answer.{Checked, ◌>>=◌, unless, or_fault}
-use Rattle.written_types.specs.Named.{fresh}
-use Rattle.expression_types.specs.Sight.{Sight, with_name}
-use Rattle.expression_types.specs.Fields.{member_type, side_types}
-use Rattle.expression_types.specs.Types.{is_same, is_bool}
+use Rattle.expression_check.specs.of_written_types.Answer.{Checked, ◌>>=◌, unless, or_fault}
+use Rattle.expression_check.specs.of_written_types.Named.{fresh}
+use Rattle.expression_check.specs.of_expression_types.Sight.{Sight, with_name}
+use Rattle.expression_check.specs.of_expression_types.Fields.{member_type, side_types}
+use Rattle.expression_check.specs.of_expression_types.Types.{is_same, is_bool}
 use Rattle.expression_check.specs.Slots.{Typed, slots_of}
 use Rattle.body_check.specs.Outputs.{output_of}
 

@@ -5,7 +5,7 @@ use Rattle.flume_value.specs.declared.value.Value.{Value}
 use Rattle.flume_collection.specs.Collection.{Collection}
 use Rattle.flume_collection.specs.Traps.{trap_set}
 use Rattle.flume_collection.specs.declared.trap.Trap.{Trap}
-use Rattle.written_types.specs.Named.{Named}
+use Rattle.script_laws.specs.of_written_types.Named.{Named}
 use Rattle.script_program.specs.Script.{Node, Script}
 use Rattle.script_laws.specs.WellFormed.{AllFit}
 use Rattle.direct_meaning.specs.Direct.{collections, meaning, traps_of}

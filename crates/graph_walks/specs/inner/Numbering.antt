@@ -1,7 +1,7 @@
 -- Outputs numbered one behind the other, step by step as they are held.
 use Rattle.std.specs.Prelude.{ℕ, List, [], ◌∷◌, ◌++◌}
 use Rattle.std.specs.List.{flat_map}
-use Rattle.exec_graph.specs.Forests.{Branch, Twig, after, after_out, new_out, numbered}
+use Rattle.graph_laws.specs.of_exec_graph.Forests.{Branch, Twig, after, after_out, new_out, numbered}
 use Rattle.graph_walks.specs.Outs.{out_list, outs}
 
 -- ---- an output with the steps on it

@@ -2,8 +2,8 @@
 -- found, all behind it stays.
 use Rattle.std.specs.Prelude.{ℕ, Bool, ◌||◌, cond, List, [], ◌∷◌}
 use Rattle.std.specs.List.{list_any}
-use Rattle.exec_graph.specs.Forests.{Forest, Bare, Grow, Branch, Twig}
-use Rattle.exec_graph.specs.Meaning.{has_out, is_out}
+use Rattle.graph_laws.specs.of_exec_graph.Forests.{Forest, Bare, Grow, Branch, Twig}
+use Rattle.graph_laws.specs.of_exec_graph.Meaning.{has_out, is_out}
 use Rattle.graph_laws.specs.Joining.{beside}
 
 abbrev pub planted : ℕ → Forest → Forest → Forest

@@ -1,6 +1,6 @@
 -- Forests whose outputs have other numbers, or none, step by step as they are held.
 use Rattle.std.specs.Prelude.{ℕ, map, Option}
-use Rattle.exec_graph.specs.Forests.{Forest, Bare, Grow, Branch, Twig, with_out}
+use Rattle.graph_laws.specs.of_exec_graph.Forests.{Forest, Bare, Grow, Branch, Twig, with_out}
 
 abbrev pub relabelled : (Option ℕ → Option ℕ) → Forest → Forest
 relabelled r Bare = Bare

@@ -1,6 +1,6 @@
 -- Names of a let and of a repeat, as they are added one after another.
 use Rattle.std.specs.Prelude.{◌≡◌, ℕ, List, [], ◌∷◌, false, is_some, ⊤}
-use Rattle.written_types.specs.Named.{find}
+use Rattle.operation_check.specs.of_written_types.Named.{find}
 use Rattle.script_program.specs.declared.made.Standing.TheVariants.{Hidden}
 use Rattle.script_program.specs.Script.{Making, State, with_name, with_node}
 

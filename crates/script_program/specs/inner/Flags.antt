@@ -1,6 +1,6 @@
 -- Flags that tell which collections are needed.
 use Rattle.std.specs.Prelude.{◌≡◌, ℕ, ◌<◌, Bool, false, List, length, map, slice_index_or}
-use Rattle.written_types.specs.Named.{Named}
+use Rattle.body_check.specs.of_written_types.Named.{Named}
 use Rattle.script_program.specs.declared.made.Made.{Made}
 use Rattle.script_program.specs.declared.made.Node.{Node as HeldNode}
 use Rattle.script_program.specs.declared.made.Output.{Output}

@@ -2,8 +2,8 @@
 use Rattle.std.specs.Prelude.{ℕ, suc, ◌<◌, ◌≤◌, List, [], ◌∷◌, length, map, if◌then◌else◌}
 use Rattle.std.specs.List.{All}
 use Rattle.flume_types.specs.declared.types.Ty.{Ty}
-use Rattle.written_types.specs.Named.{Named}
-use Rattle.written_types.specs.Known.{Known}
+use Rattle.body_check.specs.of_written_types.Named.{Named}
+use Rattle.body_check.specs.of_written_types.Known.{Known}
 use Rattle.script_program.specs.declared.made.Function.{Function as HeldFunction}
 use Rattle.script_program.specs.declared.made.Node.{Node as HeldNode}
 use Rattle.script_program.specs.declared.made.Output.{Output}

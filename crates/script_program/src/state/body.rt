@@ -3,7 +3,7 @@
 ghost use Rattle.std.specs.Prelude.{◌≡◌, ◌≤◌, ◌<◌, ◌++◌, ◌∷◌, [], length, map, take, drop};
 ghost use Rattle.std.specs.Prelude.{false, is_some, slice_get, IfOk, OnOk, OnErr};
 ghost use Rattle.std.specs.List.{All};
-ghost use Rattle.written_types.specs.Named.{find};
+ghost use Rattle.body_check.specs.of_written_types.Named.{find};
 ghost use Rattle.script_program.specs.Program.{node_in};
 ghost use Rattle.script_program.specs.Script as spec;
 ghost use Rattle.script_program.specs.inner.Tables.{node_of};

@@ -1,7 +1,7 @@
 use Rattle.std.proofs.Common.{refl}
 use Rattle.std.proofs.lemmas.List.{take_rest}
-use Rattle.bag_groups.specs.Groups.{grouped}
-use Rattle.bag_groups.proofs.Grouping.{grouped-IsSorted}
+use Rattle.keyed_steps.specs.of_bag_groups.Groups.{grouped}
+use Rattle.keyed_steps.proofs.of_bag_groups.Grouping.{grouped-IsSorted}
 use Rattle.bag_steps.proofs.GroupSteps.{group_more, nothing_left, run_within, settled_as, sorted_as}
 use Rattle.bag_steps.proofs.groups.group.Goals as goal
 

@@ -1,5 +1,5 @@
 use Rattle.std.proofs.Common.{◌≡◌, ◌++◌, ◌≤◌, ◌-◌, drop, length}
-use Rattle.bag_groups.specs.Groups.{grouped}
+use Rattle.keyed_steps.specs.of_bag_groups.Groups.{grouped}
 use Rattle.bag_steps.proofs.groups.group.Given as goal
 
 abbrev pub invariant-loop-at : goal.invariant-loop-at

@@ -1,5 +1,5 @@
 use Rattle.std.proofs.Common.{◌≡◌, Some, ◌∙◌, ap, arith}
-use Rattle.bag_groups.specs.Pairs.{key_of}
+use Rattle.keyed_steps.specs.of_bag_groups.Pairs.{key_of}
 use Rattle.bag_steps.proofs.Loops.{run_ends, run_more, run_whole}
 use Rattle.bag_steps.proofs.runs.run_of_key.Goals as goal
 

@@ -1,5 +1,5 @@
 use Rattle.std.proofs.Common.{◌≡◌, ◌≤◌, ◌-◌, All, Some, length, take}
-use Rattle.bag_groups.specs.Pairs.{key_of}
+use Rattle.keyed_steps.specs.of_bag_groups.Pairs.{key_of}
 use Rattle.bag_steps.proofs.runs.run_of_key.Given as goal
 
 abbrev pub invariant-loop-n : goal.invariant-loop-n

@@ -1,6 +1,6 @@
 use Rattle.std.proofs.Common.{arith}
 use Rattle.flume_value.specs.Bag.{bag_of}
-use Rattle.combine_table.specs.Combinations.{greatest as greatest_of}
+use Rattle.keyed_steps.specs.of_combine_table.Combinations.{greatest as greatest_of}
 use Rattle.bag_steps.proofs.GroupSteps.{settled_as, sorted_as}
 use Rattle.bag_steps.proofs.RowOrder.{greatest-IsSorted, greatest_is}
 use Rattle.bag_steps.proofs.tops.greatest.Goals as goal

@@ -1,5 +1,5 @@
 use Rattle.std.proofs.Common.{map, ap, ◌∙◌}
-use Rattle.type_table.specs.Table.{type_at}
+use Rattle.expression_check.specs.of_type_table.Table.{type_at}
 use Rattle.body_check.proofs.FunctionLemmas.{IsAnswer, is_answer, started}
 use Rattle.body_check.proofs.checks.block_of.Goals as goal
 use Rattle.body_check.proofs.checks.block_of.Goals.{After-slots_of-slots}

@@ -2,11 +2,11 @@ use Rattle.std.proofs.Common.{◌≡◌, ◌+◌, Ok, drop, sym, ap, ◌∙◌, 
 use Rattle.std.proofs.lemmas.Result.{err_from_is_err_and}
 use Rattle.flume_types.specs.declared.types.Ty.{Ty}
 use Rattle.flume_grammar.specs.declared.fault.ScriptKind.TheVariants.{Mistyped}
-use Rattle.type_table.specs.Table.{type_at}
-use Rattle.type_table.proofs.TableLemmas.{Extends-twice}
-use Rattle.written_types.specs.Answer.{Gives, Fails, or_fault}
-use Rattle.written_types.proofs.FailsLemmas.{Fails-first, Fails-same}
-use Rattle.expression_types.specs.Fields.{side_types}
+use Rattle.expression_check.specs.of_type_table.Table.{type_at}
+use Rattle.expression_check.proofs.of_type_table.TableLemmas.{Extends-twice}
+use Rattle.expression_check.specs.of_written_types.Answer.{Gives, Fails, or_fault}
+use Rattle.expression_check.proofs.of_written_types.FailsLemmas.{Fails-first, Fails-same}
+use Rattle.expression_check.specs.of_expression_types.Fields.{side_types}
 use Rattle.expression_check.specs.Slots.{typed}
 use Rattle.body_check.specs.inner.Slots.{Placed, block, block_slots, both_slots, placed_of}
 use Rattle.body_check.proofs.PlacedLemmas.{placed-If, placed-For, placed-Case}

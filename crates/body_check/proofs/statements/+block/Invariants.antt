@@ -1,7 +1,7 @@
 use Rattle.std.proofs.Common.{◌≡◌, ◌+◌, ◌*◌, [], max, drop}
 use denote.Param.Weighed.{most}
 use Rattle.flume_grammar.specs.declared.tree.Body.{size-Body}
-use Rattle.type_table.specs.Table.{Extends}
+use Rattle.expression_check.specs.of_type_table.Table.{Extends}
 use Rattle.body_check.specs.inner.Frames.{IsBehind}
 use Rattle.body_check.specs.inner.Slots.{block_slots, placed_of}
 use Rattle.body_check.proofs.statements.+block.Given as goal

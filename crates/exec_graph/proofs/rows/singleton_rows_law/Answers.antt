@@ -6,7 +6,7 @@ use Rattle.std.proofs.Common.{arith, pos, refl, ap}
 use Rattle.std.specs.Prelude.{option_map}
 use Rattle.flume_value.specs.declared.value.Value.TheVariants as value
 use Rattle.combine_table.specs.declared.comb.Comb.TheVariants as by
-use Rattle.bag_groups.proofs.PairLemmas.{Parts, parts_of-pair}
+use Rattle.flume_collection.proofs.of_bag_groups.PairLemmas.{Parts, parts_of-pair}
 use Rattle.exec_graph.specs.Objects.{or_of_nothing, whole_combined}
 use Rattle.exec_graph.proofs.rows.singleton_rows_law.Goals as goal
 

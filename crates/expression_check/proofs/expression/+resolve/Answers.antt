@@ -1,7 +1,7 @@
 use Rattle.std.proofs.Common.{◌≡◌, ◌+◌, Ok, map, drop, sym, ap, ◌∙◌, subst}
 use Rattle.type_table.specs.Table.{type_at}
 use Rattle.type_table.proofs.TableLemmas.{Extends-twice}
-use Rattle.written_types.specs.Answer.{Gives}
+use Rattle.expression_types.specs.of_written_types.Answer.{Gives}
 use Rattle.expression_check.specs.Slots.{typed, operand, both_typed, all_slots, pick, slots_of}
 use Rattle.expression_check.proofs.KeptLemmas.{operand-kept, types-push, within-push, next-part, picked-is}
 use Rattle.expression_check.proofs.SlotLemmas.{slots-Record, slots-List}

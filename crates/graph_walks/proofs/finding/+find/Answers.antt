@@ -1,5 +1,5 @@
 use Rattle.std.proofs.Common.{false, true, refl, sym, ap, ◌∙◌, arith}
-use Rattle.exec_graph.specs.Forests.{Bare}
+use Rattle.graph_laws.specs.of_exec_graph.Forests.{Bare}
 use Rattle.graph_walks.specs.inner.Plants.{on_branches, planted_branch}
 use Rattle.graph_walks.proofs.PlantTurns.{none_all, one_found, twig_on}
 use Rattle.graph_walks.proofs.finding.+find.Goals as goal

@@ -1,5 +1,5 @@
 use Rattle.std.proofs.Common.{◌≡◌, drop, map}
-use Rattle.exec_graph.specs.Twigs.{twig}
+use Rattle.graph_laws.specs.of_exec_graph.Twigs.{twig}
 use Rattle.graph_walks.specs.inner.Plants.{on_branches, on_twigs}
 use Rattle.graph_walks.proofs.finding.+find.Given as goal
 

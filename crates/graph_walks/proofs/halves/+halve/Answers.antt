@@ -1,6 +1,6 @@
 use Rattle.std.proofs.Common.{rules, sym, ◌∙◌, arith, length-set}
-use Rattle.exec_graph.specs.Forests.{Branch, Twig}
-use Rattle.exec_graph.specs.Twigs.{twig}
+use Rattle.graph_laws.specs.of_exec_graph.Forests.{Branch, Twig}
+use Rattle.graph_laws.specs.of_exec_graph.Twigs.{twig}
 use Rattle.graph_laws.specs.Kids.{out_named}
 use Rattle.graph_walks.specs.Halves.{half_of}
 use Rattle.graph_walks.specs.inner.Relabels.{relabelled_branch, relabelled_twig}

@@ -1,5 +1,5 @@
 use Rattle.std.proofs.Common.{rules, List, sym, ap, ◌∙◌, arith, length-set}
-use Rattle.exec_graph.specs.Forests.{Branch, grown}
+use Rattle.graph_laws.specs.of_exec_graph.Forests.{Branch, grown}
 use Rattle.graph_laws.specs.Kids.{out_named}
 use Rattle.graph_walks.specs.Halves.{half_of}
 use Rattle.graph_walks.specs.inner.Relabels.{relabelled_branch}

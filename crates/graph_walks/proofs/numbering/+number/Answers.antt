@@ -1,6 +1,6 @@
 use Rattle.std.proofs.Common.{rules, List, ℕ, Option, ◌++◌, length, map, ap, ap₂, ◌∙◌, arith, length-set}
-use Rattle.exec_graph.specs.Forests.{Branch, Twig, new_out}
-use Rattle.exec_graph.specs.Twigs.{twig}
+use Rattle.graph_laws.specs.of_exec_graph.Forests.{Branch, Twig, new_out}
+use Rattle.graph_laws.specs.of_exec_graph.Twigs.{twig}
 use Rattle.graph_laws.specs.Kids.{out_kept}
 use Rattle.graph_walks.specs.Outs.{flag, out_list}
 use Rattle.graph_walks.specs.inner.Numbering.{branch_outs, numbered_branch, numbered_twigs}

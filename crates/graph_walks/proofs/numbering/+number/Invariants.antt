@@ -1,5 +1,5 @@
 use Rattle.std.proofs.Common.{◌≡◌, ◌++◌, take, drop, length, map}
-use Rattle.exec_graph.specs.Twigs.{twig}
+use Rattle.graph_laws.specs.of_exec_graph.Twigs.{twig}
 use Rattle.graph_laws.specs.Kids.{out_kept}
 use Rattle.graph_walks.specs.Outs.{flag}
 use Rattle.graph_walks.specs.inner.Numbering.{branches_outs, numbered_branches, numbered_twigs, twigs_outs}

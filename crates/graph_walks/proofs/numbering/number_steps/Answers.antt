@@ -1,5 +1,5 @@
 use Rattle.std.proofs.Common.{rules, ◌∙◌, arith, length-set}
-use Rattle.exec_graph.specs.Forests.{Branch}
+use Rattle.graph_laws.specs.of_exec_graph.Forests.{Branch}
 use Rattle.graph_laws.specs.Kids.{out_kept}
 use Rattle.graph_walks.specs.Outs.{flag}
 use Rattle.graph_walks.specs.inner.Relabels.{relabelled_branch}

@@ -1,5 +1,5 @@
 use Rattle.std.proofs.Common.{ℕ, List, ◌++◌, length, map, ap, ◌∙◌}
-use Rattle.exec_graph.specs.Forests.{Branch, grown}
+use Rattle.graph_laws.specs.of_exec_graph.Forests.{Branch, grown}
 use Rattle.graph_laws.specs.Kids.{out_kept}
 use Rattle.graph_walks.specs.Outs.{flag}
 use Rattle.graph_walks.specs.inner.Numbering.{branches_outs, numbered_branches}

@@ -1,6 +1,6 @@
 use Rattle.std.proofs.Common.{◌≡◌, true, false, List, map, rules, refl, sym, ap, ◌∙◌, arith, length-set}
-use Rattle.exec_graph.specs.Forests.{Branch, grown}
-use Rattle.exec_graph.specs.Twigs.{twig}
+use Rattle.graph_laws.specs.of_exec_graph.Forests.{Branch, grown}
+use Rattle.graph_laws.specs.of_exec_graph.Twigs.{twig}
 use Rattle.graph_walks.specs.inner.Plants.{on_branch, on_twig, planted_branch, planted_twig, planted_twigs}
 use Rattle.graph_walks.proofs.PlantTurns.{no_all, no_next, none_all, none_next, on_found, one_found, step_found, step_next, step_off, step_on, steps_all, steps_found, steps_next, twig_on, twig_planted, twigs_all, twigs_found, twigs_next}
 use Rattle.graph_walks.proofs.planting.+plant.Goals as goal

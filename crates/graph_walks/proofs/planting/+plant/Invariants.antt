@@ -1,6 +1,6 @@
 use Rattle.std.proofs.Common.{◌≡◌, drop, length, map}
-use Rattle.exec_graph.specs.Forests.{grown}
-use Rattle.exec_graph.specs.Twigs.{twig}
+use Rattle.graph_laws.specs.of_exec_graph.Forests.{grown}
+use Rattle.graph_laws.specs.of_exec_graph.Twigs.{twig}
 use Rattle.graph_walks.specs.inner.Plants.{on_branches, on_twigs, planted_branches, planted_twigs}
 use Rattle.graph_walks.proofs.PlantTurns.{steps_far, twigs_far}
 use Rattle.graph_walks.proofs.planting.+plant.Given as goal

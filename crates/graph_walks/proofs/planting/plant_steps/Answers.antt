@@ -1,5 +1,5 @@
 use Rattle.std.proofs.Common.{◌≡◌, false, List, rules, refl, sym, ap, ◌∙◌, arith, length-set}
-use Rattle.exec_graph.specs.Forests.{Branch, grown}
+use Rattle.graph_laws.specs.of_exec_graph.Forests.{Branch, grown}
 use Rattle.graph_walks.specs.inner.Plants.{on_branch, planted_branch}
 use Rattle.graph_walks.proofs.PlantTurns.{none_all, none_next, one_found, steps_all, steps_found, steps_next}
 use Rattle.graph_walks.proofs.planting.plant_steps.Goals as goal

@@ -1,5 +1,5 @@
 use Rattle.std.proofs.Common.{◌≡◌, drop, length}
-use Rattle.exec_graph.specs.Forests.{grown}
+use Rattle.graph_laws.specs.of_exec_graph.Forests.{grown}
 use Rattle.graph_walks.specs.inner.Plants.{on_branches, planted_branches}
 use Rattle.graph_walks.proofs.PlantTurns.{steps_far}
 use Rattle.graph_walks.proofs.planting.plant_steps.Given as goal

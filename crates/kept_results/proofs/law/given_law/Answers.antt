@@ -1,11 +1,11 @@
 use Rattle.std.proofs.Common.{◌≡◌, ℕ, ◌++◌, List, Option, map, subst, sym}
 use Rattle.std.specs.List.{AllByRecursion as Each}
-use Rattle.direct_meaning.specs.Inputs.{AreInputs}
+use Rattle.saved_meaning.specs.of_direct_meaning.Inputs.{AreInputs}
 use Rattle.flume_collection.specs.Collection.{Collection}
 use Rattle.flume_value.specs.declared.value.Value.{Value}
 use Rattle.saved_meaning.specs.Found.{chosen, lists_for}
 use Rattle.saved_results.specs.declared.saved.Saved.{Saved}
-use Rattle.script_laws.specs.WellFormed.{IsWellFormed}
+use Rattle.saved_meaning.specs.of_script_laws.WellFormed.{IsWellFormed}
 use Rattle.script_program.specs.Saved.{HasNoSaved}
 use Rattle.script_program.specs.Script.{Script}
 use Rattle.kept_results.specs.Asked.{asked_nodes}

@@ -1,6 +1,6 @@
 use Rattle.std.proofs.Common.{◌≡◌, ◌<◌, ◌++◌, ℕ, List, map, drop}
 use Rattle.std.specs.List.{All}
-use Rattle.expression_types.specs.Held.{AreTypes}
+use Rattle.script_program.specs.of_expression_types.Held.{AreTypes}
 use Rattle.flume_types.specs.declared.types.Ty.{Ty}
 use Rattle.operation_check.specs.Operations.{outputs_from}
 use Rattle.script_program.specs.Program.{making_in}

@@ -1,5 +1,5 @@
 use Rattle.std.proofs.Common.{sym, ◌∙◌}
-use Rattle.plan_json.specs.PlanJson.{plan_json_of}
+use Rattle.plan_file_law.specs.of_plan_json.PlanJson.{plan_json_of}
 use Rattle.plan_tracing.proofs.writing.rewrites_json.Goals as goal
 
 pub returns : goal.returns

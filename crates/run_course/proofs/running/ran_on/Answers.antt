@@ -39,7 +39,8 @@ returns-clause-fault g c =
     let news = front_map f s.workers first cut.result.1.now size in
     subst
     (λ (l : List Account). IfErr r
-    (IsRunFault s script c.args.inputs c.args.plan.now l (lent s (map f (first ++ cut.result.1.now)))))
+    (IsRunFault s script c.args.inputs c.args.plan.now l
+    (lent s (map f (first ++ cut.result.1.now)))))
     (sym olds)
     (subst
     (λ (l : List Account). IfErr r

@@ -3,8 +3,8 @@ use Rattle.direct_meaning.specs.Direct.{collections}
 use Rattle.script_program.specs.Needed.{is_needed}
 use Rattle.script_program.specs.Saved.{with_saved}
 use Rattle.direct_meaning.specs.Inputs.{AreLists, sourced}
-use Rattle.script_laws.proofs.NeededLemmas.{needed_law}
-use Rattle.script_laws.proofs.SavedLemmas.{saved-well}
+use Rattle.direct_meaning.proofs.of_script_laws.NeededLemmas.{needed_law}
+use Rattle.direct_meaning.proofs.of_script_laws.SavedLemmas.{saved-well}
 use Rattle.saved_meaning.specs.Found.{where_needed}
 use Rattle.saved_meaning.proofs.Clean.{clean-table, no-traps}
 use Rattle.saved_meaning.proofs.Given.{all-given, kept-list}

@@ -1,5 +1,5 @@
 use Rattle.std.proofs.Common.{◌≤◌, ℕ, List, arith, length, subst}
-use Rattle.written_types.specs.Answer.{Checked, Gives}
+use Rattle.operation_check.specs.of_written_types.Answer.{Checked, Gives}
 use Rattle.script_program.specs.Script.{with_front}
 use Rattle.script_check.specs.Rules as spec
 use Rattle.script_check.specs.inner.Held.{entry_in, repeat_in}

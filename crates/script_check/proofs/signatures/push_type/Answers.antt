@@ -1,6 +1,6 @@
 use Rattle.std.proofs.Common.{◌++◌, ◌∷◌, [], Ok, map, sym, ap, ◌∙◌}
 use Rattle.type_table.specs.Table.{type_at}
-use Rattle.written_types.specs.Answer.{◌>>=◌}
+use Rattle.operation_check.specs.of_written_types.Answer.{◌>>=◌}
 use Rattle.operation_check.proofs.of_expression_check.KeptLemmas.{types-push, within-push}
 use Rattle.script_check.proofs.signatures.push_type.Goals as goal
 

@@ -1,4 +1,4 @@
-use Rattle.forest_steps.specs.Functions.{world_of}
+use Rattle.forest_courses.specs.of_forest_steps.Functions.{world_of}
 use Rattle.task_safety.specs.Taking.{Takes}
 use Rattle.task_safety.proofs.Taken.{all_safe_beside}
 use Rattle.task_safety.proofs.laws.taken_law.Goals as goal

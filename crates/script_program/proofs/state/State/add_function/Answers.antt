@@ -1,13 +1,13 @@
 use Rattle.std.proofs.Common.{◌≡◌, ℕ, false, is_some, List, map, take, sym, ap, ◌∙◌, subst, arith}
 use Rattle.std.proofs.Math.Seq.{take-length}
 use Rattle.flume_types.specs.declared.types.Ty.{Ty}
-use Rattle.written_types.specs.Named.{Named, find}
+use Rattle.body_check.specs.of_written_types.Named.{Named, find}
 use Rattle.script_program.specs.declared.made.Function.{Function as HeldFunction}
 use Rattle.script_program.specs.Script.{Function, State, with_function}
 use Rattle.script_program.specs.Program.{signature_in, HasTypes, function_in, Does}
 use Rattle.script_program.specs.inner.Tables.{function_of, node_of, FunctionIn}
 use Rattle.script_program.specs.Held.{Checking}
-use Rattle.written_types.proofs.NamedLemmas.{mapped-put, within-put}
+use Rattle.body_check.proofs.of_written_types.NamedLemmas.{mapped-put, within-put}
 use Rattle.script_program.proofs.StateLemmas.{none-is}
 use Rattle.script_program.proofs.state.State.add_function.Goals as goal
 

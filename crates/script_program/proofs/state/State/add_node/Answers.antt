@@ -2,7 +2,7 @@ use Rattle.std.proofs.Common.{◌≡◌, ◌++◌, ◌∷◌, [], ℕ, ◌<◌, 
 use Rattle.std.specs.Str.{bytes_eq}
 use Rattle.std.proofs.lemmas.List.{length-map}
 use Rattle.indexmap.proofs.CallerLemmas.{insert_entry-new}
-use Rattle.written_types.specs.Named.{find}
+use Rattle.body_check.specs.of_written_types.Named.{find}
 use Rattle.script_program.specs.declared.made.Making.{Making as HeldMaking}
 use Rattle.script_program.specs.declared.made.Node.{Node as HeldNode}
 use Rattle.script_program.specs.declared.made.Standing.TheVariants.{Collection}

@@ -3,7 +3,7 @@ use Rattle.script_program.specs.inner.Tables.{FunctionIn}
 use Rattle.type_table.specs.Table.{type_at}
 use Rattle.script_program.specs.Script.{Callee, Function, find_function}
 use Rattle.script_program.specs.Program.{HasTypes, function_in}
-use Rattle.written_types.proofs.NamedLemmas.{found-within}
+use Rattle.body_check.proofs.of_written_types.NamedLemmas.{found-within}
 use Rattle.script_program.proofs.StateLemmas.{placed-found, placed-none}
 use Rattle.script_program.proofs.state.State.function.Goals as goal
 

@@ -1,5 +1,5 @@
 use Rattle.std.proofs.Common.{◌≡◌, is_some, sym, ◌∙◌, subst}
-use Rattle.written_types.specs.Named.{find}
+use Rattle.body_check.specs.of_written_types.Named.{find}
 use Rattle.script_program.specs.Program.{function_in}
 use Rattle.script_program.proofs.StateLemmas.{has-mapped}
 use Rattle.script_program.proofs.state.State.has_function.Goals as goal

@@ -1,7 +1,7 @@
 use Rattle.std.proofs.Common.{◌≡◌, ◌++◌, ◌∷◌, [], false, is_some, map, sym, ◌∙◌, subst}
 use Rattle.std.specs.Str.{bytes_eq}
 use Rattle.indexmap.proofs.CallerLemmas.{insert_entry-new}
-use Rattle.written_types.specs.Named.{find}
+use Rattle.body_check.specs.of_written_types.Named.{find}
 use Rattle.script_program.specs.declared.made.Standing.TheVariants.{Hidden}
 use Rattle.script_program.specs.Script.{State, with_name}
 use Rattle.script_program.specs.inner.Tables.{function_of, node_of}

@@ -1,0 +1,167 @@
+-- Walks that look for the output of a number.
+use Rattle.std.proofs.Common.{◌≡◌, ◌≢◌, ◌≤◌, ◌<◌, ℕ, ◌+◌, ◌-◌, suc, Bool, true, false, cond, eqb, ◌||◌, List, [], ◌∷◌, ◌++◌, map, drop, length, get_or, Option, Some, None, refl, sym, ap, ap₂, subst, ◌∙◌, arith}
+use Rattle.std.proofs.lemmas.Bool.{eq-eqb, eqb-false, eqb-true, false≢true}
+use Rattle.std.proofs.lemmas.List.{drop_all}
+use Rattle.exec_graph.specs.Forests.{Branch, Forest, Bare, Grow, grown}
+use Rattle.exec_graph.specs.Meaning.{OutsDiffer, has_out, is_out}
+use Rattle.exec_graph.specs.Twigs.{twig}
+use Rattle.exec_graph.specs.declared.step.Output.{Output}
+use Rattle.graph_laws.specs.Kids.{number_in}
+use Rattle.graph_states.proofs.of_graph_names.SpotLemmas.{holds_outs}
+use Rattle.graph_walks.specs.Outs.{out_list, outs, place_of}
+use Rattle.graph_walks.specs.inner.Numbering.{branch_outs, branches_outs, twig_outs, twigs_outs}
+use Rattle.graph_walks.proofs.InPlace.{left_here}
+use Rattle.graph_walks.proofs.NumberLemmas.{outs_grown}
+use Rattle.graph_walks.proofs.Places.{holds, number_place}
+use Rattle.graph_joins.specs.inner.Seeks.{is_kth, is_name, seek}
+use Rattle.graph_joins.specs.declared.seeking.Sought.{Sought}
+use Rattle.graph_joins.specs.declared.seeking.Sought.TheVariants.{Found, Behind}
+
+-- ---- among these, and else among others
+
+abbrev pub seek_on : Sought → List ℕ → Sought
+seek_on (Found n) ys = Found n
+seek_on (Behind k) ys = seek ys k
+
+seek_append : (xs ys : List ℕ) (k : ℕ) → seek (xs ++ ys) k ≡ seek_on (seek xs k) ys
+seek_append [] ys k = refl
+seek_append (x ∷ xs) ys k = by (eqb k 0) (seek_append xs ys (k - 1))
+  where
+    by : (b : Bool) → seek (xs ++ ys) (k - 1) ≡ seek_on (seek xs (k - 1)) ys
+        → cond b (Found x) (seek (xs ++ ys) (k - 1))
+        ≡ seek_on (cond b (Found x) (seek xs (k - 1))) ys
+    by true h = refl
+    by false h = h
+
+pub seek_more : (xs ys : List ℕ) (k : ℕ) (s : Sought) → s ≡ seek xs k
+    → seek_on s ys ≡ seek (xs ++ ys) k
+seek_more xs ys k s e =
+    ap (λ (x : Sought). seek_on x ys) e ∙ sym (seek_append xs ys k)
+
+module _ (bs : List Branch) (i k : ℕ) where
+  pub step_turn : (b : Branch) (s : Sought) → i < length bs → b ≡ get_or bs i b
+      → s ≡ seek (branch_outs b) k
+      → seek_on s (branches_outs (drop (i + 1) bs)) ≡ seek (branches_outs (drop i bs)) k
+  step_turn b s lt is e =
+      seek_more (branch_outs b) (branches_outs (drop (i + 1) bs)) k s e
+      ∙ ap (λ (ls : List Branch). seek (branches_outs ls) k) (sym (left_here bs i b lt is))
+
+  pub steps_end : length bs ≤ i → Behind k ≡ seek (branches_outs (drop i bs)) k
+  steps_end past =
+      ap (λ (ls : List Branch). seek (branches_outs ls) k) (sym (drop_all i bs past))
+
+module _ (os : List Output) (i k : ℕ) where
+  pub output_turn : (o : Output) (s : Sought) → i < length os → o ≡ get_or os i o
+      → s ≡ seek (twig_outs (twig o)) k
+      → seek_on s (twigs_outs (map twig (drop (i + 1) os)))
+      ≡ seek (twigs_outs (map twig (drop i os))) k
+  output_turn o s lt is e =
+      seek_more (twig_outs (twig o)) (twigs_outs (map twig (drop (i + 1) os))) k s e
+      ∙ ap (λ (ls : List Output). seek (twigs_outs (map twig ls)) k)
+      (sym (left_here os i o lt is))
+
+  pub outputs_end : length os ≤ i → Behind k ≡ seek (twigs_outs (map twig (drop i os))) k
+  outputs_end past =
+      ap (λ (ls : List Output). seek (twigs_outs (map twig ls)) k) (sym (drop_all i os past))
+
+-- an output behind which the walk goes on among the steps on it
+pub twig_sought : (out : Option ℕ) (kids : List Branch) (k m : ℕ) (s : Sought)
+    → Behind m ≡ seek (out_list out) k → s ≡ seek (branches_outs kids) m
+    → s ≡ seek (out_list out ++ outs (grown kids)) k
+twig_sought out kids k m s e d =
+    d ∙ ap (λ (ns : List ℕ). seek ns m) (outs_grown kids)
+    ∙ seek_more (out_list out) (outs (grown kids)) k (Behind m) e
+
+-- ---- numbers that differ
+
+abbrev Apart : List ℕ → Type 0
+Apart [] = Unit {0}
+Apart (n ∷ ns) = (holds ns n ≡ false) × Apart ns
+
+or_true : (b : Bool) → (b || true) ≡ true
+or_true true = refl
+or_true false = refl
+
+holds_append : (xs ys : List ℕ) (j : ℕ) → holds (xs ++ ys) j ≡ (holds xs j || holds ys j)
+holds_append [] ys j = refl
+holds_append (x ∷ xs) ys j = by (eqb x j) (holds_append xs ys j)
+  where
+    by : (b : Bool) → holds (xs ++ ys) j ≡ (holds xs j || holds ys j)
+        → (b || holds (xs ++ ys) j) ≡ ((b || holds xs j) || holds ys j)
+    by true e = refl
+    by false e = e
+
+holds_out : (o : Option ℕ) (j : ℕ) → holds (out_list o) j ≡ true → is_out o j ≡ true
+holds_out None j h = h
+holds_out (Some i) j h = by (eqb i j) h
+  where
+    by : (b : Bool) → (b || false) ≡ true → b ≡ true
+    by true e = refl
+    by false e = e
+
+apart_append : (xs ys : List ℕ) → Apart xs → Apart ys
+    → ((j : ℕ) → holds xs j ≡ true → holds ys j ≡ false) → Apart (xs ++ ys)
+apart_append [] ys a b h = b
+apart_append (x ∷ xs) ys a b h = (
+  holds_append xs ys x
+      ∙ ap₂ (λ (c d : Bool). c || d) a.0
+      (h x (ap (λ (c : Bool). c || holds xs x) (eq-eqb x x refl))),
+  apart_append xs ys a.1 b
+      (λ j e. h j (ap (λ (c : Bool). eqb x j || c) e ∙ or_true (eqb x j))),
+)
+
+apart_out : (o : Option ℕ) → Apart (out_list o)
+apart_out None = tt
+apart_out (Some i) = (refl, tt)
+
+outs_apart : (f : Forest) → OutsDiffer f → Apart (outs f)
+outs_apart Bare d = tt
+outs_apart (Grow l kids rest) d =
+    apart_append (out_list l.out) (outs kids ++ outs rest) (apart_out l.out)
+    (apart_append (outs kids) (outs rest) (outs_apart kids d.2) (outs_apart rest d.3)
+    (λ j h. holds_outs rest j ∙ d.1 j (sym (holds_outs kids j) ∙ h)))
+    (λ j h. holds_append (outs kids) (outs rest) j
+    ∙ ap₂ (λ (c e : Bool). c || e) (holds_outs kids j) (holds_outs rest j)
+    ∙ d.0 j (holds_out l.out j h))
+
+-- ---- the k-th of numbers that differ
+
+record IsAt (ns : List ℕ) (k n : ℕ) : Type 0 where
+  among : holds ns n ≡ true
+  place : place_of ns n ≡ k
+
+kth_at : (ns : List ℕ) (k n : ℕ) → Apart ns → is_kth ns k n ≡ true → IsAt ns k n
+kth_at [] k n a h = absurd (false≢true h)
+kth_at (m ∷ ns) k n a h = by (eqb k 0) refl h (kth_at ns (k - 1) n a.1)
+  where
+    later : (b : Bool) → eqb m n ≡ b → eqb k 0 ≡ false → IsAt ns (k - 1) n
+        → IsAt (m ∷ ns) k n
+    later true i z r =
+        let e : m ≡ n = eqb-true m n i in
+        let no : holds ns n ≡ false = subst (λ (j : ℕ). holds ns j ≡ false) e a.0 in
+        absurd (false≢true (sym no ∙ r.among))
+    later false i z r =
+        let p : k ≢ 0 = eqb-false k 0 z in
+        let q : place_of ns n ≡ k - 1 = r.place in
+        let s : suc (place_of ns n) ≡ k = omega arith in
+        record {
+          among = ap (λ (c : Bool). c || holds ns n) i ∙ r.among;
+          place = ap (λ (c : Bool). cond c 0 (suc (place_of ns n))) i ∙ s;
+        }
+
+    by : (b : Bool) → eqb k 0 ≡ b → is_name n (cond b (Found m) (seek ns (k - 1))) ≡ true
+        → (is_kth ns (k - 1) n ≡ true → IsAt ns (k - 1) n) → IsAt (m ∷ ns) k n
+    by true z e f = record {
+      among = ap (λ (c : Bool). c || holds ns n) e;
+      place = ap (λ (c : Bool). cond c 0 (suc (place_of ns n))) e ∙ sym (eqb-true k 0 z);
+    }
+    by false z e f = later (eqb m n) refl z (f e)
+
+pub kth_is : (f : Forest) (k n : ℕ) → OutsDiffer f → is_kth (outs f) k n ≡ true
+    → (has_out n f ≡ true) × (number_in 0 f n ≡ k)
+kth_is f k n d h =
+    let there = kth_at (outs f) k n (outs_apart f d) h in
+    let a = number_place 0 f n in
+    let b : place_of (outs f) n ≡ k = there.place in
+    let e : number_in 0 f n ≡ k = omega arith in
+    (sym (holds_outs f n) ∙ there.among, e)

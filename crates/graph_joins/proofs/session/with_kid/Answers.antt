@@ -1,0 +1,62 @@
+use Rattle.std.proofs.Common.{◌<◌, rules, arith}
+use Rattle.exec_graph.specs.Meaning.{place}
+use Rattle.graph_states.specs.of_graph_rewrites.Rewrites.{forest_at, input_at}
+use Rattle.graph_joins.specs.declared.session.Joins.{Joins}
+use Rattle.graph_joins.proofs.Keeping.{kid_can, kid_made, kid_session, name_apart, outs_differ, reads_once, session_ascends}
+use Rattle.graph_joins.proofs.session.with_kid.Goals as goal
+
+pub count_off-requires : goal.count_off-requires
+count_off-requires c =
+    let j = c.args.joins in
+    let p = c.args.keeper in
+    let q = c.args.reader in
+    let r = c.requires.reads in
+    reads_once j p q (input_at j.graph p) (place c.args.name 0) (forest_at j.graph p)
+    (forest_at j.graph q) c.requires.session r.less r.keeper r.other (omega arith)
+
+pub hung-requires-clause-ascends : goal.hung-requires-clause-ascends
+hung-requires-clause-ascends c = session_ascends c.args.joins c.requires.session
+
+pub hung-requires-clause-differ : goal.hung-requires-clause-differ
+hung-requires-clause-differ c = λ e.
+    let lt : c.args.keeper < c.args.reader = c.requires.reads.less in omega arith
+
+pub hung-requires-clause-outs : goal.hung-requires-clause-outs
+hung-requires-clause-outs c =
+    outs_differ c.args.joins c.args.keeper c.args.output c.args.reader c.args.name
+    c.requires.session c.requires.reads
+
+pub hung-requires-clause-apart : goal.hung-requires-clause-apart
+hung-requires-clause-apart c =
+    name_apart c.args.joins c.args.keeper c.args.output c.args.reader c.args.name
+    c.requires.session c.requires.reads
+
+pub returns-clause-session : goal.returns-clause-session
+returns-clause-session c =
+    let k : Joins = record {
+      graph = c.in_ok-taken.taken;
+      counts = c.count_off.new.counts;
+    } in
+    kid_session c.args.joins k c.args.keeper c.args.output c.args.reader c.args.name _
+    c.requires.session c.requires.reads c.in_ok-taken.ensures c.in_ok-count_off.ensures
+    (search rules)
+
+pub returns-clause-can : goal.returns-clause-can
+returns-clause-can c =
+    let k : Joins = record {
+      graph = c.in_ok-taken.taken;
+      counts = c.count_off.new.counts;
+    } in
+    kid_can c.args.joins k c.args.keeper c.args.output c.args.reader c.args.name _
+    c.requires.session c.requires.reads c.in_ok-taken.ensures c.in_ok-count_off.ensures
+    (search rules)
+
+pub returns-clause-made : goal.returns-clause-made
+returns-clause-made c =
+    let k : Joins = record {
+      graph = c.in_ok-taken.taken;
+      counts = c.count_off.new.counts;
+    } in
+    kid_made c.args.joins k c.args.keeper c.args.output c.args.reader c.args.name _
+    c.requires.session c.requires.reads c.in_ok-taken.ensures c.in_ok-count_off.ensures
+    (search rules)

@@ -1,0 +1,4 @@
+pub mod Counts
+pub mod Sessions
+pub mod inner
+pub use Rattle.graph_states.specs.of_graph_names

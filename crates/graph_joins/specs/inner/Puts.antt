@@ -1,0 +1,42 @@
+-- The roots of a forest on the first output of a number, which is then dropped or not, step by step
+-- as they are held: where it is found, all behind it stays.
+use Rattle.std.specs.Prelude.{ℕ, Bool, ◌||◌, cond, List, [], ◌∷◌, Option, None}
+use Rattle.exec_graph.specs.Forests.{Forest, Bare, Grow, Branch, Twig, with_out}
+use Rattle.exec_graph.specs.Meaning.{has_out, is_out}
+use Rattle.graph_laws.specs.Joining.{beside}
+use Rattle.graph_walks.specs.inner.Plants.{on_branch, on_twig}
+
+-- the output j is kept, or not
+abbrev pub put_out : ℕ → Bool → Option ℕ → Option ℕ
+put_out j k o = cond (is_out o j) (cond k o None) o
+
+abbrev pub put_in : ℕ → Bool → Forest → Forest → Forest
+put_in j k g Bare = Bare
+put_in j k g (Grow l kids rest) =
+    Grow (with_out (put_out j k l.out) l)
+    (cond (is_out l.out j) (beside kids g) (put_in j k g kids))
+    (cond (is_out l.out j || has_out j kids) rest (put_in j k g rest))
+
+abbrev pub put_twig : ℕ → Bool → Forest → Twig → Twig
+put_twig j k g t = record {
+  out = put_out j k t.out;
+  kids = cond (is_out t.out j) (beside t.kids g) (put_in j k g t.kids);
+}
+
+abbrev pub put_twigs : ℕ → Bool → Forest → List Twig → List Twig
+put_twigs j k g [] = []
+put_twigs j k g (t ∷ ts) = put_twig j k g t ∷ cond (on_twig j t) ts (put_twigs j k g ts)
+
+abbrev pub put_branch : ℕ → Bool → Forest → Branch → Branch
+put_branch j k g b = record {
+  origin = b.origin;
+  last = b.last;
+  does = b.does;
+  first = put_twig j k g b.first;
+  more = cond (on_twig j b.first) b.more (put_twigs j k g b.more);
+}
+
+abbrev pub put_branches : ℕ → Bool → Forest → List Branch → List Branch
+put_branches j k g [] = []
+put_branches j k g (b ∷ bs) =
+    put_branch j k g b ∷ cond (on_branch j b) bs (put_branches j k g bs)

@@ -1,0 +1,19 @@
+//! Pdos of a graph become one, many of them one after another.
+//!
+//! `begin` tells a graph under names (graph_names), in which a sibling or a kid changes no place
+//! that others read (graph_states); `end` tells it without them. In between `is_pair` and
+//! `read_name` say whether two Pdos may become one, and `with_sibling` and `with_kid` make one of
+//! them: what comes of it, without names, is what the rewrite makes (specs/Sessions.antt). So a
+//! list of rewrites is made with one pass at its beginning and one at its end. A kid goes over the
+//! steps of its keeper; neither goes over the nodes.
+#![tactic(auto)]
+
+mod counts;
+mod finding;
+mod nodes;
+mod putting;
+mod seeking;
+mod session;
+mod taking;
+
+pub use session::{Joins, begin, end, is_pair, read_name, with_kid, with_sibling};

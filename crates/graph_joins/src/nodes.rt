@@ -1,0 +1,123 @@
+// A node is taken out, emptied, or another.
+ghost use Rattle.std.specs.Prelude.{◌≡◌, ◌<◌, length, slice_index_or, slice_set, Some};
+ghost use Rattle.std.specs.List.{remove};
+ghost use Rattle.exec_graph.specs.Forests.{Bare, grown};
+ghost use Rattle.exec_graph.specs.Meaning.{node_at};
+ghost use Rattle.exec_graph.specs.Wellformed.{Ascends};
+ghost use Rattle.exec_graph.specs.declared.graph.Entry.{Entry as GhostEntry};
+ghost use Rattle.exec_graph.specs.declared.graph.Node.TheVariants as node;
+ghost use Rattle.graph_laws.specs.Joining.{set_node, without};
+ghost use Rattle.flatten_sink.specs.of_sink_laws.Chain.{forest_of};
+
+use crate::finding::index_of;
+use exec_graph::{Entry, Node, Place, Roots, Step};
+use std::alloc::Global;
+use std::mem;
+
+/// The nodes with another in place of the one of that number.
+pub(crate) fn with_node(nodes: Vec<Entry>, number: u32, node: Node) -> Vec<Entry>
+    requires { Ascends nodes.items }
+    ensures { result.items ≡ set_node nodes.items number node }
+{
+    match index_of(nodes.as_slice(), number) {
+        Some(i) => with_entry(nodes, i, Entry { number, node }),
+        None => nodes,
+    }
+}
+
+fn with_entry(nodes: Vec<Entry>, at: usize, entry: Entry) -> Vec<Entry>
+    requires { at < length nodes.items }
+    ensures { result.items ≡ slice_set nodes.items at entry }
+{
+    let mut nodes = nodes;
+    nodes[at] = entry;
+    nodes
+}
+
+/// Nodes, and the steps of the Pdo that one of them was, or none.
+#[derive(Drop)]
+pub(crate) struct Opened {
+    pub(crate) nodes: Vec<Entry>,
+    pub(crate) steps: Vec<Step>,
+}
+
+/// The nodes without the one of that number.
+pub(crate) fn taken_out(alloc: Global, nodes: Vec<Entry>, number: u32) -> Opened
+    requires { Ascends nodes.items }
+    ensures nodes { result.nodes.items ≡ without nodes.items number }
+    ensures steps { grown result.steps.items ≡ forest_of (node_at nodes.items number) }
+{
+    match index_of(nodes.as_slice(), number) {
+        Some(i) => removed(alloc, nodes, i),
+        None => unopened(alloc, nodes),
+    }
+}
+
+/// The nodes with a Pdo without steps in place of the one of that number.
+pub(crate) fn emptied(alloc: Global, nodes: Vec<Entry>, number: u32, input: Place) -> Opened
+    requires { Ascends nodes.items }
+    ensures nodes { result.nodes.items ≡ set_node nodes.items number (node.Pdo input Bare) }
+    ensures steps { grown result.steps.items ≡ forest_of (node_at nodes.items number) }
+{
+    match index_of(nodes.as_slice(), number) {
+        Some(i) => {
+            let none = Roots::new(Vec::new(alloc));
+            let pdo = Node::Pdo { input, roots: none };
+            replaced(alloc, nodes, i, Entry { number, node: pdo })
+        }
+        None => unopened(alloc, nodes),
+    }
+}
+
+fn unopened(alloc: Global, nodes: Vec<Entry>) -> Opened
+    ensures nodes { result.nodes.items ≡ nodes.items }
+    ensures steps { grown result.steps.items ≡ Bare }
+{
+    Opened {
+        nodes,
+        steps: Vec::new(alloc),
+    }
+}
+
+fn removed(alloc: Global, nodes: Vec<Entry>, at: usize) -> Opened
+    requires { at < length nodes.items }
+    ensures nodes { result.nodes.items ≡ remove nodes.items at }
+    ensures steps { (d : GhostEntry) → grown result.steps.items
+        ≡ forest_of (Some (slice_index_or nodes.items at d).node) }
+{
+    let mut nodes = nodes;
+    let former = nodes.remove(at);
+    Opened {
+        nodes,
+        steps: steps_of(alloc, former.node),
+    }
+}
+
+fn replaced(alloc: Global, nodes: Vec<Entry>, at: usize, entry: Entry) -> Opened
+    requires { at < length nodes.items }
+    ensures nodes { result.nodes.items ≡ slice_set nodes.items at entry }
+    ensures steps { (d : GhostEntry) → grown result.steps.items
+        ≡ forest_of (Some (slice_index_or nodes.items at d).node) }
+{
+    let mut nodes = nodes;
+    let former = mem::replace(&mut nodes[at], entry);
+    Opened {
+        nodes,
+        steps: steps_of(alloc, former.node),
+    }
+}
+
+/// The steps of a Pdo, or none.
+fn steps_of(alloc: Global, node: Node) -> Vec<Step>
+    ensures { grown result.items ≡ forest_of (Some node) }
+{
+    match node {
+        Node::Pdo { roots, .. } => {
+            let Roots { steps } = roots;
+            steps
+        }
+        Node::Source(_) | Node::Flatten(_) | Node::Gbk { .. } | Node::Barrier { .. } => Vec::new(
+            alloc,
+        ),
+    }
+}

@@ -1,0 +1,167 @@
+// Pdos become one under names, one after another.
+ghost use Rattle.std.specs.Prelude.{◌≡◌, IfOk, IfSome, true};
+ghost use Rattle.exec_graph.specs.Meaning.{node_at};
+ghost use Rattle.exec_graph.specs.Wellformed.{Ascends, IsGraphOk};
+ghost use Rattle.graph_states.specs.of_graph_names.Names.{unnamed};
+ghost use Rattle.graph_states.specs.of_graph_rewrites.Rewrites as rewrites;
+ghost use Rattle.graph_joins.specs.Sessions as spec;
+ghost use Rattle.graph_joins.specs.inner.Tests as tests;
+
+use crate::counts::{count_at, count_off, counts_of};
+use crate::finding::{input_at, is_pdo_at, steps_at};
+use crate::seeking::is_output;
+use crate::taking::{hung, paired};
+use exec_graph::{Entry, Graph, Place};
+use graph_states::graph_names::{named, unnamed};
+use std::alloc::{AllocError, Global};
+use std::collections::HashMap;
+
+/// A graph under names, and how often each collection is read. In it Pdos become one without a
+/// change of what others read; numbers and places are told again at the end.
+#[derive(Drop)]
+pub struct Joins {
+    pub graph: Graph,
+    pub counts: HashMap<u64, u32>,
+}
+
+/// The graph under names. It takes time in proportion to the graph's size.
+pub fn begin(alloc: Global, graph: Graph) -> Result<Joins, AllocError>
+    requires { IsGraphOk graph }
+    ensures session { IfOk result (λ j. spec.IsSession j) }
+    ensures same { IfOk result (λ j. unnamed j.graph ≡ graph) }
+{
+    let under = named(alloc, graph)?;
+    let counts = counts_of(alloc, &under)?;
+    Ok(Joins {
+        graph: under,
+        counts,
+    })
+}
+
+/// The graph without names. It takes time in proportion to the graph's size.
+pub fn end(alloc: Global, joins: Joins) -> Result<Graph, AllocError>
+    ensures { IfOk result (λ g. g ≡ unnamed joins.graph) }
+{
+    let Joins { graph, counts: _ } = joins;
+    unnamed(alloc, graph)
+}
+
+/// Whether both are Pdos that read one collection, and the other has the greater number.
+pub fn is_pair(joins: &Joins, keeper: u32, other: u32) -> bool
+    requires { spec.IsSession joins.now }
+    ensures { result ≡ true → spec.ArePair joins.now.graph keeper other }
+{
+    pairs(joins.graph.nodes.as_slice(), keeper, other)
+}
+
+/// The roots of the Pdo `other` follow those of `keeper`, which reads the same.
+pub fn with_sibling(
+    alloc: Global,
+    joins: Joins,
+    keeper: u32,
+    other: u32,
+) -> Result<Joins, AllocError>
+    requires session { spec.IsSession joins }
+    requires pair { spec.ArePair joins.graph keeper other }
+    ensures session { IfOk result (λ j. spec.IsSession j) }
+    ensures can { IfOk result (λ j.
+        rewrites.CanBeSibling (unnamed joins.graph) keeper other) }
+    ensures made { IfOk result (λ j. unnamed j.graph
+        ≡ rewrites.after_sibling (unnamed joins.graph) keeper other) }
+{
+    let Joins { graph, mut counts } = joins;
+    let input = input_at(graph.nodes.as_slice(), keeper);
+    let _out = input.out;
+    count_off(input, &mut counts)?;
+    let taken = paired(alloc, graph, keeper, other)?;
+    Ok(Joins {
+        graph: taken,
+        counts,
+    })
+}
+
+/// The name of that output of `keeper`, if `reader` is a Pdo of greater number that reads it.
+pub fn read_name(joins: &Joins, keeper: u32, output: u32, reader: u32) -> Option<u32>
+    requires { spec.IsSession joins.now }
+    ensures { IfSome result (λ n. spec.IsReader joins.now.graph keeper output reader n) }
+{
+    let nodes = joins.graph.nodes.as_slice();
+    let read = input_at(nodes, reader);
+    if !reads(nodes, keeper, reader, read) {
+        return None;
+    }
+    if is_output(steps_at(nodes, keeper), output, read.node) {
+        Some(read.node)
+    } else {
+        None
+    }
+}
+
+/// The roots of the Pdo `reader` become the last kids of that output of `keeper`, which it reads.
+pub fn with_kid(
+    alloc: Global,
+    joins: Joins,
+    keeper: u32,
+    output: u32,
+    reader: u32,
+    name: u32,
+) -> Result<Joins, AllocError>
+    requires session { spec.IsSession joins }
+    requires reads { spec.IsReader joins.graph keeper output reader name }
+    ensures session { IfOk result (λ j. spec.IsSession j) }
+    ensures can { IfOk result (λ j.
+        rewrites.CanBeKid (unnamed joins.graph) keeper output reader) }
+    ensures made { IfOk result (λ j. unnamed j.graph
+        ≡ rewrites.after_kid (unnamed joins.graph) keeper output reader) }
+{
+    let Joins { graph, mut counts } = joins;
+    let read = Place { node: name, out: 0 };
+    count_off(read, &mut counts)?;
+    let keep = 0 < count_at(&counts, read);
+    let taken = hung(alloc, graph, keeper, reader, name, keep)?;
+    Ok(Joins {
+        graph: taken,
+        counts,
+    })
+}
+
+// ---- tests
+
+fn pairs(nodes: &[Entry], keeper: u32, other: u32) -> bool
+    requires { Ascends nodes.now }
+    ensures { result ≡ tests.pairs nodes.now keeper other }
+{
+    if keeper >= other {
+        return false;
+    }
+    if !is_pdo_at(nodes, keeper) {
+        return false;
+    }
+    calls_at(nodes, other, input_at(nodes, keeper))
+}
+
+/// Whether the node of that number is a Pdo that reads the collection.
+fn calls_at(nodes: &[Entry], number: u32, c: Place) -> bool
+    requires { Ascends nodes.now }
+    ensures { result ≡ tests.calls_at c (node_at nodes.now number) }
+{
+    if !is_pdo_at(nodes, number) {
+        return false;
+    }
+    let input = input_at(nodes, number);
+    c.node == input.node && c.out == input.out
+}
+
+/// Whether both are Pdos, and the reader has the greater number and reads a name.
+fn reads(nodes: &[Entry], keeper: u32, reader: u32, read: Place) -> bool
+    requires { Ascends nodes.now }
+    ensures { result ≡ tests.reads nodes.now keeper reader read }
+{
+    if keeper >= reader {
+        return false;
+    }
+    if read.out != 0 {
+        return false;
+    }
+    is_pdo_at(nodes, keeper) && is_pdo_at(nodes, reader)
+}

@@ -1,0 +1,62 @@
+-- What is read is told by a rule, and by another that gives the same.
+use Rattle.std.proofs.Common.{◌≡◌, ℕ, List, [], ◌∷◌, map, refl, ap, ap₂, ◌∙◌}
+use Rattle.exec_graph.specs.declared.graph.Entry.{Entry}
+use Rattle.exec_graph.specs.declared.graph.Graph.{Graph}
+use Rattle.exec_graph.specs.declared.graph.Node.{Node}
+use Rattle.exec_graph.specs.declared.graph.Node.TheVariants.{Source, Flatten, Pdo, Gbk, Barrier}
+use Rattle.exec_graph.specs.declared.graph.Place.{Place}
+use Rattle.exec_graph.proofs.Entries.{entry}
+use Rattle.graph_laws.specs.Joining.{reread, reread_entry}
+use Rattle.pardo_fuse.specs.SingleFusing.{new_place}
+use Rattle.graph_names.specs.Names.{named, named_place, unnamed}
+use Rattle.graph_names.specs.inner.Nodes.{moved_by, under_names, under_numbers}
+
+places_same : (r s : Place → Place) → ((c : Place) → r c ≡ s c) → (cs : List Place)
+    → map r cs ≡ map s cs
+places_same r s e [] = refl
+places_same r s e (c ∷ cs) =
+    ap₂ (λ (d : Place) (ds : List Place). d ∷ ds) (e c) (places_same r s e cs)
+
+reread_same : (r s : Place → Place) → ((c : Place) → r c ≡ s c) → (x : Node)
+    → reread r x ≡ reread s x
+reread_same r s e (Source i) = refl
+reread_same r s e (Flatten ins) = ap (λ (ds : List Place). Flatten ds) (places_same r s e ins)
+reread_same r s e (Pdo c f) = ap (λ (d : Place). Pdo d f) (e c)
+reread_same r s e (Gbk c o l k) = ap (λ (d : Place). Gbk d o l k) (e c)
+reread_same r s e (Barrier ins o l a) =
+    ap (λ (ds : List Place). Barrier ds o l a) (places_same r s e ins)
+
+-- nodes that are changed before they are told by the rule
+nodes_moved : (r s : Place → Place) → ((c : Place) → r c ≡ s c) → (k : Entry → Entry)
+    → (es : List Entry) → map (reread_entry r) (map k es) ≡ map (λ e. reread_entry s (k e)) es
+nodes_moved r s e k [] = refl
+nodes_moved r s e k (d ∷ ds) =
+    ap₂ (λ (x : Node) (l : List Entry). entry (k d).number x ∷ l) (reread_same r s e (k d).node)
+    (nodes_moved r s e k ds)
+
+abbrev graph_of : List Entry → List Place → ℕ → Graph
+graph_of es cs n = record { nodes = es; outputs = cs; next = n }
+
+pub named_moved : (g : Graph) (r : Place → Place)
+    → ((c : Place) → r c ≡ named_place g.nodes g.next c)
+    → moved_by r (record {
+      nodes = map (under_names g.next) g.nodes;
+      outputs = g.outputs;
+      next = g.next;
+    }) ≡ named g
+named_moved g r e =
+    ap₂ (λ (es : List Entry) (cs : List Place). graph_of es cs g.next)
+    (nodes_moved r (named_place g.nodes g.next) e (under_names g.next) g.nodes)
+    (places_same r (named_place g.nodes g.next) e g.outputs)
+
+pub unnamed_moved : (h : Graph) (r : Place → Place)
+    → ((c : Place) → r c ≡ new_place h.nodes c)
+    → moved_by r (record {
+      nodes = map under_numbers h.nodes;
+      outputs = h.outputs;
+      next = h.next;
+    }) ≡ unnamed h
+unnamed_moved h r e =
+    ap₂ (λ (es : List Entry) (cs : List Place). graph_of es cs h.next)
+    (nodes_moved r (new_place h.nodes) e under_numbers h.nodes)
+    (places_same r (new_place h.nodes) e h.outputs)

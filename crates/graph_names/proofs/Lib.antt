@@ -1,0 +1,4 @@
+mod Unchanged
+mod KindLemmas
+pub mod SpotLemmas
+mod GraphLemmas

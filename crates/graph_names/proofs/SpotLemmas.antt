@@ -1,0 +1,67 @@
+-- A name is where its output has its place among those of the forest.
+use Rattle.std.proofs.Common.{◌≡◌, ℕ, suc, ◌+◌, Bool, true, false, cond, eqb, ◌||◌, List, [], ◌∷◌, ◌++◌, Option, Some, None, refl, sym, ap, ap₂, ◌∙◌, arith}
+use Rattle.std.specs.List.{list_any}
+use Rattle.exec_graph.specs.Forests.{Forest, Bare, Grow}
+use Rattle.exec_graph.specs.Meaning.{has_out, is_out, place}
+use Rattle.exec_graph.specs.declared.graph.Node.{Node}
+use Rattle.exec_graph.specs.declared.graph.Node.TheVariants.{Pdo}
+use Rattle.exec_graph.specs.declared.graph.Place.{Place}
+use Rattle.graph_laws.specs.Kids.{number_in}
+use Rattle.graph_walks.specs.Outs.{out_list, outs, place_of}
+use Rattle.graph_walks.proofs.Places.{holds, number_place}
+use Rattle.graph_names.specs.inner.Spots.{spot_from, spot_in}
+
+holds_append : (xs ys : List ℕ) (j : ℕ) → holds (xs ++ ys) j ≡ (holds xs j || holds ys j)
+holds_append [] ys j = refl
+holds_append (x ∷ xs) ys j = by (eqb x j) (holds_append xs ys j)
+  where
+    by : (b : Bool) → holds (xs ++ ys) j ≡ (holds xs j || holds ys j)
+        → (b || holds (xs ++ ys) j) ≡ ((b || holds xs j) || holds ys j)
+    by true e = refl
+    by false e = e
+
+holds_out : (o : Option ℕ) (j : ℕ) → holds (out_list o) j ≡ is_out o j
+holds_out None j = refl
+holds_out (Some i) j = by (eqb i j)
+  where
+    by : (b : Bool) → (b || false) ≡ b
+    by true = refl
+    by false = refl
+
+pub holds_outs : (f : Forest) (j : ℕ) → holds (outs f) j ≡ has_out j f
+holds_outs Bare j = refl
+holds_outs (Grow l kids rest) j =
+    holds_append (out_list l.out) (outs kids ++ outs rest) j
+    ∙ ap (λ b. b || holds (outs kids ++ outs rest) j) (holds_out l.out j)
+    ∙ ap (λ b. is_out l.out j || b) (holds_append (outs kids) (outs rest) j
+    ∙ ap (λ b. b || holds (outs rest) j) (holds_outs kids j)
+    ∙ ap (λ b. has_out j kids || b) (holds_outs rest j))
+
+spot_place : (k s : ℕ) (xs : List ℕ) (n : ℕ)
+    → spot_from k s xs n ≡ cond (holds xs n) (Some (place k (s + place_of xs n))) None
+spot_place k s [] n = refl
+spot_place k s (x ∷ xs) n = by (eqb x n) (holds xs n) (spot_place k (s + 1) xs n)
+  where
+    by : (a b : Bool)
+        → spot_from k (s + 1) xs n ≡ cond b (Some (place k (s + 1 + place_of xs n))) None
+        → cond a (Some (place k s)) (spot_from k (s + 1) xs n)
+        ≡ cond (a || b) (Some (place k (s + cond a 0 (suc (place_of xs n))))) None
+    by true b e =
+        let z : s ≡ s + 0 = omega arith in ap (λ (m : ℕ). Some (place k m)) z
+    by false true e =
+        let z : s + 1 + place_of xs n ≡ s + suc (place_of xs n) = omega arith in
+        e ∙ ap (λ (m : ℕ). Some (place k m)) z
+    by false false e = e
+
+spot_outs : (k : ℕ) (f : Forest) (n : ℕ)
+    → spot_from k 0 (outs f) n ≡ cond (has_out n f) (Some (place k (number_in 0 f n))) None
+spot_outs k f n =
+    spot_place k 0 (outs f) n
+    ∙ ap₂ (λ (b : Bool) (m : ℕ). cond b (Some (place k m)) None) (holds_outs f n)
+    (sym (number_place 0 f n))
+
+pub spot_node : (k : ℕ) (x : Node) (c : Place) (f : Forest) (ns : List ℕ) (n : ℕ)
+    → x ≡ Pdo c f → ns ≡ outs f → spot_from k 0 ns n ≡ spot_in k x n
+spot_node k x c f ns n e o =
+    ap (λ (l : List ℕ). spot_from k 0 l n) o ∙ spot_outs k f n
+    ∙ ap (λ (y : Node). spot_in k y n) (sym e)

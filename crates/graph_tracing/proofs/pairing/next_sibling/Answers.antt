@@ -1,0 +1,51 @@
+use Rattle.std.proofs.Common.{List, sym, ap, subst, ◌∙◌}
+use Rattle.exec_graph.specs.Wellformed.{Ascends}
+use Rattle.exec_graph.specs.declared.graph.Entry.{Entry}
+use Rattle.graph_joins.proofs.Keeping.{session_ascends}
+use Rattle.graph_tracing.specs.inner.Callers.{keeper_in}
+use Rattle.graph_tracing.specs.inner.Named.{trace_of}
+use Rattle.graph_tracing.proofs.Keepers.{keeper_none, keeper_some}
+use Rattle.graph_tracing.proofs.Siblings.{sibling_goes, sibling_left, sibling_taken}
+use Rattle.graph_tracing.proofs.Under.{pair_back}
+use Rattle.graph_tracing.proofs.pairing.next_sibling.Goals as goal
+
+pub keeper_of-requires : goal.keeper_of-requires
+keeper_of-requires c =
+    subst Ascends (sym c.as_slice.ensures) (session_ascends c.args.trace.joins c.requires)
+
+pub after_sibling-requires-clause-pair : goal.after_sibling-requires-clause-pair
+after_sibling-requires-clause-pair c =
+    let k = keeper_some c.args.trace.joins.graph c.args.number c.in-Some.keeper
+    (session_ascends c.args.trace.joins c.requires)
+    (ap (λ (l : List Entry). keeper_in l c.args.number) (sym c.as_slice.ensures)
+    ∙ sym c.keeper_of.ensures ∙ c.in-Some.is) in
+    record { less = k.0; can = k.1 }
+
+pub returns-in_ok-next-in-Some-clause-traced : goal.returns-in_ok-next-in-Some-clause-traced
+returns-in_ok-next-in-Some-clause-traced c =
+    let k = keeper_some c.args.trace.joins.graph c.args.number c.in-Some.keeper
+    (session_ascends c.args.trace.joins c.requires)
+    (ap (λ (l : List Entry). keeper_in l c.args.number) (sym c.as_slice.ensures)
+    ∙ sym c.keeper_of.ensures ∙ c.in-Some.is) in
+    sibling_goes (trace_of c.args.trace) (trace_of c.in_ok-next-in-Some.next) c.in-Some.keeper
+    c.args.number k.0 c.in_ok-next-in-Some.ensures.can c.in_ok-next-in-Some.ensures.graph
+    c.in_ok-next-in-Some.ensures.rewrites
+
+pub returns-in_ok-next-in-Some-clause-whole : goal.returns-in_ok-next-in-Some-clause-whole
+returns-in_ok-next-in-Some-clause-whole c = λ m f ns all apart u.
+    let k = keeper_some c.args.trace.joins.graph c.args.number c.in-Some.keeper
+    (session_ascends c.args.trace.joins c.requires)
+    (ap (λ (l : List Entry). keeper_in l c.args.number) (sym c.as_slice.ensures)
+    ∙ sym c.keeper_of.ensures ∙ c.in-Some.is) in
+    sibling_taken (trace_of c.args.trace) (trace_of c.in_ok-next-in-Some.next) m
+    c.in-Some.keeper c.args.number ns all f c.in_ok-next-in-Some.ensures.can k.0 apart
+    c.in_ok-next-in-Some.ensures.graph c.in_ok-next-in-Some.ensures.rewrites u
+
+pub returns-in-None-clause-whole : goal.returns-in-None-clause-whole
+returns-in-None-clause-whole c = λ m f ns all apart u.
+    sibling_left f (trace_of c.args.trace) m c.args.number ns all
+    (λ p less can. keeper_none c.args.trace.joins.graph c.args.number p
+    (session_ascends c.args.trace.joins c.requires)
+    (ap (λ (l : List Entry). keeper_in l c.args.number) (sym c.as_slice.ensures)
+    ∙ sym c.keeper_of.ensures ∙ c.in-None.is) less
+    (pair_back c.args.trace.joins.graph p c.args.number c.requires.stands can)) u

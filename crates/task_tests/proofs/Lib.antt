@@ -1,3 +1,0 @@
-pub mod Reducing
-pub mod HandMade
-pub mod Working
