@@ -1,3 +1,5 @@
+pub mod CrossLemmas
 pub mod Numbering
 pub mod Ordering
 pub mod Pairing
+pub mod Siding

@@ -6,15 +6,16 @@ ghost use Rattle.bag_groups.specs.Pairs.{IsPair, pair as pair_of};
 ghost use Rattle.bag_groups.specs.Groups.{grouped};
 ghost use Rattle.bag_groups.specs.inner.Runs.{IsLastRun, held_by};
 
+use crate::couple::Couple;
 use crate::sorting::ascending;
-use bag_groups::{key, pair, value};
+use bag_groups::pair;
 use flume_value::{Items, Pile, Value, equals};
 use std::alloc::{AllocError, Global};
 
 /// One pair for each key of the pairs that are referred to, keys ascending: the key and the list
 /// of its values, ascending. It sorts the references, each beside the number of its pair's key, and
 /// copies each value once and one key of each run.
-pub fn group_numbered(alloc: Global, pairs: Vec<&Value>) -> Result<Vec<Value>, AllocError>
+pub fn group_numbered(alloc: Global, pairs: Vec<&Couple>) -> Result<Vec<Value>, AllocError>
     requires { All (λ pair. IsPair pair.now) pairs.items }
     ensures groups { IfOk result (λ groups.
         groups.items ≡ grouped (map (λ pair. pair.now) pairs.entry.items)) }
@@ -23,7 +24,7 @@ pub fn group_numbered(alloc: Global, pairs: Vec<&Value>) -> Result<Vec<Value>, A
     let mut left = ascending(alloc, pairs)?;
     let mut groups = Vec::new(alloc);
     'runs: while !left.is_empty() {
-        let last = key(left[left.len() - 1]);
+        let last = left[left.len() - 1].key();
         let start = run_start(last, &left);
         groups.push(group_of_run(alloc, last, &left[start..])?)?;
         left.truncate(start);
@@ -33,19 +34,19 @@ pub fn group_numbered(alloc: Global, pairs: Vec<&Value>) -> Result<Vec<Value>, A
 }
 
 /// Where the pairs of this key begin, which stand at the end.
-fn run_start(wanted: &Value, pairs: &[&Value]) -> usize
+fn run_start(wanted: &Value, pairs: &[&Couple]) -> usize
     requires { All (λ pair. IsPair pair.now) pairs.now }
     ensures { IsLastRun (Some wanted.now) (map (λ pair. pair.now) pairs.now) result }
 {
     let mut start = pairs.len();
-    while start > 0 && equals(key(pairs[start - 1]), wanted) {
+    while start > 0 && equals(pairs[start - 1].key(), wanted) {
         start -= 1;
     }
     start
 }
 
 /// The pair of a key and the list of the values of its pairs.
-fn group_of_run(alloc: Global, key: &Value, run: &[&Value]) -> Result<Value, AllocError>
+fn group_of_run(alloc: Global, key: &Value, run: &[&Couple]) -> Result<Value, AllocError>
     requires { All (λ pair. IsPair pair.now) run.now }
     ensures { IfOk result (λ group. group
         ≡ pair_of key.now (Value.List (held_by (map (λ pair. pair.now) run.now)))) }
@@ -55,13 +56,13 @@ fn group_of_run(alloc: Global, key: &Value, run: &[&Value]) -> Result<Value, All
 }
 
 /// Copies of the values of these pairs.
-fn values_of(alloc: Global, pairs: &[&Value]) -> Result<Items, AllocError>
+fn values_of(alloc: Global, pairs: &[&Couple]) -> Result<Items, AllocError>
     requires { All (λ pair. IsPair pair.now) pairs.now }
     ensures { IfOk result (λ values. values ≡ held_by (map (λ pair. pair.now) pairs.now)) }
 {
     let mut values = Vec::with_capacity(alloc, pairs.len())?;
     for pair in pairs {
-        values.push(value(pair).copy(alloc)?)?;
+        values.push(pair.copy_value(alloc)?)?;
     }
     Ok(Pile::from_vec(values))
 }

@@ -5,14 +5,20 @@
 //! behind it the first bits of an int or of a text (`key_number`). It never contradicts the order
 //! of values (`number_law`), so the keys themselves are looked at only where two numbers are equal.
 //!
-//! `group_numbered` sorts pairs so, and gives the very groups of bag_groups.
+//! A pair that is kept until it is grouped is a `Couple`: its key and its value stand in it, and in
+//! no record of their own, and a value that is a side of an either stands there without its box.
+//!
+//! `group_numbered` sorts couples so, and gives the very groups of bag_groups.
 #![tactic(auto)]
 
+mod couple;
 mod groups;
 mod laws;
 mod numbers;
+mod sides;
 mod sorting;
 
+pub use couple::Couple;
 pub use groups::group_numbered;
 pub use laws::number_law;
 pub use numbers::key_number;

@@ -4,16 +4,15 @@ ghost use Rattle.flume_value.specs.Bag.{bag_of};
 ghost use Rattle.bag_groups.specs.Pairs.{IsPair};
 ghost use Rattle.key_order.specs.inner.Numbered.{IsNumbered};
 
+use crate::couple::Couple;
 use crate::numbers::key_number;
-use bag_groups::key;
-use flume_value::Value;
 use std::alloc::{AllocError, Global};
 
 /// References to the pairs, in ascending order.
 pub(crate) fn ascending<'a>(
     alloc: Global,
-    pairs: Vec<&'a Value>,
-) -> Result<Vec<&'a Value>, AllocError>
+    pairs: Vec<&'a Couple>,
+) -> Result<Vec<&'a Couple>, AllocError>
     requires { All (λ pair. IsPair pair.now) pairs.items }
     ensures { IfOk result (λ all. map (λ pair. pair.now) all.items
         ≡ bag_of (map (λ pair. pair.now) pairs.entry.items)) }
@@ -25,7 +24,10 @@ pub(crate) fn ascending<'a>(
 }
 
 /// Each pair behind the number of its key.
-fn with_numbers<'a>(alloc: Global, pairs: &[&'a Value]) -> Result<Vec<(u64, &'a Value)>, AllocError>
+fn with_numbers<'a>(
+    alloc: Global,
+    pairs: &[&'a Couple],
+) -> Result<Vec<(u64, &'a Couple)>, AllocError>
     requires { All (λ pair. IsPair pair.now) pairs.now }
     ensures pairs { IfOk result (λ all.
         map (λ each. each.1.now) all.items ≡ map (λ pair. pair.now) pairs.now) }
@@ -33,7 +35,7 @@ fn with_numbers<'a>(alloc: Global, pairs: &[&'a Value]) -> Result<Vec<(u64, &'a 
 {
     let mut all = Vec::with_capacity(alloc, pairs.len())?;
     for pair in pairs {
-        all.push((key_number(key(pair)), *pair))?;
+        all.push((key_number(pair.key()), *pair))?;
     }
     Ok(all)
 }
@@ -41,8 +43,8 @@ fn with_numbers<'a>(alloc: Global, pairs: &[&'a Value]) -> Result<Vec<(u64, &'a 
 /// The pairs alone, as they stand.
 fn without_numbers<'a>(
     alloc: Global,
-    numbered: &[(u64, &'a Value)],
-) -> Result<Vec<&'a Value>, AllocError>
+    numbered: &[(u64, &'a Couple)],
+) -> Result<Vec<&'a Couple>, AllocError>
     ensures { IfOk result (λ all.
         map (λ pair. pair.now) all.items ≡ map (λ each. each.1.now) numbered.now) }
 {

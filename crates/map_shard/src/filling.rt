@@ -8,6 +8,7 @@ ghost use Rattle.map_shard.specs.inner.Sending.{IsSendable};
 use combine_table::Comb;
 use exec_plan::OutChannel;
 use flume_value::{Items, Pile, Value};
+use key_order::Couple;
 use partial_tables::Lifting;
 use shuffle_parts::{Sent, finish_each, lift_more, no_pairs, none_lifted, part_more};
 use std::alloc::{AllocError, Global};
@@ -18,7 +19,7 @@ pub(crate) enum Filling {
     /// The values that pass through the channel.
     Passed(Items),
     /// For each partition the pairs whose keys fall in it.
-    Grouped(Vec<Items>),
+    Grouped(Vec<Pile<Couple>>),
     /// For each partition the accumulators into which its pairs were put.
     Combined(Vec<Lifting>),
 }

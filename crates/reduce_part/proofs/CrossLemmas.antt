@@ -4,6 +4,7 @@ use denote.Ref.{NamedLft}
 use denote.Param.Send.{IsSync, sendable}
 use Rattle.std.proofs.Crossing.{crosses}
 use Rattle.flume_value.proofs.CrossLemmas.{values_cross}
+use Rattle.key_order.proofs.CrossLemmas.{Couple-sync}
 use Rattle.shuffle_parts.specs.contracts.out.Sent as sent
 use Rattle.shuffle_parts.specs.contracts.out.MapOut as map_out
 use Rattle.forest_steps.specs.declared.functions.Functions.{Ghosts}
@@ -11,7 +12,7 @@ use Rattle.forest_run.proofs.CrossLemmas.{Mscr-sync}
 use Rattle.reduce_part.specs.contracts.tasks.ReduceTasks as tasks
 
 Sent-sync : IsSync sent.the_row
-Sent-sync = search (sendable, crosses, values_cross) depth 60
+Sent-sync = search (sendable, crosses, values_cross, Couple-sync) depth 60
 
 pub MapOut-sync : IsSync map_out.the_row
 MapOut-sync = search (sendable, crosses, values_cross, Sent-sync) depth 60

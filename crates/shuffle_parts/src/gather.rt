@@ -3,7 +3,8 @@ ghost use Rattle.std.specs.Prelude.{◌≡◌, ◌++◌, IfOk, IsSome, OnOk, Som
 ghost use Rattle.shuffle_parts.specs.Outs.{all_pairs, all_partials, pairs_at, pairs_in, partials_at, partials_in};
 
 use crate::out::{MapOut, Sent};
-use flume_value::{Pile, Value};
+use flume_value::Pile;
+use key_order::Couple;
 use partial_tables::Partial;
 use std::alloc::{AllocError, Global};
 
@@ -14,7 +15,7 @@ pub fn gather_pairs<'a>(
     outs: &'a [MapOut],
     channel: usize,
     partition: usize,
-) -> Result<Vec<&'a Value>, AllocError>
+) -> Result<Vec<&'a Couple>, AllocError>
     requires { IsSome (all_pairs outs.now channel partition) }
     ensures { IfOk result (λ all.
         all_pairs outs.now channel partition ≡ Some (map (λ pair. pair.now) all.items)) }
@@ -45,7 +46,7 @@ pub fn gather_partials<'a>(
     Ok(all)
 }
 
-fn pairs_at(out: &MapOut, channel: usize, partition: usize) -> &[Value]
+fn pairs_at(out: &MapOut, channel: usize, partition: usize) -> &[Couple]
     requires { IsSome (pairs_at channel partition out.now) }
     ensures { pairs_at channel partition out.now ≡ Some result.now }
 {
@@ -55,7 +56,7 @@ fn pairs_at(out: &MapOut, channel: usize, partition: usize) -> &[Value]
     }
 }
 
-fn pairs_in(sent: &Sent, partition: usize) -> &[Value]
+fn pairs_in(sent: &Sent, partition: usize) -> &[Couple]
     requires { IsSome (pairs_in partition sent.now) }
     ensures { pairs_in partition sent.now ≡ Some result.now }
 {

@@ -1,5 +1,6 @@
 // What a map task gives to the output channels of its stage.
 use flume_value::{Items, Pile};
+use key_order::Couple;
 use partial_tables::Partial;
 
 /// What a map task gives an output channel of its stage.
@@ -8,7 +9,7 @@ pub enum Sent {
     /// The values that pass through the channel.
     Passed(Items),
     /// For each partition the pairs whose keys fall in it.
-    Grouped(Pile<Items>),
+    Grouped(Pile<Pile<Couple>>),
     /// For each partition accumulators that stand for its pairs.
     Combined(Pile<Pile<Partial>>),
 }

@@ -5,11 +5,17 @@ ghost use Rattle.bag_groups.specs.Pairs.{IsPair};
 ghost use Rattle.shuffle_parts.specs.Partitions.{parted};
 
 use bag_groups::key;
-use flume_value::{Items, Pile, Value, partition};
+use flume_value::{Pile, Value, partition};
+use key_order::Couple;
 use std::alloc::{AllocError, Global};
 
-/// The pairs by the partition of their keys. It moves each pair into its partition.
-pub fn part(alloc: Global, pairs: Vec<Value>, partitions: u32) -> Result<Pile<Items>, AllocError>
+/// The pairs by the partition of their keys. It moves each pair into its partition, and lets its
+/// record go.
+pub fn part(
+    alloc: Global,
+    pairs: Vec<Value>,
+    partitions: u32,
+) -> Result<Pile<Pile<Couple>>, AllocError>
     requires some { 0 < partitions }
     requires pairs { All IsPair pairs.items }
     ensures { IfOk result (λ parts. parts ≡ parted partitions pairs.items) }
@@ -20,7 +26,7 @@ pub fn part(alloc: Global, pairs: Vec<Value>, partitions: u32) -> Result<Pile<It
 }
 
 /// So many empty lists, which are those of no pairs.
-pub fn no_pairs(alloc: Global, partitions: u32) -> Result<Vec<Items>, AllocError>
+pub fn no_pairs(alloc: Global, partitions: u32) -> Result<Vec<Pile<Couple>>, AllocError>
     ensures { IfOk result (λ parts. parts.items ≡ parted partitions []) }
 {
     let mut parts = Vec::new(alloc);
@@ -30,12 +36,13 @@ pub fn no_pairs(alloc: Global, partitions: u32) -> Result<Vec<Items>, AllocError
     Ok(parts)
 }
 
-/// The pairs that were parted, and more behind them. It moves each pair into its partition.
+/// The pairs that were parted, and more behind them. It moves each pair into its partition, and
+/// lets its record go.
 pub fn part_more(
-    mut parts: Vec<Items>,
+    mut parts: Vec<Pile<Couple>>,
     pairs: Vec<Value>,
     partitions: u32,
-) -> Result<Vec<Items>, AllocError>
+) -> Result<Vec<Pile<Couple>>, AllocError>
     requires some { 0 < partitions }
     requires stands { (done : List GhostValue) × (parts.items ≡ parted partitions done) }
     requires pairs { All IsPair pairs.items }
@@ -44,7 +51,7 @@ pub fn part_more(
 {
     for pair in pairs {
         let at = partition(key(&pair), partitions);
-        parts[at as usize].push(pair)?;
+        parts[at as usize].push(Couple::new(pair))?;
     }
     Ok(parts)
 }

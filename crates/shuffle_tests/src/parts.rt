@@ -7,6 +7,7 @@ ghost use Rattle.shuffle_parts.specs.Outs.{all_pairs, all_partials, pairs_at, pa
 use bag_groups::pair;
 use combine_table::Comb;
 use flume_value::{Pile, Value, partition};
+use key_order::Couple;
 use partial_tables::lift_borrowed;
 use shuffle_parts::{MapOut, Sent, combine_pairs, gather_pairs, gather_partials, part};
 use std::alloc::{AllocError, Global};
@@ -59,14 +60,17 @@ fn two_tasks(alloc: Global) -> Result<Vec<MapOut>, AllocError>
 // Whether the pair of these ints stands at that place.
 fn stands(
     alloc: Global,
-    pairs: &[&Value],
+    pairs: &[&Couple],
     place: usize,
     key: i64,
     value: i64,
 ) -> Result<bool, AllocError> {
-    let wanted = ints(alloc, key, value)?;
     match pairs.get(place) {
-        Some(pair) => Ok(**pair == wanted),
+        Some(pair) => {
+            let held = pair.copy_value(alloc)?;
+            let (key, value) = (Value::Int(key), Value::Int(value));
+            Ok(*pair.key() == key && held == value)
+        }
         None => Ok(false),
     }
 }

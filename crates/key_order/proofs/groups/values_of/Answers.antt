@@ -1,10 +1,8 @@
-use Rattle.std.proofs.Common.{Some, ◌∙◌, sym, ap}
 use Rattle.bag_groups.proofs.LastRuns.{held_more}
 use Rattle.key_order.proofs.groups.values_of.Goals as goal
 
 pub loop-pair-preserved : goal.loop-pair-preserved
 loop-pair-preserved c =
-    held_more c.args.pairs.now c.loop-pair.pair-index c.pair-item.result c.in_ok-copy.field-0
+    held_more c.args.pairs.now c.loop-pair.pair-index c.pair-item.result c.in_ok-copy_value.field-0
     c.loop-pair.values.items c.push.new.self.items c.loop-pair-test.true c.pair-item.is
-    (c.value.ensures ∙ ap Some (sym c.in_ok-copy.ensures)) c.loop-pair.invariant
-    c.in_ok-push.ensures.items
+    c.in_ok-copy_value.ensures c.loop-pair.invariant c.in_ok-push.ensures.items

@@ -1,9 +1,8 @@
-use Rattle.std.proofs.Common.{ap, ◌∙◌}
+use Rattle.std.proofs.Common.{ap, refl, ◌∙◌}
 use Rattle.std.proofs.lemmas.List.Elements.{All-same}
 use Rattle.std.specs.Borrow.{Bor}
 use Rattle.flume_value.specs.declared.value.Value.{Value}
 use Rattle.flume_value.specs.Bag.{bag_of}
-use Rattle.flume_value.proofs.OrderLemmas.{derived_cmp-is}
 use Rattle.flume_value.proofs.ReferenceLemmas.{referred}
 use Rattle.bag_groups.specs.Pairs.{IsPair}
 use Rattle.key_order.proofs.Pairing.{sorted_by_numbers, told}
@@ -17,7 +16,7 @@ with_numbers-requires c =
 pub returns : goal.returns
 returns c =
     c.in_ok-all.ensures ∙ ap told c.deref-2.ensures.value
-    ∙ sorted_by_numbers _ derived_cmp-is c.in_ok-numbered.numbered.items
+    ∙ sorted_by_numbers _ refl c.in_ok-numbered.numbered.items
     c.sort_unstable.new.self.items c.in_ok-numbered.ensures.numbers
     c.sort_unstable.ensures.permutation c.sort_unstable.ensures.sorted
     ∙ ap bag_of (c.in_ok-numbered.ensures.pairs ∙ ap referred c.deref.ensures.value)

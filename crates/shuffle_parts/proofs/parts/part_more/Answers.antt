@@ -22,7 +22,9 @@ loop-pair-preserved c =
           parted_more n c.partition-at.result (done ++ c.loop-pair.yielded)
           c.loop-pair.parts.items c.key.result.now c.in-Some.pair c.index_mut.result.now
           c.push.new.self (was.stands done stands) c.key.ensures c.partition-at.ensures.part
-          c.partition-at.ensures.within c.index_mut.ensures.value c.in_ok-push.ensures.ok
+          c.partition-at.ensures.within c.index_mut.ensures.value
+          (c.in_ok-push.ensures.ok
+          ∙ ap (λ (pair : Value). c.index_mut.result.now ++ pair ∷ []) c.new.ensures)
           ∙ ap (parted n) (append_assoc done c.loop-pair.yielded (c.in-Some.pair ∷ []));
       count = length-set_is c.loop-pair.parts.items c.partition-at.result n c.push.new.self
           was.count;
