@@ -2,3 +2,4 @@ pub mod Kept
 pub mod Slots
 pub mod Objects
 pub mod Stands
+pub mod Beginnings

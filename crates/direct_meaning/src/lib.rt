@@ -16,6 +16,7 @@ mod laws;
 mod node;
 mod objects;
 mod operate;
+mod sorting;
 mod steps;
 mod told;
 

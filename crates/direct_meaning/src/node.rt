@@ -14,9 +14,10 @@ use crate::flatten::together;
 use crate::kept::{Kept, kept_at};
 use crate::objects::combined_whole;
 use crate::operate::operated;
+use crate::sorting::ascending_rows;
 use crate::steps::{counted, grouped, joined, topped};
 use flume_collection::Trap;
-use flume_value::{Items, Pile, sorted};
+use flume_value::{Items, Pile};
 use script_laws::script_check::{Made, Program};
 use std::alloc::{AllocError, Global};
 use std::vec::IntoIter;
@@ -45,7 +46,7 @@ pub(crate) fn make(
         (into_iter_items inputs.new) (table.now ++ Some kept ∷ []) traps.new.items) }
 {
     match &program.node(number).made {
-        Made::Input { .. } => rows(inputs),
+        Made::Input { .. } => rows(alloc, inputs),
         Made::Do {
             source,
             function,
@@ -78,12 +79,12 @@ pub(crate) fn make(
             let object = kept_at(table, *object);
             done_beside(alloc, program, number, *function, source, object, traps)
         }
-        Made::Saved { .. } => rows(inputs),
+        Made::Saved { .. } => rows(alloc, inputs),
     }
 }
 
 /// The list of the next source.
-fn rows(inputs: &mut IntoIter<Items>) -> Result<Kept, AllocError>
+fn rows(alloc: Global, inputs: &mut IntoIter<Items>) -> Result<Kept, AllocError>
     requires { 0 < length (into_iter_items inputs.old) }
     ensures members { IfOk result (λ kept. (rows : List Value_)
         × (into_iter_items inputs.old ≡ rows ∷ into_iter_items inputs.new)
@@ -92,7 +93,7 @@ fn rows(inputs: &mut IntoIter<Items>) -> Result<Kept, AllocError>
 {
     match inputs.next() {
         Some(rows) => Ok(Kept {
-            members: Pile::from_vec(sorted(rows.into_vec())?),
+            members: Pile::from_vec(ascending_rows(alloc, rows.into_vec())?),
             trapped: false,
         }),
         None => unreachable!(),
