@@ -12,13 +12,11 @@ use Rattle.exec_graph.specs.declared.graph.Graph.{Graph}
 use Rattle.exec_graph.specs.declared.graph.Node.{Node}
 use Rattle.exec_graph.specs.declared.graph.Node.TheVariants.{Pdo}
 use Rattle.exec_graph.specs.declared.graph.Place.{Place}
-use Rattle.exec_graph.proofs.Entries.{all_found}
 use Rattle.pass_rewrites.specs.of_fuse_chain.Numbers.{after_kids}
 use Rattle.pass_rewrites.specs.of_fuse_chain.Rewrites.{InOrder, IsKid, IsSibling, Kid, Sibling, Leads, Makes, Rewrite as Fusion, other_of}
 use Rattle.graph_laws.specs.Joining.{beside, grafted}
 use Rattle.graph_laws.specs.Kids.{even, named_by, odd}
 use Rattle.graph_rewrites.specs.declared.rewrite.Rewrite.{Rewrite}
-use Rattle.pardo_fuse.specs.Readers.{is_pdo}
 use Rattle.pass_rewrites.specs.Passes.{as_rewrite, present}
 use Rattle.graph_laws.proofs.Kids.{kid_sound, sibling_sound}
 use Rattle.graph_laws.proofs.Wellness.{reads_lower}

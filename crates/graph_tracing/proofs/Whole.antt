@@ -2,8 +2,8 @@
 use Rattle.std.proofs.Common.{◌≡◌, ℕ, ◌<◌, Bool, true, false, cond, ltb, List, [], ◌∷◌, ◌++◌, Option, Some, None, map, refl, sym, ap, ◌∙◌, subst, arith}
 use Rattle.std.proofs.lemmas.Bool.{false≢true, ltb-true}
 use Rattle.std.specs.List.{AllByRecursion as Each}
-use Rattle.flume_value.proofs.EachLemmas.{Each-append, Each-both, Each-weaker}
-use Rattle.exec_graph.specs.Meaning.{AllDiffer, IsSound, node_at}
+use Rattle.flume_value.proofs.EachLemmas.{Each-append, Each-both}
+use Rattle.exec_graph.specs.Meaning.{IsSound, node_at}
 use Rattle.exec_graph.specs.Readers.{those}
 use Rattle.exec_graph.specs.Wellformed.{IsGraphOk}
 use Rattle.exec_graph.specs.declared.graph.Blocked.{Blocked}
@@ -11,7 +11,6 @@ use Rattle.exec_graph.specs.declared.graph.Entry.{Entry}
 use Rattle.exec_graph.specs.declared.graph.Graph.{Graph}
 use Rattle.exec_graph.specs.declared.graph.Node.{Node}
 use Rattle.exec_graph.specs.declared.graph.Node.TheVariants.{Source, Flatten, Pdo, Gbk, Barrier}
-use Rattle.exec_graph.specs.declared.graph.Place.{Place}
 use Rattle.exec_graph.proofs.Entries.{all_found}
 use Rattle.exec_graph.proofs.Solving.{each_found}
 use Rattle.exec_graph.proofs.Soundness.{IsSound-ok}
@@ -23,7 +22,7 @@ use Rattle.pass_rewrites.proofs.of_fuse_chain.LeastSteps.{two_twice}
 use Rattle.pass_rewrites.proofs.of_fuse_chain.StepSiblings.{steps_lead}
 use Rattle.graph_rewrites.specs.declared.rewrite.Rewrite.{Rewrite}
 use Rattle.graph_rewrites.specs.declared.rewrite.Rewrite.TheVariants as rewrite
-use Rattle.pardo_fuse.specs.Fusing.{fused, fused_by_parents, leads, least_of}
+use Rattle.pardo_fuse.specs.Fusing.{fused, fused_by_parents, least_of}
 use Rattle.pardo_fuse.specs.Parting.{part_place, parted}
 use Rattle.pardo_fuse.specs.Readers.{cut_of, is_unmarked}
 use Rattle.pardo_fuse.specs.Renumbering.{renumbered_graph}
@@ -43,7 +42,6 @@ use Rattle.graph_tracing.specs.Fusions.{IsFusion}
 use Rattle.graph_tracing.specs.Orders.{AreInOrder, Ascend, BehindKid, BehindSibling, had_after, with_formers}
 use Rattle.graph_tracing.specs.Traces.{GoesOn, GoesUnder, IsTrace}
 use Rattle.graph_tracing.specs.inner.Callers.{goes_in, kid_numbers}
-use Rattle.graph_tracing.specs.inner.Numbers.{KeepsAll}
 use Rattle.graph_tracing.specs.inner.Waiting.{AreApart, AreGone, IsUnderway}
 use Rattle.graph_tracing.specs.declared.trace.Trace.{Trace}
 use Rattle.graph_tracing.proofs.Settled.{middle, middle_apart}

@@ -6,7 +6,6 @@ use Rattle.std.specs.Prelude.{if◌then◌else◌, option_and_then, option_map, 
 use Rattle.std.specs.List.{flat_map}
 use Rattle.flume_value.proofs.BagLemmas.{length-bag_of}
 use Rattle.flume_value.specs.declared.value.Value.{Value}
-use Rattle.flume_collection.specs.Calls.{or_none}
 use Rattle.flume_collection.specs.Collection.{Collection, together as union}
 use Rattle.written_types.specs.Named.{Named}
 use Rattle.script_program.specs.Needed.{is_needed, made_of}
@@ -25,6 +24,10 @@ use Rattle.run_sizes.proofs.Listed.{all_listed}
 use Rattle.run_sizes.proofs.Named.{meant_sizes}
 use Rattle.run_sizes.proofs.Stepping.{passed, taken}
 use Rattle.run_sizes.proofs.Together.{sized, together_sizes}
+
+-- how many members each list has
+abbrev pub many : List (List Value) → List ℕ
+many lists = map length lists
 
 -- ---- lists to come
 
@@ -71,17 +74,18 @@ module _ (script : Script) (lists rows : List (List Value)) (numbers counts : Li
   -- a source that is next
   next_size : (source : ℕ) (first : List Value) (left : List (List Value)) (c : Collection)
       → first ∷ left ≡ drop source rows → Some (rows_as first) ≡ Some c
-      → list_count lists numbers source ≡ size_of c
+      → list_count (many lists) numbers source ≡ size_of c
   next_size source first left c ahead h =
       let same : rows_as first ≡ c = cc in
-      ap (λ o. kept (length (or_none o)))
-      (stand source first (first_dropped rows source first left ahead))
+      ap (λ o. kept (unwrap_or o 0))
+      (slice_get-map length lists (slice_index numbers source)
+      ∙ ap (option_map length) (stand source first (first_dropped rows source first left ahead)))
       ∙ (ap kept (sym (length-bag_of first)) ∙ ap size_of same)
 
   one_size : (mk : Made) (n input : ℕ) (left : List (List Value))
       (table : List (Option Collection)) (c : Collection) → left ≡ drop input rows
       → made_as script n mk left table ≡ Some c → (HasOwn mk → count_at counts n ≡ size_of c)
-      → sized_as lists numbers counts n mk input (map sized table) ≡ size_of c
+      → sized_as (many lists) numbers counts n mk input (map sized table) ≡ size_of c
   one_size (made.Input file columns) n input [] table c ahead h own = cc
   one_size (made.Input file columns) n input (first ∷ left) table c ahead h own =
       next_size input first left c ahead h
@@ -118,7 +122,7 @@ module _ (script : Script) (lists rows : List (List Value)) (numbers counts : Li
       (before : Named Node) (table : List (Option Collection)) (input : ℕ)
       (left : List (List Value)) → before ++ nodes ≡ script.nodes → length before ≡ length table
       → left ≡ drop input rows → collections script nodes left table ≡ Some all
-      → sizes_along script lists numbers counts nodes input (map sized table) ≡ map sized all
+      → sizes_along script (many lists) numbers counts nodes input (map sized table) ≡ map sized all
 
   with_one : (table : List (Option Collection)) (made : Option Collection)
       → map sized table ++ sized made ∷ [] ≡ map sized (table ++ made ∷ [])
@@ -139,7 +143,7 @@ module _ (script : Script) (lists rows : List (List Value)) (numbers counts : Li
         → collections script nodes (inputs_behind entry.1.made left) (table ++ Some c ∷ [])
         ≡ Some all
         → Ahead nodes
-        → sizes_along script lists numbers counts (entry ∷ nodes) input (map sized table)
+        → sizes_along script (many lists) numbers counts (entry ∷ nodes) input (map sized table)
         ≡ map sized all
     next_taken entry nodes before table input left c needed split count ahead here rest more =
         let mk : Made = entry.1.made in
@@ -150,17 +154,17 @@ module _ (script : Script) (lists rows : List (List Value)) (numbers counts : Li
         λ has. ap (λ o. unwrap_or o 0) (own (length table) mk c
         (made_here before nodes entry (length table) split count) has
         (ap (λ t. made_at t (length table)) is ∙ made_next table k.tail c)) in
-        let size : sized_as lists numbers counts (length (map sized table)) mk input
+        let size : sized_as (many lists) numbers counts (length (map sized table)) mk input
         (map sized table)
         ≡ size_of c =
-        ap (λ n. sized_as lists numbers counts n mk input (map sized table)) long
+        ap (λ n. sized_as (many lists) numbers counts n mk input (map sized table)) long
         ∙ one_size mk (length table) input left table c ahead here counted in
-        taken script lists numbers counts entry nodes input (map sized table)
+        taken script (many lists) numbers counts entry nodes input (map sized table)
         (ap (is_needed script) long ∙ needed)
-        ∙ (ap (λ s. sizes_along script lists numbers counts nodes (behind mk input)
+        ∙ (ap (λ s. sizes_along script (many lists) numbers counts nodes (behind mk input)
         (map sized table ++ Some s ∷ [])) size
-        ∙ (ap (sizes_along script lists numbers counts nodes (behind mk input)) (with_one table
-        (Some c))
+        ∙ (ap (sizes_along script (many lists) numbers counts nodes (behind mk input))
+        (with_one table (Some c))
         ∙ more (before ++ entry ∷ []) (table ++ Some c ∷ []) (behind mk input)
         (inputs_behind mk left) (append_assoc before (entry ∷ []) nodes ∙ split)
         (one_longer before entry table (Some c) count)
@@ -172,12 +176,12 @@ module _ (script : Script) (lists rows : List (List Value)) (numbers counts : Li
         → before ++ entry ∷ nodes ≡ script.nodes → length before ≡ length table
         → left ≡ drop input rows
         → collections script nodes left (table ++ None ∷ []) ≡ Some all → Ahead nodes
-        → sizes_along script lists numbers counts (entry ∷ nodes) input (map sized table)
+        → sizes_along script (many lists) numbers counts (entry ∷ nodes) input (map sized table)
         ≡ map sized all
     next_passed entry nodes before table input left needless split count ahead rest more =
-        passed script lists numbers counts entry nodes input (map sized table)
+        passed script (many lists) numbers counts entry nodes input (map sized table)
         (ap (is_needed script) (length-map table sized) ∙ needless)
-        ∙ (ap (sizes_along script lists numbers counts nodes input) (with_one table None)
+        ∙ (ap (sizes_along script (many lists) numbers counts nodes input) (with_one table None)
         ∙ more (before ++ entry ∷ []) (table ++ None ∷ []) input left
         (append_assoc before (entry ∷ []) nodes ∙ split) (one_longer before entry table None count)
         ahead rest)
@@ -192,7 +196,7 @@ module _ (script : Script) (lists rows : List (List Value)) (numbers counts : Li
         (made_as script (length table) entry.1.made left table)
         else collections script nodes left (table ++ None ∷ [])) ≡ Some all
         → Ahead nodes
-        → sizes_along script lists numbers counts (entry ∷ nodes) input (map sized table)
+        → sizes_along script (many lists) numbers counts (entry ∷ nodes) input (map sized table)
         ≡ map sized all
     next entry nodes before table input left true needed split count ahead h more =
         let (c, here, rest) =
@@ -216,7 +220,7 @@ pub sizes_meant : (script : Script) (lists : List (List Value)) (counts : List �
     (all : List (Option Collection)) → meaning script lists ≡ Some all
     → AreOwnCounts script all counts
     → named_sizes script.nodes
-    (sizes_along script lists (source_numbers script) counts script.nodes 0 [])
+    (sizes_along script (many lists) (source_numbers script) counts script.nodes 0 [])
     ≡ sizes_of script all
 sizes_meant script lists counts all means own =
     ap (named_sizes script.nodes)

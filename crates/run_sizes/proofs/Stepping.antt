@@ -1,7 +1,6 @@
 -- One collection more, along a script's nodes.
 use Rattle.std.proofs.Common.{◌≡◌, ℕ, zero, suc, ◌+◌, ◌<◌, ◌≤◌, true, false, List, [], ◌∷◌, ◌++◌, drop, length, Option, Some, None, slice_get, refl, sym, ap, ◌∙◌, subst, arith, add-one}
 use Rattle.std.specs.Prelude.{if◌then◌else◌, option_map}
-use Rattle.flume_value.specs.declared.value.Value.{Value}
 use Rattle.written_types.specs.Named.{Named}
 use Rattle.script_program.specs.Needed.{is_needed}
 use Rattle.script_program.specs.Script.{Node, Script}
@@ -31,62 +30,62 @@ some_entry [] n below = absurd (omega arith)
 some_entry (e ∷ nodes) zero below = (e, refl)
 some_entry (e ∷ nodes) (suc n) below = some_entry nodes n (omega arith)
 
-module _ (script : Script) (lists : List (List Value)) (numbers counts : List ℕ) where
+module _ (script : Script) (members numbers counts : List ℕ) where
   pub taken : (entry : List ℕ × Node) (nodes : Named Node) (input : ℕ) (sizes : List (Option ℕ))
       → is_needed script (length sizes) ≡ true
-      → sizes_along script lists numbers counts (entry ∷ nodes) input sizes
-      ≡ sizes_along script lists numbers counts nodes (behind entry.1.made input)
-      (sizes ++ Some (sized_as lists numbers counts (length sizes) entry.1.made input sizes) ∷ [])
+      → sizes_along script members numbers counts (entry ∷ nodes) input sizes
+      ≡ sizes_along script members numbers counts nodes (behind entry.1.made input)
+      (sizes ++ Some (sized_as members numbers counts (length sizes) entry.1.made input sizes) ∷ [])
   taken entry nodes input sizes needed =
       ap
       (λ b. if b
-      then sizes_along script lists numbers counts nodes (behind entry.1.made input)
-      (sizes ++ Some (sized_as lists numbers counts (length sizes) entry.1.made input sizes) ∷ [])
-      else sizes_along script lists numbers counts nodes input (sizes ++ None ∷ []))
+      then sizes_along script members numbers counts nodes (behind entry.1.made input)
+      (sizes ++ Some (sized_as members numbers counts (length sizes) entry.1.made input sizes) ∷ [])
+      else sizes_along script members numbers counts nodes input (sizes ++ None ∷ []))
       needed
 
   pub passed : (entry : List ℕ × Node) (nodes : Named Node) (input : ℕ) (sizes : List (Option ℕ))
       → is_needed script (length sizes) ≡ false
-      → sizes_along script lists numbers counts (entry ∷ nodes) input sizes
-      ≡ sizes_along script lists numbers counts nodes input (sizes ++ None ∷ [])
+      → sizes_along script members numbers counts (entry ∷ nodes) input sizes
+      ≡ sizes_along script members numbers counts nodes input (sizes ++ None ∷ [])
   passed entry nodes input sizes needless =
       ap
       (λ b. if b
-      then sizes_along script lists numbers counts nodes (behind entry.1.made input)
-      (sizes ++ Some (sized_as lists numbers counts (length sizes) entry.1.made input sizes) ∷ [])
-      else sizes_along script lists numbers counts nodes input (sizes ++ None ∷ []))
+      then sizes_along script members numbers counts nodes (behind entry.1.made input)
+      (sizes ++ Some (sized_as members numbers counts (length sizes) entry.1.made input sizes) ∷ [])
+      else sizes_along script members numbers counts nodes input (sizes ++ None ∷ []))
       needless
 
   pub on_taken : (nodes : Named Node) (n input : ℕ) (sizes : List (Option ℕ)) (mk : Made)
       (size : ℕ) (whole : List (Option ℕ)) → option_map MadeOf (slice_get nodes n) ≡ Some mk
       → length sizes ≡ n → is_needed script n ≡ true
-      → size ≡ sized_as lists numbers counts n mk input sizes
-      → sizes_along script lists numbers counts (drop n nodes) input sizes ≡ whole
-      → sizes_along script lists numbers counts (drop (n + 1) nodes) (behind mk input)
+      → size ≡ sized_as members numbers counts n mk input sizes
+      → sizes_along script members numbers counts (drop n nodes) input sizes ≡ whole
+      → sizes_along script members numbers counts (drop (n + 1) nodes) (behind mk input)
       (sizes ++ Some size ∷ []) ≡ whole
   on_taken nodes n input sizes mk size whole at count needed is along =
       let (e, next, made) = next_entry nodes n mk at in
-      let same : size ≡ sized_as lists numbers counts (length sizes) e.1.made input sizes
-      = is ∙ (λ i. sized_as lists numbers counts (sym count i) (sym made i) input sizes) in
-      (λ i. sizes_along script lists numbers counts (drop (add-one n i) nodes) (behind
+      let same : size ≡ sized_as members numbers counts (length sizes) e.1.made input sizes
+      = is ∙ (λ i. sized_as members numbers counts (sym count i) (sym made i) input sizes) in
+      (λ i. sizes_along script members numbers counts (drop (add-one n i) nodes) (behind
       (sym made i) input)
       (sizes ++ Some (same i) ∷ []))
       ∙ (sym (taken e (drop (suc n) nodes) input sizes (ap (is_needed script) count ∙ needed))
-      ∙ subst (λ (l : Named Node). sizes_along script lists numbers counts l input sizes
+      ∙ subst (λ (l : Named Node). sizes_along script members numbers counts l input sizes
       ≡ whole) next
       along)
 
   pub on_passed : (nodes : Named Node) (n input : ℕ) (sizes whole : List (Option ℕ))
       → n < length nodes → length sizes ≡ n → is_needed script n ≡ false
-      → sizes_along script lists numbers counts (drop n nodes) input sizes ≡ whole
-      → sizes_along script lists numbers counts (drop (n + 1) nodes) input (sizes ++ None ∷ [])
+      → sizes_along script members numbers counts (drop n nodes) input sizes ≡ whole
+      → sizes_along script members numbers counts (drop (n + 1) nodes) input (sizes ++ None ∷ [])
       ≡ whole
   on_passed nodes n input sizes whole below count needless along =
       let (e, next) = some_entry nodes n below in
-      (λ i. sizes_along script lists numbers counts (drop (add-one n i) nodes) input
+      (λ i. sizes_along script members numbers counts (drop (add-one n i) nodes) input
       (sizes ++ None ∷ []))
       ∙ (sym (passed e (drop (suc n) nodes) input sizes (ap (is_needed script) count ∙ needless))
-      ∙ subst (λ (l : Named Node). sizes_along script lists numbers counts l input sizes
+      ∙ subst (λ (l : Named Node). sizes_along script members numbers counts l input sizes
       ≡ whole) next
       along)
 

@@ -1,43 +1,45 @@
 // The sizes of the needed collections, by what a run has counted.
-ghost use Rattle.std.specs.Prelude.{◌≡◌, ◌<◌, ◌++◌, ◌-◌, ◌^◌, [], IfOk, List, OnOk, Option, Some, length};
+ghost use Rattle.std.specs.Prelude.{◌≡◌, ◌<◌, ◌++◌, ◌-◌, ◌^◌, [], IfOk, List, OnOk, Option, Some, length, map};
 ghost use Rattle.flume_collection.specs.Collection.{Collection};
+ghost use Rattle.flume_value.specs.declared.value.Value.{Value};
 ghost use Rattle.build_law.specs.of_direct_meaning.Direct.{meaning, sizes_of};
 ghost use Rattle.run_sizes.specs.Counts.{AreOwnCounts};
 ghost use Rattle.run_sizes.specs.inner.Along.{behind as behind_is, count_at as count_is, kept, list_count as list_is, named_sizes, size_at as size_is, size_line, sized_as, sizes_along, together as together_is};
 
-use flume_value::{Items, Str};
+use flume_value::Str;
 use script_program::{Made, Program, source_at, source_numbers};
 use std::alloc::{AllocError, Global};
 
-/// The name of each needed collection in order, and how many members it has, over these lists of
-/// the needed sources, where a run has counted so much for each collection by its number.
+/// The name of each needed collection in order, and how many members it has, where the lists of the
+/// needed sources have so many, and a run has counted so much for each collection by its number.
 pub fn needed_sizes(
     alloc: Global,
     program: &Program,
-    rows: &[Items],
+    members: &[u64],
     counts: &[u64],
 ) -> Result<Vec<(Str, u64)>, AllocError>
-    ensures { IfOk result (λ sizes. (made : List (Option Collection)) →
-        meaning program.now.script rows.now ≡ Some made →
+    ensures { IfOk result (λ sizes. (lists : List (List Value))
+        (made : List (Option Collection)) → members.now ≡ map length lists →
+        meaning program.now.script lists ≡ Some made →
         AreOwnCounts program.now.script made counts.now →
         sizes.items ≡ sizes_of program.now.script made) }
 {
     let numbers = source_numbers(alloc, program)?;
-    let sizes = sizes_by_number(alloc, program, rows, numbers.as_slice(), counts)?;
+    let sizes = sizes_by_number(alloc, program, members, numbers.as_slice(), counts)?;
     named(alloc, program, sizes.as_slice())
 }
 
-/// The size of each collection by its number, where it is needed. The lists of its sources stand by
-/// these numbers.
+/// The size of each collection by its number, where it is needed. The lists of its sources, of so
+/// many members, stand by these numbers.
 fn sizes_by_number(
     alloc: Global,
     program: &Program,
-    rows: &[Items],
+    members: &[u64],
     numbers: &[u32],
     counts: &[u64],
 ) -> Result<Vec<Option<u64>>, AllocError>
     ensures along { IfOk result (λ sizes. sizes.items
-        ≡ sizes_along program.now.script rows.now numbers.now counts.now
+        ≡ sizes_along program.now.script members.now numbers.now counts.now
         program.now.script.nodes 0 []) }
     ensures count { IfOk result (λ sizes.
         length sizes.items ≡ length program.now.script.nodes) }
@@ -50,7 +52,7 @@ fn sizes_by_number(
             let size = size_of(
                 made,
                 number,
-                rows,
+                members,
                 numbers,
                 source,
                 counts,
@@ -71,17 +73,17 @@ fn sizes_by_number(
 fn size_of(
     made: &Made,
     number: usize,
-    rows: &[Items],
+    members: &[u64],
     numbers: &[u32],
     source: usize,
     counts: &[u64],
     sizes: &[Option<u64>],
 ) -> u64
     ensures { result
-        ≡ sized_as rows.now numbers.now counts.now number made.now source sizes.now }
+        ≡ sized_as members.now numbers.now counts.now number made.now source sizes.now }
 {
     match made {
-        Made::Input { .. } | Made::Saved { .. } => list_count(rows, numbers, source),
+        Made::Input { .. } | Made::Saved { .. } => list_count(members, numbers, source),
         Made::Flatten { sources } => together(sources.as_slice(), sizes),
         Made::Do { .. }
         | Made::Group { .. }
@@ -96,11 +98,11 @@ fn size_of(
 }
 
 /// How many members the source of that place has.
-fn list_count(rows: &[Items], numbers: &[u32], source: usize) -> u64
-    ensures { result ≡ list_is rows.now numbers.now source }
+fn list_count(members: &[u64], numbers: &[u32], source: usize) -> u64
+    ensures { result ≡ list_is members.now numbers.now source }
 {
-    match rows.get(source_at(numbers, source) as usize) {
-        Some(list) => list.len() as u64,
+    match members.get(source_at(numbers, source) as usize) {
+        Some(count) => *count,
         None => 0,
     }
 }

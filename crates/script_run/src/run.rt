@@ -16,8 +16,8 @@ use plan_phases::{PhaseWinners, RunFault};
 use run_settings::Settings;
 use run_sizes::build_law::means_law;
 use run_sizes::direct_meaning::meaning_law;
-use run_sizes::needed_sizes;
 use run_sizes::script_program::Program;
+use run_sizes::{member_counts, needed_sizes};
 use script_functions::{ScriptFunctions, world_law};
 use stage_exec::execute;
 use std::alloc::{AllocError, Global};
@@ -35,7 +35,8 @@ pub struct Ran {
 }
 
 /// Runs the plan of a program over the lists of its needed sources, rows of inputs and behind them
-/// members of kept collections, with a worker on each of the hosts.
+/// members of kept collections, with a worker on each of the hosts. A list is let go once the last
+/// tasks that read it have run.
 pub fn run_script<X: Threads + Sync, H: Host + Send>(
     rt: &X,
     alloc: Global,
@@ -67,9 +68,10 @@ pub fn run_script<X: Threads + Sync, H: Host + Send>(
     workers_law(settings);
     let functions = ScriptFunctions::new(program);
     let nodes = program.node_count();
-    let rows = inputs.as_slice();
-    let done = execute(rt, alloc, &functions, plan, rows, nodes, hosts, settings)?;
-    let sizes = needed_sizes(alloc, program, rows, done.counts.as_slice())?;
+    let members = member_counts(alloc, inputs.as_slice())?;
+    let lists = inputs.into_vec();
+    let done = execute(rt, alloc, &functions, plan, lists, nodes, hosts, settings)?;
+    let sizes = needed_sizes(alloc, program, &members, done.counts.as_slice())?;
     Ok(Ran {
         outputs: all_sorted(alloc, done.outputs.into_vec())?,
         sizes,

@@ -1,6 +1,7 @@
 pub mod Acting
 pub mod Ending
 pub mod Finishing
+pub mod Pushing
 pub mod Running
 pub mod Tables
 pub mod Others

@@ -188,7 +188,7 @@ module _ (w : World) (n : Split) (t u : Lists) where
 abbrev pub result_at : List (List Value) → ℕ → List Value
 result_at ls number = or_none (slice_get ls number)
 
-with_agree : (k : ℕ) (ls : List (List Value)) (t u : Lists) (places : List PlanPlace)
+pub with_agree : (k : ℕ) (ls : List (List Value)) (t u : Lists) (places : List PlanPlace)
     → AgreeOn places t u → AgreeOn places (with_lists k ls t) (with_lists k ls u)
 with_agree k ls t u [] agree = refl
 with_agree k ls t u (at.Source r ∷ places) agree = λ j.

@@ -56,15 +56,16 @@ module _ (s : RunSettings) (called : ℕ → Value → Called) (takes : ℕ → 
   abbrev World_ : World
   World_ = run_world called sources
 
-  abbrev Stands : ℕ → List (List (List Value)) → List ℕ → List ℕ → List Account → List Account
-      → List PhaseWinners → List PhaseWinners → Type 0
-  Stands k results first sizes us vs before told =
-      Along s World_ takes stages outputs sources k results first sizes us vs before told
+  -- where these rows of the sources are left
+  abbrev Stands : List (List Value) → ℕ → List (List (List Value)) → List ℕ → List ℕ
+      → List Account → List Account → List PhaseWinners → List PhaseWinners → Type 0
+  Stands rows k results first sizes us vs before told =
+      Along s World_ takes stages outputs rows k results first sizes us vs before told
 
   pub along_none : (results : List (List (List Value))) (first : List ℕ) (us : List Account)
       (before : List PhaseWinners) → results ≡ [] → ((i : ℕ) → slice_index first i < 2 ^ 64)
       → CanGoOn World_ takes 1 stages (source_lists World_)
-      → Stands 0 results first first us us before before
+      → Stands sources 0 results first first us us before before
   along_none results first us before none fits ready =
       let here : table sources results ≡ source_lists World_
       = ap (table sources) none ∙ table_begins called sources in
@@ -85,12 +86,12 @@ module _ (s : RunSettings) (called : ℕ → Value → Called) (takes : ℕ → 
         grew = all_same us;
       }
 
-  module _ (k : ℕ) (results : List (List (List Value))) (first sizes : List ℕ)
-      (us vs : List Account) (before told : List PhaseWinners)
-      (a : Stands k results first sizes us vs before told)
+  module _ (rows : List (List Value)) (k : ℕ) (results : List (List (List Value)))
+      (first sizes : List ℕ) (us vs : List Account) (before told : List PhaseWinners)
+      (a : Stands rows k results first sizes us vs before told)
       (stage : Stage) (below : k < length stages) (is : stage ≡ get_or stages k stage) where
     abbrev Found : Lists
-    Found = table sources results
+    Found = table rows results
 
     abbrev Given : List (List Value)
     Given = result_lists World_ (split_of s) Found stage
@@ -172,16 +173,16 @@ module _ (s : RunSettings) (called : ℕ → Value → Called) (takes : ℕ → 
         (λ i. sum (stage_tasks (task_counts World_ i) World_ (split_of s) Found stage)) sizes next
         → HaveRun s.tries s.drill World_ (stage_phases World_ (k + 1) (split_of s) Found stage)
         vs ws told later
-        → AllZip Grew vs ws → Stands (k + 1) more first next us ws before later
+        → AllZip Grew vs ws → Stands rows (k + 1) more first next us ws before later
     along_more ls more next ws later e push grown ran grew =
         let number : suc k ≡ length results + 1 = omega (arith, a.count) in
-        let after : Next ≡ table sources more =
+        let after : Next ≡ table rows more =
         ap (λ l. with_lists (suc k) l Found) (sym e)
-        ∙ (table_grows sources results ls (suc k) number ∙ ap (table sources) (sym push)) in
+        ∙ (table_grows rows results ls (suc k) number ∙ ap (table rows) (sym push)) in
         record {
           count = ap length push ∙ omega (arith, a.count, length-append results (ls ∷ []));
           ready =
-              subst (λ j. CanGoOn World_ takes (suc j) (drop j stages) (table sources more))
+              subst (λ j. CanGoOn World_ takes (suc j) (drop j stages) (table rows more))
               (sym one)
               (subst (CanGoOn World_ takes (suc (suc k)) (drop (suc k) stages)) after ready_next);
           lists =
@@ -194,7 +195,7 @@ module _ (s : RunSettings) (called : ℕ → Value → Called) (takes : ℕ → 
           grown = grown_then _ _ first sizes next a.grown grown;
           counts = λ i.
               let same : counted_on s World_ (suc (k + 1)) (drop (k + 1) stages)
-              (table sources more) i
+              (table rows more) i
               ≡ counted_on s World_ (suc (suc k)) (drop (suc k) stages) Next i
               = λ j. counted_on s World_ (suc (one j)) (drop (one j) stages) (sym after j) i in
               let whole = counts_left i in
@@ -250,23 +251,24 @@ module _ (s : RunSettings) (called : ℕ → Value → Called) (takes : ℕ → 
         (attempts_of ran.through.winners) us vs ws a.have_run.asked ran.asked)))
 
   -- what is read no more may be dropped
-  pub along_fewer : (k : ℕ) (results fewer : List (List (List Value))) (first sizes : List ℕ)
+  pub along_fewer : (rows left : List (List Value)) (k : ℕ)
+      (results fewer : List (List (List Value))) (first sizes : List ℕ)
       (us vs : List Account) (before told : List PhaseWinners) → length fewer ≡ length results
       → AgreeOn (later_reads (take (length stages - k) (drop k stages)) outputs)
-      (table sources fewer) (table sources results)
-      → ((type : Ty) (q : PlanPlace) → AllHave type (table sources results q)
-      → AllHave type (table sources fewer q))
-      → Stands k results first sizes us vs before told
-      → Stands k fewer first sizes us vs before told
-  along_fewer k results fewer first sizes us vs before told long apart typed a =
+      (table left fewer) (table rows results)
+      → ((type : Ty) (q : PlanPlace) → AllHave type (table rows results q)
+      → AllHave type (table left fewer q))
+      → Stands rows k results first sizes us vs before told
+      → Stands left k fewer first sizes us vs before told
+  along_fewer rows left k results fewer first sizes us vs before told long apart typed a =
       let r = a.ready in
-      let agree : AgreeOn (later_reads (drop k stages) outputs) (table sources fewer)
-      (table sources results) =
-      subst (λ l. AgreeOn (later_reads l outputs) (table sources fewer) (table sources results))
+      let agree : AgreeOn (later_reads (drop k stages) outputs) (table left fewer)
+      (table rows results) =
+      subst (λ l. AgreeOn (later_reads l outputs) (table left fewer) (table rows results))
       (behind stages k) apart in
       let rest = drop k stages in
-      let t = table sources fewer in
-      let u = table sources results in
+      let t = table left fewer in
+      let u = table rows results in
       record {
         count = long ∙ a.count;
         ready = record {
@@ -297,24 +299,24 @@ module _ (s : RunSettings) (called : ℕ → Value → Called) (takes : ℕ → 
       }
 
   -- ---- the end
-  module _ (k : ℕ) (results : List (List (List Value))) (first sizes : List ℕ)
-      (us vs : List Account) (before told : List PhaseWinners)
-      (a : Stands k results first sizes us vs before told) (end : length stages ≤ k) where
+  module _ (rows : List (List Value)) (k : ℕ) (results : List (List (List Value)))
+      (first sizes : List ℕ) (us vs : List Account) (before told : List PhaseWinners)
+      (a : Stands rows k results first sizes us vs before told) (end : length stages ≤ k) where
     none_left : drop k stages ≡ []
     none_left = all_dropped stages k end
 
-    pub end_lists : AgreeOn outputs (table sources results)
+    pub end_lists : AgreeOn outputs (table rows results)
         (lists_after s World_ 1 stages (source_lists World_))
     end_lists =
-        ap (λ ss. map (run_lists World_ (split_of s) (suc k) ss (table sources results)) outputs)
+        ap (λ ss. map (run_lists World_ (split_of s) (suc k) ss (table rows results)) outputs)
         (sym none_left)
         ∙ a.lists
 
     pub end_sizes : HaveGrown (counted_on s World_ 1 stages (source_lists World_)) first sizes
     end_sizes =
         grown_as a.counted (counted_on s World_ 1 stages (source_lists World_)) first sizes
-        (λ i. let none : counted_on s World_ (suc k) (drop k stages) (table sources results) i ≡ 0
-        = ap (λ ss. counted_on s World_ (suc k) ss (table sources results) i) none_left in
+        (λ i. let none : counted_on s World_ (suc k) (drop k stages) (table rows results) i ≡ 0
+        = ap (λ ss. counted_on s World_ (suc k) ss (table rows results) i) none_left in
         let whole = a.counts i in omega (arith, none, whole)) a.grown
 
     pub end_run : HaveRun s.tries s.drill World_
@@ -322,6 +324,6 @@ module _ (s : RunSettings) (called : ℕ → Value → Called) (takes : ℕ → 
     end_run =
         subst (λ ps. HaveRun s.tries s.drill World_ ps us vs before told)
         (sym (append-nil a.ran)
-        ∙ (ap (λ ss. a.ran ++ phases_on s World_ (suc k) ss (table sources results))
+        ∙ (ap (λ ss. a.ran ++ phases_on s World_ (suc k) ss (table rows results))
         (sym none_left)
         ∙ a.phases)) a.have_run

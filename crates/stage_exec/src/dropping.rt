@@ -1,4 +1,4 @@
-// Results that are read no more are dropped.
+// Lists that are read no more are dropped: rows of sources, and results of stages.
 ghost use Rattle.std.specs.Prelude.{◌≡◌, length};
 ghost use Rattle.std.specs.List.{list_any};
 ghost use Rattle.flume_types.specs.Typing.{AllHave};
@@ -9,25 +9,25 @@ ghost use Rattle.stage_results.specs.of_map_shard.Tables.{table};
 ghost use Rattle.stage_exec.specs.inner.Places as spec;
 ghost use Rattle.stage_exec.specs.inner.Reads.{AgreeOn, later_reads};
 
-use crate::taking::{is_among, is_same, taken_result};
+use crate::taking::{is_among, is_same, taken};
 use exec_plan::{InChannel, PlanPlace, Stage};
 use flume_value::{Items, Pile};
 use std::alloc::Global;
 
-/// Drops those results which a stage has read, and which no later stage and no output reads.
+/// Drops those lists which a stage has read, and which no later stage and no output reads.
 pub(crate) fn drop_read(
     alloc: Global,
-    sources: &[Items],
+    sources: &mut Vec<Items>,
     results: &mut Vec<Pile<Items>>,
     stage: &Stage,
     later: &[Stage],
     outputs: &[PlanPlace],
 )
     ensures others { AgreeOn (later_reads later.now outputs.now)
-        (table sources.now results.new.items) (table sources.now results.old.items) }
+        (table sources.new.items results.new.items) (table sources.old.items results.old.items) }
     ensures typed { (type : GhostTy) (q : GhostPlace) →
-        AllHave type (table sources.now results.old.items q) →
-        AllHave type (table sources.now results.new.items q) }
+        AllHave type (table sources.old.items results.old.items q) →
+        AllHave type (table sources.new.items results.new.items q) }
     ensures count { length results.new.items ≡ length results.old.items }
 {
     match stage {
@@ -49,19 +49,21 @@ pub(crate) fn drop_read(
     }
 }
 
-fn drop_inputs(
+/// Drops those lists which these input channels have read, and which no later stage and no output
+/// reads.
+pub(crate) fn drop_inputs(
     alloc: Global,
-    sources: &[Items],
+    sources: &mut Vec<Items>,
     results: &mut Vec<Pile<Items>>,
     inputs: &[InChannel],
     later: &[Stage],
     outputs: &[PlanPlace],
 )
     ensures others { AgreeOn (later_reads later.now outputs.now)
-        (table sources.now results.new.items) (table sources.now results.old.items) }
+        (table sources.new.items results.new.items) (table sources.old.items results.old.items) }
     ensures typed { (type : GhostTy) (q : GhostPlace) →
-        AllHave type (table sources.now results.old.items q) →
-        AllHave type (table sources.now results.new.items q) }
+        AllHave type (table sources.old.items results.old.items q) →
+        AllHave type (table sources.new.items results.new.items q) }
     ensures count { length results.new.items ≡ length results.old.items }
 {
     for input in inputs {
@@ -72,17 +74,17 @@ fn drop_inputs(
 // Drops what an input channel has read, and the object beside it.
 fn drop_input(
     alloc: Global,
-    sources: &[Items],
+    sources: &mut Vec<Items>,
     results: &mut Vec<Pile<Items>>,
     input: &InChannel,
     later: &[Stage],
     outputs: &[PlanPlace],
 )
     ensures others { AgreeOn (later_reads later.now outputs.now)
-        (table sources.now results.new.items) (table sources.now results.old.items) }
+        (table sources.new.items results.new.items) (table sources.old.items results.old.items) }
     ensures typed { (type : GhostTy) (q : GhostPlace) →
-        AllHave type (table sources.now results.old.items q) →
-        AllHave type (table sources.now results.new.items q) }
+        AllHave type (table sources.old.items results.old.items q) →
+        AllHave type (table sources.new.items results.new.items q) }
     ensures count { length results.new.items ≡ length results.old.items }
 {
     drop_unread(alloc, sources, results, input.reads, later, outputs);
@@ -91,28 +93,26 @@ fn drop_input(
     }
 }
 
-// Drops a result, where it is read no more.
+// Drops a list, where it is read no more.
 fn drop_unread(
     alloc: Global,
-    sources: &[Items],
+    sources: &mut Vec<Items>,
     results: &mut Vec<Pile<Items>>,
     place: PlanPlace,
     later: &[Stage],
     outputs: &[PlanPlace],
 )
     ensures others { AgreeOn (later_reads later.now outputs.now)
-        (table sources.now results.new.items) (table sources.now results.old.items) }
+        (table sources.new.items results.new.items) (table sources.old.items results.old.items) }
     ensures typed { (type : GhostTy) (q : GhostPlace) →
-        AllHave type (table sources.now results.old.items q) →
-        AllHave type (table sources.now results.new.items q) }
+        AllHave type (table sources.old.items results.old.items q) →
+        AllHave type (table sources.new.items results.new.items q) }
     ensures count { length results.new.items ≡ length results.old.items }
 {
     if is_read(later, outputs, place) {
         return;
     }
-    if let PlanPlace::Result { stage, number } = place {
-        taken_result(alloc, sources, results, stage, number);
-    }
+    taken(alloc, sources, results, place);
 }
 
 // Whether one of these stages reads a collection, or it is an output.

@@ -26,7 +26,8 @@ use std::thread::Threads;
 use task_lists::{tasks_law, typed_law};
 
 /// Executes a plan over the rows of its sources, one list for each, with a worker on each of the
-/// hosts. It counts for the first so many script nodes.
+/// hosts. It counts for the first so many script nodes. The rows of a source are let go behind the
+/// last tasks that read them.
 ///
 /// It stops at the first task, by phases in order and by tasks in order within one, that traps or
 /// of which no attempt has won: with its first trap, or naming it. What gives an object is made
@@ -36,14 +37,14 @@ pub fn execute<R: Threads + Sync, F: Functions + Sync, H: Host + Send>(
     alloc: Global,
     functions: &F,
     plan: &Plan,
-    sources: &[Items],
+    sources: Vec<Items>,
     nodes: usize,
     hosts: &mut [H],
     settings: &Settings,
 ) -> Result<Executed, RunFault>
     requires plan { IsPlanOk plan.now }
-    requires sources { length sources.now ≡ plan.now.sources }
-    requires typed { IsTypedRun (run_world (F.called functions.now) sources.now)
+    requires sources { length sources.items ≡ plan.now.sources }
+    requires typed { IsTypedRun (run_world (F.called functions.now) sources.items)
         (F.can_call functions.now) plan.now }
     requires some { 1 ≤ length hosts.old }
     requires most { length hosts.old ≤ 16 }
@@ -51,18 +52,20 @@ pub fn execute<R: Threads + Sync, F: Functions + Sync, H: Host + Send>(
         (map (account H.notes H.losses) hosts.old) (map (account H.notes H.losses) hosts.new) }
     // However it ends, no phase is made twice, and none behind the one where it stops.
     ensures asked { AskedFront settings.now.tries settings.now.drill (with_tasks
-        (phases (run_world (F.called functions.now) sources.now) (split_of settings.now) plan.now))
+        (phases (run_world (F.called functions.now) sources.items) (split_of settings.now)
+        plan.now))
         (map (account H.notes H.losses) hosts.old) (map (account H.notes H.losses) hosts.new) }
     ensures done { IfOk result (IsExecuted settings.now
-        (run_world (F.called functions.now) sources.now) plan.now nodes
+        (run_world (F.called functions.now) sources.items) plan.now nodes
         (map (account H.notes H.losses) hosts.old) (map (account H.notes H.losses) hosts.new)) }
     ensures fault { IfErr result (IsRunFault settings.now
-        (run_world (F.called functions.now) sources.now) plan.now
+        (run_world (F.called functions.now) sources.items) plan.now
         (map (account H.notes H.losses) hosts.old) (map (account H.notes H.losses) hosts.new)) }
     // No task is given up, where each has a try that is neither in the drill nor accounted for by
     // the losses of the hosts.
     ensures complete { CanFinishAll settings.now.tries settings.now.drill (with_tasks
-        (phases (run_world (F.called functions.now) sources.now) (split_of settings.now) plan.now))
+        (phases (run_world (F.called functions.now) sources.items) (split_of settings.now)
+        plan.now))
         (map (account H.notes H.losses) hosts.old) (map (account H.notes H.losses) hosts.new)
         → IfErr result IsNotGivenUp }
 {
@@ -72,9 +75,9 @@ pub fn execute<R: Threads + Sync, F: Functions + Sync, H: Host + Send>(
     phases_law();
     let inputs = Inputs {
         functions,
-        sources,
         settings,
     };
+    let mut rows = sources;
     let mut sizes = no_sizes(alloc, nodes)?;
     let mut winners = Vec::new(alloc);
     let stages = plan.stages.as_slice();
@@ -84,13 +87,14 @@ pub fn execute<R: Threads + Sync, F: Functions + Sync, H: Host + Send>(
         rt,
         alloc,
         &inputs,
+        &mut rows,
         stages,
         outputs,
         hosts,
         counted,
         &mut winners,
     )?;
-    let outputs = output_lists(alloc, sources, results, outputs)?;
+    let outputs = output_lists(alloc, rows, results, outputs)?;
     Ok(Executed {
         outputs,
         counts: Pile::from_vec(sizes),

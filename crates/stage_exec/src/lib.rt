@@ -3,10 +3,11 @@
 //! `execute` runs the stages of a plan in order. Of a stage it runs the map tasks, and where the
 //! stage groups then the reduce tasks; what they give makes the results, which later stages read.
 //! A Flatten stage has no tasks, and neither has an Operate stage: no host is asked for it, and its
-//! act makes an object of the lists that it takes, which is a list of one value. A result is
-//! dropped behind the last stage that reads it, unless it is an output. In the end it gives the
-//! outputs of the plan, how many members the bag of each script node has, and which attempt has won
-//! each task (`Executed`); or the first trap, or the task that was given up (`RunFault`).
+//! act makes an object of the lists that it takes, which is a list of one value. The list of a
+//! source and a result are dropped between the phases of the last stage that reads them, unless
+//! they are outputs. In the end it gives the outputs of the plan, how many members the bag of each
+//! script node has, and which attempt has won each task (`Executed`); or the first trap, or the
+//! task that was given up (`RunFault`).
 //!
 //! Whatever the hosts do, and whoever wins, what is answered is the plan's meaning (`IsExecuted`,
 //! `IsRunFault`: specs/Executions.antt).

@@ -7,7 +7,6 @@ ghost use Rattle.exec_graph.specs.declared.graph.Act.TheVariants as acts;
 ghost use Rattle.stage_results.specs.of_map_shard.Tables.{table};
 ghost use Rattle.operate_step.specs.Results.{object_of};
 ghost use Rattle.stage_exec.specs.inner.Objects.{IsActFault, made_object};
-ghost use Rattle.stage_results.specs.of_stage_phases.Stages.{run_world};
 ghost use Rattle.stage_results.specs.of_step_counts.Sizes.{HaveGrown};
 ghost use Rattle.task_lists.specs.Lists.{calm, object_made};
 ghost use Rattle.task_lists.specs.Plans.{task_counts};
@@ -33,6 +32,7 @@ use std::alloc::{AllocError, Global};
 pub(crate) fn object_lists<F: Functions>(
     alloc: Global,
     inputs: &Inputs<'_, F>,
+    sources: &[Items],
     results: &[Pile<Items>],
     takes: &Pile<PlanPlace>,
     origin: u32,
@@ -42,27 +42,24 @@ pub(crate) fn object_lists<F: Functions>(
     sizes: &mut [u64],
 ) -> Result<Pile<Items>, RunFault>
     requires object { gives_object act ≡ true }
-    requires ready { CanRunStage
-        (run_world (F.called inputs.now.functions.now) inputs.now.sources.now)
-        (F.can_call inputs.now.functions.now) _number (table inputs.now.sources.now results.now)
-        (stages.Operate takes.now origin last act) }
-    ensures lists { IfOk result (λ lists. lists ≡ (object_made
-        (run_world (F.called inputs.now.functions.now) inputs.now.sources.now)
-        (table inputs.now.sources.now results.now) origin act takes.now).bag ∷ []) }
-    ensures calm { OnOk result ((object_made
-        (run_world (F.called inputs.now.functions.now) inputs.now.sources.now)
-        (table inputs.now.sources.now results.now) origin act takes.now).traps ≡ []) }
-    ensures grown { OnOk result (HaveGrown (λ i. sum ((task_counts
-        (run_world (F.called inputs.now.functions.now) inputs.now.sources.now) i).objects
-        origin last (object_made
-        (run_world (F.called inputs.now.functions.now) inputs.now.sources.now)
-        (table inputs.now.sources.now results.now) origin act takes.now)))
+    requires ready { (w : World) × (w.called ≡ F.called inputs.now.functions.now)
+        × CanRunStage w (F.can_call inputs.now.functions.now) _number
+        (table sources.now results.now) (stages.Operate takes.now origin last act) }
+    ensures lists { (w : World) → w.called ≡ F.called inputs.now.functions.now →
+        IfOk result (λ lists. lists
+        ≡ (object_made w (table sources.now results.now) origin act takes.now).bag ∷ []) }
+    ensures calm { (w : World) → w.called ≡ F.called inputs.now.functions.now → OnOk result
+        ((object_made w (table sources.now results.now) origin act takes.now).traps ≡ []) }
+    ensures grown { (w : World) → w.called ≡ F.called inputs.now.functions.now →
+        OnOk result (HaveGrown (λ i. sum ((task_counts w i).objects origin last
+        (object_made w (table sources.now results.now) origin act takes.now)))
         sizes.old sizes.new) }
-    ensures stopped { IfErr result (IsActFault (object_made
-        (run_world (F.called inputs.now.functions.now) inputs.now.sources.now)
-        (table inputs.now.sources.now results.now) origin act takes.now).traps) }
+    ensures stopped { (w : World) → w.called ≡ F.called inputs.now.functions.now → IfErr result
+        (IsActFault (object_made w (table sources.now results.now) origin act takes.now).traps) }
 {
-    let members = made(alloc, inputs, results, takes, origin, last, act, _number)?;
+    let members = made(
+        alloc, inputs, sources, results, takes, origin, last, act, _number,
+    )?;
     kept(alloc, members, origin, last, sizes)
 }
 
@@ -102,6 +99,7 @@ fn one_list(alloc: Global, list: Items) -> Result<Pile<Items>, AllocError>
 fn made<F: Functions>(
     alloc: Global,
     inputs: &Inputs<'_, F>,
+    sources: &[Items],
     results: &[Pile<Items>],
     takes: &Pile<PlanPlace>,
     origin: u32,
@@ -110,19 +108,28 @@ fn made<F: Functions>(
     _number: u32,
 ) -> Result<Result<Items, Trap>, AllocError>
     requires object { gives_object act ≡ true }
-    requires ready { CanRunStage
-        (run_world (F.called inputs.now.functions.now) inputs.now.sources.now)
-        (F.can_call inputs.now.functions.now) _number (table inputs.now.sources.now results.now)
-        (stages.Operate takes.now origin _last act) }
-    ensures { IfOk result (λ made. object_made
-        (run_world (F.called inputs.now.functions.now) inputs.now.sources.now)
-        (table inputs.now.sources.now results.now) origin act takes.now ≡ made_object made) }
+    requires ready { (w : World) × (w.called ≡ F.called inputs.now.functions.now)
+        × CanRunStage w (F.can_call inputs.now.functions.now) _number
+        (table sources.now results.now) (stages.Operate takes.now origin _last act) }
+    ensures { (w : World) → w.called ≡ F.called inputs.now.functions.now →
+        IfOk result (λ made. object_made w (table sources.now results.now) origin act takes.now
+        ≡ made_object made) }
 {
     match act {
         Act::Operate(function) => called(
-            alloc, inputs, results, takes, origin, _last, function, _number,
+            alloc, inputs, sources, results, takes, origin, _last, function, _number,
         ),
-        Act::Singleton(by) => single(alloc, inputs, results, takes.as_slice(), origin, by),
+        Act::Singleton(by) => {
+            single(
+                alloc,
+                inputs,
+                sources,
+                results,
+                takes.as_slice(),
+                origin,
+                by,
+            )
+        }
         Act::SideInput(_) => unreachable!(),
     }
 }
@@ -131,6 +138,7 @@ fn made<F: Functions>(
 fn called<F: Functions>(
     alloc: Global,
     inputs: &Inputs<'_, F>,
+    sources: &[Items],
     results: &[Pile<Items>],
     takes: &Pile<PlanPlace>,
     origin: u32,
@@ -138,18 +146,17 @@ fn called<F: Functions>(
     function: u32,
     _number: u32,
 ) -> Result<Result<Items, Trap>, AllocError>
-    requires ready { CanRunStage
-        (run_world (F.called inputs.now.functions.now) inputs.now.sources.now)
-        (F.can_call inputs.now.functions.now) _number (table inputs.now.sources.now results.now)
+    requires ready { (w : World) × (w.called ≡ F.called inputs.now.functions.now)
+        × CanRunStage w (F.can_call inputs.now.functions.now) _number
+        (table sources.now results.now)
         (stages.Operate takes.now origin _last (acts.Operate function)) }
-    ensures { IfOk result (λ made. object_made
-        (run_world (F.called inputs.now.functions.now) inputs.now.sources.now)
-        (table inputs.now.sources.now results.now) origin (acts.Operate function) takes.now
-        ≡ made_object made) }
+    ensures { (w : World) → w.called ≡ F.called inputs.now.functions.now →
+        IfOk result (λ made. object_made w (table sources.now results.now) origin
+        (acts.Operate function) takes.now ≡ made_object made) }
 {
     act_law(inputs.functions);
     no_value_law();
-    match values_of(alloc, inputs.sources, results, takes)? {
+    match values_of(alloc, sources, results, takes)? {
         None => Ok(Ok(Pile::new(alloc))),
         Some(values) => one(
             alloc,
@@ -192,19 +199,19 @@ fn only_value(alloc: Global, list: &[Value]) -> Result<Option<Value>, AllocError
 // The value of the only pair of a collection, or what the combiner makes of nothing.
 fn single<F: Functions>(
     alloc: Global,
-    inputs: &Inputs<'_, F>,
+    _inputs: &Inputs<'_, F>,
+    sources: &[Items],
     results: &[Pile<Items>],
     takes: &[PlanPlace],
     origin: u32,
     by: Comb,
 ) -> Result<Result<Items, Trap>, AllocError>
-    ensures { IfOk result (λ made. object_made
-        (run_world (F.called inputs.now.functions.now) inputs.now.sources.now)
-        (table inputs.now.sources.now results.now) origin (acts.Singleton by) takes.now
-        ≡ made_object made) }
+    ensures { (w : World) → w.called ≡ F.called _inputs.now.functions.now →
+        IfOk result (λ made. object_made w (table sources.now results.now) origin
+        (acts.Singleton by) takes.now ≡ made_object made) }
 {
     if takes.len() == 1 {
-        let list = list_of(inputs.sources, results, takes[0]);
+        let list = list_of(sources, results, takes[0]);
         one(alloc, singleton(alloc, origin, by, list)?)
     } else {
         Ok(Ok(Pile::new(alloc)))

@@ -1,17 +1,22 @@
 // The phases of a stage, one after the other.
-ghost use Rattle.std.specs.Prelude.{◌≡◌, ◌<◌, ◌≤◌, length, map, IfOk, IfErr, OnOk};
+ghost use Rattle.std.specs.Prelude.{◌≡◌, ◌<◌, ◌≤◌, ◌∷◌, [], length, map, IfOk, IfErr, OnOk};
 ghost use Rattle.std.specs.List.{AllZip};
 ghost use Rattle.crew.specs.Hosts.{account, Grew};
+ghost use Rattle.exec_graph.specs.World.{World};
+ghost use Rattle.exec_plan.specs.declared.plan.PlanPlace.{PlanPlace as GhostPlace};
 ghost use Rattle.exec_plan.specs.declared.plan.Stage.TheVariants as stages;
+ghost use Rattle.flume_types.specs.Typing.{AllHave};
+ghost use Rattle.flume_types.specs.declared.types.Ty.{Ty as GhostTy};
 ghost use Rattle.stage_results.specs.of_map_shard.Tables.{split, table};
-ghost use Rattle.plan_phases.specs.Phases.{stage_phases};
+ghost use Rattle.plan_phases.specs.Phases.{OfTasks, map_phase_of, stage_phases};
 ghost use Rattle.plan_phases.specs.Told.{HaveRun, IsStopped};
 ghost use Rattle.stage_results.specs.of_stage_phases.Outs.{AreReduceOuts};
-ghost use Rattle.stage_results.specs.of_stage_phases.Stages.{run_world};
+ghost use Rattle.stage_exec.specs.inner.Reads.{AgreeOn, later_reads};
 ghost use Rattle.stage_results.specs.of_task_safety.Stages.{CanRunStage};
 ghost use Rattle.task_lists.specs.Outs.{AreMapOuts};
 
-use exec_plan::Mscr;
+use crate::dropping::drop_inputs;
+use exec_plan::{Mscr, PlanPlace, Stage};
 use flume_value::{Items, Pile};
 use forest_steps::Functions;
 use outside::Host;
@@ -29,51 +34,118 @@ pub(crate) struct StageOuts {
     pub(crate) reduces: Vec<ReduceOut>,
 }
 
-/// Runs the map phase of stage `number`, and where it groups its reduce phase.
+/// Runs the map phase of stage `number`, and where it groups its reduce phase. In between it drops
+/// what the stage has read, and no later stage and no output reads.
 pub(crate) fn stage_outs<R: Threads + Sync, F: Functions + Sync, H: Host + Send>(
     rt: &R,
     alloc: Global,
     inputs: &Inputs<'_, F>,
-    results: &[Pile<Items>],
+    sources: &mut Vec<Items>,
+    results: &mut Vec<Pile<Items>>,
     stage: &Mscr,
     number: u32,
+    later: &[Stage],
+    outputs: &[PlanPlace],
     hosts: &mut [H],
     winners: &mut Vec<PhaseWinners>,
 ) -> Result<StageOuts, RunFault>
     requires hosts { (0 < length hosts.old) × (length hosts.old ≤ 16) }
     requires cut { (0 < inputs.now.settings.now.shards)
         × (0 < inputs.now.settings.now.partitions) }
-    requires ready { CanRunStage
-        (run_world (F.called inputs.now.functions.now) inputs.now.sources.now)
-        (F.can_call inputs.now.functions.now) number (table inputs.now.sources.now results.now)
-        (stages.Mscr stage.now) }
+    requires ready { (w : World) × (w.called ≡ F.called inputs.now.functions.now)
+        × CanRunStage w (F.can_call inputs.now.functions.now) number
+        (table sources.old.items results.old.items) (stages.Mscr stage.now) }
     ensures grew { AllZip Grew
         (map (account H.notes H.losses) hosts.old) (map (account H.notes H.losses) hosts.new) }
-    ensures maps { IfOk result (λ outs. AreMapOuts
-        (run_world (F.called inputs.now.functions.now) inputs.now.sources.now)
+    ensures maps { (w : World) → w.called ≡ F.called inputs.now.functions.now →
+        IfOk result (λ outs. AreMapOuts w
         (split inputs.now.settings.now.shards inputs.now.settings.now.partitions)
-        (table inputs.now.sources.now results.now) stage.now outs.maps.items) }
-    ensures reduces { IfOk result (λ outs. AreReduceOuts
-        (run_world (F.called inputs.now.functions.now) inputs.now.sources.now)
+        (table sources.old.items results.old.items) stage.now outs.maps.items) }
+    ensures reduces { (w : World) → w.called ≡ F.called inputs.now.functions.now →
+        IfOk result (λ outs. AreReduceOuts w
         (split inputs.now.settings.now.shards inputs.now.settings.now.partitions)
-        (table inputs.now.sources.now results.now) stage.now outs.reduces.items) }
-    ensures ran { OnOk result (HaveRun
-        inputs.now.settings.now.tries inputs.now.settings.now.drill
-        (run_world (F.called inputs.now.functions.now) inputs.now.sources.now)
-        (stage_phases (run_world (F.called inputs.now.functions.now) inputs.now.sources.now) number
+        (table sources.old.items results.old.items) stage.now outs.reduces.items) }
+    ensures ran { (w : World) → w.called ≡ F.called inputs.now.functions.now → OnOk result
+        (HaveRun inputs.now.settings.now.tries inputs.now.settings.now.drill w
+        (stage_phases w number
         (split inputs.now.settings.now.shards inputs.now.settings.now.partitions)
-        (table inputs.now.sources.now results.now) (stages.Mscr stage.now))
+        (table sources.old.items results.old.items) (stages.Mscr stage.now))
         (map (account H.notes H.losses) hosts.old) (map (account H.notes H.losses) hosts.new)
         winners.old.items winners.new.items) }
-    ensures stopped { IfErr result (IsStopped
-        inputs.now.settings.now.tries inputs.now.settings.now.drill
-        (run_world (F.called inputs.now.functions.now) inputs.now.sources.now)
-        (stage_phases (run_world (F.called inputs.now.functions.now) inputs.now.sources.now) number
+    ensures stopped { (w : World) → w.called ≡ F.called inputs.now.functions.now → IfErr result
+        (IsStopped inputs.now.settings.now.tries inputs.now.settings.now.drill w
+        (stage_phases w number
         (split inputs.now.settings.now.shards inputs.now.settings.now.partitions)
-        (table inputs.now.sources.now results.now) (stages.Mscr stage.now))
+        (table sources.old.items results.old.items) (stages.Mscr stage.now))
         (map (account H.notes H.losses) hosts.old) (map (account H.notes H.losses) hosts.new)) }
+    ensures others { AgreeOn (later_reads later.now outputs.now)
+        (table sources.new.items results.new.items) (table sources.old.items results.old.items) }
+    ensures typed { (type : GhostTy) (q : GhostPlace) →
+        AllHave type (table sources.old.items results.old.items q) →
+        AllHave type (table sources.new.items results.new.items q) }
+    ensures count { length results.new.items ≡ length results.old.items }
 {
-    let maps = map_outs(rt, alloc, inputs, results, stage, number, hosts, winners)?;
+    let maps = all_maps(
+        rt, alloc, inputs, &*sources, &*results, stage, number, hosts, winners,
+    )?;
+    drop_inputs(
+        alloc,
+        sources,
+        results,
+        stage.inputs.as_slice(),
+        later,
+        outputs,
+    );
     let reduces = reduce_outs(rt, alloc, inputs, stage, number, &maps, hosts, winners)?;
     Ok(StageOuts { maps, reduces })
+}
+
+// Runs the map phase over the lists that there are.
+fn all_maps<R: Threads + Sync, F: Functions + Sync, H: Host + Send>(
+    rt: &R,
+    alloc: Global,
+    inputs: &Inputs<'_, F>,
+    sources: &Vec<Items>,
+    results: &Vec<Pile<Items>>,
+    stage: &Mscr,
+    number: u32,
+    hosts: &mut [H],
+    winners: &mut Vec<PhaseWinners>,
+) -> Result<Vec<MapOut>, RunFault>
+    requires hosts { (0 < length hosts.old) × (length hosts.old ≤ 16) }
+    requires ready { (w : World) × (w.called ≡ F.called inputs.now.functions.now)
+        × CanRunStage w (F.can_call inputs.now.functions.now) number
+        (table sources.now.items results.now.items) (stages.Mscr stage.now) }
+    ensures grew { AllZip Grew
+        (map (account H.notes H.losses) hosts.old) (map (account H.notes H.losses) hosts.new) }
+    ensures outs { (w : World) → w.called ≡ F.called inputs.now.functions.now →
+        IfOk result (λ outs. AreMapOuts w
+        (split inputs.now.settings.now.shards inputs.now.settings.now.partitions)
+        (table sources.now.items results.now.items) stage.now outs.items) }
+    ensures ran { (w : World) → w.called ≡ F.called inputs.now.functions.now → OnOk result
+        (HaveRun inputs.now.settings.now.tries inputs.now.settings.now.drill w
+        (OfTasks (map_phase_of number
+        (split inputs.now.settings.now.shards inputs.now.settings.now.partitions)
+        (table sources.now.items results.now.items) stage.now) ∷ [])
+        (map (account H.notes H.losses) hosts.old) (map (account H.notes H.losses) hosts.new)
+        winners.old.items winners.new.items) }
+    ensures stopped { (w : World) → w.called ≡ F.called inputs.now.functions.now → IfErr result
+        (IsStopped inputs.now.settings.now.tries inputs.now.settings.now.drill w
+        (OfTasks (map_phase_of number
+        (split inputs.now.settings.now.shards inputs.now.settings.now.partitions)
+        (table sources.now.items results.now.items) stage.now) ∷ [])
+        (map (account H.notes H.losses) hosts.old) (map (account H.notes H.losses) hosts.new)) }
+{
+    let rows = sources.as_slice();
+    map_outs(
+        rt,
+        alloc,
+        inputs,
+        rows,
+        results.as_slice(),
+        stage,
+        number,
+        hosts,
+        winners,
+    )
 }

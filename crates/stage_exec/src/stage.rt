@@ -1,18 +1,22 @@
 // One stage.
-ghost use Rattle.std.specs.Prelude.{◌≡◌, ◌<◌, ◌≤◌, ◌*◌, ◌∷◌, [], length, map, sum, IfOk, IfErr, OnOk};
+ghost use Rattle.std.specs.Prelude.{◌≡◌, ◌<◌, ◌≤◌, ◌*◌, ◌∷◌, [], true, length, map, sum, IfOk, IfErr, OnOk};
 ghost use Rattle.std.specs.List.{AllZip, flat_map};
 ghost use Rattle.crew.specs.Hosts.{account, Grew};
+ghost use Rattle.exec_graph.specs.Objects.{gives_object};
 ghost use Rattle.exec_graph.specs.World.{World};
+ghost use Rattle.exec_plan.specs.declared.plan.PlanPlace.{PlanPlace as GhostPlace};
 ghost use Rattle.exec_plan.specs.declared.plan.Stage.TheVariants as stages;
+ghost use Rattle.flume_types.specs.Typing.{AllHave};
+ghost use Rattle.flume_types.specs.declared.types.Ty.{Ty as GhostTy};
 ghost use Rattle.stage_results.specs.of_map_shard.Tables.{split, table};
 ghost use Rattle.plan_phases.specs.Phases.{stage_phases};
 ghost use Rattle.plan_phases.specs.Told.{HaveRun, IsStopped};
-ghost use Rattle.stage_exec.specs.inner.Objects.{GivesObject};
+ghost use Rattle.stage_exec.specs.inner.Objects.{GivesObject, IsActFault};
+ghost use Rattle.stage_exec.specs.inner.Reads.{AgreeOn, later_reads};
 ghost use Rattle.stage_results.specs.of_stage_phases.Outs.{AreReduceOuts};
-ghost use Rattle.stage_results.specs.of_stage_phases.Stages.{run_world};
 ghost use Rattle.stage_results.specs.of_task_safety.Stages.{CanRunStage};
 ghost use Rattle.stage_results.specs.of_step_counts.Sizes.{HaveGrown};
-ghost use Rattle.task_lists.specs.Lists.{result_lists};
+ghost use Rattle.task_lists.specs.Lists.{object_made, result_lists};
 ghost use Rattle.task_lists.specs.Outs.{AreMapOuts};
 ghost use Rattle.task_lists.specs.Plans.{stage_tasks, task_counts};
 ghost use Rattle.task_lists.specs.Tasks.{Lists};
@@ -20,6 +24,7 @@ ghost use Rattle.task_lists.specs.Tasks.{Lists};
 use crate::flatten::flatten_lists;
 use crate::objects::object_lists;
 use crate::phases::{StageOuts, stage_outs};
+use exec_graph::Act;
 use exec_plan::{Mscr, PlanPlace, Stage};
 use flume_value::{Items, Pile};
 use forest_steps::Functions;
@@ -31,61 +36,68 @@ use std::alloc::{AllocError, Global};
 use std::thread::Threads;
 
 /// Runs stage `number` over the results of the stages before it, and gives its results. What its
-/// tasks have counted is added to the sizes of script nodes, and their winners are told.
+/// tasks have counted is added to the sizes of script nodes, and their winners are told. Between
+/// its phases it drops what it has read, and no later stage and no output reads.
 pub(crate) fn run_stage<R: Threads + Sync, F: Functions + Sync, H: Host + Send>(
     rt: &R,
     alloc: Global,
     inputs: &Inputs<'_, F>,
-    results: &[Pile<Items>],
+    sources: &mut Vec<Items>,
+    results: &mut Vec<Pile<Items>>,
     stage: &Stage,
     number: u32,
+    later: &[Stage],
+    outputs: &[PlanPlace],
     hosts: &mut [H],
     sizes: &mut [u64],
     winners: &mut Vec<PhaseWinners>,
 ) -> Result<Pile<Items>, RunFault>
     requires hosts { (0 < length hosts.old) × (length hosts.old ≤ 16) }
-    requires ready { CanRunStage
-        (run_world (F.called inputs.now.functions.now) inputs.now.sources.now)
-        (F.can_call inputs.now.functions.now) number (table inputs.now.sources.now results.now)
-        stage.now }
+    requires ready { (w : World) × (w.called ≡ F.called inputs.now.functions.now)
+        × CanRunStage w (F.can_call inputs.now.functions.now) number
+        (table sources.old.items results.old.items) stage.now }
     requires object { GivesObject stage.now }
     ensures grew { AllZip Grew
         (map (account H.notes H.losses) hosts.old) (map (account H.notes H.losses) hosts.new) }
-    ensures lists { IfOk result (λ lists. lists ≡ result_lists
-        (run_world (F.called inputs.now.functions.now) inputs.now.sources.now)
+    ensures lists { (w : World) → w.called ≡ F.called inputs.now.functions.now →
+        IfOk result (λ lists. lists ≡ result_lists w
         (split inputs.now.settings.now.shards inputs.now.settings.now.partitions)
-        (table inputs.now.sources.now results.now) stage.now) }
-    ensures grown { OnOk result (HaveGrown (λ i. sum (stage_tasks
-        (task_counts (run_world (F.called inputs.now.functions.now) inputs.now.sources.now) i)
-        (run_world (F.called inputs.now.functions.now) inputs.now.sources.now)
+        (table sources.old.items results.old.items) stage.now) }
+    ensures grown { (w : World) → w.called ≡ F.called inputs.now.functions.now →
+        OnOk result (HaveGrown (λ i. sum (stage_tasks (task_counts w i) w
         (split inputs.now.settings.now.shards inputs.now.settings.now.partitions)
-        (table inputs.now.sources.now results.now) stage.now)) sizes.old sizes.new) }
-    ensures ran { OnOk result (HaveRun
-        inputs.now.settings.now.tries inputs.now.settings.now.drill
-        (run_world (F.called inputs.now.functions.now) inputs.now.sources.now)
-        (stage_phases (run_world (F.called inputs.now.functions.now) inputs.now.sources.now) number
+        (table sources.old.items results.old.items) stage.now)) sizes.old sizes.new) }
+    ensures ran { (w : World) → w.called ≡ F.called inputs.now.functions.now → OnOk result
+        (HaveRun inputs.now.settings.now.tries inputs.now.settings.now.drill w
+        (stage_phases w number
         (split inputs.now.settings.now.shards inputs.now.settings.now.partitions)
-        (table inputs.now.sources.now results.now) stage.now)
+        (table sources.old.items results.old.items) stage.now)
         (map (account H.notes H.losses) hosts.old) (map (account H.notes H.losses) hosts.new)
         winners.old.items winners.new.items) }
-    ensures stopped { IfErr result (IsStopped
-        inputs.now.settings.now.tries inputs.now.settings.now.drill
-        (run_world (F.called inputs.now.functions.now) inputs.now.sources.now)
-        (stage_phases (run_world (F.called inputs.now.functions.now) inputs.now.sources.now) number
+    ensures stopped { (w : World) → w.called ≡ F.called inputs.now.functions.now → IfErr result
+        (IsStopped inputs.now.settings.now.tries inputs.now.settings.now.drill w
+        (stage_phases w number
         (split inputs.now.settings.now.shards inputs.now.settings.now.partitions)
-        (table inputs.now.sources.now results.now) stage.now)
+        (table sources.old.items results.old.items) stage.now)
         (map (account H.notes H.losses) hosts.old) (map (account H.notes H.losses) hosts.new)) }
+    ensures others { AgreeOn (later_reads later.now outputs.now)
+        (table sources.new.items results.new.items) (table sources.old.items results.old.items) }
+    ensures typed { (type : GhostTy) (q : GhostPlace) →
+        AllHave type (table sources.old.items results.old.items q) →
+        AllHave type (table sources.new.items results.new.items q) }
+    ensures count { length results.new.items ≡ length results.old.items }
 {
     match stage {
         Stage::Mscr(stage) => run_mscr(
-            rt, alloc, inputs, results, stage, number, hosts, sizes, winners,
+            rt, alloc, inputs, sources, results, stage, number, later, outputs, hosts, sizes,
+            winners,
         ),
-        Stage::Flatten(takes) => match flat_lists(alloc, inputs.sources, results, takes) {
+        Stage::Flatten(takes) => match flat_lists(alloc, &*sources, &*results, takes) {
             Ok(lists) => Ok(lists),
             Err(AllocError) => Err(RunFault::Memory),
         },
-        Stage::Operate(takes, origin, last, act) => object_lists(
-            alloc, inputs, results, takes, *origin, *last, *act, number, sizes,
+        Stage::Operate(takes, origin, last, act) => object_of(
+            alloc, inputs, &*sources, &*results, takes, *origin, *last, *act, number, sizes,
         ),
     }
 }
@@ -93,64 +105,111 @@ pub(crate) fn run_stage<R: Threads + Sync, F: Functions + Sync, H: Host + Send>(
 // A Flatten stage has no tasks.
 fn flat_lists(
     alloc: Global,
-    sources: &[Items],
-    results: &[Pile<Items>],
+    sources: &Vec<Items>,
+    results: &Vec<Pile<Items>>,
     takes: &Pile<PlanPlace>,
 ) -> Result<Pile<Items>, AllocError>
     ensures { IfOk result (λ lists.
-        lists ≡ flat_map (table sources.now results.now) takes.now ∷ []) }
+        lists ≡ flat_map (table sources.now.items results.now.items) takes.now ∷ []) }
 {
+    let rows = sources.as_slice();
     let mut lists = Vec::new(alloc);
-    lists.push(flatten_lists(alloc, sources, results, takes.as_slice())?)?;
+    lists.push(flatten_lists(alloc, rows, results.as_slice(), takes.as_slice())?)?;
     Ok(Pile::from_vec(lists))
+}
+
+// An Operate stage has none either.
+fn object_of<F: Functions>(
+    alloc: Global,
+    inputs: &Inputs<'_, F>,
+    sources: &Vec<Items>,
+    results: &Vec<Pile<Items>>,
+    takes: &Pile<PlanPlace>,
+    origin: u32,
+    last: bool,
+    act: Act,
+    _number: u32,
+    sizes: &mut [u64],
+) -> Result<Pile<Items>, RunFault>
+    requires object { gives_object act ≡ true }
+    requires ready { (w : World) × (w.called ≡ F.called inputs.now.functions.now)
+        × CanRunStage w (F.can_call inputs.now.functions.now) _number
+        (table sources.now.items results.now.items)
+        (stages.Operate takes.now origin last act) }
+    ensures lists { (w : World) → w.called ≡ F.called inputs.now.functions.now →
+        IfOk result (λ lists. lists ≡ (object_made w
+        (table sources.now.items results.now.items) origin act takes.now).bag ∷ []) }
+    ensures calm { (w : World) → w.called ≡ F.called inputs.now.functions.now →
+        OnOk result ((object_made w
+        (table sources.now.items results.now.items) origin act takes.now).traps ≡ []) }
+    ensures grown { (w : World) → w.called ≡ F.called inputs.now.functions.now →
+        OnOk result (HaveGrown (λ i. sum ((task_counts w i).objects origin last (object_made w
+        (table sources.now.items results.now.items) origin act takes.now)))
+        sizes.old sizes.new) }
+    ensures stopped { (w : World) → w.called ≡ F.called inputs.now.functions.now →
+        IfErr result (IsActFault (object_made w
+        (table sources.now.items results.now.items) origin act takes.now).traps) }
+{
+    let rows = sources.as_slice();
+    let lists = results.as_slice();
+    object_lists(
+        alloc, inputs, rows, lists, takes, origin, last, act, _number, sizes,
+    )
 }
 
 fn run_mscr<R: Threads + Sync, F: Functions + Sync, H: Host + Send>(
     rt: &R,
     alloc: Global,
     inputs: &Inputs<'_, F>,
-    results: &[Pile<Items>],
+    sources: &mut Vec<Items>,
+    results: &mut Vec<Pile<Items>>,
     stage: &Mscr,
     number: u32,
+    later: &[Stage],
+    outputs: &[PlanPlace],
     hosts: &mut [H],
     sizes: &mut [u64],
     winners: &mut Vec<PhaseWinners>,
 ) -> Result<Pile<Items>, RunFault>
     requires hosts { (0 < length hosts.old) × (length hosts.old ≤ 16) }
-    requires ready { CanRunStage
-        (run_world (F.called inputs.now.functions.now) inputs.now.sources.now)
-        (F.can_call inputs.now.functions.now) number (table inputs.now.sources.now results.now)
-        (stages.Mscr stage.now) }
+    requires ready { (w : World) × (w.called ≡ F.called inputs.now.functions.now)
+        × CanRunStage w (F.can_call inputs.now.functions.now) number
+        (table sources.old.items results.old.items) (stages.Mscr stage.now) }
     ensures grew { AllZip Grew
         (map (account H.notes H.losses) hosts.old) (map (account H.notes H.losses) hosts.new) }
-    ensures lists { IfOk result (λ lists. lists ≡ result_lists
-        (run_world (F.called inputs.now.functions.now) inputs.now.sources.now)
+    ensures lists { (w : World) → w.called ≡ F.called inputs.now.functions.now →
+        IfOk result (λ lists. lists ≡ result_lists w
         (split inputs.now.settings.now.shards inputs.now.settings.now.partitions)
-        (table inputs.now.sources.now results.now) (stages.Mscr stage.now)) }
-    ensures grown { OnOk result (HaveGrown (λ i. sum (stage_tasks
-        (task_counts (run_world (F.called inputs.now.functions.now) inputs.now.sources.now) i)
-        (run_world (F.called inputs.now.functions.now) inputs.now.sources.now)
+        (table sources.old.items results.old.items) (stages.Mscr stage.now)) }
+    ensures grown { (w : World) → w.called ≡ F.called inputs.now.functions.now →
+        OnOk result (HaveGrown (λ i. sum (stage_tasks (task_counts w i) w
         (split inputs.now.settings.now.shards inputs.now.settings.now.partitions)
-        (table inputs.now.sources.now results.now) (stages.Mscr stage.now))) sizes.old sizes.new) }
-    ensures ran { OnOk result (HaveRun
-        inputs.now.settings.now.tries inputs.now.settings.now.drill
-        (run_world (F.called inputs.now.functions.now) inputs.now.sources.now)
-        (stage_phases (run_world (F.called inputs.now.functions.now) inputs.now.sources.now) number
+        (table sources.old.items results.old.items) (stages.Mscr stage.now))) sizes.old sizes.new) }
+    ensures ran { (w : World) → w.called ≡ F.called inputs.now.functions.now → OnOk result
+        (HaveRun inputs.now.settings.now.tries inputs.now.settings.now.drill w
+        (stage_phases w number
         (split inputs.now.settings.now.shards inputs.now.settings.now.partitions)
-        (table inputs.now.sources.now results.now) (stages.Mscr stage.now))
+        (table sources.old.items results.old.items) (stages.Mscr stage.now))
         (map (account H.notes H.losses) hosts.old) (map (account H.notes H.losses) hosts.new)
         winners.old.items winners.new.items) }
-    ensures stopped { IfErr result (IsStopped
-        inputs.now.settings.now.tries inputs.now.settings.now.drill
-        (run_world (F.called inputs.now.functions.now) inputs.now.sources.now)
-        (stage_phases (run_world (F.called inputs.now.functions.now) inputs.now.sources.now) number
+    ensures stopped { (w : World) → w.called ≡ F.called inputs.now.functions.now → IfErr result
+        (IsStopped inputs.now.settings.now.tries inputs.now.settings.now.drill w
+        (stage_phases w number
         (split inputs.now.settings.now.shards inputs.now.settings.now.partitions)
-        (table inputs.now.sources.now results.now) (stages.Mscr stage.now))
+        (table sources.old.items results.old.items) (stages.Mscr stage.now))
         (map (account H.notes H.losses) hosts.old) (map (account H.notes H.losses) hosts.new)) }
+    ensures others { AgreeOn (later_reads later.now outputs.now)
+        (table sources.new.items results.new.items) (table sources.old.items results.old.items) }
+    ensures typed { (type : GhostTy) (q : GhostPlace) →
+        AllHave type (table sources.old.items results.old.items q) →
+        AllHave type (table sources.new.items results.new.items q) }
+    ensures count { length results.new.items ≡ length results.old.items }
 {
     let shards = inputs.settings.shards();
     let partitions = inputs.settings.partitions();
-    let outs = stage_outs(rt, alloc, inputs, results, stage, number, hosts, winners)?;
+    let outs = stage_outs(
+        rt, alloc, inputs, sources, results, stage, number, later, outputs, hosts, winners,
+    )?;
     match mscr_lists(alloc, stage, shards, partitions, outs, sizes) {
         Ok(lists) => Ok(lists),
         Err(AllocError) => Err(RunFault::Memory),

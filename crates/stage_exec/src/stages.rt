@@ -21,11 +21,13 @@ use stage_results::stage_phases::Inputs;
 use std::alloc::{AllocError, Global};
 use std::thread::Threads;
 
-/// Runs stages in order, and gives the results of each that are read by outputs.
+/// Runs stages in order, and gives the results of each that are read by outputs. Rows of sources
+/// and results that are read no more are dropped.
 pub(crate) fn run_stages<R: Threads + Sync, F: Functions + Sync, H: Host + Send>(
     rt: &R,
     alloc: Global,
     inputs: &Inputs<'_, F>,
+    sources: &mut Vec<Items>,
     stages: &[Stage],
     outputs: &[PlanPlace],
     hosts: &mut [H],
@@ -35,34 +37,34 @@ pub(crate) fn run_stages<R: Threads + Sync, F: Functions + Sync, H: Host + Send>
     requires hosts { (0 < length hosts.old) × (length hosts.old ≤ 16) }
     requires few { length stages.now < 2 ^ 32 }
     requires ready { CanGoOn
-        (run_world (F.called inputs.now.functions.now) inputs.now.sources.now)
+        (run_world (F.called inputs.now.functions.now) sources.old.items)
         (F.can_call inputs.now.functions.now) 1 stages.now
-        (source_lists (run_world (F.called inputs.now.functions.now) inputs.now.sources.now)) }
+        (source_lists (run_world (F.called inputs.now.functions.now) sources.old.items)) }
     ensures grew { AllZip Grew
         (map (account H.notes H.losses) hosts.old) (map (account H.notes H.losses) hosts.new) }
     ensures lists { IfOk result (λ results. AgreeOn outputs.now
-        (table inputs.now.sources.now results.items)
+        (table sources.new.items results.items)
         (lists_after inputs.now.settings.now
-        (run_world (F.called inputs.now.functions.now) inputs.now.sources.now) 1 stages.now
-        (source_lists (run_world (F.called inputs.now.functions.now) inputs.now.sources.now)))) }
+        (run_world (F.called inputs.now.functions.now) sources.old.items) 1 stages.now
+        (source_lists (run_world (F.called inputs.now.functions.now) sources.old.items)))) }
     ensures sizes { OnOk result (HaveGrown (counted_on inputs.now.settings.now
-        (run_world (F.called inputs.now.functions.now) inputs.now.sources.now) 1 stages.now
-        (source_lists (run_world (F.called inputs.now.functions.now) inputs.now.sources.now)))
+        (run_world (F.called inputs.now.functions.now) sources.old.items) 1 stages.now
+        (source_lists (run_world (F.called inputs.now.functions.now) sources.old.items)))
         sizes.old sizes.new) }
     ensures ran { OnOk result (HaveRun
         inputs.now.settings.now.tries inputs.now.settings.now.drill
-        (run_world (F.called inputs.now.functions.now) inputs.now.sources.now)
+        (run_world (F.called inputs.now.functions.now) sources.old.items)
         (phases_on inputs.now.settings.now
-        (run_world (F.called inputs.now.functions.now) inputs.now.sources.now) 1 stages.now
-        (source_lists (run_world (F.called inputs.now.functions.now) inputs.now.sources.now)))
+        (run_world (F.called inputs.now.functions.now) sources.old.items) 1 stages.now
+        (source_lists (run_world (F.called inputs.now.functions.now) sources.old.items)))
         (map (account H.notes H.losses) hosts.old) (map (account H.notes H.losses) hosts.new)
         winners.old.items winners.new.items) }
     ensures stopped { IfErr result (IsStopped
         inputs.now.settings.now.tries inputs.now.settings.now.drill
-        (run_world (F.called inputs.now.functions.now) inputs.now.sources.now)
+        (run_world (F.called inputs.now.functions.now) sources.old.items)
         (phases_on inputs.now.settings.now
-        (run_world (F.called inputs.now.functions.now) inputs.now.sources.now) 1 stages.now
-        (source_lists (run_world (F.called inputs.now.functions.now) inputs.now.sources.now)))
+        (run_world (F.called inputs.now.functions.now) sources.old.items) 1 stages.now
+        (source_lists (run_world (F.called inputs.now.functions.now) sources.old.items)))
         (map (account H.notes H.losses) hosts.old) (map (account H.notes H.losses) hosts.new)) }
 {
     let mut results = Vec::new(alloc);
@@ -72,9 +74,12 @@ pub(crate) fn run_stages<R: Threads + Sync, F: Functions + Sync, H: Host + Send>
             rt,
             alloc,
             inputs,
-            results.as_slice(),
+            sources,
+            &mut results,
             stage,
             number,
+            &stages[k + 1..],
+            outputs,
             hosts,
             sizes,
             winners,
@@ -82,7 +87,7 @@ pub(crate) fn run_stages<R: Threads + Sync, F: Functions + Sync, H: Host + Send>
         push_results(&mut results, lists)?;
         drop_read(
             alloc,
-            inputs.sources,
+            sources,
             &mut results,
             stage,
             &stages[k + 1..],

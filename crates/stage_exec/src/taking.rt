@@ -1,11 +1,11 @@
-// Results that are taken away. The others stay.
+// Lists that are taken away. The others stay.
 ghost use Rattle.std.specs.Prelude.{◌≡◌, ℕ, [], false, length, slice_get};
 ghost use Rattle.std.specs.List.{list_any};
 ghost use Rattle.flume_collection.specs.Calls.{or_none};
 ghost use Rattle.flume_types.specs.Typing.{AllHave};
 ghost use Rattle.flume_types.specs.declared.types.Ty.{Ty as GhostTy};
 ghost use Rattle.exec_plan.specs.declared.plan.PlanPlace.{PlanPlace as GhostPlace};
-ghost use Rattle.exec_plan.specs.declared.plan.PlanPlace.TheVariants.{Result as AtResult};
+ghost use Rattle.exec_plan.specs.declared.plan.PlanPlace.TheVariants.{Result as AtResult, Source as AtSource};
 ghost use Rattle.stage_results.specs.of_map_shard.Tables.{table};
 ghost use Rattle.stage_exec.specs.inner.Places as spec;
 
@@ -13,6 +13,7 @@ use exec_plan::PlanPlace;
 use flume_value::{Items, Pile};
 use stage_results::map_shard::take_list;
 use std::alloc::Global;
+use std::mem;
 
 /// Whether a collection is one of these.
 pub(crate) fn is_among(places: &[PlanPlace], place: PlanPlace) -> bool
@@ -38,8 +39,53 @@ pub(crate) fn is_same(one: PlanPlace, other: PlanPlace) -> bool
     }
 }
 
-/// Takes a result of a stage away, and gives its list. What has a type keeps it.
-pub(crate) fn taken_result(
+/// Takes the list of a collection away. What has a type keeps it.
+pub(crate) fn taken(
+    alloc: Global,
+    sources: &mut Vec<Items>,
+    results: &mut Vec<Pile<Items>>,
+    place: PlanPlace,
+) -> Items
+    ensures list { result ≡ table sources.old.items results.old.items place }
+    ensures others { (q : GhostPlace) → spec.is_same q place ≡ false →
+        table sources.new.items results.new.items q
+        ≡ table sources.old.items results.old.items q }
+    ensures typed { (type : GhostTy) (q : GhostPlace) →
+        AllHave type (table sources.old.items results.old.items q) →
+        AllHave type (table sources.new.items results.new.items q) }
+    ensures count { length results.new.items ≡ length results.old.items }
+{
+    match place {
+        PlanPlace::Source(number) => taken_rows(alloc, sources, results.as_slice(), number),
+        PlanPlace::Result { stage, number } => {
+            taken_result(alloc, sources.as_slice(), results, stage, number)
+        }
+    }
+}
+
+// Takes the rows of a source away.
+fn taken_rows(
+    alloc: Global,
+    sources: &mut Vec<Items>,
+    _results: &[Pile<Items>],
+    number: u32,
+) -> Items
+    ensures list { result ≡ table sources.old.items _results.now (AtSource number) }
+    ensures others { (q : GhostPlace) → spec.is_same q (AtSource number) ≡ false →
+        table sources.new.items _results.now q ≡ table sources.old.items _results.now q }
+    ensures typed { (type : GhostTy) (q : GhostPlace) →
+        AllHave type (table sources.old.items _results.now q) →
+        AllHave type (table sources.new.items _results.now q) }
+{
+    let at = number as usize;
+    if at >= sources.len() {
+        return Pile::new(alloc);
+    }
+    mem::replace(&mut sources[at], Pile::new(alloc))
+}
+
+// Takes a result of a stage away.
+fn taken_result(
     alloc: Global,
     _sources: &[Items],
     results: &mut Vec<Pile<Items>>,

@@ -1,6 +1,7 @@
 -- The tasks of a map phase as a crew runs them.
-use Rattle.std.proofs.Common.{◌≡◌, ℕ, List, refl, sym, ap, subst}
+use Rattle.std.proofs.Common.{◌≡◌, ℕ, List, sym, ap, subst}
 use Rattle.flume_value.specs.declared.value.Value.{Value}
+use Rattle.flume_collection.specs.Calls.{Called}
 use Rattle.outside.specs.declared.host.Phase.TheVariants.{Map}
 use Rattle.crew.specs.Drills.{Settings}
 use Rattle.exec_graph.specs.World.{World}
@@ -24,20 +25,21 @@ work_of functions sources results stage settings = record {
   partitions = settings.partitions;
 }
 
-module _ {F : Type 0} (work : Work F) (w : World) where
+module _ {F : Type 0} (work : Work F) (w : World) (called : ℕ → Value → Called)
+    (same : w.called ≡ called) where
   abbrev task_of : ℕ → Task
   task_of k = map_task_at (split_of work) (lists_of work) work.stage k
 
   pub is_map_phase : (k : ℕ) (s : Settings) → s.stage ≡ k → s.phase ≡ Map
       → IsPhaseOf w (map_phase_of k (split_of work) (lists_of work) work.stage) s (work_count work)
-      (IsWorkValue w.called work) (work_places work)
+      (IsWorkValue called work) (work_places work)
   is_map_phase k s stage phase = record {
     named = (sym stage, sym phase);
     count = length_below task_of (work_count work);
     calm = λ j task out at is.
-        subst (IsCalm w) (at_below task_of (work_count work) j task at) (is w refl).calm;
+        subst (IsCalm w) (at_below task_of (work_count work) j task at) (is w same).calm;
     trapped = λ j task trap at is.
         subst (λ x. IsFirstTrap w x trap) (at_below task_of (work_count work) j task at)
-        (is w refl);
+        (is w same);
     asks = λ j task at. ap places (at_below task_of (work_count work) j task at);
   }

@@ -6,6 +6,7 @@ use Rattle.std.specs.Option.{IsSomeAnd, option_map_or}
 use Rattle.std.proofs.Math.Nat.{div-lt_iff_lt-mul, le-mul_of_pos_right}
 use Rattle.std.proofs.lemmas.Option.{slice_get_within}
 use Rattle.flume_value.specs.declared.value.Value.{Value}
+use Rattle.flume_collection.specs.Calls.{Called}
 use Rattle.flume_collection.specs.declared.trap.Trap.{Trap}
 use Rattle.bag_groups.specs.Groups.{grouped}
 use Rattle.combine_table.specs.declared.comb.Comb.{Comb}
@@ -79,7 +80,8 @@ count_within r made is some few groups channels =
     let least = le-mul_of_pos_right count some in
     rw is (omega arith, omega arith)
 
-module _ {F : Type 0} (r : Reducing F) (w : World) (shards : ℕ) (t : Lists)
+module _ {F : Type 0} (r : Reducing F) (w : World) (called : ℕ → Value → Called)
+    (same : w.called ≡ called) (shards : ℕ) (t : Lists)
     (first : AreGroupsFirst r.stage.outputs) (some : 0 < shards)
     (some_partitions : 0 < r.partitions)
     (made : AreMapOuts w (split shards r.partitions) t r.stage r.outs) where
@@ -128,13 +130,13 @@ module _ {F : Type 0} (r : Reducing F) (w : World) (shards : ℕ) (t : Lists)
       }
 
   value_of : (k : ℕ) (out : Result ReduceOut Trap) → k < reducing_count r
-      → IsReducingValue w.called r k out → IsReduceValue w (task_of k) out
+      → IsReducingValue called r k out → IsReduceValue w (task_of k) out
   value_of k out below is =
       let h = place_of k below in
       let i = k / r.partitions in
       let p = k % r.partitions in
       subst (λ x. IsReduceValue w x out) (same_task i h.channel p ∙ sym h.is)
-      (is h.channel h.at w (pairs_of_part i h.channel p) refl
+      (is h.channel h.at w (pairs_of_part i h.channel p) same
       (gathered_of i h.channel p h.within h.place))
 
   -- a task of the phase, by its place among them
@@ -149,7 +151,7 @@ module _ {F : Type 0} (r : Reducing F) (w : World) (shards : ℕ) (t : Lists)
       → IsGathered lifted r.outs i p pairs
       → group_count lifted r.outs i p ≡ Some (length (grouped pairs)))
       → IsPhaseOf w (reduce_phase_of w k n t r.stage) s (reducing_count r)
-      (IsReducingValue w.called r) (reducing_places r)
+      (IsReducingValue called r) (reducing_places r)
   is_reduce_phase k s stage phase counted = record {
     named = (sym stage, sym phase);
     count = length_below task_of (reducing_count r);
@@ -174,7 +176,7 @@ module _ {F : Type 0} (r : Reducing F) (w : World) (shards : ℕ) (t : Lists)
   }
 
   pub are_reduce_outs : (outs : List ReduceOut)
-      → AreValues (reducing_count r) (IsReducingValue w.called r) outs
+      → AreValues (reducing_count r) (IsReducingValue called r) outs
       → AreReduceOuts w n t r.stage outs
   are_reduce_outs outs h = record {
     count = h.count;

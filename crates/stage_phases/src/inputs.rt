@@ -2,7 +2,6 @@
 ghost use Rattle.std.specs.Prelude.{◌≡◌, ◌<◌, ◌≤◌};
 
 use crew::PhaseSettings;
-use flume_value::Items;
 use forest_steps::Functions;
 use outside::Phase;
 use run_settings::Settings;
@@ -12,8 +11,6 @@ use run_settings::Settings;
 pub struct Inputs<'a, F: Functions> {
     /// The functions of the script.
     pub functions: &'a F,
-    /// The rows of each source.
-    pub sources: &'a [Items],
     /// Into how much a stage is cut, and how often a task is tried.
     pub settings: &'a Settings,
 }

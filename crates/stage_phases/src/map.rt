@@ -2,13 +2,13 @@
 ghost use Rattle.std.specs.Prelude.{◌≡◌, ◌<◌, ◌≤◌, ◌^◌, ◌∷◌, [], length, map, IfOk, IfErr, OnOk};
 ghost use Rattle.std.specs.List.{AllZip};
 ghost use Rattle.crew.specs.Hosts.{account, Grew};
+ghost use Rattle.exec_graph.specs.World.{World};
 ghost use Rattle.exec_plan.specs.declared.plan.Stage.TheVariants as stages;
 ghost use Rattle.task_lists.specs.Outs.{AreMapOuts};
 ghost use Rattle.map_shard.specs.Tables.{split, table};
 ghost use Rattle.map_shard.specs.Work.{work_count};
 ghost use Rattle.plan_phases.specs.Phases.{OfTasks, map_phase_of};
 ghost use Rattle.plan_phases.specs.Told.{HaveRun, IsStopped};
-ghost use Rattle.stage_phases.specs.Stages.{run_world};
 ghost use Rattle.map_shard.specs.of_task_safety.Stages.{CanRunStage};
 
 use crate::inputs::Inputs;
@@ -23,12 +23,13 @@ use shuffle_parts::MapOut;
 use std::alloc::Global;
 use std::thread::Threads;
 
-/// The outs of the map tasks of stage `number`, over the results of earlier stages. It tells the
-/// winners behind those of earlier phases.
+/// The outs of the map tasks of stage `number`, over the rows of sources and the results of earlier
+/// stages. It tells the winners behind those of earlier phases.
 pub fn map_outs<R: Threads + Sync, F: Functions + Sync, H: Host + Send>(
     rt: &R,
     alloc: Global,
     inputs: &Inputs<'_, F>,
+    sources: &[Items],
     results: &[Pile<Items>],
     stage: &Mscr,
     number: u32,
@@ -36,33 +37,30 @@ pub fn map_outs<R: Threads + Sync, F: Functions + Sync, H: Host + Send>(
     winners: &mut Vec<PhaseWinners>,
 ) -> Result<Vec<MapOut>, RunFault>
     requires hosts { (0 < length hosts.old) × (length hosts.old ≤ 16) }
-    requires ready { CanRunStage
-        (run_world (F.called inputs.now.functions.now) inputs.now.sources.now)
-        (F.can_call inputs.now.functions.now) number (table inputs.now.sources.now results.now)
-        (stages.Mscr stage.now) }
+    requires ready { (w : World) × (w.called ≡ F.called inputs.now.functions.now)
+        × CanRunStage w (F.can_call inputs.now.functions.now) number
+        (table sources.now results.now) (stages.Mscr stage.now) }
     ensures grew { AllZip Grew
         (map (account H.notes H.losses) hosts.old) (map (account H.notes H.losses) hosts.new) }
-    ensures outs { IfOk result (λ outs. AreMapOuts
-        (run_world (F.called inputs.now.functions.now) inputs.now.sources.now)
+    ensures outs { (w : World) → w.called ≡ F.called inputs.now.functions.now →
+        IfOk result (λ outs. AreMapOuts w
         (split inputs.now.settings.now.shards inputs.now.settings.now.partitions)
-        (table inputs.now.sources.now results.now) stage.now outs.items) }
-    ensures ran { OnOk result (HaveRun
-        inputs.now.settings.now.tries inputs.now.settings.now.drill
-        (run_world (F.called inputs.now.functions.now) inputs.now.sources.now)
+        (table sources.now results.now) stage.now outs.items) }
+    ensures ran { (w : World) → w.called ≡ F.called inputs.now.functions.now →
+        OnOk result (HaveRun inputs.now.settings.now.tries inputs.now.settings.now.drill w
         (OfTasks (map_phase_of number
         (split inputs.now.settings.now.shards inputs.now.settings.now.partitions)
-        (table inputs.now.sources.now results.now) stage.now) ∷ [])
+        (table sources.now results.now) stage.now) ∷ [])
         (map (account H.notes H.losses) hosts.old) (map (account H.notes H.losses) hosts.new)
         winners.old.items winners.new.items) }
-    ensures stopped { IfErr result (IsStopped
-        inputs.now.settings.now.tries inputs.now.settings.now.drill
-        (run_world (F.called inputs.now.functions.now) inputs.now.sources.now)
+    ensures stopped { (w : World) → w.called ≡ F.called inputs.now.functions.now →
+        IfErr result (IsStopped inputs.now.settings.now.tries inputs.now.settings.now.drill w
         (OfTasks (map_phase_of number
         (split inputs.now.settings.now.shards inputs.now.settings.now.partitions)
-        (table inputs.now.sources.now results.now) stage.now) ∷ [])
+        (table sources.now results.now) stage.now) ∷ [])
         (map (account H.notes H.losses) hosts.old) (map (account H.notes H.losses) hosts.new)) }
 {
-    let tasks = map_tasks(inputs, results, stage, number);
+    let tasks = map_tasks(inputs, sources, results, stage, number);
     let phase = inputs.phase(number, Phase::Map);
     outs_of(rt, alloc, &tasks, hosts, &phase, winners)
 }
@@ -70,17 +68,17 @@ pub fn map_outs<R: Threads + Sync, F: Functions + Sync, H: Host + Send>(
 // The map tasks of the stage, which are not too many for a crew.
 fn map_tasks<'a, F: Functions>(
     inputs: &Inputs<'a, F>,
+    sources: &'a [Items],
     results: &'a [Pile<Items>],
     stage: &'a Mscr,
     _number: u32,
 ) -> MapTasks<'a, F>
-    requires ready { CanRunStage
-        (run_world (F.called inputs.now.functions.now) inputs.now.sources.now)
-        (F.can_call inputs.now.functions.now) _number (table inputs.now.sources.now results.now)
-        (stages.Mscr stage.now) }
+    requires ready { (w : World) × (w.called ≡ F.called inputs.now.functions.now)
+        × CanRunStage w (F.can_call inputs.now.functions.now) _number
+        (table sources.now results.now) (stages.Mscr stage.now) }
     ensures tasks { result ≡ record {
       functions = inputs.now.functions.now;
-      sources = inputs.now.sources.now;
+      sources = sources.now;
       results = results.now;
       stage = stage.now;
       shards = inputs.now.settings.now.shards;
@@ -91,7 +89,7 @@ fn map_tasks<'a, F: Functions>(
     map_tasks_law(inputs.functions);
     MapTasks::new(
         inputs.functions,
-        inputs.sources,
+        sources,
         results,
         stage,
         inputs.settings.shards(),

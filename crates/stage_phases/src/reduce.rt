@@ -2,7 +2,7 @@
 ghost use Rattle.std.specs.Prelude.{◌≡◌, ◌<◌, ◌≤◌, ◌^◌, ◌∷◌, [], length, map, IfOk, IfErr, OnOk};
 ghost use Rattle.std.specs.List.{AllZip, list_any};
 ghost use Rattle.crew.specs.Hosts.{account, Grew};
-ghost use Rattle.exec_plan.specs.declared.plan.Stage.TheVariants as stages;
+ghost use Rattle.exec_graph.specs.World.{World};
 ghost use Rattle.task_lists.specs.Outs.{AreMapOuts};
 ghost use Rattle.task_lists.specs.Tasks.{Lists, groupings};
 ghost use Rattle.map_shard.specs.Tables.{split};
@@ -10,7 +10,7 @@ ghost use Rattle.plan_phases.specs.Phases.{reduce_phases};
 ghost use Rattle.plan_phases.specs.Told.{HaveRun, IsStopped};
 ghost use Rattle.reduce_part.specs.Reducing.{reducing_count};
 ghost use Rattle.stage_phases.specs.Outs.{AreReduceOuts};
-ghost use Rattle.stage_phases.specs.Stages.{CanReduceStage, run_world};
+ghost use Rattle.stage_phases.specs.Stages.{CanReduceStage};
 ghost use Rattle.stage_phases.specs.inner.Channels.{is_group};
 
 use crate::inputs::Inputs;
@@ -38,39 +38,33 @@ pub fn reduce_outs<R: Threads + Sync, F: Functions + Sync, H: Host + Send>(
 ) -> Result<Vec<ReduceOut>, RunFault>
     requires hosts { (0 < length hosts.old) × (length hosts.old ≤ 16) }
     requires ready { CanReduceStage (F.called inputs.now.functions.now)
-        (F.can_call inputs.now.functions.now) inputs.now.sources.now
+        (F.can_call inputs.now.functions.now)
         (split inputs.now.settings.now.shards inputs.now.settings.now.partitions) number stage.now
         maps.now }
     ensures grew { AllZip Grew
         (map (account H.notes H.losses) hosts.old) (map (account H.notes H.losses) hosts.new) }
-    ensures outs { (t : Lists) → AreMapOuts
-        (run_world (F.called inputs.now.functions.now) inputs.now.sources.now)
-        (split inputs.now.settings.now.shards inputs.now.settings.now.partitions) t stage.now
-        maps.now →
-        IfOk result (λ outs. AreReduceOuts
-        (run_world (F.called inputs.now.functions.now) inputs.now.sources.now)
+    ensures outs { (w : World) (t : Lists) → w.called ≡ F.called inputs.now.functions.now →
+        AreMapOuts w (split inputs.now.settings.now.shards inputs.now.settings.now.partitions) t
+        stage.now maps.now →
+        IfOk result (λ outs. AreReduceOuts w
         (split inputs.now.settings.now.shards inputs.now.settings.now.partitions) t stage.now
         outs.items) }
-    ensures ran { (t : Lists) → AreMapOuts
-        (run_world (F.called inputs.now.functions.now) inputs.now.sources.now)
+    ensures ran { (w : World) (t : Lists) → w.called ≡ F.called inputs.now.functions.now →
+        AreMapOuts w (split inputs.now.settings.now.shards inputs.now.settings.now.partitions) t
+        stage.now maps.now →
+        OnOk result (HaveRun inputs.now.settings.now.tries inputs.now.settings.now.drill w
+        (reduce_phases w number
         (split inputs.now.settings.now.shards inputs.now.settings.now.partitions) t stage.now
-        maps.now →
-        OnOk result (HaveRun inputs.now.settings.now.tries inputs.now.settings.now.drill
-        (run_world (F.called inputs.now.functions.now) inputs.now.sources.now)
-        (reduce_phases (run_world (F.called inputs.now.functions.now) inputs.now.sources.now)
-        number (split inputs.now.settings.now.shards inputs.now.settings.now.partitions) t
-        stage.now (groupings stage.now.outputs))
+        (groupings stage.now.outputs))
         (map (account H.notes H.losses) hosts.old) (map (account H.notes H.losses) hosts.new)
         winners.old.items winners.new.items) }
-    ensures stopped { (t : Lists) → AreMapOuts
-        (run_world (F.called inputs.now.functions.now) inputs.now.sources.now)
+    ensures stopped { (w : World) (t : Lists) → w.called ≡ F.called inputs.now.functions.now →
+        AreMapOuts w (split inputs.now.settings.now.shards inputs.now.settings.now.partitions) t
+        stage.now maps.now →
+        IfErr result (IsStopped inputs.now.settings.now.tries inputs.now.settings.now.drill w
+        (reduce_phases w number
         (split inputs.now.settings.now.shards inputs.now.settings.now.partitions) t stage.now
-        maps.now →
-        IfErr result (IsStopped inputs.now.settings.now.tries inputs.now.settings.now.drill
-        (run_world (F.called inputs.now.functions.now) inputs.now.sources.now)
-        (reduce_phases (run_world (F.called inputs.now.functions.now) inputs.now.sources.now)
-        number (split inputs.now.settings.now.shards inputs.now.settings.now.partitions) t
-        stage.now (groupings stage.now.outputs))
+        (groupings stage.now.outputs))
         (map (account H.notes H.losses) hosts.old) (map (account H.notes H.losses) hosts.new)) }
 {
     reducing_law();
@@ -103,7 +97,7 @@ fn reduce_tasks<'a, F: Functions>(
 ) -> ReduceTasks<'a, F>
     requires some { 0 < length (groupings stage.now.outputs) }
     requires ready { CanReduceStage (F.called inputs.now.functions.now)
-        (F.can_call inputs.now.functions.now) inputs.now.sources.now
+        (F.can_call inputs.now.functions.now)
         (split inputs.now.settings.now.shards inputs.now.settings.now.partitions) _number stage.now
         maps.now }
     ensures tasks { result ≡ record {

@@ -1,4 +1,4 @@
-use Rattle.std.proofs.Common.{◌≡◌, ◌<◌, ◌∙◌, arith}
+use Rattle.std.proofs.Common.{◌<◌, ◌∙◌, arith}
 use Rattle.graph_tracing.specs.inner.Named.{trace_of}
 use Rattle.graph_tracing.proofs.Under.{kid_is_under}
 use Rattle.graph_tracing.proofs.hanging.after_named_kid.Goals as goal

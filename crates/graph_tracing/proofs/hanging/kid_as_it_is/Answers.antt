@@ -1,4 +1,4 @@
-use Rattle.std.proofs.Common.{ℕ, ◌∷◌, List, sym, ap, subst, ◌∙◌}
+use Rattle.std.proofs.Common.{◌∷◌, sym, subst}
 use Rattle.exec_graph.specs.Wellformed.{IsGraphOk}
 use Rattle.graph_tracing.specs.declared.trace.Trace.{Trace}
 use Rattle.graph_tracing.proofs.Under.{goes_between, keeps_same, leaves_between, table_same}

@@ -1,4 +1,4 @@
-use Rattle.std.proofs.Common.{ℕ, [], List, sym, ap, subst, ◌∙◌}
+use Rattle.std.proofs.Common.{[]}
 use Rattle.graph_tracing.proofs.Under.{goes_between, keeps_same, leaves_between, table_same}
 use Rattle.graph_tracing.proofs.hanging.with_kids.Goals as goal
 

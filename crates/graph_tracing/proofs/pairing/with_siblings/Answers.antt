@@ -1,4 +1,4 @@
-use Rattle.std.proofs.Common.{ℕ, [], List, true, sym, ap, subst, ◌∙◌}
+use Rattle.std.proofs.Common.{[], true, sym, subst}
 use Rattle.exec_graph.specs.Wellformed.{IsGraphOk}
 use Rattle.graph_tracing.specs.Traces.{GoesOn}
 use Rattle.graph_tracing.specs.inner.Named.{trace_of}

@@ -15,7 +15,7 @@ one_longer sizes more size n count is =
 pub loop-number-preserved : goal.loop-number-preserved
 loop-number-preserved c =
     let script = c.args.program.now.script in
-    let rows = c.args.rows.now in
+    let members = c.args.members.now in
     let numbers = c.args.numbers.now in
     let counts = c.args.counts.now in
     let n = c.loop-number.number in
@@ -27,19 +27,20 @@ loop-number-preserved c =
       | then-is_needed w ↦
           let mk = w.node.result.now.made in
           let size = w.size_of-size.result in
-          let is : size ≡ sized_as rows numbers counts n mk c.loop-number.source sizes
+          let is : size ≡ sized_as members numbers counts n mk c.loop-number.source sizes
           = w.size_of-size.ensures
-          ∙ ap (sized_as rows numbers counts n mk c.loop-number.source) w.as_slice.ensures.value in
+          ∙ ap (sized_as members numbers counts n mk c.loop-number.source)
+          w.as_slice.ensures.value in
           record {
             count = count;
             sources = subst (λ k. k ≤ n + 1) (sym (w.source-is ∙ w.behind-source.ensures))
                 (few_behind mk c.loop-number.source n here.sources);
             ahead =
-                (λ i. sizes_along script rows numbers counts (drop (n + 1) script.nodes)
+                (λ i. sizes_along script members numbers counts (drop (n + 1) script.nodes)
                 ((w.source-is ∙ w.behind-source.ensures) i)
                 ((c.in_ok-push.ensures.items ∙ (λ j. sizes ++ w.size-is j ∷ [])) i))
-                ∙ on_taken script rows numbers counts script.nodes n c.loop-number.source sizes mk
-                size _
+                ∙ on_taken script members numbers counts script.nodes n c.loop-number.source sizes
+                mk size _
                 (made_there (slice_get script.nodes n) _ w.node.ensures.is) here.count
                 (sym c.is_needed.ensures ∙ w.if-is_needed.true) is here.ahead;
           }
@@ -49,11 +50,11 @@ loop-number-preserved c =
             count = count;
             sources = subst (λ k. k ≤ n + 1) (sym w.source-is) (omega (arith, here.sources));
             ahead =
-                (λ i. sizes_along script rows numbers counts (drop (n + 1) script.nodes)
+                (λ i. sizes_along script members numbers counts (drop (n + 1) script.nodes)
                 (w.source-is i)
                 ((c.in_ok-push.ensures.items ∙ (λ j. sizes ++ w.size-is j ∷ [])) i))
-                ∙ on_passed script rows numbers counts script.nodes n c.loop-number.source sizes _
-                below here.count (sym c.is_needed.ensures ∙ w.if-is_needed.false) here.ahead;
+                ∙ on_passed script members numbers counts script.nodes n c.loop-number.source sizes
+                _ below here.count (sym c.is_needed.ensures ∙ w.if-is_needed.false) here.ahead;
           }
     ]
 
@@ -63,6 +64,6 @@ returns-clause-along c =
     let nodes = script.nodes in
     let sizes = c.loop-number.sizes.items in
     let end : c.loop-number.number ≡ length nodes = omega arith in
-    sym (ap (λ (l : Named Node). sizes_along script c.args.rows.now c.args.numbers.now
+    sym (ap (λ (l : Named Node). sizes_along script c.args.members.now c.args.numbers.now
     c.args.counts.now l c.loop-number.source sizes) (none_left nodes c.loop-number.number end))
     ∙ c.loop-number.invariant.ahead

@@ -6,7 +6,7 @@ abbrev pub invariant-loop-number : goal.invariant-loop-number
 invariant-loop-number l = record {
   count : length l.sizes.items ≡ l.number;
   sources : l.source ≤ l.number;
-  ahead : sizes_along l.program.script l.rows l.numbers l.counts
+  ahead : sizes_along l.program.script l.members l.numbers l.counts
       (drop l.number l.program.script.nodes) l.source l.sizes.items
-      ≡ sizes_along l.program.script l.rows l.numbers l.counts l.program.script.nodes 0 [];
+      ≡ sizes_along l.program.script l.members l.numbers l.counts l.program.script.nodes 0 [];
 }

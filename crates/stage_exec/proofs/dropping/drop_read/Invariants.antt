@@ -8,9 +8,9 @@ use Rattle.stage_exec.proofs.dropping.drop_read.Given as goal
 
 abbrev pub invariant-loop-place : goal.invariant-loop-place
 invariant-loop-place l = record {
-  others : AgreeOn (later_reads l.later l.outputs) (table l.sources l.results.items)
-      (table l.sources l.fn.results.items);
-  typed : (type : Ty) (q : PlanPlace) → AllHave type (table l.sources l.fn.results.items q)
-      → AllHave type (table l.sources l.results.items q);
+  others : AgreeOn (later_reads l.later l.outputs) (table l.sources.items l.results.items)
+      (table l.fn.sources.items l.fn.results.items);
+  typed : (type : Ty) (q : PlanPlace) → AllHave type (table l.fn.sources.items l.fn.results.items q)
+      → AllHave type (table l.sources.items l.results.items q);
   count : length l.results.items ≡ length l.fn.results.items;
 }

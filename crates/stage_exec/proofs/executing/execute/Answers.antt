@@ -21,20 +21,20 @@ returns-in_err-sizes-clause-grew g c = all_grew_not _
 pub returns-in_err-sizes-clause-asked : goal.returns-in_err-sizes-clause-asked
 returns-in_err-sizes-clause-asked g c =
     let s = c.args.settings.now in
-    let w = run_world (g.F.Functions.called c.args.functions.now) c.args.sources.now in
+    let w = run_world (g.F.Functions.called c.args.functions.now) c.args.sources.items in
     asked_none s.tries s.drill (with_tasks (phases w (split_of s) c.args.plan.now)) _
 
 pub run_stages-requires-clause-ready : goal.run_stages-requires-clause-ready
 run_stages-requires-clause-ready g c κs within =
     rw c.as_slice-stages.ensures
-    (begins (run_world (g.F.Functions.called c.args.functions.now) c.args.sources.now)
+    (begins (run_world (g.F.Functions.called c.args.functions.now) c.args.sources.items)
     (g.F.Functions.can_call c.args.functions.now) c.args.plan.now c.requires.plan
     c.requires.typed)
 
 pub returns-in_err-results-clause-fault : goal.returns-in_err-results-clause-fault
 returns-in_err-results-clause-fault g c =
     let s = c.args.settings.now in
-    let w = run_world (g.F.Functions.called c.args.functions.now) c.args.sources.now in
+    let w = run_world (g.F.Functions.called c.args.functions.now) c.args.sources.items in
     let p = c.args.plan.now in
     let cut = c.cut_law.ensures in
     let e =
@@ -49,7 +49,7 @@ returns-in_err-results-clause-fault g c =
 pub returns-in_err-results-clause-complete : goal.returns-in_err-results-clause-complete
 returns-in_err-results-clause-complete g c can =
     let s = c.args.settings.now in
-    let w = run_world (g.F.Functions.called c.args.functions.now) c.args.sources.now in
+    let w = run_world (g.F.Functions.called c.args.functions.now) c.args.sources.items in
     let e =
     err_from_is_err_and c.from_residual-in_err-results.result
     c.from_residual-in_err-results.ensures.1 in
@@ -63,7 +63,7 @@ returns-in_err-results-clause-complete g c can =
 pub returns-in_err-results-clause-asked : goal.returns-in_err-results-clause-asked
 returns-in_err-results-clause-asked g c =
     let s = c.args.settings.now in
-    let w = run_world (g.F.Functions.called c.args.functions.now) c.args.sources.now in
+    let w = run_world (g.F.Functions.called c.args.functions.now) c.args.sources.items in
     front_stopped s.tries s.drill w (phases w (split_of s) c.args.plan.now) _ _
     c.in_err-results.field-0.0
     (rw (← c.as_slice-stages.ensures) c.in_err-results.ensures.stopped)
@@ -71,21 +71,21 @@ returns-in_err-results-clause-asked g c =
 pub returns-in_err-outputs-clause-asked : goal.returns-in_err-outputs-clause-asked
 returns-in_err-outputs-clause-asked g c =
     let s = c.args.settings.now in
-    let w = run_world (g.F.Functions.called c.args.functions.now) c.args.sources.now in
+    let w = run_world (g.F.Functions.called c.args.functions.now) c.args.sources.items in
     let ran = rw c.as_slice-stages.ensures at c.in_ok-results.ensures.ran in
     asked_all s.tries s.drill (with_tasks (phases w (split_of s) c.args.plan.now)) _ _ _ ran.asked
 
 pub returns-clause-asked : goal.returns-clause-asked
 returns-clause-asked g c =
     let s = c.args.settings.now in
-    let w = run_world (g.F.Functions.called c.args.functions.now) c.args.sources.now in
+    let w = run_world (g.F.Functions.called c.args.functions.now) c.args.sources.items in
     let ran = rw c.as_slice-stages.ensures at c.in_ok-results.ensures.ran in
     asked_all s.tries s.drill (with_tasks (phases w (split_of s) c.args.plan.now)) _ _ _ ran.asked
 
 pub returns-clause-done : goal.returns-clause-done
 returns-clause-done g c =
     let s = c.args.settings.now in
-    let w = run_world (g.F.Functions.called c.args.functions.now) c.args.sources.now in
+    let w = run_world (g.F.Functions.called c.args.functions.now) c.args.sources.items in
     let p = c.args.plan.now in
     let cut = c.cut_law.ensures in
     let ran = rw c.as_slice-stages.ensures at c.in_ok-results.ensures.ran in
@@ -107,8 +107,8 @@ returns-clause-done g c =
       outputs =
           ap (map bag_of)
           (rw c.as_slice-outputs.ensures at c.in_ok-outputs.ensures)
-          ∙ bags_are s w p (table c.args.sources.now c.in_ok-results.results.items) p.outputs
-          lists (c.tasks_law.ensures.lists w (split_of s) p cut.0 cut.1 none);
+          ∙ bags_are s w p (table c.run_stages.new.sources.items c.in_ok-results.results.items)
+          p.outputs lists (c.tasks_law.ensures.lists w (split_of s) p cut.0 cut.1 none);
       count = ap length counts ∙ (sizes.count ∙ zeros_many c.args.nodes);
       counts =
           rw counts

@@ -6,6 +6,7 @@ use Rattle.stage_exec.proofs.outputs.output_list.Goals as goal
 
 pub returns-clause-others : goal.returns-clause-others
 returns-clause-others c =
-    kept_lists (table c.args.sources.now c.args.results.now.items)
-    (table c.args.sources.now c.taken.new.results.items) (λ q. is_same q c.args.place.now)
-    c.taken.ensures.others c.args.later.now (sym c.is_among.ensures ∙ c.if-is_among.false)
+    kept_lists (table c.args.sources.now.items c.args.results.now.items)
+    (table c.taken.new.sources.items c.taken.new.results.items)
+    (λ q. is_same q c.args.place.now) c.taken.ensures.others c.args.later.now
+    (sym c.is_among.ensures ∙ c.if-is_among.false)

@@ -4,45 +4,45 @@ use Rattle.stage_results.specs.of_map_shard.Tables.{split, table}
 use Rattle.plan_phases.specs.Phases.{OfTasks, map_phase_of, reduce_phases}
 use Rattle.plan_phases.proofs.Joining.{run_then, stopped_before, stopped_behind}
 use Rattle.plan_phases.proofs.Lasting.{all_grew_on}
-use Rattle.stage_results.specs.of_stage_phases.Stages.{run_world}
 use Rattle.task_lists.specs.Tasks.{groupings}
 use Rattle.stage_exec.proofs.phases.stage_outs.Goals as goal
 
 pub returns-in_err-maps-clause-stopped : goal.returns-in_err-maps-clause-stopped
-returns-in_err-maps-clause-stopped g c =
-    let inputs = c.args.inputs.now in
-    let settings = inputs.settings.now in
-    let w = run_world (g.F.Functions.called inputs.functions.now) inputs.sources.now in
+returns-in_err-maps-clause-stopped g c w e =
+    let settings = c.args.inputs.now.settings.now in
     let n = split settings.shards settings.partitions in
-    let t = table inputs.sources.now c.args.results.now in
+    let t = table c.args.sources.now.items c.args.results.now.items in
     let stage = c.args.stage.now in
     let p = err_from_is_err_and c.from_residual.result c.from_residual.ensures.1 in
     rw (p.1, p.2)
     (stopped_before settings.tries settings.drill w
     (OfTasks (map_phase_of c.args.number n t stage) ∷ [])
     (reduce_phases w c.args.number n t stage (groupings stage.outputs)) _ _ _
-    c.in_err-maps.ensures.stopped)
+    (c.in_err-maps.ensures.stopped w e))
 
 pub reduce_outs-requires-clause-ready : goal.reduce_outs-requires-clause-ready
-reduce_outs-requires-clause-ready g c κs within = record {
-  cut = c.requires.cut;
-  results = c.args.results.now;
-  ready = c.requires.ready;
-  made = rw c.deref.ensures.value c.in_ok-maps.ensures.outs;
-}
+reduce_outs-requires-clause-ready g c κs within =
+    let ready = c.requires.ready in
+    record {
+      cut = c.requires.cut;
+      world = ready.0;
+      answers = ready.1;
+      lists = table c.args.sources.now.items c.args.results.now.items;
+      ready = ready.2;
+      made = rw c.deref.ensures.value (c.in_ok-maps.ensures.outs ready.0 ready.1);
+    }
 
 pub returns-in_err-reduces-clause-grew : goal.returns-in_err-reduces-clause-grew
 returns-in_err-reduces-clause-grew g c =
     all_grew_on _ _ _ c.in_ok-maps.ensures.grew c.in_err-reduces.ensures.grew
 
 pub returns-in_err-reduces-clause-stopped : goal.returns-in_err-reduces-clause-stopped
-returns-in_err-reduces-clause-stopped g c =
-    let inputs = c.args.inputs.now in
-    let settings = inputs.settings.now in
-    let w = run_world (g.F.Functions.called inputs.functions.now) inputs.sources.now in
+returns-in_err-reduces-clause-stopped g c w e =
+    let settings = c.args.inputs.now.settings.now in
     let n = split settings.shards settings.partitions in
-    let t = table inputs.sources.now c.args.results.now in
+    let t = table c.args.sources.now.items c.args.results.now.items in
     let stage = c.args.stage.now in
+    let ran = c.in_ok-maps.ensures.ran w e in
     let p =
     err_from_is_err_and c.from_residual-in_err-reduces.result
     c.from_residual-in_err-reduces.ensures.1 in
@@ -50,31 +50,34 @@ returns-in_err-reduces-clause-stopped g c =
     (stopped_behind settings.tries settings.drill w
     (OfTasks (map_phase_of c.args.number n t stage) ∷ [])
     (reduce_phases w c.args.number n t stage (groupings stage.outputs)) _ _ _ _
-    c.in_ok-maps.ensures.ran.through c.in_ok-maps.ensures.ran.asked
-    (c.in_err-reduces.ensures.stopped t
-    (rw c.deref.ensures.value c.in_ok-maps.ensures.outs))
+    ran.through ran.asked
+    (c.in_err-reduces.ensures.stopped w t e
+    (rw c.deref.ensures.value (c.in_ok-maps.ensures.outs w e)))
     c.in_ok-maps.ensures.grew c.in_err-reduces.ensures.grew)
 
 pub returns-clause-grew : goal.returns-clause-grew
 returns-clause-grew g c =
     all_grew_on _ _ _ c.in_ok-maps.ensures.grew c.in_ok-reduces.ensures.grew
 
+pub returns-clause-maps : goal.returns-clause-maps
+returns-clause-maps g c w e = c.in_ok-maps.ensures.outs w e
+
 pub returns-clause-reduces : goal.returns-clause-reduces
-returns-clause-reduces g c =
-    let t = table c.args.inputs.now.sources.now c.args.results.now in
-    c.in_ok-reduces.ensures.outs t (rw c.deref.ensures.value c.in_ok-maps.ensures.outs)
+returns-clause-reduces g c w e =
+    let t = table c.args.sources.now.items c.args.results.now.items in
+    c.in_ok-reduces.ensures.outs w t e
+    (rw c.deref.ensures.value (c.in_ok-maps.ensures.outs w e))
 
 pub returns-clause-ran : goal.returns-clause-ran
-returns-clause-ran g c =
-    let inputs = c.args.inputs.now in
-    let settings = inputs.settings.now in
-    let w = run_world (g.F.Functions.called inputs.functions.now) inputs.sources.now in
+returns-clause-ran g c w e =
+    let settings = c.args.inputs.now.settings.now in
     let n = split settings.shards settings.partitions in
-    let t = table inputs.sources.now c.args.results.now in
+    let t = table c.args.sources.now.items c.args.results.now.items in
     let stage = c.args.stage.now in
     run_then settings.tries settings.drill w
     (OfTasks (map_phase_of c.args.number n t stage) ∷ [])
     (reduce_phases w c.args.number n t stage (groupings stage.outputs)) _ _ _ _ _ _
-    c.in_ok-maps.ensures.ran
-    (c.in_ok-reduces.ensures.ran t (rw c.deref.ensures.value c.in_ok-maps.ensures.outs))
+    (c.in_ok-maps.ensures.ran w e)
+    (c.in_ok-reduces.ensures.ran w t e
+    (rw c.deref.ensures.value (c.in_ok-maps.ensures.outs w e)))
     c.in_ok-maps.ensures.grew c.in_ok-reduces.ensures.grew

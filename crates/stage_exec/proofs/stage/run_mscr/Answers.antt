@@ -1,29 +1,27 @@
 use Rattle.stage_results.specs.of_map_shard.Tables.{table}
 use Rattle.plan_phases.proofs.Asking.{asked_all}
-use Rattle.stage_results.specs.of_stage_phases.Stages.{run_world}
 use Rattle.stage_exec.proofs.stage.run_mscr.Goals as goal
 
 pub returns-in-Ok-clause-lists : goal.returns-in-Ok-clause-lists
-returns-in-Ok-clause-lists g c =
-    let inputs = c.args.inputs.now in
-    let w = run_world (g.F.Functions.called inputs.functions.now) inputs.sources.now in
-    let t = table inputs.sources.now c.args.results.now in
+returns-in-Ok-clause-lists g c w e =
+    let t = table c.args.sources.now.items c.args.results.now.items in
     let lists =
     rw (c.shards-shards.ensures.value, c.partitions-partitions.ensures.value)
     at c.in-Ok.ensures.lists in
-    lists w t c.in_ok-outs.ensures.maps c.in_ok-outs.ensures.reduces
+    lists w t (c.in_ok-outs.ensures.maps w e) (c.in_ok-outs.ensures.reduces w e)
 
 pub returns-in-Ok-clause-grown : goal.returns-in-Ok-clause-grown
-returns-in-Ok-clause-grown g c =
-    let inputs = c.args.inputs.now in
-    let w = run_world (g.F.Functions.called inputs.functions.now) inputs.sources.now in
-    let t = table inputs.sources.now c.args.results.now in
+returns-in-Ok-clause-grown g c w e =
+    let t = table c.args.sources.now.items c.args.results.now.items in
     let grown =
     rw (c.shards-shards.ensures.value, c.partitions-partitions.ensures.value)
     at c.in-Ok.ensures.grown in
-    grown w t c.in_ok-outs.ensures.maps c.in_ok-outs.ensures.reduces
+    grown w t (c.in_ok-outs.ensures.maps w e) (c.in_ok-outs.ensures.reduces w e)
+
+pub returns-in-Ok-clause-ran : goal.returns-in-Ok-clause-ran
+returns-in-Ok-clause-ran g c w e = c.in_ok-outs.ensures.ran w e
 
 pub returns-in-Err-clause-stopped : goal.returns-in-Err-clause-stopped
-returns-in-Err-clause-stopped g c =
+returns-in-Err-clause-stopped g c w e =
     let settings = c.args.inputs.now.settings.now in
-    asked_all settings.tries settings.drill _ _ _ _ c.in_ok-outs.ensures.ran.asked
+    asked_all settings.tries settings.drill _ _ _ _ (c.in_ok-outs.ensures.ran w e).asked

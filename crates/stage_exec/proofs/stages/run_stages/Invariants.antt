@@ -7,8 +7,8 @@ use Rattle.stage_exec.proofs.stages.run_stages.Given as goal
 abbrev pub invariant-loop-k : goal.invariant-loop-k
 invariant-loop-k g l =
     Along l.inputs.settings.now
-    (run_world (g.F.Functions.called l.inputs.functions.now) l.inputs.sources.now)
+    (run_world (g.F.Functions.called l.inputs.functions.now) l.fn.sources.items)
     (g.F.Functions.can_call l.inputs.functions.now) l.stages l.outputs
-    l.inputs.sources.now l.k
+    l.sources.items l.k
     l.results.items l.fn.sizes l.sizes (map (account g.H.Host.notes g.H.Host.losses) l.fn.hosts)
     (map (account g.H.Host.notes g.H.Host.losses) l.hosts) l.fn.winners.items l.winners.items

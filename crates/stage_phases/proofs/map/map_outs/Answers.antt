@@ -2,7 +2,6 @@ use Rattle.std.proofs.Common.{refl}
 use Rattle.std.proofs.lemmas.Result.{IfOk-weaker}
 use Rattle.map_shard.proofs.CrossLemmas.{MapTasks-sync}
 use Rattle.map_shard.proofs.Fitting.{are_outs}
-use Rattle.stage_phases.specs.Stages.{run_world}
 use Rattle.stage_phases.proofs.Mapping.{is_map_phase, work_of}
 use denote.Exit.{no}
 use denote.Param.Send.{arg_sync, param_sync}
@@ -12,35 +11,33 @@ use Rattle.stage_phases.proofs.map.map_outs.Goals as goal
 
 pub outs_of-requires-sync-T : goal.outs_of-requires-sync-T
 outs_of-requires-sync-T g c κs within =
-    let a : NamedLft = record { mir = named 8; lft = κs.1.1.1.1.1.1.1.1.0 } in
+    let a : NamedLft = record { mir = named 9; lft = κs.1.1.1.1.1.1.1.1.1.0 } in
     param_sync _ _ (arg_sync _ no _ (MapTasks-sync a _ _ c.type_bounds.sync-F))
 
 pub returns-clause-outs : goal.returns-clause-outs
-returns-clause-outs g c =
+returns-clause-outs g c w e =
     let inputs = c.args.inputs.now in
-    let w = run_world (g.F.Functions.called inputs.functions.now) inputs.sources.now in
     let settings = inputs.settings.now in
     let values = rw c.map_tasks-tasks.ensures.tasks at c.outs_of.ensures.values in
     IfOk-weaker c.outs_of.result _ _
-    (λ outs v. are_outs inputs.functions.now inputs.sources.now c.args.results.now c.args.stage.now
-    settings.shards settings.partitions w w.called refl outs.items v.count v.values) values
+    (λ outs v. are_outs inputs.functions.now c.args.sources.now c.args.results.now c.args.stage.now
+    settings.shards settings.partitions w (g.F.Functions.called inputs.functions.now) e outs.items
+    v.count v.values) values
 
 pub returns-clause-ran : goal.returns-clause-ran
-returns-clause-ran g c =
+returns-clause-ran g c w e =
     let inputs = c.args.inputs.now in
-    let w = run_world (g.F.Functions.called inputs.functions.now) inputs.sources.now in
-    let work = work_of inputs.functions.now inputs.sources.now c.args.results.now c.args.stage.now
+    let work = work_of inputs.functions.now c.args.sources.now c.args.results.now c.args.stage.now
     inputs.settings.now in
     let ran = rw (c.map_tasks-tasks.ensures.tasks, c.phase-phase.ensures.settings)
     at c.outs_of.ensures.ran in
-    ran w _ (is_map_phase work w c.args.number _ refl refl)
+    ran w _ (is_map_phase work w _ e c.args.number _ refl refl)
 
 pub returns-clause-stopped : goal.returns-clause-stopped
-returns-clause-stopped g c =
+returns-clause-stopped g c w e =
     let inputs = c.args.inputs.now in
-    let w = run_world (g.F.Functions.called inputs.functions.now) inputs.sources.now in
-    let work = work_of inputs.functions.now inputs.sources.now c.args.results.now c.args.stage.now
+    let work = work_of inputs.functions.now c.args.sources.now c.args.results.now c.args.stage.now
     inputs.settings.now in
     let stopped = rw (c.map_tasks-tasks.ensures.tasks, c.phase-phase.ensures.settings)
     at c.outs_of.ensures.stopped in
-    stopped w _ (is_map_phase work w c.args.number _ refl refl)
+    stopped w _ (is_map_phase work w _ e c.args.number _ refl refl)

@@ -1,7 +1,6 @@
-use Rattle.std.proofs.Common.{refl, sym, subst}
-use Rattle.map_shard.specs.Tables.{split, table}
+use Rattle.std.proofs.Common.{sym, subst}
+use Rattle.map_shard.specs.Tables.{split}
 use Rattle.task_lists.specs.Outs.{AreMapOuts}
-use Rattle.stage_phases.specs.Stages.{run_world}
 use Rattle.stage_phases.proofs.Reducing.{count_within}
 use Rattle.stage_phases.proofs.reduce.reduce_tasks.Goals as goal
 
@@ -10,13 +9,11 @@ new-requires g c =
     let inputs = c.args.inputs.now in
     let within = c.partitions.ensures.within in
     let h = c.requires.ready in
-    let w = run_world (g.F.Functions.called inputs.functions.now) inputs.sources.now in
-    let made = subst (λ p. AreMapOuts w (split inputs.settings.now.shards p)
-    (table inputs.sources.now h.results) c.args.stage.now c.args.maps.now)
-    (sym c.partitions.ensures.value) h.made in
-    c.reduce_tasks_law.ensures.can_reduce w
-    (split inputs.settings.now.shards c.partitions.result) (table inputs.sources.now h.results)
-    c.args.stage.now c.args.maps.now c.args._number refl h.cut.0 within.0 within.1 h.ready made
+    let made = subst (λ p. AreMapOuts h.world (split inputs.settings.now.shards p) h.lists
+    c.args.stage.now c.args.maps.now) (sym c.partitions.ensures.value) h.made in
+    c.reduce_tasks_law.ensures.can_reduce h.world
+    (split inputs.settings.now.shards c.partitions.result) h.lists c.args.stage.now
+    c.args.maps.now c.args._number h.answers h.cut.0 within.0 within.1 h.ready made
 
 pub returns-clause-count : goal.returns-clause-count
 returns-clause-count g c =
