@@ -1,1 +1,2 @@
 pub mod IntFacts
+pub mod NumberFacts

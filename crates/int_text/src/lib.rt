@@ -5,6 +5,7 @@
 //! number literals and `number(t)` are read by this one rule, which `specs/Ints.antt` defines.
 #![tactic(auto)]
 
+mod number;
 mod reading;
 
 pub use reading::int_of_text;
