@@ -10,7 +10,7 @@ ghost use Rattle.script_run.specs.Runs.{AsksSomePhases, IsPlanOf, IsRan, IsRunFa
 
 use crate::laws::plan_law;
 use exec_plan::Plan;
-use flume_value::{Items, Pile, Str, sorted};
+use flume_value::{Items, Pile, Str, sorted_by_threads};
 use outside::Host;
 use plan_phases::{PhaseWinners, RunFault};
 use run_settings::Settings;
@@ -73,7 +73,7 @@ pub fn run_script<X: Threads + Sync, H: Host + Send>(
     let done = execute(rt, alloc, &functions, plan, lists, nodes, hosts, settings)?;
     let sizes = needed_sizes(alloc, program, &members, done.counts.as_slice())?;
     Ok(Ran {
-        outputs: all_sorted(alloc, done.outputs.into_vec())?,
+        outputs: all_sorted(rt, alloc, settings.workers(), done.outputs.into_vec())?,
         sizes,
         winners: done.winners.into_vec(),
     })
@@ -87,13 +87,19 @@ fn workers_law(settings: &Settings)
     settings.workers();
 }
 
-/// Each list sorted.
-fn all_sorted(alloc: Global, lists: Vec<Items>) -> Result<Vec<Items>, AllocError>
+/// Each list sorted, by as many threads as there are workers.
+fn all_sorted<X: Threads + Sync>(
+    rt: &X,
+    alloc: Global,
+    workers: u32,
+    lists: Vec<Items>,
+) -> Result<Vec<Items>, AllocError>
     ensures { IfOk result (λ all. all.items ≡ map bag_of lists.items) }
 {
     let mut all = Vec::with_capacity(alloc, lists.len())?;
     for list in lists {
-        all.push(Pile::from_vec(sorted(list.into_vec())?))?;
+        let members = sorted_by_threads(rt, workers as usize, list.into_vec())?;
+        all.push(Pile::from_vec(members))?;
     }
     Ok(all)
 }
