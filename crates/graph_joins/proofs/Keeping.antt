@@ -1,6 +1,7 @@
 -- What becomes one under names stays a session.
-use Rattle.std.specs.Prelude.{◌^◌}
-use Rattle.std.proofs.Common.{◌≡◌, ℕ, ◌+◌, ◌<◌, Bool, true, false, ltb, List, [], ◌∷◌, map, Some, sym, ap, ◌∙◌, subst, arith}
+use Rattle.std.specs.Prelude.{◌^◌, nat_eq}
+use Rattle.std.proofs.Common.{◌≡◌, ℕ, ◌+◌, ◌<◌, Bool, true, false, cond, eqb, ltb, List, [], ◌∷◌, map, Some, None, sym, ap, ◌∙◌, subst, arith}
+use Rattle.std.specs.HashMap.{HashMap, get}
 use Rattle.std.specs.List.{AllByRecursion}
 use Rattle.exec_graph.specs.Forests.{Forest, Bare}
 use Rattle.exec_graph.specs.Meaning.{HasOuts, OutsDiffer, has_out, node_at, place}
@@ -30,9 +31,13 @@ use Rattle.graph_states.proofs.Standing.{named_stands, same_self}
 use Rattle.graph_states.specs.of_pardo_fuse.Fusing.{finished, holds_out}
 use Rattle.graph_states.specs.of_pardo_fuse.SingleFusing.{new_place}
 use Rattle.graph_joins.specs.Counts.{HasCounts, count_in, one_if, readings}
+use Rattle.graph_joins.specs.Lists.{HasLists}
 use Rattle.graph_joins.specs.Sessions.{ArePair, IsReader, IsSession}
 use Rattle.graph_joins.specs.declared.session.Joins.{Joins}
+use Rattle.graph_joins.specs.inner.Splices.{joined, known, spliced}
 use Rattle.graph_joins.proofs.CountLemmas.{read_times, readings_taken}
+use Rattle.graph_joins.proofs.ListLemmas.{known_is, tells_taken}
+use Rattle.graph_walks.specs.Outs.{outs}
 
 -- ---- numbers ascend under names too
 
@@ -54,12 +59,13 @@ session_ascends j s =
 -- ---- at the beginning
 
 pub begun : (g : Graph) (j : Joins) → IsGraphOk g → j.graph ≡ named g
-    → HasCounts j.counts j.graph → IsSession j
-begun g j ok e counts = record {
+    → HasCounts j.tables.counts j.graph → HasLists j.tables.lists j.graph.nodes → IsSession j
+begun g j ok e counts lists = record {
   stands = subst Stands (sym e) (named_stands g ok);
   ok = subst (λ (h : Graph). IsGraphOk (unnamed h)) (sym e)
       (subst IsGraphOk (sym (graph_again g ok)) ok);
   counts = counts;
+  lists = lists;
 }
 
 pub begun_same : (g h : Graph) → IsGraphOk g → h ≡ named g → unnamed h ≡ g
@@ -69,7 +75,7 @@ begun_same g h ok e = ap unnamed e ∙ graph_again g ok
 
 pub reads_once : (j : Joins) (p q : ℕ) (c d : Place) (f i : Forest) → IsSession j → p < q
     → node_at j.graph.nodes p ≡ Some (Pdo c f) → node_at j.graph.nodes q ≡ Some (Pdo d i)
-    → d.out < 2 ^ 32 → 0 < count_in j.counts d
+    → d.out < 2 ^ 32 → 0 < count_in j.tables.counts d
 reads_once j p q c d f i s less at bt lt =
     let h : Graph = j.graph in
     let differ : p ≡ q → ⊥ = λ e. omega arith in
@@ -77,7 +83,7 @@ reads_once j p q c d f i s less at bt lt =
     readings_taken h p q c d f i Bare d (node_at-without_other h.nodes q p (Pdo c f) differ at) bt
     in
     let one : one_if (same_place d d) ≡ 1 = ap one_if (same_self d) in
-    let n : count_in j.counts d ≡ readings h d = s.counts d lt in
+    let n : count_in j.tables.counts d ≡ readings h d = s.counts d lt in
     omega arith
 
 -- what is counted off is read once less
@@ -85,14 +91,14 @@ counted : (j k : Joins) (p q : ℕ) (c d : Place) (f i new : Forest) → IsSessi
     → (p ≡ q → ⊥) → node_at j.graph.nodes p ≡ Some (Pdo c f)
     → node_at j.graph.nodes q ≡ Some (Pdo d i)
     → ((v : Place) → v.out < 2 ^ 32
-    → count_in j.counts v ≡ one_if (same_place v d) + count_in k.counts v)
-    → HasCounts k.counts (taken_in j.graph p q c new)
+    → count_in j.tables.counts v ≡ one_if (same_place v d) + count_in k.tables.counts v)
+    → HasCounts k.tables.counts (taken_in j.graph p q c new)
 counted j k p q c d f i new s differ at bt off v lt =
     let h : Graph = j.graph in
     let r : readings h v ≡ one_if (same_place v d) + readings (taken_in h p q c new) v =
     readings_taken h p q c d f i new v (node_at-without_other h.nodes q p (Pdo c f) differ at) bt
     in
-    let n : count_in j.counts v ≡ readings h v = s.counts v lt in
+    let n : count_in j.tables.counts v ≡ readings h v = s.counts v lt in
     let m = off v lt in
     omega arith
 
@@ -120,18 +126,25 @@ module _ (j k : Joins) (p q : ℕ) (s : IsSession j) (pair : ArePair j.graph p q
   pair_made = ap unnamed e ∙ sym paired.1
 
   pub pair_session : ((v : Place) → v.out < 2 ^ 32
-      → count_in j.counts v ≡ one_if (same_place v (input_at u p)) + count_in k.counts v)
-      → IsSession k
-  pair_session off = record {
+      → count_in j.tables.counts v
+      ≡ one_if (same_place v (input_at u p)) + count_in k.tables.counts v)
+      → ((n : ℕ) → get nat_eq k.tables.lists n
+      ≡ cond (eqb n p) None (cond (eqb n q) None (get nat_eq j.tables.lists n))) → IsSession k
+  pair_session off told = record {
     stands = subst Stands (sym e)
         (siblings.stands_then u p q (input_at u p) (forest_at u p) (forest_at u q) s.stands
         pair.less pair.can.keeper pair.can.other);
     ok = subst IsGraphOk (sym pair_made)
         (apply_good (plain (unnamed u)) (Sibling p q) s.ok (pair.less, paired.0)).ok;
-    counts = subst (λ (g : Graph). HasCounts k.counts g) (sym e)
+    counts = subst (λ (g : Graph). HasCounts k.tables.counts g) (sym e)
         (counted j k p q (input_at u p) (input_at u p) (forest_at u p) (forest_at u q)
         (beside (forest_at u p) (forest_at u q)) s pair.can.differ pair.can.keeper
         pair.can.other off);
+    lists = subst (λ (g : Graph). HasLists k.tables.lists g.nodes) (sym e)
+        (tells_taken (get nat_eq j.tables.lists) (get nat_eq k.tables.lists) u.nodes p q
+        (input_at u p) (forest_at u p) (beside (forest_at u p) (forest_at u q)) None
+        pair.can.differ s.lists pair.can.keeper told
+        (λ ns x. let bad : ⊥ = cc in absurd bad));
   }
 
 -- ---- kids
@@ -160,8 +173,8 @@ module _ (j k : Joins) (p m q n : ℕ) (keep : Bool) (s : IsSession j)
     (e : k.graph ≡ taken_in j.graph p q (input_at j.graph p) (kept_by (all_but n keep)
     (grafted n (forest_at j.graph q) (forest_at j.graph p))))
     (off : (v : Place) → v.out < 2 ^ 32
-    → count_in j.counts v ≡ one_if (same_place v (place n 0)) + count_in k.counts v)
-    (left : keep ≡ ltb 0 (count_in k.counts (place n 0))) where
+    → count_in j.tables.counts v ≡ one_if (same_place v (place n 0)) + count_in k.tables.counts v)
+    (left : keep ≡ ltb 0 (count_in k.tables.counts (place n 0))) where
   abbrev h : Graph
   h = j.graph
 
@@ -201,8 +214,14 @@ module _ (j k : Joins) (p m q n : ℕ) (keep : Bool) (s : IsSession j)
   kid_made =
       ap unnamed is ∙ sym made.1 ∙ ap (λ (x : ℕ). after_kid (unnamed h) p x q) r.number
 
-  pub kid_session : IsSession k
-  kid_session = record {
+  pub kid_session : {S : Type 0} (t : HashMap ℕ (List ℕ) S) → HasLists t h.nodes → (bare : Bool)
+      → (bare ≡ true → outs (kept_by (all_but n keep) (grafted n i f))
+      ≡ spliced n keep (outs i) (outs f))
+      → ((v : ℕ) → get nat_eq k.tables.lists v ≡ cond (eqb v p)
+      (known bare (joined m keep (get nat_eq t p) (get nat_eq t q)))
+      (cond (eqb v q) None (get nat_eq t v)))
+      → IsSession k
+  kid_session t tells bare o told = record {
     stands = subst Stands (sym (is ∙ ap (λ (x : Forest). taken_in h p q c x)
         (sym (kids.kept_is h p q n c f i s.stands r.keeper r.other r.has
         (IsSound-ok (unnamed h) s.ok)))))
@@ -210,7 +229,13 @@ module _ (j k : Joins) (p m q n : ℕ) (keep : Bool) (s : IsSession j)
         (IsSound-ok (unnamed h) s.ok));
     ok = subst IsGraphOk (sym kid_made)
         (apply_good (plain (unnamed h)) (Kid p m q) s.ok kid_can).ok;
-    counts = subst (λ (g : Graph). HasCounts k.counts g) (sym e)
+    counts = subst (λ (g : Graph). HasCounts k.tables.counts g) (sym e)
         (counted j k p q c (place n 0) f i (kept_by (all_but n keep) (grafted n i f)) s differ
         r.keeper r.other off);
+    lists = subst (λ (g : Graph). HasLists k.tables.lists g.nodes) (sym e)
+        (tells_taken (get nat_eq t) (get nat_eq k.tables.lists) h.nodes p q c f
+        (kept_by (all_but n keep) (grafted n i f))
+        (known bare (joined m keep (get nat_eq t p) (get nat_eq t q))) differ tells r.keeper told
+        (known_is bare m keep n f i (kept_by (all_but n keep) (grafted n i f))
+        (get nat_eq t p) (get nat_eq t q) (tells p) (tells q) o r.has r.number));
   }

@@ -5,3 +5,5 @@ pub mod TakenLemmas
 pub mod Keeping
 pub mod SeekLemmas
 pub mod Tests
+pub mod HangLemmas
+pub mod ListLemmas

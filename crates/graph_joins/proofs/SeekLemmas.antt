@@ -1,6 +1,6 @@
 -- Walks that look for the output of a number.
-use Rattle.std.proofs.Common.{◌≡◌, ◌≢◌, ◌≤◌, ◌<◌, ℕ, ◌+◌, ◌-◌, suc, Bool, true, false, cond, eqb, ◌||◌, List, [], ◌∷◌, ◌++◌, map, drop, length, get_or, Option, Some, None, refl, sym, ap, ap₂, subst, ◌∙◌, arith}
-use Rattle.std.proofs.lemmas.Bool.{eq-eqb, eqb-false, eqb-true, false≢true}
+use Rattle.std.proofs.Common.{◌≡◌, ◌≢◌, ◌≤◌, ◌<◌, ℕ, ◌+◌, ◌-◌, zero, suc, Bool, true, false, cond, eqb, ◌||◌, List, [], ◌∷◌, ◌++◌, map, drop, length, get_or, Option, Some, None, refl, sym, ap, ap₂, subst, ◌∙◌, arith}
+use Rattle.std.proofs.lemmas.Bool.{eq-eqb, eqb-false, eqb-true, false≢true, ne_eqb}
 use Rattle.std.proofs.lemmas.List.{drop_all}
 use Rattle.exec_graph.specs.Forests.{Branch, Forest, Bare, Grow, grown}
 use Rattle.exec_graph.specs.Meaning.{OutsDiffer, has_out, is_out}
@@ -63,6 +63,18 @@ module _ (os : List Output) (i k : ℕ) where
   pub outputs_end : length os ≤ i → Behind k ≡ seek (twigs_outs (map twig (drop i os))) k
   outputs_end past =
       ap (λ (ls : List Output). seek (twigs_outs (map twig ls)) k) (sym (drop_all i os past))
+
+-- the number at a place
+pub kth_index : (ns : List ℕ) (k d : ℕ) → k < length ns → is_kth ns k (get_or ns k d) ≡ true
+kth_index [] k d lt = let bad : ⊥ = omega arith in absurd bad
+kth_index (n ∷ ns) zero d lt = eq-eqb n n refl
+kth_index (n ∷ ns) (suc k) d lt =
+    let m : ℕ = get_or ns k d in
+    let z : eqb (suc k) 0 ≡ false =
+    ne_eqb (suc k) 0 (λ e. let f : suc k ≡ 0 = e in omega arith) in
+    let p : suc k - 1 ≡ k = omega arith in
+    ap (λ (b : Bool). is_name m (cond b (Found n) (seek ns (suc k - 1)))) z
+    ∙ ap (λ (i : ℕ). is_name m (seek ns i)) p ∙ kth_index ns k d (omega arith)
 
 -- an output behind which the walk goes on among the steps on it
 pub twig_sought : (out : Option ℕ) (kids : List Branch) (k m : ℕ) (s : Sought)

@@ -1,4 +1,5 @@
 pub mod Counts
+pub mod Lists
 pub mod Sessions
 pub mod inner
 pub use Rattle.graph_states.specs.of_graph_names

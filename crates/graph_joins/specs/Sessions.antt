@@ -9,13 +9,16 @@ use Rattle.graph_states.specs.of_graph_names.Names.{unnamed}
 use Rattle.graph_states.specs.of_graph_rewrites.Rewrites.{CanBeSibling, forest_at, input_at}
 use Rattle.graph_states.specs.States.{Stands}
 use Rattle.graph_joins.specs.Counts.{HasCounts}
+use Rattle.graph_joins.specs.Lists.{HasLists}
 use Rattle.graph_joins.specs.declared.session.Joins.{Joins}
 
--- it stands, and is well-formed without names; and what is read is counted
+-- it stands, and is well-formed without names; what is read is counted, and what is told of names is
+-- so
 pub record IsSession (j : Joins) : Type 0 where
   pub stands : Stands j.graph
   pub ok : IsGraphOk (unnamed j.graph)
-  pub counts : HasCounts j.counts j.graph
+  pub counts : HasCounts j.tables.counts j.graph
+  pub lists : HasLists j.tables.lists j.graph.nodes
 
 -- p and q are Pdos that read one collection
 pub record ArePair (h : Graph) (p q : ℕ) : Type 0 where

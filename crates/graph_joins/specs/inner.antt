@@ -1,3 +1,5 @@
+pub mod Hangs
 pub mod Puts
 pub mod Seeks
+pub mod Splices
 pub mod Tests

@@ -1,34 +1,43 @@
 // Steps on an output of a step, which is dropped then or not.
-ghost use Rattle.std.specs.Prelude.{◌≡◌, cond, IfOk, None, OnOk, false, map};
+ghost use Rattle.std.specs.Prelude.{◌≡◌, cond, false, IfOk, map, None, OnOk, true};
 ghost use Rattle.exec_graph.specs.Forests.{grown};
 ghost use Rattle.exec_graph.specs.Meaning.{OutsDiffer, has_out, is_out};
 ghost use Rattle.exec_graph.specs.Twigs.{twig};
 ghost use Rattle.graph_laws.specs.Joining.{grafted};
 ghost use Rattle.graph_laws.specs.Kids.{kept_by};
+ghost use Rattle.graph_walks.specs.Outs.{outs};
 ghost use Rattle.graph_walks.specs.inner.Plants as on;
 ghost use Rattle.graph_states.specs.States.{all_but};
 ghost use Rattle.graph_joins.specs.inner.Puts as spec;
+ghost use Rattle.graph_joins.specs.inner.Splices.{spliced};
 
+use crate::hanging::hang;
+use crate::ways::Turn;
 use exec_graph::{Output, Step};
 use std::alloc::AllocError;
 
 /// Puts the others behind the steps on that output, if there is one, and then keeps the output or
-/// not.
-#[tactic(auto, using(crate::proofs::PutLemmas::grown_put_kept))]
+/// not. Tells whether it is known that no steps were on it, as where the way leads to it.
 pub(crate) fn put(
     steps: &mut Vec<Step>,
+    way: &[Turn],
     output: u32,
     keep: bool,
     others: Vec<Step>,
-) -> Result<(), AllocError>
+) -> Result<bool, AllocError>
     requires differ { OutsDiffer (grown steps.old.items) }
     requires other { has_out output (grown others.items) ≡ false }
-    ensures { OnOk result (grown steps.new.items ≡ kept_by (all_but output keep)
+    ensures put { OnOk result (grown steps.new.items ≡ kept_by (all_but output keep)
         (grafted output (grown others.items) (grown steps.old.items))) }
+    ensures outs { IfOk result (λ b. b ≡ true → outs (grown steps.new.items)
+        ≡ spliced output keep (outs (grown others.items)) (outs (grown steps.old.items))) }
 {
     let mut others = others;
+    if hang(steps, way, output, keep, &mut others)? {
+        return Ok(true);
+    }
     let _ = put_steps(steps, output, keep, &mut others)?;
-    Ok(())
+    Ok(false)
 }
 
 /// Puts the others there, and tells whether there is one.
@@ -117,7 +126,7 @@ fn put_output(
     Ok(false)
 }
 
-fn is_out(number: Option<u32>, output: u32) -> bool
+pub(crate) fn is_out(number: Option<u32>, output: u32) -> bool
     ensures { result ≡ is_out number output }
 {
     match number {
@@ -126,7 +135,7 @@ fn is_out(number: Option<u32>, output: u32) -> bool
     }
 }
 
-fn kept_out(number: Option<u32>, keep: bool) -> Option<u32>
+pub(crate) fn kept_out(number: Option<u32>, keep: bool) -> Option<u32>
     ensures { result ≡ cond keep number None }
 {
     if keep { number } else { None }

@@ -3,25 +3,46 @@ ghost use Rattle.std.specs.Prelude.{◌≡◌, IfOk, IfSome, true};
 ghost use Rattle.exec_graph.specs.Meaning.{node_at};
 ghost use Rattle.exec_graph.specs.Wellformed.{Ascends, IsGraphOk};
 ghost use Rattle.graph_states.specs.of_graph_names.Names.{unnamed};
+ghost use Rattle.graph_laws.specs.Joining.{beside};
+ghost use Rattle.graph_states.specs.States.{taken_in};
 ghost use Rattle.graph_states.specs.of_graph_rewrites.Rewrites as rewrites;
+ghost use Rattle.flatten_sink.specs.of_sink_laws.Chain.{forest_of};
+ghost use Rattle.graph_walks.specs.Outs.{outs};
+ghost use Rattle.graph_joins.specs.Counts.{HasCounts};
+ghost use Rattle.graph_joins.specs.Lists.{HasLists};
 ghost use Rattle.graph_joins.specs.Sessions as spec;
+ghost use Rattle.graph_joins.specs.inner.Seeks.{is_kth};
 ghost use Rattle.graph_joins.specs.inner.Tests as tests;
 
 use crate::counts::{count_at, count_off, counts_of};
 use crate::finding::{input_at, is_pdo_at, steps_at};
+use crate::lists::{is_listed, list_both, relist, unlist};
 use crate::seeking::is_output;
 use crate::taking::{hung, paired};
+use crate::ways::{Ways, note_kid, note_sibling, ways_of};
 use exec_graph::{Entry, Graph, Place};
+use flume_value::Pile;
 use graph_states::graph_names::{named, unnamed};
 use std::alloc::{AllocError, Global};
 use std::collections::HashMap;
 
-/// A graph under names, and how often each collection is read. In it Pdos become one without a
-/// change of what others read; numbers and places are told again at the end.
+/// A graph under names. In it Pdos become one without a change of what others read; numbers and
+/// places are told again at the end.
 #[derive(Drop)]
 pub struct Joins {
     pub graph: Graph,
+    pub tables: Tables,
+}
+
+/// What is told of a graph under names.
+#[derive(Drop)]
+pub struct Tables {
+    /// How often each collection is read.
     pub counts: HashMap<u64, u32>,
+    /// The names that a Pdo keeps, in preorder, of those that took others in.
+    pub lists: HashMap<u32, Pile<u32>>,
+    /// Where names stand.
+    pub(crate) ways: Ways,
 }
 
 /// The graph under names. It takes time in proportion to the graph's size.
@@ -31,10 +52,23 @@ pub fn begin(alloc: Global, graph: Graph) -> Result<Joins, AllocError>
     ensures same { IfOk result (λ j. unnamed j.graph ≡ graph) }
 {
     let under = named(alloc, graph)?;
-    let counts = counts_of(alloc, &under)?;
+    let tables = tables_of(alloc, &under)?;
     Ok(Joins {
         graph: under,
+        tables,
+    })
+}
+
+fn tables_of(alloc: Global, graph: &Graph) -> Result<Tables, AllocError>
+    ensures counts { IfOk result (λ t. HasCounts t.counts graph.now) }
+    ensures lists { IfOk result (λ t. HasLists t.lists graph.now.nodes) }
+{
+    let counts = counts_of(alloc, graph)?;
+    let ways = ways_of(alloc, graph.nodes.as_slice())?;
+    Ok(Tables {
         counts,
+        lists: HashMap::new(alloc),
+        ways,
     })
 }
 
@@ -42,7 +76,7 @@ pub fn begin(alloc: Global, graph: Graph) -> Result<Joins, AllocError>
 pub fn end(alloc: Global, joins: Joins) -> Result<Graph, AllocError>
     ensures { IfOk result (λ g. g ≡ unnamed joins.graph) }
 {
-    let Joins { graph, counts: _ } = joins;
+    let Joins { graph, tables: _ } = joins;
     unnamed(alloc, graph)
 }
 
@@ -68,15 +102,22 @@ pub fn with_sibling(
         rewrites.CanBeSibling (unnamed joins.graph) keeper other) }
     ensures made { IfOk result (λ j. unnamed j.graph
         ≡ rewrites.after_sibling (unnamed joins.graph) keeper other) }
+    ensures taken { IfOk result (λ j. j.graph ≡ taken_in joins.graph keeper other
+        (rewrites.input_at joins.graph keeper) (beside (rewrites.forest_at joins.graph keeper)
+        (rewrites.forest_at joins.graph other))) }
 {
-    let Joins { graph, mut counts } = joins;
-    let input = input_at(graph.nodes.as_slice(), keeper);
+    let Joins { graph, mut tables } = joins;
+    let nodes = graph.nodes.as_slice();
+    let input = input_at(nodes, keeper);
     let _out = input.out;
-    count_off(input, &mut counts)?;
+    let behind = steps_at(nodes, keeper).len();
+    count_off(input, &mut tables.counts)?;
+    note_sibling(other, keeper, behind, &mut tables.ways)?;
+    unlist(keeper, other, &mut tables.lists);
     let taken = paired(alloc, graph, keeper, other)?;
     Ok(Joins {
         graph: taken,
-        counts,
+        tables,
     })
 }
 
@@ -90,10 +131,29 @@ pub fn read_name(joins: &Joins, keeper: u32, output: u32, reader: u32) -> Option
     if !reads(nodes, keeper, reader, read) {
         return None;
     }
-    if is_output(steps_at(nodes, keeper), output, read.node) {
+    if is_told(&joins.tables.lists, nodes, keeper, output, read.node) {
         Some(read.node)
     } else {
         None
+    }
+}
+
+/// Whether that output of the Pdo has that name, by what is told of it, or by its steps.
+fn is_told(
+    lists: &HashMap<u32, Pile<u32>>,
+    nodes: &[Entry],
+    keeper: u32,
+    output: u32,
+    name: u32,
+) -> bool
+    requires ascends { Ascends nodes.now }
+    requires lists { HasLists lists.now nodes.now }
+    ensures { result ≡ true → is_kth (outs (forest_of (node_at nodes.now keeper))) output name
+        ≡ true }
+{
+    match lists.get(&keeper) {
+        Some(names) => is_listed(names, output, name),
+        None => is_output(steps_at(nodes, keeper), output, name),
     }
 }
 
@@ -114,14 +174,30 @@ pub fn with_kid(
     ensures made { IfOk result (λ j. unnamed j.graph
         ≡ rewrites.after_kid (unnamed joins.graph) keeper output reader) }
 {
-    let Joins { graph, mut counts } = joins;
+    let Joins { graph, mut tables } = joins;
     let read = Place { node: name, out: 0 };
-    count_off(read, &mut counts)?;
-    let keep = 0 < count_at(&counts, read);
-    let taken = hung(alloc, graph, keeper, reader, name, keep)?;
+    count_off(read, &mut tables.counts)?;
+    let keep = 0 < count_at(&tables.counts, read);
+    list_both(
+        alloc,
+        graph.nodes.as_slice(),
+        keeper,
+        reader,
+        &mut tables.lists,
+    )?;
+    let taken = hung(alloc, graph, keeper, reader, name, keep, &tables.ways)?;
+    note_kid(reader, name, &mut tables.ways)?;
+    relist(
+        keeper,
+        output,
+        keep,
+        reader,
+        taken.is_bare,
+        &mut tables.lists,
+    )?;
     Ok(Joins {
-        graph: taken,
-        counts,
+        graph: taken.graph,
+        tables,
     })
 }
 

@@ -1,5 +1,5 @@
 // A Pdo takes in another one, whose name stays with its outputs.
-ghost use Rattle.std.specs.Prelude.{◌≡◌, IfOk, false};
+ghost use Rattle.std.specs.Prelude.{◌≡◌, false, IfOk, true};
 ghost use Rattle.exec_graph.specs.Forests.{Bare, grown};
 ghost use Rattle.exec_graph.specs.Meaning.{OutsDiffer, has_out};
 ghost use Rattle.exec_graph.specs.Wellformed.{Ascends};
@@ -8,10 +8,13 @@ ghost use Rattle.graph_laws.specs.Joining.{beside, grafted, set_node};
 ghost use Rattle.graph_laws.specs.Kids.{kept_by};
 ghost use Rattle.graph_states.specs.of_graph_rewrites.Rewrites.{forest_at, input_at};
 ghost use Rattle.graph_states.specs.States.{all_but, taken_in};
+ghost use Rattle.graph_walks.specs.Outs.{outs};
+ghost use Rattle.graph_joins.specs.inner.Splices.{spliced};
 
 use crate::finding::input_at;
 use crate::nodes::{emptied, taken_out, with_node};
 use crate::putting::put;
+use crate::ways::{Ways, way_to};
 use exec_graph::{Graph, Node, Place, Roots, Step};
 use flume_value::Pile;
 use std::alloc::{AllocError, Global};
@@ -50,6 +53,13 @@ pub(crate) fn paired(
     Ok(with_pdo(left, keeper, input, Roots::new(stays)))
 }
 
+/// A graph, and whether it is known that no steps were on the output on which some are now.
+#[derive(Drop)]
+pub(crate) struct Grafted {
+    pub(crate) graph: Graph,
+    pub(crate) is_bare: bool,
+}
+
 /// The Pdo has the steps of the other on its output of that name, which is kept then or not, and
 /// the other is gone.
 pub(crate) fn hung(
@@ -59,23 +69,31 @@ pub(crate) fn hung(
     other: u32,
     name: u32,
     keep: bool,
-) -> Result<Graph, AllocError>
+    ways: &Ways,
+) -> Result<Grafted, AllocError>
     requires ascends { Ascends graph.nodes }
     requires differ { keeper ≡ other → ⊥ }
     requires outs { OutsDiffer (forest_at graph keeper) }
     requires apart { has_out name (forest_at graph other) ≡ false }
-    ensures { IfOk result (λ h. h ≡ taken_in graph keeper other (input_at graph keeper)
-        (kept_by (all_but name keep)
+    ensures graph { IfOk result (λ h. h.graph ≡ taken_in graph keeper other
+        (input_at graph keeper) (kept_by (all_but name keep)
         (grafted name (forest_at graph other) (forest_at graph keeper)))) }
+    ensures outs { IfOk result (λ h. h.is_bare ≡ true → outs (kept_by (all_but name keep)
+        (grafted name (forest_at graph other) (forest_at graph keeper)))
+        ≡ spliced name keep (outs (forest_at graph other)) (outs (forest_at graph keeper))) }
 {
+    let way = way_to(alloc, name, ways)?;
     let Parted {
         graph: left,
         input,
         mut stays,
         goes,
     } = take_apart(alloc, graph, keeper, other);
-    put(&mut stays, name, keep, goes)?;
-    Ok(with_pdo(left, keeper, input, Roots::new(stays)))
+    let is_bare = put(&mut stays, way.as_slice(), name, keep, goes)?;
+    Ok(Grafted {
+        graph: with_pdo(left, keeper, input, Roots::new(stays)),
+        is_bare,
+    })
 }
 
 /// The graph with a Pdo without steps in place of the one, and without the other.

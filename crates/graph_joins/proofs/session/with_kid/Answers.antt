@@ -1,6 +1,8 @@
-use Rattle.std.proofs.Common.{◌<◌, rules, arith}
+use Rattle.std.proofs.Common.{◌<◌, rules, sym, subst, arith}
 use Rattle.exec_graph.specs.Meaning.{place}
+use Rattle.exec_graph.specs.Wellformed.{Ascends}
 use Rattle.graph_states.specs.of_graph_rewrites.Rewrites.{forest_at, input_at}
+use Rattle.graph_joins.specs.Lists.{HasLists}
 use Rattle.graph_joins.specs.declared.session.Joins.{Joins}
 use Rattle.graph_joins.proofs.Keeping.{kid_can, kid_made, kid_session, name_apart, outs_differ, reads_once, session_ascends}
 use Rattle.graph_joins.proofs.session.with_kid.Goals as goal
@@ -13,6 +15,18 @@ count_off-requires c =
     let r = c.requires.reads in
     reads_once j p q (input_at j.graph p) (place c.args.name 0) (forest_at j.graph p)
     (forest_at j.graph q) c.requires.session r.less r.keeper r.other (omega arith)
+
+pub list_both-requires-clause-ascends : goal.list_both-requires-clause-ascends
+list_both-requires-clause-ascends c =
+    subst Ascends (sym c.as_slice.ensures) (session_ascends c.args.joins c.requires.session)
+
+pub list_both-requires-clause-lists : goal.list_both-requires-clause-lists
+list_both-requires-clause-lists c =
+    subst (HasLists c.args.joins.tables.lists) (sym c.as_slice.ensures) c.requires.session.lists
+
+pub relist-requires : goal.relist-requires
+relist-requires c = λ e.
+    let lt : c.args.keeper < c.args.reader = c.requires.reads.less in omega arith
 
 pub hung-requires-clause-ascends : goal.hung-requires-clause-ascends
 hung-requires-clause-ascends c = session_ascends c.args.joins c.requires.session
@@ -34,29 +48,43 @@ hung-requires-clause-apart c =
 pub returns-clause-session : goal.returns-clause-session
 returns-clause-session c =
     let k : Joins = record {
-      graph = c.in_ok-taken.taken;
-      counts = c.count_off.new.counts;
+      graph = c.in_ok-taken.taken.graph;
+      tables = record {
+        counts = c.count_off.new.counts;
+        lists = c.relist.new.lists;
+        ways = c.note_kid.new.ways;
+      };
     } in
     kid_session c.args.joins k c.args.keeper c.args.output c.args.reader c.args.name _
-    c.requires.session c.requires.reads c.in_ok-taken.ensures c.in_ok-count_off.ensures
-    (search rules)
+    c.requires.session c.requires.reads c.in_ok-taken.ensures.graph c.in_ok-count_off.ensures
+    (search rules) c.list_both.new.lists
+    (subst (HasLists c.list_both.new.lists) c.as_slice.ensures c.in_ok-list_both.ensures)
+    c.in_ok-taken.taken.is_bare c.in_ok-taken.ensures.outs c.in_ok-relist.ensures
 
 pub returns-clause-can : goal.returns-clause-can
 returns-clause-can c =
     let k : Joins = record {
-      graph = c.in_ok-taken.taken;
-      counts = c.count_off.new.counts;
+      graph = c.in_ok-taken.taken.graph;
+      tables = record {
+        counts = c.count_off.new.counts;
+        lists = c.relist.new.lists;
+        ways = c.note_kid.new.ways;
+      };
     } in
     kid_can c.args.joins k c.args.keeper c.args.output c.args.reader c.args.name _
-    c.requires.session c.requires.reads c.in_ok-taken.ensures c.in_ok-count_off.ensures
+    c.requires.session c.requires.reads c.in_ok-taken.ensures.graph c.in_ok-count_off.ensures
     (search rules)
 
 pub returns-clause-made : goal.returns-clause-made
 returns-clause-made c =
     let k : Joins = record {
-      graph = c.in_ok-taken.taken;
-      counts = c.count_off.new.counts;
+      graph = c.in_ok-taken.taken.graph;
+      tables = record {
+        counts = c.count_off.new.counts;
+        lists = c.relist.new.lists;
+        ways = c.note_kid.new.ways;
+      };
     } in
     kid_made c.args.joins k c.args.keeper c.args.output c.args.reader c.args.name _
-    c.requires.session c.requires.reads c.in_ok-taken.ensures c.in_ok-count_off.ensures
+    c.requires.session c.requires.reads c.in_ok-taken.ensures.graph c.in_ok-count_off.ensures
     (search rules)

@@ -13,7 +13,11 @@ use Rattle.graph_joins.proofs.session.with_sibling.Goals as goal
 
 pub input_at-input-requires : goal.input_at-input-requires
 input_at-input-requires c =
-    subst Ascends (sym c.as_slice.ensures) (session_ascends c.args.joins c.requires.session)
+    subst Ascends (sym c.as_slice-nodes.ensures) (session_ascends c.args.joins c.requires.session)
+
+pub steps_at-behind-requires : goal.steps_at-behind-requires
+steps_at-behind-requires c =
+    subst Ascends (sym c.as_slice-nodes.ensures) (session_ascends c.args.joins c.requires.session)
 
 pub count_off-requires : goal.count_off-requires
 count_off-requires c =
@@ -22,8 +26,8 @@ count_off-requires c =
     let q = c.args.other in
     let is : c.input_at-input.result ≡ input_at j.graph p =
     c.input_at-input.ensures
-    ∙ ap (λ (es : List Entry). input_of (node_at es p)) c.as_slice.ensures in
-    subst (λ (d : Place). 0 < count_in j.counts d) (sym is)
+    ∙ ap (λ (es : List Entry). input_of (node_at es p)) c.as_slice-nodes.ensures in
+    subst (λ (d : Place). 0 < count_in j.tables.counts d) (sym is)
     (reads_once j p q (input_at j.graph p) (input_at j.graph p) (forest_at j.graph p)
     (forest_at j.graph q) c.requires.session c.requires.pair.less c.requires.pair.can.keeper
     c.requires.pair.can.other (subst (λ (d : Place). d.out < 2 ^ 32) is (search rules)))
@@ -41,20 +45,29 @@ returns-clause-session c =
     let q = c.args.other in
     let k : Joins = record {
       graph = c.in_ok-taken.taken;
-      counts = c.count_off.new.counts;
+      tables = record {
+        counts = c.count_off.new.counts;
+        lists = c.unlist.new.lists;
+        ways = c.note_sibling.new.ways;
+      };
     } in
     let is : c.input_at-input.result ≡ input_at j.graph p =
     c.input_at-input.ensures
-    ∙ ap (λ (es : List Entry). input_of (node_at es p)) c.as_slice.ensures in
+    ∙ ap (λ (es : List Entry). input_of (node_at es p)) c.as_slice-nodes.ensures in
     pair_session j k p q c.requires.session c.requires.pair c.in_ok-taken.ensures
     (λ v lt. c.in_ok-count_off.ensures v lt
-    ∙ ap (λ (d : Place). one_if (same_place v d) + count_in k.counts v) is)
+    ∙ ap (λ (d : Place). one_if (same_place v d) + count_in k.tables.counts v) is)
+    c.unlist.ensures
 
 pub returns-clause-can : goal.returns-clause-can
 returns-clause-can c =
     let k : Joins = record {
       graph = c.in_ok-taken.taken;
-      counts = c.count_off.new.counts;
+      tables = record {
+        counts = c.count_off.new.counts;
+        lists = c.unlist.new.lists;
+        ways = c.note_sibling.new.ways;
+      };
     } in
     pair_can c.args.joins k c.args.keeper c.args.other c.requires.session c.requires.pair
     c.in_ok-taken.ensures
@@ -63,7 +76,11 @@ pub returns-clause-made : goal.returns-clause-made
 returns-clause-made c =
     let k : Joins = record {
       graph = c.in_ok-taken.taken;
-      counts = c.count_off.new.counts;
+      tables = record {
+        counts = c.count_off.new.counts;
+        lists = c.unlist.new.lists;
+        ways = c.note_sibling.new.ways;
+      };
     } in
     pair_made c.args.joins k c.args.keeper c.args.other c.requires.session c.requires.pair
     c.in_ok-taken.ensures

@@ -1,0 +1,157 @@
+// Steps on an output on which there are none, by the way to it.
+ghost use Rattle.std.specs.Prelude.{◌≡◌, ℕ, false, IfOk, map, true};
+ghost use Rattle.exec_graph.specs.Forests.{Branch, Forest, Grow, grown, label_at, limb, twigs};
+ghost use Rattle.exec_graph.specs.Twigs.{twig};
+ghost use Rattle.graph_joins.specs.inner.Hangs.{Hangs};
+
+use crate::putting::{is_out, kept_out};
+use crate::ways::Turn;
+use exec_graph::{Output, Step};
+use std::alloc::AllocError;
+
+/// Puts the others on that output, if the way leads to it and nothing is on it, and then keeps the
+/// output or not. Tells whether it did.
+pub(crate) fn hang(
+    steps: &mut Vec<Step>,
+    way: &[Turn],
+    output: u32,
+    keep: bool,
+    others: &mut Vec<Step>,
+) -> Result<bool, AllocError>
+    ensures hangs { IfOk result (λ b. b ≡ true → Hangs output keep (grown others.old.items)
+        (grown steps.old.items) (grown steps.new.items)) }
+    ensures steps { IfOk result (λ b. b ≡ false → steps.new.items ≡ steps.old.items) }
+    ensures others { IfOk result (λ b. b ≡ false → others.new.items ≡ others.old.items) }
+{
+    if way.is_empty() {
+        return Ok(false);
+    }
+    let rest = way.len() - 1;
+    let turn = way[rest];
+    if turn.step >= steps.len() {
+        return Ok(false);
+    }
+    let hung = hang_step(
+        &mut steps[turn.step],
+        turn.output,
+        way,
+        rest,
+        output,
+        keep,
+        others,
+    )?;
+    Ok(hung)
+}
+
+#[cycle(hang)]
+fn hang_step(
+    step: &mut Step,
+    index: usize,
+    way: &[Turn],
+    rest: usize,
+    output: u32,
+    keep: bool,
+    others: &mut Vec<Step>,
+) -> Result<bool, AllocError>
+    ensures hangs { IfOk result (λ b. b ≡ true → (f : Forest) →
+        Hangs output keep (grown others.old.items) (limb step.old f) (limb step.new f)) }
+    ensures step { IfOk result (λ b. b ≡ false → step.new ≡ step.old) }
+    ensures others { IfOk result (λ b. b ≡ false → others.new.items ≡ others.old.items) }
+{
+    if index == 0 {
+        let hung = hang_output(&mut step.first, way, rest, output, keep, others)?;
+        return Ok(hung);
+    }
+    let hung = hang_outputs(&mut step.more, index - 1, way, rest, output, keep, others)?;
+    Ok(hung)
+}
+
+#[cycle(hang)]
+fn hang_outputs(
+    outputs: &mut Vec<Output>,
+    index: usize,
+    way: &[Turn],
+    rest: usize,
+    output: u32,
+    keep: bool,
+    others: &mut Vec<Step>,
+) -> Result<bool, AllocError>
+    ensures hangs { IfOk result (λ b. b ≡ true → (s : Branch) (n : ℕ) (f : Forest) →
+        Hangs output keep (grown others.old.items) (twigs s n (map twig outputs.old.items) f)
+        (twigs s n (map twig outputs.new.items) f)) }
+    ensures outputs { IfOk result (λ b. b ≡ false →
+        map twig outputs.new.items ≡ map twig outputs.old.items) }
+    ensures others { IfOk result (λ b. b ≡ false → others.new.items ≡ others.old.items) }
+{
+    if index >= outputs.len() {
+        return Ok(false);
+    }
+    let hung = hang_output(&mut outputs[index], way, rest, output, keep, others)?;
+    Ok(hung)
+}
+
+#[cycle(hang)]
+fn hang_output(
+    one: &mut Output,
+    way: &[Turn],
+    rest: usize,
+    output: u32,
+    keep: bool,
+    others: &mut Vec<Step>,
+) -> Result<bool, AllocError>
+    ensures hangs { IfOk result (λ b. b ≡ true → (s : Branch) (n : ℕ) (f : Forest) →
+        Hangs output keep (grown others.old.items)
+        (Grow (label_at s n (twig one.old)) (twig one.old).kids f)
+        (Grow (label_at s n (twig one.new)) (twig one.new).kids f)) }
+    ensures one { IfOk result (λ b. b ≡ false → twig one.new ≡ twig one.old) }
+    ensures others { IfOk result (λ b. b ≡ false → others.new.items ≡ others.old.items) }
+{
+    if rest == 0 {
+        let hung = hang_here(one, output, keep, others)?;
+        return Ok(hung);
+    }
+    let next = rest - 1;
+    if next >= way.len() {
+        return Ok(false);
+    }
+    let turn = way[next];
+    let kids = &mut one.kids;
+    if turn.step >= kids.len() {
+        return Ok(false);
+    }
+    let hung = hang_step(
+        &mut kids[turn.step],
+        turn.output,
+        way,
+        next,
+        output,
+        keep,
+        others,
+    )?;
+    Ok(hung)
+}
+
+/// Puts the others on the output, if it has that number and nothing is on it.
+fn hang_here(
+    one: &mut Output,
+    output: u32,
+    keep: bool,
+    others: &mut Vec<Step>,
+) -> Result<bool, AllocError>
+    ensures hangs { IfOk result (λ b. b ≡ true → (s : Branch) (n : ℕ) (f : Forest) →
+        Hangs output keep (grown others.old.items)
+        (Grow (label_at s n (twig one.old)) (twig one.old).kids f)
+        (Grow (label_at s n (twig one.new)) (twig one.new).kids f)) }
+    ensures one { IfOk result (λ b. b ≡ false → twig one.new ≡ twig one.old) }
+    ensures others { IfOk result (λ b. b ≡ false → others.new.items ≡ others.old.items) }
+{
+    if !is_out(one.number, output) {
+        return Ok(false);
+    }
+    if !one.kids.is_empty() {
+        return Ok(false);
+    }
+    one.number = kept_out(one.number, keep);
+    one.kids.append(others)?;
+    Ok(true)
+}

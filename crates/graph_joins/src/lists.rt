@@ -1,0 +1,188 @@
+// The names that Pdos keep, as far as they are told.
+ghost use Rattle.std.specs.Prelude.{◌≡◌, ◌≢◌, ◌++◌, ◌<◌, ◌==◌, ℕ, cond, IfOk, length, None, nat_eq, OnOk, Some, true};
+ghost use Rattle.std.specs.HashMap.{get};
+ghost use Rattle.exec_graph.specs.Forests.{grown};
+ghost use Rattle.exec_graph.specs.Wellformed.{Ascends};
+ghost use Rattle.exec_graph.specs.Twigs.{twig};
+ghost use Rattle.graph_walks.specs.Outs.{out_list, outs};
+ghost use Rattle.graph_walks.specs.inner.Numbering.{branch_outs, branches_outs, twig_outs};
+ghost use Rattle.graph_joins.specs.Lists.{HasLists};
+ghost use Rattle.graph_joins.specs.inner.Seeks.{is_kth};
+ghost use Rattle.graph_joins.specs.inner.Splices as spec;
+
+use crate::finding::steps_at;
+use exec_graph::{Entry, Output, Step};
+use flume_value::Pile;
+use std::alloc::{AllocError, Global};
+use std::collections::HashMap;
+
+/// Whether the name stands there, counted from 0 on.
+pub(crate) fn is_listed(names: &Pile<u32>, number: u32, name: u32) -> bool
+    ensures { result ≡ true → is_kth names.now number name ≡ true }
+{
+    match names.get(number as usize) {
+        Some(other) => *other == name,
+        None => false,
+    }
+}
+
+/// Tells of these Pdos too.
+pub(crate) fn list_both(
+    alloc: Global,
+    nodes: &[Entry],
+    one: u32,
+    other: u32,
+    lists: &mut HashMap<u32, Pile<u32>>,
+) -> Result<(), AllocError>
+    requires ascends { Ascends nodes.now }
+    requires lists { HasLists lists.old nodes.now }
+    ensures { OnOk result (HasLists lists.new nodes.now) }
+{
+    list_node(alloc, nodes, one, lists)?;
+    list_node(alloc, nodes, other, lists)?;
+    Ok(())
+}
+
+/// Tells of the Pdo too.
+fn list_node(
+    alloc: Global,
+    nodes: &[Entry],
+    number: u32,
+    lists: &mut HashMap<u32, Pile<u32>>,
+) -> Result<(), AllocError>
+    requires ascends { Ascends nodes.now }
+    requires lists { HasLists lists.old nodes.now }
+    ensures { OnOk result (HasLists lists.new nodes.now) }
+{
+    if lists.contains_key(&number) {
+        return Ok(());
+    }
+    let names = names_of(alloc, steps_at(nodes, number))?;
+    put_list(number, names, lists)?;
+    Ok(())
+}
+
+fn put_list(
+    number: u32,
+    names: Vec<u32>,
+    lists: &mut HashMap<u32, Pile<u32>>,
+) -> Result<(), AllocError>
+    ensures { OnOk result ((n : ℕ) → get nat_eq lists.new n
+        ≡ cond (n == number) (Some names.items) (get nat_eq lists.old n)) }
+{
+    lists.insert(number, Pile::from_vec(names))?;
+    Ok(())
+}
+
+/// Tells of neither Pdo any more.
+pub(crate) fn unlist(keeper: u32, other: u32, lists: &mut HashMap<u32, Pile<u32>>)
+    ensures { (n : ℕ) → get nat_eq lists.new n
+        ≡ cond (n == keeper) None (cond (n == other) None (get nat_eq lists.old n)) }
+{
+    let _ = lists.remove(&other);
+    let _ = lists.remove(&keeper);
+}
+
+/// Tells of the keeper what it keeps with the reader on that output, if both were told of and no
+/// steps were on it, and of the reader no more.
+pub(crate) fn relist(
+    keeper: u32,
+    output: u32,
+    keep: bool,
+    reader: u32,
+    is_bare: bool,
+    lists: &mut HashMap<u32, Pile<u32>>,
+) -> Result<(), AllocError>
+    requires { keeper ≢ reader }
+    ensures { OnOk result ((n : ℕ) → get nat_eq lists.new n ≡ cond (n == keeper)
+        (spec.known is_bare (spec.joined output keep (get nat_eq lists.old keeper)
+        (get nat_eq lists.old reader))) (cond (n == reader) None (get nat_eq lists.old n))) }
+{
+    let more = lists.remove(&reader);
+    let own = lists.remove(&keeper);
+    if !is_bare {
+        return Ok(());
+    }
+    if let Some(names) = joined(own, output, keep, more)? {
+        lists.insert(keeper, names)?;
+    }
+    Ok(())
+}
+
+fn joined(
+    own: Option<Pile<u32>>,
+    output: u32,
+    keep: bool,
+    more: Option<Pile<u32>>,
+) -> Result<Option<Pile<u32>>, AllocError>
+    ensures { IfOk result (λ o. o ≡ spec.joined output keep own more) }
+{
+    match (own, more) {
+        (Some(own), Some(more)) => spliced(own, output as usize, keep, more),
+        _ => Ok(None),
+    }
+}
+
+fn spliced(
+    own: Pile<u32>,
+    at: usize,
+    keep: bool,
+    more: Pile<u32>,
+) -> Result<Option<Pile<u32>>, AllocError>
+    ensures { IfOk result (λ o. o ≡ spec.joined at keep (Some own) (Some more)) }
+{
+    let mut names = own.into_vec();
+    let mut more = more.into_vec();
+    if at >= names.len() {
+        return Ok(None);
+    }
+    let mut behind = names.split_off(at + 1)?;
+    names.truncate(if keep { at + 1 } else { at });
+    names.append(&mut more)?;
+    names.append(&mut behind)?;
+    Ok(Some(Pile::from_vec(names)))
+}
+
+// ---- the names of a forest
+
+/// The names that the steps keep, in preorder.
+fn names_of(alloc: Global, steps: &[Step]) -> Result<Vec<u32>, AllocError>
+    ensures { IfOk result (λ names. names.items ≡ outs (grown steps.now)) }
+{
+    let mut names = Vec::new(alloc);
+    for step in steps {
+        push_step(step, &mut names)?;
+    }
+    Ok(names)
+}
+
+#[cycle(names)]
+fn push_step(step: &Step, names: &mut Vec<u32>) -> Result<(), AllocError>
+    ensures { OnOk result (names.new.items ≡ names.old.items ++ branch_outs step.now) }
+{
+    push_output(&step.first, names)?;
+    for output in &step.more {
+        push_output(output, names)?;
+    }
+    Ok(())
+}
+
+#[cycle(names)]
+fn push_output(output: &Output, names: &mut Vec<u32>) -> Result<(), AllocError>
+    ensures { OnOk result (names.new.items ≡ names.old.items ++ twig_outs (twig output.now)) }
+{
+    push_name(output.number, names)?;
+    for kid in &output.kids {
+        push_step(kid, names)?;
+    }
+    Ok(())
+}
+
+fn push_name(name: Option<u32>, names: &mut Vec<u32>) -> Result<(), AllocError>
+    ensures { OnOk result (names.new.items ≡ names.old.items ++ out_list name) }
+{
+    if let Some(name) = name {
+        names.push(name)?;
+    }
+    Ok(())
+}
