@@ -12,8 +12,8 @@ use Rattle.graph_joins.specs.Counts.{HasCounts}
 use Rattle.graph_joins.specs.Lists.{HasLists}
 use Rattle.graph_joins.specs.declared.session.Joins.{Joins}
 
--- it stands, and is well-formed without names; what is read is counted, and what is told of names is
--- so
+-- it stands, and is well-formed without names; what is read is counted, and what is told of names
+-- is so
 pub record IsSession (j : Joins) : Type 0 where
   pub stands : Stands j.graph
   pub ok : IsGraphOk (unnamed j.graph)
