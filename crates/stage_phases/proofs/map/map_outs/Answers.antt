@@ -11,7 +11,7 @@ use Rattle.stage_phases.proofs.map.map_outs.Goals as goal
 
 pub outs_of-requires-sync-T : goal.outs_of-requires-sync-T
 outs_of-requires-sync-T g c κs within =
-    let a : NamedLft = record { mir = named 9; lft = κs.1.1.1.1.1.1.1.1.1.0 } in
+    let a : NamedLft = record { mir = named 8; lft = κs.1.1.1.1.1.1.1.1.0 } in
     param_sync _ _ (arg_sync _ no _ (MapTasks-sync a _ _ c.type_bounds.sync-F))
 
 pub returns-clause-outs : goal.returns-clause-outs
