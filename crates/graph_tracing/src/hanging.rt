@@ -34,6 +34,8 @@ pub(crate) struct NamedKids {
     pub(crate) numbers: HashMap<u32, u32>,
     /// Of each Pdo that went since the names were given, the one that took it in.
     pub(crate) keepers: HashMap<u32, u32>,
+    /// The number of the output that the last of them read.
+    pub(crate) last: u32,
 }
 
 fn named_kids(alloc: Global, kids: KidTrace) -> Result<NamedKids, AllocError>
@@ -48,6 +50,7 @@ fn named_kids(alloc: Global, kids: KidTrace) -> Result<NamedKids, AllocError>
         trace,
         numbers,
         keepers: HashMap::new(alloc),
+        last: 0,
     })
 }
 
@@ -59,6 +62,7 @@ fn unnamed_kids(alloc: Global, kids: NamedKids) -> Result<KidTrace, AllocError>
         trace,
         numbers,
         keepers: _,
+        last: _,
     } = kids;
     let trace = unnamed_trace(alloc, trace)?;
     Ok(KidTrace { trace, numbers })
@@ -133,7 +137,7 @@ fn kid_of(alloc: Global, kids: NamedKids, number: u32) -> Result<NamedKids, Allo
         IsLeaving (number_in kids.numbers) f (trace_of kids.trace) m (number ∷ ns) all →
         IsLeaving (number_in t.numbers) f (trace_of t.trace) m ns all) }
 {
-    let read = likely_output(&kids.trace.joins.graph, number, &kids.keepers);
+    let read = likely_output(&kids.trace.joins, number, &kids.keepers, kids.last);
     match read_name(&kids.trace.joins, read.node, read.out, number) {
         Some(name) => {
             let next = after_named_kid(alloc, kids, read, number, name)?;
@@ -190,6 +194,7 @@ fn after_named_kid(
         trace,
         mut numbers,
         mut keepers,
+        last: _,
     } = kids;
     let NamedTrace {
         joins,
@@ -207,5 +212,6 @@ fn after_named_kid(
         trace: NamedTrace { joins, rewrites },
         numbers,
         keepers,
+        last: read.out,
     })
 }

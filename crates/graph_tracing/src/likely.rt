@@ -2,25 +2,50 @@
 ghost use Rattle.exec_graph.specs.Wellformed.{Ascends};
 
 use crate::finding::find_node;
-use exec_graph::{Entry, Graph, Node, Output, Place, Step};
+use exec_graph::{Entry, Node, Output, Place, Step};
+use graph_joins::Joins;
 use std::collections::HashMap;
 
 /// The output that the Pdo of that number likely reads, of a graph under names. The name is of the
-/// Pdo that had it when names were given, or of that which took this one in.
-pub(crate) fn likely_output(graph: &Graph, reader: u32, keepers: &HashMap<u32, u32>) -> Place
-    requires { Ascends graph.now.nodes }
+/// Pdo that had it when names were given, or of that which took this one in; and it is mostly not
+/// far behind the output that was read last.
+pub(crate) fn likely_output(
+    joins: &Joins,
+    reader: u32,
+    keepers: &HashMap<u32, u32>,
+    last: u32,
+) -> Place
+    requires { Ascends joins.now.graph.nodes }
 {
-    let nodes = graph.nodes.as_slice();
+    let nodes = joins.graph.nodes.as_slice();
     let name = read_at(nodes, reader);
-    let first = name.checked_rem(graph.next).unwrap_or(0);
+    let first = name.checked_rem(joins.graph.next).unwrap_or(0);
     let node = match keepers.get(&first) {
         Some(keeper) => *keeper,
         None => first,
     };
-    Place {
-        node,
-        out: outs_before(nodes, node, name),
+    let out = match joins.tables.lists.get(&node) {
+        Some(names) => place_near(names.as_slice(), last as usize, name),
+        None => outs_before(nodes, node, name),
+    };
+    Place { node, out }
+}
+
+/// Where the name stands in the list, which is sought from that place on first.
+fn place_near(names: &[u32], from: usize, name: u32) -> u32 {
+    match place_from(names, from, name) {
+        Some(place) => place,
+        None => place_from(names, 0, name).unwrap_or(0),
     }
+}
+
+fn place_from(names: &[u32], from: usize, name: u32) -> Option<u32> {
+    for i in from..names.len() {
+        if names[i] == name {
+            return u32::try_from(i).ok();
+        }
+    }
+    None
 }
 
 /// The name that the Pdo reads.
