@@ -1,6 +1,7 @@
 pub mod Traces
 pub mod Sinks
 pub mod Effects
+pub mod Firsts
 pub mod Keepers
 pub mod Waiting
 pub mod Settled

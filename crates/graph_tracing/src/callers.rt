@@ -1,23 +1,38 @@
 // Which Pdo becomes part of which.
-ghost use Rattle.std.specs.Prelude.{◌≡◌, ◌||◌, Some};
+ghost use Rattle.std.specs.Prelude.{◌≡◌, ◌<◌, ◌==◌, ◌^◌, ℕ, cond, IfOk, nat_eq, None, OnOk, Some};
+ghost use Rattle.std.specs.HashMap.{get};
 ghost use Rattle.exec_graph.specs.Meaning.{node_at};
-ghost use Rattle.exec_graph.specs.Readers.{calls_on};
+ghost use Rattle.exec_graph.specs.Places.{code};
+ghost use Rattle.exec_graph.specs.Readers.{calls_on, same_place};
 ghost use Rattle.exec_graph.specs.Wellformed.{Ascends};
+ghost use Rattle.exec_graph.specs.declared.graph.Place.{Place as GhostPlace};
 ghost use Rattle.pardo_fuse.specs.Readers.{is_pdo};
 ghost use Rattle.graph_tracing.specs.inner.Callers as callers;
 
 use crate::finding::find_node;
-use exec_graph::{Entry, Node, Place};
+use exec_graph::{Entry, Node, Place, code_of};
+use std::alloc::{AllocError, Global};
+use std::collections::HashMap;
 
 /// The first Pdo that reads what the Pdo of that number reads, if it has a lesser number.
-pub(crate) fn keeper_of(nodes: &[Entry], number: u32) -> Option<u32>
-    requires { Ascends nodes.now }
+pub(crate) fn keeper_of(nodes: &[Entry], firsts: &HashMap<u64, u32>, number: u32) -> Option<u32>
+    requires ascends { Ascends nodes.now }
+    requires firsts { callers.HasFirsts firsts.now nodes.now }
     ensures { result ≡ callers.keeper_in nodes.now number }
 {
     match find_node(nodes, number) {
-        Some(Node::Pdo { input, .. }) => below(number, first_caller(nodes, *input)),
+        Some(Node::Pdo { input, .. }) => first_below(nodes, firsts, *input, number),
         _ => None,
     }
+}
+
+/// The first Pdo that reads the collection, if it has a lesser number than that.
+fn first_below(nodes: &[Entry], firsts: &HashMap<u64, u32>, read: Place, number: u32) -> Option<u32>
+    requires { callers.HasFirsts firsts.now nodes.now }
+    ensures { result ≡ callers.below number (callers.first_caller read nodes.now) }
+{
+    let _out = read.out;
+    below(number, first_at(firsts, read))
 }
 
 fn below(number: u32, found: Option<u32>) -> Option<u32>
@@ -29,25 +44,56 @@ fn below(number: u32, found: Option<u32>) -> Option<u32>
     }
 }
 
-/// The first Pdo that reads the collection.
-fn first_caller(nodes: &[Entry], read: Place) -> Option<u32>
-    ensures { result ≡ callers.first_caller read nodes.now }
+fn first_at(firsts: &HashMap<u64, u32>, read: Place) -> Option<u32>
+    ensures { result ≡ get nat_eq firsts.now (code read) }
 {
-    for entry in nodes {
-        if calls(&entry.node, read) {
-            return Some(entry.number);
-        }
+    match firsts.get(&code_of(read)) {
+        Some(number) => Some(*number),
+        None => None,
     }
-    None
 }
 
-fn calls(node: &Node, read: Place) -> bool
-    ensures { result ≡ calls_on read node.now }
+/// The first Pdo that reads each collection, by its code.
+pub(crate) fn firsts_of(alloc: Global, nodes: &[Entry]) -> Result<HashMap<u64, u32>, AllocError>
+    ensures { IfOk result (λ firsts. callers.HasFirsts firsts nodes.now) }
+{
+    let mut firsts = HashMap::new(alloc);
+    for entry in nodes {
+        note_node(&entry.node, entry.number, &mut firsts)?;
+    }
+    Ok(firsts)
+}
+
+/// Notes what the node reads, if it is a Pdo, where it is noted of none before.
+fn note_node(node: &Node, number: u32, firsts: &mut HashMap<u64, u32>) -> Result<(), AllocError>
+    ensures { OnOk result ((c : GhostPlace) → c.out < 2 ^ 32 → get nat_eq firsts.new (code c)
+        ≡ callers.or_else (get nat_eq firsts.old (code c))
+        (cond (calls_on c node.now) (Some number) None)) }
 {
     match node {
-        Node::Pdo { input, .. } => read.node == input.node && read.out == input.out,
-        Node::Source(_) | Node::Flatten(_) | Node::Gbk { .. } | Node::Barrier { .. } => false,
+        Node::Pdo { input, .. } => note_reader(*input, number, firsts),
+        Node::Source(_) | Node::Flatten(_) | Node::Gbk { .. } | Node::Barrier { .. } => Ok(()),
     }
+}
+
+fn note_reader(read: Place, number: u32, firsts: &mut HashMap<u64, u32>) -> Result<(), AllocError>
+    ensures { OnOk result ((c : GhostPlace) → c.out < 2 ^ 32 → get nat_eq firsts.new (code c)
+        ≡ callers.or_else (get nat_eq firsts.old (code c))
+        (cond (same_place c read) (Some number) None)) }
+{
+    let _out = read.out;
+    note_code(code_of(read), number, firsts)?;
+    Ok(())
+}
+
+fn note_code(code: u64, number: u32, firsts: &mut HashMap<u64, u32>) -> Result<(), AllocError>
+    ensures { OnOk result ((n : ℕ) → get nat_eq firsts.new n
+        ≡ callers.or_else (get nat_eq firsts.old n) (cond (n == code) (Some number) None)) }
+{
+    if !firsts.contains_key(&code) {
+        firsts.insert(code, number)?;
+    }
+    Ok(())
 }
 
 /// What the Pdo of that number reads, if that is an output of a Pdo.

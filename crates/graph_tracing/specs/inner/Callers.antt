@@ -1,6 +1,8 @@
 -- Which Pdo becomes part of which, as tests.
-use Rattle.std.specs.Prelude.{ℕ, nat_lt, ◌&&◌, Bool, true, false, cond, List, [], ◌∷◌, Option, Some, None}
+use Rattle.std.specs.Prelude.{◌≡◌, ℕ, ◌<◌, ◌^◌, nat_eq, nat_lt, ◌&&◌, Bool, true, false, cond, List, [], ◌∷◌, Option, Some, None}
+use Rattle.std.specs.HashMap.{HashMap, get}
 use Rattle.exec_graph.specs.Meaning.{node_at}
+use Rattle.exec_graph.specs.Places.{code}
 use Rattle.exec_graph.specs.Readers.{among, calls_on, those}
 use Rattle.exec_graph.specs.declared.graph.Blocked.{Blocked}
 use Rattle.exec_graph.specs.declared.graph.Entry.{Entry}
@@ -13,6 +15,14 @@ use Rattle.pardo_fuse.specs.Readers.{is_pdo}
 abbrev pub first_caller : Place → List Entry → Option ℕ
 first_caller c [] = None
 first_caller c (e ∷ es) = cond (calls_on c e.node) (Some e.number) (first_caller c es)
+
+-- the map tells it of each collection
+abbrev pub HasFirsts : {S : Type 0} → HashMap ℕ ℕ S → List Entry → Type 0
+HasFirsts m es = (c : Place) → c.out < 2 ^ 32 → get nat_eq m (code c) ≡ first_caller c es
+
+abbrev pub or_else : Option ℕ → Option ℕ → Option ℕ
+or_else None o = o
+or_else (Some p) o = Some p
 
 -- if it is below q
 abbrev pub below : ℕ → Option ℕ → Option ℕ

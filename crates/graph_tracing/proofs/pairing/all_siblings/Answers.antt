@@ -14,6 +14,7 @@ loop-number-preserved c =
     drop-cons ns i 0 c.loop-number-test.true ∙ ap (λ (j : ℕ). n ∷ drop j ns) one in
     record {
       session = c.in_ok-trace.ensures.session;
+      firsts = c.in_ok-trace.ensures.firsts;
       traced = λ g t. c.in_ok-trace.ensures.traced g (c.loop-number.invariant.traced g t);
       whole = λ m f all apart u. c.in_ok-trace.ensures.whole m f (drop (i + 1) ns) all apart
           (subst (λ (xs : List ℕ). IsUnderway true (λ j. j) f

@@ -1,30 +1,52 @@
 use Rattle.std.proofs.Common.{List, sym, ap, subst, ◌∙◌}
 use Rattle.exec_graph.specs.Wellformed.{Ascends}
 use Rattle.exec_graph.specs.declared.graph.Entry.{Entry}
+use Rattle.exec_graph.specs.declared.graph.Graph.{Graph}
+use Rattle.graph_laws.specs.Joining.{beside}
+use Rattle.graph_rewrites.specs.Rewrites.{forest_at, input_at}
 use Rattle.graph_joins.proofs.Keeping.{session_ascends}
-use Rattle.graph_tracing.specs.inner.Callers.{keeper_in}
+use Rattle.graph_tracing.specs.inner.Callers.{HasFirsts, first_caller, keeper_in}
 use Rattle.graph_tracing.specs.inner.Named.{trace_of}
+use Rattle.graph_tracing.proofs.Firsts.{first_taken}
 use Rattle.graph_tracing.proofs.Keepers.{keeper_none, keeper_some}
 use Rattle.graph_tracing.proofs.Siblings.{sibling_goes, sibling_left, sibling_taken}
 use Rattle.graph_tracing.proofs.Under.{pair_back}
 use Rattle.graph_tracing.proofs.pairing.next_sibling.Goals as goal
 
-pub keeper_of-requires : goal.keeper_of-requires
-keeper_of-requires c =
-    subst Ascends (sym c.as_slice.ensures) (session_ascends c.args.trace.joins c.requires)
+pub keeper_of-requires-clause-ascends : goal.keeper_of-requires-clause-ascends
+keeper_of-requires-clause-ascends c =
+    subst Ascends (sym c.as_slice.ensures) (session_ascends c.args.trace.joins c.requires.session)
+
+pub keeper_of-requires-clause-firsts : goal.keeper_of-requires-clause-firsts
+keeper_of-requires-clause-firsts c =
+    subst (HasFirsts c.args.firsts.now) (sym c.as_slice.ensures) c.requires.firsts
 
 pub after_sibling-requires-clause-pair : goal.after_sibling-requires-clause-pair
 after_sibling-requires-clause-pair c =
     let k = keeper_some c.args.trace.joins.graph c.args.number c.in-Some.keeper
-    (session_ascends c.args.trace.joins c.requires)
+    (session_ascends c.args.trace.joins c.requires.session)
     (ap (λ (l : List Entry). keeper_in l c.args.number) (sym c.as_slice.ensures)
     ∙ sym c.keeper_of.ensures ∙ c.in-Some.is) in
     record { less = k.0; can = k.1 }
 
+pub returns-in_ok-next-in-Some-clause-firsts : goal.returns-in_ok-next-in-Some-clause-firsts
+returns-in_ok-next-in-Some-clause-firsts c = λ d lt.
+    let h = c.args.trace.joins.graph in
+    let p = c.in-Some.keeper in
+    let q = c.args.number in
+    let k = keeper_some h q p (session_ascends c.args.trace.joins c.requires.session)
+    (ap (λ (l : List Entry). keeper_in l q) (sym c.as_slice.ensures)
+    ∙ sym c.keeper_of.ensures ∙ c.in-Some.is) in
+    c.requires.firsts d lt
+    ∙ sym (ap (λ (g : Graph). first_caller d g.nodes) c.in_ok-next-in-Some.ensures.joins
+    ∙ first_taken d (input_at h p) h.nodes p q (forest_at h p) (forest_at h q)
+    (beside (forest_at h p) (forest_at h q))
+    (session_ascends c.args.trace.joins c.requires.session) k.0 k.1.keeper k.1.other)
+
 pub returns-in_ok-next-in-Some-clause-traced : goal.returns-in_ok-next-in-Some-clause-traced
 returns-in_ok-next-in-Some-clause-traced c =
     let k = keeper_some c.args.trace.joins.graph c.args.number c.in-Some.keeper
-    (session_ascends c.args.trace.joins c.requires)
+    (session_ascends c.args.trace.joins c.requires.session)
     (ap (λ (l : List Entry). keeper_in l c.args.number) (sym c.as_slice.ensures)
     ∙ sym c.keeper_of.ensures ∙ c.in-Some.is) in
     sibling_goes (trace_of c.args.trace) (trace_of c.in_ok-next-in-Some.next) c.in-Some.keeper
@@ -34,7 +56,7 @@ returns-in_ok-next-in-Some-clause-traced c =
 pub returns-in_ok-next-in-Some-clause-whole : goal.returns-in_ok-next-in-Some-clause-whole
 returns-in_ok-next-in-Some-clause-whole c = λ m f ns all apart u.
     let k = keeper_some c.args.trace.joins.graph c.args.number c.in-Some.keeper
-    (session_ascends c.args.trace.joins c.requires)
+    (session_ascends c.args.trace.joins c.requires.session)
     (ap (λ (l : List Entry). keeper_in l c.args.number) (sym c.as_slice.ensures)
     ∙ sym c.keeper_of.ensures ∙ c.in-Some.is) in
     sibling_taken (trace_of c.args.trace) (trace_of c.in_ok-next-in-Some.next) m
@@ -45,7 +67,7 @@ pub returns-in-None-clause-whole : goal.returns-in-None-clause-whole
 returns-in-None-clause-whole c = λ m f ns all apart u.
     sibling_left f (trace_of c.args.trace) m c.args.number ns all
     (λ p less can. keeper_none c.args.trace.joins.graph c.args.number p
-    (session_ascends c.args.trace.joins c.requires)
+    (session_ascends c.args.trace.joins c.requires.session)
     (ap (λ (l : List Entry). keeper_in l c.args.number) (sym c.as_slice.ensures)
     ∙ sym c.keeper_of.ensures ∙ c.in-None.is) less
-    (pair_back c.args.trace.joins.graph p c.args.number c.requires.stands can)) u
+    (pair_back c.args.trace.joins.graph p c.args.number c.requires.session.stands can)) u

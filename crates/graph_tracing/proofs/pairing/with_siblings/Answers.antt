@@ -1,10 +1,15 @@
 use Rattle.std.proofs.Common.{[], true, sym, subst}
 use Rattle.exec_graph.specs.Wellformed.{IsGraphOk}
 use Rattle.graph_tracing.specs.Traces.{GoesOn}
+use Rattle.graph_tracing.specs.inner.Callers.{HasFirsts}
 use Rattle.graph_tracing.specs.inner.Named.{trace_of}
 use Rattle.graph_tracing.specs.inner.Waiting.{IsUnderway}
 use Rattle.graph_tracing.specs.declared.trace.Trace.{Trace}
 use Rattle.graph_tracing.proofs.pairing.with_siblings.Goals as goal
+
+pub all_siblings-requires-clause-firsts : goal.all_siblings-requires-clause-firsts
+all_siblings-requires-clause-firsts c =
+    subst (HasFirsts c.in_ok-firsts.firsts) c.as_slice.ensures c.in_ok-firsts.ensures
 
 pub returns-clause-ok : goal.returns-clause-ok
 returns-clause-ok c =
