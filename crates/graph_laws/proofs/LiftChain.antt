@@ -192,17 +192,17 @@ lead_by g h (n ∷ ns) same a =
 
 -- ---- all that may be lifted
 
-abbrev is_group : Node → Bool
+abbrev pub is_group : Node → Bool
 is_group (Source r) = false
 is_group (Flatten ins) = false
 is_group (Pdo c f) = false
 is_group (Gbk c o l k) = true
 is_group (Barrier ins o l a) = false
 
-abbrev may_lift : Graph → Entry → Bool
+abbrev pub may_lift : Graph → Entry → Bool
 may_lift g e = is_group e.node && is_some (lift_of g e.number)
 
-abbrev all_lifts : Graph → List Entry → List ℕ
+abbrev pub all_lifts : Graph → List Entry → List ℕ
 all_lifts g [] = []
 all_lifts g (e ∷ es) = cond (may_lift g e) (e.number ∷ all_lifts g es) (all_lifts g es)
 
@@ -320,8 +320,8 @@ nodes_lifted g ns (e ∷ es) a =
     ∙ ap (λ (l : List Entry). marked_entry (λ n k. lift_of g n) e ∷ l)
     (nodes_lifted g ns es a.1)
 
-pub lifts_lead : (g : Graph) → IsGraphOk g → (ns : List ℕ) × LiftsLead ns g (lifted g)
-lifts_lead g ok =
+pub all_lead : (g : Graph) → IsGraphOk g → LiftsLead (all_lifts g g.nodes) g (lifted g)
+all_lead g ok =
     let ns : List ℕ = all_lifts g g.nodes in
     let found : AllByRecursion (λ e. node_at g.nodes e.number ≡ Some e.node) g.nodes =
     each_found g.nodes (differ_ascends g.nodes ok.founded.ascends) in
@@ -333,4 +333,7 @@ lifts_lead g ok =
     ≡ marked (λ k. lift_of g e.number) e.node)
     (λ e a f. node_lifted g e.number e.node ns a f) g.nodes ok.nodes
     (all_listed g g.nodes))) in
-    (ns, subst (LiftsLead ns g) end (lead_by g g ns (λ m. refl) (each_may g g.nodes found)))
+    subst (LiftsLead ns g) end (lead_by g g ns (λ m. refl) (each_may g g.nodes found))
+
+pub lifts_lead : (g : Graph) → IsGraphOk g → (ns : List ℕ) × LiftsLead ns g (lifted g)
+lifts_lead g ok = (all_lifts g g.nodes, all_lead g ok)
