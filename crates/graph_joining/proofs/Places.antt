@@ -5,7 +5,7 @@ use Rattle.std.proofs.lemmas.Bool.{eq-eqb, eqb-true}
 use Rattle.std.proofs.lemmas.List.{drop_all, drop_more}
 use Rattle.exec_graph.proofs.Bools.{not_true}
 use Rattle.exec_graph.specs.declared.graph.Entry.{Entry}
-use Rattle.flatten_sink.specs.inner.Places.{index_at, one_on}
+use Rattle.flatten_sink.specs.Places.{index_at, one_on}
 
 -- a place so many places on
 abbrev pub further : ℕ → Option ℕ → Option ℕ

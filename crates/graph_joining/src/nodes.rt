@@ -7,7 +7,7 @@ ghost use Rattle.exec_graph.specs.declared.graph.Entry.{Entry as GhostEntry};
 ghost use Rattle.exec_graph.specs.declared.graph.Node.TheVariants as node;
 ghost use Rattle.graph_laws.specs.Joining.{set_node, without};
 ghost use Rattle.flatten_sink.specs.of_sink_laws.Chain.{forest_of};
-ghost use Rattle.flatten_sink.specs.inner.Places.{index_at};
+ghost use Rattle.flatten_sink.specs.Places.{index_at};
 ghost use Rattle.graph_rewrites.specs.Rewrites.{input_of};
 
 use exec_graph::{Entry, Node, Place, Roots, Step};

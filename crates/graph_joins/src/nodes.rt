@@ -9,8 +9,8 @@ ghost use Rattle.exec_graph.specs.declared.graph.Node.TheVariants as node;
 ghost use Rattle.graph_laws.specs.Joining.{set_node, without};
 ghost use Rattle.flatten_sink.specs.of_sink_laws.Chain.{forest_of};
 
-use crate::finding::index_of;
 use exec_graph::{Entry, Node, Place, Roots, Step};
+use flatten_sink::index_of;
 use std::alloc::Global;
 use std::mem;
 

@@ -9,8 +9,8 @@ ghost use Rattle.exec_graph.specs.declared.graph.Place.{Place as GhostPlace};
 ghost use Rattle.pardo_fuse.specs.Readers.{is_pdo};
 ghost use Rattle.graph_tracing.specs.inner.Callers as callers;
 
-use crate::finding::find_node;
 use exec_graph::{Entry, Node, Place, code_of};
+use flatten_sink::find_node;
 use std::alloc::{AllocError, Global};
 use std::collections::HashMap;
 

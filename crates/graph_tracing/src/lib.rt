@@ -11,13 +11,11 @@
 
 mod callers;
 mod copying;
-mod finding;
 mod fusing;
 mod fusions;
 mod hanging;
 mod likely;
 mod named;
-mod next;
 mod numbers;
 mod pairing;
 mod sinking;

@@ -1,8 +1,8 @@
 // Which output a Pdo reads, most likely: a guess that others test.
 ghost use Rattle.exec_graph.specs.Wellformed.{Ascends};
 
-use crate::finding::find_node;
 use exec_graph::{Entry, Node, Output, Place, Step};
+use flatten_sink::find_node;
 use graph_joins::Joins;
 use std::collections::HashMap;
 

@@ -8,10 +8,9 @@ ghost use Rattle.sink_laws.specs.Chain as chain;
 ghost use Rattle.graph_tracing.specs.Traces.{GoesOn, IsTrace};
 ghost use Rattle.graph_tracing.specs.inner.Turns.{IsTurned};
 
-use crate::next::{next_call, next_nest};
 use crate::trace::Trace;
 use exec_graph::Graph;
-use flatten_sink::{merge_pair, sink_pair};
+use flatten_sink::{merge_pair, next_call, next_nest, sink_pair};
 use flume_value::Pile;
 use graph_rewrites::Rewrite;
 use sink_laws::Pair;

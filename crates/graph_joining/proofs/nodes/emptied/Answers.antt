@@ -4,7 +4,7 @@ use Rattle.exec_graph.specs.declared.graph.Entry.{Entry}
 use Rattle.exec_graph.specs.declared.graph.Node.{Node}
 use Rattle.exec_graph.specs.declared.graph.Node.TheVariants.{Flatten, Pdo}
 use Rattle.exec_graph.proofs.Entries.{entry}
-use Rattle.flatten_sink.specs.inner.Places.{index_at}
+use Rattle.flatten_sink.specs.Places.{index_at}
 use Rattle.flatten_sink.proofs.Standing.{placed, absent}
 use Rattle.flatten_sink.specs.of_sink_laws.Chain.{forest_of}
 use Rattle.graph_joining.proofs.nodes.emptied.Goals as goal

@@ -1,5 +1,5 @@
 use Rattle.std.proofs.Common.{refl, arith}
-use Rattle.flatten_sink.specs.inner.Places.{index_at}
+use Rattle.flatten_sink.specs.Places.{index_at}
 use Rattle.graph_joining.proofs.Places.{found_here, none_further, none_left, not_yet}
 use Rattle.graph_joining.proofs.nodes.index_of.Goals as goal
 

@@ -1,5 +1,5 @@
 use Rattle.std.proofs.Common.{◌≡◌, drop}
-use Rattle.flatten_sink.specs.inner.Places.{index_at}
+use Rattle.flatten_sink.specs.Places.{index_at}
 use Rattle.graph_joining.proofs.Places.{further}
 use Rattle.graph_joining.proofs.nodes.index_of.Given as goal
 

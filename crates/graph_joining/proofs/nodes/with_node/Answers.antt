@@ -1,6 +1,6 @@
 use Rattle.std.proofs.Common.{◌≡◌, List, Some, None, sym, ap, ◌∙◌}
 use Rattle.exec_graph.specs.declared.graph.Entry.{Entry}
-use Rattle.flatten_sink.specs.inner.Places.{index_at}
+use Rattle.flatten_sink.specs.Places.{index_at}
 use Rattle.flatten_sink.proofs.Standing.{placed, absent}
 use Rattle.graph_joining.proofs.nodes.with_node.Goals as goal
 

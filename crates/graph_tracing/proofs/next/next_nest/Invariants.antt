@@ -1,9 +1,0 @@
-use Rattle.std.proofs.Common.{◌≡◌, drop}
-use Rattle.exec_graph.specs.declared.graph.Entry.{Entry}
-use Rattle.sink_laws.specs.Chain.{least, nest_at, next_nest}
-use Rattle.graph_tracing.proofs.next.next_nest.Given as goal
-
-abbrev pub invariant-loop-entry : goal.invariant-loop-entry
-invariant-loop-entry l =
-    least (λ (e : Entry). nest_at l.nodes e.number e.node) l.least (drop l.entry-index l.nodes)
-    ≡ next_nest l.nodes
