@@ -42,7 +42,7 @@ mean_of_none = refl
 
 -- ---- the distinct members
 
-cmp_ints : (m n : ℤ) → value_cmp (value.Int m) (value.Int n) ≡ int_cmp m n
+pub cmp_ints : (m n : ℤ) → value_cmp (value.Int m) (value.Int n) ≡ int_cmp m n
 cmp_ints m n =
     value_cmp-step (value.Int m) (value.Int n)
     ∙ ap (λ (x : Value-F Value). layer_cmp value_cmp x (out-Value (value.Int n)))

@@ -1,13 +1,12 @@
 -- Objects worked out: sums as one value, calls beside an object, and calls on objects.
 use Rattle.std.proofs.Common.{◌≡◌, ◌∙◌, ℤ, pos, ◌+ℤ◌, false, List, [], ◌∷◌, Option, Some, Err, refl, ap}
 use Rattle.std.specs.Int.{int_wrap}
-use Rattle.std.specs.Ordering.{int_cmp, is_lt}
+use Rattle.std.specs.Ordering.{is_lt}
 use Rattle.std.specs.Option.{option_and_then, option_map}
-use Rattle.flume_value.proofs.OrderLemmas.{value_cmp-step}
 use Rattle.flume_value.specs.Bag.{bag_of}
-use Rattle.flume_value.specs.Order.{layer_cmp, value_cmp}
+use Rattle.flume_value.specs.Order.{value_cmp}
 use Rattle.flume_value.specs.declared.fault.Kind.TheVariants as kind
-use Rattle.flume_value.specs.declared.value.Value.{Value, Value-F, out-Value}
+use Rattle.flume_value.specs.declared.value.Value.{Value}
 use Rattle.flume_value.specs.declared.value.Value.TheVariants as value
 use Rattle.combine_table.proofs.Parts.{int_or_zero-Int}
 use Rattle.combine_table.specs.Combinations.{int_or_overflow, total, wrapped}
@@ -17,6 +16,7 @@ use Rattle.flume_collection.specs.Collection.{Collection}
 use Rattle.direct_meaning.specs.Calls.{called_by}
 use Rattle.direct_meaning.specs.Objects.{answered_once, combined_whole, done_beside, naming, object_as, operated_by, whole_behind}
 use Rattle.direct_meaning.specs.Worked.{both, emits, int, ints, trapped}
+use Rattle.combine_table.proofs.Rows.{cmp_ints}
 
 -- ---- sums
 
@@ -32,13 +32,6 @@ unfolding int_wrap
 sum_of_none = refl
 
 -- ---- calls beside an object
-
-cmp_ints : (m n : ℤ) → value_cmp (value.Int m) (value.Int n) ≡ int_cmp m n
-cmp_ints m n =
-    value_cmp-step (value.Int m) (value.Int n)
-    ∙ ap (λ (x : Value-F Value). layer_cmp value_cmp x (out-Value (value.Int n)))
-    (value.outs-Int m)
-    ∙ ap (λ (y : Value-F Value). layer_cmp value_cmp (Value-F.Int m) y) (value.outs-Int n)
 
 -- two values of which the second is not below the first
 in_order : (a b : Value) → is_lt (value_cmp b a) ≡ false → bag_of (a ∷ b ∷ []) ≡ a ∷ b ∷ []

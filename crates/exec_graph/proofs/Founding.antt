@@ -96,7 +96,7 @@ none_given (d ∷ ds) c n a e = by (eqb c.node d.number) refl (none_given ds c n
         let s : c.node ≡ d.number = eqb-true c.node d.number q in absurd (omega arith)
     by false q i = i
 
-or_none : (a : Bool) → (a || false) ≡ a
+pub or_none : (a : Bool) → (a || false) ≡ a
 or_none true = refl
 or_none false = refl
 

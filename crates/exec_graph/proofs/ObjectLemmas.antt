@@ -7,6 +7,7 @@ use Rattle.exec_graph.specs.Meaning.{node_at}
 use Rattle.exec_graph.specs.Wellformed.{Ascends, is_object}
 use Rattle.exec_graph.specs.inner.Objects.{has_object}
 use Rattle.exec_graph.proofs.Coding.{swap}
+use Rattle.exec_graph.proofs.Founding.{or_none}
 
 pub map_same : {A B : Type 0} (f g : A → B) → ((x : A) → f x ≡ g x) → (xs : List A)
     → map f xs ≡ map g xs
@@ -24,10 +25,6 @@ no_object (d ∷ ds) n k a e = by (eqb n d.number) refl (no_object ds n k a.1 e)
     by true q i = let l : k < d.number = a.0 in
         let s : n ≡ d.number = eqb-true n d.number q in absurd (omega arith)
     by false q i = i
-
-or_none : (a : Bool) → (a || false) ≡ a
-or_none true = refl
-or_none false = refl
 
 pub object_there : (es : List Entry) (n : ℕ) → Ascends es
     → list_any (has_object n) es ≡ is_object (node_at es n)

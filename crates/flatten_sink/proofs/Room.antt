@@ -9,13 +9,13 @@ use Rattle.exec_graph.specs.Readers.{same_place, among, any_node, uses, is_read}
 use Rattle.exec_graph.specs.Wellformed.{IsGraphOk, IsNodeOk, size, total_size, most_nodes}
 use Rattle.exec_graph.specs.declared.graph.Place.{Place}
 use Rattle.exec_graph.specs.declared.graph.Node.{Node}
-use Rattle.exec_graph.specs.declared.graph.Node.TheVariants.{Source, Flatten, Pdo, Gbk, Barrier}
+use Rattle.exec_graph.specs.declared.graph.Node.TheVariants.{Flatten, Pdo}
 use Rattle.exec_graph.specs.declared.graph.Entry.{Entry}
 use Rattle.exec_graph.specs.declared.graph.Graph.{Graph}
 use Rattle.exec_graph.proofs.Entries.{entry, all_found}
 use Rattle.exec_graph.proofs.Solving.{ranked_at}
 use Rattle.exec_graph.proofs.Soundness.{differ_ascends}
-use Rattle.sink_laws.specs.of_graph_laws.Joining.{set_node, without, reread, reread_entry}
+use Rattle.sink_laws.specs.of_graph_laws.Joining.{set_node, without, reread_entry}
 use Rattle.sink_laws.specs.Chain.{inputs_of, forest_of, after_call, has_room, CanCall}
 use Rattle.sink_laws.specs.Merging.{dropped}
 use Rattle.sink_laws.specs.Sinking.{copies, copied, flattens, outputs_of, first_flatten, instead, rerouted, sunk, CanSink}
@@ -25,19 +25,13 @@ use Rattle.sink_laws.proofs.Rerouting.{IsOutside, among_rerouted, not_copied, us
 use Rattle.sink_laws.proofs.SinkFounded.{kept_nodes, first_nodes, last_nodes, kept_at, node_at-sunk_other}
 use Rattle.flatten_sink.specs.inner.Places.{read_elsewhere}
 use Rattle.flatten_sink.specs.inner.Turns.{size_or_none}
+use Rattle.sink_laws.proofs.of_graph_laws.Reading.{size_reread as size-reread}
 
 -- ---- sizes
 
 size-append : (xs ys : List Entry) → total_size (xs ++ ys) ≡ total_size xs + total_size ys
 size-append [] ys = omega arith
 size-append (x ∷ xs) ys = let i = size-append xs ys in omega arith
-
-size-reread : (r : Place → Place) (x : Node) → size (reread r x) ≡ size x
-size-reread r (Source s) = refl
-size-reread r (Flatten ins) = refl
-size-reread r (Pdo c f) = refl
-size-reread r (Gbk c o l k) = refl
-size-reread r (Barrier ins o l a) = refl
 
 size-map : (r : Place → Place) (es : List Entry)
     → total_size (map (reread_entry r) es) ≡ total_size es

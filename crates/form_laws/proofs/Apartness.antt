@@ -26,7 +26,7 @@ use Rattle.plan_roles.specs.Levels.{level}
 use Rattle.plan_roles.specs.Mappers.{key_of, outputs_of, passes}
 use Rattle.form_laws.specs.Classes.{IsGbk, IsGbkAt, keys_of}
 use Rattle.form_laws.specs.Operations.{class_keys, first_uses, grouped, key_passes, passes_at}
-use Rattle.form_laws.proofs.Basics.{all_filtered, negated}
+use Rattle.form_laws.proofs.Basics.{all_filtered, negated, all_kept as each_kept}
 use Rattle.form_laws.proofs.Counting.{all_true}
 use Rattle.form_laws.proofs.Standing.{inputs_from, key_has, keys_are, passes_there}
 
@@ -44,11 +44,6 @@ distinct_by : {X : Type 0} (e : X → X → Bool) (f : X → Bool) (x : X) (xs :
     → Apart e (cond b (x ∷ filter f xs) (filter f xs))
 distinct_by e f x xs true a d = (a, d)
 distinct_by e f x xs false a d = d
-
-each_kept : {X : Type 0} (P : X → Type 0) (f : X → Bool) (xs : List X) → Each P xs
-    → Each P (filter f xs)
-each_kept P f xs a =
-    Each-weaker (λ x. P x × (f x ≡ true)) P (λ x h. h.0) (filter f xs) (all_filtered P f xs a)
 
 distinct_kept : {X : Type 0} (e : X → X → Bool) (f : X → Bool) (xs : List X) → Apart e xs
     → Apart e (filter f xs)
@@ -200,7 +195,7 @@ outs_distinct (Grow l kids rest) d =
     (Each-weaker (λ j. has_out j rest ≡ true) (λ j. (has_out j kids || has_out j rest) ≡ true)
     (λ j h. or_right (has_out j kids) (has_out j rest) h) (outs_of rest) (outs_has rest))) d.0)
 
-and_false : (a c : Bool) → c ≡ false → (a && c) ≡ false
+pub and_false : (a c : Bool) → c ≡ false → (a && c) ≡ false
 and_false true c h = h
 and_false false c h = refl
 

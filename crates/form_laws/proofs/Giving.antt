@@ -34,6 +34,7 @@ use Rattle.form_laws.proofs.Measuring.{below, below_from, lower_rank, measure, s
 use Rattle.form_laws.proofs.Meeting.{NotFlat, flat_met, barrier_met, not_flat, pdo_met, whole_met, whole_reader}
 use Rattle.form_laws.proofs.Serving.{Served, ends_at, is_end, provide}
 use Rattle.form_laws.proofs.Reading.{is_gbk, mapper_flat, mapper_unread, mapper_whole, read_on}
+use Rattle.form_laws.proofs.Apartness.{and_false as false_right}
 
 -- ---- what an operation reads is a source, or given by one below it
 abbrev pub GivenBelow : Blocked → List (List ℕ) → ℕ → (ℕ → ℕ) → Ranked → Place → Type 0
@@ -47,10 +48,6 @@ AllGiven b cs w r y = Each (GivenBelow b cs w r y) (reads_of b.graph.nodes y.doe
 
 not_so : (a : Bool) → a ≡ true → not a ≡ false
 not_so a h = rw h refl
-
-false_right : (a c : Bool) → c ≡ false → (a && c) ≡ false
-false_right true c h = h
-false_right false c h = refl
 
 either_way : (a : Bool) → (a ≡ false) ⊎ (a ≡ true)
 either_way true = inr refl

@@ -53,7 +53,7 @@ fed_by es c n (Gbk d o l k) =
     ap (λ (b : Bool). same_place c d || b) (and_none (is_grouped es (place n 0)))
 fed_by es c n (Barrier ins o l a) = and_none (is_grouped es (place n 0))
 
-among_all : (P : Place → Type 0) (c : Place) (cs : List Place) → among c cs ≡ true
+pub among_all : (P : Place → Type 0) (c : Place) (cs : List Place) → among c cs ≡ true
     → AllByRecursion P cs → P c
 among_all P c [] h a = absurd (false≢true h)
 among_all P c (d ∷ cs) h a = or_else (P c) (same_place c d) (among c cs) h

@@ -7,6 +7,7 @@ use Rattle.script_program.specs.declared.made.Made.{Made}
 use Rattle.script_program.specs.Script.{Node, Script}
 use Rattle.script_program.specs.Needed.{is_needed}
 use Rattle.graph_build.specs.Wanted.{needed_at, wanted, wanted_from, wanted_at}
+use Rattle.script_program.proofs.SourceSteps.{found_below as within}
 
 -- how a node is made, where it is needed
 abbrev pub where_needed : Script → ℕ → Node → Option Made
@@ -67,11 +68,6 @@ by_need : (script : Script) (i : ℕ) (node : Node) (b : Bool)
     → is_needed script i ≡ b → needed_at script i ≡ b
 by_need script i node true h is = ap is_some (sym (wanted_needed script i node h (sym is)))
 by_need script i node false h is = ap is_some (sym (wanted_needless script i node h (sym is)))
-
-within : {A : Type 0} (xs : List A) (i : ℕ) → i < length xs → (x : A) × (slice_get xs i ≡ Some x)
-within [] i h = absurd (omega arith)
-within (x ∷ xs) zero h = (x, refl)
-within (x ∷ xs) (suc i) h = within xs i (omega arith)
 
 -- whether a collection of the script is needed
 pub needed_here : (script : Script) (i : ℕ) → i < length script.nodes

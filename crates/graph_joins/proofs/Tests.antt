@@ -28,7 +28,7 @@ both_right : (a b : Bool) → (a && b) ≡ true → b ≡ true
 both_right true b h = h
 both_right false b h = absurd (false≢true h)
 
-pdo_is : (o : Option Node) → is_pdo o ≡ true → o ≡ Some (Pdo (input_of o) (forest_of o))
+pub pdo_is : (o : Option Node) → is_pdo o ≡ true → o ≡ Some (Pdo (input_of o) (forest_of o))
 pdo_is None h = absurd (false≢true h)
 pdo_is (Some (Source r)) h = absurd (false≢true h)
 pdo_is (Some (Flatten ins)) h = absurd (false≢true h)

@@ -143,7 +143,7 @@ those_not t (x ∷ es) n y d h e =
     by false q i f false z = f i
 
 -- ---- how many
-size_reread : (r : Place → Place) (x : Node) → size (reread r x) ≡ size x
+pub size_reread : (r : Place → Place) (x : Node) → size (reread r x) ≡ size x
 size_reread r (Source s) = refl
 size_reread r (Flatten ins) = refl
 size_reread r (Pdo c f) = refl

@@ -1,5 +1,5 @@
 -- A name is where its output has its place among those of the forest.
-use Rattle.std.proofs.Common.{◌≡◌, ℕ, suc, ◌+◌, Bool, true, false, cond, eqb, ◌||◌, List, [], ◌∷◌, ◌++◌, Option, Some, None, refl, sym, ap, ap₂, ◌∙◌, arith}
+use Rattle.std.proofs.Common.{◌≡◌, ℕ, suc, ◌+◌, Bool, true, false, cond, eqb, ◌||◌, List, [], ◌∷◌, ◌++◌, Some, None, refl, sym, ap, ap₂, ◌∙◌, arith}
 use Rattle.std.specs.List.{list_any}
 use Rattle.exec_graph.specs.Forests.{Forest, Bare, Grow}
 use Rattle.exec_graph.specs.Meaning.{has_out, is_out, place}
@@ -8,25 +8,8 @@ use Rattle.exec_graph.specs.declared.graph.Node.TheVariants.{Pdo}
 use Rattle.exec_graph.specs.declared.graph.Place.{Place}
 use Rattle.graph_laws.specs.Kids.{number_in}
 use Rattle.graph_walks.specs.Outs.{out_list, outs, place_of}
-use Rattle.graph_walks.proofs.Places.{holds, number_place}
+use Rattle.graph_walks.proofs.Places.{holds, number_place, holds_append, holds_out}
 use Rattle.graph_names.specs.inner.Spots.{spot_from, spot_in}
-
-holds_append : (xs ys : List ℕ) (j : ℕ) → holds (xs ++ ys) j ≡ (holds xs j || holds ys j)
-holds_append [] ys j = refl
-holds_append (x ∷ xs) ys j = by (eqb x j) (holds_append xs ys j)
-  where
-    by : (b : Bool) → holds (xs ++ ys) j ≡ (holds xs j || holds ys j)
-        → (b || holds (xs ++ ys) j) ≡ ((b || holds xs j) || holds ys j)
-    by true e = refl
-    by false e = e
-
-holds_out : (o : Option ℕ) (j : ℕ) → holds (out_list o) j ≡ is_out o j
-holds_out None j = refl
-holds_out (Some i) j = by (eqb i j)
-  where
-    by : (b : Bool) → (b || false) ≡ b
-    by true = refl
-    by false = refl
 
 pub holds_outs : (f : Forest) (j : ℕ) → holds (outs f) j ≡ has_out j f
 holds_outs Bare j = refl

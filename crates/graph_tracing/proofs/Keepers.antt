@@ -15,19 +15,11 @@ use Rattle.exec_graph.proofs.Soundness.{differ_ascends}
 use Rattle.graph_rewrites.specs.Rewrites.{CanBeKid, CanBeSibling, forest_at, input_at, input_of}
 use Rattle.pardo_fuse.specs.Readers.{is_pdo}
 use Rattle.pardo_fuse.proofs.Places.{same_is, same_self}
-use Rattle.sink_laws.specs.Chain.{forest_of}
 use Rattle.graph_tracing.specs.inner.Callers.{below, first_caller, keeper_by, keeper_in, read_by, read_in}
 use Rattle.graph_tracing.proofs.Effects.{Calls}
+use Rattle.graph_joins.proofs.Tests.{pdo_is as pdo_self}
 
 -- ---- Pdos
-
-pub pdo_self : (o : Option Node) → is_pdo o ≡ true → o ≡ Some (Pdo (input_of o) (forest_of o))
-pdo_self None h = absurd (false≢true h)
-pdo_self (Some (Source r)) h = absurd (false≢true h)
-pdo_self (Some (Flatten ins)) h = absurd (false≢true h)
-pdo_self (Some (Pdo c f)) h = refl
-pdo_self (Some (Gbk c o l k)) h = absurd (false≢true h)
-pdo_self (Some (Barrier ins o l a)) h = absurd (false≢true h)
 
 pub can_pair : (g : Graph) (p q : ℕ) (c : Place) → Calls g p c → Calls g q c → (p ≡ q → ⊥)
     → CanBeSibling g p q

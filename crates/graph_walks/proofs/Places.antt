@@ -26,7 +26,7 @@ place_append (x ∷ xs) ys j =
     by false true e = ap suc e
     by false false e = omega arith
 
-holds_append : (xs ys : List ℕ) (j : ℕ) → holds (xs ++ ys) j ≡ (holds xs j || holds ys j)
+pub holds_append : (xs ys : List ℕ) (j : ℕ) → holds (xs ++ ys) j ≡ (holds xs j || holds ys j)
 holds_append [] ys j = refl
 holds_append (x ∷ xs) ys j = by (eqb x j) (holds_append xs ys j)
   where
@@ -35,7 +35,7 @@ holds_append (x ∷ xs) ys j = by (eqb x j) (holds_append xs ys j)
     by true e = refl
     by false e = e
 
-holds_out : (o : Option ℕ) (j : ℕ) → holds (out_list o) j ≡ is_out o j
+pub holds_out : (o : Option ℕ) (j : ℕ) → holds (out_list o) j ≡ is_out o j
 holds_out None j = refl
 holds_out (Some i) j = by (eqb i j)
   where

@@ -1,8 +1,8 @@
 -- The order of pairs whose values stand on sides of eithers.
-use Rattle.std.proofs.Common.{◌≡◌, Some, refl, sym, ap, ◌∙◌}
+use Rattle.std.proofs.Common.{◌≡◌, Some, sym, ap, ◌∙◌}
 use Rattle.std.specs.Prelude.{option_map}
 use Rattle.std.specs.declared.cmp.Ordering.{Ordering}
-use Rattle.std.specs.declared.cmp.Ordering.TheVariants.{Less, Equal, Greater}
+use Rattle.std.specs.declared.cmp.Ordering.TheVariants.{Less, Greater}
 use Rattle.std.specs.Ordering.{ordering_reverse, ordering_then}
 use Rattle.flume_value.specs.declared.value.Value.{Value, Value-F, out-Value}
 use Rattle.flume_value.specs.declared.value.Value.TheVariants as value
@@ -11,6 +11,7 @@ use Rattle.flume_value.proofs.OrderLemmas.{value_cmp-step, value_cmp-total}
 use Rattle.bag_groups.specs.Pairs.{pair, value_of}
 use Rattle.bag_groups.proofs.PairLemmas.{parts_of-pair}
 use Rattle.bag_groups.proofs.PairOrder.{value_cmp-pairs}
+use Rattle.flume_value.proofs.NumberLemmas.{then_equal as then_same}
 
 pub value_of-pair : (k v : Value) → value_of (pair k v) ≡ Some v
 value_of-pair k v = ap (λ o. option_map (λ parts. parts.1) o) (parts_of-pair k v)
@@ -54,11 +55,6 @@ pub turned : (x y : Value) (o : Ordering) → o ≡ value_cmp y x → ordering_r
 turned x y o is = ap ordering_reverse is ∙ sym (value_cmp-total.antisymm x y)
 
 -- ---- pairs
-
-then_same : (o : Ordering) → ordering_then o Equal ≡ o
-then_same Less = refl
-then_same Equal = refl
-then_same Greater = refl
 
 -- the keys decide
 pub by_keys : (k v j w a b : Value) (o : Ordering) → pair k v ≡ a → pair j w ≡ b → value_cmp k j ≡ o

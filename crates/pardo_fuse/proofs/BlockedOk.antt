@@ -24,12 +24,13 @@ use Rattle.pardo_fuse.proofs.Once.{AllGrown}
 use Rattle.pardo_fuse.proofs.Levels.{all_grown}
 use Rattle.pardo_fuse.proofs.Few.{joined_size}
 use Rattle.pardo_fuse.proofs.Naming.{all_joined, all_cond, differ_joined}
-use Rattle.pardo_fuse.proofs.Finding.{search_place, any_joined, not_new, no_joined, IsSeen, IsNew, right}
+use Rattle.pardo_fuse.proofs.Finding.{search_place, any_joined, not_new, no_joined, IsSeen, IsNew}
 use Rattle.pardo_fuse.proofs.Seeing.{all_among, seen_left}
 use Rattle.pardo_fuse.proofs.Wellness.{at_finished, done_node, well, well_kept, others_left, IsSound-fused}
 use Rattle.pardo_fuse.proofs.Settling.{now, nodes_now}
 use Rattle.pardo_fuse.proofs.Using.{graph_now, outs_read}
 use Rattle.pardo_fuse.proofs.Lifting.{gbk, lifted_ok}
+use Rattle.exec_graph.proofs.Bools.{or_right as right}
 
 -- What else has to hold of the graph: the numbers that are left ascend, there are not too many
 -- steps, its nodes are ok, no marked Gbk is lifted, and no marked output is fused away.

@@ -20,6 +20,7 @@ use Rattle.pardo_fuse.proofs.Partition.{numbers}
 use Rattle.pardo_fuse.proofs.Once.{Found, AllGrown, all_of, left_numbers, all_left, each_once, some_pdo, there_zero}
 use Rattle.pardo_fuse.proofs.Reading.{all_readers}
 use Rattle.pardo_fuse.proofs.Naming.{times_has, outs_pdos, pdos, has_pruned, all_joined, all_cond, differ_joined}
+use Rattle.exec_graph.proofs.Bools.{or_right as right}
 
 -- ---- back to the former collection
 abbrev pub former_at : Option Node → Place → Place
@@ -131,10 +132,6 @@ left_has b p g h k n (Pdo c f) at t = by (leads b n c) t
 left_has b p g h k n (Gbk c o l q) at t = absurd (not_alone b p n (Gbk c o l q) h at refl t)
 left_has b p g h k n (Barrier ins o l a) at t =
     absurd (not_alone b p n (Barrier ins o l a) h at refl t)
-
-pub right : (a b : Bool) → b ≡ true → (a || b) ≡ true
-right true b h = refl
-right false b h = h
 
 any_left : (b : Cut) (p : ℕ) → AllGrown b → is_pdo (node_at b.graph.nodes p) ≡ true
     → keeps_output b p ≡ true → (es : List Entry) → Found b es → 0 < times p (all_left b es)

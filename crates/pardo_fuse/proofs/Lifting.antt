@@ -27,12 +27,9 @@ use Rattle.pardo_fuse.proofs.Finding.{not_new, no_joined, IsSeen}
 use Rattle.pardo_fuse.proofs.Seeing.{seen_left, seen_outputs, leads_seen}
 use Rattle.pardo_fuse.proofs.Settling.{now, now_apart}
 use Rattle.pardo_fuse.proofs.Using.{leader_at, graph_now}
+use Rattle.exec_graph.proofs.Bools.{not_true}
 
 -- ---- what does not read the Gbk's output does not read it now
-pub not_true : (a : Bool) → (a ≡ true → ⊥) → a ≡ false
-not_true true f = absurd (f refl)
-not_true false f = refl
-
 -- r gives e for c alone.
 abbrev pub Only : (Place → Place) → Place → Place → Type 0
 Only r c d = r d ≡ c → d ≡ c

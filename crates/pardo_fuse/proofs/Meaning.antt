@@ -25,7 +25,7 @@ use Rattle.graph_laws.proofs.Numbering.{number_back, fits_numbered, total-number
 use Rattle.exec_graph.proofs.Solving.{each_found}
 use Rattle.pardo_fuse.specs.Readers.{Cut, is_pdo, readers, those}
 use Rattle.pardo_fuse.specs.Fusing.{finished, leads, with_numbers}
-use Rattle.pardo_fuse.specs.SingleFusing.{CanFuse, first_label, forest_of, fused_by, HasOneStep, IsSingle, joined_nodes, keeps_output, kept_label, left_of, named, new_place, step_of}
+use Rattle.pardo_fuse.specs.SingleFusing.{CanFuse, first_label, forest_of, fused_by, HasOneStep, IsSingle, joined_nodes, keeps_output, kept_label, left_of, named, step_of}
 use Rattle.pardo_fuse.proofs.Counting.{gather_same, times_those}
 use Rattle.pardo_fuse.proofs.Partition.{numbers}
 use Rattle.pardo_fuse.proofs.Once.{Found, AllGrown, all_of, left_numbers, all_left, each_once, any}
@@ -34,12 +34,10 @@ use Rattle.pardo_fuse.proofs.Reading.{all_readers, given_readers, total_grown, f
 use Rattle.pardo_fuse.proofs.Naming.{outs_differ, all_joined, all_cond, differ_joined}
 use Rattle.pardo_fuse.proofs.Finding.{former, former_at, former_other, found_again, IsSeen}
 use Rattle.pardo_fuse.proofs.Seeing.{seen_left, seen_outputs, head_few, leads_seen}
+use Rattle.pardo_fuse.proofs.Settling.{now}
 
 abbrev values : Cut → (Place → Collection) → Place → Collection
 values b m c = m (former (joined_nodes b) c)
-
-abbrev now : Cut → Place → Place
-now b = new_place (joined_nodes b)
 
 seen_same : (b : Cut) (m : Place → Collection) → (can : CanFuse b) → AllGrown b
     → (cs : List Place) → AllByRecursion (IsSeen b) cs

@@ -20,11 +20,12 @@ use Rattle.pardo_fuse.specs.Parting.{part_number, sole, parts, parts_of, part_pl
 use Rattle.pardo_fuse.specs.Fusing.{is_first, leads}
 use Rattle.pardo_fuse.specs.SingleFusing.{forest_of, joined_nodes, left_of}
 use Rattle.pardo_fuse.specs.Wellformed.{IsFusible}
-use Rattle.pardo_fuse.proofs.Lifting.{not_true, those-append}
+use Rattle.pardo_fuse.proofs.Lifting.{those-append}
 use Rattle.pardo_fuse.proofs.Settling.{leads_first}
 use Rattle.pardo_fuse.proofs.Parting.{IsRow, all_parts, first_number, number_div, row_of}
 use Rattle.pardo_fuse.proofs.Unparting.{CanPart}
 use Rattle.pardo_fuse.proofs.PartedNodes.{apart_calls}
+use Rattle.exec_graph.proofs.Bools.{not_true}
 
 -- ---- the nodes that are left
 

@@ -25,12 +25,13 @@ use Rattle.pardo_fuse.specs.SingleFusing.{CanFuse}
 use Rattle.pardo_fuse.specs.Wellformed.{IsFusible}
 use Rattle.pardo_fuse.proofs.Places.{and_left, same_is, same_self}
 use Rattle.pardo_fuse.proofs.BlockedOk.{length-map, numbered_again}
-use Rattle.pardo_fuse.proofs.Finding.{any_append, right}
+use Rattle.pardo_fuse.proofs.Finding.{any_append}
 use Rattle.pardo_fuse.proofs.Lifting.{Only, among_back, any_each, same_back, those-append}
 use Rattle.pardo_fuse.proofs.Seeing.{or_first}
 use Rattle.pardo_fuse.proofs.Settling.{among_map}
 use Rattle.pardo_fuse.proofs.Parting.{EachLabel, IsRow, all_parts, first_number, label_both, labels_has, parts_each, row_of}
 use Rattle.pardo_fuse.proofs.Unparting.{CanPart, HasOneStep-parted, IsSound-parted, back, back_same, is_parted, label_found, part_label, part_same, step_at_node}
+use Rattle.exec_graph.proofs.Bools.{or_right as right}
 
 -- ---- what can be fused can be taken apart
 

@@ -13,6 +13,7 @@ use Rattle.exec_graph.specs.declared.graph.Entry.{Entry}
 use Rattle.graph_laws.specs.Joining.{reread}
 use Rattle.graph_laws.specs.Single.{HasSteps, IsOneStep}
 use Rattle.pardo_fuse.specs.Parting.{part_number, sole, parts, parts_of, at_of}
+use Rattle.graph_laws.proofs.NumberedHas.{last as or_last}
 
 -- ---- numbers
 
@@ -92,11 +93,6 @@ outs_at i (Grow l kids rest) r = (
 has_this : (j : ℕ) (o : Option ℕ) (b : Bool) → o ≡ Some j → (is_out o j || b) ≡ true
 has_this j o b e = ap (λ (x : Option ℕ). is_out x j || b) e
     ∙ ap (λ (t : Bool). t || b) (eq-eqb j j refl)
-
-or_last : (a b c : Bool) → c ≡ true → (a || (b || c)) ≡ true
-or_last true b c h = refl
-or_last false true c h = refl
-or_last false false c h = h
 
 pub labels_has : (f : Forest) → EachLabel (λ l. (j : ℕ) → l.out ≡ Some j → has_out j f ≡ true) f
 labels_has Bare = tt

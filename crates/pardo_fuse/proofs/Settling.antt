@@ -19,9 +19,10 @@ use Rattle.pardo_fuse.proofs.Places.{same_is, same_self}
 use Rattle.pardo_fuse.proofs.Once.{AllGrown}
 use Rattle.pardo_fuse.proofs.Levels.{all_grown}
 use Rattle.pardo_fuse.proofs.Naming.{all_joined, all_cond}
-use Rattle.pardo_fuse.proofs.Finding.{former, not_new, no_joined, joined_pdos, found_again, IsSeen, right}
+use Rattle.pardo_fuse.proofs.Finding.{former, not_new, no_joined, joined_pdos, found_again, IsSeen}
 use Rattle.pardo_fuse.proofs.Seeing.{leads_outer, leads_seen}
 use Rattle.pardo_fuse.proofs.Wellness.{at_finished, done_node}
+use Rattle.exec_graph.proofs.Bools.{or_right as right}
 
 abbrev pub now : Cut → Place → Place
 now b = new_place (joined_nodes b)

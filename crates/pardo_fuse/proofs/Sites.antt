@@ -15,10 +15,11 @@ use Rattle.graph_laws.specs.Joining.{reread}
 use Rattle.pardo_fuse.specs.Parting.{part_number, parts, parts_of, at_of, part_at, part_place, parted_nodes}
 use Rattle.pardo_fuse.specs.Fusing.{step_in}
 use Rattle.pardo_fuse.proofs.Finding.{any_append}
-use Rattle.pardo_fuse.proofs.Lifting.{not_true, those-append}
+use Rattle.pardo_fuse.proofs.Lifting.{those-append}
 use Rattle.pardo_fuse.proofs.Places.{same_is, same_self}
 use Rattle.pardo_fuse.proofs.Parting.{EachLabel, all_parts, label_weaker, number_div, number_mod, out_at, outs_at, row_of}
 use Rattle.pardo_fuse.proofs.Unparting.{CanPart, at_out, back, is_parted, low, step_at_node}
+use Rattle.exec_graph.proofs.Bools.{not_true}
 
 -- ---- which places fall together
 

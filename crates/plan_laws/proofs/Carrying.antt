@@ -24,7 +24,7 @@ use Rattle.exec_plan.specs.of_exec_graph.declared.graph.Node.TheVariants.{Source
 use Rattle.exec_plan.specs.of_exec_graph.declared.graph.Entry.{Entry}
 use Rattle.exec_plan.proofs.of_exec_graph.Entries.{all_found}
 use Rattle.exec_plan.proofs.of_exec_graph.Bools.{or_left, or_right}
-use Rattle.exec_plan.proofs.of_exec_graph.Solving.{out_lacks}
+use Rattle.exec_plan.proofs.of_exec_graph.Solving.{out_lacks, kept_value as kept_at}
 use Rattle.exec_plan.specs.declared.plan.OutChannel.{OutChannel}
 use Rattle.exec_plan.specs.declared.plan.OutChannel.TheVariants.{Group, Pass}
 use Rattle.exec_plan.specs.Channels.{Fed, value_on, world_in, kept_out, outs_of, numbers, output_of, channel_out, taken, groups, given}
@@ -42,11 +42,6 @@ abbrev pub feeds : (Place → Collection) → List Entry → List Key → List F
 feeds m es keys = map (valued m) (channels_of es keys)
 
 -- ---- the outputs of a forest
-pub kept_at : (m : Place → Collection) (n j : ℕ) (o : Option ℕ) (u : Collection) → is_out o j ≡ true
-    → IsKept m n o u → m (place n j) ≡ u
-kept_at m n j None u h k = absurd (false≢true h)
-kept_at m n j (Some i) u h k = ap (λ (e : ℕ). m (place n e)) (sym (eqb-true i j h)) ∙ k
-
 either_found : (a b : Option Collection) (x y : Bool) (u : Collection) → (x || y) ≡ true
     → (x ≡ true → a ≡ Some u) → (x ≡ false → a ≡ None) → (y ≡ true → b ≡ Some u) → first a b
     ≡ Some u

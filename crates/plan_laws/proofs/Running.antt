@@ -134,7 +134,7 @@ place_same d c h =
     ap (λ (n : ℕ). place n d.out) (eqb-true d.node c.node p.0)
     ∙ ap (λ (n : ℕ). place c.node n) (eqb-true d.out c.out p.1)
 
-same_self : (d c : Place) → d ≡ c → same_place d c ≡ true
+pub same_self : (d c : Place) → d ≡ c → same_place d c ≡ true
 same_self d c h = rw (
   eq-eqb d.node c.node (ap (λ (x : Place). x.node) h),
   eq-eqb d.out c.out
@@ -165,7 +165,7 @@ abbrev HasFrom : (Place → Collection) → List Collection → ℕ → List Pla
 HasFrom m cs i [] = Unit {0}
 HasFrom m cs i (d ∷ ds) = (slice_get cs i ≡ Some (m d)) × HasFrom m cs (suc i) ds
 
-without_first : {Q : Type 0} (d : Place) (ds : List Place) (c : Place) → same_place d c ≡ false
+pub without_first : {Q : Type 0} (d : Place) (ds : List Place) (c : Place) → same_place d c ≡ false
     → IsIn c (d ∷ ds) ⊎ Q → IsIn c ds ⊎ Q
 without_first d ds c e (inl (inl h)) = absurd (false≢true (sym e ∙ same_self d c h))
 without_first d ds c e (inl (inr h)) = inl h

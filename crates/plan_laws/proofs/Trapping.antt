@@ -11,13 +11,13 @@ use Rattle.exec_plan.specs.of_exec_graph.Forests.{Forest, Bare, Grow}
 use Rattle.exec_plan.specs.of_exec_graph.Meaning.{AllDiffer, FitsForest, IsRankedBy, IsSound, IsThere, Meets, all_traps, gives, has_out, is_out, node_at, place, reads, step_traps, through, total, traps}
 use Rattle.exec_plan.proofs.of_exec_graph.Bools.{or_cases}
 use Rattle.exec_plan.proofs.of_exec_graph.Entries.{all_found}
-use Rattle.exec_plan.proofs.of_exec_graph.Solving.{each_found, ranked_at, there_found}
+use Rattle.exec_plan.proofs.of_exec_graph.Solving.{each_found, ranked_at, there_found, kept_value as kept_at}
 use Rattle.exec_plan.specs.Meaning.{trap_parts}
 use Rattle.plan_laws.specs.declared.operations.Operation.{Operation}
 use Rattle.plan_laws.specs.Operations.{DoAll, runs, times, works_at}
 use Rattle.plan_laws.proofs.Absorbing.{Absorbs, absorbs_all, absorbs_both, absorbs_left, absorbs_part, absorbs_right, absorbs_set, one_set}
 use Rattle.plan_laws.proofs.Adding.{sum_at, traps_are}
-use Rattle.plan_laws.proofs.Carrying.{holds_at, kept_at}
+use Rattle.plan_laws.proofs.Carrying.{holds_at}
 use Rattle.plan_laws.proofs.Counting.{nodes_sum, numbers_of, times_one}
 use Rattle.exec_plan.specs.of_flume_collection.Collection.{Collection}
 use Rattle.exec_plan.specs.of_exec_graph.World.{World}

@@ -21,6 +21,7 @@ use Rattle.fusion_blocks.specs.inner.Tables.{AllThere}
 use Rattle.fusion_blocks.proofs.Marking.{is_same, same_is}
 use Rattle.plan_roles.specs.Levels.{HasLevels, IsPath, begins, goes, greatest, level, level_by, one_gbk}
 use Rattle.plan_roles.proofs.Leveling.{level_found}
+use Rattle.fusion_blocks.proofs.Blocking.{among_all}
 
 among_below : (f : ℕ → ℕ) (c : Place) (cs : List Place) → among c cs ≡ true
     → f c.node ≤ greatest (map (λ (d : Place). f d.node) cs)
@@ -82,12 +83,6 @@ path_on : (es : List Entry) (n : ℕ) (x : Node) → node_at es n ≡ Some x
     → IsPath es g.place.node (level es g.place.node) → IsPath es n (level es n)
 path_on es n x h e g p = subst (IsPath es n) (ap (λ (k : ℕ). one_gbk x + k) g.most ∙ sym e)
     (goes g.place h g.is p)
-
-among_all : (P : Place → Type 0) (c : Place) (cs : List Place) → among c cs ≡ true
-    → AllByRecursion P cs → P c
-among_all P c [] h a = absurd (false≢true h)
-among_all P c (d ∷ cs) h a = or_else (P c) (same_place c d) (among c cs) h
-    (λ q. subst P (sym (same_is c d q)) a.0) (λ q. among_all P c cs q a.1)
 
 -- there are paths to nodes of lower rank
 abbrev HasPaths : Graph → (ℕ → ℕ) → ℕ → Type 0

@@ -16,10 +16,9 @@ use Rattle.plan_laws.specs.declared.operations.Key.{Key}
 use Rattle.plan_laws.specs.declared.operations.Key.TheVariants.{Mapper, Whole}
 use Rattle.plan_laws.specs.declared.operations.Grouped.{Grouped}
 use Rattle.plan_laws.specs.Operations.{IsGroupedOk, IsTaken, TakesInputs, has_key, inputs_of, key_runs}
-use Rattle.plan_laws.proofs.Running.{place_same}
+use Rattle.plan_laws.proofs.Running.{place_same, same_self}
 use Rattle.plan_rules.specs.Fitting.{IsUsed, gbk_inputs, same_key, takes_key}
 use Rattle.plan_rules.proofs.Collections.{collections, node_outs}
-use Rattle.plan_rules.proofs.Made.{same_self}
 use Rattle.plan_rules.proofs.Members.{Differ, Has, weight}
 use Rattle.plan_rules.proofs.Places.{given_has, number_has, numbers, outs_count, there_has}
 

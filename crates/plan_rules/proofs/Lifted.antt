@@ -17,9 +17,9 @@ use Rattle.plan_laws.specs.declared.operations.Key.{Key}
 use Rattle.plan_laws.specs.declared.operations.Grouped.{Grouped}
 use Rattle.plan_laws.specs.Operations.{IsGroupedOk, IsReducer, Reads, forest_at, reducer_of}
 use Rattle.plan_rules.specs.Fitting.{HasReducer, IsReduced}
-use Rattle.plan_rules.proofs.Made.{same_self}
 use Rattle.plan_rules.proofs.Members.{Has}
 use Rattle.plan_rules.proofs.Staging.{AreLifted, IsLifted}
+use Rattle.plan_laws.proofs.Running.{same_self}
 
 those_by : (t : Node → Bool) (e : Entry) (es : List Entry) (r : ℕ) (x : Node) (b : Bool)
     → eqb e.number r ≡ b → cond b (Some e.node) (node_at es r) ≡ Some x → t x ≡ true

@@ -25,9 +25,8 @@ use Rattle.plan_laws.specs.declared.operations.Grouped.{Grouped}
 use Rattle.plan_laws.specs.declared.operations.Operation.{Operation}
 use Rattle.plan_laws.specs.declared.operations.Operation.TheVariants.{Flat, Class}
 use Rattle.plan_laws.specs.Operations.{AreReady, IsFlat, IsGroupedOk, IsHonest, IsIn, IsKeyOk, IsOperate, IsPdo, IsReducer, IsSide, Reading, Reads, TakesInputs, channels_of, flat_inputs, flat_stage, gives_of, group_gives, named, outs_at, pdo_channel, placed, reading_reads, reads_of, reduced, side_channel, stage_of, stages_of}
-use Rattle.plan_laws.proofs.Running.{in_append, place_same}
+use Rattle.plan_laws.proofs.Running.{in_append, place_same, without_first}
 use Rattle.plan_rules.specs.Fitting.{IsFit}
-use Rattle.plan_rules.proofs.Made.{without_first}
 
 -- ---- what passes through is no object
 abbrev pub PassesCollections : List Entry → Operation → Type 0

@@ -17,9 +17,8 @@ use Rattle.plan_making.specs.of_exec_plan.declared.plan.PlanPlace.TheVariants as
 use Rattle.plan_making.specs.of_exec_plan.Typing.{AreStagesTyped, IsPlanTypedBy}
 use Rattle.plan_laws.specs.declared.operations.Operation.{Operation}
 use Rattle.plan_laws.specs.Operations.{AreReady, DoAll, IsHonest, IsIn, at_source, gives_of, made_by, placed, places_of, plan_of, reads_of, source_at, source_place, source_places, stages_of}
-use Rattle.plan_laws.proofs.Running.{in_append, place_same}
+use Rattle.plan_laws.proofs.Running.{in_append, place_same, without_first}
 use Rattle.plan_rules.specs.Typing.{gives_at, plan_types, type_in}
-use Rattle.plan_rules.proofs.Made.{without_first}
 use Rattle.plan_rules.proofs.Taking.{AreNumbered}
 use Rattle.plan_rules.proofs.TypedChannels.{AreTyped}
 use Rattle.plan_rules.proofs.TypedStages.{AreThere, GivesTypes, stage_typed}

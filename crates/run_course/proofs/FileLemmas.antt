@@ -24,7 +24,7 @@ use Rattle.run_course.specs.inner.Course.{AreFiles, HaveMembers, IsFileOf, file_
 abbrev Bags : Type 0
 Bags = List (Option (List Value))
 
-same_some : {A : Type 0} (o : Option A) (a b : A) → o ≡ Some a → o ≡ Some b → a ≡ b
+pub same_some : {A : Type 0} (o : Option A) (a b : A) → o ≡ Some a → o ≡ Some b → a ≡ b
 same_some {A = A} o a b first second = let same : Some a ≡ Some b = sym first ∙ second in cc
 
 -- an output's file has the members of the collection that it reads

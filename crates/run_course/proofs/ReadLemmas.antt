@@ -16,6 +16,7 @@ use Rattle.run_course.specs.Written.{IsMeant, Table}
 use Rattle.script_loading.specs.Limits.{script_limit}
 use Rattle.command_words.specs.declared.words.Command.{Command}
 use Rattle.script_loading.proofs.AcceptedLemmas.{accepted_once}
+use Rattle.run_course.proofs.FileLemmas.{same_some}
 
 abbrev pub Told : Type 0
 Told = Option (List NamedBytes)
@@ -52,9 +53,6 @@ not_gone_and_long (Some files) name limit tells missing above =
     let wrong = subst (λ (found : Option (List ℕ)). IsSomeAnd found (λ bytes. limit < length
     bytes)) missing above in
     absurd wrong
-
-same_some : {A : Type 0} (o : Option A) (a b : A) → o ≡ Some a → o ≡ Some b → a ≡ b
-same_some {A = A} o a b first second = let same : Some a ≡ Some b = sym first ∙ second in cc
 
 -- ---- one call
 

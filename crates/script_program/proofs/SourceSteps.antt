@@ -8,7 +8,7 @@ use Rattle.script_program.specs.Needed.{is_needed, numbered}
 use Rattle.script_program.specs.Script.{Node, Script}
 use Rattle.script_program.specs.Sources.{source_kind, source_kinds}
 
-found_below : {A : Type 0} (xs : List A) (i : ℕ) → i < length xs
+pub found_below : {A : Type 0} (xs : List A) (i : ℕ) → i < length xs
     → (x : A) × (slice_get xs i ≡ Some x)
 found_below [] i h = absurd (omega arith)
 found_below (x ∷ xs) zero h = (x, refl)
