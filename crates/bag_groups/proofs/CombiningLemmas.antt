@@ -96,16 +96,3 @@ alone f g v (Some group) is e =
 pub one_given : (f : Combiner) (g v : Value) → combined_each f (g ∷ []) ≡ v ∷ []
     → (key_of v ≡ key_of g) × (traps_of_each f (g ∷ []) ≡ [])
 one_given f g v e = alone f g v (group_of g) refl e
-
-pub gives_pair : (f : Combiner) (g w : Value) (group : Group) → group_of g ≡ Some group
-    → f (bag_of group.1) ≡ Ok w → combined_each f (g ∷ []) ≡ pair group.0 w ∷ []
-gives_pair f g w group is e =
-    ap (λ o. bag_of (flat_map (given f) (cons_option o []))) is
-    ∙ ap (λ r. bag_of (combined_pair group.0 r ++ [])) e
-
-pub gives_trap : (f : Combiner) (g : Value) (group : Group) (kind : Kind)
-    → group_of g ≡ Some group → f (bag_of group.1) ≡ Err kind
-    → traps_of_each f (g ∷ []) ≡ (kind, group.0) ∷ []
-gives_trap f g group kind is e =
-    ap (λ o. flat_map (trapped f) (cons_option o [])) is
-    ∙ ap (λ r. trapped_key group.0 r ++ []) e

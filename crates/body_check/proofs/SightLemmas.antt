@@ -16,16 +16,6 @@ use Rattle.body_check.specs.inner.Frames.{IsBehind}
 use Rattle.body_check.specs.inner.Slots.{Placed, InBlock, block_slots, both_slots, case_slots}
 use Rattle.body_check.specs.inner.Slots.{placed_of}
 
-pub behind-itself : (names : Newest Ty) → IsBehind names names
-behind-itself names =
-    let none : length names - length names ≡ 0 = omega arith in
-    ap (λ n. drop n names) none
-
-pub behind-one : (x : List ℕ × Ty) (names : Newest Ty) → IsBehind names (x ∷ names)
-behind-one x names =
-    let one : length (x ∷ names) - length names ≡ 1 = omega arith in
-    ap (λ n. drop n (x ∷ names)) one
-
 longer : (before names : Newest Ty) → IsBehind before names → length before ≤ length names
 longer before names kept =
     omega (arith, length-drop (length names - length before) names, ap length kept)

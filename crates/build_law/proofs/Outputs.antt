@@ -110,14 +110,6 @@ first_there b k next [] h = cc
 first_there b k next (true ∷ xs) h = or_first (next == next) _ (eq-eqb next next refl)
 first_there b k next (false ∷ xs) h = first_there b (suc k) next xs h
 
--- one is needed
-pub some_needed : (needed : List Bool) → list_any (λ one. one) needed ≡ true
-    → (front : List Bool) × (back : List Bool) × (needed ≡ front ++ true ∷ back)
-some_needed [] h = cc
-some_needed (true ∷ xs) h = ([], xs, refl)
-some_needed (false ∷ xs) h =
-    let rest = some_needed xs h in (false ∷ rest.0, rest.1, ap (λ ys. false ∷ ys) rest.2)
-
 -- ---- the collections of needed names
 
 -- what is needed of those from one number on

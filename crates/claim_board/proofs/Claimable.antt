@@ -13,17 +13,6 @@ use Rattle.claim_board.specs.inner.Seats.{Seated, Steps, Drawing, Looking, Claim
 use Rattle.std.proofs.lemmas.List.Sums.{sum_by_push}
 use Rattle.claim_board.proofs.Totals.{one_if_ne, times-cons}
 
--- where all draws are lower, one of them is
-pub below_latest : (n d : ℕ) (xs : List ℕ) → All (λ x. x < n) xs → 0 < times d xs → d < n
-below_latest n d [] h some_time = absurd (omega arith)
-below_latest n d (x ∷ xs) h some_time = ⊎_elim
-    (λ (y : (eqb x d ≡ true) × (x ≡ d)). subst (λ (k : ℕ). k < n) y.1
-    (All-head (λ y. y < n) x xs h))
-    (λ (y : (eqb x d ≡ false) × (x ≢ d)).
-    let none : one_if (eqb x d) ≡ 0 = ap one_if y.0 in
-    below_latest n d xs (All-tail (λ y. y < n) x xs h) (omega (arith, times-cons d x xs)))
-    (eqb_tells x d)
-
 module _ (b : Board) (p : PassState) (d : Drawn) (h : IsOpenDraw b p d) where
   pub claimable_after_draw : (most m n : ℕ) → IsOpenDraw b (drawn most p m n) d
   claimable_after_draw most m n =

@@ -4,7 +4,6 @@ pub mod Keeps
 pub mod Whole
 pub mod Ruling
 pub mod Moves
-pub mod Lending
 pub mod Naming
 pub mod Claimable
 pub mod Closing

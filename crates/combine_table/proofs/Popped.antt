@@ -59,12 +59,6 @@ popped_right xs ys x y u r h =
     (Each-append (λ z. NotBelow z y) xs ys (UpTo-higher x y xs h u)
     (Each-left (λ z. NotBelow z y) ys (y ∷ []) (UpTo-last ys y r)))
 
-pub popped_left : (xs ys : List Value) (x y : Value) → UpTo y ys → Rises (xs ++ x ∷ [])
-    → NotBelow y x → bag_of ((xs ++ x ∷ []) ++ ys) ≡ bag_of (xs ++ ys) ++ x ∷ []
-popped_left xs ys x y u r h =
-    bag_of-either_order ys (xs ++ x ∷ []) ∙ popped_right ys xs y x u r h
-    ∙ ap (λ b. b ++ x ∷ []) (bag_of-either_order xs ys)
-
 -- ---- as the calls of `last` and `pop` tell it: d is what `last` saw of xs, ys and r what `pop`
 -- left and gave
 

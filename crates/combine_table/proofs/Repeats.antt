@@ -248,11 +248,6 @@ drawn_fewer xs ys xs' ys' v e =
       length-append xs' ys',
     )
 
-pub drawn_all : (whole b b' d : List Value) → whole ≡ distinct (b ++ d) → b ≡ bag_of b' ++ []
-    → b' ≡ [] → distinct d ≡ d → d ≡ whole
-drawn_all whole b b' d so_far popped none e =
-    sym (so_far ∙ ap (λ l. distinct (l ++ d)) (popped ∙ ap (λ l. bag_of l ++ []) none) ∙ e)
-
 -- ---- the last of a list is the first of its reverse
 
 last_first : (xs : List Value) (l : Value) → Some l ≡ slice_get xs (length xs - 1)

@@ -81,13 +81,6 @@ pub taken_asks : {A : Type 0} (read : Option (Text × List Row) → Option A) (l
 taken_asks read line words m is matches faultless =
     taken_by flume_app simple free read line words m is matches faultless
 
-pub cached_taken : {A : Type 0} (read : Option (Text × List Row) → Option A) (line : App)
-    (words : List Text) (m : ArgMatches) → line ≡ cached_app → HasMatchesOf line words m
-    → (is_simple_and_free line ≡ true → fault_of line words ≡ [])
-    → read (subcommand_rows_of m) ≡ asks_by cached_app cached_simple cached_free read words
-cached_taken read line words m is matches faultless =
-    taken_by cached_app cached_simple cached_free read line words m is matches faultless
-
 -- words that are refused for another cause than memory ask for nothing
 pub refused_asks : {A : Type 0} (read : Option (Text × List Row) → Option A) (line : App)
     (words : List Text) (e : Error) → line ≡ flume_app

@@ -41,10 +41,6 @@ answer fault w =
     if is_empty (or_else fault []) then workload_at (codes "make") (finished makes.rules w.held)
     else None
 
-abbrev workload_of_counts : Option ℕ → Option ℕ → Option Workload
-workload_of_counts start rows =
-    option_and_then (λ first. option_and_then (λ n. Some (workload first n)) rows) start
-
 counted : (n : ℕ) → n ≤ most_made → count_in (decimal n) ≡ Some n
 counted n few = rw (number_spelled n (omega (arith, few))) (rw (le-to n most_made few) refl)
 

@@ -102,16 +102,6 @@ walks (part ∷ parts) seen h position holds new operands placed =
 
 -- ---- what the parts ask for
 
-abbrev settings_by : Option Text → Option Text → Option Text → Option Text → Option Text
-    → Option RunSettings
-settings_by fail workers shards partitions tries = do
-  drill ← drill_given fail
-  w ← number_given standard.workers most_workers workers
-  s ← number_given standard.shards most_shards shards
-  p ← number_given standard.partitions most_partitions partitions
-  t ← number_given standard.tries most_tries tries
-  Some (record { workers = w; shards = s; partitions = p; tries = t; drill = drill })
-
 settings_are : (parts : List Part) (script : Text) (settings : RunSettings) (from : Option Text)
     → AskForRun parts script settings from → settings_given (map row parts) ≡ Some settings
 settings_are parts script settings from asks =

@@ -58,19 +58,6 @@ passed_before a b c xs h k g t =
           ∙ ap (λ (l : List At). a.passed ++ l) (sym (append_assoc ps y.0 (xs ++ y.1))))),
     )
 
-pub refused_later : (a b c : Account) (e : Entry) → Refused a b e → Grew b c → Refused a c e
-refused_later a b c e h k t =
-    let es = k.1 in
-    let y = k.2.told t in let x = h y.0 in
-    let here = at_place e x.2 in (
-      x.0,
-      x.1 ++ es,
-      x.2,
-      y.2 ∙ (ap (λ (l : List At). l ++ es) x.3
-          ∙ (append_assoc a.downs (x.0 ++ (here ∷ x.1)) es
-          ∙ ap (λ (l : List At). a.downs ++ l) (append_assoc x.0 (here ∷ x.1) es))),
-    )
-
 pub refused_before : (a b c : Account) (e : Entry) → Grew a b → Refused b c e → Grew b c
     → Refused a c e
 refused_before a b c e h k g t =

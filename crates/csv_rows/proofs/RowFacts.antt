@@ -53,10 +53,6 @@ after-more : (xs : List Value) (x : Value) (rest : Result (List Value) RowFault)
 after-more xs x (Ok ys) = ap Ok (sym (append_assoc xs (x ∷ []) ys))
 after-more xs x (Err e) = refl
 
-after-none : (rest : Result (List Value) RowFault) → after [] rest ≡ rest
-after-none (Ok ys) = refl
-after-none (Err e) = refl
-
 -- a header of the right length is faulty where a name is
 pub header_is : (columns : List Column) (names : List (List ℕ)) → length names ≡ length columns
     → header_fault columns names ≡ other_name 1 columns names
@@ -93,10 +89,6 @@ Reads row columns fields cells i =
     cells_from row 1 columns fields ≡ after cells
     (cells_from row (i + 1) (drop i columns) (drop i fields))
 
-pub reads_none : (row : ℕ) (columns : List Column) (fields : List (List ℕ))
-    → Reads row columns fields [] 0
-reads_none row columns fields = sym (after-none _)
-
 cells_next : (row : ℕ) (columns : List Column) (fields : List (List ℕ)) (cells : List Value)
     (i : ℕ) (c : Column) (field : List ℕ)
     → drop i columns ≡ c ∷ drop (i + 1) columns → drop i fields ≡ field ∷ drop (i + 1) fields
@@ -125,14 +117,6 @@ pub cell_more : (row : ℕ) (columns : List Column) (fields : List (List ℕ)) (
 cell_more row columns fields cells i c field x a b h ok =
     rw ok at (cells_next row columns fields cells i c field a b h) ∙ after-more cells x _
 
--- all fields are read
-pub cells_end : (row : ℕ) (columns : List Column) (fields : List (List ℕ)) (cells : List Value)
-    (i : ℕ) → length fields ≡ length columns → length columns ≤ i
-    → Reads row columns fields cells i → row_at row columns fields ≡ Ok (value.Rec cells)
-cells_end row columns fields cells i size past h =
-    let none = drop_all i columns past in
-    row_is row columns fields size ∙ ap record_of (rw (none, append-nil) at h)
-
 -- the rows of all records are these, and then those of the records left from a row's number on
 abbrev pub Continues : List Column → Option (List (List (List ℕ))) → ℕ → List Value
     → Option (List (List (List ℕ))) → Type 0
@@ -145,25 +129,6 @@ Continues columns (Some records) row rows (Some left) =
 abbrev pub Means : List Column → Option (List (List (List ℕ))) → Result (List Value) RowFault
     → Type 0
 Means columns all answer = IfSome all (λ records. rows_under columns records ≡ answer)
-
-pub no_header : (columns : List Column) (all : Option (List (List (List ℕ)))) → NoneLeft all
-    → Means columns all (bad 0 0 kind.Header)
-no_header columns None h = tt
-no_header columns (Some records) h = rw h refl
-
-pub bad_header : (columns : List Column) (all left : Option (List (List (List ℕ))))
-    (names : List (List ℕ)) (at : ℕ) → Takes all names left
-    → Some at ≡ header_fault columns names → Means columns all (bad 0 at kind.Header)
-bad_header columns None left names at h e = tt
-bad_header columns (Some records) None names at h e = absurd h
-bad_header columns (Some records) (Some left) names at h e = rw (h, ← e) refl
-
-pub good_header : (columns : List Column) (all left : Option (List (List (List ℕ))))
-    (names : List (List ℕ)) → Takes all names left
-    → None ≡ header_fault columns names → Continues columns all 1 [] left
-good_header columns None left names h e = tt
-good_header columns (Some records) None names h e = absurd h
-good_header columns (Some records) (Some left) names h e = rw (h, ← e) (sym (after-none _))
 
 pub row_more : (columns : List Column) (all now left : Option (List (List (List ℕ)))) (row : ℕ)
     (rows : List Value) (fields : List (List ℕ)) (x : Value)

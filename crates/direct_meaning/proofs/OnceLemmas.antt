@@ -48,14 +48,6 @@ operated_kept origin fun function does trapped values vs are single is kept befo
     (ap (option_map (answered_once origin x)) (same_answer fun function does x) ∙ is)
     (record { keeps = record { members = members; trapped = behind }; found = found }))
 
-pub operated_nothing : (origin : ℕ) (answer : Value → Option Called) (trapped : Bool)
-    (values : Option (List Value)) → None ≡ values → (kept : Kept) (before after : List Trap)
-    → kept.members ≡ [] → kept.trapped ≡ trapped → after ≡ before
-    → IsOperatedOn origin answer trapped values kept before after
-operated_nothing origin answer trapped values none kept before after members behind found =
-    subst (λ (v : Option (List Value)). IsOperatedOn origin answer trapped v kept before after) none
-    (record { members = members; behind = behind; found = found })
-
 -- ---- do .. with
 
 -- what is kept of calls by slots beside a value
@@ -77,11 +69,3 @@ beside_kept origin fun function does trapped one v is source kept before after m
     (λ x. ap (option_map (naming x))
     (sym (same_answer fun function does (value.Rec (x ∷ v ∷ [])))))
     source kept before after members found behind)
-
-pub beside_nothing : (origin : ℕ) (answer : Value → Option Called) (trapped : Bool)
-    (one : Option Value) → None ≡ one → (source kept : Kept) (before after : List Trap)
-    → kept.members ≡ [] → kept.trapped ≡ trapped → after ≡ before
-    → IsDoneOn origin answer trapped one source kept before after
-beside_nothing origin answer trapped one none source kept before after members behind found =
-    subst (λ (o : Option Value). IsDoneOn origin answer trapped o source kept before after) none
-    (record { members = members; behind = behind; found = found })

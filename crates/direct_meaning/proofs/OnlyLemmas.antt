@@ -13,29 +13,10 @@ use Rattle.direct_meaning.specs.inner.Objects.{value_in, values_in}
 
 -- ---- just one
 
-pub one_only : {X : Type 0} (xs : List X) (x : X) → length xs ≡ 1 → x ≡ get_or xs 0 x
-    → Some x ≡ only xs
-one_only [] x long is = absurd (omega arith)
-one_only (y ∷ []) x long is = ap Some is
-one_only (y ∷ (z ∷ zs)) x long is =
-    let e : suc (suc (length zs)) ≡ 1 = long in absurd (omega arith)
-
 pub none_only : {X : Type 0} (xs : List X) → (length xs ≡ 1 → ⊥) → None ≡ only xs
 none_only [] other = refl
 none_only (y ∷ []) other = absurd (other refl)
 none_only (y ∷ (z ∷ zs)) other = refl
-
-pub argument_one : (vs : List Value) (v : Value) → length vs ≡ 1 → v ≡ get_or vs 0 v
-    → argument_of vs ≡ v
-argument_one [] v long is = absurd (omega arith)
-argument_one (w ∷ []) v long is = sym is
-argument_one (w ∷ (u ∷ vs)) v long is =
-    let e : suc (suc (length vs)) ≡ 1 = long in absurd (omega arith)
-
-pub argument_several : (vs : List Value) → (length vs ≡ 1 → ⊥) → argument_of vs ≡ value.Rec vs
-argument_several [] other = refl
-argument_several (v ∷ []) other = absurd (other refl)
-argument_several (v ∷ (w ∷ vs)) other = refl
 
 -- ---- values one after another
 
@@ -102,26 +83,3 @@ module _ (table : List (Option Kept)) (objects : List ℕ) (i number : ℕ) (so_
 
 pub second_of-pair : (k v : Value) → second_of (pair k v) ≡ Some v
 second_of-pair k v = ap (option_map (λ (it : Parts). it.1)) (parts_of-pair k v)
-
-some_pair : (o : Option Parts) (v : Value) → option_map (λ (it : Parts). it.1) o ≡ Some v → IsSome o
-some_pair None v is = cc
-some_pair (Some parts) v is = refl
-
-pub has_second : (p v : Value) → second_of p ≡ Some v → IsPair p
-has_second p v is = some_pair (parts_of p) v is
-
-abbrev second_at : Value-F Value → Option Value
-second_at x = option_map (λ (it : Parts). it.1) (parts_at x)
-
-pub fields_two : (fields : List Value) (v : Value) → second_of (value.Rec fields) ≡ Some v
-    → (k : Value) × (fields ≡ k ∷ v ∷ [])
-fields_two fields v is =
-    by fields (sym (ap second_at (value.outs-Rec fields)) ∙ is)
-  where
-    by : (fields : List Value) → second_at (Value-F.Rec fields) ≡ Some v
-        → (k : Value) × (fields ≡ k ∷ v ∷ [])
-    by [] at = cc
-    by (k ∷ []) at = cc
-    by (k ∷ (w ∷ [])) at =
-        let same : w ≡ v = cc in (k, ap (λ (x : Value). k ∷ x ∷ []) same)
-    by (k ∷ (w ∷ (u ∷ us))) at = cc

@@ -55,16 +55,6 @@ all_dropped [] (suc n) end = absurd (omega arith)
 all_dropped (x ∷ xs) zero end = absurd (omega arith)
 all_dropped (x ∷ xs) (suc n) end = all_dropped xs n (omega arith)
 
-pub size_all : (nodes : Named Node) (table : List (Option Kept)) (n : ℕ)
-    (sizes : List (List ℕ × ℕ)) → n ≡ length table
-    → sizes ++ sizes_kept (drop n nodes) (drop n table) ≡ sizes_kept nodes table
-    → sizes ≡ sizes_kept nodes table
-size_all nodes table n sizes end so_far =
-    sym (append-nil sizes)
-    ∙ (ap (λ (l : List (List ℕ × ℕ)). sizes ++ l)
-    (sym (ap (sizes_kept (drop n nodes)) (all_dropped table n end) ∙ none_left (drop n nodes)))
-    ∙ so_far)
-
 -- the sizes of what is kept are those of the collections
 pub sizes_same : (nodes : Named Node) (kept : List (Option Kept))
     (table : List (Option Collection)) → AllZip KeepsAny kept table

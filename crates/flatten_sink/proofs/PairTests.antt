@@ -72,17 +72,6 @@ nest_passes g p h =
       room = leb-true (length joined) most_nodes (both_right near room rest);
     }
 
-pub nest_fails : (g : Graph) (p : Pair) → can_nest g.nodes p ≡ false → CanNest g p → ⊥
-nest_fails g p h can =
-    let outer : Option Node = node_at g.nodes p.flatten in
-    let inner : Option Node = node_at g.nodes p.other in
-    let joined : List Place = spliced p.other (inputs_of inner) (inputs_of outer) in
-    let room : Bool = leb (length joined) most_nodes in
-    let near : Bool = among (place p.other 0) (inputs_of outer) in
-    false≢true (sym h ∙ both (is_flatten inner) (near && room) (ap is_flatten can.inner)
-    (both near room can.nested
-    (le-leb (length joined) most_nodes can.room)))
-
 pub call_passes : (g : Graph) (p : Pair) → can_call g.nodes p ≡ true → CanCall g p
 call_passes g p h =
     let a : Bool = is_flatten (node_at g.nodes p.flatten) in
@@ -92,20 +81,9 @@ call_passes g p h =
       pdo = call_is p.flatten (node_at g.nodes p.other) (both_right a b h);
     }
 
-pub call_fails : (g : Graph) (p : Pair) → can_call g.nodes p ≡ false → CanCall g p → ⊥
-call_fails g p h can =
-    let a : Bool = is_flatten (node_at g.nodes p.flatten) in
-    let b : Bool = calls_first p.flatten (node_at g.nodes p.other) in
-    false≢true (sym h ∙ both a b (ap is_flatten can.flatten)
-    (ap (calls_first p.flatten) can.pdo ∙ same_self (place p.flatten 0)))
-
 pub room_passes : (g : Graph) (p : Pair) → has_room g p ≡ true
     → total_size (after_call g p).nodes ≤ most_nodes
 room_passes g p h = leb-true (total_size (after_call g p).nodes) most_nodes h
-
-pub room_fails : (g : Graph) (p : Pair) → has_room g p ≡ false
-    → most_nodes < total_size (after_call g p).nodes
-room_fails g p h = leb-false (total_size (after_call g p).nodes) most_nodes h
 
 -- ---- what the graph after it keeps
 

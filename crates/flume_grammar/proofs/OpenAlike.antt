@@ -9,10 +9,6 @@ use Rattle.flume_grammar.proofs.Open.{Class, Ends, Stops, Reads, IsOpenAt}
 
 -- ---- the next token
 
-next_cons : (k : List Token) (t : Token) (ks vs : List Token) → k ≡ t ∷ ks
-    → next (k ++ vs) ≡ Some t.kind
-next_cons k t ks vs e = ap (λ x. next (x ++ vs)) e
-
 -- ---- one parser as another
 
 pub agree : {A : Type 0} (c : Class) (p q : List Token → Out A) (ts : List Token)

@@ -21,12 +21,6 @@ depth_of-step t = fold_out-Ty ℕ (layer_depth (λ n. n)) t ∙ mapped depth_of 
 pub depth_of-Int : depth_of variant.Int ≡ 1
 depth_of-Int = depth_of-step variant.Int ∙ ap (layer_depth depth_of) variant.outs-Int
 
-pub depth_of-Bool : depth_of variant.Bool ≡ 1
-depth_of-Bool = depth_of-step variant.Bool ∙ ap (layer_depth depth_of) variant.outs-Bool
-
-pub depth_of-Text : depth_of variant.Text ≡ 1
-depth_of-Text = depth_of-step variant.Text ∙ ap (layer_depth depth_of) variant.outs-Text
-
 pub depth_of-List : (t : Ty) → depth_of (variant.List t) ≡ depth_of t + 1
 depth_of-List t = depth_of-step (variant.List t) ∙ ap (layer_depth depth_of) (variant.outs-List t)
 

@@ -141,14 +141,6 @@ padded-cmp (suc n) (x ∷ a) (y ∷ b) l m =
     (sym (next (length a) (length b)))
     ∙ ap (ordering_then (nat_cmp x y)) (padded-cmp n a b (omega arith) (omega arith))
 
--- bytes and then zeros are those with zeros behind their end
-pub padded-is : (n : ℕ) (a : List ℕ) → length a ≤ n
-    → a ++ drop (length a) (padded n []) ≡ padded n a
-padded-is zero [] l = refl
-padded-is zero (x ∷ a) l = absurd (omega arith)
-padded-is (suc n) [] l = refl
-padded-is (suc n) (x ∷ a) l = ap (λ xs. x ∷ xs) (padded-is n a (omega arith))
-
 -- ---- three numbers decide
 
 pub small-take : (n : ℕ) (xs : List ℕ) → Small xs → Small (take n xs)

@@ -34,11 +34,6 @@ added_nothing zero e = refl
 added_nothing (suc k) [] = refl
 added_nothing (suc k) (m ∷ e) = ap (λ l. m ∷ l) (added_nothing k e)
 
-added_to_none : (at : ℕ) (ns : List ℕ) → added at ns [] ≡ []
-added_to_none zero [] = refl
-added_to_none zero (n ∷ ns) = refl
-added_to_none (suc k) ns = refl
-
 added_next : (at n : ℕ) (ns : List ℕ) (e : List ℕ)
     → added (suc at) ns (added at (n ∷ []) e) ≡ added at (n ∷ ns) e
 added_next zero n ns [] = refl

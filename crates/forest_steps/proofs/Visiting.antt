@@ -43,18 +43,6 @@ ends_by r whole f fault.Memory e h = tt
 ends_by r whole f (fault.Trap trap) e h = sym e ∙ ap (λ q. and_then q f) h
 
 -- ---- elements, one after another, each with its turn
-pub turn_on : (turns left : List Turn) (g more : Given) (whole : Run) → in_turn turns g ≡ whole
-    → left ≡ drop 1 turns → first_turn turns g ≡ Ok more → in_turn left more ≡ whole
-turn_on [] left g more whole goes is e = ap (λ l. in_turn l more) is ∙ sym e ∙ goes
-turn_on (t ∷ turns) left g more whole goes is e =
-    ap (λ l. in_turn l more) is ∙ goes_on (t g) whole (in_turn turns) more goes e
-
-pub turn_ends : (turns : List Turn) (g : Given) (whole : Run) (t : StepFault)
-    → in_turn turns g ≡ whole → IsRunFault (first_turn turns g) t → IsRunFault whole t
-turn_ends [] g whole fault.Memory goes h = tt
-turn_ends [] g whole (fault.Trap trap) goes h = cc h
-turn_ends (turn ∷ turns) g whole t goes h = ends_by (turn g) whole (in_turn turns) t goes h
-
 pub turns_done : (turns : List Turn) (g : Given) (whole : Run) → in_turn turns g ≡ whole
     → length turns ≡ 0 → whole ≡ Ok g
 turns_done [] g whole goes h = sym goes
@@ -73,45 +61,6 @@ in_turn_each f (x ∷ xs) g =
     then_alike (f x g) (in_turn (map f xs)) (run_each f xs) (in_turn_each f xs)
 
 -- ---- emissions
-pub each_on : (F : Value → Given → Run) (xs : List Value) (i : ℕ) (x : Value) (g more : Given)
-    (whole : Run) → run_each F (drop i xs) g ≡ whole → i < length xs → x ≡ get_or xs i x
-    → F x g ≡ Ok more → run_each F (drop (i + 1) xs) more ≡ whole
-each_on F xs i x g more whole goes h is e =
-    goes_on (F x g) whole (run_each F (drop (i + 1) xs)) more
-    (sym (ap (λ l. run_each F l g) (drop_at xs i x h is)) ∙ goes) e
-
-pub each_ends : (F : Value → Given → Run) (xs : List Value) (i : ℕ) (x : Value) (g : Given)
-    (whole : Run) (t : StepFault) → run_each F (drop i xs) g ≡ whole → i < length xs
-    → x ≡ get_or xs i x → IsRunFault (F x g) t → IsRunFault whole t
-each_ends F xs i x g whole t goes h is e =
-    ends_by (F x g) whole (run_each F (drop (i + 1) xs)) t
-    (sym (ap (λ l. run_each F l g) (drop_at xs i x h is)) ∙ goes) e
-
-pub each_done : (F : Value → Given → Run) (xs : List Value) (i : ℕ) (g : Given) (whole : Run)
-    → run_each F (drop i xs) g ≡ whole → length xs ≤ i → whole ≡ Ok g
-each_done F xs i g whole goes h = sym goes ∙ ap (λ l. run_each F l g) (drop_past xs i h)
-
--- what was emitted to an output
-pub out_done : (F : Value → Given → Run) (out : Option ℕ) (at : ℕ) (vs items : List Value) (i : ℕ)
-    (old start now new : Given) → start ≡ counted at (length vs) old → items ≡ vs
-    → run_each F (drop i items) now ≡ run_each F items start → length items ≤ i
-    → new ≡ kept out vs now → run_out out at F vs old ≡ Ok new
-out_done F out at vs items i old start now new begun same goes h end =
-    ap (λ r. and_then r (λ more. Ok (kept out vs more)))
-    ((λ k. run_each F (sym same k) (sym begun k))
-    ∙ each_done F items i now (run_each F items start) goes h)
-    ∙ ap Ok (sym end)
-
-pub out_ends : (F : Value → Given → Run) (out : Option ℕ) (at : ℕ) (vs items : List Value) (i : ℕ)
-    (y : Value) (old start now : Given) (t : StepFault) → start ≡ counted at (length vs) old
-    → items ≡ vs → run_each F (drop i items) now ≡ run_each F items start → i < length items
-    → y ≡ get_or items i y → IsRunFault (F y now) t → IsRunFault (run_out out at F vs old) t
-out_ends F out at vs items i y old start now t begun same goes h is e =
-    ends_by (run_each F vs (counted at (length vs) old)) (run_out out at F vs old)
-    (λ more. Ok (kept out vs more)) t refl
-    (each_ends F items i y now (run_each F vs (counted at (length vs) old)) t
-    (goes ∙ (λ k. run_each F (same k) (begun k))) h is e)
-
 module _ (w : World) (sizes : List ℕ) where
   -- ---- the outputs of a step
   -- what is emitted to an output of a step

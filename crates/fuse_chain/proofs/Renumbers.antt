@@ -47,13 +47,6 @@ Lacks n ds = Each (λ d. d.number ≡ n → ⊥) ds
 apart_eqb : (m n : ℕ) → (m ≡ n → ⊥) → eqb m n ≡ false
 apart_eqb m n h = not_true (eqb m n) (λ i. h (eqb-true m n i))
 
-set_lacks : (ds : List Entry) (n : ℕ) (z : Node) → Lacks n ds → set_node ds n z ≡ ds
-set_lacks [] n z a = refl
-set_lacks (d ∷ ds) n z a =
-    ap (λ (b : Bool). cond b (entry n z ∷ ds) (d ∷ set_node ds n z))
-    (apart_eqb d.number n a.0)
-    ∙ ap (λ (l : List Entry). d ∷ l) (set_lacks ds n z a.1)
-
 -- another node is set before it is put in its place, or behind
 put_set : (e : Entry) (ds : List Entry) (n : ℕ) (z : Node) → (e.number ≡ n → ⊥)
     → set_node (put_entry e ds) n z ≡ put_entry e (set_node ds n z)

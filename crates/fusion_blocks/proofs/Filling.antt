@@ -132,15 +132,6 @@ pub record IsFilling (scales : List ℕ) (es : List Entry) (turns : ℕ) (places
   pub fills : Fills scales es first now
   pub has : (t : ℕ → Option ℕ) → Grows now t → HasAll t rest → HasAll t places
 
-pub filling_begun : (scales : List ℕ) (es : List Entry) (turns : ℕ) (places : List Place)
-    (first : ℕ → Option ℕ) → AllBelow es turns places → IsPartly scales es first
-    → IsFilling scales es turns places places first first
-filling_begun scales es turns places first b p = record {
-  below = b;
-  fills = record { partly = p; grows = λ n v h. h };
-  has = λ t g a. a;
-}
-
 fills_more : (scales : List ℕ) (es : List Entry) (first now new : ℕ → Option ℕ)
     → Fills scales es first now → Fills scales es now new → Fills scales es first new
 fills_more scales es first now new f g =
@@ -178,13 +169,6 @@ AllHave t es = AllByRecursion (λ (e : Entry). Has t e.number) es
 pub record IsFillingAll (scales : List ℕ) (es rest : List Entry) (now : ℕ → Option ℕ) : Type 0 where
   pub partly : IsPartly scales es now
   pub has : (t : ℕ → Option ℕ) → Grows now t → AllHave t rest → AllHave t es
-
-pub all_begun : (scales : List ℕ) (es : List Entry) (first : ℕ → Option ℕ)
-    → ((n : ℕ) → first n ≡ None) → IsFillingAll scales es es first
-all_begun scales es first h = record {
-  partly = λ n v e. let bad : None ≡ Some v = sym (h n) ∙ e in absurd cc;
-  has = λ t g a. a;
-}
 
 pub all_more : (scales : List ℕ) (es : List Entry) (i : ℕ) (e : Entry) (now new : ℕ → Option ℕ)
     → drop i es ≡ e ∷ drop (i + 1) es → IsFillingAll scales es (drop i es) now

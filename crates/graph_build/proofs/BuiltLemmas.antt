@@ -121,14 +121,6 @@ first_one script name end h =
     ∙ ap (λ k. if emitted_at script name then name ∷ []
     else first_emitted script k (end - (name + 1))) next
 
-pub emitted_here : (script : Script) (name end : ℕ) (all : Option ℕ) → name < end
-    → emitted_at script name ≡ true
-    → slice_get (first_emitted script name (end - name)) 0 ≡ all → Some name ≡ all
-emitted_here script name end all below is h =
-    (λ i. slice_get (if sym is i then name ∷ []
-    else first_emitted script (name + 1) (end - (name + 1))) 0)
-    ∙ ap (λ names. slice_get names 0) (sym (first_one script name end below)) ∙ h
-
 pub emitted_other : (script : Script) (name end : ℕ) (all : Option ℕ) → name < end
     → emitted_at script name ≡ false
     → slice_get (first_emitted script name (end - name)) 0 ≡ all
@@ -137,12 +129,6 @@ emitted_other script name end all below is h =
     (λ i. slice_get (if sym is i then name ∷ []
     else first_emitted script (name + 1) (end - (name + 1))) 0)
     ∙ ap (λ names. slice_get names 0) (sym (first_one script name end below)) ∙ h
-
-pub emitted_none : (script : Script) (name end : ℕ) (all : Option ℕ) → end ≤ name
-    → slice_get (first_emitted script name (end - name)) 0 ≡ all → None ≡ all
-emitted_none script name end all past h =
-    let e : end - name ≡ 0 = omega arith in
-    ap (λ more. slice_get (first_emitted script name more) 0) (sym e) ∙ h
 
 -- all names of a call, by the number behind them
 many_names : (first f others : ℕ) (script : Script) → others ≡ other_names script f

@@ -39,11 +39,6 @@ count_next script name end count more all below is h =
     ∙ ap (number_behind count) (sym (one_name script name end below))
     ∙ h
 
-pub count_all : (script : Script) (name end count all : ℕ) → end ≤ name
-    → number_behind count (needed_from script name (end - name)) ≡ all → count ≡ all
-count_all script name end count all past h =
-    ap (number_behind count) (sym (no_name script name end past)) ∙ h
-
 -- the outputs
 abbrev buds : ℕ → List Bool → List Twig
 buds next needed = map bud (output_numbers next needed)
@@ -64,13 +59,4 @@ outputs_next script name end number more done outputs one all below is ahead pus
     (buds (next_if (emitted_at script name) number) rest)
     ∙ ap (λ t. map twig done ++ t ∷ buds (next_if (emitted_at script name) number) rest) is
     ∙ ap (λ names. map twig done ++ buds number names) (sym (one_name script name end below))
-    ∙ h
-
-pub outputs_all : (script : Script) (name end number : ℕ) (done : List Output) (all : List Twig)
-    → end ≤ name
-    → map twig done ++ buds number (needed_from script name (end - name)) ≡ all
-    → map twig done ≡ all
-outputs_all script name end number done all past h =
-    sym (append-nil (map twig done))
-    ∙ ap (λ names. map twig done ++ buds number names) (sym (no_name script name end past))
     ∙ h

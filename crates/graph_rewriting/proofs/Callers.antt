@@ -14,11 +14,6 @@ use Rattle.exec_graph.proofs.Entries.{entry}
 use Rattle.graph_laws.specs.Lifting.{CanLift, lift_of, lifted_at, marked, marked_entry, only_comb, remarked}
 use Rattle.graph_rewriting.specs.inner.Tests.{comb_of_only, found_list, is_gbk, only}
 
-pub only_is : (es : List Entry) (ns : List ℕ) → only_comb es ns ≡ comb_of_only es (only ns)
-only_is es [] = refl
-only_is es (n ∷ []) = refl
-only_is es (n ∷ (m ∷ ns)) = refl
-
 -- ---- readers one after another
 
 module _ (t : Node → Bool) (es : List Entry) (i : ℕ) (e : Entry) (lt : i < length es)

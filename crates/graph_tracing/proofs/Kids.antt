@@ -81,13 +81,6 @@ one_behind xs ys r = append_assoc xs (r ∷ []) ys
 
 -- ---- a Pdo that goes is not there at the end
 
-gone_after : (r : Fusion) (rs : List Fusion) (g m : Graph) → IsGraphOk g → Leads (r ∷ rs) g m
-    → IsSound g → node_at m.nodes (other_of r) ≡ None
-gone_after r rs g m ok l low =
-    let e : Effect g l.0 (other_of r) = effect r g l.0 l.1 low in
-    absent_kept rs l.0 m l.2 (made_sound r g l.0 l.1 low) (other_of r)
-    (e.gone (differ_ascends g.nodes ok.founded.ascends))
-
 -- and one that stays is
 there_after : (rs : List Fusion) (g m : Graph) (n : ℕ) (c : Place) → Leads rs g m
     → IsSound g → Calls g n c → Each (λ r. other_of r ≡ n → ⊥) rs
@@ -214,29 +207,3 @@ kid_apart g p k q ok can e =
     reads_lower g q (place p k) (forest_at g q) r can.other ok.founded.ranked.1 in
     let same : r p ≡ r q = ap r e in
     omega arith
-
--- the table of numbers after a kid
-pub table_swapped : (l : ℕ → ℕ) (p q : ℕ) → KeepsAll l → (p ≡ q → ⊥) → (n : ℕ)
-    → cond (eqb n q) (l p) (cond (eqb n p) (l q) (l n)) ≡ other_of_two (l p) (l q) (l n)
-table_swapped l p q keeps differ n = by (eqb n q) (eqb n p) refl refl
-  where
-    far : (a b : ℕ) → (a ≡ b → ⊥) → eqb (l a) (l b) ≡ false
-    far a b x = ne_eqb (l a) (l b) (λ e. x (keeps a b e))
-
-    by : (s t : Bool) → eqb n q ≡ s → eqb n p ≡ t
-        → cond s (l p) (cond t (l q) (l n)) ≡ other_of_two (l p) (l q) (l n)
-    by true t i j =
-        let is : n ≡ q = eqb-true n q i in
-        sym (ap (λ (x : ℕ). other_of_two (l p) (l q) (l x)) is
-        ∙ ap (λ (b : Bool). cond b (l q) (cond (eqb (l q) (l q)) (l p) (l q)))
-        (far q p (λ e. differ (sym e)))
-        ∙ ap (λ (b : Bool). cond b (l p) (l q)) (eq-eqb (l q) (l q) refl))
-    by false true i j =
-        let is : n ≡ p = eqb-true n p j in
-        sym (ap (λ (x : ℕ). other_of_two (l p) (l q) (l x)) is
-        ∙ ap (λ (b : Bool). cond b (l q) (cond (eqb (l p) (l q)) (l p) (l p)))
-        (eq-eqb (l p) (l p) refl))
-    by false false i j =
-        sym (ap₂ (λ (a b : Bool). cond a (l q) (cond b (l p) (l n)))
-        (far n p (λ e. false≢true (sym j ∙ eq-eqb n p e)))
-        (far n q (λ e. false≢true (sym i ∙ eq-eqb n q e))))

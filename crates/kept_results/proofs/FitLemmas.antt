@@ -22,11 +22,6 @@ use Rattle.kept_results.specs.Kept.{AreMembersOf, IsKeptOf}
 use Rattle.kept_results.specs.inner.Named.{are_named}
 use Rattle.kept_results.proofs.NameLemmas.{equal-named, named-equal}
 
-pub all-typed : (type : Ty) (members : List Value)
-    → list_all (λ x. has_type x type) members ≡ true → AllHave type members
-all-typed type members is =
-    All-from_recursion (Has type) members (each_passes (λ x. has_type x type) members is)
-
 pub typed-all : (type : Ty) (members : List Value) → AllHave type members
     → list_all (λ x. has_type x type) members ≡ true
 typed-all type members all =

@@ -48,7 +48,3 @@ module _ (items : List Value) (number : ℕ) (x y : Value) (least : 1 ≤ number
           let above = ltb-false (k + 1) number is in
           let same : k + 1 ≡ number = omega (arith, above, below) in
           (λ i. is_lt (value_cmp (later (k + 1) d same i) (earlier k d same i))) ∙ here
-
-pub sorted_all : (items : List Value) (number : ℕ) → length items ≤ number
-    → AscendTo items number → IsSorted value_cmp items
-sorted_all items number end so_far = λ k d least below. so_far k d (omega (arith, end, below))

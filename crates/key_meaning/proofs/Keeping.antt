@@ -73,16 +73,6 @@ alike_fewer SameFile names fewer pairs s r wider wider_functions alike = record 
   paired = alike.paired;
 }
 
--- behind one statement more
-pub alike_counted : (SameFile : List ℕ → Type 0) (names : Names) (pairs : Pairs) (s r : State)
-    → IsAlike SameFile names pairs s r
-    → IsAlike SameFile names pairs (with_statement s) (with_statement r)
-alike_counted SameFile names pairs s r alike = record {
-  collections = alike.collections;
-  functions = alike.functions;
-  paired = alike.paired;
-}
-
 -- ---- what a statement adds
 
 -- so many collections more on both sides, which are alike, and the same types

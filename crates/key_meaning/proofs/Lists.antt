@@ -78,12 +78,6 @@ zip_at R (z ∷ xs) (w ∷ ys) zipped zero x y here there =
 zip_at R (z ∷ xs) (w ∷ ys) zipped (suc i) x y here there =
     zip_at R xs ys zipped.1 i x y here there
 
-pub has_at : {A : Type 0} (xs : List A) (i : ℕ) → i < length xs
-    → (x : A) × (slice_get xs i ≡ Some x)
-has_at [] i below = absurd (omega arith)
-has_at (x ∷ xs) zero below = (x, refl)
-has_at (x ∷ xs) (suc i) below = has_at xs i (omega arith)
-
 pub zip_long : {A B : Type 0} (R : A → B → Type 0) (xs : List A) (ys : List B) → AllZip R xs ys
     → length xs ≡ length ys
 zip_long R [] [] zipped = refl

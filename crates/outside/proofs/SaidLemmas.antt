@@ -106,21 +106,6 @@ cut_at f xs i d before middle after x e r below is so_far cut =
     middle after x r so_far
     (says_cut (f (get_or xs i d)) (flat_map f (drop (suc i) xs)) middle after e r is cut))
 
--- the parts before a place are said, and the part there
-pub said_at : {X T U E : Type 0} (f : X → List ℕ) (xs : List X) (i : ℕ) (d : X)
-    (before middle after : Seen (List ℕ)) (x : T) (y : U)
-    → i < length xs → Says {T = T} {E = E} (flat_map f (take i xs)) before middle (Ok x)
-    → Says {T = U} {E = E} (f (get_or xs i d)) middle after (Ok y)
-    → Says {T = U} {E = E} (flat_map f (take (i + 1) xs)) before after (Ok y)
-said_at {U = U} {E = E} f xs i d before middle after x y below so_far said =
-    let longer : flat_map f (take (i + 1) xs) ≡ flat_map f (take i xs) ++ f (get_or xs i d)
-    = ap (flat_map f) (take_more xs i d below)
-    ∙ (flat_map-append f (take i xs) (get_or xs i d ∷ [])
-    ∙ ap (λ part. flat_map f (take i xs) ++ part) (append-nil (f (get_or xs i d)))) in
-    subst (λ (text : List ℕ). Says {T = U} {E = E} text before after (Ok y)) (sym longer)
-    (says_both (flat_map f (take i xs)) (f (get_or xs i d)) before middle after x
-    (Ok y) so_far said)
-
 -- what is said of a text is said of one that equals it
 pub says_as : {T E : Type 0} (b a : List ℕ) (before after : Seen (List ℕ)) (r : Result T E) → b ≡ a
     → Says a before after r → Says b before after r

@@ -140,13 +140,6 @@ both (Pdo c f) h = h
 both (Gbk c o l k) h = (tt, tt)
 both (Barrier ins o l a) h = (tt, tt)
 
-of_both : (x : Node) → HasSteps IsOneStep x → HasSteps (λ f. width f ≤ most_outputs) x → IsNarrow x
-of_both (Source r) h w = tt
-of_both (Flatten ins) h w = tt
-of_both (Pdo c f) h w = (h, w)
-of_both (Gbk c o l k) h w = tt
-of_both (Barrier ins o l a) h w = tt
-
 pub pdo_tells : (x : Node) (c : Place) (f : Forest) (bs : List Branch) (r : Bool) → x ≡ Pdo c f
     → grown bs ≡ f → r ≡ one_short bs → (r ≡ true → IsNarrow x) × (IsNarrow x → r ≡ true)
 pdo_tells x c f bs r e g t = (
@@ -163,20 +156,3 @@ all_both (e ∷ es) h =
     let p = both e.node h.0 in
     let q = all_both es h.1 in
     ((p.0, q.0), (p.1, q.1))
-
-both_all : (es : List Entry) → AllByRecursion (λ (e : Entry). HasSteps IsOneStep e.node) es
-    → AllByRecursion (λ (e : Entry). HasSteps (λ f. width f ≤ most_outputs) e.node) es
-    → AllByRecursion (λ (e : Entry). IsNarrow e.node) es
-both_all [] h w = tt
-both_all (e ∷ es) h w = (of_both e.node h.0 w.0, both_all es h.1 w.1)
-
-pub narrow_graph : (g : Graph) (ns : List Entry) (r : Bool) → ns ≡ g.nodes
-    → (r ≡ true → AllByRecursion (λ (e : Entry). IsNarrow e.node) ns)
-    × (AllByRecursion (λ (e : Entry). IsNarrow e.node) ns → r ≡ true)
-    → (r ≡ true → IsUnfused g × HasNarrowSteps g) × (IsUnfused g × HasNarrowSteps g → r ≡ true)
-narrow_graph g ns r e t = (
-  λ h. all_both g.nodes
-      (subst (λ (es : List Entry). AllByRecursion (λ (e : Entry). IsNarrow e.node) es) e (t.0 h)),
-  λ a. t.1 (subst (λ (es : List Entry). AllByRecursion (λ (e : Entry). IsNarrow e.node) es) (sym e)
-      (both_all g.nodes a.0 a.1)),
-)

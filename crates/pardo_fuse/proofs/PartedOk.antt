@@ -30,14 +30,6 @@ use Rattle.pardo_fuse.proofs.PartedLeft.{all_size, joined_parted, map_ascends}
 
 -- ---- marks
 
-pdo_lifted : (o : Option Node) → is_pdo o ≡ true → is_lifted o ≡ false
-pdo_lifted None h = refl
-pdo_lifted (Some (Source r)) h = refl
-pdo_lifted (Some (Flatten ins)) h = refl
-pdo_lifted (Some (Pdo c f)) h = refl
-pdo_lifted (Some (Gbk c o l k)) h = absurd (false≢true h)
-pdo_lifted (Some (Barrier ins o l a)) h = refl
-
 same_lifted : (r : Place → Place) (x : Node) → is_lifted (Some (reread r x)) ≡ is_lifted (Some x)
 same_lifted r (Source s) = refl
 same_lifted r (Flatten ins) = refl

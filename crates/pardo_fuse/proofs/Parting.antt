@@ -193,11 +193,6 @@ differ_append (x ∷ xs) ys a b c = (
 
 -- ---- the parts of all nodes
 
--- The nodes have one step each, and numbers below k.
-pub record AreLow (k : ℕ) (es : List Entry) : Type 0 where
-  pub below : AllByRecursion (λ (e : Entry). e.number < k) es
-  pub steps : AllByRecursion (λ (e : Entry). HasSteps IsOneStep e.node) es
-
 abbrev pub all_parts : ℕ → (Place → Place) → List Entry → List Entry
 all_parts k r es = flat_map (λ e. parts_of k e.number (reread r e.node)) es
 

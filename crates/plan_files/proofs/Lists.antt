@@ -12,10 +12,6 @@ use Rattle.plan_files.specs.Forms.{all_of}
 abbrev pub behind : {X : Type 0} → List X → Option (List X) → Option (List X)
 behind xs rest = option_map (λ ys. xs ++ ys) rest
 
-pub behind_none : {X : Type 0} (rest : Option (List X)) → behind [] rest ≡ rest
-behind_none None = refl
-behind_none (Some ys) = refl
-
 behind_cons : {X : Type 0} (xs : List X) (x : X) (rest : Option (List X))
     → behind (xs ++ x ∷ []) rest ≡ behind xs (option_map (λ ys. x ∷ ys) rest)
 behind_cons xs x None = refl

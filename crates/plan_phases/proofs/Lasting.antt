@@ -57,28 +57,6 @@ losses_rise (u ∷ us) (v ∷ vs) g =
 abbrev Full : List Account → Type 0
 Full vs = (b : Account) × Contains vs b × (2 ^ 64 - 1 ≤ b.losses)
 
-full_here : (w : Account) (ws : List Account) → 2 ^ 64 - 1 ≤ w.losses → Full (w ∷ ws)
-full_here w ws h = (w, (0, omega arith, refl), h)
-
-full_behind : (w : Account) (ws : List Account) → Full ws → Full (w ∷ ws)
-full_behind w ws (b, (k, below, is), h) = (b, (suc k, omega arith, is), h)
-
-full_later : (vs ws : List Account) → Full vs → AllZip Grew vs ws → Full ws
-full_later [] ws (b, (k, below, is), h) g = absurd (omega arith)
-full_later (v ∷ vs) [] f g = absurd g
-full_later (v ∷ vs) (w ∷ ws) (b, (zero, below, is), h) g =
-    let one = g.0.2.later in
-    let same : v.losses ≡ b.losses = λ i. (is i).losses in full_here w ws (omega arith)
-full_later (v ∷ vs) (w ∷ ws) (b, (suc k, below, is), h) g =
-    full_behind w ws (full_later vs ws (b, (k, omega arith, is), h) g.1)
-
-risen_later : (n : ℕ) (us vs ws : List Account) → HaveRisen n us vs → AllZip Grew vs ws
-    → HaveRisen n us ws
-risen_later n us vs ws h g =
-    ⊎_elim (λ (r : sum_by (λ a. a.losses) us + n ≤ sum_by (λ b. b.losses) vs).
-    let more = losses_rise vs ws g in inl (omega arith))
-    (λ (f : Full vs). inr (full_later vs ws f g)) h
-
 risen_before : (n : ℕ) (us vs ws : List Account) → AllZip Grew us vs → HaveRisen n vs ws
     → HaveRisen n us ws
 risen_before n us vs ws g h =

@@ -38,9 +38,6 @@ passes_fit es (Flat n) f = tt
 passes_fit es (Class keys gs cs) f = f.collections
 
 -- ---- the results of a stage are objects where the collections are
-no_object_of : List Entry → List Place → Type 0
-no_object_of es cs = Each (λ c. is_object_at es c ≡ false) cs
-
 -- whether the operation gives objects
 abbrev gives_objects : List Entry → Operation → Bool
 gives_objects es (Flat n) = is_object (node_at es n)

@@ -72,19 +72,6 @@ files_made script table bags files all are =
     (recursion_from_All (λ (entry : NamedOutput). Holds script table bags entry.1) script.outputs
     all) are
 
--- the shelf failed at the file of this name
-pub failed_at : (files : List NamedBytes) (place : ℕ) (name : List ℕ) (before after : SeenShelf)
-    → option_map (λ (file : NamedBytes). file.name) (slice_get files place) ≡ Some name
-    → FailsAt place files before after → FailsAtFile name files before after
-failed_at files place name before after named fails = by (slice_get files place) refl named
-  where
-    by : (found : Option NamedBytes) → slice_get files place ≡ found
-        → option_map (λ (file : NamedBytes). file.name) found ≡ Some name
-        → FailsAtFile name files before after
-    by None is e = absurd (cc)
-    by (Some file) is e =
-        let same : file.name ≡ name = cc in (place, file, is, same, fails)
-
 -- ---- one output
 
 -- what is under a number
@@ -96,23 +83,6 @@ under : {B : Type 0} (f : NamedOutput → B) (outputs : List NamedOutput) (numbe
     → f output ≡ x
 under f outputs number x output found is =
     same_some (option_map f (slice_get outputs number)) (f output) x (ap (option_map f) found) is
-
-pub file_of_output : (outputs : List NamedOutput) (number : ℕ) (own : Output)
-    (name text : List ℕ) (members : List Value) (file : NamedBytes)
-    → Under (λ (entry : NamedOutput). entry.1) outputs number own
-    → Under (λ (entry : NamedOutput). entry.0) outputs number name
-    → text ≡ table_text own.columns members → file ≡ record { name = name; bytes = text }
-    → (output : NamedOutput) → slice_get outputs number ≡ Some output
-    → file ≡ file_with output members
-file_of_output outputs number own name text members file owns named shown is output found =
-    let second : output.1 ≡ own
-    = under (λ (entry : NamedOutput). entry.1) outputs number own output found owns in
-    let first : output.0 ≡ name
-    = under (λ (entry : NamedOutput). entry.0) outputs number name output found named in
-    is ∙ (λ i. record {
-      name = sym first i;
-      bytes = (shown ∙ ap (λ (o : Output). table_text o.columns members) (sym second)) i;
-    })
 
 -- an output that reads these members has their file
 pub file_of_bag : (bags : Bags) (outputs : List NamedOutput) (number : ℕ) (own : Output)

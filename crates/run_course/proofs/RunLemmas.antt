@@ -88,15 +88,6 @@ next_file outputs members number own file done all whole within found is longer 
     (ap (λ l. l ++ behind) longer ∙ (append_assoc done (file ∷ []) behind
     ∙ (ap (λ l. done ++ l) (sym rest) ∙ so_far)))
 
-pub all_files : (outputs : List NamedOutput) (members : List (List Value)) (number : ℕ)
-    (all whole : List NamedBytes) → length outputs ≤ number
-    → all ++ files_with (drop number outputs) (drop number members) ≡ whole → all ≡ whole
-all_files outputs members number all whole end so_far =
-    let none : files_with (drop number outputs) (drop number members) ≡ []
-    = ap (λ (l : List NamedOutput). files_with l (drop number members))
-    (drop_all number outputs end) in
-    sym (append-nil all) ∙ (ap (λ l. all ++ l) (sym none) ∙ so_far)
-
 -- ---- what it comes to
 
 pub both_ok : {A E : Type 0} (r : Result A E) (P Q R : A → Type 0) → IfOk r P → IfOk r Q

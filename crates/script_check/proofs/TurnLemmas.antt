@@ -11,16 +11,6 @@ use Rattle.script_check.specs.Repeats.{turn_nodes, turn_to}
 
 -- ---- collections more
 
-pub copies-none : (s : State) → with_copies [] s ≡ s
-copies-none s = λ i. record {
-  types = s.types;
-  functions = s.functions;
-  nodes = append-nil s.nodes i;
-  names = s.names;
-  outputs = s.outputs;
-  statements = s.statements;
-}
-
 pub copies-more : (nodes more : Named Node) (s : State)
     → with_copies more (with_copies nodes s) ≡ with_copies (nodes ++ more) s
 copies-more nodes more s = λ i. record {

@@ -91,13 +91,6 @@ more_asked tries script number before middle after within asked asks =
           (asks_both tries (file_names asked.0) (file_names own) before middle after asked.2 asks),
     )
 
-pub all_asked : (tries : ℕ) (script : Script) (before after : SeenAsks)
-    → HasAsked tries script (length script.nodes) before after
-    → Asks tries (file_names (inputs_of script)) before after
-all_asked tries script before after asked =
-    subst (λ (l : List Wanted). Asks tries (file_names l) before after)
-    (sym (all_done script asked.0 asked.1)) asked.2
-
 pub front_asked : (tries : ℕ) (script : Script) (number : ℕ) (before after : SeenAsks)
     → HasAsked tries script number before after
     → AsksFront tries (file_names (inputs_of script)) before after

@@ -18,12 +18,6 @@ use Rattle.script_loading.specs.Ready.{IsReady}
 use Rattle.script_loading.specs.inner.Reading.{IsScriptFault}
 use Rattle.script_loading.proofs.NameLemmas.{script_named}
 
--- a fault of the parser is one of the script
-pub parse_fault : (bytes : List ℕ) (why : ScriptFault) → IsRefusal bytes why
-    → IsScriptFault bytes why
-parse_fault bytes (script_fault.Refused line kind) refuses = inl refuses
-parse_fault bytes script_fault.Memory refuses = tt
-
 -- an accepted script is well formed
 pub checked_well : {X : Type 0} (view : X → Script) (ast : Ast) (r : Result X ScriptFault)
     → Checks view r (script_of ast.statements) → IfOk r (λ x. IsWellFormed (view x))

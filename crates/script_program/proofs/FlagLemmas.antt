@@ -129,17 +129,6 @@ each-step f flags xs i x is are =
 
 -- ---- what collections are made from
 
-pub read-through : (flags : List Bool) (numbers more : List ℕ) (b : Bool) → b ≡ true
-    → AreFlags (more ++ numbers) flags
-    → AreFlags (if b then more ++ numbers else numbers) flags
-read-through flags numbers more true e are = are
-read-through flags numbers more false e are = cc
-
-pub not-through : (flags : List Bool) (numbers more : List ℕ) (b : Bool) → b ≡ false
-    → AreFlags numbers flags → AreFlags (if b then more ++ numbers else numbers) flags
-not-through flags numbers more true e are = cc
-not-through flags numbers more false e are = are
-
 pub read-next : {A : Type 0} (f : A → Made) (numbers : List ℕ) (xs : List A) (k next : ℕ) (x : A)
     → suc k ≡ next → k < length xs → x ≡ get_or xs k x
     → read_from numbers k (map f (drop k xs))

@@ -74,15 +74,6 @@ number-below script k below =
     let low = number-from kinds 0 (input_count kinds) k (omega arith) below in
     omega (arith, all, low)
 
--- without kept ones each source has the number of its place
-pub plain-number : (kinds : List Bool) (i s k : ℕ) → kept_count kinds ≡ 0 → k < length kinds
-    → get_or (numbers_from i s kinds) k 0 ≡ i + k
-plain-number [] i s k none below = absurd (omega arith)
-plain-number (false ∷ kinds) i s zero none below = omega arith
-plain-number (false ∷ kinds) i s (suc k) none below =
-    let rest = plain-number kinds (suc i) s k none (omega (arith, below)) in omega (arith, rest)
-plain-number (true ∷ kinds) i s k none below = cc
-
 -- ---- as many lists as sources
 
 turn-long : {X : Type 0} (kinds : List Bool) (rows kept : List X)

@@ -34,9 +34,6 @@ act_stops tries drill w traps us (fault.Trap trap) first =
 act_stops tries drill w traps us (fault.GaveUp stage phase task) h = absurd h
 act_stops tries drill w traps us fault.Memory h = asked_none tries drill [] us
 
-pub memory_stops : (traps : List Trap) (e : RunFault) → e ≡ fault.Memory → IsActFault traps e
-memory_stops traps e is = subst (IsActFault traps) (sym is) tt
-
 -- ---- the values of objects, one after another
 
 pub values_begin : (o : Option (List Value)) → then_values [] o ≡ o

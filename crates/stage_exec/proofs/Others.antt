@@ -28,14 +28,6 @@ get_set_same (y ∷ ys) (suc k) x h = get_set_same ys k x (omega arith)
 
 -- ---- rows that are taken away
 
--- the others are as they were
-pub rows_kept : (sources : List (List Value)) (number : ℕ) (rows : List Value)
-    (results : List (List (List Value))) (q : PlanPlace) → is_same q (at.Source number) ≡ false
-    → table (slice_set sources number rows) results q ≡ table sources results q
-rows_kept sources number rows results (at.Source n) other =
-    ap or_none (get_set_other sources number n rows (λ same. grind (arith, other, same)))
-rows_kept sources number rows results (at.Result k n) other = refl
-
 none_typed : (type : Ty) (rows : List Value) → rows ≡ [] → AllHave type rows
 none_typed type rows none =
     subst (AllHave type) (sym none) (λ k d within. absurd (omega (arith, within)))

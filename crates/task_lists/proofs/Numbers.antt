@@ -89,13 +89,3 @@ reduces_numbered {Y} f w n t s some =
     (λ g. f g (option_map_or (λ d. reduce_task w n t s.inputs d p) o no_task)) o [] in
     sym (joined_two (λ r p. at (slice_get gs r) p) (length gs) n.partitions some
     ∙ joined_places (λ o. joined (at o) n.partitions) gs)
-
--- a reduce task stands beside no object
-pub reduce_world : (w : World) (n : Split) (t : Lists) (s : Mscr) (k : ℕ)
-    → world_for w (reduce_task_at w n t s k) ≡ w
-reduce_world w n t s k = by (grouping_at n s k)
-  where
-    by : (o : Option Grouping) → world_for w
-        (option_map_or (λ g. reduce_task w n t s.inputs g (k % n.partitions)) o no_task) ≡ w
-    by None = refl
-    by (Some g) = refl

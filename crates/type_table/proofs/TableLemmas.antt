@@ -130,15 +130,6 @@ pub types_of-push : (entries : List (Shape × ℕ)) (entry : Shape × ℕ)
     → types_of (entries ++ entry ∷ []) ≡ types_of entries ++ tree_of (types_of entries) entry.0 ∷ []
 types_of-push = types_from-push []
 
-pub IsTable-none : IsTable []
-IsTable-none = record {
-  as_many = refl;
-  levels = λ id in_. absurd (omega arith);
-  within = λ id in_. absurd (omega arith);
-  apart = λ id other in_ other_in e. absurd (omega arith);
-  depths = λ id in_. absurd (omega arith);
-}
-
 -- what holds of each number of a longer table: of the earlier ones, and of the new one
 below-or-new : (n : ℕ) (P : ℕ → Type 0) → ((id : ℕ) → id < n → P id) → P n → (id : ℕ) → id < n + 1
     → P id
