@@ -11,7 +11,7 @@ use Rattle.expression_check.specs.of_written_types.Answer.{Checked, ◌>>=◌}
 use Rattle.expression_check.specs.of_expression_types.Sight.{Sight}
 use Rattle.expression_check.specs.Given.{Thing, Environment}
 use Rattle.expression_check.specs.Right.{types, bound}
-use Rattle.body_check.specs.Call.{State, state, Emits}
+use Rattle.body_check.specs.Call.{NameState, state, Emits}
 use Rattle.body_check.specs.inner.Slots.{Placed, InBlock}
 use Rattle.body_check.proofs.GoesLemmas.{named, named_then, emitted_named}
 
@@ -19,7 +19,7 @@ abbrev pub Giving : Type 0
 Giving = Environment → Outcome Thing
 
 abbrev pub Doing : Type 0
-Doing = State → Outcome State
+Doing = NameState → Outcome NameState
 
 -- the statement's slots are well typed in front of others, and do what it does
 abbrev pub IsPlaced : List Ty → Sight → Checked Placed → Checked Sight → Doing → Type 0

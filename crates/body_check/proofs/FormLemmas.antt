@@ -15,7 +15,7 @@ use Rattle.expression_check.specs.of_expression_types.Types.{is_bool}
 use Rattle.expression_check.specs.Types.{type_of}
 use Rattle.expression_check.specs.Given.{valued, given_in}
 use Rattle.body_check.specs.Bodies.{after_all, layer_after, after as sight_after}
-use Rattle.body_check.specs.Call.{State, state, run_all, block, for_each, by_side, after}
+use Rattle.body_check.specs.Call.{NameState, state, run_all, block, for_each, by_side, after}
 use Rattle.body_check.specs.Call.{layer_emitted, emitted_in}
 
 after_mapped : {X : Type 0} (f : X → Sight → Checked Sight) (xs : List X) (s : Sight)
@@ -23,18 +23,18 @@ after_mapped : {X : Type 0} (f : X → Sight → Checked Sight) (xs : List X) (s
 after_mapped f [] s = refl
 after_mapped f (x ∷ xs) s = bind-same (f x s) _ _ (λ next. after_mapped f xs next)
 
-all_mapped : {X : Type 0} (f : X → State → Outcome State) (xs : List X) (s : State)
+all_mapped : {X : Type 0} (f : X → NameState → Outcome NameState) (xs : List X) (s : NameState)
     → run_all (λ m. m) (map f xs) s ≡ run_all f xs s
 all_mapped f [] s = refl
 all_mapped f (x ∷ xs) s = then_same (f x s) _ _ (λ t. all_mapped f xs t)
 
-block_mapped : {X : Type 0} (f : X → State → Outcome State) (xs : List X)
+block_mapped : {X : Type 0} (f : X → NameState → Outcome NameState) (xs : List X)
     → block (λ m. m) (map f xs) ≡ block f xs
 block_mapped f xs = λ i env out. then (all_mapped f xs (state env out) i) (λ s. Gives s.out)
 
 module _ (known : Named Ty) where
-  body_mapped : (f : Body → State → Outcome State) (x : Body-F Body) (s : State)
-      → layer_emitted known (λ m. m) (map-Body Body (State → Outcome State) f x) s
+  body_mapped : (f : Body → NameState → Outcome NameState) (x : Body-F Body) (s : NameState)
+      → layer_emitted known (λ m. m) (map-Body Body (NameState → Outcome NameState) f x) s
       ≡ layer_emitted known f x s
   body_mapped f (Body-F.Let line name e) s = refl
   body_mapped f (Body-F.Emit line to e) s = refl
@@ -48,10 +48,10 @@ module _ (known : Named Ty) where
       λ i. after s.env (then (given_in line known e s.env)
       (λ x. by_side (block_mapped f a i) left (block_mapped f b i) right x s.env s.out))
 
-  pub emitted_in-step : (b : Body) (s : State)
+  pub emitted_in-step : (b : Body) (s : NameState)
       → emitted_in known b s ≡ layer_emitted known (emitted_in known) (out-Body b) s
   emitted_in-step b s =
-      ap (λ f. f s) (fold_out-Body (State → Outcome State) (layer_emitted known (λ m. m)) b)
+      ap (λ f. f s) (fold_out-Body (NameState → Outcome NameState) (layer_emitted known (λ m. m)) b)
       ∙ body_mapped (emitted_in known) (out-Body b) s
 
 module _ (gives : List Ty) where

@@ -11,14 +11,14 @@ use Rattle.expression_check.specs.of_expression_types.Sight.{Newest}
 use Rattle.expression_check.specs.of_expression_types.Fields.{member_type, side_types}
 use Rattle.expression_check.specs.Given.{tagged, valued}
 use Rattle.expression_check.specs.Right.{bound}
-use Rattle.body_check.specs.Call.{State, state, Emits, each, for_each, side, by_side, after}
+use Rattle.body_check.specs.Call.{NameState, state, Emits, each, for_each, side, by_side, after}
 
 -- the names in sight stand for the values in scope
-abbrev pub named : Newest Ty → Outcome slots.State → Outcome State
+abbrev pub named : Newest Ty → Outcome slots.SlotState → Outcome NameState
 named names o = then o (λ s. Gives (state (bound names s.env) s.out))
 
-pub named_then : (names next : Newest Ty) (o : Outcome slots.State) (f : State → Outcome State)
-    (g : slots.State → Outcome slots.State)
+pub named_then : (names next : Newest Ty) (o : Outcome slots.SlotState) (f : NameState → Outcome NameState)
+    (g : slots.SlotState → Outcome slots.SlotState)
     → ((vs : List Value) (out : Emissions)
     → f (state (bound names vs) out) ≡ named next (g (slots.state vs out)))
     → then (named names o) f ≡ named next (then o g)
@@ -26,7 +26,7 @@ named_then names next (Gives s) f g h = h s.env s.out
 named_then names next (Traps k) f g h = refl
 named_then names next Stuck f g h = refl
 
-pub emitted_named : (names : Newest Ty) (o : Outcome slots.State)
+pub emitted_named : (names : Newest Ty) (o : Outcome slots.SlotState)
     → then (named names o) (λ s. Gives s.out) ≡ slots.emitted o
 emitted_named names (Gives s) = refl
 emitted_named names (Traps k) = refl

@@ -15,15 +15,15 @@ use Rattle.body_check.specs.Outputs.{output_of}
 
 -- what a statement finds and leaves: what names stand for, the newest first, and what was emitted
 -- to each output
-pub record State : Type 0 where
+pub record NameState : Type 0 where
   pub env : Environment
   pub out : Emissions
 
-abbrev pub state : Environment → Emissions → State
+abbrev pub state : Environment → Emissions → NameState
 state env out = record { env = env; out = out }
 
 -- statements one after another
-abbrev pub run_all : {X : Type 0} → (X → State → Outcome State) → List X → State → Outcome State
+abbrev pub run_all : {X : Type 0} → (X → NameState → Outcome NameState) → List X → NameState → Outcome NameState
 run_all f [] s = Gives s
 run_all f (x ∷ xs) s = then (f x s) (run_all f xs)
 
@@ -32,7 +32,7 @@ abbrev pub Emits : Type 0
 Emits = Environment → Emissions → Outcome Emissions
 
 -- what a block names ends with it
-abbrev pub block : {X : Type 0} → (X → State → Outcome State) → List X → Emits
+abbrev pub block : {X : Type 0} → (X → NameState → Outcome NameState) → List X → Emits
 block f xs env out = then (run_all f xs (state env out)) (λ s. Gives s.out)
 
 -- a block for each member in order, which the name stands for
@@ -64,14 +64,14 @@ abbrev pub emitted_by : Option (List ℕ) → Value → Emissions → Outcome Em
 emitted_by to x out = with_part (output_of (length out) to) (λ output. emitted_to output x out)
 
 -- goes on with the names from before
-abbrev pub after : Environment → Outcome Emissions → Outcome State
+abbrev pub after : Environment → Outcome Emissions → Outcome NameState
 after env o = then o (λ out. Gives (state env out))
 
 -- names of types stand for these
 module _ (known : Named Ty) where
   -- what each form of statement emits, where f says what the statements of its blocks emit
-  abbrev pub layer_emitted : {X : Type 0} → (X → State → Outcome State) →
-      Body-F X → State → Outcome State
+  abbrev pub layer_emitted : {X : Type 0} → (X → NameState → Outcome NameState) →
+      Body-F X → NameState → Outcome NameState
   layer_emitted f (Body-F.Let line name e) s =
       then (given_in line known e s.env) (λ x. Gives (state ((name, x) ∷ s.env) s.out))
   layer_emitted f (Body-F.Emit line to e) s =
@@ -88,8 +88,8 @@ module _ (known : Named Ty) where
       (then (given_in line known e s.env)
       (λ x. by_side (block f a) left (block f b) right x s.env s.out))
 
-  abbrev pub emitted_in : Body → State → Outcome State
-  emitted_in = fold-Body (State → Outcome State) (layer_emitted (λ m. m))
+  abbrev pub emitted_in : Body → NameState → Outcome NameState
+  emitted_in = fold-Body (NameState → Outcome NameState) (layer_emitted (λ m. m))
 
   -- the meaning of a call: the emissions of the body, one list for each of so many outputs, with
   -- the argument, of its type, under its name

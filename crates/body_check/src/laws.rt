@@ -8,7 +8,7 @@ ghost use Rattle.dofn_eval.specs.Answer.{HasAnswer};
 ghost use Rattle.expression_check.specs.of_written_types.Named.{Named};
 ghost use Rattle.expression_check.specs.of_expression_types.Sight.{Sight};
 ghost use Rattle.body_check.specs.Bodies.{layer_after, after, body_of};
-ghost use Rattle.body_check.specs.Call.{State, layer_emitted, emitted_in, means};
+ghost use Rattle.body_check.specs.Call.{NameState, layer_emitted, emitted_in, means};
 
 /// A call of a function whose body keeps the rules, on a value of its argument's type, has an
 /// answer: what it emits to each output, of that output's type, or its trap.
@@ -23,6 +23,6 @@ pub fn call_law()
 pub fn statement_law()
     ensures rules { (gives : List Ty_) (b : Body_) (s : Sight) →
         after gives b s ≡ layer_after gives (after gives) (out-Body b) s }
-    ensures meaning { (known : Named Ty_) (b : Body_) (s : State) →
+    ensures meaning { (known : Named Ty_) (b : Body_) (s : NameState) →
         emitted_in known b s ≡ layer_emitted known (emitted_in known) (out-Body b) s }
 {}

@@ -18,7 +18,7 @@ use Rattle.graph_build.specs.Calls.{names_needed, other_names}
 use Rattle.graph_build.specs.Graphs.{nodes_of}
 use Rattle.graph_build.specs.Nodes.{before_last}
 use Rattle.graph_build.specs.Wanted.{wanted}
-use Rattle.build_law.specs.Worlds.{world_of}
+use Rattle.build_law.specs.Worlds.{script_world}
 use Rattle.build_law.proofs.Assigning.{AllFrom, all_from, at_of, settled_at}
 use Rattle.build_law.proofs.Blocks.{each_block}
 use Rattle.build_law.proofs.Calling.{built_wanted}
@@ -37,7 +37,7 @@ use Rattle.build_law.proofs.Values.{inner_length, inner_of, inner_rows}
 module _ (script : Script) (inputs : List (List Value)) (made_ : List (Option Collection)) where
   -- what each node gives
   abbrev pub inner_values : ℕ → Made → List (List Collection)
-  inner_values = inner_rows (world_of script inputs) (at_of made_)
+  inner_values = inner_rows (script_world script inputs) (at_of made_)
 
   abbrev pub assigned : Place → Collection
   assigned c = told script nothing (at_of made_) inner_values c
@@ -46,8 +46,8 @@ module _ (script : Script) (inputs : List (List Value)) (made_ : List (Option Co
       → get_or (built script) t None ≡ Some (built_of number mk)
       → length (inner_values number mk) ≡ before_last mk
   inner_sized t number mk found =
-      length-map (inner_of (world_of script inputs) (at_of made_) number mk) (λ c. c ∷ [])
-      ∙ inner_length (world_of script inputs) (at_of made_) number mk
+      length-map (inner_of (script_world script inputs) (at_of made_) number mk) (λ c. c ∷ [])
+      ∙ inner_length (script_world script inputs) (at_of made_) number mk
 
   module _ (well : IsWellFormed script) (means : meaning script inputs ≡ Some made_) where
     pub matches : Matches made_ (wanted script)
@@ -83,14 +83,14 @@ module _ (script : Script) (inputs : List (List Value)) (made_ : List (Option Co
 
     -- what is needed meets its equation, and what it reads is given
     pub made_here : (j : ℕ) (how : Made) → get_or (wanted script) j None ≡ Some how
-        → IsMadeBy script (world_of script inputs) (at_of made_) j
+        → IsMadeBy script (script_world script inputs) (at_of made_) j
         (wanted_source 0 (wanted script) j) how
         × AllByRecursion (λ i. assigned (gives script i) ≡ at_of made_ i) (operands how)
     made_here j how found =
         let is =
-        made_of_place script (world_of script inputs) (at_of made_) assigned (gives script) 0 0
+        made_of_place script (script_world script inputs) (at_of made_) assigned (gives script) 0 0
         (wanted script) j how all_here.all_made found in (
-          subst (λ o. IsMadeBy script (world_of script inputs) (at_of made_) o
+          subst (λ o. IsMadeBy script (script_world script inputs) (at_of made_) o
               (wanted_source 0 (wanted script) j) how) (zero-add j) is.0,
           is.1,
         )
@@ -100,17 +100,17 @@ module _ (script : Script) (inputs : List (List Value)) (made_ : List (Option Co
     -- what the nodes of a collection that is built at a place are built by
     record IsFed (t number : ℕ) (mk : Made) : Type 0 where
       pub by :
-          IsBuiltBy script (world_of script inputs) (at_of made_) number (source script t) mk
+          IsBuiltBy script (script_world script inputs) (at_of made_) number (source script t) mk
       pub reads : AllByRecursion (λ i. assigned (gives script i) ≡ at_of made_ i) (operands mk)
 
     name_is : (first input f i : ℕ)
         → get_or (wanted script) (first + i) None ≡ Some (made.Do input f i)
         → at_of made_ (first + i)
-        ≡ through (world_of script inputs) (call_label first f i) (at_of made_ input)
+        ≡ through (script_world script inputs) (call_label first f i) (at_of made_ input)
     name_is first input f i found =
         let e : (first + i) - i ≡ first = omega arith in
         (made_here (first + i) (made.Do input f i) found).0
-        ∙ ap (λ o. through (world_of script inputs) (call_label o f i) (at_of made_ input)) e
+        ∙ ap (λ o. through (script_world script inputs) (call_label o f i) (at_of made_ input)) e
 
     call_fed : (t number input f o : ℕ)
         → get_or (built script) t None ≡ Some (built_of number (made.Do input f o))
@@ -119,17 +119,17 @@ module _ (script : Script) (inputs : List (List Value)) (made_ : List (Option Co
         let it = of_call script well t number input f o found in
         record {
           by = subst (λ first. EachName (λ name k needed. needed ≡ true → at_of made_ name
-              ≡ through (world_of script inputs) (call_label first f k) (at_of made_ input))
+              ≡ through (script_world script inputs) (call_label first f k) (at_of made_ input))
               first 0 (names_needed script first f)) (sym it.from)
               (each_name script
               (λ name k needed. needed ≡ true
               → at_of made_ name
-              ≡ through (world_of script inputs) (call_label it.first f k) (at_of made_ input))
+              ≡ through (script_world script inputs) (call_label it.first f k) (at_of made_ input))
               it.first 0 (suc (other_names script f))
               (λ i below needed.
               name_is it.first input f i
               (emits script well it.first input f it.call (it.first + i) i below refl needed)
-              ∙ ap (λ k. through (world_of script inputs) (call_label it.first f k)
+              ∙ ap (λ k. through (script_world script inputs) (call_label it.first f k)
               (at_of made_ input)) (sym (zero-add i))));
           reads =
               (made_here number (made.Do input f o)
@@ -137,8 +137,8 @@ module _ (script : Script) (inputs : List (List Value)) (made_ : List (Option Co
         }
 
     other_by : (number source : ℕ) (how : Made) → IsOther how
-        → IsMadeBy script (world_of script inputs) (at_of made_) number source how
-        → IsBuiltBy script (world_of script inputs) (at_of made_) number source how
+        → IsMadeBy script (script_world script inputs) (at_of made_) number source how
+        → IsBuiltBy script (script_world script inputs) (at_of made_) number source how
     other_by number source (made.Input file columns) apart h = h
     other_by number source (made.Do input f o) apart h = absurd apart
     other_by number source (made.Group input) apart h = h
@@ -159,18 +159,18 @@ module _ (script : Script) (inputs : List (List Value)) (made_ : List (Option Co
         let is = made_here number how (built_wanted script t number how found) in
         record {
           by = other_by number (source script t) how apart
-              (subst (λ s. IsMadeBy script (world_of script inputs) (at_of made_) number s how)
+              (subst (λ s. IsMadeBy script (script_world script inputs) (at_of made_) number s how)
               (sym (same_sources script well t number how apart found)) is.0);
           reads = is.1;
         }
 
-    pub meets : Meets (world_of script inputs) (nodes_of script) assigned
+    pub meets : Meets (script_world script inputs) (nodes_of script) assigned
     meets =
         each_block script (gives script)
-        (λ e. Holds (world_of script inputs) assigned e.number e.node) 0 0 (built script)
+        (λ e. Holds (script_world script inputs) assigned e.number e.node) 0 0 (built script)
         (λ t b found.
         let it = fed t b.number (kind_of b.made) found in
         let rows =
         row_told script nothing (at_of made_) inner_values inner_sized t b.number b.made found in
-        block_holds script (world_of script inputs) (at_of made_) assigned (gives script)
+        block_holds script (script_world script inputs) (at_of made_) assigned (gives script)
         all_settled b.number (source script t) (start script t) rows.0 b.made rows.1 it.reads it.by)

@@ -13,9 +13,9 @@ use Rattle.graph_build.specs.of_script_program.declared.made.Made.{Made}
 use Rattle.graph_build.specs.of_script_program.declared.made.Made.TheVariants as made
 use Rattle.graph_build.specs.of_script_program.Script.{Node, Script}
 use Rattle.direct_meaning.specs.Direct.{collections, inputs_behind, made_as, made_at}
-use Rattle.graph_build.specs.Nodes.{inputs_of, source_number}
+use Rattle.graph_build.specs.Nodes.{sources_made, source_number}
 use Rattle.graph_build.specs.Wanted.{wanted_from}
-use Rattle.build_law.specs.Worlds.{world_of}
+use Rattle.build_law.specs.Worlds.{script_world}
 use Rattle.build_law.proofs.Made.{is_made}
 use Rattle.build_law.proofs.Meeting.{AllMade, IsSettled}
 use Rattle.build_law.proofs.Tables.{and_then_some, continues, made_before, made_next, one_longer}
@@ -57,7 +57,7 @@ one_dropped (suc n) (x ∷ xs) = one_dropped n xs
 rows_behind : (script : Script) (all : List (List Value)) (n source : ℕ) (mk : Made)
     (rem : List (List Value)) (table : List (Option Collection)) (c : Collection)
     → rem ≡ drop source all → made_as script n mk rem table ≡ Some c
-    → inputs_behind mk rem ≡ drop (source + inputs_of mk) all
+    → inputs_behind mk rem ≡ drop (source + sources_made mk) all
 rows_behind script all n source (made.Input file columns) [] table c ahead h = cc
 rows_behind script all n source (made.Input file columns) (rows ∷ rem) table c ahead h =
     ap (drop 1) ahead ∙ rw add-one (one_dropped source all)
@@ -91,7 +91,7 @@ module _ (script : Script) (lists all : List (List Value))
   where
     pub record AllFrom (nodes : Named Node) (n source : ℕ) : Type 0 where
       pub all_made :
-          AllMade script (world_of script lists) (at_of made) m gives n source
+          AllMade script (script_world script lists) (at_of made) m gives n source
           (wanted_from script n nodes)
       pub settled : SettledIn made
 
@@ -127,10 +127,10 @@ module _ (script : Script) (lists all : List (List Value))
         let one = is_made script lists all given (at_of made) table
         (λ j d h. ap or_nothing (front j d h)) (settled_at table st) n source c here mk rem ahead
         made_c in
-        let others = behind (inputs_behind mk rem) (table ++ Some c ∷ []) (source + inputs_of mk)
+        let others = behind (inputs_behind mk rem) (table ++ Some c ∷ []) (source + sources_made mk)
         (rows_behind script all n source mk rem table c ahead made_c)
         (settled_more table c st one.settled) rest in
-        let w : World = world_of script lists in
+        let w : World = script_world script lists in
         record {
           all_made =
               subst
@@ -143,7 +143,7 @@ module _ (script : Script) (lists all : List (List Value))
                       (λ j. m (gives j) ≡ at_of made j) (λ j d. stands j d.0 (front j d.0 d.1))
                       (operands mk) one.read,
                 ),
-                subst (λ k. AllMade script w (at_of made) m gives k (source + inputs_of mk)
+                subst (λ k. AllMade script w (at_of made) m gives k (source + sources_made mk)
                     (wanted_from script k nodes)) (one_longer table (Some c)) others.all_made,
               );
           settled = others.settled;
@@ -157,7 +157,7 @@ module _ (script : Script) (lists all : List (List Value))
     next_without entry nodes rem table source needless ahead st rest behind =
         let n : ℕ = length table in
         let others = behind rem (table ++ None ∷ []) source ahead (settled_without table st) rest in
-        let w : World = world_of script lists in
+        let w : World = script_world script lists in
         record {
           all_made =
               subst

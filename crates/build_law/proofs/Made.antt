@@ -20,7 +20,7 @@ use Rattle.direct_meaning.specs.Direct.{all_made, called_by, combined_by, counte
 use Rattle.direct_meaning.specs.Objects.{combined_whole, done_beside, operated_by}
 use Rattle.graph_build.specs.of_script_program.Needed.{operands}
 use Rattle.graph_build.specs.Nodes.{source_number}
-use Rattle.build_law.specs.Worlds.{answered_by, or_silent, world_of}
+use Rattle.build_law.specs.Worlds.{answered_by, or_silent, script_world}
 use Rattle.build_law.proofs.Meeting.{IsMadeBy, IsSettled}
 use Rattle.build_law.proofs.Operating.{beside_is, operate_is, passed_is}
 use Rattle.build_law.proofs.Passing.{call_label}
@@ -86,7 +86,7 @@ module _ (script : Script) (lists all : List (List Value))
     (settled : (j : ℕ) (c : Collection) → made_at table j ≡ Some c → IsSettled c)
     (n source : ℕ) (c : Collection) (here : at n ≡ c) where
   abbrev Is : Made → Type 0
-  Is mk = IsMade script (world_of script lists) at table n source mk c
+  Is mk = IsMade script (script_world script lists) at table n source mk c
 
   rows_here : (rows : List Value) (rest : List (List Value)) → rows ∷ rest ≡ drop source all
       → get_or lists (source_number script source) [] ≡ rows
@@ -108,7 +108,7 @@ module _ (script : Script) (lists all : List (List Value))
       let (calls, called_calls, is) =
       map_some (called_by (n - output) output d.traps) (calls_on (answer_of function) d.bag) c
       done_d in
-      let w : World = world_of script lists in
+      let w : World = script_world script lists in
       record {
         is = here ∙ sym is
             ∙ call_is w (n - output) f output (answer_of function) d calls
@@ -197,7 +197,7 @@ module _ (script : Script) (lists all : List (List Value))
       (function_at script.functions f) ≡ Some c
       → Is (made.Operate objects f)
   by_operating objects f h =
-      let w : World = world_of script lists in
+      let w : World = script_world script lists in
       let (function, calls_it, done) =
       and_then_some (λ function. operated_at n function objects table)
       (function_at script.functions f) c h in
@@ -216,7 +216,7 @@ module _ (script : Script) (lists all : List (List Value))
       (function_at script.functions f) ≡ Some c
       → Is (made.DoWith input f object)
   by_beside input f object h =
-      let w : World = world_of script lists in
+      let w : World = script_world script lists in
       let (function, calls_it, done) =
       and_then_some (λ function. done_beside_at n function input object table)
       (function_at script.functions f) c h in

@@ -28,7 +28,7 @@ use Rattle.graph_build.specs.Nodes.{before_last, first_of, made_nodes}
 use Rattle.graph_build.specs.Wanted.{wanted}
 use Rattle.build_law.specs.Limits.{HasShortFlattens}
 use Rattle.build_law.specs.Means.{HasOwn, IsMeaning}
-use Rattle.build_law.specs.Worlds.{world_of}
+use Rattle.build_law.specs.Worlds.{script_world}
 use Rattle.build_law.proofs.Apart.{apart_alone, apart_called, others_add}
 use Rattle.build_law.proofs.Assembling.{all_settled, assigned, made_here, matches, meets, stands, stands_at}
 use Rattle.build_law.proofs.Assigning.{at_of}
@@ -104,7 +104,7 @@ module _ (script : Script) (inputs : List (List Value)) (made_ : List (Option Co
   at_made j c made_c = ap or_nothing made_c
 
   abbrev w : World
-  w = world_of script inputs
+  w = script_world script inputs
 
   abbrev m : Place → Collection
   m = assigned script inputs made_
@@ -313,13 +313,13 @@ module _ (script : Script) (inputs : List (List Value)) (made_ : List (Option Co
   sound : IsSound (graph_of script)
   sound = IsSound-ok (graph_of script) (is_graph_ok script well short)
 
-  agrees : Agrees (world_of script inputs) (graph_of script) (graph_of script)
-      (assigned script inputs made_) (collection (world_of script inputs) (graph_of script))
+  agrees : Agrees (script_world script inputs) (graph_of script) (graph_of script)
+      (assigned script inputs made_) (collection (script_world script inputs) (graph_of script))
   agrees =
-      Agrees-self (world_of script inputs) (graph_of script) (assigned script inputs made_)
-      (collection (world_of script inputs) (graph_of script)) sound
+      Agrees-self (script_world script inputs) (graph_of script) (assigned script inputs made_)
+      (collection (script_world script inputs) (graph_of script)) sound
       (meets script inputs made_ well means)
-      (collection_meets (world_of script inputs) (graph_of script) sound)
+      (collection_meets (script_world script inputs) (graph_of script) sound)
 
   some_of : (f g : Place → Collection) (cs : List Place) → map f cs ≡ map g cs
       → map (λ c. Some (f c)) cs ≡ map (λ c. Some (g c)) cs
@@ -329,11 +329,11 @@ module _ (script : Script) (inputs : List (List Value)) (made_ : List (Option Co
       let rest : map f cs ≡ map g cs = cc in
       λ i. Some (first i) ∷ some_of f g cs rest i
 
-  pub is_meaning : IsMeaning (world_of script inputs) script made_ (graph_of script)
+  pub is_meaning : IsMeaning (script_world script inputs) script made_ (graph_of script)
   is_meaning = record {
     outputs =
         sym (some_of (assigned script inputs made_)
-        (collection (world_of script inputs) (graph_of script)) (graph_of script).outputs
+        (collection (script_world script inputs) (graph_of script)) (graph_of script).outputs
         agrees.outputs)
         ∙ outputs_made;
     own = λ j how c is has made_c. sym (agrees.own j) ∙ own_made j how c is has made_c;

@@ -11,7 +11,7 @@ use Rattle.graph_build.specs.of_script_program.Script.{Node, Script}
 use Rattle.direct_meaning.specs.of_script_laws.WellFormed.{IsWellFormed, members_at}
 use Rattle.direct_meaning.specs.Inputs.{Sourced, sourced, sourced_by}
 use Rattle.graph_build.specs.Built.{built}
-use Rattle.graph_build.specs.Nodes.{inputs_of, source_number}
+use Rattle.graph_build.specs.Nodes.{sources_made, source_number}
 use Rattle.graph_build.specs.Wanted.{wanted, wanted_from}
 use Rattle.build_law.specs.Signatures.{sources_of}
 use Rattle.build_law.proofs.Blocks.{source_at}
@@ -24,7 +24,7 @@ use Rattle.build_law.proofs.Sourcing.{next_wanted, same_sources, wanted_source}
 use Rattle.build_law.proofs.Values.{regrouped}
 
 -- as many sources as nodes read
-as_many_sources : (how : Made) (t : Ty) → length (sourced_by how t) ≡ inputs_of how
+as_many_sources : (how : Made) (t : Ty) → length (sourced_by how t) ≡ sources_made how
 as_many_sources (made.Input file columns) t = refl
 as_many_sources (made.Do input f output) t = refl
 as_many_sources (made.Group input) t = refl

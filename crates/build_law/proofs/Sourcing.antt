@@ -13,7 +13,7 @@ use Rattle.direct_meaning.proofs.PlaceLemmas.{within}
 use Rattle.graph_build.specs.Built.{Built, built}
 use Rattle.graph_build.specs.Calls.{emitted_as, is_kept, kept_at, kept_from, other_names}
 use Rattle.graph_build.specs.Graphs.{next_source}
-use Rattle.graph_build.specs.Nodes.{inputs_of}
+use Rattle.graph_build.specs.Nodes.{sources_made}
 use Rattle.graph_build.specs.Wanted.{wanted}
 use Rattle.graph_build.proofs.StepLemmas.{found_below}
 use Rattle.build_law.proofs.Blocks.{source_at}
@@ -28,7 +28,7 @@ use Rattle.build_law.proofs.Slots.{IsKeptName, IsSlot, kept_built, kept_slot, no
 -- the number of the next source behind a collection, in order of the script
 abbrev pub next_wanted : ℕ → Option Made → ℕ
 next_wanted source None = source
-next_wanted source (Some how) = source + inputs_of how
+next_wanted source (Some how) = source + sources_made how
 
 abbrev pub wanted_source : ℕ → List (Option Made) → ℕ → ℕ
 wanted_source source [] t = source
@@ -191,7 +191,7 @@ module _ (script : Script) (well : IsWellFormed script) where
             (ap (slice_get (made_of script)) (sym a.place)
             ∙ built_made script (first + k) it.number it.made is) a.none)
         by (inr (inl a)) = absurd (by_place a)
-        by (inr (inr a)) = ap (λ (how : Made). s + inputs_of how) a.made ∙ add-zero s
+        by (inr (inr a)) = ap (λ (how : Made). s + sources_made how) a.made ∙ add-zero s
 
     none_built : (more : ℕ) → length keeps + more ≤ many
         → before_built (first + (length keeps + more)) ≡ before_built first + length keeps

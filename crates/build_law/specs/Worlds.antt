@@ -18,8 +18,8 @@ answered_by (Some function) x = or_silent (answer_of function x)
 
 -- the lists of the needed sources of a script, by their numbers: rows of inputs, and behind them
 -- members of kept collections; and what its functions answer
-abbrev pub world_of : Script → List (List Value) → World
-world_of script inputs = record {
+abbrev pub script_world : Script → List (List Value) → World
+script_world script inputs = record {
   rows = λ r. slice_index_or inputs r [];
   called = λ f x. answered_by (function_at script.functions f) x;
 }

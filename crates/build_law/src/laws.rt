@@ -16,7 +16,7 @@ ghost use Rattle.graph_laws.specs.Single.{HasNarrowSteps, IsUnfused};
 ghost use Rattle.build_law.specs.Limits.{AreShort, HasShortFlattens};
 ghost use Rattle.build_law.specs.Means.{IsMeaning};
 ghost use Rattle.build_law.specs.Signatures.{signatures_of};
-ghost use Rattle.build_law.specs.Worlds.{world_of};
+ghost use Rattle.build_law.specs.Worlds.{script_world};
 
 /// What is read as a script is short: the grammar lets a statement put 256 collections together.
 pub fn short_law()
@@ -46,12 +46,12 @@ pub fn means_law()
         (made : List (Option Collection)) →
         IsWellFormed script → HasShortFlattens script →
         meaning script inputs ≡ Some made →
-        IsMeaning (world_of script inputs) script made (graph_of script) }
+        IsMeaning (script_world script inputs) script made (graph_of script) }
     ensures accepted { (statements : List Statement) (script : Script)
         (inputs : List (List Value)) (made : List (Option Collection)) →
         AreShort statements → script_of statements ≡ Ok script →
         meaning script inputs ≡ Some made →
-        IsMeaning (world_of script inputs) script made (graph_of script) }
+        IsMeaning (script_world script inputs) script made (graph_of script) }
 {}
 
 /// Types fit the graph of a well-formed script: each step takes what it is given, by the types of

@@ -2,7 +2,7 @@
 use Rattle.std.proofs.Common.{ℕ, List, Option, None}
 use Rattle.command_words.specs.declared.words.Command.TheVariants.{Run}
 use Rattle.outside.specs.declared.file.File.{File}
-use Rattle.run_course.specs.Asked.{Reads}
+use Rattle.run_course.specs.Asked.{AskOn}
 use Rattle.run_course.specs.of_script_loading.Accepted.{Accepted}
 use Rattle.script_keys.specs.declared.outline.Outline.{Outline}
 use Rattle.script_program.specs.Script.{Script}
@@ -15,7 +15,7 @@ pub accepted : (bytes : List ℕ) (script : Script) (outlines : List Outline) (t
 accepted bytes script outlines texts it = (it.ast, (it.list, it.cut, it.spelled), it.checked)
 
 pub looked_reads : (words : List (List ℕ)) (told : Option (List File)) (cache later : SeenCache)
-    (it : HasLooked words told cache later) → Reads words told (Run it.settings None) it.script
+    (it : HasLooked words told cache later) → AskOn words told (Run it.settings None) it.script
 looked_reads words told cache later it =
     let loaded = it.of_script.loaded in (
       it.name,

@@ -23,7 +23,7 @@ use Rattle.run_course.specs.declared.stop.Stop.{Stop}
 use Rattle.run_course.specs.declared.stop.Stop.TheVariants.{Refused, Trapped}
 use Rattle.run_course.specs.declared.stop.Trapped.{Trapped as NamedTrap}
 use Rattle.run_course.specs.inner.Course.{IsGivingUp, TrapsAt}
-use Rattle.run_course.specs.of_build_law.Worlds.{world_of}
+use Rattle.run_course.specs.of_build_law.Worlds.{script_world}
 use Rattle.run_course.specs.of_script_loading.Loads.{AllHaveRows}
 use Rattle.run_course.specs.of_script_plans.Plans.{IsScriptPlan}
 use Rattle.run_course.specs.of_script_run.Runs.{AsksSomePhases, IsLostOf, phases_of}
@@ -127,11 +127,11 @@ module _ (words : List (List ℕ)) (before after : Seen (List File)) (olds news 
     running lost.made plan lost.means planned,
     subst
         (λ (l : List (List Value)).
-        IsGivenUp s.tries s.drill (world_of later_here l) (phases_of s later_here l plan)
+        IsGivenUp s.tries s.drill (script_world later_here l) (phases_of s later_here l plan)
         (lent s olds) (lent s news) stage phase task) is.lists
         (subst
         (λ (x : Script).
-        IsGivenUp s.tries s.drill (world_of x given.lists) (phases_of s x given.lists plan)
+        IsGivenUp s.tries s.drill (script_world x given.lists) (phases_of s x given.lists plan)
         (lent s olds) (lent s news) stage phase task) is.program lost.given_up),
   )
 

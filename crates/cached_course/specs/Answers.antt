@@ -2,7 +2,7 @@
 -- are those of the run without a cache.
 use Rattle.std.specs.Prelude.{◌≡◌, ◌⊎◌, ℕ, List, Option, Some, None, drop, length}
 use Rattle.std.specs.List.{AllByRecursion, Contains}
-use Rattle.run_course.specs.of_build_law.Worlds.{world_of}
+use Rattle.run_course.specs.of_build_law.Worlds.{script_world}
 use Rattle.cache_store.specs.declared.entry.CacheEntry.{CacheEntry}
 use Rattle.command_words.specs.declared.words.Command.TheVariants.{Run}
 use Rattle.crew.specs.Hosts.{Account}
@@ -143,7 +143,7 @@ module _ (words : List (List ℕ)) (before after : World) (cache later : SeenCac
     pub meant : IsReused before.source.told it.script (found it) rows table
     pub planned : IsScriptPlan (script_run it) plan
     pub given_up : IsGivenUp it.settings.tries it.settings.drill
-        (world_of (script_run it) (lists_run it rows))
+        (script_world (script_run it) (lists_run it rows))
         (phases_of it.settings (script_run it) (lists_run it rows) plan)
         (lent it.settings before.hosts) (lent it.settings after.hosts) stage phase task
     pub refused : IsRefused (GaveUp stage phase task) before after

@@ -14,7 +14,7 @@ use Rattle.outside.specs.declared.file.File.{File}
 use Rattle.plan_phases.specs.Phases.{with_tasks}
 use Rattle.plan_phases.specs.Told.{CanFinishAll}
 use Rattle.run_course.specs.Answers.{IsInputRefused, IsScriptRefused, IsTooLong}
-use Rattle.run_course.specs.Asked.{Reads}
+use Rattle.run_course.specs.Asked.{AskOn}
 use Rattle.run_course.specs.Asks.{AsksFor}
 use Rattle.run_course.specs.Lent.{lent}
 use Rattle.run_course.specs.Promises.{EndsWith, IsEnded, IsUnlessFailed}
@@ -52,7 +52,7 @@ pub record IsAsMeant (told : Option (List File)) (script : Script) (found : Foun
 pub record CanRun (words : List (List ℕ)) (before after : World) (cache later : SeenCache)
     (s : RunSettings) (script : Script) (rows : List (List Value)) : Type 0 where
   pub told : IsSome before.source.told
-  pub reads : Reads words before.source.told (Run s None) script
+  pub reads : AskOn words before.source.told (Run s None) script
   pub inputs : AllHaveRows before.source.told (inputs_of script) rows
   pub source : RoseBy s.tries before.source.faults after.source.faults → ⊥
   pub shelf : Rose before.shelf.faults after.shelf.faults → ⊥

@@ -7,7 +7,7 @@ use mathlib.Core.Option.{some}
 use lib.ListN.{get_elem?}
 use Rattle.std.specs.Prelude.{sum_by}
 use Rattle.claim_board.specs.Counts.{one_if, times, times_first}
-use Rattle.claim_board.specs.Protocol.{PassState, State, DrewNumber, SawWord, WonTask, LostTask, steps_of, drawn, looked, winning, losing, of_task, IsOpen, IsInOrder, IsGoodPass, IsGood, Event, Draw, Look, Win, Lose, Step}
+use Rattle.claim_board.specs.Protocol.{PassState, BoardState, DrewNumber, SawWord, WonTask, LostTask, steps_of, drawn, looked, winning, losing, of_task, IsOpen, IsInOrder, IsGoodPass, IsGood, Event, Draw, Look, Win, Lose, Step}
 use Rattle.std.proofs.lemmas.List.Elements.{All-push}
 use Rattle.std.proofs.lemmas.List.Sums.{sum_by_push}
 use Rattle.claim_board.proofs.Totals.{total_up, all_set, all_at, all_map, at_test}
@@ -103,7 +103,7 @@ module _ (tasks tries : ℕ) where
         (λ n. omega arith) in omega arith;
   }
 
-  pub draw_good : (s : State) (p : ℕ) (v : PassState) → IsGood tasks tries s → get_elem? s.passes p
+  pub draw_good : (s : BoardState) (p : ℕ) (v : PassState) → IsGood tasks tries s → get_elem? s.passes p
       ≡ some v → v.ended ≡ false
       → IsGood tasks tries record {
         next = s.next + 1;
@@ -141,7 +141,7 @@ module _ (tasks tries : ℕ) where
       }
 
   -- a step that changes neither the draws nor the won ones, nor a word
-  pub still_good : (s : State) (p : ℕ) (v w : PassState) → IsGood tasks tries s
+  pub still_good : (s : BoardState) (p : ℕ) (v w : PassState) → IsGood tasks tries s
       → get_elem? s.passes p ≡ some v → w.draws ≡ v.draws → w.won ≡ v.won
       → IsGoodPass tasks tries s.words w
       → IsInOrder tasks tries record { next = s.next; words = s.words; passes = set s.passes p w }
@@ -162,7 +162,7 @@ module _ (tasks tries : ℕ) where
     order = order;
   }
 
-  pub win_good : (s : State) (p : ℕ) (v : PassState) (d : ℕ) → 0 < tasks → IsGood tasks tries s
+  pub win_good : (s : BoardState) (p : ℕ) (v : PassState) (d : ℕ) → 0 < tasks → IsGood tasks tries s
       → get_elem? s.passes p ≡ some v → IsOpen tasks tries v d → get_or s.words (d % tasks) 0 ≡ 0
       → IsGood tasks tries record {
         next = s.next;
@@ -209,7 +209,7 @@ module _ (tasks tries : ℕ) where
             (empty, refl, refl);
       }
 
-  pub step_keeps : (old new : State) (e : Event) → 0 < tasks → Step tasks tries old e new
+  pub step_keeps : (old new : BoardState) (e : Event) → 0 < tasks → Step tasks tries old e new
       → IsGood tasks tries old → IsGood tasks tries new
   step_keeps old new (Draw p) some_task s h =
       subst (IsGood tasks tries) (sym s.3) (draw_good old p s.0 h s.1 s.2)

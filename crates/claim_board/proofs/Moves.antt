@@ -14,7 +14,7 @@ use Rattle.atomic_table.specs.Table.{step, keeps, stepped, Allows}
 use Rattle.claim_board.specs.declared.size.Size.{Size}
 use Rattle.std.specs.Prelude.{sum_by, All}
 use Rattle.claim_board.specs.Counts.{one_if, times}
-use Rattle.claim_board.specs.Protocol.{PassState, State, steps_of, drawn, looked, winning, losing, of_task, IsOpen, IsGoodPass, IsGood, Draw, Look, Win, Lose}
+use Rattle.claim_board.specs.Protocol.{PassState, BoardState, steps_of, drawn, looked, winning, losing, of_task, IsOpen, IsGoodPass, IsGood, Draw, Look, Win, Lose}
 use Rattle.claim_board.specs.Seats.{View, limit_at, pass_view, all_passes, task_words, Rule}
 use Rattle.claim_board.specs.inner.Seats.{pass_in, Drawing, Looking, Claiming, Seated, Steps, draw_tells, look_tells, commit_tells}
 use Rattle.claim_board.specs.Boards.{HasWon, HasLost}
@@ -47,7 +47,7 @@ div_lt tasks tries d some_task l =
     (div-lt_iff_lt-mul some_task).1 (subst (λ (x : ℕ). d < x) (mul_comm tasks tries) l)
 
 -- a word is one of the tries
-pub word_low : (tasks tries : ℕ) (s : State) (t : ℕ) → t < tasks → IsGood tasks tries s
+pub word_low : (tasks tries : ℕ) (s : BoardState) (t : ℕ) → t < tasks → IsGood tasks tries s
     → get_or s.words t 0 ≤ tries
 word_low tasks tries s t small h = dite (ℕ_discrete (get_or s.words t 0) 0) (λ z. omega arith)
     (λ full. let P : PassState → Type 0 = λ v. IsGoodPass tasks tries s.words v in

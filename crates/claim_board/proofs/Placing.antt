@@ -6,7 +6,7 @@ use Rattle.std.proofs.lemmas.List.Sums.{sum_by_push}
 use mathlib.Core.Option.{some, some-ne-none}
 use lib.ListN.{get_elem?}
 use Rattle.claim_board.specs.Counts.{one_if}
-use Rattle.claim_board.specs.Protocol.{Deed, PassState, State, steps_of, times_placed, Does, Lead, IsInOrder}
+use Rattle.claim_board.specs.Protocol.{Deed, PassState, BoardState, steps_of, times_placed, Does, Lead, IsInOrder}
 use Rattle.claim_board.specs.Boards.{AreBefore}
 use Rattle.claim_board.proofs.Totals.{total_up, all_set, all_at, all_map, at_test}
 
@@ -40,7 +40,7 @@ module _ (tasks tries : ℕ) where
       (h.0, h.1, h.2, lead_more h.0 h.1 es mid vs e m ws h.3 does)
 
   -- one deed more, of one pass
-  pub order_more : (s : State) (i : ℕ) (p q : PassState) (e : Deed) (m : ℕ) (ws : List ℕ)
+  pub order_more : (s : BoardState) (i : ℕ) (p q : PassState) (e : Deed) (m : ℕ) (ws : List ℕ)
       → IsInOrder tasks tries s → get_elem? s.passes i ≡ some p
       → q.deeds ≡ p.deeds ++ (steps_of s.passes, e) ∷ [] → Does tasks tries s.next s.words e m ws
       → IsInOrder tasks tries record { next = m; words = ws; passes = set s.passes i q }
@@ -88,7 +88,7 @@ module _ (tasks tries : ℕ) where
       }
 
   -- what a pass has done so far stands before the next place
-  pub before_next : (s : State) (i : ℕ) (p : PassState) → IsInOrder tasks tries s
+  pub before_next : (s : BoardState) (i : ℕ) (p : PassState) → IsInOrder tasks tries s
       → get_elem? s.passes i ≡ some p → AreBefore (steps_of s.passes) p
   before_next s i p h at =
       let Old : ℕ × Deed → Type 0 = λ x. get_elem? h.deeds x.0 ≡ some x.1 in

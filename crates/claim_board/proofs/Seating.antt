@@ -8,7 +8,7 @@ use Rattle.atomic_table.proofs.Lists.{at_set, at_snoc}
 use Rattle.claim_board.specs.declared.size.Size.{Size}
 use Rattle.std.specs.Prelude.{sum_by, All}
 use Rattle.claim_board.specs.Counts.{one_if, times}
-use Rattle.claim_board.specs.Protocol.{Deed, PassState, State, times_placed, fresh, of_task, IsGoodPass, IsGood}
+use Rattle.claim_board.specs.Protocol.{Deed, PassState, BoardState, times_placed, fresh, of_task, IsGoodPass, IsGood}
 use Rattle.claim_board.specs.Seats.{View, IsSize, maker_view, pass_view, all_passes, task_words, state_of, Rule, spent_view}
 use Rattle.claim_board.specs.inner.Seats.{make_left, make_right, take_over}
 use Rattle.std.proofs.lemmas.List.Elements.{All-push, All-nil, All-cons, All-head}
@@ -36,7 +36,7 @@ opens k size = record {
     away (suc j) v e n = some-ne-none v (sym e)
 
 -- a good state with one fresh pass more
-fresh_good : (tasks tries : ℕ) (s : State) (m : ℕ) → IsGood tasks tries s
+fresh_good : (tasks tries : ℕ) (s : BoardState) (m : ℕ) → IsGood tasks tries s
     → IsGood tasks tries record {
       next = s.next;
       words = s.words;

@@ -13,7 +13,7 @@ use mathlib.Core.Option.{some}
 use lib.ListN.{get_elem?}
 use Rattle.std.specs.Prelude.{sum_by, All}
 use Rattle.claim_board.specs.Counts.{one_if, times, times_first, from_on}
-use Rattle.claim_board.specs.Protocol.{Deed, PassState, State, times_placed, word, fresh, fresh_from, start, of_task, IsGoodPass, IsGood, Event, Draw, Look, Win, Lose, Step, Runs}
+use Rattle.claim_board.specs.Protocol.{Deed, PassState, BoardState, times_placed, word, fresh, fresh_from, start, of_task, IsGoodPass, IsGood, Event, Draw, Look, Win, Lose, Step, Runs}
 use Rattle.claim_board.specs.Laws.{EveryStateIsGood, WordsStay, EachTaskIsWonOnce, UndecidedWereDrawn, EndedMeansUsedUp, wins}
 use Rattle.claim_board.proofs.Totals.{times-cons, total_at, total_none, all_at, all_map, one_if_eq, at_test, times_none, times_first_none}
 use Rattle.claim_board.proofs.Keeps.{Stay, stay_set, step_keeps}
@@ -68,7 +68,7 @@ start_good tasks tries crew = record {
   };
 }
 
-pub runs_keep : (tasks tries : ℕ) (old : State) (events : List Event) (new : State) → 0 < tasks
+pub runs_keep : (tasks tries : ℕ) (old : BoardState) (events : List Event) (new : BoardState) → 0 < tasks
     → Runs tasks tries old events new → IsGood tasks tries old → IsGood tasks tries new
 runs_keep tasks tries old [] new some_task r h = subst (IsGood tasks tries) (sym r) h
 runs_keep tasks tries old (e ∷ es) new some_task r h =
@@ -79,52 +79,52 @@ pub every_state_is_good : EveryStateIsGood
 every_state_is_good tasks tries crew events s some_task r =
     runs_keep tasks tries (start tasks crew) events s some_task r (start_good tasks tries crew)
 
-pub step_stays : (tasks tries : ℕ) (old : State) (e : Event) (new : State)
+pub step_stays : (tasks tries : ℕ) (old : BoardState) (e : Event) (new : BoardState)
     → Step tasks tries old e new → Stay old.words new.words
-step_stays tasks tries old (Draw p) new s t full = ap (λ (k : State). word k t) s.3
-step_stays tasks tries old (Look p u) new s t full = ap (λ (k : State). word k t) s.3
-step_stays tasks tries old (Win p d) new s t full = ap (λ (k : State). word k t) s.4
+step_stays tasks tries old (Draw p) new s t full = ap (λ (k : BoardState). word k t) s.3
+step_stays tasks tries old (Look p u) new s t full = ap (λ (k : BoardState). word k t) s.3
+step_stays tasks tries old (Win p d) new s t full = ap (λ (k : BoardState). word k t) s.4
     ∙ stay_set old.words (d % tasks) (d / tasks + 1) s.3 t full
-step_stays tasks tries old (Lose p d) new s t full = ap (λ (k : State). word k t) s.4
+step_stays tasks tries old (Lose p d) new s t full = ap (λ (k : BoardState). word k t) s.4
 
 pub words_stay : WordsStay
-words_stay tasks tries [] old new t r full = ap (λ (k : State). word k t) r
+words_stay tasks tries [] old new t r full = ap (λ (k : BoardState). word k t) r
 words_stay tasks tries (e ∷ es) old new t r full =
     let first = step_stays tasks tries old e r.0 r.1 t full in
     words_stay tasks tries es r.0 new t r.2 (λ z. full (sym first ∙ z)) ∙ first
 
-step_sized : (tasks tries : ℕ) (old : State) (e : Event) (new : State) → Step tasks tries old e new
+step_sized : (tasks tries : ℕ) (old : BoardState) (e : Event) (new : BoardState) → Step tasks tries old e new
     → length old.words ≡ tasks → length new.words ≡ tasks
-step_sized tasks tries old (Draw p) new s h = ap (λ (k : State). length k.words) s.3 ∙ h
-step_sized tasks tries old (Look p u) new s h = ap (λ (k : State). length k.words) s.3 ∙ h
-step_sized tasks tries old (Win p d) new s h = ap (λ (k : State). length k.words) s.4
+step_sized tasks tries old (Draw p) new s h = ap (λ (k : BoardState). length k.words) s.3 ∙ h
+step_sized tasks tries old (Look p u) new s h = ap (λ (k : BoardState). length k.words) s.3 ∙ h
+step_sized tasks tries old (Win p d) new s h = ap (λ (k : BoardState). length k.words) s.4
     ∙ (length-set old.words (d % tasks) (d / tasks + 1) ∙ h)
-step_sized tasks tries old (Lose p d) new s h = ap (λ (k : State). length k.words) s.4 ∙ h
+step_sized tasks tries old (Lose p d) new s h = ap (λ (k : BoardState). length k.words) s.4 ∙ h
 
 -- the wins that are to come
-wins_left : (tasks tries : ℕ) (old : State) (events : List Event) (new : State) (t : ℕ) → 0 < tasks
+wins_left : (tasks tries : ℕ) (old : BoardState) (events : List Event) (new : BoardState) (t : ℕ) → 0 < tasks
     → length old.words ≡ tasks → Runs tasks tries old events new
     → (word old t ≡ 0 → wins tasks t events ≤ 1) × (word old t ≢ 0 → wins tasks t events ≡ 0)
 wins_left tasks tries old [] new t some_task size r = ((λ _. omega arith), λ _. refl)
 wins_left tasks tries old (Draw p ∷ es) new t some_task size r =
     let later = wins_left tasks tries r.0 es new t some_task
     (step_sized tasks tries old (Draw p) r.0 r.1 size) r.2 in
-    let same = ap (λ (k : State). word k t) r.1.3 in
+    let same = ap (λ (k : BoardState). word k t) r.1.3 in
     ((λ z. later.0 (same ∙ z)), λ n. later.1 (λ z. n (sym same ∙ z)))
 wins_left tasks tries old (Look p u ∷ es) new t some_task size r =
     let later = wins_left tasks tries r.0 es new t some_task
     (step_sized tasks tries old (Look p u) r.0 r.1 size) r.2 in
-    let same = ap (λ (k : State). word k t) r.1.3 in
+    let same = ap (λ (k : BoardState). word k t) r.1.3 in
     ((λ z. later.0 (same ∙ z)), λ n. later.1 (λ z. n (sym same ∙ z)))
 wins_left tasks tries old (Lose p d ∷ es) new t some_task size r =
     let later = wins_left tasks tries r.0 es new t some_task
     (step_sized tasks tries old (Lose p d) r.0 r.1 size) r.2 in
-    let same = ap (λ (k : State). word k t) r.1.4 in
+    let same = ap (λ (k : BoardState). word k t) r.1.4 in
     ((λ z. later.0 (same ∙ z)), λ n. later.1 (λ z. n (sym same ∙ z)))
 wins_left tasks tries old (Win p d ∷ es) new t some_task size r =
     let later = wins_left tasks tries r.0 es new t some_task
     (step_sized tasks tries old (Win p d) r.0 r.1 size) r.2 in
-    let is = ap (λ (k : State). word k t) r.1.4 in
+    let is = ap (λ (k : BoardState). word k t) r.1.4 in
     let u : ℕ = d % tasks in let a : ℕ = d / tasks + 1 in
     let F : ℕ → Type 0 = λ n. (word old t ≡ 0 → n + wins tasks t es ≤ 1)
     × (word old t ≢ 0 → n + wins tasks t es ≡ 0) in

@@ -3,18 +3,18 @@ use Rattle.std.specs.Prelude.{◌≡◌, ◌≢◌, ℕ, ◌+◌, ◌*◌, ◌<�
 use mathlib.Core.Option.{some}
 use lib.ListN.{get_elem?}
 use Rattle.claim_board.specs.Counts.{times, times_first, one_if}
-use Rattle.claim_board.specs.Protocol.{PassState, State, word, Event, Draw, Look, Win, Lose, start, Runs, task_of, limit, IsGood}
+use Rattle.claim_board.specs.Protocol.{PassState, BoardState, word, Event, Draw, Look, Win, Lose, start, Runs, task_of, limit, IsGood}
 
 -- every list of events leads from the start to a good state
 abbrev pub EveryStateIsGood : Type 0
 EveryStateIsGood =
-    (tasks tries crew : ℕ) (events : List Event) (s : State) → 0 < tasks
+    (tasks tries crew : ℕ) (events : List Event) (s : BoardState) → 0 < tasks
     → Runs tasks tries (start tasks crew) events s → IsGood tasks tries s
 
 -- a word that is not 0 never changes
 abbrev pub WordsStay : Type 0
 WordsStay =
-    (tasks tries : ℕ) (events : List Event) (old new : State) (t : ℕ)
+    (tasks tries : ℕ) (events : List Event) (old new : BoardState) (t : ℕ)
     → Runs tasks tries old events new → word old t ≢ 0 → word new t ≡ word old t
 
 -- how often the events win the task
@@ -28,14 +28,14 @@ wins tasks t (Lose i d ∷ es) = wins tasks t es
 -- each task is won at most once
 abbrev pub EachTaskIsWonOnce : Type 0
 EachTaskIsWonOnce =
-    (tasks tries crew : ℕ) (events : List Event) (s : State) (t : ℕ) → 0 < tasks
+    (tasks tries crew : ℕ) (events : List Event) (s : BoardState) (t : ℕ) → 0 < tasks
     → Runs tasks tries (start tasks crew) events s → wins tasks t events ≤ 1
 
 -- where a pass has ended, and the word of a task is 0, each attempt of the task was drawn,
 -- and none was won or lost
 abbrev pub UndecidedWereDrawn : Type 0
 UndecidedWereDrawn =
-    (tasks tries : ℕ) (s : State) (i : ℕ) (p : PassState) (t k : ℕ) → IsGood tasks tries s
+    (tasks tries : ℕ) (s : BoardState) (i : ℕ) (p : PassState) (t k : ℕ) → IsGood tasks tries s
     → get_elem? s.passes i ≡ some p → p.ended ≡ true
     → t < tasks → word s t ≡ 0 → k < tries
     → (sum_by (λ q. times (k * tasks + t) q.draws) s.passes ≡ 1)
@@ -45,10 +45,10 @@ UndecidedWereDrawn =
 -- where a pass has ended, there were more draws than attempts
 abbrev pub EndedMeansUsedUp : Type 0
 EndedMeansUsedUp =
-    (tasks tries : ℕ) (s : State) (i : ℕ) (p : PassState) → IsGood tasks tries s
+    (tasks tries : ℕ) (s : BoardState) (i : ℕ) (p : PassState) → IsGood tasks tries s
     → get_elem? s.passes i ≡ some p → p.ended ≡ true → limit tasks tries < s.next
 
 -- a word is 0 or one of the tries
 abbrev pub WordsAreTries : Type 0
 WordsAreTries =
-    (tasks tries : ℕ) (s : State) (t : ℕ) → IsGood tasks tries s → t < tasks → word s t ≤ tries
+    (tasks tries : ℕ) (s : BoardState) (t : ℕ) → IsGood tasks tries s → t < tasks → word s t ≤ tries

@@ -28,12 +28,12 @@ pub record PassState : Type 0 where
   pub ended : Bool
 
 -- the number of the next draw, the word of each task, and the passes
-pub record State : Type 0 where
+pub record BoardState : Type 0 where
   pub next : ℕ
   pub words : List ℕ
   pub passes : List PassState
 
-abbrev pub word : State → ℕ → ℕ
+abbrev pub word : BoardState → ℕ → ℕ
 word s t = slice_index s.words t
 
 -- the task of a draw
@@ -112,7 +112,7 @@ abbrev pub fresh_from : ℕ → ℕ → List PassState
 fresh_from k zero = []
 fresh_from k (suc n) = fresh k ∷ fresh_from (k + 1) n
 
-abbrev pub start : ℕ → ℕ → State
+abbrev pub start : ℕ → ℕ → BoardState
 start tasks crew = record { next = 0; words = replicate tasks 0; passes = fresh_from 0 crew }
 
 module _ (tasks tries : ℕ) where
@@ -123,7 +123,7 @@ module _ (tasks tries : ℕ) where
       × (times_first d p.lost ≡ 0)
 
   -- the event leads from the old state to the new one
-  abbrev pub Step : State → Event → State → Type 0
+  abbrev pub Step : BoardState → Event → BoardState → Type 0
   Step old (Draw i) new =
       (p : PassState) × (get_elem? old.passes i ≡ some p) × (p.ended ≡ false)
       × (new ≡ record old {
@@ -153,9 +153,9 @@ module _ (tasks tries : ℕ) where
       })
 
   -- the events lead from the old state to the new one
-  abbrev pub Runs : State → List Event → State → Type 0
+  abbrev pub Runs : BoardState → List Event → BoardState → Type 0
   Runs old [] new = new ≡ old
-  Runs old (e ∷ es) new = (mid : State) × Step old e mid × Runs mid es new
+  Runs old (e ∷ es) new = (mid : BoardState) × Step old e mid × Runs mid es new
 
   -- with the deed the next number and the words become m and ws, and it tells what stood there
   abbrev pub Does : ℕ → List ℕ → Deed → ℕ → List ℕ → Type 0
@@ -175,7 +175,7 @@ module _ (tasks tries : ℕ) where
 
   -- the deeds of all passes, each in its place, are one list, which leads from the start to what
   -- stands
-  pub record IsInOrder (s : State) : Type 0 where
+  pub record IsInOrder (s : BoardState) : Type 0 where
     pub deeds : List Deed
     pub lead : Lead 0 (replicate tasks 0) deeds s.next s.words
     pub count : length deeds ≡ steps_of s.passes
@@ -199,7 +199,7 @@ module _ (tasks tries : ℕ) where
     -- what it won or lost are draws of its own, each in one of the two lists at most, and once
     pub own : (d : ℕ) → times d p.won + times_first d p.lost ≤ times d p.draws
 
-  pub record IsGood (s : State) : Type 0 where
+  pub record IsGood (s : BoardState) : Type 0 where
     pub sized : length s.words ≡ tasks
     -- the draws of all passes together are the numbers below `next`, each once
     pub each_once : (d : ℕ) →

@@ -5,7 +5,7 @@ use mathlib.Core.Option.{some}
 use lib.ListN.{get_elem?}
 use Rattle.atomic_table.specs.Table.{State as TableState}
 use Rattle.claim_board.specs.declared.size.Size.{Size}
-use Rattle.claim_board.specs.Protocol.{PassState, State, limit, IsGood}
+use Rattle.claim_board.specs.Protocol.{PassState, BoardState, limit, IsGood}
 
 -- what a seat knows: the board's size, how many passes it has made, and the passes that it stands
 -- for. The seat of a pass stands for that pass, the seat that makes the passes for those that it
@@ -43,10 +43,10 @@ abbrev pub task_words : List ℕ → List ℕ
 task_words [] = []
 task_words (w ∷ ws) = ws
 
-abbrev pub words_state : List ℕ → List PassState → State
+abbrev pub words_state : List ℕ → List PassState → BoardState
 words_state ws ps = record { next = slice_index ws 0; words = task_words ws; passes = ps }
 
-abbrev pub state_of : List ℕ → List View → State
+abbrev pub state_of : List ℕ → List View → BoardState
 state_of ws vs = words_state ws (all_passes vs)
 
 -- how many passes the seats have made, and how many they stand for

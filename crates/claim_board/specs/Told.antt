@@ -1,11 +1,11 @@
 -- What a closed board tells of the passes that it was closed with.
 use Rattle.std.specs.Prelude.{◌≡◌, ◌≢◌, ℕ, ◌+◌, ◌-◌, ◌*◌, ◌<◌, ◌≤◌, true, ◌⊎◌, List, slice_index, All, sum_by}
 use Rattle.claim_board.specs.Counts.{times}
-use Rattle.claim_board.specs.Protocol.{State, task_of, of_task}
+use Rattle.claim_board.specs.Protocol.{BoardState, task_of, of_task}
 use Rattle.claim_board.specs.Boards.{Board, Pass, Tally, limit_of, states_of}
 
 -- the tally and the passes, as a state of the protocol
-abbrev pub closing_state : Tally → List Pass → State
+abbrev pub closing_state : Tally → List Pass → BoardState
 closing_state r ps = record { next = r.draws; words = r.winners; passes = states_of ps }
 
 -- how often the draw d is in the draws, and in the won lists, of all passes

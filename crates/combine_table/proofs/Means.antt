@@ -8,7 +8,7 @@ use Rattle.flume_value.specs.Bag.{bag_of}
 use Rattle.flume_value.proofs.BagLemmas.{length-bag_of}
 use Rattle.combine_table.specs.declared.comb.Comb.{Comb}
 use Rattle.combine_table.specs.declared.comb.Comb.TheVariants as by
-use Rattle.combine_table.specs.Combinations.{total, wrapped, combined, mean, answer, IsFault}
+use Rattle.combine_table.specs.Combinations.{total, wrapped, combined, mean, answer, IsTrapFault}
 use Rattle.combine_table.proofs.Totals.{total-bag_of}
 
 -- ---- what a call answers
@@ -17,7 +17,7 @@ answer_ok : (r : Result Value Kind) → IfOk (answer r) (λ v. r ≡ Ok v)
 answer_ok (Ok v) = refl
 answer_ok (Err kind) = tt
 
-answer_fault : (r : Result Value Kind) → IfErr (answer r) (IsFault r)
+answer_fault : (r : Result Value Kind) → IfErr (answer r) (IsTrapFault r)
 answer_fault (Ok v) = tt
 answer_fault (Err kind) = refl
 
@@ -44,8 +44,8 @@ module _ (by_mean : Comb) (is_mean : by_mean ≡ by.Mean) (xs vs : List Value)
       (subst (λ (a : Result Value CallFault). IfOk a (λ v. combined by.Mean (bag_of xs) ≡ Ok v))
       (sym meant) (answer_ok (combined by.Mean (bag_of xs))))
 
-  pub mean_fault : IfErr r (IsFault (combined by_mean (bag_of xs)))
+  pub mean_fault : IfErr r (IsTrapFault (combined by_mean (bag_of xs)))
   mean_fault =
-      subst (λ (b : Comb). IfErr r (IsFault (combined b (bag_of xs)))) (sym is_mean)
-      (subst (λ (a : Result Value CallFault). IfErr a (IsFault (combined by.Mean (bag_of xs))))
+      subst (λ (b : Comb). IfErr r (IsTrapFault (combined b (bag_of xs)))) (sym is_mean)
+      (subst (λ (a : Result Value CallFault). IfErr a (IsTrapFault (combined by.Mean (bag_of xs))))
       (sym meant) (answer_fault (combined by.Mean (bag_of xs))))

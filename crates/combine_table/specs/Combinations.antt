@@ -84,7 +84,7 @@ answer (Ok v) = Ok v
 answer (Err kind) = Err (Trap kind)
 
 -- a call's fault: the trap, where there is one; want of memory at any time
-abbrev pub IsFault : Result Value Kind → CallFault → Type 0
-IsFault (Err kind) (Trap given) = given ≡ kind
-IsFault (Ok v) (Trap given) = ⊥
-IsFault _ Memory = Unit {0}
+abbrev pub IsTrapFault : Result Value Kind → CallFault → Type 0
+IsTrapFault (Err kind) (Trap given) = given ≡ kind
+IsTrapFault (Ok v) (Trap given) = ⊥
+IsTrapFault _ Memory = Unit {0}

@@ -4,7 +4,7 @@ ghost use Rattle.std.specs.List.{list_all, list_any};
 ghost use Rattle.std.specs.Option.{option_copied, option_to_list};
 ghost use Rattle.flume_value.specs.Bag.{bag_of};
 ghost use Rattle.combine_table.specs.Contents.{IsInt, IsBool, truth_of};
-ghost use Rattle.combine_table.specs.Combinations.{Suits, combined, IsFault, total as total_of, wrapped, first_or_bad_index, least as least_of, greatest as greatest_of, distinct as distinct_of};
+ghost use Rattle.combine_table.specs.Combinations.{Suits, combined, IsTrapFault, total as total_of, wrapped, first_or_bad_index, least as least_of, greatest as greatest_of, distinct as distinct_of};
 
 use crate::comb::Comb;
 use crate::contents::{int, truth};
@@ -18,7 +18,7 @@ use std::alloc::{AllocError, Global};
 pub fn combine(alloc: Global, comb: Comb, values: &Items) -> Result<Value, CallFault>
     requires { All (Suits comb) values.now }
     ensures ok { IfOk result (λ v. combined comb (bag_of values.now) ≡ Ok v) }
-    ensures err { IfErr result (IsFault (combined comb (bag_of values.now))) }
+    ensures err { IfErr result (IsTrapFault (combined comb (bag_of values.now))) }
 {
     let values = values.as_slice();
     match comb {
@@ -82,7 +82,7 @@ fn copy_or_bad_index(alloc: Global, value: Option<&Value>) -> Result<Value, Call
     ensures ok { IfOk result (λ v.
         first_or_bad_index (option_to_list (option_copied value.entry)) ≡ Ok v) }
     ensures err { IfErr result
-        (IsFault (first_or_bad_index (option_to_list (option_copied value.entry)))) }
+        (IsTrapFault (first_or_bad_index (option_to_list (option_copied value.entry)))) }
 {
     match value {
         Some(value) => Ok(value.copy(alloc)?),

@@ -11,7 +11,7 @@ use mathlib.Core.Logic.{dite}
 use Rattle.outside.specs.declared.host.At.{At}
 use Rattle.outside.specs.Notes.{Notes, no_notes}
 use Rattle.claim_board.specs.Counts.{one_if, times}
-use Rattle.claim_board.specs.Protocol.{PassState, State, fresh, limit, IsGood}
+use Rattle.claim_board.specs.Protocol.{PassState, BoardState, fresh, limit, IsGood}
 use Rattle.claim_board.specs.Told.{draw_of}
 use Rattle.crew.specs.declared.drill.Entry.{Entry}
 use Rattle.crew.specs.Hosts.{Account, at_place, places_below}
@@ -308,7 +308,7 @@ module _ (tasks : ℕ) (s : Settings) (places : ℕ → ℕ) where
         (All-append Ours (all_downs w.turns) rest o.1 (our_workers ws (All-tail HasTaken w ws h)))
 
     -- where the board is a good one
-    pub asked_once : (board : State) (us vs : List Account) (ws : List Worker)
+    pub asked_once : (board : BoardState) (us vs : List Account) (ws : List Worker)
         → IsGood tasks s.tries board → AreWorkers tasks s places board.passes us vs ws
         → AreAskedOnce tasks s places us vs
     asked_once board us vs ws good h = record {

@@ -2,7 +2,7 @@
 use Rattle.std.proofs.Common.{ℕ, inr, List, length}
 use Rattle.std.specs.Prelude.{All}
 use Rattle.std.proofs.lemmas.List.Elements.{All-weaker}
-use Rattle.claim_board.specs.Protocol.{State, IsGood}
+use Rattle.claim_board.specs.Protocol.{BoardState, IsGood}
 use Rattle.claim_board.specs.Boards.{Pass, Tally}
 use Rattle.claim_board.specs.Told.{closing_state}
 use Rattle.crew.specs.Hosts.{Account}
@@ -26,7 +26,7 @@ module _ (tasks : ℕ) (s : Settings) (places : ℕ → ℕ) (us vs : List Accou
   })
 
   -- of workers that came to their end
-  pub whole_so_far : (board : State) → IsClosed tasks s (length us) board
+  pub whole_so_far : (board : BoardState) → IsClosed tasks s (length us) board
       → HaveWorked tasks s places board.passes us vs → IsCut tasks s places us vs
   whole_so_far board closed worked =
       let Whole : Worker → Type 0 = λ w. All (Cause tasks s places w.pass) w.turns in

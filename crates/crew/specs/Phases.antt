@@ -2,7 +2,7 @@
 use Rattle.std.specs.Prelude.{◌≡◌, ◌≢◌, ℕ, ◌+◌, ◌-◌, ◌<◌, ◌≤◌, true, eqb, ◌&&◌, ◌⊎◌, List, [], ◌∷◌, ◌++◌, length, slice_index_or, All, count_by, ⊤}
 use Rattle.outside.specs.declared.host.At.{At}
 use Rattle.outside.specs.Notes.{Notes}
-use Rattle.claim_board.specs.Protocol.{State, IsGood, word}
+use Rattle.claim_board.specs.Protocol.{BoardState, IsGood, word}
 use Rattle.crew.specs.declared.drill.Entry.{Entry}
 use Rattle.crew.specs.declared.kept.KeptOut.{KeptOut}
 use Rattle.crew.specs.declared.phase.PhaseFault.{PhaseFault}
@@ -41,7 +41,7 @@ times_asked x places =
 module _ (tasks : ℕ) (s : Settings) where
   -- the board at the end of a phase: a good state of the claim protocol in which each worker's pass
   -- has ended
-  pub record IsClosed (hosts : ℕ) (board : State) : Type 0 where
+  pub record IsClosed (hosts : ℕ) (board : BoardState) : Type 0 where
     pub good : IsGood tasks s.tries board
     pub passes : length board.passes ≡ hosts
     pub ended : All (λ p. p.ended ≡ true) board.passes
@@ -50,14 +50,14 @@ module _ (tasks : ℕ) (s : Settings) where
   -- or by none, where the number is 0; and the board's passes are those of workers, each with a
   -- host, who were asked in the workers' turns alone.
   pub record IsWork (places : ℕ → ℕ) (won : List ℕ) (olds news : List Account) : Type 0 where
-    pub board : State
+    pub board : BoardState
     pub closed : IsClosed (length olds) board
     pub words : board.words ≡ won
     pub worked : HaveWorked tasks s places board.passes olds news
 
   -- the same, as far as it came
   pub record IsWorkSoFar (places : ℕ → ℕ) (olds news : List Account) : Type 0 where
-    pub board : State
+    pub board : BoardState
     pub good : IsGood tasks s.tries board
     pub workers : List Worker
     pub are : AreWorkers tasks s places board.passes olds news workers
@@ -100,7 +100,7 @@ module _ (tasks : ℕ) (s : Settings) where
   module _ {O : Type 0} (is_value : ℕ → O → Type 0) (places : ℕ → ℕ) where
     -- the outs of the first n tasks, in order: each was made by the attempt that the board names as
     -- the winner, all of whose places some host has let through
-    pub record AreOuts (olds news : List Account) (board : State) (n : ℕ) (ks : List (KeptOut O))
+    pub record AreOuts (olds news : List Account) (board : BoardState) (n : ℕ) (ks : List (KeptOut O))
         : Type 0 where
       pub count : length ks ≡ n
       pub order : (t : ℕ) (d : KeptOut O) → t < n → (slice_index_or ks t d).task ≡ t
@@ -110,7 +110,7 @@ module _ (tasks : ℕ) (s : Settings) where
 
     -- each task has an out, and the board's passes are those of workers that ran
     pub record Settled (olds news : List Account) (ks : List (KeptOut O)) : Type 0 where
-      pub board : State
+      pub board : BoardState
       pub closed : IsClosed (length olds) board
       pub outs : AreOuts olds news board tasks ks
       pub worked : HaveWorked tasks s places board.passes olds news
@@ -118,7 +118,7 @@ module _ (tasks : ℕ) (s : Settings) where
     -- the task is the least without a winner; each smaller one has an out
     pub record Unsettled (olds news : List Account) (task : ℕ) (ks : List (KeptOut O))
         : Type 0 where
-      pub board : State
+      pub board : BoardState
       pub closed : IsClosed (length olds) board
       pub is_task : task < tasks
       pub none : word board task ≡ 0

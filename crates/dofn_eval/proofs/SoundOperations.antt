@@ -22,7 +22,7 @@ use Rattle.flume_value.specs.Ranges.{fits_int}
 use Rattle.flume_value.proofs.EachLemmas.{Each-append}
 use Rattle.int_text.specs.Ints.{int_of_text}
 use Rattle.dofn_eval.specs.Words.{words_of}
-use Rattle.dofn_eval.specs.Operations.{whole, quotient, remainder, arithmetic, field_in, found, member_at, member_in, length_of, joined, shown, chosen, of_one, of_two}
+use Rattle.dofn_eval.specs.Operations.{whole, quotient, remainder, arithmetic, field_in, found, member_at, member_in, length_of, appended, shown, chosen, of_one, of_two}
 use Rattle.dofn_eval.specs.Typed.{UnaryTyped, BinaryTyped, negates, inverts, counts_members, counts_bytes, splits, writes, reads, lefts, rights, computes, compares, joins_texts, joins_lists}
 use Rattle.dofn_eval.proofs.SoundOutcomes.{Sound, sound_part}
 
@@ -67,21 +67,21 @@ sound_length_text v h =
     (sound_whole (pos (length p.0))))
 
 sound_join_lists : (x y : Value) (t : Ty) → Has (ty.List t) x → Has (ty.List t) y
-    → Sound (Has (ty.List t)) (joined (members_of x) (members_of y) (text_of x) (text_of y))
+    → Sound (Has (ty.List t)) (appended (members_of x) (members_of y) (text_of x) (text_of y))
 sound_join_lists x y t g h =
     let p = list_in x t g in let q = list_in y t h in
-    subst (λ m. Sound (Has (ty.List t)) (joined m (members_of y) (text_of x) (text_of y))) (sym p.1)
-    (subst (λ m. Sound (Has (ty.List t)) (joined (Some p.0) m (text_of x) (text_of y))) (sym q.1)
+    subst (λ m. Sound (Has (ty.List t)) (appended m (members_of y) (text_of x) (text_of y))) (sym p.1)
+    (subst (λ m. Sound (Has (ty.List t)) (appended (Some p.0) m (text_of x) (text_of y))) (sym q.1)
     (has_list t (p.0 ++ q.0) (Each-append (Has t) p.0 q.0 p.2 q.2)))
 
 sound_join_texts : (x y : Value) → Has ty.Text x → Has ty.Text y
-    → Sound (Has ty.Text) (joined (members_of x) (members_of y) (text_of x) (text_of y))
+    → Sound (Has ty.Text) (appended (members_of x) (members_of y) (text_of x) (text_of y))
 sound_join_texts x y g h =
     let p = text_in x g in let q = text_in y h in
-    subst (λ m. Sound (Has ty.Text) (joined m (members_of y) (text_of x) (text_of y))) (sym p.2)
-    (subst (λ m. Sound (Has ty.Text) (joined None m (text_of x) (text_of y))) (sym q.2)
-    (subst (λ m. Sound (Has ty.Text) (joined None None m (text_of y))) (sym p.1)
-    (subst (λ m. Sound (Has ty.Text) (joined None None (Some p.0) m)) (sym q.1)
+    subst (λ m. Sound (Has ty.Text) (appended m (members_of y) (text_of x) (text_of y))) (sym p.2)
+    (subst (λ m. Sound (Has ty.Text) (appended None m (text_of x) (text_of y))) (sym q.2)
+    (subst (λ m. Sound (Has ty.Text) (appended None None m (text_of y))) (sym p.1)
+    (subst (λ m. Sound (Has ty.Text) (appended None None (Some p.0) m)) (sym q.1)
     (has_text (p.0 ++ q.0)))))
 
 sound_shown : (o : Option ℤ) → Sound (Has ty.Int) (shown o)

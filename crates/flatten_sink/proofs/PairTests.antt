@@ -10,7 +10,7 @@ use Rattle.exec_graph.specs.declared.graph.Node.{Node}
 use Rattle.exec_graph.specs.declared.graph.Node.TheVariants.{Source, Flatten, Pdo, Gbk, Barrier}
 use Rattle.exec_graph.proofs.Soundness.{SameMeaning-kept}
 use Rattle.sink_laws.proofs.of_graph_laws.ReadPlaces.{same_self}
-use Rattle.sink_laws.specs.Chain.{after_call, after_nest, forest_of, has_room, inputs_of, CanCall, CanNest}
+use Rattle.sink_laws.specs.Chain.{after_call, after_nest, forest_of, has_room, ins_of, CanCall, CanNest}
 use Rattle.sink_laws.specs.Kept.{IsKept}
 use Rattle.sink_laws.specs.Merging.{spliced}
 use Rattle.sink_laws.specs.declared.pair.Pair.{Pair}
@@ -29,7 +29,7 @@ both_right false b h = absurd (false≢true h)
 both : (a b : Bool) → a ≡ true → b ≡ true → (a && b) ≡ true
 both a b h i = rw (h, i) refl
 
-flatten_is : (o : Option Node) → is_flatten o ≡ true → o ≡ Some (Flatten (inputs_of o))
+flatten_is : (o : Option Node) → is_flatten o ≡ true → o ≡ Some (Flatten (ins_of o))
 flatten_is None h = absurd (false≢true h)
 flatten_is (Some (Source r)) h = absurd (false≢true h)
 flatten_is (Some (Flatten ins)) h = refl
@@ -37,8 +37,8 @@ flatten_is (Some (Pdo c f)) h = absurd (false≢true h)
 flatten_is (Some (Gbk c o l k)) h = absurd (false≢true h)
 flatten_is (Some (Barrier ins o l a)) h = absurd (false≢true h)
 
-among_is : (c : Place) (o : Option Node) → among c (inputs_of o) ≡ true
-    → o ≡ Some (Flatten (inputs_of o))
+among_is : (c : Place) (o : Option Node) → among c (ins_of o) ≡ true
+    → o ≡ Some (Flatten (ins_of o))
 among_is c None h = absurd (false≢true h)
 among_is c (Some (Source r)) h = absurd (false≢true h)
 among_is c (Some (Flatten ins)) h = refl
@@ -60,9 +60,9 @@ pub nest_passes : (g : Graph) (p : Pair) → can_nest g.nodes p ≡ true → Can
 nest_passes g p h =
     let outer : Option Node = node_at g.nodes p.flatten in
     let inner : Option Node = node_at g.nodes p.other in
-    let joined : List Place = spliced p.other (inputs_of inner) (inputs_of outer) in
+    let joined : List Place = spliced p.other (ins_of inner) (ins_of outer) in
     let room : Bool = leb (length joined) most_nodes in
-    let near : Bool = among (place p.other 0) (inputs_of outer) in
+    let near : Bool = among (place p.other 0) (ins_of outer) in
     let rest : (near && room) ≡ true = both_right (is_flatten inner) (near && room) h in
     let here : near ≡ true = both_left near room rest in
     record {

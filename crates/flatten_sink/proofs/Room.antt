@@ -16,9 +16,9 @@ use Rattle.exec_graph.proofs.Entries.{entry, all_found}
 use Rattle.exec_graph.proofs.Solving.{ranked_at}
 use Rattle.exec_graph.proofs.Soundness.{differ_ascends}
 use Rattle.sink_laws.specs.of_graph_laws.Joining.{set_node, without, reread_entry}
-use Rattle.sink_laws.specs.Chain.{inputs_of, forest_of, after_call, has_room, CanCall}
+use Rattle.sink_laws.specs.Chain.{ins_of, forest_of, after_call, has_room, CanCall}
 use Rattle.sink_laws.specs.Merging.{dropped}
-use Rattle.sink_laws.specs.Sinking.{copies, copied, flattens, outputs_of, first_flatten, instead, rerouted, sunk, CanSink}
+use Rattle.sink_laws.specs.Sinking.{copies, copied, flattens, outputs_of, first_flatten, instead, rerouted, sunk_once, CanSink}
 use Rattle.sink_laws.specs.declared.pair.Pair.{Pair}
 use Rattle.sink_laws.proofs.Readership.{any_append, any_map, any_none}
 use Rattle.sink_laws.proofs.Rerouting.{IsOutside, among_rerouted, not_copied, uses_rerouted, unlike, flattens_skip}
@@ -82,7 +82,7 @@ size-first es n next ins (suc k) y h =
     let i = size-set es n (Flatten (copied next 0 ins)) y h in omega arith
 
 pub size-sunk : (g : Graph) (n p : ℕ) (f : Forest) (ins : List Place) → CanSink g n p f ins
-    → total_size (sunk g p f ins).nodes + steps f
+    → total_size (sunk_once g p f ins).nodes + steps f
     ≡ total_size g.nodes + length ins * steps f + outputs_of f
 size-sunk g n p f ins can =
     let base : ℕ = g.next + length ins in
@@ -94,7 +94,7 @@ size-sunk g n p f ins can =
     let e = size-first (kept_nodes g p ins) p g.next ins (outputs_of f) y
     (kept_at g n p f ins can) in
     let h = size-map (rerouted p base) g.nodes in
-    summed (total_size (sunk g p f ins).nodes) (total_size (first_nodes g p f ins))
+    summed (total_size (sunk_once g p f ins).nodes) (total_size (first_nodes g p f ins))
     (total_size (copies g.next f ins ++ last_nodes g f ins)) (total_size (copies g.next f ins))
     (total_size (last_nodes g f ins)) (length ins * steps f) (steps f)
     (total_size (kept_nodes g p ins)) (total_size g.nodes) (outputs_of f) a b c d e h
@@ -172,7 +172,7 @@ copies_other c n f (d ∷ ds) a =
     (let z : same_place c d ≡ false = a.0 in rw z refl, copies_other c (n + 1) f ds a.1)
 
 pub read-sunk : (g : Graph) (n p : ℕ) (f : Forest) (ins : List Place) → IsGraphOk g
-    → CanSink g n p f ins → is_read (sunk g p f ins) (place n 0) ≡ read_elsewhere g n p
+    → CanSink g n p f ins → is_read (sunk_once g p f ins) (place n 0) ≡ read_elsewhere g n p
 read-sunk g n p f ins ok can =
     let base : ℕ = g.next + length ins in
     let c : Place = place n 0 in
@@ -228,13 +228,13 @@ tidied_size h n ins false at = size-without h.nodes n (Flatten ins) at
 pub after_size : (g : Graph) (c : Pair) → IsGraphOk g → CanCall g c
     → total_size (after_call g c).nodes + cond (read_elsewhere g c.flatten c.other) 0 1
     + steps (forest_of (node_at g.nodes c.other))
-    ≡ total_size g.nodes + length (inputs_of (node_at g.nodes c.flatten))
+    ≡ total_size g.nodes + length (ins_of (node_at g.nodes c.flatten))
     * steps (forest_of (node_at g.nodes c.other))
     + outputs_of (forest_of (node_at g.nodes c.other))
 after_size g c ok can =
     let f : Forest = forest_of (node_at g.nodes c.other) in
-    let ins : List Place = inputs_of (node_at g.nodes c.flatten) in
-    let h : Graph = sunk g c.other f ins in
+    let ins : List Place = ins_of (node_at g.nodes c.flatten) in
+    let h : Graph = sunk_once g c.other f ins in
     let r : ℕ → ℕ = ok.founded.ranked.0 in
     let up : r c.flatten < r c.other =
     (ranked_at r g.nodes c.other (Pdo (place c.flatten 0) f) ok.founded.ranked.1 can.pdo).0 in
@@ -286,18 +286,18 @@ few_steps g c es st ok can e s =
     omega arith
 
 pub few_inputs : (g : Graph) (c : Pair) (es : List Entry) (ins : List Place) → IsGraphOk g
-    → CanCall g c → es ≡ g.nodes → ins ≡ inputs_of (node_at es c.flatten) → length ins ≤ most_nodes
+    → CanCall g c → es ≡ g.nodes → ins ≡ ins_of (node_at es c.flatten) → length ins ≤ most_nodes
 few_inputs g c es ins ok can e i =
-    let at : (0 < length (inputs_of (node_at g.nodes c.flatten)))
-    × (length (inputs_of (node_at g.nodes c.flatten)) ≤ most_nodes) =
+    let at : (0 < length (ins_of (node_at g.nodes c.flatten)))
+    × (length (ins_of (node_at g.nodes c.flatten)) ≤ most_nodes) =
     all_found (λ e. IsNodeOk g e.number e.node) g.nodes c.flatten
-    (Flatten (inputs_of (node_at g.nodes c.flatten))) can.flatten ok.nodes in
+    (Flatten (ins_of (node_at g.nodes c.flatten))) can.flatten ok.nodes in
     subst (λ (l : List Place). length l ≤ most_nodes)
-    (sym (i ∙ ap (λ (l : List Entry). inputs_of (node_at l c.flatten)) e)) at.1
+    (sym (i ∙ ap (λ (l : List Entry). ins_of (node_at l c.flatten)) e)) at.1
 
 pub room_is : (g : Graph) (c : Pair) (es : List Entry) (all st outs limit : ℕ) (ins : List Place)
     (read r : Bool) → IsGraphOk g → CanCall g c → es ≡ g.nodes → all ≡ total_size es
-    → st ≡ size_or_none (node_at es c.other) → ins ≡ inputs_of (node_at es c.flatten)
+    → st ≡ size_or_none (node_at es c.other) → ins ≡ ins_of (node_at es c.flatten)
     → outs ≡ outputs_of (forest_of (node_at es c.other))
     → read ≡ read_elsewhere g c.flatten c.other → limit ≡ most_nodes + st + cond read 0 1
     → (r ≡ true) ↔ (all + length ins * st + outs ≤ limit) → r ≡ has_room g c
@@ -306,12 +306,12 @@ room_is g c es all st outs limit ins read r ok can e a s i o w l h =
     let st_is : st ≡ steps f = s ∙ ap (λ (l : List Entry). size_or_none (node_at l c.other)) e
     ∙ ap size_or_none can.pdo in
     let all_is : all ≡ total_size g.nodes = a ∙ ap total_size e in
-    let ins_is : ins ≡ inputs_of (node_at g.nodes c.flatten) =
-    i ∙ ap (λ (l : List Entry). inputs_of (node_at l c.flatten)) e in
+    let ins_is : ins ≡ ins_of (node_at g.nodes c.flatten) =
+    i ∙ ap (λ (l : List Entry). ins_of (node_at l c.flatten)) e in
     let outs_is : outs ≡ outputs_of f =
     o ∙ ap (λ (l : List Entry). outputs_of (forest_of (node_at l c.other))) e in
     let sum : all + length ins * st + outs
-    ≡ total_size g.nodes + length (inputs_of (node_at g.nodes c.flatten)) * steps f
+    ≡ total_size g.nodes + length (ins_of (node_at g.nodes c.flatten)) * steps f
     + outputs_of f = rw (all_is, ins_is, st_is, outs_is) refl in
     limited (total_size (after_call g c).nodes) (cond (read_elsewhere g c.flatten c.other) 0 1)
     (steps f) (all + length ins * st + outs) limit r (after_size g c ok can ∙ sym sum)

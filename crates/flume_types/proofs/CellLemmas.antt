@@ -11,7 +11,7 @@ use Rattle.flume_types.specs.declared.column.Column.{Column}
 use Rattle.flume_types.specs.declared.column.ColumnKind.{ColumnKind}
 use Rattle.flume_types.specs.declared.column.ColumnKind.TheVariants as kind
 use Rattle.flume_types.specs.Typing.{each_has, layer_has, has_type}
-use Rattle.flume_types.specs.Columns.{cell_kind, cell_column, joined, cells_under, field_columns, record_columns, flat_columns, columns_of, input_at, input_columns_of}
+use Rattle.flume_types.specs.Columns.{cell_kind, cell_column, columns_and, cells_under, field_columns, record_columns, flat_columns, columns_of, input_at, input_columns_of}
 use Rattle.flume_types.specs.Cells.{field_cells, row_cells, cells_of, is_cell, are_filled}
 use Rattle.flume_types.proofs.TypingLemmas.{has_type-step}
 
@@ -56,7 +56,7 @@ one_column name t own e =
       | Some k ↦ λ is e. (k, is, sym (some_is (record { name = name; kind = k } ∷ []) own e))
     ] refl e
 
-both_columns : (first rest : Option (List Column)) (all : List Column) → joined first rest
+both_columns : (first rest : Option (List Column)) (all : List Column) → columns_and first rest
     ≡ Some all → (own : List Column) × (more : List Column) × (first ≡ Some own)
     × (rest ≡ Some more) × (all ≡ own ++ more)
 both_columns None rest all e = cc
@@ -121,7 +121,7 @@ fields_of_cells : (fields : List (Field Ty)) (columns : List Column) → cells_u
 fields_of_cells [] columns e = e
 fields_of_cells (f ∷ fields) columns e =
     let parts = both_columns (cell_column f.name (out-Ty f.ty)) (cells_under [] fields) columns e in
-    (λ i. joined (field_of_cell f.name (out-Ty f.ty) parts.0 parts.2 i)
+    (λ i. columns_and (field_of_cell f.name (out-Ty f.ty) parts.0 parts.2 i)
     (fields_of_cells fields parts.1 parts.3 i)) ∙ sym (ap Some parts.4)
 
 flat_input : (t : Ty-F Ty) (columns : List Column) → input_at t ≡ Some columns → flat_columns t

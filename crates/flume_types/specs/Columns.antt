@@ -18,16 +18,16 @@ abbrev pub cell_column : {X : Type 0} → List ℕ → Ty-F X → Option (List C
 cell_column name t = option_map (λ kind. record { name = name; kind = kind } ∷ []) (cell_kind t)
 
 -- columns and then more of them, where there are both
-abbrev pub joined : Option (List Column) → Option (List Column) → Option (List Column)
-joined (Some columns) (Some more) = Some (columns ++ more)
-joined (Some columns) None = None
-joined None more = None
+abbrev pub columns_and : Option (List Column) → Option (List Column) → Option (List Column)
+columns_and (Some columns) (Some more) = Some (columns ++ more)
+columns_and (Some columns) None = None
+columns_and None more = None
 
 -- the columns of all fields in order, where each field has some
 abbrev pub all_columns : {X : Type 0} → (Field X → Option (List Column)) → List (Field X)
     → Option (List Column)
 all_columns columns [] = Some []
-all_columns columns (field ∷ fields) = joined (columns field) (all_columns columns fields)
+all_columns columns (field ∷ fields) = columns_and (columns field) (all_columns columns fields)
 
 -- the columns of a record of cells: a prefix and then the name of the field
 abbrev pub cells_under : List ℕ → List (Field Ty) → Option (List Column)

@@ -1,6 +1,6 @@
 // The columns of a flat type, which the cells of its values fill.
 ghost use Rattle.std.specs.Prelude.{◌≡◌, ◌≢◌, ◌++◌, IsTrue, List, Some, None, IfOk, IfErr, OnOk, codes};
-ghost use Rattle.flume_types.specs.Columns.{joined, columns_of, input_columns_of, cell_kind as kind_of, cell_column, cells_under, field_columns, record_columns};
+ghost use Rattle.flume_types.specs.Columns.{columns_and, columns_of, input_columns_of, cell_kind as kind_of, cell_column, cells_under, field_columns, record_columns};
 ghost use Rattle.flume_value.specs.declared.value.Value.{Value as Value_};
 ghost use Rattle.flume_types.specs.Cells.{cells_of, are_filled};
 ghost use Rattle.flume_types.specs.Typing.{has_type};
@@ -64,7 +64,7 @@ fn add_fields(
     columns: &mut Vec<Column>,
 ) -> Result<(), ColumnFault>
     ensures flat { OnOk result (
-        joined (Some columns.old.items) (record_columns fields.now) ≡ Some columns.new.items) }
+        columns_and (Some columns.old.items) (record_columns fields.now) ≡ Some columns.new.items) }
     ensures not_flat { IfErr result (λ e. e ≢ ColumnFault.Memory →
         record_columns fields.now ≡ None) }
 {
@@ -76,7 +76,7 @@ fn add_fields(
 
 fn add_field(alloc: Global, field: &Field<Ty>, columns: &mut Vec<Column>) -> Result<(), ColumnFault>
     ensures flat { OnOk result (
-        joined (Some columns.old.items) (field_columns field.now.name (out-Ty field.now.ty))
+        columns_and (Some columns.old.items) (field_columns field.now.name (out-Ty field.now.ty))
         ≡ Some columns.new.items) }
     ensures not_flat { IfErr result (λ e. e ≢ ColumnFault.Memory →
         field_columns field.now.name (out-Ty field.now.ty) ≡ None) }
@@ -98,7 +98,7 @@ fn add_cells(
     columns: &mut Vec<Column>,
 ) -> Result<(), ColumnFault>
     ensures flat { OnOk result (
-        joined (Some columns.old.items) (cells_under prefix.now fields.now)
+        columns_and (Some columns.old.items) (cells_under prefix.now fields.now)
         ≡ Some columns.new.items) }
     ensures not_flat { IfErr result (λ e. e ≢ ColumnFault.Memory →
         cells_under prefix.now fields.now ≡ None) }
@@ -112,7 +112,7 @@ fn add_cells(
 
 fn add_cell(name: Str, ty: &Ty, columns: &mut Vec<Column>) -> Result<(), ColumnFault>
     ensures flat { OnOk result (
-        joined (Some columns.old.items) (cell_column name (out-Ty ty.now))
+        columns_and (Some columns.old.items) (cell_column name (out-Ty ty.now))
         ≡ Some columns.new.items) }
     ensures not_flat { IfErr result (λ e. e ≢ ColumnFault.Memory →
         cell_column name (out-Ty ty.now) ≡ None) }

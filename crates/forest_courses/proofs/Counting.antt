@@ -10,7 +10,7 @@ use Rattle.forest_steps.specs.of_exec_graph.Calls.{called, emitted}
 use Rattle.forest_steps.specs.of_exec_graph.Forests.{Label, Forest, Bare, Grow}
 use Rattle.forest_steps.specs.of_exec_graph.World.{World}
 use Rattle.task_lists.specs.Runs.{kept_count, step_lists}
-use Rattle.forest_steps.specs.Running.{Given, Run, and_then, below, behind, counted, kept, place, raised, run, run_answer, run_each, run_out}
+use Rattle.forest_steps.specs.Running.{Given, Run, and_then, below, behind, counted, kept, kept_place, raised_at, run, run_answer, run_each, run_out}
 use Rattle.forest_steps.specs.Places.{outputs_in, sizes_in}
 use Rattle.forest_steps.specs.Fresh.{zeros}
 use Rattle.forest_steps.proofs.Sizing.{sizes_length}
@@ -71,7 +71,7 @@ kept_more : (m n : ℕ) → kept_count (kept_count m + n) ≡ kept_count (m + n)
 kept_more m n = omega arith
 
 pub raised_kept : (at n : ℕ) (e : List ℕ)
-    → raised at n (map kept_count e) ≡ map kept_count (added at (n ∷ []) e)
+    → raised_at at n (map kept_count e) ≡ map kept_count (added at (n ∷ []) e)
 raised_kept zero n [] = refl
 raised_kept zero n (m ∷ e) = ap (λ c. c ∷ map kept_count e) (kept_more m n)
 raised_kept (suc k) n [] = refl
@@ -211,8 +211,8 @@ module _ (w : World) where
       → Tallies (added at (length vs ∷ emits kids vs) e) (run_out out at F vs g)
   out_tallies at kids F h out vs g e is =
       let n = length vs in
-      let now : raised at n g.counts ≡ map kept_count (added at (n ∷ []) e) =
-      ap (raised at n) is ∙ raised_kept at n e in
+      let now : raised_at at n g.counts ≡ map kept_count (added at (n ∷ []) e) =
+      ap (raised_at at n) is ∙ raised_kept at n e in
       tallies_kept (added at (n ∷ emits kids vs) e) (run_each F vs (counted at n g)) out vs
       (subst (λ d. Tallies d (run_each F vs (counted at n g))) (added_next at n (emits kids vs) e)
       (each_tallies (suc at) kids F h vs (counted at n g) (added at (n ∷ []) e) now))
@@ -240,7 +240,7 @@ module _ (w : World) where
         let here = from_drop at sizes ((sizes_in kids ++ sizes_in rest) ++ more) (suc k) table in
         let low : below at ≡ suc at = omega arith in
         let next : behind sizes at ≡ at + suc k =
-        ap (λ o. place (at + unwrap_or o 0)) here.0 ∙ (omega arith) in
+        ap (λ o. kept_place (at + unwrap_or o 0)) here.0 ∙ (omega arith) in
         let on : drop (suc at) sizes ≡ sizes_in kids ++ (sizes_in rest ++ more) =
         here.1 ∙ append_assoc (sizes_in kids) (sizes_in rest) more in
         let past : drop (suc at + length (sizes_in kids)) sizes ≡ sizes_in rest ++ more =

@@ -39,25 +39,25 @@ abbrev pub kept : Option ℕ → List Value → Given → Given
 kept out values g = record { lists = put out values g.lists; counts = g.counts }
 
 -- the count at a place is n more
-abbrev pub raised : ℕ → ℕ → List ℕ → List ℕ
-raised at n counts = slice_set counts at (min (unwrap_or (slice_get counts at) 0 + n) (2 ^ 64 - 1))
+abbrev pub raised_at : ℕ → ℕ → List ℕ → List ℕ
+raised_at at n counts = slice_set counts at (min (unwrap_or (slice_get counts at) 0 + n) (2 ^ 64 - 1))
 
 abbrev pub counted : ℕ → ℕ → Given → Given
-counted at n g = record { lists = g.lists; counts = raised at n g.counts }
+counted at n g = record { lists = g.lists; counts = raised_at at n g.counts }
 
 -- ---- places of outputs in preorder, where the table says at the place of an output how many there
 -- are of it and of all on it
 
-abbrev pub place : ℕ → ℕ
-place n = min n (2 ^ 64 - 1)
+abbrev pub kept_place : ℕ → ℕ
+kept_place n = min n (2 ^ 64 - 1)
 
 -- the first on an output
 abbrev pub below : ℕ → ℕ
-below at = place (at + 1)
+below at = kept_place (at + 1)
 
 -- the first behind an output
 abbrev pub behind : List ℕ → ℕ → ℕ
-behind sizes at = place (at + unwrap_or (slice_get sizes at) 0)
+behind sizes at = kept_place (at + unwrap_or (slice_get sizes at) 0)
 
 abbrev pub behind_all : List ℕ → ℕ → List Twig → ℕ
 behind_all sizes at [] = at

@@ -17,7 +17,7 @@ use Rattle.plan_laws.specs.Operations.{times}
 use Rattle.plan_laws.proofs.Running.{place_same}
 use Rattle.plan_roles.specs.Levels.{level}
 use Rattle.plan_rules.specs.Fitting.{same_key}
-use Rattle.form_laws.specs.Classes.{AreClasses, IsChain, IsGbk, IsGbkAt, IsLinked, IsShared, has_same, keys_at, keys_of, members, related}
+use Rattle.form_laws.specs.Classes.{AreClasses, AreLinked, IsGbk, IsGbkAt, IsLinked, IsShared, has_same, keys_at, keys_of, members, related}
 use Rattle.form_laws.proofs.Basics.{all_at, counts_head, in_either, times_append}
 use Rattle.form_laws.proofs.Reading.{is_gbk}
 
@@ -78,7 +78,7 @@ related_sym b n k h =
     ∙ any_there (λ j. same_key j r.2) r.0 r.1 r.2 (key_self r.2) in
     share_related b k n r.2 (sym (related_level b n k h)) here r.4
 
-chain_level : (b : Blocked) (n : ℕ) (is : List ℕ) (k : ℕ) → IsChain b n is k
+chain_level : (b : Blocked) (n : ℕ) (is : List ℕ) (k : ℕ) → AreLinked b n is k
     → level b.graph.nodes n ≡ level b.graph.nodes k
 chain_level b n [] k h = related_level b n k h
 chain_level b n (i ∷ is) k h = related_level b n i h.0 ∙ chain_level b i is k h.1

@@ -17,7 +17,7 @@ use Rattle.plan_laws.specs.declared.operations.Key.{Key}
 use Rattle.plan_laws.specs.declared.operations.Key.TheVariants.{Mapper}
 use Rattle.plan_laws.specs.declared.operations.Operation.{Operation}
 use Rattle.plan_laws.specs.declared.operations.Operation.TheVariants.{Flat, Class}
-use Rattle.plan_laws.specs.Operations.{IsReducer, Reads, key_runs, reducer_runs, runs, times, works_at}
+use Rattle.plan_laws.specs.Operations.{IsReducer, IsPdoOn, key_runs, reducer_runs, runs, times, works_at}
 use Rattle.plan_roles.specs.Mappers.{is_mapper, is_reducer, is_stage, maps_at, reducer_of}
 use Rattle.form_laws.specs.declared.ranked.Ranked.{Ranked}
 use Rattle.form_laws.specs.Classes.{IsGbk, IsGbkAt, has_same, keys_of, members}
@@ -160,9 +160,9 @@ all_true P h [] = tt
 all_true P h (x ∷ xs) = (h x, all_true P h xs)
 
 pub reads_it : (b : Blocked) (n g : ℕ) (x : Node) → AllDiffer b.graph.nodes
-    → node_at b.graph.nodes n ≡ Some x → reducer_of b g ≡ Some n → Reads (place g 0) (Some x)
+    → node_at b.graph.nodes n ≡ Some x → reducer_of b g ≡ Some n → IsPdoOn (place g 0) (Some x)
 reads_it b n g x d h e =
-    subst (Reads (place g 0)) h
+    subst (IsPdoOn (place g 0)) h
     (subst (IsReducer b.graph.nodes g) e (reducer_ok b g d))
 
 mapper_no_reducer : (b : Blocked) (n g : ℕ) (d : Place) (f : Forest) → AllDiffer b.graph.nodes

@@ -19,7 +19,7 @@ use Rattle.exec_graph.proofs.Bools.{or_cases}
 use Rattle.plan_laws.specs.declared.operations.Key.{Key}
 use Rattle.plan_laws.specs.declared.operations.Key.TheVariants.{Mapper, Whole}
 use Rattle.plan_laws.specs.declared.operations.Operation.TheVariants.{Flat}
-use Rattle.plan_laws.specs.Operations.{IsIn, channel_of, gives_of, inputs_at, inputs_of, pdo_channel, reading_reads, reads_of, source_places}
+use Rattle.plan_laws.specs.Operations.{IsIn, channel_of, gives_of, inputs_at, read_through, pdo_channel, reading_reads, reads_of, source_places}
 use Rattle.plan_laws.proofs.Running.{place_same}
 use Rattle.plan_roles.specs.Levels.{greatest, level, one_gbk}
 use Rattle.plan_roles.specs.Reading.{goes_on}
@@ -228,7 +228,7 @@ flat_served b cs c s e x h d u = not_flat x d c b.graph.nodes u h (s.flat e x h)
 whole_given : (b : Blocked) (cs : List (List ℕ)) → AreParts b cs → (w : ℕ) (r : ℕ → ℕ) (y : Ranked)
     (n : ℕ) (d : Place) (o : ℕ) (last : Bool) (k : Option Comb) (c : Place) → IsSound b.graph
     → ((k : ℕ) → suc (r k) < w) → node_at b.graph.nodes n ≡ Some (Gbk d o last k)
-    → among c (inputs_of b.graph.nodes d) ≡ true → IsThere b.graph.nodes c
+    → among c (read_through b.graph.nodes d) ≡ true → IsThere b.graph.nodes c
     → y.rank ≡ 2 * level b.graph.nodes n
     → (is_mapper b c.node ≡ true → suc (level b.graph.nodes c.node) ≡ level b.graph.nodes n → ⊥)
     → GivenBelow b cs w r y c
@@ -284,7 +284,7 @@ pub key_given_by : (b : Blocked) (cs : List (List ℕ)) → AreParts b cs → (w
     (y : Ranked) (n : ℕ) (d : Place) (o : ℕ) (last : Bool) (k : Option Comb) (c : Place)
     (s t : Bool) → IsSound b.graph → IsRankedBy r b.graph.nodes → ((k : ℕ) → suc (r k) < w)
     → node_at b.graph.nodes n ≡ Some (Gbk d o last k)
-    → among c (inputs_of b.graph.nodes d) ≡ true → IsThere b.graph.nodes c
+    → among c (read_through b.graph.nodes d) ≡ true → IsThere b.graph.nodes c
     → y.rank ≡ 2 * level b.graph.nodes n → is_mapper b c.node ≡ s
     → eqb (suc (level b.graph.nodes c.node)) (level b.graph.nodes n) ≡ t
     → KeyGiven b cs w r y (cond (s && t) (Mapper c.node) (Whole c))

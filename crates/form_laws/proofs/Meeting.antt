@@ -15,7 +15,7 @@ use Rattle.exec_graph.specs.declared.graph.Entry.{Entry}
 use Rattle.exec_graph.specs.declared.graph.Blocked.{Blocked}
 use Rattle.exec_graph.proofs.Bools.{or_left, or_right, not_true}
 use Rattle.plan_roles.specs.of_fusion_blocks.Feeding.{flattens}
-use Rattle.plan_laws.specs.Operations.{inputs_at, inputs_of}
+use Rattle.plan_laws.specs.Operations.{inputs_at, read_through}
 use Rattle.plan_roles.specs.Levels.{level}
 use Rattle.plan_roles.specs.Reading.{feeds_other, goes_on, takes}
 use Rattle.plan_roles.specs.Mappers.{is_mapper, is_number, is_reducer, is_stage, is_staged, passes, reducer_of, reduces}
@@ -171,7 +171,7 @@ differs a b f = let e : eqb a b ≡ false = not_true (eqb a b) (λ h. f (eqb-tru
 -- a Gbk that takes c whole: it is of another level than a mapper's next
 pub whole_met : (b : Blocked) (n : ℕ) (d : Place) (o : ℕ) (last : Bool) (k : Option Comb)
     (c : Place) (x : Node) → node_at b.graph.nodes n ≡ Some (Gbk d o last k)
-    → among c (inputs_of b.graph.nodes d) ≡ true → node_at b.graph.nodes c.node ≡ Some x
+    → among c (read_through b.graph.nodes d) ≡ true → node_at b.graph.nodes c.node ≡ Some x
     → gives x c.out ≡ true
     → (is_mapper b c.node ≡ true → suc (level b.graph.nodes c.node) ≡ level b.graph.nodes n → ⊥)
     → IsMet b c x
@@ -196,8 +196,8 @@ whole_met b n d o last k c x h r e g other =
           (any_found
           (λ e. takes es c e.node && not (eqb (level es e.number) (suc (level es c.node)))) es n
           (Gbk d o last k) h
-          (and_both (same_place c d || among c (inputs_of es d))
+          (and_both (same_place c d || among c (read_through es d))
           (not (eqb (level es n) (suc (level es c.node))))
-          (or_right (same_place c d) (among c (inputs_of es d)) r)
+          (or_right (same_place c d) (among c (read_through es d)) r)
           (differs (level es n) (suc (level es c.node)) (λ u. other i (sym u))))));
     }

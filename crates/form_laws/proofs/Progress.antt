@@ -20,7 +20,7 @@ use Rattle.exec_graph.proofs.Bools.{or_false}
 use Rattle.plan_rules.proofs.of_graph_laws.ReadPlaces.{all_among}
 use Rattle.plan_laws.specs.declared.operations.Operation.TheVariants.{Flat}
 use Rattle.plan_laws.specs.declared.operations.Key.{Key}
-use Rattle.plan_laws.specs.Operations.{channel_of, flat_inputs, inputs_of, pdo_channel, reading_reads, reads_of}
+use Rattle.plan_laws.specs.Operations.{channel_of, flat_inputs, read_through, pdo_channel, reading_reads, reads_of}
 use Rattle.plan_roles.specs.Levels.{level}
 use Rattle.plan_roles.specs.Mappers.{is_mapper, is_reducer, is_stage, key_of}
 use Rattle.form_laws.specs.declared.ranked.Ranked.{Ranked}
@@ -43,12 +43,12 @@ gbk_keys b cs p w r y n (Some (Gbk d o last k)) ok ra wide h g rank =
     let es : List Entry = b.graph.nodes in
     let t : IsThere es d =
     (all_found (λ e. Each (IsThere es) (reads e.node)) es n (Gbk d o last k) h ok.there).0 in
-    Each-map (KeyGiven b cs w r y) (key_of b (level es n)) (inputs_of es d)
-    (Each-both (λ c. among c (inputs_of es d) ≡ true) (IsThere es)
+    Each-map (KeyGiven b cs w r y) (key_of b (level es n)) (read_through es d)
+    (Each-both (λ c. among c (read_through es d) ≡ true) (IsThere es)
     (λ c. KeyGiven b cs w r y (key_of b (level es n) c))
     (λ c i u. key_given_by b cs p w r y n d o last k c (is_mapper b c.node)
-    (eqb (suc (level es c.node)) (level es n)) ok ra wide h i u rank refl refl) (inputs_of es d)
-    (all_among (λ c. among c (inputs_of es d) ≡ true) (inputs_of es d) (λ c i. i))
+    (eqb (suc (level es c.node)) (level es n)) ok ra wide h i u rank refl refl) (read_through es d)
+    (all_among (λ c. among c (read_through es d) ≡ true) (read_through es d) (λ c i. i))
     (inputs_there es d (node_at es d.node) ok.there refl t))
 gbk_keys b cs p w r y n (Some (Barrier ins o l a)) ok ra wide h g rank = absurd g
 

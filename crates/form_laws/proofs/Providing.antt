@@ -16,7 +16,7 @@ use Rattle.exec_graph.proofs.Bools.{or_cases}
 use Rattle.plan_rules.specs.of_exec_plan.Channels.{outs_of}
 use Rattle.plan_laws.specs.declared.operations.Key.{Key}
 use Rattle.plan_laws.specs.declared.operations.Key.TheVariants.{Mapper}
-use Rattle.plan_laws.specs.Operations.{IsIn, gives_of, group_gives, inputs_at, inputs_of, reduced, times}
+use Rattle.plan_laws.specs.Operations.{IsIn, gives_of, group_gives, inputs_at, read_through, reduced, times}
 use Rattle.plan_laws.proofs.Running.{place_same}
 use Rattle.plan_roles.specs.Levels.{level}
 use Rattle.plan_roles.specs.Reading.{feeds_next, takes}
@@ -192,10 +192,10 @@ fed_input es (Source r) c d f h e = absurd (false≢true h)
 fed_input es (Flatten ins) c d f h e = absurd (false≢true h)
 fed_input es (Pdo x g) c d f h e = absurd (false≢true h)
 fed_input es (Gbk x o last k) c d f h e =
-    elim (or_cases (same_place c x) (among c (inputs_of es x)) h) [
+    elim (or_cases (same_place c x) (among c (read_through es x)) h) [
       | inl i ↦
           let same : c ≡ x = place_same c x i in
-          let at : inputs_of es x ≡ x ∷ [] =
+          let at : read_through es x ≡ x ∷ [] =
           ap (inputs_at x) (ap (λ (y : Place). node_at es y.node) (sym same) ∙ e) in
           (refl, ap (λ cs. among c cs) at ∙ rw i refl)
       | inr i ↦ (refl, i)

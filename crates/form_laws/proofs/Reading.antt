@@ -21,7 +21,7 @@ use Rattle.plan_roles.specs.of_fusion_blocks.Feeding.{flattens}
 use Rattle.plan_rules.proofs.of_graph_laws.ReadPlaces.{same_self}
 use Rattle.plan_rules.proofs.of_graph_laws.Reading.{those_has}
 use Rattle.plan_laws.proofs.Running.{place_same}
-use Rattle.plan_laws.specs.Operations.{IsIn, IsPdo, IsReducer, Reads}
+use Rattle.plan_laws.specs.Operations.{IsIn, IsPdo, IsReducer, IsPdoOn}
 use Rattle.plan_roles.specs.Reading.{carries_on, goes_on, goes_past, one_of, only_reader, works_on}
 use Rattle.plan_roles.specs.Mappers.{feeds_unmarked, is_mapper, is_stage, maps, maps_at, outputs_of, reducer_of, unless_mapper}
 use Rattle.form_laws.proofs.Basics.{any_found, none_found, negated}
@@ -162,7 +162,7 @@ those_all all [] t a = tt
 those_all all (e ∷ es) t a =
     those_by all t e (those t es) (t e.node) refl a.0 (those_all all es t a.1)
 
-pub calls_reads : (c : Place) (x : Node) → calls_on c x ≡ true → Reads c (Some x)
+pub calls_reads : (c : Place) (x : Node) → calls_on c x ≡ true → IsPdoOn c (Some x)
 calls_reads c (Source r) h = absurd (false≢true h)
 calls_reads c (Flatten ins) h = absurd (false≢true h)
 calls_reads c (Gbk d o l k) h = absurd (false≢true h)
@@ -178,7 +178,7 @@ reducer_by b n (Some r) d h =
     let all : Each (IsThat es (calls_on c)) (r ∷ []) =
     subst (Each (IsThat es (calls_on c))) (reduces_so b n r h).alone
     (those_all es es (calls_on c) (each_found es d)) in
-    subst (Reads c) (sym all.0.1) (calls_reads c all.0.0 all.0.2)
+    subst (IsPdoOn c) (sym all.0.1) (calls_reads c all.0.0 all.0.2)
 
 -- the reducer reads the Gbk
 pub reducer_ok : (b : Blocked) (n : ℕ) → AllDiffer b.graph.nodes

@@ -15,7 +15,7 @@ use Rattle.exec_graph.proofs.Entries.{all_found}
 use Rattle.exec_graph.proofs.Solving.{each_found}
 use Rattle.exec_graph.proofs.Soundness.{IsSound-ok}
 use Rattle.exec_graph.proofs.Bools.{not_true, or_cases}
-use Rattle.plan_laws.specs.Operations.{Reads}
+use Rattle.plan_laws.specs.Operations.{IsPdoOn}
 use Rattle.plan_laws.proofs.Running.{place_same}
 use Rattle.plan_rules.specs.Fitting.{HasReducer, IsReduced}
 use Rattle.plan_roles.specs.Reading.{one_of, only_reader}
@@ -34,7 +34,7 @@ among_each P c (d ∷ ds) a h =
       | inr i ↦ among_each P c ds a.1 i
     ]
 
-unmapped_by : (b : Blocked) (r : ℕ) (c : Place) (o : Option Node) → Reads c o
+unmapped_by : (b : Blocked) (r : ℕ) (c : Place) (o : Option Node) → IsPdoOn c o
     → is_lifted (node_at b.graph.nodes c.node) ≡ true → maps_at b r o ≡ false
 unmapped_by b r c None h l = absurd h
 unmapped_by b r c (Some (Source s)) h l = absurd h
@@ -62,8 +62,8 @@ lifted_reducer b n c o l k ok h =
     let all : Each (IsThat es (calls_on at)) (lift.reader ∷ []) =
     subst (Each (IsThat es (calls_on at))) lift.alone
     (those_all es es (calls_on at) (each_found es sound.differ)) in
-    let reads_it : Reads at (node_at es lift.reader) =
-    subst (Reads at) (sym all.0.1) (calls_reads at all.0.0 all.0.2) in
+    let reads_it : IsPdoOn at (node_at es lift.reader) =
+    subst (IsPdoOn at) (sym all.0.1) (calls_reads at all.0.0 all.0.2) in
     let unmapped : is_mapper b lift.reader ≡ false =
     unmapped_by b lift.reader at (node_at es lift.reader) reads_it yes in
     let only : only_reader b.graph at ≡ Some lift.reader =

@@ -17,12 +17,12 @@ use Rattle.plan_laws.specs.declared.operations.Key.TheVariants.{Mapper, Whole}
 use Rattle.plan_laws.specs.declared.operations.Grouped.{Grouped}
 use Rattle.plan_laws.specs.declared.operations.Operation.{Operation}
 use Rattle.plan_laws.specs.declared.operations.Operation.TheVariants.{Class}
-use Rattle.plan_laws.specs.Operations.{inputs_of, plan_of, source_places}
+use Rattle.plan_laws.specs.Operations.{read_through, plan_of, source_places}
 use Rattle.plan_roles.specs.Levels.{level}
 use Rattle.plan_roles.specs.Mappers.{feeds_unmarked, is_mapper, is_reducer, keys_in, maps, maps_at, outputs_of, reduces, reducer_of, unless_mapper, is_number}
 use Rattle.plan_roles.specs.Reading.{feeds_next, goes_past, only_reader}
 use Rattle.form_laws.specs.declared.ranked.Ranked.{Ranked}
-use Rattle.form_laws.specs.Classes.{AreClasses, IsChain, IsLinked, has_same, keys_at, keys_of, related}
+use Rattle.form_laws.specs.Classes.{AreClasses, AreLinked, IsLinked, has_same, keys_at, keys_of, related}
 use Rattle.form_laws.specs.Formed.{AreFormed, IsFormed, in_order}
 use Rattle.form_laws.specs.Operations.{all_alone, alone, alone_of, class_keys, class_level, class_operation, class_ranked, first_uses, key_passes, least_of, operations, passes_at, trivial}
 use Rattle.form_laws.specs.Order.{InTurn, ordered}
@@ -90,7 +90,7 @@ module _ (g : Graph) (m n : List Place) (same : (c : Place) → among c m ≡ am
   keys_in_alike k c =
       ap (λ (t : ℕ → Bool). map (λ (d : Place). cond
       (t d.node && eqb (suc (level g.nodes d.node)) (level g.nodes k))
-      (Mapper d.node) (Whole d)) (inputs_of g.nodes c)) mapper_alike
+      (Mapper d.node) (Whole d)) (read_through g.nodes c)) mapper_alike
 
   keys_at_alike : (k : ℕ) (o : Option Node) → keys_at left k o ≡ keys_at right k o
   keys_at_alike k None = refl
@@ -108,11 +108,11 @@ module _ (g : Graph) (m n : List Place) (same : (c : Place) → among c m ≡ am
       ap (λ (t : ℕ → List Key). eqb (level g.nodes k) (level g.nodes r)
       && list_any (has_same (t k)) (t r)) keys_alike
 
-  chain_alike : (k : ℕ) (rs : List ℕ) (r : ℕ) → IsChain left k rs r → IsChain right k rs r
+  chain_alike : (k : ℕ) (rs : List ℕ) (r : ℕ) → AreLinked left k rs r → AreLinked right k rs r
   chain_alike k [] r h = sym (related_alike k r) ∙ h
   chain_alike k (j ∷ js) r h = (sym (related_alike k j) ∙ h.0, chain_alike j js r h.1)
 
-  chain_back : (k : ℕ) (rs : List ℕ) (r : ℕ) → IsChain right k rs r → IsChain left k rs r
+  chain_back : (k : ℕ) (rs : List ℕ) (r : ℕ) → AreLinked right k rs r → AreLinked left k rs r
   chain_back k [] r h = related_alike k r ∙ h
   chain_back k (j ∷ js) r h = (related_alike k j ∙ h.0, chain_back j js r h.1)
 

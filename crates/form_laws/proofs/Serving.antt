@@ -17,7 +17,7 @@ use Rattle.plan_laws.specs.declared.operations.Key.{Key}
 use Rattle.plan_laws.specs.declared.operations.Grouped.{Grouped}
 use Rattle.plan_laws.specs.declared.operations.Operation.{Operation}
 use Rattle.plan_laws.specs.declared.operations.Operation.TheVariants.{Flat, Class}
-use Rattle.plan_laws.specs.Operations.{IsIn, IsReducer, Reads, gives_of, group_gives, outs_at, reduced, source_place, source_places}
+use Rattle.plan_laws.specs.Operations.{IsIn, IsReducer, IsPdoOn, gives_of, group_gives, outs_at, reduced, source_place, source_places}
 use Rattle.plan_roles.specs.Levels.{level}
 use Rattle.plan_roles.specs.Reading.{goes_on}
 use Rattle.plan_roles.specs.Mappers.{is_mapper, is_reducer, is_stage, outputs_of, passes, reducer_of, reduces}
@@ -214,7 +214,7 @@ serve_reducer b cs p c d f ok h g r =
     let k = class_of b cs p e.gbk e.node e.at e.is in
     let rd : IsReducer es e.gbk (Some c.node) =
     subst (IsReducer es e.gbk) e.by (reducer_ok b e.gbk ok.differ) in
-    let same : d ≡ place e.gbk 0 = subst (Reads (place e.gbk 0)) h rd in
+    let same : d ≡ place e.gbk 0 = subst (IsPdoOn (place e.gbk 0)) h rd in
     let lev : level es c.node ≡ level es d.node = levels_at b.graph c.node (Pdo d f) ok h in
     let lev2 : level es d.node ≡ level es e.gbk = ap (λ (x : Place). level es x.node) same in
     serve_class b cs e.gbk k c (class_gives b cs e.gbk k c

@@ -12,7 +12,7 @@ use Rattle.exec_graph.specs.declared.graph.Blocked.{Blocked}
 use Rattle.exec_graph.proofs.Solving.{each_found}
 use Rattle.exec_graph.proofs.Soundness.{differ_ascends}
 use Rattle.plan_laws.specs.Operations.{times}
-use Rattle.form_laws.specs.Classes.{AreClasses, IsChain, IsGbk, IsGbkAt, IsLinked, Rises, related}
+use Rattle.form_laws.specs.Classes.{AreClasses, AreLinked, IsGbk, IsGbkAt, IsLinked, Rises, related}
 use Rattle.form_laws.proofs.Basics.{absent, counted, counts_head, none_counted}
 use Rattle.form_laws.proofs.ByLabel.{by_label, label_each, label_rise, label_shared, label_some, label_times, rises_by, shared_label}
 use Rattle.form_laws.proofs.Classing.{gbk_node, node_gbk, related_gbk, related_sym}
@@ -20,8 +20,8 @@ use Rattle.form_laws.proofs.Reading.{IsThat, is_gbk, those_all}
 
 -- ---- links on and back
 
-chain_on : (b : Blocked) (n : ℕ) (is : List ℕ) (j : ℕ) (js : List ℕ) (k : ℕ) → IsChain b n is j
-    → IsChain b j js k → IsChain b n (is ++ j ∷ js) k
+chain_on : (b : Blocked) (n : ℕ) (is : List ℕ) (j : ℕ) (js : List ℕ) (k : ℕ) → AreLinked b n is j
+    → AreLinked b j js k → AreLinked b n (is ++ j ∷ js) k
 chain_on b n [] j js k p q = (p, q)
 chain_on b n (i ∷ is) j js k p q = (p.0, chain_on b i is j js k p.1 q)
 
@@ -31,7 +31,7 @@ linked_on b n j k (inr p) (inl e) = subst (λ (x : ℕ). IsLinked b n x) e (inr 
 linked_on b n j k (inr p) (inr q) =
     inr (p.0 ++ j ∷ q.0, chain_on b n p.0 j q.0 k p.1 q.1)
 
-chain_back : (b : Blocked) (n : ℕ) (is : List ℕ) (k : ℕ) → IsChain b n is k → IsLinked b k n
+chain_back : (b : Blocked) (n : ℕ) (is : List ℕ) (k : ℕ) → AreLinked b n is k → IsLinked b k n
 chain_back b n [] k h = inr ([], related_sym b n k h)
 chain_back b n (i ∷ is) k h =
     linked_on b k i n (chain_back b i is k h.1) (inr ([], related_sym b n i h.0))
@@ -231,7 +231,7 @@ related_label b n k g h r =
     (gbk_in b n g) (gbk_in b k h) r
 
 chain_label : (b : Blocked) (n : ℕ) (is : List ℕ) (k : ℕ) → IsGbk b n → IsGbk b k
-    → IsChain b n is k → label_of b n ≡ label_of b k
+    → AreLinked b n is k → label_of b n ≡ label_of b k
 chain_label b n [] k g h r = related_label b n k g h r
 chain_label b n (i ∷ is) k g h r =
     let j : IsGbk b i = related_gbk b n i r.0 in

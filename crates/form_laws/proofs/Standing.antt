@@ -18,7 +18,7 @@ use Rattle.plan_rules.specs.of_exec_plan.Channels.{outs_of}
 use Rattle.plan_rules.proofs.of_graph_laws.ReadPlaces.{same_self}
 use Rattle.plan_laws.specs.declared.operations.Key.{Key}
 use Rattle.plan_laws.specs.declared.operations.Key.TheVariants.{Mapper, Whole}
-use Rattle.plan_laws.specs.Operations.{HasKey, IsFlat, IsGroupedOk, IsHonest, IsKeyOk, IsPdo, IsTaken, TakesInputs, has_key, inputs_at, inputs_of}
+use Rattle.plan_laws.specs.Operations.{HasKey, IsFlat, IsGroupedOk, IsHonest, IsKeyOk, IsPdo, IsTaken, TakesInputs, has_key, inputs_at, read_through}
 use Rattle.plan_laws.proofs.Carrying.{outs_has}
 use Rattle.plan_roles.specs.Levels.{level}
 use Rattle.plan_roles.specs.Mappers.{is_mapper, key_of, outputs_of, passes}
@@ -47,7 +47,7 @@ inputs_from es None = []
 inputs_from es (Some (Source r)) = []
 inputs_from es (Some (Flatten ins)) = []
 inputs_from es (Some (Pdo c f)) = []
-inputs_from es (Some (Gbk c o l k)) = inputs_of es c
+inputs_from es (Some (Gbk c o l k)) = read_through es c
 inputs_from es (Some (Barrier ins o l a)) = []
 
 pub keys_map : (b : Blocked) (n : ℕ) (o : Option Node) → keys_at b n o
@@ -186,7 +186,7 @@ takes_by es keys n (Some (Pdo d f)) a h g i = absurd g
 takes_by es keys n (Some (Gbk c o l k)) a h g i =
     let t : IsThere es c =
     (all_found (λ e. Each (IsThere es) (reads e.node)) es n (Gbk c o l k) h a).0 in
-    Each-both (HasKey keys) (IsThere es) (IsTaken es keys) (λ c x y. (x, y)) (inputs_of es c) i
+    Each-both (HasKey keys) (IsThere es) (IsTaken es keys) (λ c x y. (x, y)) (read_through es c) i
     (inputs_there es c (node_at es c.node) a refl t)
 takes_by es keys n (Some (Barrier ins x y d)) a h g i = absurd g
 

@@ -37,13 +37,13 @@ related b n k =
     && list_any (has_same (keys_of b n)) (keys_of b k)
 
 -- each is related to the next
-abbrev pub IsChain : Blocked → ℕ → List ℕ → ℕ → Type 0
-IsChain b n [] k = related b n k ≡ true
-IsChain b n (i ∷ is) k = (related b n i ≡ true) × IsChain b i is k
+abbrev pub AreLinked : Blocked → ℕ → List ℕ → ℕ → Type 0
+AreLinked b n [] k = related b n k ≡ true
+AreLinked b n (i ∷ is) k = (related b n i ≡ true) × AreLinked b i is k
 
 -- one, or joined by a chain
 abbrev pub IsLinked : Blocked → ℕ → ℕ → Type 0
-IsLinked b n k = (n ≡ k) ⊎ ((between : List ℕ) × IsChain b n between k)
+IsLinked b n k = (n ≡ k) ⊎ ((between : List ℕ) × AreLinked b n between k)
 
 -- ---- classes
 

@@ -11,7 +11,7 @@ use Rattle.exec_graph.specs.declared.graph.Node.TheVariants.{Source, Flatten, Pd
 use Rattle.exec_graph.specs.declared.graph.Entry.{Entry}
 use Rattle.exec_graph.specs.declared.graph.Graph.{Graph}
 use Rattle.exec_graph.proofs.Entries.{all_map}
-use Rattle.graph_laws.specs.Joining.{as_kid, grafted, joined, moved, reread_entry, set_node, without}
+use Rattle.graph_laws.specs.Joining.{as_kid, grafted, joined_into, moved, reread_entry, set_node, without}
 use Rattle.graph_laws.specs.Kids.{apart, even, kept_by, moved_out, named_by, number_in, odd, out_kept, refitted, renewed, same_number, with_kid}
 use Rattle.graph_laws.proofs.Changes.{all_set, all_without, differ_without}
 use Rattle.graph_laws.proofs.Wellness.{differ_map, reads_reread}
@@ -131,7 +131,7 @@ module _ (N : ℕ → Type 0) (l : ℕ → ℕ)
 
   -- ---- one Pdo of two
   joined_holds : (g : Graph) (p q : ℕ) (c : Place) (f : Forest) → Holds g → N p → N c.node
-      → Holds (joined g p q c f)
+      → Holds (joined_into g p q c f)
   joined_holds g p q c f w a b = record {
     nodes = all_within (moved p q) (λ d i. both_within p q d a i)
         (set_node (without g.nodes q) p (Pdo c f))
@@ -144,7 +144,7 @@ module _ (N : ℕ → Type 0) (l : ℕ → ℕ)
   }
 
   joined_numbered : (g : Graph) (p q : ℕ) (c : Place) (f : Forest) → Holds g → N p → N q
-      → N c.node → R (joined g p q c f) ≡ joined (R g) (l p) (l q) (x c) f
+      → N c.node → R (joined_into g p q c f) ≡ joined_into (R g) (l p) (l q) (x c) f
   joined_numbered g p q c f w a e b =
       let es : List Entry = g.nodes in
       let z : Node = Pdo c f in
@@ -208,12 +208,12 @@ module _ (N : ℕ → Type 0) (l : ℕ → ℕ)
       let hold_first : Holds first = refit_holds g p c near even w a b in
       let second : Graph = refitted first q d other odd in
       let hold_second : Holds second = refit_holds first q d other odd hold_first e in_d in
-      let third : Graph = joined second p q c all in
+      let third : Graph = joined_into second p q c all in
       let hold_third : Holds third = joined_holds second p q c all hold_second a b in
       renewed_numbered third p c all hold_third a b
       ∙ ap (λ (y : Graph). renewed y (l p) (x c) all)
       (joined_numbered second p q c all hold_second a e b
-      ∙ ap (λ (y : Graph). joined y (l p) (l q) (x c) all)
+      ∙ ap (λ (y : Graph). joined_into y (l p) (l q) (x c) all)
       (refit_numbered first q d other odd hold_first e in_d
       ∙ ap₂ (λ (y : Graph) (s : Place). refitted y (l q) s other odd)
       (refit_numbered g p c near even w a b)

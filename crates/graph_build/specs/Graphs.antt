@@ -12,7 +12,7 @@ use Rattle.script_program.specs.Script.{Script}
 use Rattle.exec_graph.specs.Meaning.{place}
 use Rattle.graph_build.specs.Built.{Built, built}
 use Rattle.graph_build.specs.Calls.{emitted_as, is_kept, kept_from, needed_from, number_behind, other_names}
-use Rattle.graph_build.specs.Nodes.{before_last, first_of, inputs_of, made_nodes}
+use Rattle.graph_build.specs.Nodes.{before_last, first_of, sources_made, made_nodes}
 use Rattle.graph_build.specs.Wanted.{wanted}
 
 -- ---- numbers
@@ -85,7 +85,7 @@ place_in places number = slice_index_or places number (first_of 0)
 -- the number of the next source behind what is built, in order of the script
 abbrev pub next_source : ℕ → Option Built → ℕ
 next_source source None = source
-next_source source (Some it) = source + inputs_of it.made
+next_source source (Some it) = source + sources_made it.made
 
 -- the nodes of what is built
 abbrev pub nodes_at : Script → (ℕ → Place) → ℕ → ℕ → Option Built → List Entry

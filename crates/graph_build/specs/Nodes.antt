@@ -141,10 +141,10 @@ before_last (made.DoWith source function object) = 0
 before_last (made.Saved is_object call) = 0
 
 -- how many sources a collection has
-abbrev pub inputs_of : Made → ℕ
-inputs_of (made.Input file columns) = 1
-inputs_of (made.Saved is_object call) = 1
-inputs_of _ = 0
+abbrev pub sources_made : Made → ℕ
+sources_made (made.Input file columns) = 1
+sources_made (made.Saved is_object call) = 1
+sources_made _ = 0
 
 -- the nodes of the collection `origin` of a script from number n on, where these places give the
 -- script's collections, and `source` is the number of the next source in order of the script

@@ -5,7 +5,7 @@ ghost use Rattle.exec_graph.specs.declared.step.Does.TheVariants as does;
 ghost use Rattle.graph_build.specs.Built.{built, built_at as built_in};
 ghost use Rattle.graph_build.specs.Graphs as spec;
 ghost use Rattle.graph_build.specs.Nodes.{call_in, entry, last_step as last_step_of, made_nodes, source_number};
-ghost use Rattle.graph_build.specs.Nodes.{before_last as before_last_of, inputs_of as inputs_in};
+ghost use Rattle.graph_build.specs.Nodes.{before_last as before_last_of, sources_made as inputs_in};
 ghost use Rattle.script_program.specs.Saved.{with_saved};
 ghost use Rattle.script_program.specs.Sources.{source_numbers as numbers_in};
 

@@ -2,7 +2,7 @@
 ghost use Rattle.std.specs.Prelude.{◌≡◌, ◌+◌, ◌<◌, [], ◌∷◌, ◌++◌, length, IfOk, OnOk};
 ghost use Rattle.graph_build.specs.Built.{built_at as built_in};
 ghost use Rattle.graph_build.specs.Graphs as spec;
-ghost use Rattle.graph_build.specs.Nodes.{before_last as before_last_of, first_of as place_of, inputs_of as inputs_in};
+ghost use Rattle.graph_build.specs.Nodes.{before_last as before_last_of, first_of as place_of, sources_made as inputs_in};
 
 use crate::built::built_at;
 use exec_graph::Place;

@@ -9,7 +9,7 @@ use Rattle.exec_graph.specs.declared.graph.Node.{Node}
 use Rattle.exec_graph.specs.declared.graph.Node.TheVariants.{Pdo}
 use Rattle.exec_graph.specs.declared.graph.Place.{Place}
 use Rattle.exec_graph.proofs.Bools.{not_true}
-use Rattle.graph_laws.specs.Joining.{joined, moved, reread_entry, set_node, without}
+use Rattle.graph_laws.specs.Joining.{joined_into, moved, reread_entry, set_node, without}
 use Rattle.graph_laws.specs.Kids.{apart, even, moved_out, named_by, odd}
 use Rattle.graph_rewrites.specs.Exchange.{exchanged, swapped}
 use Rattle.graph_joining.specs.inner.Apart.{apart_place}
@@ -124,7 +124,7 @@ nodes_joined es p q c x y all r s t differ rc sc =
     ∙ nodes_both both t (set_node left p (Pdo c all))
 
 pub joined_apart : (g : Graph) (p q : ℕ) (c d : Place) (f h all : Forest) → Differ p q c
-    → joined (apart g p q c d f h) p q c all
+    → joined_into (apart g p q c d f h) p q c all
     ≡ refitted_by (apart_place p q p) (parted g p q c) p c all
 joined_apart g p q c d f h all differ =
     let r : Place → Place = moved_out p even in
@@ -148,7 +148,7 @@ joined_apart g p q c d f h all differ =
     ∙ places_same (λ (e : Place). t (s (r e))) now is g.outputs)
 
 pub joined_swapped : (g : Graph) (p q : ℕ) (c d e : Place) (f h all : Forest) → Differ p q c
-    → joined (apart (swapped g p q c d f h) q p c e f h) q p c all
+    → joined_into (apart (swapped g p q c d f h) q p c e f h) q p c all
     ≡ refitted_by (apart_place p q q) (parted g q p c) q c all
 joined_swapped g p q c d e f h all differ =
     let r : Place → Place = moved_out q even in

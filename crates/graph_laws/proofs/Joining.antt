@@ -15,7 +15,7 @@ use Rattle.exec_graph.specs.of_flume_collection.Traps.{trap_le}
 use Rattle.exec_graph.proofs.of_flume_collection.Bagging.{Swaps, gather-append, gather-gather}
 use Rattle.exec_graph.proofs.of_flume_collection.Orders.{bags, sets, one_bag}
 use Rattle.exec_graph.specs.Forests.{Label, Forest, Bare, Grow}
-use Rattle.graph_laws.specs.Joining.{beside, grafted, HasOne, set_node, without, moved, reread, reread_entry, joined, CanJoin, as_kid, as_sibling}
+use Rattle.graph_laws.specs.Joining.{beside, grafted, HasOne, set_node, without, moved, reread, reread_entry, joined_into, CanJoin, as_kid, as_sibling}
 use Rattle.exec_graph.proofs.Entries.{entry, all_map, all_found, flat_map_alike}
 use Rattle.graph_laws.proofs.Changes.{all_set, all_without, all_set_others, differ_without, node_at-without_other, sum_set, sum_at}
 use Rattle.exec_graph.specs.declared.graph.Place.{Place}
@@ -265,7 +265,7 @@ pub record Joins (w : World) (m : Place → Collection) (p q : ℕ) (c d : Place
 
 pub KeepsMeaning-joined : (g : Graph) (p q : ℕ) (c d : Place) (f h new : Forest) → IsSound g
     → CanJoin g p q c d f h → ((w : World) (m : Place → Collection) → Meets w g.nodes m
-    → Joins w m p q c d f h new) → KeepsMeaning g (joined g p q c new)
+    → Joins w m p q c d f h new) → KeepsMeaning g (joined_into g p q c new)
 KeepsMeaning-joined g p q c d f h new ok can joins w m meets =
     let k : Place → Collection = joined_values m p q h in
     let r : Place → Place = moved p q in
@@ -308,7 +308,7 @@ KeepsMeaning-joined g p q c d f h new ok can joins w m meets =
       record {
         outputs = sym (map_reread k m r g.outputs (same g.outputs ok.told));
         own = λ i. one_bag (flat_map (λ (e : Entry). own w m i e.node) g.nodes)
-            (flat_map (λ (e : Entry). own w k i e.node) (joined g p q c new).nodes)
+            (flat_map (λ (e : Entry). own w k i e.node) (joined_into g p q c new).nodes)
             (sum_joined put bags (λ (e : Entry). own w m i e.node) (λ (e : Entry). own w k i e.node)
             g.nodes p q (Pdo c f) (Pdo d h) z r [] can.keeper can.other can.apart
             (Each-weaker R (λ e. own w k i (reread r e.node) ≡ own w m i e.node)

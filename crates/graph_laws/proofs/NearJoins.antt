@@ -16,7 +16,7 @@ use Rattle.exec_graph.specs.Wellformed.{IsLiftedOk, comb_at, root_comb, total_si
 use Rattle.exec_graph.proofs.Bools.{not_true, or_left}
 use Rattle.exec_graph.proofs.Entries.{all_found, all_map, entry}
 use Rattle.exec_graph.proofs.Soundness.{differ_ascends}
-use Rattle.graph_laws.specs.Joining.{CanJoin, joined, moved, reread, reread_entry, set_node, without}
+use Rattle.graph_laws.specs.Joining.{CanJoin, joined_into, moved, reread, reread_entry, set_node, without}
 use Rattle.graph_laws.proofs.Changes.{all_set, all_set_others, all_without, differ_without, node_at-without_other}
 use Rattle.graph_laws.proofs.Nearly.{IsFar, IsNear, NearNode, Spares, among_spared, calls_spared, collects_spared, comb_mapped, comb_set, near_reread, uses_spared}
 use Rattle.graph_laws.proofs.Reading.{any_here, any_map, any_set, any_without, ascends_map, ascends_set, ascends_without, size_map, size_set, size_without, those_has, those_map, those_not, those_set, those_without}
@@ -93,20 +93,20 @@ module _ (g : Graph) (p q : ℕ) (c d : Place) (f h new : Forest) (can : CanJoin
   at_p = node_at-without_other g.nodes q p (Pdo c f) can.apart can.keeper
 
   pub uses_same : same_place x d ≡ false
-      → any_node (uses x) (joined g p q c new).nodes ≡ any_node (uses x) g.nodes
+      → any_node (uses x) (joined_into g p q c new).nodes ≡ any_node (uses x) g.nodes
   uses_same no_d =
       any_map (uses x) r (uses_spared r x s) (set_node left p z)
       ∙ any_set (uses x) left p z (Pdo c f) at_p refl
       ∙ any_without (uses x) g.nodes q (Pdo d h) can.other (ap (λ b. b || false) no_d)
 
   pub uses_here : same_place x c ≡ true
-      → any_node (uses x) (joined g p q c new).nodes ≡ true
+      → any_node (uses x) (joined_into g p q c new).nodes ≡ true
   uses_here is_c =
       any_map (uses x) r (uses_spared r x s) (set_node left p z)
       ∙ any_here (uses x) (set_node left p z) p z (node_at-set_same left p z (Pdo c f) at_p)
       (ap (λ b. b || false) is_c)
 
-  pub collects_same : any_node (collects x) (joined g p q c new).nodes
+  pub collects_same : any_node (collects x) (joined_into g p q c new).nodes
       ≡ any_node (collects x) g.nodes
   collects_same =
       any_map (collects x) r (collects_spared r x s) (set_node left p z)
@@ -114,18 +114,18 @@ module _ (g : Graph) (p q : ℕ) (c d : Place) (f h new : Forest) (can : CanJoin
       ∙ any_without (collects x) g.nodes q (Pdo d h) can.other refl
 
   pub readers_same : same_place x d ≡ false
-      → readers (joined g p q c new).nodes x ≡ readers g.nodes x
+      → readers (joined_into g p q c new).nodes x ≡ readers g.nodes x
   readers_same no_d =
       those_map (calls_on x) r (calls_spared r x s) (set_node left p z)
       ∙ those_set (calls_on x) left p z (Pdo c f) at_p refl
       ∙ those_without (calls_on x) g.nodes q (Pdo d h) can.other no_d
 
-  pub outputs_same : among x (joined g p q c new).outputs ≡ among x g.outputs
+  pub outputs_same : among x (joined_into g p q c new).outputs ≡ among x g.outputs
   outputs_same = among_spared r x s g.outputs
 
   -- the combiner of a reader that is not the one that goes
   pub root_same : (m : ℕ) → (m ≡ q → ⊥) → root_comb new ≡ root_comb f
-      → comb_at (node_at (joined g p q c new).nodes m) ≡ comb_at (node_at g.nodes m)
+      → comb_at (node_at (joined_into g p q c new).nodes m) ≡ comb_at (node_at g.nodes m)
   root_same m gone root =
       ap comb_at (node_at-map r (set_node left p z) m)
       ∙ comb_mapped r (node_at (set_node left p z) m)
@@ -133,7 +133,7 @@ module _ (g : Graph) (p q : ℕ) (c d : Place) (f h new : Forest) (can : CanJoin
       ∙ ap comb_at (node_without g.nodes q m gone)
 
   pub root_other : (m : ℕ) → (m ≡ q → ⊥) → (m ≡ p → ⊥)
-      → comb_at (node_at (joined g p q c new).nodes m) ≡ comb_at (node_at g.nodes m)
+      → comb_at (node_at (joined_into g p q c new).nodes m) ≡ comb_at (node_at g.nodes m)
   root_other m gone apart =
       ap comb_at (node_at-map r (set_node left p z) m)
       ∙ comb_mapped r (node_at (set_node left p z) m)
@@ -142,7 +142,7 @@ module _ (g : Graph) (p q : ℕ) (c d : Place) (f h new : Forest) (can : CanJoin
 -- ---- a kid
 pub kid_keeps : (g : Graph) (p q : ℕ) (c d : Place) (f h new : Forest) → AllDiffer g.nodes
     → CanJoin g p q c d f h → d.node ≡ p → root_comb new ≡ root_comb f
-    → JoinKeeps g (joined g p q c new) p q
+    → JoinKeeps g (joined_into g p q c new) p q
 kid_keeps g p q c d f h new differ can reads_p root = record {
   read = λ x far i.
       (λ j. uses_same g p q c d f h new can x far (no_d x far) j
@@ -167,7 +167,7 @@ kid_keeps g p q c d f h new differ can reads_p root = record {
 
 -- ---- a sibling
 pub sibling_keeps : (g : Graph) (p q : ℕ) (c : Place) (f h new : Forest) → AllDiffer g.nodes
-    → CanJoin g p q c c f h → JoinKeeps g (joined g p q c new) p q
+    → CanJoin g p q c c f h → JoinKeeps g (joined_into g p q c new) p q
 sibling_keeps g p q c f h new differ can = record {
   read = λ x far i. still x far (same_place x c) refl i;
   lift = λ m k far a.
@@ -193,21 +193,21 @@ sibling_keeps g p q c f h new differ can = record {
 }
   where
     still : (x : Place) → IsFar p q x.node → (b : Bool) → same_place x c ≡ b
-        → is_read g x ≡ true → is_read (joined g p q c new) x ≡ true
+        → is_read g x ≡ true → is_read (joined_into g p q c new) x ≡ true
     still x far true e i =
-        or_left (any_node (uses x) (joined g p q c new).nodes)
-        (among x (joined g p q c new).outputs) (uses_here g p q c c f h new can x far e)
+        or_left (any_node (uses x) (joined_into g p q c new).nodes)
+        (among x (joined_into g p q c new).outputs) (uses_here g p q c c f h new can x far e)
     still x far false e i =
         (λ j. uses_same g p q c c f h new can x far e j
         || outputs_same g p q c c f h new can x far j) ∙ i
 
 -- ---- the joined graph
 pub near_joined : (g : Graph) (p q : ℕ) (c d : Place) (f h new : Forest) → CanJoin g p q c d f h
-    → steps new ≡ steps f + steps h → JoinKeeps g (joined g p q c new) p q → IsNear p q g
-    → IsNear p p (joined g p q c new)
+    → steps new ≡ steps f + steps h → JoinKeeps g (joined_into g p q c new) p q → IsNear p q g
+    → IsNear p p (joined_into g p q c new)
 near_joined g p q c d f h new can count keeps near =
     let r : Place → Place = moved p q in
-    let k : Graph = joined g p q c new in
+    let k : Graph = joined_into g p q c new in
     let left : List Entry = without g.nodes q in
     let z : Node = Pdo c new in
     let set : List Entry = set_node left p z in

@@ -13,7 +13,7 @@ use Rattle.exec_graph.specs.Objects.{takes_such}
 use Rattle.exec_graph.specs.Wellformed.{HaveObjects, has_objects, is_object, is_object_at}
 use Rattle.exec_graph.proofs.Bools.{not_true}
 use Rattle.exec_graph.proofs.Entries.{entry}
-use Rattle.graph_laws.specs.Joining.{CanJoin, joined, moved, reread, reread_entry, set_node, without}
+use Rattle.graph_laws.specs.Joining.{CanJoin, joined_into, moved, reread, reread_entry, set_node, without}
 use Rattle.graph_laws.specs.Kids.{moved_out, refitted}
 use Rattle.graph_laws.proofs.Changes.{all_set, all_without, node_at-without_other}
 use Rattle.graph_laws.proofs.Wellness.{mapped, node_at-map, node_at-set_same}
@@ -135,14 +135,14 @@ objects_refitted g n c f new r at a =
 
 -- ---- two Pdos that become one
 pub objects_joined : (g : Graph) (p q : ℕ) (c d : Place) (f h new : Forest)
-    → CanJoin g p q c d f h → HaveObjects g.nodes → HaveObjects (joined g p q c new).nodes
+    → CanJoin g p q c d f h → HaveObjects g.nodes → HaveObjects (joined_into g p q c new).nodes
 objects_joined g p q c d f h new can a =
     let left : List Entry = without g.nodes q in
     let z : Node = Pdo c new in
     let set : List Entry = set_node left p z in
     let at_p : node_at left p ≡ Some (Pdo c f) =
     node_at-without_other g.nodes q p (Pdo c f) can.apart can.keeper in
-    objects_reread g.nodes (joined g p q c new).nodes (moved p q)
+    objects_reread g.nodes (joined_into g p q c new).nodes (moved p q)
     (λ x. object_reread (moved p q) set (moved p q x).node
     ∙ by x (eqb x.node q) refl at_p) set
     (all_set (λ (e : Entry). has_objects g.nodes e.node ≡ true) left p z

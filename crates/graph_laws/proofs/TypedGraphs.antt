@@ -12,7 +12,7 @@ use Rattle.exec_graph.specs.declared.graph.Node.TheVariants.{Source, Flatten, Pd
 use Rattle.exec_graph.specs.declared.graph.Entry.{Entry}
 use Rattle.exec_graph.specs.declared.graph.Graph.{Graph}
 use Rattle.exec_graph.proofs.Entries.{entry, all_map, all_found}
-use Rattle.graph_laws.specs.Joining.{set_node, without, moved, reread, reread_entry, joined, CanJoin}
+use Rattle.graph_laws.specs.Joining.{set_node, without, moved, reread, reread_entry, joined_into, CanJoin}
 use Rattle.graph_laws.specs.Kids.{moved_out, refitted}
 use Rattle.graph_laws.proofs.Changes.{all_without, all_set_others, differ_without}
 use Rattle.graph_laws.proofs.Joining.{joined_values, taken_over, elsewhere, own_stays, moved_same}
@@ -93,7 +93,7 @@ JoinsTyped p q c d f h new =
     → ForestTyped s (joined_values types p q h) p (types c) new
 
 pub KeepsTypes-joined : (g : Graph) (p q : ℕ) (c d : Place) (f h new : Forest) → IsSound g
-    → CanJoin g p q c d f h → JoinsTyped p q c d f h new → KeepsTypes g (joined g p q c new)
+    → CanJoin g p q c d f h → JoinsTyped p q c d f h new → KeepsTypes g (joined_into g p q c new)
 KeepsTypes-joined g p q c d f h new ok can joins s (types, fits) =
     let k : Place → Ty = joined_values types p q h in
     let r : Place → Place = moved p q in

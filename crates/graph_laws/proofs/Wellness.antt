@@ -3,7 +3,7 @@ use Rattle.std.proofs.Common.{◌≡◌, ℕ, ◌<◌, ◌≤◌, Bool, true, fa
 use Rattle.std.proofs.lemmas.Bool.{eqb-true, eq-eqb, false≢true}
 use Rattle.std.specs.List.{AllByRecursion}
 use Rattle.exec_graph.specs.Forests.{Forest}
-use Rattle.graph_laws.specs.Joining.{beside, grafted, HasOne, set_node, without, moved, reread, reread_entry, joined, CanJoin, as_kid, as_sibling}
+use Rattle.graph_laws.specs.Joining.{beside, grafted, HasOne, set_node, without, moved, reread, reread_entry, joined_into, CanJoin, as_kid, as_sibling}
 use Rattle.exec_graph.specs.Meaning.{place, node_at, reads, has_out, gives, gives_at, IsThere, AllDiffer, OutsDiffer, HasOuts, IsRankedBy, IsSound, KeepsMeaning}
 use Rattle.exec_graph.proofs.Entries.{entry, all_map, all_found}
 use Rattle.graph_laws.proofs.Changes.{all_set, all_without, all_set_others, differ_without, node_at-without_other}
@@ -191,7 +191,7 @@ rank_moved r p q k x false i l = let m : rank_after r p q x.node ≤ r x.node =
 
 pub IsSound-joined : (g : Graph) (p q : ℕ) (c d : Place) (f h new : Forest) → (ok : IsSound g)
     → CanJoin g p q c d f h → Keeps f h new → ((r : ℕ → ℕ) → IsRankedBy r g.nodes → r c.node < r q)
-    → IsSound (joined g p q c new)
+    → IsSound (joined_into g p q c new)
 IsSound-joined g p q c d f h new ok can k lower =
     let es : List Entry = without g.nodes q in
     let z : Node = Pdo c new in

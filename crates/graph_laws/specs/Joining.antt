@@ -58,8 +58,8 @@ abbrev pub reread_entry : (Place → Place) → Entry → Entry
 reread_entry r e = record { number = e.number; node = reread r e.node }
 
 -- the Pdo p of c has the forest f, and takes in the Pdo q
-abbrev pub joined : Graph → ℕ → ℕ → Place → Forest → Graph
-joined g p q c f = record {
+abbrev pub joined_into : Graph → ℕ → ℕ → Place → Forest → Graph
+joined_into g p q c f = record {
   nodes = map (reread_entry (moved p q)) (set_node (without g.nodes q) p (Pdo c f));
   outputs = map (moved p q) g.outputs;
   next = g.next;
@@ -73,7 +73,7 @@ pub record CanJoin (g : Graph) (p q : ℕ) (c d : Place) (f h : Forest) : Type 0
   pub disjoint : (j : ℕ) → has_out j f ≡ true → has_out j h ≡ true → ⊥
 
 abbrev pub as_kid : Graph → ℕ → ℕ → Place → ℕ → Forest → Forest → Graph
-as_kid g p q c j f h = joined g p q c (grafted j h f)
+as_kid g p q c j f h = joined_into g p q c (grafted j h f)
 
 abbrev pub as_sibling : Graph → ℕ → ℕ → Place → Forest → Forest → Graph
-as_sibling g p q c f h = joined g p q c (beside f h)
+as_sibling g p q c f h = joined_into g p q c (beside f h)

@@ -14,13 +14,13 @@ use Rattle.graph_bounds.specs.of_exec_graph.declared.graph.Entry.{Entry}
 use Rattle.graph_bounds.specs.of_exec_graph.declared.graph.Graph.{Graph}
 use Rattle.graph_bounds.specs.of_exec_graph.declared.graph.Blocked.{Blocked}
 use Rattle.graph_bounds.proofs.of_exec_graph.Entries.{all_found, all_map}
-use Rattle.graph_bounds.specs.of_graph_laws.Joining.{beside, grafted, joined, moved, reread, reread_entry, set_node, without}
+use Rattle.graph_bounds.specs.of_graph_laws.Joining.{beside, grafted, joined_into, moved, reread, reread_entry, set_node, without}
 use Rattle.graph_bounds.specs.of_graph_laws.Kids.{CanKid, apart, even, kept_by, moved_out, named_by, number_in, odd, refitted, renewed, same_number, with_kid, with_sibling}
 use Rattle.graph_bounds.specs.of_graph_laws.Lifting.{lift_of, marked, marked_entry}
 use Rattle.graph_bounds.proofs.of_graph_laws.Changes.{all_set, all_without}
-use Rattle.graph_bounds.specs.of_sink_laws.Chain.{forest_of, inputs_of}
+use Rattle.graph_bounds.specs.of_sink_laws.Chain.{forest_of, ins_of}
 use Rattle.graph_bounds.specs.of_sink_laws.Merging.{dropped, spliced, tidied}
-use Rattle.graph_bounds.specs.of_sink_laws.Sinking.{copied, copies, first_flatten, flattens, instead, outputs_of, rerouted, sunk}
+use Rattle.graph_bounds.specs.of_sink_laws.Sinking.{copied, copies, first_flatten, flattens, instead, outputs_of, rerouted, sunk_once}
 use Rattle.graph_rewrites.specs.Exchange.{exchanged, swapped}
 use Rattle.graph_rewrites.specs.Rewrites.{CanApply, forest_at, input_at, kid_under, kid_under_other, rewritten, swapped_at}
 use Rattle.graph_rewrites.specs.declared.rewrite.Rewrite.{Rewrite}
@@ -86,7 +86,7 @@ module _ (Q : Node → Type 0) (F : Forest → Type 0) (steady : IsSteady Q F) w
       (steady.flat (copied first 0 ins))
 
   all_sunk : (g : Graph) (p : ℕ) (f : Forest) (ins : List Place) → F f → All g.nodes
-      → All (sunk g p f ins).nodes
+      → All (sunk_once g p f ins).nodes
   all_sunk g p f ins i h =
       let base : ℕ = g.next + length ins in
       let kept : List Entry = map (reread_entry (rerouted p base)) g.nodes in
@@ -109,7 +109,7 @@ module _ (Q : Node → Type 0) (F : Forest → Type 0) (steady : IsSteady Q F) w
       all_reread (moved_out n r) (set_node g.nodes n (Pdo c f)) (all_put g.nodes n c f i h)
 
   all_joined : (g : Graph) (p q : ℕ) (c : Place) (f : Forest) → F f → All g.nodes
-      → All (joined g p q c f).nodes
+      → All (joined_into g p q c f).nodes
   all_joined g p q c f i h =
       all_reread (moved p q) (set_node (without g.nodes q) p (Pdo c f))
       (all_put (without g.nodes q) p c f i (all_gone g.nodes q h))
@@ -138,7 +138,7 @@ module _ (Q : Node → Type 0) (F : Forest → Type 0) (steady : IsSteady Q F) w
       let l : F new =
       steady.graft (even k) near far (steady.name even f i) (steady.name odd h j) in
       let parts : Graph = apart g p q c (place p k) f h in
-      all_renewed (joined parts p q c new) p c new l
+      all_renewed (joined_into parts p q c new) p c new l
       (all_joined parts p q c new l (all_apart g p q c (place p k) f h i j a))
 
   all_sibling : (g : Graph) (p q : ℕ) (c : Place) (f h : Forest) → F f → F h → All g.nodes
@@ -149,7 +149,7 @@ module _ (Q : Node → Type 0) (F : Forest → Type 0) (steady : IsSteady Q F) w
       let new : Forest = beside near far in
       let l : F new = steady.both near far (steady.name even f i) (steady.name odd h j) in
       let parts : Graph = apart g p q c c f h in
-      all_renewed (joined parts p q c new) p c new l
+      all_renewed (joined_into parts p q c new) p c new l
       (all_joined parts p q c new l (all_apart g p q c c f h i j a))
 
   all_swapped : (g : Graph) (p q : ℕ) (c d : Place) (f h : Forest) → F f → F h → All g.nodes
@@ -175,7 +175,7 @@ module _ (Q : Node → Type 0) (F : Forest → Type 0) (steady : IsSteady Q F) w
   all_rewritten b (Merge outer inner) can h =
       let g : Graph = b.graph in
       let ins : List Place =
-      spliced inner (inputs_of (node_at g.nodes inner)) (inputs_of (node_at g.nodes outer)) in
+      spliced inner (ins_of (node_at g.nodes inner)) (ins_of (node_at g.nodes outer)) in
       all_tidied (record {
         nodes = set_node g.nodes outer (Flatten ins);
         outputs = g.outputs;
@@ -184,8 +184,8 @@ module _ (Q : Node → Type 0) (F : Forest → Type 0) (steady : IsSteady Q F) w
   all_rewritten b (Sink flatten pdo) can h =
       let g : Graph = b.graph in
       let f : Forest = forest_of (node_at g.nodes pdo) in
-      let ins : List Place = inputs_of (node_at g.nodes flatten) in
-      all_tidied (sunk g pdo f ins) flatten
+      let ins : List Place = ins_of (node_at g.nodes flatten) in
+      all_tidied (sunk_once g pdo f ins) flatten
       (all_sunk g pdo f ins (forest_found g.nodes pdo (place flatten 0) f can.0.pdo h) h)
   all_rewritten b (Lift group) can h =
       all_marked (λ m k. cond (m == group) (lift_of b.graph group) k) b.graph.nodes h

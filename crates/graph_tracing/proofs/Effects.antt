@@ -10,7 +10,7 @@ use Rattle.exec_graph.specs.declared.graph.Graph.{Graph}
 use Rattle.exec_graph.specs.declared.graph.Node.TheVariants.{Pdo}
 use Rattle.exec_graph.specs.declared.graph.Place.{Place}
 use Rattle.pass_rewrites.proofs.of_fuse_chain.NextStates.{set_other, without_other}
-use Rattle.graph_laws.specs.Joining.{joined, moved, set_node, without}
+use Rattle.graph_laws.specs.Joining.{joined_into, moved, set_node, without}
 use Rattle.graph_laws.specs.Kids.{apart, even, kept_by, moved_out, named_by, number_in, odd, refitted, renewed, same_number}
 use Rattle.graph_laws.proofs.Wellness.{differ_map, differ_set, mapped, node_at-map, node_at-set_same}
 
@@ -90,10 +90,10 @@ module _ (g : Graph) (p q : ℕ) (c : Place) (f : Forest) (here : Calls g p c)
   here_left = without_other g.nodes q p differ ∙ here.1
 
   pub join_calls : (m : ℕ) (d : Place) → Calls g m d → (m ≡ q → ⊥)
-      → Calls (joined g p q c f) m (moved p q d)
+      → Calls (joined_into g p q c f) m (moved p q d)
   join_calls m d h other = by (eqb m p) refl
     where
-      by : (b : Bool) → eqb m p ≡ b → Calls (joined g p q c f) m (moved p q d)
+      by : (b : Bool) → eqb m p ≡ b → Calls (joined_into g p q c f) m (moved p q d)
       by true i =
           let same : m ≡ p = eqb-true m p i in
           let both : Some (Pdo d h.0) ≡ Some (Pdo c here.0) =
@@ -114,7 +114,7 @@ module _ (g : Graph) (p q : ℕ) (c : Place) (f : Forest) (here : Calls g p c)
       )
 
   pub join_absent : (m : ℕ) → (m ≡ q → ⊥) → node_at g.nodes m ≡ None
-      → node_at (joined g p q c f).nodes m ≡ None
+      → node_at (joined_into g p q c f).nodes m ≡ None
   join_absent m other h =
       node_at-map (moved p q) kept m
       ∙ ap (mapped (moved p q)) (set_other left p m (Pdo c f) (λ e.
@@ -122,7 +122,7 @@ module _ (g : Graph) (p q : ℕ) (c : Place) (f : Forest) (here : Calls g p c)
       sym h ∙ ap (node_at g.nodes) e ∙ here.1 in
       let bad : ⊥ = cc in bad) ∙ without_other g.nodes q m other ∙ h)
 
-  pub join_gone : AllDiffer g.nodes → node_at (joined g p q c f).nodes q ≡ None
+  pub join_gone : AllDiffer g.nodes → node_at (joined_into g p q c f).nodes q ≡ None
   join_gone a =
       node_at-map (moved p q) kept q
       ∙ ap (mapped (moved p q)) (set_other left p q (Pdo c f) (λ e. differ (sym e))
@@ -161,7 +161,7 @@ module _ (g : Graph) (p q : ℕ) (c d : Place) (f h new : Forest) (t : Takes g p
   g2 = refitted g1 q d1 far odd
 
   abbrev g3 : Graph
-  g3 = joined g2 p q c new
+  g3 = joined_into g2 p q c new
 
   abbrev k : Forest
   k = kept_by (λ j. is_read g3 (place p j)) new
@@ -198,7 +198,7 @@ module _ (g : Graph) (p q : ℕ) (c d : Place) (f h new : Forest) (t : Takes g p
       (refit_calls g3 p c k same_number keeper3 p c keeper3)
 
   pub taken_calls : (m : ℕ) (x : Place) → Calls g m x → (m ≡ q → ⊥)
-      → Calls (renewed (joined (apart g p q c d f h) p q c new) p c new) m (shift x)
+      → Calls (renewed (joined_into (apart g p q c d f h) p q c new) p c new) m (shift x)
   taken_calls m x a other =
       refit_calls g4 p c (numbered 0 k) (λ j. number_in 0 k j) keeper4 m
       (moved_out p same_number (moved p q (moved_out q odd (moved_out p even x))))
@@ -215,7 +215,7 @@ module _ (g : Graph) (p q : ℕ) (c d : Place) (f h new : Forest) (t : Takes g p
       (refit_absent g3 p c k same_number keeper3 m a)
 
   pub taken_absent : (m : ℕ) → node_at g.nodes m ≡ None
-      → node_at (renewed (joined (apart g p q c d f h) p q c new) p c new).nodes m ≡ None
+      → node_at (renewed (joined_into (apart g p q c d f h) p q c new) p c new).nodes m ≡ None
   taken_absent m a =
       last_absent m (join_absent g2 p q c new keeper2 t.differ m (λ e.
       let both : None ≡ Some (Pdo d t.other.0) =
@@ -224,7 +224,7 @@ module _ (g : Graph) (p q : ℕ) (c d : Place) (f h new : Forest) (t : Takes g p
       (refit_absent g1 q d1 far odd other1 m (refit_absent g p c near even t.keeper m a)))
 
   pub taken_gone : AllDiffer g.nodes
-      → node_at (renewed (joined (apart g p q c d f h) p q c new) p c new).nodes q ≡ None
+      → node_at (renewed (joined_into (apart g p q c d f h) p q c new) p c new).nodes q ≡ None
   taken_gone a =
       last_absent q (join_gone g2 p q c new keeper2 t.differ
       (refit_differ g1 q d1 far odd other1 (refit_differ g p c near even t.keeper a)))

@@ -10,7 +10,7 @@ use Rattle.dofn_eval.specs.Operations.{chosen}
 use Rattle.dofn_eval.proofs.MeaningLemmas.{then_same}
 use Rattle.written_types.specs.Named.{Named}
 use Rattle.expression_check.specs.Given.{Thing, valued}
-use Rattle.body_check.specs.Call.{Emits, State, after, block, by_side, emitted_by, emitted_in, for_each}
+use Rattle.body_check.specs.Call.{Emits, NameState, after, block, by_side, emitted_by, emitted_in, for_each}
 use Rattle.body_check.specs.Call.{layer_emitted, run_all, state}
 use Rattle.body_check.proofs.FormLemmas.{emitted_in-step}
 use Rattle.statement_law.specs.Lineless.{body_lineless, layer_lineless}
@@ -20,16 +20,16 @@ use Rattle.key_meaning.proofs.Alike.{SameFunction}
 use Rattle.key_meaning.proofs.Values.{same_value}
 
 module _ (known : Named Ty) where
-  abbrev does : Body → State → Outcome State
+  abbrev does : Body → NameState → Outcome NameState
   does = emitted_in known
 
   abbrev SameBody : Body → Type 0
-  SameBody b = (s : State) → does b s ≡ does (body_lineless b) s
+  SameBody b = (s : NameState) → does b s ≡ does (body_lineless b) s
 
   abbrev plain : (b : Body) × SameBody b → Body
   plain p = p.0
 
-  run_same : (bs : List ((b : Body) × SameBody b)) (s : State)
+  run_same : (bs : List ((b : Body) × SameBody b)) (s : NameState)
       → run_all does (map plain bs) s ≡ run_all does (map body_lineless (map plain bs)) s
   run_same [] s = refl
   run_same (p ∷ bs) s =
@@ -42,16 +42,16 @@ module _ (known : Named Ty) where
   block_same bs = λ i env out. then (run_same bs (state env out) i) (λ s. Gives s.out)
 
   -- one statement, by its form
-  at_form : (b : Body) (x : Body-F Body) (s : State) → out-Body b ≡ x
+  at_form : (b : Body) (x : Body-F Body) (s : NameState) → out-Body b ≡ x
       → does b s ≡ layer_emitted known does x s
   at_form b x s is = emitted_in-step known b s ∙ ap (λ y. layer_emitted known does y s) is
 
-  abbrev AtBody : State → Body-F Body → Type 0
+  abbrev AtBody : NameState → Body-F Body → Type 0
   AtBody s z =
       layer_emitted known does z s
       ≡ does (layer_lineless (map-Body Body Body body_lineless z)) s
 
-  by_body : (y : Body-F ((b : Body) × SameBody b)) (s : State)
+  by_body : (y : Body-F ((b : Body) × SameBody b)) (s : NameState)
       → AtBody s (map-Body ((b : Body) × SameBody b) Body plain y)
   by_body (Body-F.Let line name e) s =
       ap (λ (o : Outcome Thing). then o (λ x. Gives (state ((name, x) ∷ s.env) s.out)))
@@ -83,7 +83,7 @@ module _ (known : Named Ty) where
       (Body-F.Case 0 e left lefts right_ rights) s
       (body.outs-Case 0 e left lefts right_ rights))
 
-  from_body : (b : Body) (s : State) → AtBody s (out-Body b)
+  from_body : (b : Body) (s : NameState) → AtBody s (out-Body b)
       → does b s ≡ does (body_lineless b) s
   from_body b s same =
       emitted_in-step known b s ∙ same
@@ -95,7 +95,7 @@ module _ (known : Named Ty) where
       (λ x y same s. from_body (roll-Body x) s
       (subst (AtBody s) (same ∙ sym (out-roll-Body x)) (by_body y s)))
 
-  all_same : (bs : List Body) (s : State)
+  all_same : (bs : List Body) (s : NameState)
       → run_all does bs s ≡ run_all does (map body_lineless bs) s
   all_same [] s = refl
   all_same (b ∷ bs) s =

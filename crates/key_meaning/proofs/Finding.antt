@@ -12,7 +12,7 @@ use Rattle.script_keys.specs.declared.rests.Names.{Names}
 use Rattle.script_program.specs.Kinds.{gives_object}
 use Rattle.script_program.specs.declared.made.Standing.{Standing}
 use Rattle.script_program.specs.declared.made.Standing.TheVariants.{Collection, Hidden}
-use Rattle.script_program.specs.Script.{Callee, Function, Node, Operand, State, operand_of, place}
+use Rattle.script_program.specs.Script.{Callee, Function, Node, Operand, State, operand_of, name_place}
 use Rattle.direct_meaning.specs.of_operation_check.Operations.{callee, collection, collections_behind, numbers}
 use Rattle.direct_meaning.proofs.of_script_check.CheckedLemmas.{both, ok-same, there}
 use Rattle.direct_meaning.specs.of_script_laws.WellFormed.{function_at}
@@ -87,7 +87,7 @@ pub record OperandAlike (pairs : Pairs) (one other : Operand) : Type 0 where
 
 abbrev as_callee : Named Function → List ℕ → Function → Callee
 as_callee functions name function = record {
-  number = place name functions;
+  number = name_place name functions;
   takes = function.signature.takes;
   gives = function.signature.gives;
 }

@@ -5,7 +5,7 @@ use Rattle.std.specs.declared.cmp.Ordering.TheVariants.{Less, Equal, Greater}
 use Rattle.std.specs.Ordering.{nat_cmp, ordering_then, MatchOrdering}
 use Rattle.std.proofs.lemmas.Cmp.{ranked}
 use Rattle.flume_value.specs.declared.value.Value.{Value, Value-F, out-Value}
-use Rattle.flume_value.specs.Order.{layer_cmp, place, value_cmp}
+use Rattle.flume_value.specs.Order.{layer_cmp, ordinal, value_cmp}
 use Rattle.flume_value.proofs.OrderLemmas.{value_cmp-step}
 use Rattle.key_order.specs.Numbers.{first_bits, key_number, IsHeldAtTop, IsHeldLayer}
 use Rattle.key_order.proofs.Numbering.{above_bits, eighths, first_bits_of_text, int_less, text_less}
@@ -16,7 +16,7 @@ bits-below (Value-F.Text t) h = first_bits_of_text t h
 bits-below _ h = omega arith
 
 -- two values of one variant
-same_place : (x y : Value-F Value) → IsHeldLayer y → place x ≡ place y
+same_place : (x y : Value-F Value) → IsHeldLayer y → ordinal x ≡ ordinal y
     → first_bits x < first_bits y → layer_cmp value_cmp x y ≡ Less
 same_place (Value-F.Int m) (Value-F.Int n) h e l = int_less m n (eighths _ _ l)
 same_place (Value-F.Text s) (Value-F.Text t) h e l = text_less 8 s t h (eighths _ _ l)
@@ -30,7 +30,7 @@ same_place _ _ h e l = absurd (omega arith)
 
 -- the variants are compared first
 by_variant : (x y : Value-F Value) → layer_cmp value_cmp x y
-    ≡ ordering_then (nat_cmp (place x) (place y)) (layer_cmp value_cmp x y)
+    ≡ ordering_then (nat_cmp (ordinal x) (ordinal y)) (layer_cmp value_cmp x y)
 by_variant (Value-F.Int m) (Value-F.Int n) = refl
 by_variant (Value-F.Bool m) (Value-F.Bool n) = refl
 by_variant (Value-F.Text m) (Value-F.Text n) = refl
@@ -49,12 +49,12 @@ less_by p q a b Equal r low high l same h e = same h (omega (arith, h))
 less_by p q a b Greater r low high l same h e = absurd (omega arith)
 
 layer_less : (x y : Value-F Value) → IsHeldLayer x → IsHeldLayer y
-    → place x * 2 ^ 61 + first_bits x < place y * 2 ^ 61 + first_bits y
+    → ordinal x * 2 ^ 61 + first_bits x < ordinal y * 2 ^ 61 + first_bits y
     → layer_cmp value_cmp x y ≡ Less
 layer_less x y f g l =
-    less_by (place x) (place y) (first_bits x) (first_bits y) (nat_cmp (place x) (place y))
+    less_by (ordinal x) (ordinal y) (first_bits x) (first_bits y) (nat_cmp (ordinal x) (ordinal y))
     (layer_cmp value_cmp x y) (bits-below x f) (bits-below y g) l (same_place x y g)
-    (ranked (place x) (place y) (nat_cmp (place x) (place y)) refl) (by_variant x y)
+    (ranked (ordinal x) (ordinal y) (nat_cmp (ordinal x) (ordinal y)) refl) (by_variant x y)
 
 pub key_less : (a b : Value) → IsHeldAtTop a → IsHeldAtTop b → key_number a < key_number b
     → value_cmp a b ≡ Less

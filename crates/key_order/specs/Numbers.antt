@@ -4,7 +4,7 @@ use Rattle.std.specs.Prelude.{ℕ, zero, suc, ◌+◌, ◌-◌, ◌*◌, ◌/◌
 use Rattle.std.specs.Int.{w64}
 use Rattle.std.specs.List.{AllByRecursion}
 use Rattle.flume_value.specs.declared.value.Value.{Value, Value-F, out-Value}
-use Rattle.flume_value.specs.Order.{place}
+use Rattle.flume_value.specs.Order.{ordinal}
 
 -- how far an int of 64 bits is above the least one
 abbrev pub above_least : ℤ → ℕ
@@ -24,7 +24,7 @@ first_bits (Value-F.Text text) = first_bytes 8 text / 8
 first_bits _ = 0
 
 abbrev pub key_number : Value → ℕ
-key_number key = place (out-Value key) * 2 ^ 61 + first_bits (out-Value key)
+key_number key = ordinal (out-Value key) * 2 ^ 61 + first_bits (out-Value key)
 
 -- an int is of 64 bits, and a text is of bytes
 abbrev pub IsHeldLayer : {X : Type 0} → Value-F X → Type 0

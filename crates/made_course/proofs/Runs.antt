@@ -19,7 +19,7 @@ use Rattle.run_settings.specs.Settings.{RunSettings, standard}
 use Rattle.run_course.specs.of_script_plans.Plans.{IsScriptPlan}
 use Rattle.script_program.specs.Script.{Script}
 use Rattle.run_course.specs.of_script_run.Comes.{AreMembers}
-use Rattle.run_course.specs.of_script_run.Runs.{AsksSomePhases, IsFirstOf, IsRan, IsRunFault, phases_of}
+use Rattle.run_course.specs.of_script_run.Runs.{AsksSomePhases, IsFirstTrap, IsRan, IsRunFault, phases_of}
 use Rattle.run_course.specs.of_script_run.declared.run.Ran.{Ran}
 use Rattle.made_rows.specs.Means.{MeansSums}
 use Rattle.made_rows.specs.Sums.{sums_script}
@@ -44,7 +44,7 @@ module _ (w : Workload) (means : MeansSums w.start w.rows) where
 
   -- so no trap is met
   no_first : (s : RunSettings) (plan : Plan) (olds news : List Account) (trap : Trap)
-      → IsFirstOf s sums_script (rows_of w ∷ []) plan olds news trap → ⊥
+      → IsFirstTrap s sums_script (rows_of w ∷ []) plan olds news trap → ⊥
   no_first s plan olds news trap it =
       not_in_none trap (subst (λ (l : List Trap). Contains l trap) (no_traps it.made it.means)
       it.among)

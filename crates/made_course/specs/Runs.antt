@@ -1,6 +1,6 @@
 -- The run of the script of the sums over the rows of a workload, by the usual settings.
 use Rattle.std.specs.Prelude.{◌≡◌, ◌⊎◌, ℕ, List, [], ◌∷◌, drop}
-use Rattle.run_course.specs.of_build_law.Worlds.{world_of}
+use Rattle.run_course.specs.of_build_law.Worlds.{script_world}
 use Rattle.command_words.specs.declared.workload.Workload.{Workload}
 use Rattle.crew.specs.Hosts.{Account}
 use Rattle.exec_plan.specs.declared.plan.Plan.{Plan}
@@ -26,7 +26,7 @@ WasSummed w olds news =
 abbrev pub WasGivenUp : Workload → List Account → List Account → ℕ → Phase → ℕ → Type 0
 WasGivenUp w olds news stage phase task =
     (plan : Plan) × IsScriptPlan sums_script plan
-    × IsGivenUp standard.tries standard.drill (world_of sums_script (rows_of w ∷ []))
+    × IsGivenUp standard.tries standard.drill (script_world sums_script (rows_of w ∷ []))
     (phases_of standard sums_script (rows_of w ∷ []) plan) (lent standard olds)
     (lent standard news) stage phase task
 

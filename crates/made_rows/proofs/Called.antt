@@ -2,7 +2,7 @@
 use Rattle.std.proofs.Common.{◌≡◌, ◌∙◌, ℕ, List, [], ◌∷◌, ◌++◌, codes, None, Option, Some, slice_get, refl, ap, ap₂}
 use Rattle.std.specs.Prelude.{Ok}
 use Rattle.body_check.proofs.FormLemmas.{emitted_in-step}
-use Rattle.body_check.specs.Call.{State, emitted_by, emitted_in, layer_emitted, state}
+use Rattle.body_check.specs.Call.{NameState, emitted_by, emitted_in, layer_emitted, state}
 use Rattle.direct_meaning.specs.Calls.{answer_of, answered}
 use Rattle.dofn_eval.specs.Outcome.{Gives, Outcome, then, with_part}
 use Rattle.dofn_eval.specs.Run.{Emissions}
@@ -67,7 +67,7 @@ module _ (key number : Value) where
       (recorded (codes "key" ∷ codes "value" ∷ [])))
       (field_given (codes "k") 0 key refl refl) (field_given (codes "v") 1 number refl refl)
 
-  abbrev before : State
+  abbrev before : NameState
   before = state env ([] ∷ [])
 
   emits : emitted_in known
@@ -84,5 +84,5 @@ module _ (key number : Value) where
   pub answers_row : answer_of pairing row ≡ Some (Ok ((row ∷ []) ∷ []))
   unfolding answer_of
   answers_row =
-      ap (λ (o : Outcome State). answered row (then (then o (λ s. Gives s)) (λ s. Gives s.out)))
+      ap (λ (o : Outcome NameState). answered row (then (then o (λ s. Gives s)) (λ s. Gives s.out)))
       emits

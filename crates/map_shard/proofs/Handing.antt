@@ -7,15 +7,15 @@ use Rattle.exec_plan.specs.declared.plan.Take.{Take}
 use Rattle.exec_plan.specs.declared.plan.OutChannel.{OutChannel}
 use Rattle.map_shard.specs.declared.filling.Filling.{Filling}
 use Rattle.map_shard.specs.inner.Fillings.{IsFilled, IsFilling}
-use Rattle.map_shard.specs.inner.Sending.{CanSend, IsSendable, joined, left, taken, taken_by, takes_of}
+use Rattle.map_shard.specs.inner.Sending.{CanSend, IsSendable, takes_joined, left, taken, taken_by, takes_of}
 use Rattle.map_shard.proofs.Later.{drop_at}
 
 joined_next : (k : Take) (ks : List Take) (lists : List (List Value))
-    → joined (k ∷ ks) lists ≡ or_none (slice_get lists 0) ++ joined ks (drop 1 lists)
+    → takes_joined (k ∷ ks) lists ≡ or_none (slice_get lists 0) ++ takes_joined ks (drop 1 lists)
 joined_next k ks lists = refl
 
 joined_map : (f : Take → List Value) (ks rest : List Take)
-    → joined ks (map f (ks ++ rest)) ≡ flat_map f ks
+    → takes_joined ks (map f (ks ++ rest)) ≡ flat_map f ks
 joined_map f [] rest = refl
 joined_map f (k ∷ ks) rest = ap (λ l. f k ++ l) (joined_map f ks rest)
 
@@ -31,14 +31,14 @@ no_take = record { channel = 0; out = 0 }
 pub joined_on : (takes : List Take) (i : ℕ) (values more : List Value)
     (lists next : List (List Value)) (whole x : List Value) → i < length takes
     → x ≡ or_none (slice_get lists 0) → next ≡ drop 1 lists → more ≡ values ++ x
-    → values ++ joined (drop i takes) lists ≡ whole
-    → more ++ joined (drop (i + 1) takes) next ≡ whole
+    → values ++ takes_joined (drop i takes) lists ≡ whole
+    → more ++ takes_joined (drop (i + 1) takes) next ≡ whole
 joined_on takes i values more lists next whole x h first rest push goes =
-    (λ j. push j ++ joined (drop (i + 1) takes) (rest j))
-    ∙ append_assoc values x (joined (drop (i + 1) takes) (drop 1 lists))
-    ∙ ap (λ y. values ++ (y ++ joined (drop (i + 1) takes) (drop 1 lists))) first
+    (λ j. push j ++ takes_joined (drop (i + 1) takes) (rest j))
+    ∙ append_assoc values x (takes_joined (drop (i + 1) takes) (drop 1 lists))
+    ∙ ap (λ y. values ++ (y ++ takes_joined (drop (i + 1) takes) (drop 1 lists))) first
     ∙ ap (λ l. values ++ l) (sym (joined_next (get_or takes i no_take) (drop (i + 1) takes) lists))
-    ∙ ap (λ ks. values ++ joined ks lists) (sym (drop_at takes i no_take h)) ∙ goes
+    ∙ ap (λ ks. values ++ takes_joined ks lists) (sym (drop_at takes i no_take h)) ∙ goes
 
 pub left_on : (takes : List Take) (i : ℕ) (lists next whole : List (List Value))
     → i < length takes → next ≡ drop 1 lists → left (drop i takes) lists ≡ whole
@@ -60,14 +60,14 @@ module _ (m : ℕ) (lists : List (List Value)) (channels : List OutChannel) (i :
       ∙ ap (λ cs. map (taken_by m lists) (flat_map takes_of cs))
       (drop_at channels i c h ∙ ap (λ d. d ∷ drop (i + 1) channels) (sym is))
 
-  here : joined (takes_of c) given ≡ taken m lists (takes_of c)
-  here = ap (joined (takes_of c)) next_is ∙ joined_map (taken_by m lists) (takes_of c) rest
+  here : takes_joined (takes_of c) given ≡ taken m lists (takes_of c)
+  here = ap (takes_joined (takes_of c)) next_is ∙ joined_map (taken_by m lists) (takes_of c) rest
 
-  pub sendable : CanSend m lists c → IsSendable c (joined (takes_of c) given)
+  pub sendable : CanSend m lists c → IsSendable c (takes_joined (takes_of c) given)
   sendable can = subst (IsSendable c) (sym here) can
 
   pub filled_here : (p : ℕ) (before : List Take → List Value) (f : Filling)
-      → IsFilling p c f (before (takes_of c) ++ joined (takes_of c) given)
+      → IsFilling p c f (before (takes_of c) ++ takes_joined (takes_of c) given)
       → IsFilled p (λ takes. before takes ++ taken m lists takes) c f
   filled_here p before f = subst (λ vs. IsFilling p c f (before (takes_of c) ++ vs)) here
 

@@ -5,7 +5,7 @@ ghost use Rattle.flume_value.specs.declared.value.Value.{Value as GhostValue};
 ghost use Rattle.flume_collection.specs.Calls.{or_none};
 ghost use Rattle.exec_plan.specs.declared.plan.Take.{Take as GhostTake};
 ghost use Rattle.map_shard.specs.inner.Fillings.{IsFilled, IsFilling, sent_of};
-ghost use Rattle.map_shard.specs.inner.Sending.{CanSend, IsSendable, joined, left, taken, takes_of};
+ghost use Rattle.map_shard.specs.inner.Sending.{CanSend, IsSendable, takes_joined, left, taken, takes_of};
 
 use crate::filling::{Filling, fill, finish, nothing, with_more};
 use crate::moving::{all_takes, taken_lists};
@@ -82,13 +82,13 @@ fn fill_next(
     partitions: u32,
 ) -> Result<Filling, AllocError>
     requires some { 0 < partitions }
-    requires fit { IsSendable channel.now (joined (takes_of channel.now) given.old.rest.items) }
+    requires fit { IsSendable channel.now (takes_joined (takes_of channel.now) given.old.rest.items) }
     requires stands { (done : List GhostValue)
         × IsSomeAnd filling (λ f. IsFilling partitions channel.now f done) }
     ensures more { (done : List GhostValue) →
         IsSomeAnd filling (λ f. IsFilling partitions channel.now f done) →
         IfOk result (λ more. IsFilling partitions channel.now more
-        (done ++ joined (takes_of channel.now) given.old.rest.items)) }
+        (done ++ takes_joined (takes_of channel.now) given.old.rest.items)) }
     ensures left { OnOk result
         (given.new.rest.items ≡ left (takes_of channel.now) given.old.rest.items) }
 {
@@ -117,7 +117,7 @@ fn taken_values(
     given: &mut IntoIter<Items>,
 ) -> Result<Vec<Value>, AllocError>
     ensures all { IfOk result (λ values.
-        values.items ≡ joined (takes_of channel.now) given.old.rest.items) }
+        values.items ≡ takes_joined (takes_of channel.now) given.old.rest.items) }
     ensures left { OnOk result
         (given.new.rest.items ≡ left (takes_of channel.now) given.old.rest.items) }
 {
@@ -133,7 +133,7 @@ fn joined(
     takes: &[Take],
     given: &mut IntoIter<Items>,
 ) -> Result<Vec<Value>, AllocError>
-    ensures all { IfOk result (λ values. values.items ≡ joined takes.now given.old.rest.items) }
+    ensures all { IfOk result (λ values. values.items ≡ takes_joined takes.now given.old.rest.items) }
     ensures left { OnOk result (given.new.rest.items ≡ left takes.now given.old.rest.items) }
 {
     let mut values = Vec::new(alloc);

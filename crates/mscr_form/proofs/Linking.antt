@@ -7,7 +7,7 @@ use Rattle.exec_graph.specs.declared.graph.Blocked.{Blocked}
 use Rattle.plan_roles.specs.declared.roles.Role.{Role}
 use Rattle.plan_roles.specs.Levels.{level}
 use Rattle.plan_roles.specs.Roles.{roles}
-use Rattle.form_laws.specs.Classes.{IsChain, IsGbk, IsLinked, has_same, keys_of, related}
+use Rattle.form_laws.specs.Classes.{AreLinked, IsGbk, IsLinked, has_same, keys_of, related}
 use Rattle.form_laws.proofs.Classing.{gbk_node, related_gbk, share_related}
 use Rattle.mscr_form.specs.inner.Labels.{AreLabels, IsWay, at_key, keys_at, level_at, shares}
 use Rattle.mscr_form.proofs.Labeling.{shares_one}
@@ -69,7 +69,7 @@ related_label b ls n k d a x y h =
     ∙ ap (related b n) y.number ∙ h))
 
 chain_label : (b : Blocked) (ls : List ℕ) (n : ℕ) (is : List ℕ) (k : ℕ) → AllDiffer b.graph.nodes
-    → AreLabels (roles b) ls → (x : PlaceOf b n) (y : PlaceOf b k) → IsChain b n is k
+    → AreLabels (roles b) ls → (x : PlaceOf b n) (y : PlaceOf b k) → AreLinked b n is k
     → at_key ls x.at ≡ at_key ls y.at
 chain_label b ls n [] k d a x y h = related_label b ls n k d a x y h
 chain_label b ls n (i ∷ is) k d a x y h =

@@ -4,7 +4,7 @@ use Rattle.std.specs.Prelude.{slice_get, slice_index, All}
 use Rattle.std.specs.Option.{option_map}
 use Rattle.std.proofs.lemmas.List.{length-map}
 use Rattle.std.proofs.lemmas.Option.{get_or_from_slice_get, none-some, same_Some, slice_get-map, slice_get_within}
-use Rattle.claim_board.specs.Protocol.{State, word}
+use Rattle.claim_board.specs.Protocol.{BoardState, word}
 use Rattle.flume_collection.specs.declared.trap.Trap.{Trap}
 use Rattle.crew.specs.declared.kept.KeptOut.{KeptOut}
 use Rattle.crew.specs.Drills.{Settings}
@@ -59,7 +59,7 @@ some_at (x ∷ xs) zero h = (x, refl)
 some_at (x ∷ xs) (suc k) h = some_at xs k (omega arith)
 
 module _ (tasks : ℕ) (s : Settings) {O : Type 0} (is_value : ℕ → Result O Trap → Type 0)
-    (places : ℕ → ℕ) (olds news : List Account) (board : State) (n : ℕ)
+    (places : ℕ → ℕ) (olds news : List Account) (board : BoardState) (n : ℕ)
     (ks : List (KeptOut (Result O Trap)))
     (a : AreOuts tasks s is_value places olds news board n ks) where
   -- the out at a place is of the task of that number

@@ -9,7 +9,7 @@ use Rattle.graph_rewrites.specs.declared.rewrite.Rewrite.{Rewrite}
 use Rattle.graph_rewriting.specs.Replayed.{IsReplayed}
 use Rattle.graph_rewriting.specs.declared.replaying.ReplayFault.{ReplayFault}
 use Rattle.graph_rewriting.specs.declared.replaying.ReplayFault.TheVariants as replay
-use Rattle.plan_files.specs.Reads.{IsFile, Reads}
+use Rattle.plan_files.specs.Reads.{IsFile, IsReadAs}
 use Rattle.plan_files.specs.declared.file.FileFault.{FileFault}
 use Rattle.plan_files.specs.declared.file.FileFault.TheVariants as file
 use Rattle.plan_files.specs.declared.file.PlanFile.{PlanFile}
@@ -24,13 +24,13 @@ use Rattle.plan_faults.specs.declared.fault.PlanKind.TheVariants.{NotJson, Shape
 -- ---- the file
 
 file_fault : (names : Naming) (g : Graph) (bytes : List ℕ) (f : FileFault)
-    → Reads bytes (Err f) → IsChecked names g bytes (Err (of_file f))
+    → IsReadAs bytes (Err f) → IsChecked names g bytes (Err (of_file f))
 file_fault names g bytes file.NotJson r = (refl, r)
 file_fault names g bytes file.Shape r = (refl, r)
 file_fault names g bytes file.Memory r = tt
 
 pub file_refused : (names : Naming) (g : Graph) (bytes : List ℕ) (f : FileFault)
-    (e : PlanFault) → Reads bytes (Err f) → e ≡ of_file f → IsChecked names g bytes (Err e)
+    (e : PlanFault) → IsReadAs bytes (Err f) → e ≡ of_file f → IsChecked names g bytes (Err e)
 file_refused names g bytes f e r is =
     subst (λ (x : PlanFault). IsChecked names g bytes (Err x)) (sym is)
     (file_fault names g bytes f r)

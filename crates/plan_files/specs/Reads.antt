@@ -26,11 +26,11 @@ abbrev pub IsFile : List ℕ → PlanFile → Type 0
 IsFile bytes file = (d : Data) × HasValue bytes d × (file_of d ≡ Some file)
 
 -- it is told so of the bytes: their file, or why they are none
-abbrev pub Reads : List ℕ → Result PlanFile FileFault → Type 0
-Reads bytes (Ok file) = IsFile bytes file
-Reads bytes (Err NotJson) = IsNoJson bytes
-Reads bytes (Err Shape) = HasNoShape bytes
-Reads bytes (Err Memory) = Unit {0}
+abbrev pub IsReadAs : List ℕ → Result PlanFile FileFault → Type 0
+IsReadAs bytes (Ok file) = IsFile bytes file
+IsReadAs bytes (Err NotJson) = IsNoJson bytes
+IsReadAs bytes (Err Shape) = HasNoShape bytes
+IsReadAs bytes (Err Memory) = Unit {0}
 
 -- it is told so of the bytes: their value, or that they are no JSON
 abbrev pub Parses : List ℕ → Result Value FileFault → Type 0

@@ -3,7 +3,7 @@ ghost use Rattle.std.specs.Prelude.{◌≡◌, IfOk};
 ghost use Rattle.serde_json.specs.Errors.{IsMemory};
 ghost use Rattle.serde_json.specs.View.{view};
 ghost use Rattle.plan_files.specs.Forms as spec;
-ghost use Rattle.plan_files.specs.Reads.{Parses, Reads};
+ghost use Rattle.plan_files.specs.Reads.{Parses, IsReadAs};
 
 use crate::file::{FileFault, PlanFile};
 use crate::plan_text::text_in;
@@ -14,7 +14,7 @@ use std::alloc::{AllocError, Global};
 /// What the bytes of a file of a plan have. Bytes are no JSON exactly where `serde_json` refuses
 /// them, and JSON is of another form exactly where it tells no file (`file_of`).
 pub fn read_file(alloc: Global, bytes: &[u8]) -> Result<PlanFile, FileFault>
-    ensures { Reads bytes.now result }
+    ensures { IsReadAs bytes.now result }
 {
     let value = parsed(alloc, bytes)?;
     formed(alloc, &value)

@@ -27,7 +27,7 @@ use Rattle.plan_laws.specs.declared.operations.Key.TheVariants.{Mapper, Whole}
 use Rattle.plan_laws.specs.declared.operations.Grouped.{Grouped}
 use Rattle.plan_laws.specs.declared.operations.Operation.{Operation}
 use Rattle.plan_laws.specs.declared.operations.Operation.TheVariants.{Flat, Class}
-use Rattle.plan_laws.specs.Operations.{IsSide, side_channel, IsFlat, IsGroupedOk, IsHonest, IsKeyOk, IsPdo, IsReducer, Reads, TakesInputs, flat_inputs, forest_at, group_at, group_of, group_runs, key_runs, numbered_outs, pass_of, pdo_channel, reducer_of, reducer_runs, runs, valued}
+use Rattle.plan_laws.specs.Operations.{IsSide, side_channel, IsFlat, IsGroupedOk, IsHonest, IsKeyOk, IsPdo, IsReducer, IsPdoOn, TakesInputs, flat_inputs, forest_at, group_at, group_of, group_runs, key_runs, numbered_outs, pass_of, pdo_channel, reducer_of, reducer_runs, runs, valued}
 use Rattle.plan_laws.proofs.Running.{carried_sum, flat_part}
 use Rattle.plan_laws.proofs.Carrying.{side_is, IsPlain, feeds, group_at_is, group_does, holds_at, there_at}
 
@@ -94,7 +94,7 @@ keys_sum w p m es (Mapper n ∷ ks) h =
     cc
 
 reducer_sum : {Y : Type 0} (w : World) (p : Parts Y) (m : Place → Collection) (es : List Entry)
-    (n r : ℕ) (o : Option Node) → Reads (place n 0) o → total_of w p.steps (m (place n 0))
+    (n r : ℕ) (o : Option Node) → IsPdoOn (place n 0) o → total_of w p.steps (m (place n 0))
     (forest_at o) ≡ sum_at w p m o
 reducer_sum w p m es n r None h = absurd h
 reducer_sum w p m es n r (Some (Source s)) h = absurd h

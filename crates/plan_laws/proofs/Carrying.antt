@@ -34,7 +34,7 @@ use Rattle.plan_laws.specs.declared.operations.Key.TheVariants.{Mapper, Whole}
 use Rattle.plan_laws.specs.declared.operations.Grouped.{Grouped}
 use Rattle.plan_laws.specs.declared.operations.Operation.{Operation}
 use Rattle.plan_laws.specs.declared.operations.Operation.TheVariants.{Flat, Class}
-use Rattle.plan_laws.specs.Operations.{HasKey, IsFlat, IsGroupedOk, IsHonest, IsKeyOk, IsPdo, IsReducer, IsSide, IsTaken, one_call, side_channel, Reads, TakesInputs, channel_of, channels_of, flat_inputs, forest_at, group_at, group_gives, group_of, has_key, inputs_at, inputs_of, key_out, numbered_out, numbered_outs, out_in, outs_at, pass_of, pdo_channel, position, reduced, reducer_of, take_of, valued}
+use Rattle.plan_laws.specs.Operations.{HasKey, IsFlat, IsGroupedOk, IsHonest, IsKeyOk, IsPdo, IsReducer, IsSide, IsTaken, one_call, side_channel, IsPdoOn, TakesInputs, channel_of, channels_of, flat_inputs, forest_at, group_at, group_gives, group_of, has_key, inputs_at, read_through, key_out, numbered_out, numbered_outs, out_in, outs_at, pass_of, pdo_channel, position, reduced, reducer_of, take_of, valued}
 use Rattle.plan_laws.proofs.Running.{Carries, flat_value, place_same}
 
 -- the input channels with what they read
@@ -213,7 +213,7 @@ inputs_sum w m es c (Some (Gbk d x l k)) p a h t = p c
 inputs_sum w m es c (Some (Barrier ins x l d)) p a h t = p c
 
 reducer_at : (w : World) (m : Place → Collection) (es : List Entry) (n r : ℕ) (o : Option Node)
-    → Meets w es m → node_at es r ≡ o → Reads (place n 0) o → map (output_of w (m (place n 0))
+    → Meets w es m → node_at es r ≡ o → IsPdoOn (place n 0) o → map (output_of w (m (place n 0))
     (forest_at o)) (numbers (forest_at o)) ≡ map m (map (place r) (outs_at o))
 reducer_at w m es n r None a h p = absurd p
 reducer_at w m es n r (Some (Source s)) a h p = absurd p
@@ -244,7 +244,7 @@ group_at_is w m es keys n r (Some (Source s)) p a ok h t i = absurd i
 group_at_is w m es keys n r (Some (Flatten ins)) p a ok h t i = absurd i
 group_at_is w m es keys n r (Some (Pdo d f)) p a ok h t i = absurd i
 group_at_is w m es keys n r (Some (Gbk c x l k)) p a ok h t i =
-    ap (λ (cs : List Collection). by_key (together cs)) (takes_are w m es keys (inputs_of es c) a ok
+    ap (λ (cs : List Collection). by_key (together cs)) (takes_are w m es keys (read_through es c) a ok
     i)
     ∙ ap (by_key) (inputs_sum w m es c (node_at es c.node) p a refl t)
     ∙ sym (holds_at w m es n (Gbk c x l k) a h)

@@ -104,8 +104,8 @@ abbrev pub inputs_at : Place → Option Node → List Place
 inputs_at c (Some (Flatten ins)) = ins
 inputs_at c o = c ∷ []
 
-abbrev pub inputs_of : List Entry → Place → List Place
-inputs_of es c = inputs_at c (node_at es c.node)
+abbrev pub read_through : List Entry → Place → List Place
+read_through es c = inputs_at c (node_at es c.node)
 
 abbrev pub forest_at : Option Node → Option Forest
 forest_at (Some (Pdo c f)) = Some f
@@ -120,7 +120,7 @@ group_at es keys r (Some (Gbk c o l k)) = record {
   origin = o;
   last = l;
   lifted = k;
-  takes = map (take_of keys) (inputs_of es c);
+  takes = map (take_of keys) (read_through es c);
   does = reducer_of es r;
   first = 0;
 }
@@ -234,16 +234,16 @@ HasKey (k ∷ ks) c = (has_key k c ≡ true) ⊎ HasKey ks c
 abbrev pub IsTaken : List Entry → List Key → Place → Type 0
 IsTaken es keys c = HasKey keys c × IsThere es c
 
-abbrev pub Reads : Place → Option Node → Type 0
-Reads d (Some (Pdo c f)) = c ≡ d
-Reads d o = ⊥
+abbrev pub IsPdoOn : Place → Option Node → Type 0
+IsPdoOn d (Some (Pdo c f)) = c ≡ d
+IsPdoOn d o = ⊥
 
 abbrev pub IsReducer : List Entry → ℕ → Option ℕ → Type 0
 IsReducer es n None = Unit {0}
-IsReducer es n (Some r) = Reads (place n 0) (node_at es r)
+IsReducer es n (Some r) = IsPdoOn (place n 0) (node_at es r)
 
 abbrev pub TakesInputs : List Entry → List Key → Option Node → Type 0
-TakesInputs es keys (Some (Gbk c o l k)) = AllByRecursion (IsTaken es keys) (inputs_of es c)
+TakesInputs es keys (Some (Gbk c o l k)) = AllByRecursion (IsTaken es keys) (read_through es c)
 TakesInputs es keys o = ⊥
 
 abbrev pub IsGroupedOk : List Entry → List Key → Grouped → Type 0

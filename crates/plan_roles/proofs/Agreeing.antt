@@ -19,7 +19,7 @@ use Rattle.exec_graph.proofs.Soundness.{differ_ascends}
 use Rattle.fusion_blocks.specs.Feeding.{feeds, feeds_by, flattens, groups, is_grouped}
 use Rattle.fusion_blocks.specs.inner.Tables.{AllThere}
 use Rattle.fusion_blocks.proofs.Marking.{is_same, same_is}
-use Rattle.plan_laws.specs.Operations.{inputs_at, inputs_of}
+use Rattle.plan_laws.specs.Operations.{inputs_at, read_through}
 use Rattle.plan_roles.specs.Levels.{level}
 use Rattle.plan_roles.specs.Reading.{feeds_next, feeds_other, takes}
 
@@ -108,7 +108,7 @@ taken_by es c n (Source r) f t h = absurd (false≢true h)
 taken_by es c n (Flatten ins) f t h = absurd (false≢true h)
 taken_by es c n (Pdo d p) f t h = absurd (false≢true h)
 taken_by es c n (Gbk d k l q) f t h =
-    or_else (feeds es c ≡ true) (same_place c d) (among c (inputs_of es d)) h
+    or_else (feeds es c ≡ true) (same_place c d) (among c (read_through es d)) h
     (λ i. itself es c d (entry n (Gbk d k l q)) f (is_same d d refl) i)
     (λ i. by_input es c d (entry n (Gbk d k l q)) (node_at es d.node) refl t.0 f
     (is_same d d refl) i)
@@ -118,7 +118,7 @@ grouping : (c : Place) (x : Node) → groups c x ≡ true → (es : List Entry) 
 grouping c (Source r) h es = absurd (false≢true h)
 grouping c (Flatten ins) h es = absurd (false≢true h)
 grouping c (Pdo d p) h es = absurd (false≢true h)
-grouping c (Gbk d k l q) h es = or_left (same_place c d) (among c (inputs_of es d)) h
+grouping c (Gbk d k l q) h es = or_left (same_place c d) (among c (read_through es d)) h
 grouping c (Barrier ins o l a) h es = absurd (false≢true h)
 
 -- the Gbk x of the Flatten n takes the inputs of that
@@ -132,7 +132,7 @@ through_flatten es c n (Flatten ins) (Flatten js) f h g = absurd (false≢true g
 through_flatten es c n (Flatten ins) (Pdo d p) f h g = absurd (false≢true g)
 through_flatten es c n (Flatten ins) (Gbk d k l q) f h g =
     let at : n ≡ d.node = ap (λ (x : Place). x.node) (same_is (place n 0) d g) in
-    or_right (same_place c d) (among c (inputs_of es d))
+    or_right (same_place c d) (among c (read_through es d))
     (ap (λ (o : Option Node). among c (inputs_at d o))
     (subst (λ (m : ℕ). node_at es m ≡ Some (Flatten ins)) at f) ∙ h)
 through_flatten es c n (Barrier ins o l a) x f h g = absurd (false≢true h)

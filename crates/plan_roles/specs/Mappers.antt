@@ -14,7 +14,7 @@ use Rattle.fusion_blocks.specs.Feeding.{flattens}
 use Rattle.exec_plan.specs.Channels.{outs_of}
 use Rattle.plan_laws.specs.declared.operations.Key.{Key}
 use Rattle.plan_laws.specs.declared.operations.Key.TheVariants.{Mapper, Whole}
-use Rattle.plan_laws.specs.Operations.{inputs_of}
+use Rattle.plan_laws.specs.Operations.{read_through}
 use Rattle.plan_roles.specs.Levels.{level}
 use Rattle.plan_roles.specs.Reading.{feeds_next, feeds_other, goes_on, goes_past, only_reader}
 
@@ -60,7 +60,7 @@ key_of b gbk_level c =
 
 -- the keys of what the Gbk n of c takes, in order
 abbrev pub keys_in : Blocked → ℕ → Place → List Key
-keys_in b n c = map (key_of b (level b.graph.nodes n)) (inputs_of b.graph.nodes c)
+keys_in b n c = map (key_of b (level b.graph.nodes n)) (read_through b.graph.nodes c)
 
 -- ---- reducers
 

@@ -10,7 +10,7 @@ use Rattle.exec_graph.specs.declared.graph.Node.TheVariants.{Source, Flatten, Pd
 use Rattle.exec_graph.specs.declared.graph.Entry.{Entry}
 use Rattle.exec_graph.specs.declared.graph.Graph.{Graph}
 use Rattle.fusion_blocks.specs.Feeding.{flattens}
-use Rattle.plan_laws.specs.Operations.{inputs_of}
+use Rattle.plan_laws.specs.Operations.{read_through}
 use Rattle.plan_roles.specs.Levels.{level}
 
 -- ---- groups
@@ -20,7 +20,7 @@ abbrev pub takes : List Entry → Place → Node → Bool
 takes es c (Source r) = false
 takes es c (Flatten ins) = false
 takes es c (Pdo d f) = false
-takes es c (Gbk d o l k) = same_place c d || among c (inputs_of es d)
+takes es c (Gbk d o l k) = same_place c d || among c (read_through es d)
 takes es c (Barrier ins o l a) = false
 
 -- whether c feeds a Gbk whose level passes the test

@@ -4,7 +4,7 @@ ghost use Rattle.std.proofs.Common.{suc};
 ghost use Rattle.exec_graph.specs.Places.{HasAlso};
 ghost use Rattle.exec_graph.specs.Readers.{among, same_place};
 ghost use Rattle.fusion_blocks.specs.of_node_index.Index.{IsIndex};
-ghost use Rattle.plan_laws.specs.Operations.{inputs_of};
+ghost use Rattle.plan_laws.specs.Operations.{read_through};
 ghost use Rattle.plan_roles.specs.Levels.{level};
 ghost use Rattle.plan_roles.specs.Reading.{takes};
 ghost use Rattle.plan_roles.specs.inner.Known.{AreLevels};
@@ -50,7 +50,7 @@ pub(crate) fn inputs_of<'a>(
     c: &'a Place,
 ) -> &'a [Place]
     requires index { IsIndex index.now nodes.now }
-    ensures { result.now ≡ inputs_of nodes.now c.now }
+    ensures { result.now ≡ read_through nodes.now c.now }
 {
     match find_node(nodes, index, c.node) {
         Some(Node::Flatten(inputs)) => inputs.as_slice(),

@@ -15,7 +15,7 @@ use Rattle.graph_laws.proofs.of_exec_graph.Solving.{there_found}
 use Rattle.plan_laws.specs.declared.operations.Key.{Key}
 use Rattle.plan_laws.specs.declared.operations.Key.TheVariants.{Mapper, Whole}
 use Rattle.plan_laws.specs.declared.operations.Grouped.{Grouped}
-use Rattle.plan_laws.specs.Operations.{IsGroupedOk, IsTaken, TakesInputs, has_key, inputs_of, key_runs}
+use Rattle.plan_laws.specs.Operations.{IsGroupedOk, IsTaken, TakesInputs, has_key, read_through, key_runs}
 use Rattle.plan_laws.proofs.Running.{place_same, same_self}
 use Rattle.plan_rules.specs.Fitting.{IsUsed, gbk_inputs, same_key, takes_key}
 use Rattle.plan_rules.proofs.Collections.{collections, node_outs}
@@ -104,7 +104,7 @@ gbk_taken es keys k None t h = absurd t
 gbk_taken es keys k (Some (Source r)) t h = absurd t
 gbk_taken es keys k (Some (Flatten ins)) t h = absurd t
 gbk_taken es keys k (Some (Pdo c f)) t h = absurd t
-gbk_taken es keys k (Some (Gbk c o l m)) t h = input_taken es keys k (inputs_of es c) t h
+gbk_taken es keys k (Some (Gbk c o l m)) t h = input_taken es keys k (read_through es c) t h
 gbk_taken es keys k (Some (Barrier ins o l a)) t h = absurd t
 
 key_taken : (es : List Entry) (keys : List Key) (k : Key) (gs : List Grouped)

@@ -15,7 +15,7 @@ use Rattle.graph_laws.proofs.of_exec_graph.Entries.{all_found}
 use Rattle.plan_making.specs.of_exec_plan.Wellformed.{IsLiftOk}
 use Rattle.plan_laws.specs.declared.operations.Key.{Key}
 use Rattle.plan_laws.specs.declared.operations.Grouped.{Grouped}
-use Rattle.plan_laws.specs.Operations.{IsGroupedOk, IsReducer, Reads, forest_at, reducer_of}
+use Rattle.plan_laws.specs.Operations.{IsGroupedOk, IsReducer, IsPdoOn, forest_at, reducer_of}
 use Rattle.plan_rules.specs.Fitting.{HasReducer, IsReduced}
 use Rattle.plan_rules.proofs.Members.{Has}
 use Rattle.plan_rules.proofs.Staging.{AreLifted, IsLifted}
@@ -44,7 +44,7 @@ one_reader n r ns e h =
     elim (subst (λ (l : List ℕ). Has r l) e h) [ inl i ↦ i | inr i ↦ absurd i ]
 
 forest_lifted : (es : List Entry) (c : Place) (n r : ℕ) (k : Comb) (o : Option Node)
-    → node_at es r ≡ o → Reads c o → readers es c ≡ n ∷ []
+    → node_at es r ≡ o → IsPdoOn c o → readers es c ≡ n ∷ []
     → comb_at (node_at es n) ≡ Some k → IsLiftOk (Some k) (forest_at o)
 forest_lifted es c n r k None h i a q = absurd i
 forest_lifted es c n r k (Some (Source s)) h i a q = absurd i

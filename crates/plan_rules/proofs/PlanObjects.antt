@@ -24,7 +24,7 @@ use Rattle.plan_laws.specs.declared.operations.Key.TheVariants.{Mapper, Whole}
 use Rattle.plan_laws.specs.declared.operations.Grouped.{Grouped}
 use Rattle.plan_laws.specs.declared.operations.Operation.{Operation}
 use Rattle.plan_laws.specs.declared.operations.Operation.TheVariants.{Flat, Class}
-use Rattle.plan_laws.specs.Operations.{AreReady, IsFlat, IsGroupedOk, IsHonest, IsIn, IsKeyOk, IsOperate, IsPdo, IsReducer, IsSide, Reading, Reads, TakesInputs, channels_of, flat_inputs, flat_stage, gives_of, group_gives, named, outs_at, pdo_channel, placed, reading_reads, reads_of, reduced, side_channel, stage_of, stages_of}
+use Rattle.plan_laws.specs.Operations.{AreReady, IsFlat, IsGroupedOk, IsHonest, IsIn, IsKeyOk, IsOperate, IsPdo, IsReducer, IsSide, Reading, IsPdoOn, TakesInputs, channels_of, flat_inputs, flat_stage, gives_of, group_gives, named, outs_at, pdo_channel, placed, reading_reads, reads_of, reduced, side_channel, stage_of, stages_of}
 use Rattle.plan_laws.proofs.Running.{in_append, place_same, without_first}
 use Rattle.plan_rules.specs.Fitting.{IsFit}
 
@@ -67,7 +67,7 @@ map_outs : (es : List Entry) (r : ℕ) (js : List ℕ) (b : Bool) → is_object 
 map_outs es r [] b h = tt
 map_outs es r (j ∷ js) b h = (h, map_outs es r js b h)
 
-reads_object : (d : Place) (o : Option Node) → Reads d o → is_object o ≡ false
+reads_object : (d : Place) (o : Option Node) → IsPdoOn d o → is_object o ≡ false
 reads_object d None h = absurd h
 reads_object d (Some (Source s)) h = absurd h
 reads_object d (Some (Flatten ins)) h = absurd h

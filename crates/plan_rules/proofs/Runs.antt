@@ -14,7 +14,7 @@ use Rattle.plan_laws.specs.declared.operations.Key.TheVariants.{Mapper, Whole}
 use Rattle.plan_laws.specs.declared.operations.Grouped.{Grouped}
 use Rattle.plan_laws.specs.declared.operations.Operation.{Operation}
 use Rattle.plan_laws.specs.declared.operations.Operation.TheVariants.{Flat, Class}
-use Rattle.plan_laws.specs.Operations.{DoAll, IsFlat, IsGroupedOk, IsHonest, IsKeyOk, IsPdo, IsReducer, Reads, TakesInputs, group_runs, key_runs, reducer_runs, runs, times, works_at}
+use Rattle.plan_laws.specs.Operations.{DoAll, IsFlat, IsGroupedOk, IsHonest, IsKeyOk, IsPdo, IsReducer, IsPdoOn, TakesInputs, group_runs, key_runs, reducer_runs, runs, times, works_at}
 use Rattle.plan_rules.specs.Fitting.{AreFit, IsAlone, IsFit, IsUsed, flat_runs}
 use Rattle.plan_rules.proofs.Members.{Differ, Has, differ_left, differ_once, differ_right, times-append}
 use Rattle.plan_rules.proofs.Places.{number_has, numbers}
@@ -40,7 +40,7 @@ gbk_works es keys (Some (Pdo c f)) h = absurd h
 gbk_works es keys (Some (Gbk c o l k)) h = refl
 gbk_works es keys (Some (Barrier ins o l a)) h = absurd h
 
-reads_works : (d : Place) (o : Option Node) → Reads d o → works_at o ≡ true
+reads_works : (d : Place) (o : Option Node) → IsPdoOn d o → works_at o ≡ true
 reads_works d None h = absurd h
 reads_works d (Some (Source r)) h = absurd h
 reads_works d (Some (Flatten ins)) h = absurd h

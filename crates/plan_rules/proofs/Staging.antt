@@ -17,7 +17,7 @@ use Rattle.plan_laws.specs.declared.operations.Key.{Key}
 use Rattle.plan_laws.specs.declared.operations.Grouped.{Grouped}
 use Rattle.plan_laws.specs.declared.operations.Operation.{Operation}
 use Rattle.plan_laws.specs.declared.operations.Operation.TheVariants.{Flat, Class}
-use Rattle.plan_laws.specs.Operations.{IsGroupedOk, IsHonest, IsKeyOk, IsTaken, Reading, TakesInputs, channel_of, channels_of, flat_inputs, flat_stage, group_at, group_of, inputs_of, named, numbered_outs, pass_of, reading_reads, reads_of, reducer_of, stage_of, with_object}
+use Rattle.plan_laws.specs.Operations.{IsGroupedOk, IsHonest, IsKeyOk, IsTaken, Reading, TakesInputs, channel_of, channels_of, flat_inputs, flat_stage, group_at, group_of, read_through, named, numbered_outs, pass_of, reading_reads, reads_of, reducer_of, stage_of, with_object}
 use Rattle.plan_rules.proofs.Taking.{AreNumbered, inputs, inputs_numbered, reducer_numbered, take_exists, takes_exist}
 use Rattle.plan_rules.proofs.Widths.{length_map}
 
@@ -40,7 +40,7 @@ group_ok es f keys n r (Some (Pdo d g)) a ok t l = absurd t
 group_ok es f keys n r (Some (Gbk c x y k)) a ok t l = record {
   before = refl;
   first = refl;
-  takes = takes_exist es f keys (inputs_of es c) a ok t;
+  takes = takes_exist es f keys (read_through es c) a ok t;
   steps = reducer_numbered es r a;
   lift = l;
 }

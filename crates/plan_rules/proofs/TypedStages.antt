@@ -20,7 +20,7 @@ use Rattle.plan_laws.specs.declared.operations.Key.{Key}
 use Rattle.plan_laws.specs.declared.operations.Grouped.{Grouped}
 use Rattle.plan_laws.specs.declared.operations.Operation.{Operation}
 use Rattle.plan_laws.specs.declared.operations.Operation.TheVariants.{Flat, Class}
-use Rattle.plan_laws.specs.Operations.{flat_stage, IsFlat, IsGroupedOk, IsHonest, IsReducer, IsTaken, Reads, TakesInputs, flat_inputs, forest_at, gives_of, group_at, group_gives, group_of, numbered_outs, outs_at, pass_of, reads_of, reduced, reducer_of, stage_of}
+use Rattle.plan_laws.specs.Operations.{flat_stage, IsFlat, IsGroupedOk, IsHonest, IsReducer, IsTaken, IsPdoOn, TakesInputs, flat_inputs, forest_at, gives_of, group_at, group_gives, group_of, numbered_outs, outs_at, pass_of, reads_of, reduced, reducer_of, stage_of}
 use Rattle.plan_rules.proofs.Counted.{out_stands}
 use Rattle.plan_rules.proofs.Taking.{AreNumbered, IsNodeNumbered}
 use Rattle.plan_rules.proofs.TypedChannels.{AreNamed, AreTyped, all_inputs_typed, channel_types, taken_typed, takes_typed, typed_at}
@@ -68,7 +68,7 @@ map_at r (suc j) (n ∷ ns) i h = map_at r j ns i h
 
 forest_typed : (s : Signatures) (types : Place → Ty) (t : PlanPlace → Ty) (es : List Entry)
     (k i n r : ℕ) (o : Option Node) → AreTyped s types es → AreNumbered es → node_at es r ≡ o
-    → Reads (place n 0) o → GivesTypes types t k i (map (place r) (outs_at o))
+    → IsPdoOn (place n 0) o → GivesTypes types t k i (map (place r) (outs_at o))
     → ChannelTyped s (types_from t k i) 0 (types (place n 0)) (forest_at o)
 forest_typed s types t es k i n r None a m h p g = absurd p
 forest_typed s types t es k i n r (Some (Source q)) a m h p g = absurd p

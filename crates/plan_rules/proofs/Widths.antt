@@ -16,7 +16,7 @@ use Rattle.plan_laws.specs.declared.operations.Key.{Key}
 use Rattle.plan_laws.specs.declared.operations.Grouped.{Grouped}
 use Rattle.plan_laws.specs.declared.operations.Operation.{Operation}
 use Rattle.plan_laws.specs.declared.operations.Operation.TheVariants.{Flat, Class}
-use Rattle.plan_laws.specs.Operations.{flat_inputs, flat_stage, IsGroupedOk, IsHonest, IsReducer, Reads, TakesInputs, forest_at, gives_of, group_at, group_gives, group_of, numbered_out, numbered_outs, outs_at, pass_of, reduced, reducer_of, stage_of}
+use Rattle.plan_laws.specs.Operations.{flat_inputs, flat_stage, IsGroupedOk, IsHonest, IsReducer, IsPdoOn, TakesInputs, forest_at, gives_of, group_at, group_gives, group_of, numbered_out, numbered_outs, outs_at, pass_of, reduced, reducer_of, stage_of}
 
 pub length_map : {X Y : Type 0} (f : X → Y) (xs : List X) → length (map f xs) ≡ length xs
 length_map f [] = refl
@@ -46,7 +46,7 @@ numbered_widths n (o ∷ os) =
     let a = numbered_width n o in
     let b = numbered_widths (n + width o) os in omega arith
 
-forest_outs : (n r : ℕ) (o : Option Node) → Reads (place n 0) o
+forest_outs : (n r : ℕ) (o : Option Node) → IsPdoOn (place n 0) o
     → outs (forest_at o) ≡ length (map (place r) (outs_at o))
 forest_outs n r None h = absurd h
 forest_outs n r (Some (Source s)) h = absurd h

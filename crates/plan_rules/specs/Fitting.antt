@@ -17,7 +17,7 @@ use Rattle.plan_laws.specs.declared.operations.Key.TheVariants.{Mapper, Whole}
 use Rattle.plan_laws.specs.declared.operations.Grouped.{Grouped}
 use Rattle.plan_laws.specs.declared.operations.Operation.{Operation}
 use Rattle.plan_laws.specs.declared.operations.Operation.TheVariants.{Flat, Class}
-use Rattle.plan_laws.specs.Operations.{has_key, inputs_of, times}
+use Rattle.plan_laws.specs.Operations.{has_key, read_through, times}
 
 -- ---- keys
 
@@ -29,7 +29,7 @@ same_key (Whole c) (Whole d) = same_place c d
 
 -- what a Gbk groups
 abbrev pub gbk_inputs : List Entry → Option Node → List Place
-gbk_inputs es (Some (Gbk c o l k)) = inputs_of es c
+gbk_inputs es (Some (Gbk c o l k)) = read_through es c
 gbk_inputs es o = []
 
 -- whether the group takes a collection of the channel

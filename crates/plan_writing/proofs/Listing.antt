@@ -4,7 +4,7 @@ use Rattle.std.specs.Prelude.{Some, slice_get, ◌⊎◌}
 use Rattle.std.proofs.lemmas.List.{drop_all}
 use Rattle.std.proofs.lemmas.Option.{get_or_from_slice_get, slice_get_within}
 use Rattle.std.proofs.lemmas.Bool.{cases_lt}
-use Rattle.plan_writing.specs.Lists.{joined, paired}
+use Rattle.plan_writing.specs.Lists.{one_text, paired}
 
 -- the member of a place, in front of those behind it
 head_of : {A : Type 0} (xs : List A) (i : ℕ) (x : A) → slice_get xs i ≡ Some x
@@ -24,12 +24,12 @@ cut make xs ys i x y here there = rw (head_of xs i x here, head_of ys i y there)
 pub texts_next : {X Y : Type 0} (make : X → Y → List ℕ) (text more all : List ℕ) (xs : List X)
     (ys : List Y) (i : ℕ) (x : X) (y : Y)
     → slice_get xs i ≡ Some x → slice_get ys i ≡ Some y → more ≡ text ++ make x y
-    → text ++ joined (paired make (drop i xs) (drop i ys)) ≡ all
-    → more ++ joined (paired make (drop (i + 1) xs) (drop (i + 1) ys)) ≡ all
+    → text ++ one_text (paired make (drop i xs) (drop i ys)) ≡ all
+    → more ++ one_text (paired make (drop (i + 1) xs) (drop (i + 1) ys)) ≡ all
 texts_next make text more all xs ys i x y here there pushed so_far =
     rw (pushed, add-one)
-    (append_assoc text (make x y) (joined (paired make (drop (suc i) xs) (drop (suc i) ys)))
-    ∙ ap (λ texts. text ++ joined texts) (sym (cut make xs ys i x y here there)) ∙ so_far)
+    (append_assoc text (make x y) (one_text (paired make (drop (suc i) xs) (drop (suc i) ys)))
+    ∙ ap (λ texts. text ++ one_text texts) (sym (cut make xs ys i x y here there)) ∙ so_far)
 
 none_beside : {X Y Z : Type 0} (make : X → Y → Z) (xs : List X) → paired make xs [] ≡ []
 none_beside make [] = refl

@@ -19,5 +19,5 @@ paired make (x ∷ xs) [] = []
 paired make (x ∷ xs) (y ∷ ys) = make x y ∷ paired make xs ys
 
 -- the texts one after the other
-abbrev pub joined : List (List ℕ) → List ℕ
-joined texts = flat_map (λ text. text) texts
+abbrev pub one_text : List (List ℕ) → List ℕ
+one_text texts = flat_map (λ text. text) texts

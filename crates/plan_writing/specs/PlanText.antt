@@ -14,7 +14,7 @@ use Rattle.exec_plan.specs.declared.plan.Stage.TheVariants.{Mscr, Flatten, Opera
 use Rattle.exec_plan.specs.declared.plan.Plan.{Plan}
 use Rattle.printing.specs.Printed.{quoted}
 use Rattle.plan_writing.specs.Acts.{act_text}
-use Rattle.plan_writing.specs.Lists.{joined, numbered, paired, spaced}
+use Rattle.plan_writing.specs.Lists.{one_text, numbered, paired, spaced}
 use Rattle.plan_writing.specs.Naming.{Naming, Written}
 use Rattle.plan_writing.specs.Places.{dotted, given_text, place_text, take_text}
 use Rattle.plan_writing.specs.Forests.{forest_text}
@@ -100,8 +100,8 @@ operate_line names stage takes origin does =
 abbrev pub stage_text : Naming → ℕ → Stage → List ℕ
 stage_text names stage (Mscr mscr) =
     mscr_line stage
-    ++ (joined (numbered (in_line names) 0 mscr.inputs)
-    ++ joined (numbered (out_line names stage) 0 mscr.outputs))
+    ++ (one_text (numbered (in_line names) 0 mscr.inputs)
+    ++ one_text (numbered (out_line names stage) 0 mscr.outputs))
 stage_text names stage (Flatten takes) = flatten_line stage takes
 stage_text names stage (Operate takes origin last does) =
     operate_line names stage takes origin does
@@ -120,5 +120,5 @@ output_line output place =
 abbrev pub plan_text_of : Naming → Plan → List ℕ
 plan_text_of names plan =
     codes "plan\n"
-    ++ (joined (numbered (stage_text names) 1 plan.stages)
-    ++ joined (paired output_line names.outputs plan.outputs))
+    ++ (one_text (numbered (stage_text names) 1 plan.stages)
+    ++ one_text (paired output_line names.outputs plan.outputs))

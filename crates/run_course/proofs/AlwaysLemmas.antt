@@ -17,7 +17,7 @@ use Rattle.run_texts.specs.declared.status.Status.TheVariants.{Done, GaveUp, Usa
 use Rattle.script_program.specs.Script.{Script}
 use Rattle.run_course.specs.Answers.{Answers, IsGaveUp, IsTrap, IsUsage, MayTell}
 use Rattle.script_loading.specs.Loads.{AllHaveRows}
-use Rattle.run_course.specs.Asked.{AskFor, IsAskedFor, Reads, inputs_read, plan_read}
+use Rattle.run_course.specs.Asked.{AskFor, IsAskedFor, AskOn, inputs_read, plan_read}
 use Rattle.run_course.specs.Plans.{HasPlan, IsPlanFor}
 use Rattle.run_course.specs.Promises.{IsUnlessFailed}
 use Rattle.run_course.specs.World.{World}
@@ -38,12 +38,12 @@ record HasRead (words : Words) (told : Told) : Type 0 where
   pub command : Command
   pub script : Script
   pub rows : List (List Value)
-  pub reads : Reads words told command script
+  pub reads : AskOn words told command script
   pub inputs : AllHaveRows told (inputs_read command script) rows
   pub plan : HasPlan told script (plan_read command)
 
 read_of : (words : Words) (told : Told) (command : Command) (script : Script)
-    (rows : List (List Value)) → Reads words told command script
+    (rows : List (List Value)) → AskOn words told command script
     → AllHaveRows told (inputs_read command script) rows
     → HasPlan told script (plan_read command) → HasRead words told
 read_of words told command script rows reads inputs plan = record {
@@ -56,7 +56,7 @@ read_of words told command script rows reads inputs plan = record {
 }
 
 written_rows : (words : Words) (told : Told) (olds news : List Account) (files : List NamedBytes)
-    (text : List ℕ) (command : Command) (script : Script) → Reads words told command script
+    (text : List ℕ) (command : Command) (script : Script) → AskOn words told command script
     → Writes command told olds news script files text → HasRead words told
 written_rows words told olds news files text Check script reads writes =
     read_of words told Check script [] reads tt tt
@@ -75,7 +75,7 @@ written_read words told olds news files text it =
 
 trap_rows : (words : Words) (told : Told) (command : Command) (script : Script)
     (rows : List (List Value)) (table : Table) (olds news : List Account) (trap : TrapOf)
-    → Reads words told command script → IsMeant told script rows table
+    → AskOn words told command script → IsMeant told script rows table
     → MayTell command told script rows olds news (traps_of table) trap → HasRead words told
 trap_rows words told Check script rows table olds news trap reads meant tells = absurd tells
 trap_rows words told (Plan form) script rows table olds news trap reads meant tells = absurd tells

@@ -17,7 +17,7 @@ use Rattle.run_texts.specs.declared.status.Status.TheVariants.{Done, GaveUp, Usa
 use Rattle.script_program.specs.Script.{Script}
 use Rattle.run_course.specs.Answers.{Answers, GivesUp, IsCause, IsRefused}
 use Rattle.script_loading.specs.Loads.{AllHaveRows, IsAbove, IsMissing, Loads}
-use Rattle.run_course.specs.Asked.{AskFor, IsAskedFor, IsPlanTurn, IsTurnOf, Reads, inputs_read, tries_of}
+use Rattle.run_course.specs.Asked.{AskFor, IsAskedFor, IsPlanTurn, IsTurnOf, AskOn, inputs_read, tries_of}
 use Rattle.run_course.specs.Lent.{lent}
 use Rattle.run_course.specs.Plans.{IsFileCause, IsPlanFor}
 use Rattle.run_course.specs.World.{World}
@@ -27,7 +27,7 @@ use Rattle.run_course.specs.declared.stop.Stop.{Stop}
 use Rattle.run_course.specs.declared.stop.Stop.TheVariants as stop
 use Rattle.run_course.specs.declared.stop.Trapped.{Trapped}
 use Rattle.script_loading.specs.Causes.{IsInputCause, IsInputsCause, IsLoaded, IsScriptCause}
-use Rattle.run_course.specs.inner.Course.{Delivers, HasTrap, IsCommandStop, IsMeaningStop, IsPlanStop, IsRunStop, IsStopped, IsTrapped}
+use Rattle.run_course.specs.inner.Course.{Delivers, HasTrap, IsCommandStop, IsMeaningStop, IsPlanStop, IsRunStop, IsStopped, IsTrappedAt}
 use Rattle.script_loading.proofs.SinceLemmas.{inputs_since, load_since}
 use Rattle.run_course.proofs.ReadLemmas.{Told, Words}
 
@@ -128,7 +128,7 @@ module _ (words : Words) (before after : SeenSource) (olds news : List Account)
   input_cause wanted (Trap origin kind element) its cause = absurd cause
   input_cause wanted (PlanRefused step kind) its cause = absurd cause
 
-  pub inputs_cause : (script : Script) (status : Status) → Reads words before.told command script
+  pub inputs_cause : (script : Script) (status : Status) → AskOn words before.told command script
       → IsInputsCause (tries_of command) before after (inputs_read command script) status
       → IsCause words before after olds news status
   inputs_cause script status read cause =
@@ -214,7 +214,7 @@ abbrev pub IsAt : Words → Told → Command → List ℕ → Script → Type 0
 IsAt words told command name script = AskFor words command name × IsLoaded told name script
 
 pub reads : (words : Words) (told : Told) (command : Command) (name : List ℕ) (script : Script)
-    → IsAt words told command name script → Reads words told command script
+    → IsAt words told command name script → AskOn words told command script
 reads words told command name script at = (name, at.1.0, at.0, at.1.1, at.1.2)
 
 pub written : (words : Words) (told : Told) (olds news : List Account) (command : Command)
@@ -243,7 +243,7 @@ module _ (words : Words) (before middle after : SeenSource) (olds news : List Ac
         it.0,
         it.1,
         script,
-        subst (λ (c : Command). Reads words before.told c script) it.5
+        subst (λ (c : Command). AskOn words before.told c script) it.5
             (reads words before.told command name script at),
         subst (λ (t : Told). GivesUp it.0 it.1 t olds news script it.2 it.3 it.4) told it.7,
       )
@@ -260,7 +260,7 @@ module _ (words : Words) (before middle after : SeenSource) (olds news : List Ac
       → IsStopped words before after olds news why
   command_stop (stop.Refused status) stops = command_cause status stops
   command_stop (stop.Trapped trap) stops =
-      let trapped = subst (λ (t : Told). IsTrapped command olds news t script trap) told stops in (
+      let trapped = subst (λ (t : Told). IsTrappedAt command olds news t script trap) told stops in (
         command,
         script,
         trapped.0,

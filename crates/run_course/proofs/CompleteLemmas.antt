@@ -22,7 +22,7 @@ use Rattle.script_program.specs.Script.{Script}
 use Rattle.script_run.specs.Runs.{phases_of}
 use Rattle.run_course.specs.Answers.{Answers, IsGaveUp, IsReadFault, IsTrap, MayTell}
 use Rattle.script_loading.specs.Loads.{AllHaveRows}
-use Rattle.run_course.specs.Asked.{IsAskedFor, Reads, inputs_read, tries_of}
+use Rattle.run_course.specs.Asked.{IsAskedFor, AskOn, inputs_read, tries_of}
 use Rattle.run_course.specs.Lent.{lent}
 use Rattle.run_course.specs.Promises.{CanEnd, CanRun, EndsAs, EndsWith, IsEnd, IsShelfCalm}
 use Rattle.run_course.specs.World.{World}
@@ -40,7 +40,7 @@ done_end traps none = subst (λ (l : List TrapOf). EndsWith l Done) (sym none) r
 -- the same script is written that can be read: its command came to its end
 through_end : (words : Words) (told : Told) (c d : Command) (p q : Script)
     (rows others : List (List Value)) (front text : List ℕ) (files : List NamedBytes)
-    (table : Table) → IsSome told → Reads words told c p → Reads words told d q
+    (table : Table) → IsSome told → AskOn words told c p → AskOn words told d q
     → AllHaveRows told (inputs_of p) rows → IsThrough told q front files text others table
     → EndsAs Direct p rows Done
 through_end words told c d p q rows others front text files table tells reads read inputs t = (
@@ -51,7 +51,7 @@ through_end words told c d p q rows others front text files table tells reads re
 
 done_as : (words : Words) (before after : World) (c d : Command) (p q : Script)
     (rows : List (List Value)) (files : List NamedBytes) (text : List ℕ)
-    → CanRun words before after c p rows → Reads words before.source.told d q
+    → CanRun words before after c p rows → AskOn words before.source.told d q
     → Writes c before.source.told before.hosts after.hosts q files text → EndsAs c p rows Done
 done_as words before after Check d p q rows files text can read writes = refl
 done_as words before after (Plan form) d p q rows files text can read writes = refl
@@ -82,7 +82,7 @@ told_end (Run s from) told script rows olds news traps origin kind element trap 
 
 trapped_meaning : (words : Words) (before after : World) (c : Command) (p : Script)
     (rows : List (List Value)) (origin : ℕ) (kind : Kind) (element : Value)
-    → IsSome before.source.told → Reads words before.source.told c p
+    → IsSome before.source.told → AskOn words before.source.told c p
     → AllHaveRows before.source.told (inputs_of p) rows
     → IsTrap origin kind element words before after
     → EndsAs Direct p rows (Trap origin kind element)
@@ -96,7 +96,7 @@ trapped_meaning words before after c p rows origin kind element tells reads inpu
 
 -- a trap is told by a command that may tell it
 told_by : (words : Words) (before after : World) (c : Command) (p : Script) (origin : ℕ)
-    (kind : Kind) (element : Value) → Reads words before.source.told c p
+    (kind : Kind) (element : Value) → AskOn words before.source.told c p
     → (it : IsTrap origin kind element words before after)
     → MayTell c before.source.told it.1 it.2 before.hosts after.hosts (traps_of it.3)
     (record { origin = origin; element = element; kind = kind })
@@ -158,7 +158,7 @@ stopped words before after status c script rows can stops =
 
 -- a source that fails less often than each file is tried lets all be read
 pub asked_as : (words : Words) (told : Told) (c d : Command) (p : Script) (name : List ℕ)
-    (limit : ℕ) → Reads words told c p → IsAskedFor words told d name limit → d ≡ c
+    (limit : ℕ) → AskOn words told c p → IsAskedFor words told d name limit → d ≡ c
 asked_as words told c d p name limit reads (inl asked) =
     (same_asked words d c name reads.0 asked.0 reads.2).0
 asked_as words told c d p name limit reads (inr (inl asked)) =
@@ -204,8 +204,8 @@ given_up words before after c script rows stage phase task can it =
 -- ---- it comes to its end
 
 same_writes : (words : Words) (told : Told) (olds news : List Account) (c d : Command)
-    (p q : Script) (files : List NamedBytes) (text : List ℕ) → Reads words told c p
-    → Reads words told d q → Writes d told olds news q files text
+    (p q : Script) (files : List NamedBytes) (text : List ℕ) → AskOn words told c p
+    → AskOn words told d q → Writes d told olds news q files text
     → Writes c told olds news q files text
 same_writes words told olds news c d p q files text reads read writes =
     subst (λ (e : Command). Writes e told olds news q files text)

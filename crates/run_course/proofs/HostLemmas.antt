@@ -14,7 +14,7 @@ use Rattle.run_texts.specs.declared.status.Status.TheVariants.{Done, GaveUp, Usa
 use Rattle.script_loading.specs.Loads.{AllHaveRows}
 use Rattle.script_program.specs.Script.{Script}
 use Rattle.script_run.specs.Runs.{AsksSomePhases, phases_of}
-use Rattle.run_course.specs.Asked.{Reads}
+use Rattle.run_course.specs.Asked.{AskOn}
 use Rattle.run_course.specs.Hosts.{AsksHosts, AsksInRun, MayHaveRun}
 use Rattle.run_course.specs.Lent.{lent}
 use Rattle.run_course.specs.Plans.{IsPlanFor}
@@ -106,7 +106,7 @@ call_asks words told middle command name script olds news at same r (inr it) =
         run.0,
         run.1,
         script,
-        subst (λ (c : Command). Reads words told c script) run.2
+        subst (λ (c : Command). AskOn words told c script) run.2
             (reads words told command name script at),
         subst (λ (t : Told). AsksInRun run.0 run.1 t script olds news) same run.3,
       ),

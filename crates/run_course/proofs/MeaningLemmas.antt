@@ -15,7 +15,7 @@ use Rattle.script_program.specs.Script.{Script}
 use Rattle.run_course.specs.Answers.{name_at}
 use Rattle.run_course.specs.declared.stop.Stop.{Stop}
 use Rattle.run_course.specs.declared.stop.Stop.TheVariants as stop
-use Rattle.run_course.specs.inner.Course.{AreFiles, Gives, HaveMembers, IsStop, IsTrapOf}
+use Rattle.run_course.specs.inner.Course.{AreFiles, GivesFiles, HaveMembers, IsStop, IsTrapOf}
 use Rattle.run_course.proofs.FileLemmas.{files_made, ready}
 use Rattle.run_course.proofs.OriginLemmas.{origins}
 
@@ -67,7 +67,7 @@ module _ (script : Script) (inputs : List (List Value)) (it : Direct)
   pub gives : (text : List ℕ) (files : List NamedBytes) → slice_get it.traps.items 0 ≡ None
       → AreFiles it.bags.items script.outputs files
       → text ≡ [] ++ (size_lines it.sizes.items ++ codes "done\n")
-      → Gives script inputs [] files text
+      → GivesFiles script inputs [] files text
   gives text files none are shown = (
     direct.made,
     record {

@@ -19,7 +19,7 @@ use Rattle.script_loading.specs.Causes.{IsLoadCause}
 use Rattle.script_loading.specs.Limits.{plan_limit}
 use Rattle.script_loading.specs.Loads.{IsAbove, IsMissing, Loads}
 use Rattle.script_program.specs.Script.{Script}
-use Rattle.run_course.specs.Asked.{IsPlanTurn, Reads, plan_read}
+use Rattle.run_course.specs.Asked.{IsPlanTurn, AskOn, plan_read}
 use Rattle.run_course.specs.Plans.{HasPlan, IsFileCause, IsPlanFor}
 use Rattle.run_course.specs.inner.Course.{IsTakingStop, refusal_of}
 use Rattle.run_course.proofs.GraphLemmas.{accepted_graph}
@@ -80,7 +80,7 @@ one_bad_plan told script name a b tells ok (bad_plan bytes step kind loads bad i
 
 -- a command that has the plan that it names has that of a turn
 pub plan_had : (words : Words) (told : Told) (c d : Command) (script p : Script) (name : List ℕ)
-    → IsSome told → Reads words told c script → HasPlan told script (plan_read c)
+    → IsSome told → AskOn words told c script → HasPlan told script (plan_read c)
     → IsPlanTurn words told d p name → HasPlan told p (Some name)
 plan_had words told c d script p name tells reads has turn =
     let same : script ≡ p = same_script words told c d script p tells reads turn.1 in

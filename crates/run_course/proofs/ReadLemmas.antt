@@ -10,7 +10,7 @@ use Rattle.outside.specs.declared.file.File.{File as NamedBytes}
 use Rattle.script_program.specs.Script.{Script}
 use Rattle.script_loading.specs.Accepted.{Accepted}
 use Rattle.script_loading.specs.Loads.{AllHaveRows, HasRows, IsAbove, IsMissing, Loads}
-use Rattle.run_course.specs.Asked.{AskFor, Reads}
+use Rattle.run_course.specs.Asked.{AskFor, AskOn}
 use Rattle.command_words.specs.Words.{Asked, asked_for}
 use Rattle.run_course.specs.Written.{IsMeant, Table}
 use Rattle.script_loading.specs.Limits.{script_limit}
@@ -66,12 +66,12 @@ same_asked words c d name other first second =
     (ap (λ (a : Asked). a.command) same, ap (λ (a : Asked). a.script) same)
 
 pub same_command : (words : Words) (told : Told) (c d : Command) (p q : Script)
-    → Reads words told c p → Reads words told d q → c ≡ d
+    → AskOn words told c p → AskOn words told d q → c ≡ d
 same_command words told c d p q first second =
     (same_asked words c d first.0 second.0 first.2 second.2).0
 
 pub same_script : (words : Words) (told : Told) (c d : Command) (p q : Script) → IsSome told
-    → Reads words told c p → Reads words told d q → p ≡ q
+    → AskOn words told c p → AskOn words told d q → p ≡ q
 same_script words told c d p q tells first second =
     let name : first.0 ≡ second.0 = (same_asked words c d first.0 second.0 first.2 second.2).1 in
     let bytes : first.1 ≡ second.1
@@ -103,8 +103,8 @@ same_rows told (wanted ∷ inputs) (r ∷ rows) (o ∷ others) tells first secon
 
 -- what a script means, whichever way it and its rows are found
 pub same_meaning : (words : Words) (told : Told) (c d : Command) (p q : Script)
-    (rows others : List (List Value)) (table : Table) → IsSome told → Reads words told c p
-    → Reads words told d q → AllHaveRows told (inputs_of p) rows → IsMeant told q others table
+    (rows others : List (List Value)) (table : Table) → IsSome told → AskOn words told c p
+    → AskOn words told d q → AllHaveRows told (inputs_of p) rows → IsMeant told q others table
     → meaning p rows ≡ Some table
 same_meaning words told c d p q rows others table tells first second inputs meant =
     let script : p ≡ q = same_script words told c d p q tells first second in

@@ -15,7 +15,7 @@ use Rattle.run_settings.specs.Settings.{RunSettings}
 use Rattle.run_texts.specs.Texts.{NamedOutput, size_lines}
 use Rattle.script_program.specs.Script.{Script}
 use Rattle.script_run.specs.Comes.{AreMembers}
-use Rattle.script_run.specs.Runs.{IsFirstOf, IsRan}
+use Rattle.script_run.specs.Runs.{IsFirstTrap, IsRan}
 use Rattle.script_run.specs.declared.run.Ran.{Ran}
 use Rattle.run_course.specs.Answers.{IsFirstOfPlan, name_at}
 use Rattle.script_loading.specs.Loads.{AllHaveRows}
@@ -24,7 +24,7 @@ use Rattle.run_course.specs.Plans.{IsPlanFor}
 use Rattle.run_course.specs.Written.{AllTasksRan, Table, WritesRun, file_of, files_of, text_shown}
 use Rattle.run_course.specs.declared.stop.Stop.{Stop}
 use Rattle.run_course.specs.declared.stop.Stop.TheVariants as stop
-use Rattle.run_course.specs.inner.Course.{Gives, IsRunStop, IsTrapOf, file_with, files_with}
+use Rattle.run_course.specs.inner.Course.{GivesFiles, IsRunStop, IsTrapOf, file_with, files_with}
 use Rattle.run_course.proofs.ReadLemmas.{Told}
 use Rattle.run_course.proofs.FileLemmas.{file_from, there}
 use Rattle.run_course.proofs.OriginLemmas.{origins}
@@ -100,7 +100,7 @@ pub writes_run : (s : RunSettings) (from : Option (List ℕ)) (told : Told)
     (olds news : List Account) (script : Script) (rows : List (List Value)) (plan : Plan)
     (front text : List ℕ) (files : List NamedBytes)
     → AllHaveRows told (inputs_of script) rows → IsPlanFor told script from plan
-    → front ≡ text_shown script plan → Gives script rows front files text
+    → front ≡ text_shown script plan → GivesFiles script rows front files text
     → AllTasksRan s script rows plan (lent s olds) (lent s news)
     → WritesRun s from told olds news script files text
 writes_run s from told olds news script rows plan front text files have is shown gives ran = (
@@ -123,7 +123,7 @@ module _ (s : RunSettings) (script : Script) (rows : List (List Value)) (plan : 
   pub given : (it : Ran) (front text : List ℕ) (files : List NamedBytes)
       → IsRan s script rows plan olds news it → files ≡ files_with script.outputs it.outputs.items
       → text ≡ front ++ (size_lines it.sizes.items ++ codes "done\n")
-      → Gives script rows front files text
+      → GivesFiles script rows front files text
   given it front text files ran are shown = (
     ran.made,
     record {
@@ -135,11 +135,11 @@ module _ (s : RunSettings) (script : Script) (rows : List (List Value)) (plan : 
     },
   )
 
-  pub within : (trap : Trap) → IsFirstOf s script rows plan olds news trap
+  pub within : (trap : Trap) → IsFirstTrap s script rows plan olds news trap
       → trap.origin < length script.nodes
   within trap it = origins script rows it.made it.means trap it.among
 
-  pub trap_stops : (trap : Trap) (why : Stop) → IsFirstOf s script rows plan olds news trap
+  pub trap_stops : (trap : Trap) (why : Stop) → IsFirstTrap s script rows plan olds news trap
       → IsTrapOf script trap why → IsRunStop s script rows plan olds news why
   trap_stops trap (stop.Refused status) it own = absurd own
   trap_stops trap (stop.Trapped trapped) it own = (

@@ -18,7 +18,7 @@ use Rattle.script_loading.specs.Accepted.{Accepted, Refused}
 use Rattle.plan_faults.specs.declared.fault.PlanKind.{PlanKind}
 use Rattle.run_course.specs.Answers.{IsInputRefused, IsNoFile, IsPlanRefused, IsScriptRefused, IsTooLong}
 use Rattle.script_loading.specs.Loads.{AllHaveRows, HasRows, IsAbove, IsMissing, Loads}
-use Rattle.run_course.specs.Asked.{AskFor, IsAskedFor, IsPlanTurn, IsTurnOf, Reads, inputs_read, plan_read}
+use Rattle.run_course.specs.Asked.{AskFor, IsAskedFor, IsPlanTurn, IsTurnOf, AskOn, inputs_read, plan_read}
 use Rattle.run_course.specs.Plans.{HasPlan}
 use Rattle.command_words.specs.Words.{asked_for}
 use Rattle.script_loading.specs.Limits.{script_limit, input_limit}
@@ -64,7 +64,7 @@ Stops words told status =
 unread : (words : Words) (told : Told) (command other : Command) (name : List ℕ) (status :
     Status) (script : Script)
     → IsSome told → AskFor words command name → BadScript told name status
-    → Reads words told other script → ⊥
+    → AskOn words told other script → ⊥
 unread words told command other name status script tells asked (missing gone is) read =
     let same = (same_asked words other command read.0 name read.2 asked).1 in
     not_missing told name read.1 script_limit tells (subst (λ (n : List ℕ). Loads told n
@@ -202,7 +202,7 @@ input_rows told (other ∷ before) wanted behind (own ∷ rows) all = input_rows
     behind rows all.1
 
 turn_rows : (words : Words) (told : Told) (c d : Command) (script : Script)
-    (rows : List (List Value)) (wanted : Wanted) → IsSome told → Reads words told c script
+    (rows : List (List Value)) (wanted : Wanted) → IsSome told → AskOn words told c script
     → AllHaveRows told (inputs_read c script) rows → IsTurnOf words told d wanted
     → (own : List Value) × HasRows told wanted own
 turn_rows words told c d script rows wanted tells reads all turn =
@@ -264,7 +264,7 @@ one_stop words told a b tells (inr (inl first)) (inr (inl second)) =
 
 pub no_run : (words : Words) (told : Told) (status : Status) (command : Command) (script : Script)
     (rows : List (List Value))
-    → IsSome told → Stops words told status → Reads words told command script
+    → IsSome told → Stops words told status → AskOn words told command script
     → AllHaveRows told (inputs_read command script) rows
     → HasPlan told script (plan_read command) → ⊥
 no_run words told status command script rows tells (inl stops) reads inputs has =

@@ -2,7 +2,7 @@
 use Rattle.std.specs.Prelude.{◌≡◌, ◌++◌, ℕ, List, Option, Some, None, Err, slice_get, ⊤}
 use Rattle.std.specs.List.{Contains}
 use Rattle.std.specs.Option.{option_map}
-use Rattle.script_loading.specs.of_build_law.Worlds.{world_of}
+use Rattle.script_loading.specs.of_build_law.Worlds.{script_world}
 use Rattle.crew.specs.Hosts.{Account}
 use Rattle.csv_rows.specs.Rows.{rows_of}
 use Rattle.csv_rows.specs.declared.fault.RowFault.TheVariants.{Bad}
@@ -36,7 +36,7 @@ use Rattle.script_run.specs.Runs.{phases_of, split_of}
 use Rattle.task_lists.specs.Plans.{first_trap}
 use Rattle.script_loading.specs.Accepted.{Refused}
 use Rattle.script_loading.specs.Loads.{IsAbove, IsMissing, Loads}
-use Rattle.run_course.specs.Asked.{AskFor, IsAskedFor, IsPlanTurn, IsTurnOf, Reads, tries_of}
+use Rattle.run_course.specs.Asked.{AskFor, IsAskedFor, IsPlanTurn, IsTurnOf, AskOn, tries_of}
 use Rattle.command_words.specs.Words.{asked_for}
 use Rattle.run_course.specs.Lent.{lent}
 use Rattle.run_course.specs.Plans.{IsPlanFor}
@@ -102,8 +102,8 @@ IsWriteFault Screen words before after = IsScreenFault words before after
 abbrev pub IsFirstOfPlan : RunSettings → Script → List (List Value) → Plan → List Account
     → List Account → TrapOf → Type 0
 IsFirstOfPlan s script rows plan olds news trap =
-    (first_trap (world_of script rows) (split_of s) plan ≡ Some trap)
-    × HasTrapped s.tries s.drill (world_of script rows) (phases_of s script rows plan) olds news
+    (first_trap (script_world script rows) (split_of s) plan ≡ Some trap)
+    × HasTrapped s.tries s.drill (script_world script rows) (phases_of s script rows plan) olds news
     trap
 
 -- the same of the plan that the run carries out
@@ -134,7 +134,7 @@ abbrev pub IsTrap : ℕ → Kind → Value → List (List ℕ) → World → Wor
 IsTrap origin kind element words before after =
     (command : Command) × (script : Script) × (rows : List (List Value)) × (table : Table)
     × (name : List ℕ)
-    × Reads words before.source.told command script
+    × AskOn words before.source.told command script
     × IsMeant before.source.told script rows table
     × MayTell command before.source.told script rows before.hosts after.hosts (traps_of table)
     (record { origin = origin; element = element; kind = kind })
@@ -197,7 +197,7 @@ abbrev pub GivesUp : RunSettings → Option (List ℕ) → Option (List NamedByt
 GivesUp s from told olds news script stage phase task =
     (rows : List (List Value)) × (plan : Plan) × (table : Table)
     × IsMeant told script rows table × IsPlanFor told script from plan
-    × IsGivenUp s.tries s.drill (world_of script rows) (phases_of s script rows plan)
+    × IsGivenUp s.tries s.drill (script_world script rows) (phases_of s script rows plan)
     (lent s olds) (lent s news) stage phase task
 
 -- GaveUp: the words ask for a run of a script, which gave this task up
@@ -205,7 +205,7 @@ abbrev pub IsGaveUp : ℕ → Phase → ℕ → List (List ℕ) → Option (List
     → List Account → Type 0
 IsGaveUp stage phase task words told olds news =
     (s : RunSettings) × (from : Option (List ℕ)) × (script : Script)
-    × Reads words told (Run s from) script
+    × AskOn words told (Run s from) script
     × GivesUp s from told olds news script stage phase task
 
 -- a refusal before anything is written: the shelf is untouched, and the screen has the refusal's

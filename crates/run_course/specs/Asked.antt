@@ -22,8 +22,8 @@ abbrev pub AskFor : List (List ℕ) → Command → List ℕ → Type 0
 AskFor words command name = asked_for words ≡ Some (record { command = command; script = name })
 
 -- the words ask for this command on a script whose bytes are accepted as this script
-abbrev pub Reads : List (List ℕ) → Option (List File) → Command → Script → Type 0
-Reads words told command script =
+abbrev pub AskOn : List (List ℕ) → Option (List File) → Command → Script → Type 0
+AskOn words told command script =
     (name : List ℕ) × (bytes : List ℕ) × AskFor words command name
     × Loads told name script_limit bytes × Accepted bytes script
 
@@ -45,14 +45,14 @@ abbrev pub IsTurnOf : List (List ℕ) → Option (List File) → Command → Wan
 IsTurnOf words told command wanted =
     (script : Script) × (before : List Wanted) × (behind : List Wanted)
     × (rows : List (List Value))
-    × Reads words told command script × (inputs_read command script ≡ before ++ wanted ∷ behind)
+    × AskOn words told command script × (inputs_read command script ≡ before ++ wanted ∷ behind)
     × AllHaveRows told before rows
 
 -- it is the turn of the file of a plan: the words ask for this command, which reads it, on this
 -- script, and all inputs that it reads have rows
 abbrev pub IsPlanTurn : List (List ℕ) → Option (List File) → Command → Script → List ℕ → Type 0
 IsPlanTurn words told command script name =
-    (rows : List (List Value)) × Reads words told command script
+    (rows : List (List Value)) × AskOn words told command script
     × AllHaveRows told (inputs_read command script) rows × (plan_read command ≡ Some name)
 
 -- the words ask for this command, and it is the turn of a file to be loaded, with that limit: the

@@ -12,7 +12,7 @@ use Rattle.run_texts.specs.declared.status.Status.TheVariants.{Done, GaveUp, Tra
 use Rattle.script_loading.specs.Loads.{AllHaveRows}
 use Rattle.script_program.specs.Script.{Script}
 use Rattle.script_run.specs.Runs.{AsksSomePhases, phases_of}
-use Rattle.run_course.specs.Asked.{Reads}
+use Rattle.run_course.specs.Asked.{AskOn}
 use Rattle.run_course.specs.Lent.{lent}
 use Rattle.run_course.specs.Plans.{IsPlanFor}
 
@@ -47,7 +47,7 @@ module _ (words : List (List ℕ)) (told : Option (List File)) (before after : L
   abbrev pub AsksRun : Type 0
   AsksRun =
       (s : RunSettings) × (from : Option (List ℕ)) × (script : Script)
-      × Reads words told (Run s from) script × AsksInRun s from told script before after
+      × AskOn words told (Run s from) script × AsksInRun s from told script before after
 
   -- no host was asked for anything; or the call may have come to a run's phases, and these were
   -- asked for

@@ -17,7 +17,7 @@ use Rattle.plan_phases.specs.Told.{CanFinishAll}
 use Rattle.run_course.specs.Answers.{IsDone, IsFileFault, IsGaveUp, IsInputRefused, IsNoFile, IsPlanRefused, IsReadFault, IsRefused, IsScreenFault, IsScriptRefused, IsTooLong, IsTrap, IsUsage}
 use Rattle.script_loading.specs.Loads.{AllHaveRows}
 use Rattle.run_course.specs.Asks.{AsksFor}
-use Rattle.run_course.specs.Asked.{Reads, inputs_read, plan_read, tries_of}
+use Rattle.run_course.specs.Asked.{AskOn, inputs_read, plan_read, tries_of}
 use Rattle.run_course.specs.Hosts.{AsksHosts}
 use Rattle.run_course.specs.Lent.{lent}
 use Rattle.run_course.specs.Plans.{HasPlan, IsPlanFor}
@@ -85,7 +85,7 @@ CanEnd _ told script rows olds news = ⊤
 pub record CanRun (words : List (List ℕ)) (before after : World) (command : Command)
     (script : Script) (rows : List (List Value)) : Type 0 where
   pub told : IsSome before.source.told
-  pub reads : Reads words before.source.told command script
+  pub reads : AskOn words before.source.told command script
   pub inputs : AllHaveRows before.source.told (inputs_read command script) rows
   pub plan : HasPlan before.source.told script (plan_read command)
   pub source : RoseBy (tries_of command) before.source.faults after.source.faults → ⊥

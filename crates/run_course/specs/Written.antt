@@ -23,7 +23,7 @@ use Rattle.serde_json.specs.Written.{compact_text}
 use Rattle.script_program.specs.declared.made.Output.{Output}
 use Rattle.script_program.specs.Script.{Script}
 use Rattle.script_loading.specs.Loads.{AllHaveRows}
-use Rattle.run_course.specs.Asked.{Reads}
+use Rattle.run_course.specs.Asked.{AskOn}
 use Rattle.run_course.specs.Lent.{lent}
 use Rattle.run_course.specs.Plans.{IsPlanFor}
 use Rattle.command_words.specs.declared.words.Command.{Command}
@@ -131,5 +131,5 @@ Writes (Run s from) told olds news script files text =
 abbrev pub IsWritten : List (List ℕ) → Option (List File) → List Account → List Account
     → List File → List ℕ → Type 0
 IsWritten words told olds news files text =
-    (command : Command) × (script : Script) × Reads words told command script
+    (command : Command) × (script : Script) × AskOn words told command script
     × Writes command told olds news script files text

@@ -8,7 +8,7 @@ ghost use Rattle.run_texts.specs.Texts.{NamedOutput, size_lines};
 ghost use Rattle.script_loading.specs.of_script_laws.WellFormed.{IsWellFormed};
 ghost use Rattle.script_loading.specs.Ready.{IsReady};
 ghost use Rattle.script_program.specs.Saved.{HasNoSaved};
-ghost use Rattle.run_course.specs.inner.Course.{AreFiles, HaveMembers, Gives, IsFileOf, IsStop};
+ghost use Rattle.run_course.specs.inner.Course.{AreFiles, HaveMembers, GivesFiles, IsFileOf, IsStop};
 
 use crate::files::{Written, file_of, trapped, with_sizes};
 use crate::stop::Stop;
@@ -29,7 +29,7 @@ pub fn written_meaning(
     requires written { HasNoSaved program.now.script }
     requires ready { IsReady program.now.script }
     requires typed { AreInputs program.now.script inputs }
-    ensures written { IfOk result (λ it. Gives program.now.script inputs []
+    ensures written { IfOk result (λ it. GivesFiles program.now.script inputs []
         (map output_file it.outputs.items) it.screen.items) }
     ensures stop { IfErr result (IsStop program.now.script inputs) }
 {

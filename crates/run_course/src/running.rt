@@ -10,7 +10,7 @@ ghost use Rattle.script_run.specs.Runs.{AsksSomePhases, IsPlanOf, IsRan, IsRunFa
 ghost use Rattle.run_course.specs.Lent.{lent};
 ghost use Rattle.run_course.specs.Written.{AllTasksRan};
 ghost use Rattle.script_loading.specs.Ready.{IsReady};
-ghost use Rattle.run_course.specs.inner.Course.{Gives, IsRunStop, files_with};
+ghost use Rattle.run_course.specs.inner.Course.{GivesFiles, IsRunStop, files_with};
 
 use crate::files::{Written, file_of, trapped, with_sizes};
 use crate::showing::ShownPlan;
@@ -42,7 +42,7 @@ pub fn written_run<X: Threads + Sync, H: Host + Send>(
     requires typed { AreInputs program.now.script inputs }
     requires of_script { IsPlanOf program.now.script shown.plan }
     requires sixteen { length hosts.old ≡ 16 }
-    ensures written { IfOk result (λ it. Gives program.now.script inputs shown.text.items
+    ensures written { IfOk result (λ it. GivesFiles program.now.script inputs shown.text.items
         (map output_file it.outputs.items) it.screen.items) }
     ensures ran { IfOk result (λ it. AllTasksRan settings.now program.now.script inputs shown.plan
         (lent settings.now (map (account H.notes H.losses) hosts.old))

@@ -10,7 +10,7 @@ use Rattle.flume_value.specs.declared.value.Value.{Value}
 use Rattle.flume_collection.specs.Calls.{Called}
 use Rattle.written_types.specs.Named.{Named}
 use Rattle.dofn_eval.specs.Function.{Function as Fun}
-use Rattle.dofn_eval.specs.Outcome.{Gives, IsFault}
+use Rattle.dofn_eval.specs.Outcome.{Gives, IsFaultIn}
 use Rattle.dofn_eval.specs.Run.{means}
 use Rattle.forest_steps.specs.Functions.{IsCallFault}
 use Rattle.build_law.specs.of_script_program.Program.{Does}
@@ -33,7 +33,7 @@ module _ (found : Option Function) (function : Function) (at : found ≡ Some fu
       answered (Ok lists)
       (ap or_silent (same_answer fun function does x ∙ gives_answer fun x lists is))
 
-  trapped : (fault : CallFault) → IsFault (means fun.outputs fun.body x) fault
+  trapped : (fault : CallFault) → IsFaultIn (means fun.outputs fun.body x) fault
       → IsCallFault (answered_by found x) x fault
   trapped (call.Trap kind) is =
       answered (Err (kind, x))
@@ -48,10 +48,10 @@ module _ (found : Option Function) (function : Function) (at : found ≡ Some fu
       (λ lists. answered_by found x ≡ Ok (items lists)) (λ lists e. emitted (items lists) e) is
 
   pub traps : {T : Type 0} (result : Result T CallFault)
-      → IfErr result (IsFault (means fun.outputs fun.body x))
+      → IfErr result (IsFaultIn (means fun.outputs fun.body x))
       → IfErr result (IsCallFault (answered_by found x) x)
   traps result is =
-      IfErr-weaker result (IsFault (means fun.outputs fun.body x))
+      IfErr-weaker result (IsFaultIn (means fun.outputs fun.body x))
       (IsCallFault (answered_by found x) x) trapped is
 
 -- ---- another number

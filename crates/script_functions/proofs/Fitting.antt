@@ -14,7 +14,7 @@ use Rattle.build_law.specs.of_direct_meaning.Inputs.{AreInputs, AreLists, Source
 use Rattle.build_law.proofs.of_direct_meaning.CallLemmas.{CalledOf, answers}
 use Rattle.build_law.proofs.of_direct_meaning.MakeLemmas.{well_typed}
 use Rattle.build_law.specs.Signatures.{given_by, signatures_of, source_type, sources_of, taken_by}
-use Rattle.build_law.specs.Worlds.{answered_by, or_silent, world_of}
+use Rattle.build_law.specs.Worlds.{answered_by, or_silent, script_world}
 use Rattle.build_law.proofs.SourceLists.{lists_by_number}
 
 -- ---- lists of sources
@@ -49,7 +49,7 @@ function_typed None typed x has = tt
 function_typed (Some function) typed x has = call_typed function (typed function refl) x has
 
 pub world_typed : (script : Script) (inputs : List (List Value)) → IsWellFormed script
-    → AreInputs script inputs → IsWorldTyped (signatures_of script) (world_of script inputs)
+    → AreInputs script inputs → IsWorldTyped (signatures_of script) (script_world script inputs)
 world_typed script inputs well have = record {
   rows = lists_typed (sources_of script) inputs (lists_by_number script inputs have);
   called = λ f x has. function_typed (function_at script.functions f)

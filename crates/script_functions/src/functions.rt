@@ -1,7 +1,7 @@
 // The functions of a script, by their numbers.
 ghost use Rattle.std.specs.Prelude.{◌≡◌, ◌∷◌, IfErr, IfOk};
 ghost use Rattle.dofn_eval.specs.Function.{Accepts};
-ghost use Rattle.dofn_eval.specs.Outcome.{Gives, IsFault};
+ghost use Rattle.dofn_eval.specs.Outcome.{Gives, IsFaultIn};
 ghost use Rattle.dofn_eval.specs.Run.{means};
 
 use build_law::script_program::Program;
@@ -50,10 +50,10 @@ impl<'a> ScriptFunctions<'a> {
 impl<'a> Functions for ScriptFunctions<'a> {
     ghost use Rattle.std.specs.Prelude.{[]};
     ghost use Rattle.build_law.specs.Signatures.{signatures_of};
-    ghost use Rattle.build_law.specs.Worlds.{world_of};
+    ghost use Rattle.build_law.specs.Worlds.{script_world};
     ghost use Rattle.task_safety.specs.Taking.{Takes};
 
-    ghost called = { λ script. (world_of script []).called };
+    ghost called = { λ script. (script_world script []).called };
 
     ghost can_call = { λ script. Takes (signatures_of script) };
 
@@ -72,7 +72,7 @@ fn call_function(alloc: Global, fun: &Fun, element: &Value) -> Result<Vec<Items>
     requires { Accepts fun.now element.now }
     ensures emissions { IfOk result (λ lists.
         means fun.now.outputs fun.now.body element.now ≡ Gives lists.items) }
-    ensures trap { IfErr result (IsFault (means fun.now.outputs fun.now.body element.now)) }
+    ensures trap { IfErr result (IsFaultIn (means fun.now.outputs fun.now.body element.now)) }
 {
     let (first, others) = call(alloc, fun, element)?.into_parts();
     Ok(in_order(first, others)?)

@@ -5,7 +5,7 @@ use Rattle.std.proofs.Common.{slice_get, refl, ap, subst}
 use Rattle.std.specs.Option.{option_map}
 use Rattle.flume_grammar.specs.declared.fault.ScriptKind.TheVariants.{Unknown}
 use Rattle.script_check.specs.of_written_types.Named.{Named, find}
-use Rattle.script_check.specs.of_script_program.Script.{Function, Node, State, Operand, Callee, place}
+use Rattle.script_check.specs.of_script_program.Script.{Function, Node, State, Operand, Callee, name_place}
 use Rattle.script_check.specs.of_script_program.Script.{operand_at, operand_of}
 use Rattle.script_check.specs.of_script_program.Kinds.{gives_object}
 use Rattle.script_check.specs.of_script_program.declared.made.Standing.{Standing}
@@ -34,7 +34,7 @@ meant-as g (Some entry) x e =
 
 abbrev called : Named Function → List ℕ → Function → Callee
 called functions name function = record {
-  number = place name functions;
+  number = name_place name functions;
   takes = function.signature.takes;
   gives = function.signature.gives;
 }
@@ -93,7 +93,7 @@ module _ (line : ℕ) (s : State) where
         function = found.part;
         calls =
             meant-as (λ (function : Function). function)
-            (slice_get s.functions (place name s.functions)) found.part
+            (slice_get s.functions (name_place name s.functions)) found.part
             (found-at name s.functions found.part found.is);
         takes = refl;
         gives = refl;

@@ -7,7 +7,7 @@ use Rattle.std.specs.Str.{bytes_eq}
 use Rattle.std.specs.Map.{keys_of}
 use Rattle.std.proofs.lemmas.List.Recursion.{is_position_or_len}
 use Rattle.script_check.specs.of_written_types.Named.{Named, find}
-use Rattle.script_check.specs.of_script_program.Script.{place}
+use Rattle.script_check.specs.of_script_program.Script.{name_place}
 
 -- ---- look-ups by place
 
@@ -44,7 +44,7 @@ found-first name (entry ∷ names) x e =
     (first (bytes_eq name) (keys_of names)) names (found-first name names x) e
 
 pub found-at : {A : Type 0} (name : List ℕ) (names : Named A) (x : A) → find name names ≡ Some x
-    → meaning (slice_get names (place name names)) ≡ Some x
+    → meaning (slice_get names (name_place name names)) ≡ Some x
 found-at name names x e =
     ap (λ i. meaning (slice_get names i)) (sym (first-is (bytes_eq name) (keys_of names)))
     ∙ found-first name names x e

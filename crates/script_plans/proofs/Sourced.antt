@@ -9,7 +9,7 @@ use Rattle.exec_graph.specs.declared.graph.Entry.{Entry}
 use Rattle.exec_graph.specs.declared.graph.Place.{Place}
 use Rattle.build_law.specs.of_graph_build.Built.{Built, built}
 use Rattle.build_law.specs.of_graph_build.Graphs.{behind, graph_of, next_source, nodes_at, nodes_from, place_in, places}
-use Rattle.build_law.specs.of_graph_build.Nodes.{inputs_of, made_nodes, source_number}
+use Rattle.build_law.specs.of_graph_build.Nodes.{sources_made, made_nodes, source_number}
 use Rattle.build_law.specs.of_graph_build.Wanted.{wanted, wanted_from}
 use Rattle.build_law.proofs.of_graph_build.BuiltLemmas.{built_length}
 use Rattle.build_law.proofs.Blocks.{source_at}
@@ -38,7 +38,7 @@ count_append (x ∷ xs) ys =
 
 module _ (script : Script) (gives : ℕ → Place) where
   block_count : (origin source n : ℕ) (mk : Made)
-      → source_count (made_nodes script gives origin source n mk) ≡ inputs_of mk
+      → source_count (made_nodes script gives origin source n mk) ≡ sources_made mk
   block_count origin source n (made.Input file columns) = refl
   block_count origin source n (made.Do input f output) = refl
   block_count origin source n (made.Group input) = refl
@@ -72,7 +72,7 @@ module _ (script : Script) (gives : ℕ → Place) where
 
 -- ---- those of the script
 
-as_many : (how : Made) → length (source_kind how) ≡ inputs_of how
+as_many : (how : Made) → length (source_kind how) ≡ sources_made how
 as_many (made.Input file columns) = refl
 as_many (made.Do input f output) = refl
 as_many (made.Group input) = refl

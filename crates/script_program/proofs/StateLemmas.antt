@@ -19,7 +19,7 @@ use Rattle.script_program.specs.declared.made.Signature.{Signature as HeldSignat
 use Rattle.script_program.specs.declared.made.Node.{Node as HeldNode}
 use Rattle.script_program.specs.declared.made.Output.{Output}
 use Rattle.script_program.specs.declared.made.Standing.{Standing}
-use Rattle.script_program.specs.Script.{place}
+use Rattle.script_program.specs.Script.{name_place}
 use Rattle.script_program.specs.inner.Tables.{function_of, node_of, FunctionIn, NodeIn, AreHeld}
 use Rattle.script_program.specs.inner.Tables.{checking_of}
 use Rattle.script_program.specs.Program.{signature_in, HasTypes, function_in, Does}
@@ -44,10 +44,10 @@ has-mapped f name names =
 
 module _ {A B C : Type 0} (f : A → B) (g : ℕ → B → C) (name : List ℕ) (names : Named A) where
   placed-mapped :
-      option_map (g (place name (map (mapped f) names))) (find name (map (mapped f) names))
-      ≡ option_map (λ x. g (place name names) (f x)) (find name names)
+      option_map (g (name_place name (map (mapped f) names))) (find name (map (mapped f) names))
+      ≡ option_map (λ x. g (name_place name names) (f x)) (find name names)
   placed-mapped =
-      ap (option_map (g (place name (map (mapped f) names)))) (find-mapped f name names)
+      ap (option_map (g (name_place name (map (mapped f) names)))) (find-mapped f name names)
       ∙ ap
       (λ keys. option_map (g (position_or_len (bytes_eq name) keys))
       (option_map f (find name names)))
@@ -55,27 +55,27 @@ module _ {A B C : Type 0} (f : A → B) (g : ℕ → B → C) (name : List ℕ) 
       ∙ twice (find name names)
     where
       twice : (o : Option A)
-          → option_map (g (place name names)) (option_map f o)
-          ≡ option_map (λ x. g (place name names) (f x)) o
+          → option_map (g (name_place name names)) (option_map f o)
+          ≡ option_map (λ x. g (name_place name names) (f x)) o
       twice None = refl
       twice (Some x) = refl
 
   pub placed-found : (number : ℕ) (x : A) → Some number ≡ position (bytes_eq name) (keys_of names)
       → Some x ≡ find name names
       → Some (g number (f x))
-      ≡ option_map (g (place name (map (mapped f) names))) (find name (map (mapped f) names))
+      ≡ option_map (g (name_place name (map (mapped f) names))) (find name (map (mapped f) names))
   placed-found number x at is =
-      let here : place name names ≡ number = (cond_some _ _ _ (sym at)).1 in
+      let here : name_place name names ≡ number = (cond_some _ _ _ (sym at)).1 in
       sym
       (placed-mapped
-      ∙ ap (option_map (λ x. g (place name names) (f x))) (sym is)
+      ∙ ap (option_map (λ x. g (name_place name names) (f x))) (sym is)
       ∙ ap (λ n. Some (g n (f x))) here)
 
   pub placed-none : None ≡ find name names
       → None
-      ≡ option_map (g (place name (map (mapped f) names))) (find name (map (mapped f) names))
+      ≡ option_map (g (name_place name (map (mapped f) names))) (find name (map (mapped f) names))
   placed-none is =
-      sym (placed-mapped ∙ ap (option_map (λ x. g (place name names) (f x))) (sym is))
+      sym (placed-mapped ∙ ap (option_map (λ x. g (name_place name names) (f x))) (sym is))
 
 -- ---- more types, and more names for types
 

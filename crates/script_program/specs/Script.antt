@@ -211,8 +211,8 @@ with_given first numbers s = record {
 -- ---- operands
 
 -- where a name stands
-abbrev pub place : {A : Type 0} → List ℕ → Named A → ℕ
-place name names = position_or_len (bytes_eq name) (keys_of names)
+abbrev pub name_place : {A : Type 0} → List ℕ → Named A → ℕ
+name_place name names = position_or_len (bytes_eq name) (keys_of names)
 
 -- a collection as an operand: its number, the type of its members, and whether it is an object
 pub record Operand : Type 0 where
@@ -250,7 +250,7 @@ abbrev pub find_function : List ℕ → Named Function → Option Callee
 find_function name functions =
     option_map
     (λ function. record {
-      number = place name functions;
+      number = name_place name functions;
       takes = function.signature.takes;
       gives = function.signature.gives;
     })

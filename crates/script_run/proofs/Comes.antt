@@ -4,7 +4,7 @@ use Rattle.std.proofs.lemmas.List.{length-map}
 use Rattle.std.specs.Prelude.{IsSomeAnd}
 use Rattle.std.specs.List.{AllZip, Contains}
 use Rattle.run_sizes.specs.of_build_law.Means.{HasOwn, IsMeaning}
-use Rattle.run_sizes.specs.of_build_law.Worlds.{world_of}
+use Rattle.run_sizes.specs.of_build_law.Worlds.{script_world}
 use Rattle.run_sizes.proofs.of_direct_meaning.PlaceLemmas.{within}
 use Rattle.run_sizes.specs.of_direct_meaning.Direct.{made_at, traps_of}
 use Rattle.exec_graph.specs.Meaning.{collection}

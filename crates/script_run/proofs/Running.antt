@@ -2,7 +2,7 @@
 use Rattle.std.proofs.Common.{◌≡◌, ℕ, zero, suc, List, [], ◌∷◌, Option, Some, slice_get, slice_index_or, refl, sym, subst}
 use Rattle.std.specs.List.{Contains}
 use Rattle.run_sizes.specs.of_build_law.Signatures.{signatures_of}
-use Rattle.run_sizes.specs.of_build_law.Worlds.{world_of}
+use Rattle.run_sizes.specs.of_build_law.Worlds.{script_world}
 use Rattle.crew.specs.Hosts.{Account}
 use Rattle.run_sizes.specs.of_direct_meaning.Direct.{meaning, traps_of}
 use Rattle.exec_graph.specs.Typing.{IsWorldTyped}
@@ -37,15 +37,15 @@ rows_same (rows ∷ inputs) (suc r) = rows_same inputs r
 module _ (script : Script) (inputs : List (List Value)) where
   -- the world of a run
   abbrev pub World_ : World
-  World_ = run_world (world_of script []).called inputs
+  World_ = run_world (script_world script []).called inputs
 
-  same_world : World_ ≡ world_of script inputs
+  same_world : World_ ≡ script_world script inputs
   same_world i = record {
     rows = λ r. rows_same inputs r i;
-    called = (world_of script []).called;
+    called = (script_world script []).called;
   }
 
-  pub typed_run : (plan : Plan) → IsWorldTyped (signatures_of script) (world_of script inputs)
+  pub typed_run : (plan : Plan) → IsWorldTyped (signatures_of script) (script_world script inputs)
       → IsPlanTyped (signatures_of script) plan
       → IsTypedRun World_ (Takes (signatures_of script)) plan
   typed_run plan world typed = record {
@@ -58,7 +58,7 @@ module _ (script : Script) (inputs : List (List Value)) where
   module _ (s : RunSettings) (plan : Plan) (olds news : List Account) where
     pub executed : (nodes : ℕ) (it : Executed)
         → IsExecuted s World_ plan nodes olds news it
-        → IsExecuted s (world_of script inputs) plan nodes olds news it
+        → IsExecuted s (script_world script inputs) plan nodes olds news it
     executed nodes it h =
         subst (λ w. IsExecuted s w plan nodes olds news it) same_world h
 
@@ -79,9 +79,9 @@ module _ (script : Script) (inputs : List (List Value)) where
         same_world h
 
     faulted_here : (made : List (Option Collection)) → meaning script inputs ≡ Some made
-        → ((trap : Trap) → Contains (plan_traps (world_of script inputs) plan) trap
+        → ((trap : Trap) → Contains (plan_traps (script_world script inputs) plan) trap
         → Contains (traps_of made) trap) → (e : RunFault)
-        → IsExecutionFault s (world_of script inputs) plan olds news e
+        → IsExecutionFault s (script_world script inputs) plan olds news e
         → IsRunFault s script inputs plan olds news e
     faulted_here made means among (fault.Trap trap) h = record {
       made = made;
@@ -95,7 +95,7 @@ module _ (script : Script) (inputs : List (List Value)) where
     faulted_here made means among fault.Memory h = tt
 
     pub faulted : (made : List (Option Collection)) → meaning script inputs ≡ Some made
-        → ((trap : Trap) → Contains (plan_traps (world_of script inputs) plan) trap
+        → ((trap : Trap) → Contains (plan_traps (script_world script inputs) plan) trap
         → Contains (traps_of made) trap) → (e : RunFault)
         → IsExecutionFault s World_ plan olds news e
         → IsRunFault s script inputs plan olds news e

@@ -2,7 +2,7 @@
 use Rattle.std.specs.Prelude.{◌≡◌, ℕ, List, [], Option, Some, ⊤, length}
 use Rattle.std.specs.List.{AllZip, Contains}
 use Rattle.run_sizes.specs.of_build_law.Signatures.{signatures_of}
-use Rattle.run_sizes.specs.of_build_law.Worlds.{world_of}
+use Rattle.run_sizes.specs.of_build_law.Worlds.{script_world}
 use Rattle.crew.specs.Hosts.{Account}
 use Rattle.run_sizes.specs.of_direct_meaning.Direct.{meaning, sizes_of, traps_of}
 use Rattle.exec_graph.specs.World.{World}
@@ -43,7 +43,7 @@ split_of s = record { shards = s.shards; partitions = s.partitions }
 -- the phases of a script's plan over the lists of its needed sources: those that have tasks, and
 -- between them the makings of objects
 abbrev pub phases_of : RunSettings → Script → List (List Value) → Plan → List PlanPhase
-phases_of s script inputs plan = phases (world_of script inputs) (split_of s) plan
+phases_of s script inputs plan = phases (script_world script inputs) (split_of s) plan
 
 -- Each task of the plan was run: of each phase that has tasks there are winners, an attempt of each
 -- task that the drill does not name, and some host has let all places of that attempt through.
@@ -81,13 +81,13 @@ pub record IsRan (s : RunSettings) (script : Script) (inputs : List (List Value)
 
 -- a trap of the script's meaning, the first of the plan's phases: its task has run, or an object
 -- was to be made there; and all phases and tasks before have run without a trap
-pub record IsFirstOf (s : RunSettings) (script : Script) (inputs : List (List Value)) (plan : Plan)
+pub record IsFirstTrap (s : RunSettings) (script : Script) (inputs : List (List Value)) (plan : Plan)
     (olds news : List Account) (trap : Trap) : Type 0 where
   pub made : List (Option Collection)
   pub means : meaning script inputs ≡ Some made
   pub among : Contains (traps_of made) trap
-  pub first : first_trap (world_of script inputs) (split_of s) plan ≡ Some trap
-  pub ran : HasTrapped s.tries s.drill (world_of script inputs) (phases_of s script inputs plan)
+  pub first : first_trap (script_world script inputs) (split_of s) plan ≡ Some trap
+  pub ran : HasTrapped s.tries s.drill (script_world script inputs) (phases_of s script inputs plan)
       olds news trap
 
 -- a task of the plan that was given up, of a script that has a meaning over these rows; all phases
@@ -96,14 +96,14 @@ pub record IsLostOf (s : RunSettings) (script : Script) (inputs : List (List Val
     (olds news : List Account) (stage : ℕ) (phase : Phase) (task : ℕ) : Type 0 where
   pub made : List (Option Collection)
   pub means : meaning script inputs ≡ Some made
-  pub given_up : IsGivenUp s.tries s.drill (world_of script inputs)
+  pub given_up : IsGivenUp s.tries s.drill (script_world script inputs)
       (phases_of s script inputs plan) olds news stage phase task
 
 -- why a run of the plan came to no end: a trap, a task that was given up, or want of memory
 abbrev pub IsRunFault : RunSettings → Script → List (List Value) → Plan → List Account
     → List Account → RunFault → Type 0
 IsRunFault s script inputs plan olds news (fault.Trap trap) =
-    IsFirstOf s script inputs plan olds news trap
+    IsFirstTrap s script inputs plan olds news trap
 IsRunFault s script inputs plan olds news (fault.GaveUp stage phase task) =
     IsLostOf s script inputs plan olds news stage phase task
 IsRunFault s script inputs plan olds news fault.Memory = ⊤

@@ -19,8 +19,8 @@ use Rattle.graph_laws.proofs.Wellness.{gives_of}
 use Rattle.sink_laws.specs.declared.pair.Pair.{Pair}
 use Rattle.sink_laws.specs.Kept.{IsKept, IsOfPdo}
 use Rattle.sink_laws.specs.Merging.{spliced, merged, CanMerge}
-use Rattle.sink_laws.specs.Sinking.{sunk}
-use Rattle.sink_laws.specs.Chain.{is_before, lesser, least, inputs_of, forest_of, nest_of, nest_at, next_nest, after_nest, call_of, call_at, next_call, after_call, CanCall, CanNest, has_room, sink_next, next_by, next_graph, Leads, stay, go, ReadsNoFlatten, NoPdoReadsFlatten, IsFull}
+use Rattle.sink_laws.specs.Sinking.{sunk_once}
+use Rattle.sink_laws.specs.Chain.{is_before, lesser, least, ins_of, forest_of, nest_of, nest_at, next_nest, after_nest, call_of, call_at, next_call, after_call, CanCall, CanNest, has_room, sink_next, next_by, next_graph, Leads, stay, go, ReadsNoFlatten, NoPdoReadsFlatten, IsFull}
 use Rattle.sink_laws.proofs.MergeMeaning.{IsFounded-merged}
 use Rattle.sink_laws.proofs.Steps.{IsGood-trans, IsGood-merge_step, IsGood-sink_step}
 use Rattle.sink_laws.proofs.TypesKept.{IsTyped-sunk, IsTyped-merged, IsTyped-tidied, AllSteps-sink_step, AllSteps-merge_step, AllSteps-kept, KeepsSteps-self}
@@ -61,7 +61,7 @@ call_can g n p f (Some (Source r)) e h = none_only (CanCall g)
 call_can g n p f (Some (Flatten ins)) e h =
     some_only (CanCall g) (record { flatten = n; other = p })
     (record {
-      flatten = e ∙ ap (λ (l : List Place). Some (Flatten l)) (sym (ap inputs_of e));
+      flatten = e ∙ ap (λ (l : List Place). Some (Flatten l)) (sym (ap ins_of e));
       pdo = h ∙ ap (λ (k : Forest). Some (Pdo (place n 0) k)) (sym (ap forest_of h));
     })
 call_can g n p f (Some (Pdo c k)) e h = none_only (CanCall g)
@@ -106,10 +106,10 @@ nest_room : (g : Graph) (n e : ℕ) (ins es : List Place) (b : Bool)
     → node_at g.nodes e ≡ Some (Flatten es) → among (place e 0) ins ≡ true
     → Only (CanNest g) (cond b (Some (record { flatten = n; other = e })) None)
 nest_room g n e ins es true i a b r =
-    let p : inputs_of (node_at g.nodes n) ≡ ins = ap inputs_of a in
-    let q : inputs_of (node_at g.nodes e) ≡ es = ap inputs_of b in
+    let p : ins_of (node_at g.nodes n) ≡ ins = ap ins_of a in
+    let q : ins_of (node_at g.nodes e) ≡ es = ap ins_of b in
     some_only (CanNest g) (record { flatten = n; other = e })
-    (subst (λ (l : List Place). CanMerge g n l e (inputs_of (node_at g.nodes e))) (sym p)
+    (subst (λ (l : List Place). CanMerge g n l e (ins_of (node_at g.nodes e))) (sym p)
     (subst (λ (l : List Place). CanMerge g n ins e l) (sym q) (record {
       outer = a;
       inner = b;
@@ -177,8 +177,8 @@ IsKept-refl g ok = record {
 
 pub IsKept-nest : (g : Graph) (n : Pair) → IsGraphOk g → CanNest g n → IsKept g (after_nest g n)
 IsKept-nest g n ok can =
-    let ins : List Place = inputs_of (node_at g.nodes n.flatten) in
-    let es : List Place = inputs_of (node_at g.nodes n.other) in
+    let ins : List Place = ins_of (node_at g.nodes n.flatten) in
+    let es : List Place = ins_of (node_at g.nodes n.other) in
     record {
       good = IsGood-merge_step g n.flatten ins n.other es ok can;
       types = λ s t. IsTyped-tidied s (merged g n.flatten ins n.other es) n.other
@@ -189,11 +189,11 @@ IsKept-nest g n ok can =
 pub IsKept-call : (g : Graph) (p : Pair) → IsGraphOk g → CanCall g p
     → total_size (after_call g p).nodes ≤ most_nodes → IsKept g (after_call g p)
 IsKept-call g p ok can room =
-    let ins : List Place = inputs_of (node_at g.nodes p.flatten) in
+    let ins : List Place = ins_of (node_at g.nodes p.flatten) in
     let f : Forest = forest_of (node_at g.nodes p.other) in
     record {
       good = IsGood-sink_step g p.flatten p.other f ins ok can room;
-      types = λ s t. IsTyped-tidied s (sunk g p.other f ins) p.flatten
+      types = λ s t. IsTyped-tidied s (sunk_once g p.other f ins) p.flatten
           (IsTyped-sunk s g p.flatten p.other f ins ok.founded.below ok.founded.there can t);
       steps = AllSteps-sink_step (IsOfPdo g) g p.flatten p.other f ins can
           (KeepsSteps-self g ok);
@@ -226,8 +226,8 @@ next_has_no_room g p a b c = ap (next_by g) a ∙ ap (sink_next g) b ∙ rw c re
 pub nest_lighter : (g : Graph) (n : Pair) → IsGraphOk g → CanNest g n
     → total_weight (after_nest g n) < total_weight g
 nest_lighter g n ok can =
-    let ins : List Place = inputs_of (node_at g.nodes n.flatten) in
-    let es : List Place = inputs_of (node_at g.nodes n.other) in
+    let ins : List Place = ins_of (node_at g.nodes n.flatten) in
+    let es : List Place = ins_of (node_at g.nodes n.other) in
     merge_lighter g n.flatten ins n.other es ok.founded
     (IsFounded-merged g n.flatten ins n.other es ok.founded can) can
 

@@ -17,7 +17,7 @@ use Rattle.sink_laws.specs.declared.pair.Pair.{Pair}
 use Rattle.sink_laws.specs.Kept.{IsKept}
 use Rattle.sink_laws.specs.Merging.{CanMerge, spliced}
 use Rattle.sink_laws.specs.Sinking.{CanSink}
-use Rattle.sink_laws.specs.Chain.{CanCall, CanNest, IsLeastPair, IsLink, Leads, after_call, after_nest, call_at, call_of, forest_of, go, has_room, inputs_of, is_before, least, lesser, nest_at, nest_of, next_by, next_call, next_graph, next_nest, sink_next, stay}
+use Rattle.sink_laws.specs.Chain.{CanCall, CanNest, IsLeastPair, IsLink, Leads, after_call, after_nest, call_at, call_of, forest_of, go, has_room, ins_of, is_before, least, lesser, nest_at, nest_of, next_by, next_call, next_graph, next_nest, sink_next, stay}
 use Rattle.sink_laws.proofs.Choosing.{IsKept-call, IsKept-nest, IsKept-refl, IsKept-trans, next_call_can, next_nest_can}
 use Rattle.sink_laws.proofs.Unread.{same_true}
 
@@ -140,7 +140,7 @@ nest_found g x ins es can =
 
 nest_below : (g : Graph) (x : Pair) → CanNest g x → Below (next_nest g.nodes) x
 nest_below g x can =
-    nest_found g x (inputs_of (node_at g.nodes x.flatten)) (inputs_of (node_at g.nodes x.other))
+    nest_found g x (ins_of (node_at g.nodes x.flatten)) (ins_of (node_at g.nodes x.other))
     can
 
 -- no pair that is found at or before x is behind it
@@ -174,7 +174,7 @@ call_found g x f ins can =
 
 call_below : (g : Graph) (x : Pair) → CanCall g x → Below (next_call g.nodes) x
 call_below g x can =
-    call_found g x (forest_of (node_at g.nodes x.other)) (inputs_of (node_at g.nodes x.flatten))
+    call_found g x (forest_of (node_at g.nodes x.other)) (ins_of (node_at g.nodes x.flatten))
     can
 
 pub least_call : (g : Graph) (p : Pair) → IsGraphOk g → next_call g.nodes ≡ Some p

@@ -21,7 +21,7 @@ use Rattle.graph_laws.proofs.NearJoins.{without_lacks}
 use Rattle.graph_laws.proofs.ObjectNodes.{kind_set, node_without, object_mapped, objects_reread_there}
 use Rattle.graph_laws.proofs.Wellness.{gives_of}
 use Rattle.sink_laws.specs.Merging.{dropped, merged, spliced, CanMerge}
-use Rattle.sink_laws.specs.Sinking.{copies, flatten_number, flattens, outputs_of, rerouted, sunk, CanSink}
+use Rattle.sink_laws.specs.Sinking.{copies, flatten_number, flattens, outputs_of, rerouted, sunk_once, CanSink}
 use Rattle.sink_laws.proofs.Outs.{has_below}
 use Rattle.sink_laws.proofs.SinkFounded.{all_sunk, flatten_at, node_at-sunk_other}
 
@@ -98,12 +98,12 @@ flattens_objects all n first ins j (suc r) =
 
 object_sunk : (g : Graph) (n p : ℕ) (f : Forest) (ins : List Place) → IsFounded g
     → numbered 0 f ≡ f → CanSink g n p f ins → (c : Place) → IsThere g.nodes c
-    → is_object_at (sunk g p f ins).nodes (rerouted p (g.next + length ins) c)
+    → is_object_at (sunk_once g p f ins).nodes (rerouted p (g.next + length ins) c)
     ≡ is_object_at g.nodes c
 object_sunk g n p f ins ok order can c t = by (eqb c.node p) refl
   where
     by : (b : Bool) → eqb c.node p ≡ b
-        → is_object_at (sunk g p f ins).nodes
+        → is_object_at (sunk_once g p f ins).nodes
         (cond b (place (flatten_number p (g.next + length ins) c.out) 0) c)
         ≡ is_object_at g.nodes c
     by true i =
@@ -121,9 +121,9 @@ object_sunk g n p f ins ok order can c t = by (eqb c.node p) refl
 
 pub HaveObjects-sunk : (g : Graph) (n p : ℕ) (f : Forest) (ins : List Place) → IsFounded g
     → numbered 0 f ≡ f → CanSink g n p f ins → HaveObjects g.nodes
-    → HaveObjects (sunk g p f ins).nodes
+    → HaveObjects (sunk_once g p f ins).nodes
 HaveObjects-sunk g n p f ins ok order can a =
-    let all : List Entry = (sunk g p f ins).nodes in
+    let all : List Entry = (sunk_once g p f ins).nodes in
     let r : Place → Place = rerouted p (g.next + length ins) in
     all_sunk (λ e. has_objects all e.node ≡ true) g p f ins
     (objects_reread_there g.nodes all r g.nodes

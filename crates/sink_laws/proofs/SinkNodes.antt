@@ -20,7 +20,7 @@ use Rattle.graph_laws.proofs.of_exec_graph.Soundness.{differ_ascends}
 use Rattle.graph_laws.specs.Joining.{reread, reread_entry}
 use Rattle.graph_laws.proofs.ReadPlaces.{same_self}
 use Rattle.graph_laws.proofs.Wellness.{differ_map}
-use Rattle.sink_laws.specs.Sinking.{copies, copied, flattens, outputs_of, flatten_number, first_flatten, rerouted, sunk, CanSink}
+use Rattle.sink_laws.specs.Sinking.{copies, copied, flattens, outputs_of, flatten_number, first_flatten, rerouted, sunk_once, CanSink}
 use Rattle.sink_laws.proofs.Instead.{Maybe}
 use Rattle.sink_laws.proofs.Outs.{has_below}
 use Rattle.sink_laws.proofs.Ranges.{length-copied}
@@ -47,7 +47,7 @@ outside g q j p a b = record { apart = a; below = b }
 old_lifted : (g : Graph) (n p : ℕ) (f : Forest) (ins : List Place) (q : ℕ) (c : Place) (o : ℕ)
     (l : Bool) (m : Option Comb) (k : Comb) → IsFounded g → CanSink g n p f ins
     → node_at g.nodes q ≡ Some (Gbk c o l m) → (q ≡ p → ⊥) → q < g.next → IsLiftedOk g q k
-    → IsLiftedOk (sunk g p f ins) q k
+    → IsLiftedOk (sunk_once g p f ins) q k
 old_lifted g n p f ins q c o l m k ok can at apart below a =
     let base : ℕ = g.next + length ins in
     let d : Place = place q 0 in
@@ -94,7 +94,7 @@ old_lifted g n p f ins q c o l m k ok can at apart below a =
 
     comb_kept : (g : Graph) (p q : ℕ) (f : Forest) (ins : List Place) (k : Comb) (o : Option Node)
         → node_at g.nodes q ≡ o → (q ≡ p → ⊥) → comb_at (node_at g.nodes q) ≡ Some k
-        → comb_at (node_at (sunk g p f ins).nodes q) ≡ Some k
+        → comb_at (node_at (sunk_once g p f ins).nodes q) ≡ Some k
     comb_kept g p q f ins k None e apart h = let bad : ⊥ = (let z : comb_at None ≡ Some k =
         ap comb_at (sym e) ∙ h in cc) in absurd bad
     comb_kept g p q f ins k (Some x) e apart h =
@@ -104,7 +104,7 @@ old_lifted g n p f ins q c o l m k ok can at apart below a =
 old_ok : (g : Graph) (n p : ℕ) (f : Forest) (ins : List Place) (q : ℕ) (x : Node) → IsFounded g
     → CanSink g n p f ins → node_at g.nodes q ≡ Some x → (q ≡ p → ⊥) → q < g.next
     → IsNodeOk g q x
-    → IsNodeOk (sunk g p f ins) q (reread (rerouted p (g.next + length ins)) x)
+    → IsNodeOk (sunk_once g p f ins) q (reread (rerouted p (g.next + length ins)) x)
 old_ok g n p f ins q (Source r) ok can at apart below a = tt
 old_ok g n p f ins q (Flatten cs) ok can at apart below a =
     let e = map_length (rerouted p (g.next + length ins)) cs in
@@ -176,9 +176,9 @@ first_ok h p next ins (suc k) a b =
 -- An output of a copy is read by the Flatten of that output.
 copy_read : (g : Graph) (n p : ℕ) (f : Forest) (ins : List Place) (j i : ℕ) → IsFounded g
     → numbered 0 f ≡ f → CanSink g n p f ins → has_out j f ≡ true → i < length ins
-    → is_read (sunk g p f ins) (place (g.next + i) j) ≡ true
+    → is_read (sunk_once g p f ins) (place (g.next + i) j) ≡ true
 copy_read g n p f ins j i ok order can h l =
-    let new : Graph = sunk g p f ins in
+    let new : Graph = sunk_once g p f ins in
     let c : Place = place (g.next + i) j in
     or_left (any_node (uses c) new.nodes) (among c new.outputs)
     (any_found (uses c) new.nodes (flatten_number p (g.next + length ins) j)
@@ -187,11 +187,11 @@ copy_read g n p f ins j i ok order can h l =
     (among_copied g.next j i ins l))
 
 pub NodesOk-sunk : (g : Graph) (n p : ℕ) (f : Forest) (ins : List Place) → IsFounded g
-    → NodesOk g → CanSink g n p f ins → NodesOk (sunk g p f ins)
+    → NodesOk g → CanSink g n p f ins → NodesOk (sunk_once g p f ins)
 NodesOk-sunk g n p f ins ok nodes can =
     let base : ℕ = g.next + length ins in
     let r : Place → Place = rerouted p base in
-    let new : Graph = sunk g p f ins in
+    let new : Graph = sunk_once g p f ins in
     let P : Entry → Type 0 = λ e. IsNodeOk new e.number e.node in
     let at_p : IsForestOk g p f = all_found (λ e. IsNodeOk g e.number e.node) g.nodes p
     (Pdo (place n 0) f) can.pdo nodes in
@@ -213,7 +213,7 @@ NodesOk-sunk g n p f ins ok nodes can =
         → AllByRecursion (λ e. node_at g.nodes e.number ≡ Some e.node) es
         → AllByRecursion (λ e. e.number < g.next) es
         → AllByRecursion (λ e. IsNodeOk g e.number e.node) es
-        → AllByRecursion (λ e. (e.number ≡ p → ⊥) → IsNodeOk (sunk g p f ins) e.number e.node)
+        → AllByRecursion (λ e. (e.number ≡ p → ⊥) → IsNodeOk (sunk_once g p f ins) e.number e.node)
         (map (reread_entry (rerouted p (g.next + length ins))) es)
     kept_ok g n p f ins [] ok can a b c = tt
     kept_ok g n p f ins (e ∷ es) ok can a b c = (

@@ -21,7 +21,7 @@ use Rattle.graph_laws.proofs.Kids.{KeepsMeaning-then}
 use Rattle.graph_laws.proofs.Wellness.{node_at-set_same, node_at-set_other}
 use Rattle.sink_laws.specs.Kept.{IsGood}
 use Rattle.sink_laws.specs.Merging.{spliced, merged, dropped, merge_step, CanMerge}
-use Rattle.sink_laws.specs.Sinking.{copies, rerouted, sunk, sink_step, CanSink}
+use Rattle.sink_laws.specs.Sinking.{copies, rerouted, sunk_once, sink_step, CanSink}
 use Rattle.sink_laws.proofs.Dropping.{CanDrop, KeepsMeaning-dropped, IsFounded-dropped}
 use Rattle.sink_laws.proofs.DropNodes.{IsReplaced, NodesOk-dropped, size_without}
 use Rattle.sink_laws.proofs.MergeMeaning.{KeepsMeaning-merged, IsFounded-merged}
@@ -71,9 +71,9 @@ found_copy all m f c (d ∷ ds) h a =
     ]
 
 replaced_sunk : (g : Graph) (n p : ℕ) (f : Forest) (ins : List Place) → IsGraphOk g
-    → CanSink g n p f ins → IsReplaced (sunk g p f ins) n ins
+    → CanSink g n p f ins → IsReplaced (sunk_once g p f ins) n ins
 replaced_sunk g n p f ins ok can c h =
-    let new : List Entry = (sunk g p f ins).nodes in
+    let new : List Entry = (sunk_once g p f ins).nodes in
     let r = found_copy new g.next f c ins h
     (copies_there g n p f ins ok.founded.ascends ok.founded.below can) in
     let low : n < g.next = all_found (λ e. e.number < g.next) g.nodes n (Flatten ins) can.flatten
@@ -84,11 +84,11 @@ replaced_sunk g n p f ins ok can c h =
     (or_left (same_place c r.input) false r.same)
 
 sink_by : (g : Graph) (n p : ℕ) (f : Forest) (ins : List Place) (b : Bool)
-    → is_read (sunk g p f ins) (place n 0) ≡ b → IsGraphOk g → CanSink g n p f ins
-    → total_size (cond b (sunk g p f ins) (dropped (sunk g p f ins) n)).nodes ≤ most_nodes
-    → IsGood g (cond b (sunk g p f ins) (dropped (sunk g p f ins) n))
+    → is_read (sunk_once g p f ins) (place n 0) ≡ b → IsGraphOk g → CanSink g n p f ins
+    → total_size (cond b (sunk_once g p f ins) (dropped (sunk_once g p f ins) n)).nodes ≤ most_nodes
+    → IsGood g (cond b (sunk_once g p f ins) (dropped (sunk_once g p f ins) n))
 sink_by g n p f ins b i ok can room =
-    let h : Graph = sunk g p f ins in
+    let h : Graph = sunk_once g p f ins in
     let at_p : IsForestOk g p f = all_found (λ e. IsNodeOk g e.number e.node) g.nodes p
     (Pdo (place n 0) f) can.pdo ok.nodes in
     let founded = IsFounded-sunk g n p f ins ok.founded at_p.order can in
@@ -110,18 +110,18 @@ sink_by g n p f ins b i ok can room =
     HaveObjects-sunk g n p f ins ok.founded at_p.order can ok.objects in
     by b i room founded nodes objects keeps at_n
   where
-    by : (b : Bool) → is_read (sunk g p f ins) (place n 0) ≡ b
-        → total_size (cond b (sunk g p f ins) (dropped (sunk g p f ins) n)).nodes ≤ most_nodes
-        → IsFounded (sunk g p f ins) → NodesOk (sunk g p f ins)
-        → HaveObjects (sunk g p f ins).nodes → KeepsMeaning g (sunk g p f ins)
-        → node_at (sunk g p f ins).nodes n ≡ Some (Flatten ins)
-        → IsGood g (cond b (sunk g p f ins) (dropped (sunk g p f ins) n))
+    by : (b : Bool) → is_read (sunk_once g p f ins) (place n 0) ≡ b
+        → total_size (cond b (sunk_once g p f ins) (dropped (sunk_once g p f ins) n)).nodes ≤ most_nodes
+        → IsFounded (sunk_once g p f ins) → NodesOk (sunk_once g p f ins)
+        → HaveObjects (sunk_once g p f ins).nodes → KeepsMeaning g (sunk_once g p f ins)
+        → node_at (sunk_once g p f ins).nodes n ≡ Some (Flatten ins)
+        → IsGood g (cond b (sunk_once g p f ins) (dropped (sunk_once g p f ins) n))
     by true i few founded nodes objects keeps at = record {
       ok = record { founded = founded; nodes = nodes; objects = objects; few = few };
       keeps = keeps;
     }
     by false i few founded nodes objects keeps at =
-        let h : Graph = sunk g p f ins in
+        let h : Graph = sunk_once g p f ins in
         let drop : CanDrop h n ins = record { flatten = at; free = i } in
         record {
           ok = record {
@@ -139,7 +139,7 @@ pub IsGood-sink_step : (g : Graph) (n p : ℕ) (f : Forest) (ins : List Place) �
     → CanSink g n p f ins → total_size (sink_step g n p f ins).nodes ≤ most_nodes
     → IsGood g (sink_step g n p f ins)
 IsGood-sink_step g n p f ins ok can room =
-    sink_by g n p f ins (is_read (sunk g p f ins) (place n 0)) refl ok can room
+    sink_by g n p f ins (is_read (sunk_once g p f ins) (place n 0)) refl ok can room
 
 -- ---- a merge
 

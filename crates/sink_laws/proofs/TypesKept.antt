@@ -23,7 +23,7 @@ use Rattle.graph_laws.proofs.TypedGraphs.{types_reread}
 use Rattle.graph_laws.proofs.Changes.{all_set, all_without}
 use Rattle.sink_laws.specs.Kept.{IsOfPdo, KeepsSteps}
 use Rattle.sink_laws.specs.Merging.{spliced, merged, dropped, tidied, merge_step, CanMerge}
-use Rattle.sink_laws.specs.Sinking.{copies, copied, flattens, outputs_of, flatten_number, rerouted, sunk, sink_step, CanSink}
+use Rattle.sink_laws.specs.Sinking.{copies, copied, flattens, outputs_of, flatten_number, rerouted, sunk_once, sink_step, CanSink}
 use Rattle.sink_laws.proofs.MergeMeaning.{all_spliced}
 use Rattle.sink_laws.proofs.SinkFounded.{all_sunk, p_below}
 use Rattle.sink_laws.proofs.SinkMeaning.{there_below}
@@ -155,7 +155,7 @@ flattens_typed s types next base p m ins j (suc r) h e = (
 pub IsTyped-sunk : (s : Signatures) (g : Graph) (n p : ℕ) (f : Forest) (ins : List Place)
     → AllByRecursion (λ e. e.number < g.next) g.nodes
     → AllByRecursion (λ e. AllByRecursion (IsThere g.nodes) (reads e.node)) g.nodes
-    → CanSink g n p f ins → IsTyped s g → IsTyped s (sunk g p f ins)
+    → CanSink g n p f ins → IsTyped s g → IsTyped s (sunk_once g p f ins)
 IsTyped-sunk s g n p f ins below there can typed =
     let types : Place → Ty = typed.0 in
     let base : ℕ = g.next + length ins in
@@ -258,7 +258,7 @@ module _ (P : Forest → Type 0) where
   pub AllSteps-sink_step : (g : Graph) (n p : ℕ) (f : Forest) (ins : List Place)
       → CanSink g n p f ins → AllSteps P g → AllSteps P (sink_step g n p f ins)
   AllSteps-sink_step g n p f ins can u =
-      AllSteps-tidied (sunk g p f ins) n
+      AllSteps-tidied (sunk_once g p f ins) n
       (all_sunk (λ e. HasSteps P e.node) g p f ins
       (all_map (reread_entry (rerouted p (g.next + length ins))) (λ (e : Entry). HasSteps P e.node)
       (λ (e : Entry). HasSteps P e.node)

@@ -6,7 +6,7 @@ use Rattle.sink_laws.specs.of_exec_graph.Meaning.{node_at}
 use Rattle.sink_laws.specs.of_exec_graph.Wellformed.{IsGraphOk, most_nodes, total_size}
 use Rattle.sink_laws.specs.of_exec_graph.declared.graph.Place.{Place}
 use Rattle.sink_laws.specs.of_exec_graph.declared.graph.Graph.{Graph}
-use Rattle.sink_laws.specs.Chain.{after_call, after_nest, forest_of, go, has_room, inputs_of, next_by, next_call, next_graph, next_nest, sink_next, stay, IsSunk, Leads}
+use Rattle.sink_laws.specs.Chain.{after_call, after_nest, forest_of, go, has_room, ins_of, next_by, next_call, next_graph, next_nest, sink_next, stay, IsSunk, Leads}
 use Rattle.sink_laws.specs.declared.pair.Pair.{Pair}
 use Rattle.sink_laws.proofs.Choosing.{next_call_can, next_nest_can, Leads-trans}
 use Rattle.sink_laws.proofs.Steps.{IsGood-merge_step, IsGood-sink_step}
@@ -26,8 +26,8 @@ after_nest_less : (g : Graph) (n : Pair) → IsGraphOk g → next_nest g.nodes �
     → IsLess g (after_nest g n)
 after_nest_less g n ok h =
     let can = next_nest_can g ok n h in
-    let ins : List Place = inputs_of (node_at g.nodes n.flatten) in
-    let es : List Place = inputs_of (node_at g.nodes n.other) in
+    let ins : List Place = ins_of (node_at g.nodes n.flatten) in
+    let es : List Place = ins_of (node_at g.nodes n.other) in
     record {
       ok = (IsGood-merge_step g n.flatten ins n.other es ok can).ok;
       less = merge_lighter g n.flatten ins n.other es ok can;
@@ -37,7 +37,7 @@ after_call_less : (g : Graph) (p : Pair) → IsGraphOk g → next_call g.nodes �
     → total_size (after_call g p).nodes ≤ most_nodes → IsLess g (after_call g p)
 after_call_less g p ok h room =
     let can = next_call_can g ok p h in
-    let ins : List Place = inputs_of (node_at g.nodes p.flatten) in
+    let ins : List Place = ins_of (node_at g.nodes p.flatten) in
     let f : Forest = forest_of (node_at g.nodes p.other) in
     record {
       ok = (IsGood-sink_step g p.flatten p.other f ins ok can room).ok;

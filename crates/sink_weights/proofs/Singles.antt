@@ -17,7 +17,7 @@ use Rattle.sink_laws.proofs.of_exec_graph.Entries.{entry, all_found}
 use Rattle.sink_laws.specs.of_graph_laws.Joining.{reread, reread_entry}
 use Rattle.sink_laws.specs.of_graph_laws.Single.{HasSingleOutputs, HasSteps, IsOneOutput}
 use Rattle.sink_laws.proofs.of_graph_laws.Wellness.{gives_of}
-use Rattle.sink_laws.specs.Sinking.{copies, first_flatten, flattens, instead, outputs_of, flatten_number, rerouted, sunk, CanSink}
+use Rattle.sink_laws.specs.Sinking.{copies, first_flatten, flattens, instead, outputs_of, flatten_number, rerouted, sunk_once, CanSink}
 use Rattle.sink_laws.proofs.Outs.{has_below}
 use Rattle.sink_weights.specs.Outputs.{sunk_single}
 use Rattle.sink_laws.proofs.Unread.{same_true}
@@ -68,7 +68,7 @@ single_place g n p f ins c ok can one there = by (eqb c.node p) refl
     by false i = kept_place p (g.next + length ins) c (λ h. false≢true (sym i ∙ eq-eqb c.node p h))
 
 pub single_step : (g : Graph) (n p : ℕ) (f : Forest) (ins : List Place) → IsGraphOk g
-    → CanSink g n p f ins → outputs_of f ≡ 1 → sunk g p f ins ≡ sunk_single g p f ins
+    → CanSink g n p f ins → outputs_of f ≡ 1 → sunk_once g p f ins ≡ sunk_single g p f ins
 single_step g n p f ins ok can one =
     let base : ℕ = g.next + length ins in
     let r : Place → Place = rerouted p base in
@@ -81,7 +81,7 @@ single_step g n p f ins ok can one =
     (λ (e : Entry). AllByRecursion (IsThere g.nodes) (reads e.node))
     (λ e. AllByRecursion (λ c. r c ≡ c) (reads e.node)) (λ e a. same (reads e.node) a) g.nodes
     ok.founded.there) in
-    let nodes : (sunk g p f ins).nodes ≡ (sunk_single g p f ins).nodes =
+    let nodes : (sunk_once g p f ins).nodes ≡ (sunk_single g p f ins).nodes =
     ap (λ (es : List Entry). instead es p (first_flatten g.next ins (outputs_of f))
     ++ (copies g.next f ins ++ flattens base g.next ins 0 (outputs_of f - 1))) kept
     ∙ ap (λ (c : ℕ). instead g.nodes p (first_flatten g.next ins c)

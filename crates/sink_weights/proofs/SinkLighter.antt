@@ -16,7 +16,7 @@ use Rattle.sink_laws.proofs.of_exec_graph.Entries.{all_found, all_map}
 use Rattle.sink_laws.proofs.of_exec_graph.Soundness.{differ_ascends}
 use Rattle.sink_laws.specs.of_graph_laws.Joining.{reread_entry, without}
 use Rattle.sink_laws.proofs.of_graph_laws.Wellness.{differ_map, gives_of}
-use Rattle.sink_laws.specs.Sinking.{copies, copied, flattens, first_flatten, instead, outputs_of, rerouted, sunk, sink_step, CanSink}
+use Rattle.sink_laws.specs.Sinking.{copies, copied, flattens, first_flatten, instead, outputs_of, rerouted, sunk_once, sink_step, CanSink}
 use Rattle.sink_laws.proofs.Outs.{has_below, has_from}
 use Rattle.sink_laws.proofs.Readership.{all_instead_others}
 use Rattle.sink_laws.proofs.SinkFounded.{ascends_sunk, first_nodes, kept_nodes, last_nodes, kept_at}
@@ -28,7 +28,7 @@ use Rattle.sink_weights.proofs.Enough.{enough, copies_weigh}
 use Rattle.sink_weights.proofs.SinkPlaces.{IsLow, new_below, new_outputs, no_more, old_outputs, outputs_le, outputs_lt, root, weight_p}
 
 module _ (g : Graph) (n p : ℕ) (f : Forest) (ins : List Place) (ok : IsGraphOk g)
-    (can : CanSink g n p f ins) (t : Graph) (tidy : IsTidied (sunk g p f ins) t n) where
+    (can : CanSink g n p f ins) (t : Graph) (tidy : IsTidied (sunk_once g p f ins) t n) where
   abbrev e : ℕ → ℕ
   e = enough (weight g.nodes) g.next p ins
 
@@ -95,14 +95,14 @@ module _ (g : Graph) (n p : ℕ) (f : Forest) (ins : List Place) (ok : IsGraphOk
     flattens_none (suc j) (q + 1) r (omega arith) (omega arith),
   )
 
-  parts : weigh v (sunk g p f ins).nodes
+  parts : weigh v (sunk_once g p f ins).nodes
       ≡ weigh v (first_nodes g p f ins)
       + (weigh v (copies g.next f ins) + weigh v (last_nodes g f ins))
   parts =
       let a = weigh_append v (first_nodes g p f ins) (copies g.next f ins ++ last_nodes g f ins) in
       let b = weigh_append v (copies g.next f ins) (last_nodes g f ins) in omega arith
 
-  left_is : new_left ≤ weigh v (sunk g p f ins).nodes
+  left_is : new_left ≤ weigh v (sunk_once g p f ins).nodes
   left_is =
       let a = unread_is (weight t.nodes) t t.nodes in
       let b = tidy.weighs (weight t.nodes) in omega arith
@@ -251,7 +251,7 @@ total_is g = refl
 pub sink_lighter : (g : Graph) (n p : ℕ) (f : Forest) (ins : List Place) → IsGraphOk g
     → CanSink g n p f ins → total_weight (sink_step g n p f ins) < total_weight g
 sink_lighter g n p f ins ok can =
-    let h : Graph = sunk g p f ins in
+    let h : Graph = sunk_once g p f ins in
     let t : Graph = sink_step g n p f ins in
     let a = total_is g in
     let b = total_is t in

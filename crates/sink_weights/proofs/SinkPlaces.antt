@@ -17,7 +17,7 @@ use Rattle.sink_laws.proofs.of_exec_graph.Solving.{each_found}
 use Rattle.sink_laws.proofs.of_exec_graph.Soundness.{differ_ascends}
 use Rattle.sink_laws.specs.of_graph_laws.Joining.{reread, reread_entry}
 use Rattle.sink_laws.proofs.of_graph_laws.Wellness.{gives_of}
-use Rattle.sink_laws.specs.Sinking.{copied, outputs_of, flatten_number, rerouted, sunk, CanSink}
+use Rattle.sink_laws.specs.Sinking.{copied, outputs_of, flatten_number, rerouted, sunk_once, CanSink}
 use Rattle.sink_laws.proofs.Outs.{has_below}
 use Rattle.sink_laws.proofs.SinkFounded.{all_sunk, p_below}
 use Rattle.sink_laws.proofs.SinkMeaning.{there_below}
@@ -29,7 +29,7 @@ use Rattle.sink_weights.proofs.Weighing.{IsEnough, at_most, before, before_below
 use Rattle.sink_weights.proofs.Enough.{enough, enough_old, enough_number, added_copied, weight_same, copies_enough, flattens_enough}
 
 module _ (g : Graph) (n p : ℕ) (f : Forest) (ins : List Place) (ok : IsGraphOk g)
-    (can : CanSink g n p f ins) (t : Graph) (tidy : IsTidied (sunk g p f ins) t n) where
+    (can : CanSink g n p f ins) (t : Graph) (tidy : IsTidied (sunk_once g p f ins) t n) where
   abbrev m : ℕ → ℕ
   m = weight g.nodes
 
@@ -71,7 +71,7 @@ module _ (g : Graph) (n p : ℕ) (f : Forest) (ins : List Place) (ok : IsGraphOk
   old_ins = all_found (λ e. AllByRecursion (IsThere g.nodes) (reads e.node)) g.nodes n
       (Flatten ins) can.flatten ok.founded.there
 
-  is_enough : IsEnough e (sunk g p f ins).nodes
+  is_enough : IsEnough e (sunk_once g p f ins).nodes
   is_enough =
       let a = weight_p in
       all_sunk (λ (x : Entry). node_weight e x.node ≤ e x.number) g p f ins

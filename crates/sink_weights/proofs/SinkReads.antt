@@ -14,7 +14,7 @@ use Rattle.sink_laws.proofs.of_exec_graph.Bools.{or_cases, or_left, or_right, no
 use Rattle.sink_laws.proofs.of_exec_graph.Entries.{all_found}
 use Rattle.sink_laws.proofs.of_exec_graph.Solving.{ranked_at}
 use Rattle.sink_laws.specs.of_graph_laws.Joining.{reread}
-use Rattle.sink_laws.specs.Sinking.{copies, copied, outputs_of, flatten_number, rerouted, sunk, CanSink}
+use Rattle.sink_laws.specs.Sinking.{copies, copied, outputs_of, flatten_number, rerouted, sunk_once, CanSink}
 use Rattle.sink_laws.proofs.Outs.{has_from}
 use Rattle.sink_laws.proofs.Ranges.{IsFoundIn}
 use Rattle.sink_laws.proofs.SinkFounded.{copies_there, flatten_at, node_at-sunk_other}
@@ -109,7 +109,7 @@ is_copied next j (suc i) (c ∷ cs) h =
 -- ---- the step
 
 module _ (g : Graph) (n p : ℕ) (f : Forest) (ins : List Place) (ok : IsGraphOk g)
-    (can : CanSink g n p f ins) (t : Graph) (tidy : IsTidied (sunk g p f ins) t n) where
+    (can : CanSink g n p f ins) (t : Graph) (tidy : IsTidied (sunk_once g p f ins) t n) where
   abbrev base : ℕ
   base = g.next + length ins
 
@@ -234,7 +234,7 @@ module _ (g : Graph) (n p : ℕ) (f : Forest) (ins : List Place) (ok : IsGraphOk
           let s : r.node ≡ Flatten ins = one r.node (Flatten ins) (sym at ∙ can.flatten) in
           let z : is_of q ins ≡ true =
           subst (λ (x : Node). is_of q (reads x) ≡ true) s r.passes in
-          let c = copy_over (sunk g p f ins).nodes g.next f q ins z
+          let c = copy_over (sunk_once g p f ins).nodes g.next f q ins z
           (copies_there g n p f ins ok.founded.ascends ok.founded.below can) in
           let l : g.next ≤ c.number = c.above in
           let k = n_below in

@@ -11,7 +11,7 @@ ghost use Rattle.sink_laws.specs.of_exec_graph.declared.graph.Place.{Place};
 ghost use Rattle.sink_laws.specs.of_graph_laws.Single.{HasSingleOutputs};
 ghost use Rattle.sink_laws.specs.Chain.{IsSunk};
 ghost use Rattle.sink_laws.specs.Merging.{CanMerge, merge_step};
-ghost use Rattle.sink_laws.specs.Sinking.{CanSink, outputs_of, sink_step, sunk};
+ghost use Rattle.sink_laws.specs.Sinking.{CanSink, outputs_of, sink_step, sunk_once};
 ghost use Rattle.sink_weights.specs.Outputs.{from, numbers, read_outputs, sunk_single};
 ghost use Rattle.sink_weights.specs.Weights.{node_weight, total_weight, weight};
 
@@ -29,7 +29,7 @@ pub fn outputs_law()
 /// has one step with one output.
 pub fn single_law()
     ensures step { (g : Graph) (n p : ℕ) (f : Forest) (ins : List Place) → IsGraphOk g →
-        CanSink g n p f ins → outputs_of f ≡ 1 → sunk g p f ins ≡ sunk_single g p f ins }
+        CanSink g n p f ins → outputs_of f ≡ 1 → sunk_once g p f ins ≡ sunk_single g p f ins }
     ensures one { (g : Graph) (p j : ℕ) (c : Place) (f : Forest) → IsGraphOk g →
         HasSingleOutputs g → node_at g.nodes p ≡ Some (node.Pdo c f) →
         is_read g (place p j) ≡ true → outputs_of f ≡ 1 }

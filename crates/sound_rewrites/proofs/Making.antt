@@ -16,7 +16,7 @@ use Rattle.graph_laws.specs.Lifting.{lift_of}
 use Rattle.graph_laws.proofs.Kids.{kid_sound, sibling_sound}
 use Rattle.graph_laws.proofs.Lifting.{KeepsMeaning-remarked, KeepsTypes-remarked}
 use Rattle.graph_laws.proofs.LiftChain.{IsSound-remarked}
-use Rattle.sink_laws.specs.Chain.{inputs_of}
+use Rattle.sink_laws.specs.Chain.{ins_of}
 use Rattle.graph_rewrites.specs.Replays.{Leads, group_of}
 use Rattle.graph_rewrites.specs.Rewrites.{CanApply, CanBeKid, applied, forest_at, input_at, kid_under, kid_under_other, rewritten, swapped_at}
 use Rattle.graph_rewrites.specs.declared.rewrite.Rewrite.{Rewrite}
@@ -46,10 +46,10 @@ kid_as g p k q false ok can =
 
 pub made_as : (g : Graph) (r : Rewrite) → IsSound g → CanMake g r → IsAs g (rewritten g r)
 made_as g (Merge outer inner) ok can =
-    merge_as g outer (inputs_of (node_at g.nodes outer)) inner (inputs_of (node_at g.nodes inner))
+    merge_as g outer (ins_of (node_at g.nodes outer)) inner (ins_of (node_at g.nodes inner))
     ok can
 made_as g (Sink flatten pdo) ok can =
-    sink_as g flatten pdo (forest_at g pdo) (inputs_of (node_at g.nodes flatten)) ok can.ascends
+    sink_as g flatten pdo (forest_at g pdo) (ins_of (node_at g.nodes flatten)) ok can.ascends
     can.below can.order can.reads
 made_as g (Lift group) ok can =
     let s : ℕ → Option Comb → Option Comb = λ m k. cond (m == group) (lift_of g group) k in

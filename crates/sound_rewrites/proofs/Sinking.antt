@@ -13,7 +13,7 @@ use Rattle.exec_graph.proofs.Solving.{ranked_at}
 use Rattle.exec_graph.proofs.Soundness.{differ_ascends}
 use Rattle.graph_laws.specs.Joining.{reread_entry}
 use Rattle.graph_laws.proofs.Wellness.{outs_reread}
-use Rattle.sink_laws.specs.Sinking.{CanSink, copies, flattens, outputs_of, rerouted, sink_step, sunk}
+use Rattle.sink_laws.specs.Sinking.{CanSink, copies, flattens, outputs_of, rerouted, sink_step, sunk_once}
 use Rattle.sink_laws.proofs.SinkFounded.{IsFounded-sunk, all_sunk, node_at-sunk_other}
 use Rattle.sink_laws.proofs.SinkMeaning.{KeepsMeaning-sunk}
 use Rattle.sink_laws.proofs.TypesKept.{IsTyped-sunk}
@@ -37,7 +37,7 @@ module _ (g : Graph) (n p : ℕ) (f : Forest) (ins : List Place) (ok : IsSound g
   base = g.next + length ins
 
   abbrev new : Graph
-  new = sunk g p f ins
+  new = sunk_once g p f ins
 
   founded : IsFounded new
   founded =

@@ -10,7 +10,7 @@ use Rattle.exec_graph.specs.declared.graph.Node.TheVariants.{Flatten}
 use Rattle.exec_graph.specs.declared.graph.Graph.{Graph}
 use Rattle.fusion_blocks.specs.Blocks.{CanMark}
 use Rattle.graph_laws.specs.Lifting.{CanLift}
-use Rattle.sink_laws.specs.Chain.{CanCall, inputs_of}
+use Rattle.sink_laws.specs.Chain.{CanCall, ins_of}
 use Rattle.graph_rewrites.specs.Rewrites.{CanBeKid, CanBeSibling, forest_at, pair, rewritten}
 use Rattle.graph_rewrites.specs.declared.rewrite.Rewrite.{Rewrite}
 use Rattle.graph_rewrites.specs.declared.rewrite.Rewrite.TheVariants.{Merge, Sink, Lift, Kid, Sibling, Mark}
@@ -23,7 +23,7 @@ pub record IsNested (g : Graph) (f : ℕ) (ins : List Place) (e : ℕ) (es : Lis
 
 abbrev pub CanBeMerged : Graph → ℕ → ℕ → Type 0
 CanBeMerged g f e =
-    IsNested g f (inputs_of (node_at g.nodes f)) e (inputs_of (node_at g.nodes e))
+    IsNested g f (ins_of (node_at g.nodes f)) e (ins_of (node_at g.nodes e))
 
 -- The Pdo p reads the Flatten n. The numbers of nodes ascend and are below the next one, so that
 -- its copies get new ones; and those of its outputs are all from 0 on in preorder, since there will

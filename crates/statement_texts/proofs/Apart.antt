@@ -7,7 +7,7 @@ use Rattle.flume_tokens.specs.declared.token.TokenKind.{TokenKind}
 use Rattle.flume_tokens.specs.Tokens.{Cut, tokens_from}
 use Rattle.token_spelling.specs.Spellable.{IsSpellable, Ascend, AreSpellable}
 use Rattle.token_spelling.specs.Spelled.{written, spelled_from, spelled}
-use Rattle.statement_texts.specs.Texts.{joined, joined_behind, kinds_of}
+use Rattle.statement_texts.specs.Texts.{spaced, joined_behind, kinds_of}
 
 -- these tokens, all on the first line
 abbrev on_one : List TokenKind → List Token
@@ -38,14 +38,14 @@ turned (kind ∷ kinds) =
     ∙ sym (append_assoc (32 ∷ written kind) (joined_behind kinds) (32 ∷ []))
 
 spelled_is : (kind : TokenKind) (kinds : List TokenKind)
-    → spelled (on_one (kind ∷ kinds)) ≡ joined (kind ∷ kinds) ++ 32 ∷ []
+    → spelled (on_one (kind ∷ kinds)) ≡ spaced (kind ∷ kinds) ++ 32 ∷ []
 spelled_is kind kinds =
     ap (λ bs. written kind ++ bs) (turned kinds)
     ∙ sym (append_assoc (written kind) (joined_behind kinds) (32 ∷ []))
 
 pub joined_apart : ((ts : List Token) → AreSpellable ts → tokens_from 0 1 (spelled ts) ≡ Ok ts)
     → (k j : TokenKind) (ks js : List TokenKind) → All IsSpellable (k ∷ ks)
-    → All IsSpellable (j ∷ js) → joined (k ∷ ks) ≡ joined (j ∷ js) → k ∷ ks ≡ j ∷ js
+    → All IsSpellable (j ∷ js) → spaced (k ∷ ks) ≡ spaced (j ∷ js) → k ∷ ks ≡ j ∷ js
 joined_apart cut k j ks js p q e =
     let bytes : spelled (on_one (k ∷ ks)) ≡ spelled (on_one (j ∷ js))
     = spelled_is k ks ∙ ap (λ bs. bs ++ 32 ∷ []) e ∙ sym (spelled_is j js) in

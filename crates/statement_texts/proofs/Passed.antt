@@ -6,7 +6,7 @@ use Rattle.flume_tokens.specs.declared.token.Token.{Token}
 use Rattle.flume_tokens.specs.declared.token.TokenKind.{TokenKind}
 use Rattle.flume_tokens.specs.declared.token.TokenKind.TheVariants as kind
 use Rattle.token_spelling.specs.Spelled.{written}
-use Rattle.statement_texts.specs.Texts.{Parts, before, braces_behind, is_beginning, joined, joined_behind, kinds_of, parts_from}
+use Rattle.statement_texts.specs.Texts.{Parts, before, braces_behind, is_beginning, spaced, joined_behind, kinds_of, parts_from}
 use Rattle.statement_texts.specs.inner.Passing.{finished}
 
 pub begun : (texts : List (List ℕ)) (text : List ℕ) (token : TokenKind) (rest : Parts)
@@ -20,7 +20,7 @@ pub goes_on : (texts : List (List ℕ)) (text : List ℕ) (token : TokenKind) (r
     → texts ++ finished ((text ++ 32 ∷ []) ++ written token) rest
     ≡ texts ++ finished text (before token false rest)
 goes_on texts text token rest =
-    ap (λ t. texts ++ t ∷ map joined rest.1)
+    ap (λ t. texts ++ t ∷ map spaced rest.1)
     (ap (λ t. t ++ joined_behind rest.0) (append_assoc text (32 ∷ []) (written token))
     ∙ append_assoc text (32 ∷ written token) (joined_behind rest.0))
 

@@ -51,9 +51,9 @@ abbrev pub joined_behind : List TokenKind → List ℕ
 joined_behind tokens = flat_map (λ token. 32 ∷ written token) tokens
 
 -- tokens as they are written, joined by one space
-abbrev pub joined : List TokenKind → List ℕ
-joined [] = []
-joined (token ∷ tokens) = written token ++ joined_behind tokens
+abbrev pub spaced : List TokenKind → List ℕ
+spaced [] = []
+spaced (token ∷ tokens) = written token ++ joined_behind tokens
 
 -- what the tokens are, without the lines on which they stand
 abbrev pub kinds_of : List Token → List TokenKind
@@ -61,4 +61,4 @@ kinds_of tokens = map (λ token. token.kind) tokens
 
 -- the text of each statement that these are the tokens of, in order
 abbrev pub texts_of : List Token → List (List ℕ)
-texts_of tokens = map joined (statements_of (kinds_of tokens))
+texts_of tokens = map spaced (statements_of (kinds_of tokens))

@@ -1,7 +1,7 @@
 // The columns of a flat type, and of the type of an input.
 ghost use Rattle.std.specs.Prelude.{◌≡◌, ◌≢◌, ◌<◌, ◌++◌, List, length, map, Some, None, IfOk, IfErr, OnOk, codes};
 ghost use Rattle.flume_types.specs.declared.types.Ty.{Ty, out-Ty};
-ghost use Rattle.flume_types.specs.Columns.{joined, columns_of, input_columns_of, cell_kind as kind_of, cell_column, cells_under, field_columns, record_columns};
+ghost use Rattle.flume_types.specs.Columns.{columns_and, columns_of, input_columns_of, cell_kind as kind_of, cell_column, cells_under, field_columns, record_columns};
 ghost use Rattle.type_table.specs.inner.Adding.{Adds};
 ghost use Rattle.type_table.specs.Table as spec;
 

@@ -1,7 +1,7 @@
 // The bytes that are left to read, and the parts that take no memory.
 ghost use Rattle.std.specs.Prelude.{◌≡◌, [], IsTrue, ◌↔◌};
 ghost use Rattle.value_reading.specs.inner.Reading as spec;
-ghost use Rattle.value_reading.specs.inner.Reads.{Reads, ReadsAs};
+ghost use Rattle.value_reading.specs.inner.Reads.{ReadsFront, ReadsAs};
 
 use crate::fault::ReadFault;
 use crate::numbers::{first_eight, first_sixteen};
@@ -42,7 +42,7 @@ impl<'a> Cursor<'a> {
 
     /// One byte.
     pub fn byte(&mut self) -> Result<u8, ReadFault>
-        ensures { Reads spec.byte_at self.old self.new result }
+        ensures { ReadsFront spec.byte_at self.old self.new result }
     {
         let bytes = self.bytes;
         if bytes.is_empty() {
@@ -69,7 +69,7 @@ impl<'a> Cursor<'a> {
     /// A length: a number of eight bytes.
     #[tactic(auto, unfolding(crate::specs::inner::Reading::number_at))]
     pub fn length(&mut self) -> Result<u64, ReadFault>
-        ensures { Reads (spec.number_at 8) self.old self.new result }
+        ensures { ReadsFront (spec.number_at 8) self.old self.new result }
     {
         let bytes = self.bytes;
         if bytes.len() < 8 {
@@ -81,7 +81,7 @@ impl<'a> Cursor<'a> {
 
     /// A signed number of eight bytes.
     pub fn int(&mut self) -> Result<i64, ReadFault>
-        ensures { Reads spec.int_at self.old self.new result }
+        ensures { ReadsFront spec.int_at self.old self.new result }
     {
         let bits = self.length()?;
         Ok(bits.cast_signed())
@@ -89,7 +89,7 @@ impl<'a> Cursor<'a> {
 
     /// A signed number of sixteen bytes.
     pub fn wide(&mut self) -> Result<i128, ReadFault>
-        ensures { Reads spec.wide_at self.old self.new result }
+        ensures { ReadsFront spec.wide_at self.old self.new result }
     {
         let bits = self.sixteen()?;
         Ok(bits.cast_signed())
@@ -97,7 +97,7 @@ impl<'a> Cursor<'a> {
 
     /// A truth value.
     pub fn truth(&mut self) -> Result<bool, ReadFault>
-        ensures { Reads spec.bool_at self.old self.new result }
+        ensures { ReadsFront spec.bool_at self.old self.new result }
     {
         let byte = self.byte()?;
         match byte {
@@ -109,7 +109,7 @@ impl<'a> Cursor<'a> {
 
     /// The variant of a value.
     pub fn tag(&mut self) -> Result<Tag, ReadFault>
-        ensures { Reads spec.tag_at self.old self.new result }
+        ensures { ReadsFront spec.tag_at self.old self.new result }
     {
         let byte = self.byte()?;
         match variant_of(byte) {
@@ -121,7 +121,7 @@ impl<'a> Cursor<'a> {
     // A number of sixteen bytes.
     #[tactic(auto, unfolding(crate::specs::inner::Reading::number_at))]
     fn sixteen(&mut self) -> Result<u128, ReadFault>
-        ensures { Reads (spec.number_at 16) self.old self.new result }
+        ensures { ReadsFront (spec.number_at 16) self.old self.new result }
     {
         let bytes = self.bytes;
         if bytes.len() < 16 {

@@ -3,7 +3,7 @@ ghost use Rattle.std.specs.Prelude.{◌≡◌, IfOk, IsErrOf, List, ℕ};
 ghost use Rattle.flume_value.specs.declared.value.Value.{Value as Value_};
 ghost use Rattle.value_reading.specs.Written.{IsWritten};
 ghost use Rattle.value_reading.specs.inner.Reading as spec;
-ghost use Rattle.value_reading.specs.inner.Reads.{Reads, Answers};
+ghost use Rattle.value_reading.specs.inner.Reads.{ReadsFront, Answers};
 
 use crate::cursor::Cursor;
 use crate::fault::ReadFault;
@@ -47,7 +47,7 @@ fn whole(alloc: Global, bytes: &[u8]) -> Result<Value, ReadFault>
 #[cycle(values)]
 #[tactic(auto, using(crate::proofs::Steps::value_step, crate::proofs::Steps::value_none))]
 fn value_of(alloc: Global, left: &mut Cursor<'_>, levels: u32) -> Result<Value, ReadFault>
-    ensures { Reads (spec.value_at levels) left.old left.new result }
+    ensures { ReadsFront (spec.value_at levels) left.old left.new result }
 {
     if levels == 0 {
         return Err(ReadFault::NotOne);
@@ -64,7 +64,7 @@ fn after_tag(
     levels: u32,
     tag: Tag,
 ) -> Result<Value, ReadFault>
-    ensures { Reads (spec.behind (spec.value_at levels) tag) left.old left.new result }
+    ensures { ReadsFront (spec.behind (spec.value_at levels) tag) left.old left.new result }
 {
     match tag {
         Tag::Int => Ok(Value::Int(left.int()?)),
@@ -81,7 +81,7 @@ fn after_tag(
 // A value in a box.
 #[cycle(values)]
 fn held_of(alloc: Global, left: &mut Cursor<'_>, levels: u32) -> Result<Held<Value>, ReadFault>
-    ensures { Reads (spec.value_at levels) left.old left.new result }
+    ensures { ReadsFront (spec.value_at levels) left.old left.new result }
 {
     let value = value_of(alloc, left, levels)?;
     Ok(Held::new(alloc, value)?)
@@ -91,7 +91,7 @@ fn held_of(alloc: Global, left: &mut Cursor<'_>, levels: u32) -> Result<Held<Val
 #[cycle(values)]
 #[tactic(auto, unfolding(crate::specs::inner::Reading::items_at))]
 fn items_of(alloc: Global, left: &mut Cursor<'_>, levels: u32) -> Result<Items, ReadFault>
-    ensures { Reads (spec.items_at (spec.value_at levels)) left.old left.new result }
+    ensures { ReadsFront (spec.items_at (spec.value_at levels)) left.old left.new result }
 {
     let count = left.length()?;
     members_of(alloc, left, levels, count)
@@ -105,7 +105,7 @@ fn members_of(
     levels: u32,
     count: u64,
 ) -> Result<Items, ReadFault>
-    ensures { Reads (spec.parts_at (spec.value_at levels) count) left.old left.new result }
+    ensures { ReadsFront (spec.parts_at (spec.value_at levels) count) left.old left.new result }
 {
     let mut members = Vec::new(alloc);
     for _turn in 0..count {
@@ -118,7 +118,7 @@ fn members_of(
 // A text, with its length before it.
 #[tactic(auto, unfolding(crate::specs::inner::Reading::text_at))]
 fn text_of(alloc: Global, left: &mut Cursor<'_>) -> Result<Str, ReadFault>
-    ensures { Reads spec.text_at left.old left.new result }
+    ensures { ReadsFront spec.text_at left.old left.new result }
 {
     let count = left.length()?;
     let bytes = left.front(count)?;

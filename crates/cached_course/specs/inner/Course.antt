@@ -1,7 +1,7 @@
 -- What a run comes to before anything is written.
 use Rattle.std.specs.Prelude.{◌≡◌, ◌⊎◌, ◌++◌, ℕ, List, [], Option, Some, Result, codes, length, map}
 use Rattle.std.specs.List.{AllByRecursion, AllZip, Contains}
-use Rattle.run_course.specs.of_build_law.Worlds.{world_of}
+use Rattle.run_course.specs.of_build_law.Worlds.{script_world}
 use Rattle.cache_store.specs.declared.entry.CacheEntry.{CacheEntry}
 use Rattle.crew.specs.Hosts.{Account}
 use Rattle.kept_results.specs.of_direct_meaning.Direct.{meaning, sizes_of, traps_of}
@@ -148,7 +148,7 @@ module _ (words : List (List ℕ)) (before after : Seen (List File)) (olds news 
   GivesUp stage phase task =
       (run : IsRunning)
       × IsGivenUp run.it.settings.tries run.it.settings.drill
-      (world_of (script_run run.it) (lists_run run.it run.rows))
+      (script_world (script_run run.it) (lists_run run.it run.rows))
       (phases_of run.it.settings (script_run run.it) (lists_run run.it run.rows) run.plan)
       (lent run.it.settings olds) (lent run.it.settings news) stage phase task
 

@@ -4,14 +4,14 @@ use Rattle.flume_value.specs.declared.value.Value.{Value}
 use Rattle.flume_value.specs.declared.value.Value.TheVariants as variant
 use Rattle.flume_value.specs.declared.fault.CallFault.{CallFault}
 use Rattle.flume_value.specs.Parts.{left_of, right_of}
-use Rattle.dofn_eval.specs.Outcome.{Outcome, Gives, IsFault, then, then_both}
+use Rattle.dofn_eval.specs.Outcome.{Outcome, Gives, IsFaultIn, then, then_both}
 use Rattle.dofn_eval.specs.Operations.{of_two, member_in, chosen}
 use Rattle.dofn_eval.specs.declared.expr.Binary.{Binary}
 use Rattle.dofn_eval.specs.declared.expr.Expr.{Expr}
 use Rattle.dofn_eval.specs.declared.stmt.Stmt.{Stmt}
 use Rattle.dofn_eval.specs.declared.scope.Scope.{Scope}
 use Rattle.dofn_eval.specs.Meaning.{value_of}
-use Rattle.dofn_eval.specs.Run.{Emissions, State, state, emitted_to, run, run_one as one_run}
+use Rattle.dofn_eval.specs.Run.{Emissions, SlotState, state, emitted_to, run, run_one as one_run}
 use Rattle.dofn_eval.specs.Run.{for_each, side_of, by_side}
 use Rattle.dofn_eval.specs.inner.Operands.{values, named}
 
@@ -19,7 +19,7 @@ use Rattle.dofn_eval.specs.inner.Operands.{values, named}
 -- or a want of memory
 abbrev pub Evaluates : {A B : Type 0} → (A → B) → Result A CallFault → Outcome B → Type 0
 Evaluates view (Ok a) outcome = outcome ≡ Gives (view a)
-Evaluates view (Err fault) outcome = IsFault outcome fault
+Evaluates view (Err fault) outcome = IsFaultIn outcome fault
 
 abbrev pub Returns : {A : Type 0} → Result A CallFault → Outcome A → Type 0
 Returns = Evaluates (λ a. a)
@@ -49,10 +49,10 @@ run_in scope block out = run block (values scope) out
 
 -- ---- where a block has named values so far
 
-abbrev pub state_in : Scope → List Value → Emissions → State
+abbrev pub state_in : Scope → List Value → Emissions → SlotState
 state_in outer names out = state (named names (values outer)) out
 
-abbrev pub run_one : Scope → Stmt → List Value → Emissions → Outcome State
+abbrev pub run_one : Scope → Stmt → List Value → Emissions → Outcome SlotState
 run_one outer stmt names out = one_run stmt (state_in outer names out)
 
 abbrev pub value_behind : Scope → List Value → Expr → Outcome Value

@@ -6,7 +6,7 @@ use Rattle.exec_graph.specs.Wellformed.{most_nodes}
 use Rattle.exec_graph.specs.declared.graph.Entry.{Entry}
 use Rattle.exec_graph.specs.declared.graph.Node.{Node}
 use Rattle.exec_graph.specs.declared.graph.Node.TheVariants.{Source, Flatten, Pdo, Gbk, Barrier}
-use Rattle.sink_laws.specs.Chain.{inputs_of}
+use Rattle.sink_laws.specs.Chain.{ins_of}
 use Rattle.sink_laws.specs.Merging.{spliced}
 use Rattle.sink_laws.specs.declared.pair.Pair.{Pair}
 
@@ -30,9 +30,9 @@ calls_first n (Some (Barrier ins o l a)) = false
 abbrev pub can_nest : List Entry → Pair → Bool
 can_nest es p =
     is_flatten (node_at es p.other)
-    && (among (place p.other 0) (inputs_of (node_at es p.flatten))
-    && nat_le (length (spliced p.other (inputs_of (node_at es p.other))
-    (inputs_of (node_at es p.flatten)))) most_nodes)
+    && (among (place p.other 0) (ins_of (node_at es p.flatten))
+    && nat_le (length (spliced p.other (ins_of (node_at es p.other))
+    (ins_of (node_at es p.flatten)))) most_nodes)
 
 abbrev pub can_call : List Entry → Pair → Bool
 can_call es p =

@@ -31,9 +31,9 @@ abbrev pub is_same : Take → Take → Bool
 is_same k l = (k.channel == l.channel) && (k.out == l.out)
 
 -- of lists, one for each take: those of the first takes together, and those that are left
-abbrev pub joined : List Take → List (List Value) → List Value
-joined [] lists = []
-joined (k ∷ ks) lists = or_none (slice_get lists 0) ++ joined ks (drop 1 lists)
+abbrev pub takes_joined : List Take → List (List Value) → List Value
+takes_joined [] lists = []
+takes_joined (k ∷ ks) lists = or_none (slice_get lists 0) ++ takes_joined ks (drop 1 lists)
 
 abbrev pub left : List Take → List (List Value) → List (List Value)
 left [] lists = lists

@@ -34,7 +34,7 @@ use Rattle.script_run.specs.Runs.{IsLostOf}
 use Rattle.script_loading.specs.Causes.{IsInputsCause}
 use Rattle.script_loading.specs.Loads.{AllHaveRows}
 use Rattle.run_course.specs.Answers.{FailsAtFile, GivesUp, HasText, IsCause, IsCutOff, IsFirstOfPlan, MayTell, name_at}
-use Rattle.run_course.specs.Asked.{Reads, inputs_read, plan_read, tries_of}
+use Rattle.run_course.specs.Asked.{AskOn, inputs_read, plan_read, tries_of}
 use Rattle.run_course.specs.Asks.{AsksAll, AsksFor}
 use Rattle.run_course.specs.Hosts.{AsksInRun, AsksRun, MayHaveRun}
 use Rattle.run_course.specs.Plans.{IsFileCause}
@@ -55,8 +55,8 @@ pub record Comes (script : Script) (rows : List (List Value)) (front : List ℕ)
   pub written : files_of table script.outputs ≡ Some files
   pub shown : text ≡ front ++ (size_lines (sizes_of script table) ++ codes "done\n")
 
-abbrev pub Gives : Script → List (List Value) → List ℕ → List NamedBytes → List ℕ → Type 0
-Gives script rows front files text =
+abbrev pub GivesFiles : Script → List (List Value) → List ℕ → List NamedBytes → List ℕ → Type 0
+GivesFiles script rows front files text =
     (table : Table) × Comes script rows front files text table
 
 -- over these rows the script has this trap, of which may be told, at a collection of this name
@@ -122,9 +122,9 @@ IsRunStop s script rows plan olds news (stop.Trapped trap) =
 
 -- over the rows of its inputs the script has this trap, of which the command may tell, where hosts
 -- have gained so much
-abbrev pub IsTrapped : Command → List Account → List Account → Option (List NamedBytes) → Script
+abbrev pub IsTrappedAt : Command → List Account → List Account → Option (List NamedBytes) → Script
     → Trapped → Type 0
-IsTrapped command olds news told script trap =
+IsTrappedAt command olds news told script trap =
     (rows : List (List Value)) × (table : Table) × IsMeant told script rows table
     × MayTell command told script rows olds news (traps_of table) trap.trap
     × (name_at script trap.trap.origin ≡ Some trap.name)
@@ -134,7 +134,7 @@ abbrev pub IsMeaningStop : Seen (List NamedBytes) → Seen (List NamedBytes) →
 IsMeaningStop before after script (stop.Refused status) =
     (status ≡ WantOfMemory) ⊎ IsInputsCause usual_tries before after (inputs_of script) status
 IsMeaningStop before after script (stop.Trapped trap) =
-    IsTrapped Direct [] [] before.told script trap
+    IsTrappedAt Direct [] [] before.told script trap
 
 -- the command is a run of a script which gave a task up, and the answer is that
 abbrev pub HasGivenUp : Command → Option (List NamedBytes) → List Account → List Account → Script
@@ -182,14 +182,14 @@ IsCommandStop command before after olds news script (stop.Refused status) =
     ⊎ (HasGivenUp command before.told olds news script status
     ⊎ HasNoPlan command before after script status))
 IsCommandStop command before after olds news script (stop.Trapped trap) =
-    IsTrapped command olds news before.told script trap
+    IsTrappedAt command olds news before.told script trap
 
 -- the words ask for a script's meaning with this trap, of which the command may tell
 abbrev pub HasTrap : List (List ℕ) → Option (List NamedBytes) → List Account → List Account
     → Trapped → Type 0
 HasTrap words told olds news trap =
     (command : Command) × (script : Script) × (rows : List (List Value)) × (table : Table)
-    × Reads words told command script × IsMeant told script rows table
+    × AskOn words told command script × IsMeant told script rows table
     × MayTell command told script rows olds news (traps_of table) trap.trap
     × (name_at script trap.trap.origin ≡ Some trap.name)
 

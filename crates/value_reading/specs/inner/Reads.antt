@@ -11,9 +11,9 @@ abbrev pub ReadsAs : {A B : Type 0} → (A → B) → (List ℕ → Out B) → L
 ReadsAs view read before after (Ok x) = read before ≡ Some (view x, after)
 ReadsAs view read before after (Err e) = e ≢ Memory → read before ≡ None
 
-abbrev pub Reads : {A : Type 0} → (List ℕ → Out A) → List ℕ → List ℕ → Result A ReadFault → Type 0
-Reads read before after (Ok x) = read before ≡ Some (x, after)
-Reads read before after (Err e) = e ≢ Memory → read before ≡ None
+abbrev pub ReadsFront : {A : Type 0} → (List ℕ → Out A) → List ℕ → List ℕ → Result A ReadFault → Type 0
+ReadsFront read before after (Ok x) = read before ≡ Some (x, after)
+ReadsFront read before after (Err e) = e ≢ Memory → read before ≡ None
 
 -- The same of a call that reads all of its bytes.
 abbrev pub Answers : {A : Type 0} → Option A → Result A ReadFault → Type 0

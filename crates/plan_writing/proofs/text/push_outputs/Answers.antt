@@ -1,6 +1,6 @@
 use Rattle.std.proofs.Common.{◌<◌, ◌≤◌, ◌++◌, [], List, length, min, get_or, arith, sym, ap, ◌∙◌, append-nil}
 use Rattle.std.proofs.lemmas.Option.{slice_get-get_or}
-use Rattle.plan_writing.specs.Lists.{joined}
+use Rattle.plan_writing.specs.Lists.{one_text}
 use Rattle.plan_writing.specs.Naming.{Written}
 use Rattle.plan_writing.specs.PlanText.{output_line}
 use Rattle.plan_writing.proofs.Listing.{paired_end, texts_next}
@@ -25,6 +25,6 @@ returns g c =
     let end : min (length outputs) (length c.args.places.now) ≤ c.loop-number.number
     = omega arith in
     sym (append-nil c.loop-number.text.items)
-    ∙ (ap (λ texts. c.loop-number.text.items ++ joined texts)
+    ∙ (ap (λ texts. c.loop-number.text.items ++ one_text texts)
     (sym (paired_end output_line outputs c.args.places.now c.loop-number.number end))
     ∙ c.loop-number.invariant)

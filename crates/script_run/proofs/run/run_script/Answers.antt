@@ -2,7 +2,7 @@ use denote.Param.Send.{sendable}
 use Rattle.std.proofs.Common.{◌∙◌, ap, arith, map, sym}
 use Rattle.std.proofs.lemmas.Result.{err_from_is_err_and}
 use Rattle.run_sizes.proofs.of_build_law.SourceLists.{as_many_inputs}
-use Rattle.run_sizes.specs.of_build_law.Worlds.{world_of}
+use Rattle.run_sizes.specs.of_build_law.Worlds.{script_world}
 use Rattle.crew.proofs.Accounts.{all_grew_not}
 use Rattle.flume_value.specs.Bag.{bag_of}
 use Rattle.script_functions.proofs.Sharing.{functions_sync}
@@ -54,7 +54,7 @@ pub returns-in_err-done-clause-fault : goal.returns-in_err-done-clause-fault
 returns-in_err-done-clause-fault g c =
     let script = c.args.program.now.script in
     let plan = c.args.plan.now in
-    let w = world_of script c.args.inputs in
+    let w = script_world script c.args.inputs in
     let m =
     c.meaning_law.ensures.well_formed script c.args.inputs c.requires.well_formed
     c.requires.inputs in
@@ -73,7 +73,7 @@ pub returns-clause-ran : goal.returns-clause-ran
 returns-clause-ran g c =
     let script = c.args.program.now.script in
     let plan = c.args.plan.now in
-    let w = world_of script c.args.inputs in
+    let w = script_world script c.args.inputs in
     let m =
     c.meaning_law.ensures.well_formed script c.args.inputs c.requires.well_formed
     c.requires.inputs in

@@ -1,10 +1,10 @@
 use Rattle.std.proofs.Common.{◌≡◌, Some, drop, map}
-use Rattle.flume_types.specs.Columns.{joined, cells_under}
+use Rattle.flume_types.specs.Columns.{columns_and, cells_under}
 use Rattle.type_table.specs.Table.{field_at}
 use Rattle.type_table.proofs.flat.add_cells.Given as goal
 
 abbrev pub invariant-loop-part : goal.invariant-loop-part
 invariant-loop-part l =
-    joined (Some l.columns.items)
-    (cells_under l.prefix (map (field_at l.types) (drop l.part-index l.parts))) ≡ joined
+    columns_and (Some l.columns.items)
+    (cells_under l.prefix (map (field_at l.types) (drop l.part-index l.parts))) ≡ columns_and
     (Some l.initial.columns.items) (cells_under l.prefix (map (field_at l.types) l.parts))

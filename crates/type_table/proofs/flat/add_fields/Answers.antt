@@ -1,6 +1,6 @@
 use Rattle.std.proofs.Common.{◌+◌, Some, drop, map, sym, ap, ◌∙◌}
 use Rattle.flume_types.specs.declared.types.Ty.{out-Ty}
-use Rattle.flume_types.specs.Columns.{joined, field_columns, record_columns}
+use Rattle.flume_types.specs.Columns.{columns_and, field_columns, record_columns}
 use Rattle.type_table.specs.Table.{type_at, field_at}
 use Rattle.type_table.proofs.FlatLemmas.{drop-item, joined-more}
 use Rattle.type_table.proofs.flat.add_fields.Goals as goal
@@ -16,7 +16,7 @@ loop-part-preserved c =
     (field_columns part.name (out-Ty (type_at types part.ty))) rest
     c.in_ok-add_field.ensures.flat
     ∙ sym
-    (ap (λ parts. joined (Some c.loop-part.columns.items)
+    (ap (λ parts. columns_and (Some c.loop-part.columns.items)
     (record_columns (map (field_at types) parts)))
     (drop-item c.args.parts.now c.loop-part.part-index part c.loop-part-test.true
     c.part-item.is))
