@@ -7,6 +7,13 @@ use crate::objects::are_objects_ok;
 use crate::plan::Plan;
 use crate::stages::{are_made, are_stages_ok};
 
+/// Whether the plan is well-formed. It takes no memory.
+pub fn plan_ok(plan: &Plan) -> bool
+    ensures { IsTrue result ↔ IsPlanOk plan.now }
+{
+    passes(plan)
+}
+
 fn passes(plan: &Plan) -> bool
     ensures { result ≡ plan_test plan.now }
 {
@@ -15,11 +22,4 @@ fn passes(plan: &Plan) -> bool
         && are_made(plan.sources, stages, plan.outputs.as_slice())
         && stages.len() < 4294967296
         && are_objects_ok(plan.objects.as_slice(), stages)
-}
-
-/// Whether the plan is well-formed. It takes no memory.
-pub fn plan_ok(plan: &Plan) -> bool
-    ensures { IsTrue result ↔ IsPlanOk plan.now }
-{
-    passes(plan)
 }

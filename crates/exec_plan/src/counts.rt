@@ -7,6 +7,27 @@ ghost use Rattle.exec_plan.specs.inner.Counts.{branch_kept, twig_kept};
 use crate::plan::{OutChannel, Stage};
 use exec_graph::{Output, Roots, Step};
 
+/// How many outputs a forest has, or the identity.
+pub(crate) fn count_outs(does: &Option<Roots>) -> u64
+    ensures { result ≡ min (outs does.now) (2 ^ 64 - 1) }
+{
+    match does {
+        None => 1,
+        Some(roots) => count_roots(roots),
+    }
+}
+
+/// How many outputs are kept, or the greatest number where there are more.
+fn count_roots(roots: &Roots) -> u64
+    ensures { result ≡ min (kept roots.now) (2 ^ 64 - 1) }
+{
+    let mut count: u64 = 0;
+    for step in roots.steps() {
+        count = count.saturating_add(count_step(step));
+    }
+    count
+}
+
 #[cycle(count)]
 fn count_step(step: &Step) -> u64
     ensures { result ≡ min (branch_kept step.now) (2 ^ 64 - 1) }
@@ -38,27 +59,6 @@ fn count_out(number: Option<u32>) -> u64
     }
 }
 
-/// How many outputs are kept, or the greatest number where there are more.
-fn count_roots(roots: &Roots) -> u64
-    ensures { result ≡ min (kept roots.now) (2 ^ 64 - 1) }
-{
-    let mut count: u64 = 0;
-    for step in roots.steps() {
-        count = count.saturating_add(count_step(step));
-    }
-    count
-}
-
-/// How many outputs a forest has, or the identity.
-pub(crate) fn count_outs(does: &Option<Roots>) -> u64
-    ensures { result ≡ min (outs does.now) (2 ^ 64 - 1) }
-{
-    match does {
-        None => 1,
-        Some(roots) => count_roots(roots),
-    }
-}
-
 /// How many results a channel gives.
 pub(crate) fn width_of(channel: &OutChannel) -> u64
     ensures { result ≡ min (width channel.now) (2 ^ 64 - 1) }
@@ -66,6 +66,16 @@ pub(crate) fn width_of(channel: &OutChannel) -> u64
     match channel {
         OutChannel::Group(group) => count_outs(&group.does),
         OutChannel::Pass(_, _) => 1,
+    }
+}
+
+/// How many results a stage gives.
+pub(crate) fn stage_width(stage: &Stage) -> u64
+    ensures { result ≡ min (stage_width stage.now) (2 ^ 64 - 1) }
+{
+    match stage {
+        Stage::Mscr(mscr) => widths_of(mscr.outputs.as_slice()),
+        Stage::Flatten(_) | Stage::Operate(_, _, _, _) => 1,
     }
 }
 
@@ -77,14 +87,4 @@ fn widths_of(channels: &[OutChannel]) -> u64
         count = count.saturating_add(width_of(channel));
     }
     count
-}
-
-/// How many results a stage gives.
-pub(crate) fn stage_width(stage: &Stage) -> u64
-    ensures { result ≡ min (stage_width stage.now) (2 ^ 64 - 1) }
-{
-    match stage {
-        Stage::Mscr(mscr) => widths_of(mscr.outputs.as_slice()),
-        Stage::Flatten(_) | Stage::Operate(_, _, _, _) => 1,
-    }
 }

@@ -13,6 +13,22 @@ use crate::plan::{InChannel, Mscr, PlanPlace, Stage};
 /// How many input channels, and how many output channels, a stage may have.
 const MOST_CHANNELS: usize = 131072;
 
+pub(crate) fn are_made(sources: u32, before: &[Stage], places: &[PlanPlace]) -> bool
+    ensures { result ≡ list_all (made_test sources before.now) places.now }
+{
+    places.iter().all(|place| is_made(sources, before, *place))
+}
+
+/// Whether the place is a source, or a result of one of the stages before.
+fn is_made(sources: u32, before: &[Stage], place: PlanPlace) -> bool
+    ensures { result ≡ made_test sources before.now place }
+{
+    match place {
+        PlanPlace::Source(number) => number < sources,
+        PlanPlace::Result { stage, number } => u64::from(number) < results_at(before, stage),
+    }
+}
+
 /// How many results the stage of that number gives.
 fn results_at(stages: &[Stage], number: u32) -> u64
     ensures { result ≡ min (results_at stages.now number) (2 ^ 64 - 1) }
@@ -26,45 +42,26 @@ fn results_at(stages: &[Stage], number: u32) -> u64
     }
 }
 
-/// Whether the place is a source, or a result of one of the stages before.
-fn is_made(sources: u32, before: &[Stage], place: PlanPlace) -> bool
-    ensures { result ≡ made_test sources before.now place }
+/// Whether each stage is well-formed after those before it.
+pub(crate) fn are_stages_ok(sources: u32, stages: &[Stage]) -> bool
+    ensures { result ≡ stages_test sources [] stages.now }
 {
-    match place {
-        PlanPlace::Source(number) => number < sources,
-        PlanPlace::Result { stage, number } => u64::from(number) < results_at(before, stage),
+    for (i, stage) in stages.iter().enumerate() {
+        if !is_stage_ok(sources, &stages[..i], stage) {
+            return false;
+        }
     }
+    true
 }
 
-pub(crate) fn are_made(sources: u32, before: &[Stage], places: &[PlanPlace]) -> bool
-    ensures { result ≡ list_all (made_test sources before.now) places.now }
+fn is_stage_ok(sources: u32, before: &[Stage], stage: &Stage) -> bool
+    ensures { result ≡ stage_test sources before.now stage.now }
 {
-    places.iter().all(|place| is_made(sources, before, *place))
-}
-
-fn is_object_made(sources: u32, before: &[Stage], beside: Option<PlanPlace>) -> bool
-    ensures { result ≡ list_all (made_test sources before.now) (with_object beside) }
-{
-    match beside {
-        None => true,
-        Some(place) => is_made(sources, before, place),
+    match stage {
+        Stage::Mscr(mscr) => is_mscr_ok(sources, before, mscr),
+        Stage::Flatten(takes) => are_made(sources, before, takes.as_slice()),
+        Stage::Operate(takes, _, _, _) => are_made(sources, before, takes.as_slice()),
     }
-}
-
-fn is_in_ok(sources: u32, before: &[Stage], channel: &InChannel) -> bool
-    ensures { result ≡ in_test sources before.now channel.now }
-{
-    is_made(sources, before, channel.reads)
-        && is_object_made(sources, before, channel.beside)
-        && is_numbered(&channel.does)
-}
-
-fn are_ins_ok(sources: u32, before: &[Stage], inputs: &[InChannel]) -> bool
-    ensures { result ≡ list_all (in_test sources before.now) inputs.now }
-{
-    inputs
-        .iter()
-        .all(|channel| is_in_ok(sources, before, channel))
 }
 
 fn is_mscr_ok(sources: u32, before: &[Stage], mscr: &Mscr) -> bool
@@ -79,24 +76,27 @@ fn is_mscr_ok(sources: u32, before: &[Stage], mscr: &Mscr) -> bool
         && are_outs_ok(inputs, outputs)
 }
 
-fn is_stage_ok(sources: u32, before: &[Stage], stage: &Stage) -> bool
-    ensures { result ≡ stage_test sources before.now stage.now }
+fn are_ins_ok(sources: u32, before: &[Stage], inputs: &[InChannel]) -> bool
+    ensures { result ≡ list_all (in_test sources before.now) inputs.now }
 {
-    match stage {
-        Stage::Mscr(mscr) => is_mscr_ok(sources, before, mscr),
-        Stage::Flatten(takes) => are_made(sources, before, takes.as_slice()),
-        Stage::Operate(takes, _, _, _) => are_made(sources, before, takes.as_slice()),
-    }
+    inputs
+        .iter()
+        .all(|channel| is_in_ok(sources, before, channel))
 }
 
-/// Whether each stage is well-formed after those before it.
-pub(crate) fn are_stages_ok(sources: u32, stages: &[Stage]) -> bool
-    ensures { result ≡ stages_test sources [] stages.now }
+fn is_in_ok(sources: u32, before: &[Stage], channel: &InChannel) -> bool
+    ensures { result ≡ in_test sources before.now channel.now }
 {
-    for (i, stage) in stages.iter().enumerate() {
-        if !is_stage_ok(sources, &stages[..i], stage) {
-            return false;
-        }
+    is_made(sources, before, channel.reads)
+        && is_object_made(sources, before, channel.beside)
+        && is_numbered(&channel.does)
+}
+
+fn is_object_made(sources: u32, before: &[Stage], beside: Option<PlanPlace>) -> bool
+    ensures { result ≡ list_all (made_test sources before.now) (with_object beside) }
+{
+    match beside {
+        None => true,
+        Some(place) => is_made(sources, before, place),
     }
-    true
 }

@@ -19,35 +19,6 @@ use flume_grammar::{ScriptFault, ScriptKind, Side, Unary};
 use type_table::{Shape, TypeId, Types};
 use written_types::{refused, shallow};
 
-// The type that the shape stands for, where the test holds.
-fn where_true(line: u32, test: bool, shape: Shape, scope: &mut Scope) -> Result<TypeId, ScriptFault>
-    requires { IsWithin (length scope.old.types) shape }
-    ensures gives { Gives (type_at scope.new.types) result
-        (or_fault line Mistyped (spec.where_true test (tree_of scope.old.types shape))) }
-    ensures within { IfOk result (λ id. id < length scope.new.types) }
-    ensures extends { Extends scope.old.types scope.new.types }
-    ensures sight { scope.new.sight ≡ scope.old.sight }
-{
-    if test {
-        Ok(scope.intern(shape)?)
-    } else {
-        Err(refused(line, ScriptKind::Mistyped))
-    }
-}
-
-// The type itself, where the test holds.
-fn itself(line: u32, test: bool, id: TypeId) -> Result<TypeId, ScriptFault>
-    ensures gives { (types : List Ty) → Gives (type_at types) result
-        (or_fault line Mistyped (spec.where_true test (type_at types id))) }
-    ensures same { IfOk result (λ itself. itself ≡ id) }
-{
-    if test {
-        Ok(id)
-    } else {
-        Err(refused(line, ScriptKind::Mistyped))
-    }
-}
-
 /// The type of what an operation gives of one operand.
 pub fn unary_type(
     line: u32,
@@ -69,6 +40,22 @@ pub fn unary_type(
         Unary::Words => words_type(line, id, scope),
         Unary::Text => where_true(line, is_int(scope.types(), id), Shape::Text, scope),
         Unary::Number => where_true(line, is_text(scope.types(), id), Shape::Int, scope),
+    }
+}
+
+// The type that the shape stands for, where the test holds.
+fn where_true(line: u32, test: bool, shape: Shape, scope: &mut Scope) -> Result<TypeId, ScriptFault>
+    requires { IsWithin (length scope.old.types) shape }
+    ensures gives { Gives (type_at scope.new.types) result
+        (or_fault line Mistyped (spec.where_true test (tree_of scope.old.types shape))) }
+    ensures within { IfOk result (λ id. id < length scope.new.types) }
+    ensures extends { Extends scope.old.types scope.new.types }
+    ensures sight { scope.new.sight ≡ scope.old.sight }
+{
+    if test {
+        Ok(scope.intern(shape)?)
+    } else {
+        Err(refused(line, ScriptKind::Mistyped))
     }
 }
 
@@ -163,6 +150,19 @@ fn joined(line: u32, left: TypeId, right: TypeId, types: &Types) -> Result<TypeI
 {
     let test = types.same(left, right) && is_long(types, left);
     itself(line, test, left)
+}
+
+// The type itself, where the test holds.
+fn itself(line: u32, test: bool, id: TypeId) -> Result<TypeId, ScriptFault>
+    ensures gives { (types : List Ty) → Gives (type_at types) result
+        (or_fault line Mistyped (spec.where_true test (type_at types id))) }
+    ensures same { IfOk result (λ itself. itself ≡ id) }
+{
+    if test {
+        Ok(id)
+    } else {
+        Err(refused(line, ScriptKind::Mistyped))
+    }
 }
 
 /// The type of a list's member at an index.

@@ -22,19 +22,6 @@ use flume_tokens::Sign;
 use flume_value::{Pile, Str};
 use std::alloc::{AllocError, Global};
 
-/// The parentheses that open here are passed, and counted.
-fn opened(tokens: &mut Cursor) -> Result<usize, Stop>
-    ensures ok { IfOk result (λ n. spec.Opens the_limits n tokens.old tokens.new) }
-    ensures err { IfErr result (λ e. e ≡ Stop.Memory) }
-    ensures shorter { OnOk result (length tokens.new ≤ length tokens.old) }
-{
-    let before = tokens.len();
-    'open: while tokens.is_at_sign(Sign::Open) {
-        sign(tokens, Sign::Open)?;
-    }
-    Ok(before - tokens.len())
-}
-
 /// The expression that begins with this in parentheses that have opened.
 #[cycle(expressions)]
 fn enclosed(alloc: Global, tokens: &mut Cursor, limit: u32, first: SoFar) -> Result<SoFar, Stop>
@@ -78,14 +65,6 @@ fn bare(alloc: Global, tokens: &mut Cursor, limit: u32, least: u32) -> Result<So
     after_start(alloc, tokens, limit, start)
 }
 
-fn next_start(tokens: &mut Cursor, limit: u32, least: u32) -> Result<Start, Stop>
-    ensures { ReadsSuch (λ s. spec.HasRoom s limit) (one (spec.operand_start limit least))
-        tokens.old tokens.new result }
-{
-    let token = tokens.token()?;
-    operand_start(token, limit, least)
-}
-
 /// The operand that begins so.
 #[cycle(expressions)]
 fn after_start(alloc: Global, tokens: &mut Cursor, limit: u32, start: Start) -> Result<SoFar, Stop>
@@ -123,20 +102,6 @@ fn field(
     let name = field_name(alloc, tokens)?;
     let (value, depth) = expression(alloc, tokens, limit - 1, ANY)?;
     Ok(with_value(fields, name, value, depth)?)
-}
-
-/// The fields with one more.
-fn with_value(
-    fields: Parts<Expr>,
-    name: Str,
-    value: Expr,
-    depth: u32,
-) -> Result<Parts<Expr>, AllocError>
-    ensures { IfOk result (λ p. p ≡ with_part fields name value depth) }
-{
-    let mut fields = fields;
-    fields.put(name, value, depth)?;
-    Ok(fields)
 }
 
 /// A comma and one more field.
@@ -210,19 +175,6 @@ fn next_member(
     Ok(with_member(members, member, depth)?)
 }
 
-/// The members with one more, and the depth of the deepest.
-fn with_member(
-    members: (Pile<Expr>, u32),
-    member: Expr,
-    depth: u32,
-) -> Result<(Pile<Expr>, u32), AllocError>
-    ensures { IfOk result (λ m. (m.0 ≡ members.0 ++ member ∷ []) × (m.1 ≡ max members.1 depth)) }
-{
-    let (mut exprs, deepest) = members;
-    exprs.push(member)?;
-    Ok((exprs, deepest.max(depth)))
-}
-
 /// The members after the first, and the depth of the deepest.
 #[cycle(expressions)]
 fn more_members(
@@ -244,15 +196,6 @@ fn more_members(
     Ok(members)
 }
 
-/// A list of this member alone.
-fn alone(alloc: Global, member: Expr) -> Result<Pile<Expr>, AllocError>
-    ensures { IfOk result (λ es. es ≡ member ∷ []) }
-{
-    let mut members = Pile::new(alloc);
-    members.push(member)?;
-    Ok(members)
-}
-
 #[cycle(expressions)]
 fn list(alloc: Global, tokens: &mut Cursor, limit: u32) -> Result<SoFar, Stop>
     requires { 2 ≤ limit }
@@ -263,16 +206,6 @@ fn list(alloc: Global, tokens: &mut Cursor, limit: u32) -> Result<SoFar, Stop>
     let first = alone(alloc, first)?;
     let members = more_members(alloc, tokens, limit, (first, depth))?;
     listed(tokens, members)
-}
-
-/// The rank of an operator before its operand, and of the operand.
-fn prefix_rank(unary: Unary) -> u32
-    ensures { result ≡ spec.prefix_rank unary }
-{
-    match unary {
-        Unary::Not => NOT,
-        _ => NEGATION,
-    }
 }
 
 #[cycle(expressions)]
@@ -288,4 +221,71 @@ fn prefix(alloc: Global, tokens: &mut Cursor, limit: u32, unary: Unary) -> Resul
         expr: Expr::Unary(unary, expr),
         depth: depth + 1,
     })
+}
+
+/// The parentheses that open here are passed, and counted.
+fn opened(tokens: &mut Cursor) -> Result<usize, Stop>
+    ensures ok { IfOk result (λ n. spec.Opens the_limits n tokens.old tokens.new) }
+    ensures err { IfErr result (λ e. e ≡ Stop.Memory) }
+    ensures shorter { OnOk result (length tokens.new ≤ length tokens.old) }
+{
+    let before = tokens.len();
+    'open: while tokens.is_at_sign(Sign::Open) {
+        sign(tokens, Sign::Open)?;
+    }
+    Ok(before - tokens.len())
+}
+
+fn next_start(tokens: &mut Cursor, limit: u32, least: u32) -> Result<Start, Stop>
+    ensures { ReadsSuch (λ s. spec.HasRoom s limit) (one (spec.operand_start limit least))
+        tokens.old tokens.new result }
+{
+    let token = tokens.token()?;
+    operand_start(token, limit, least)
+}
+
+/// The fields with one more.
+fn with_value(
+    fields: Parts<Expr>,
+    name: Str,
+    value: Expr,
+    depth: u32,
+) -> Result<Parts<Expr>, AllocError>
+    ensures { IfOk result (λ p. p ≡ with_part fields name value depth) }
+{
+    let mut fields = fields;
+    fields.put(name, value, depth)?;
+    Ok(fields)
+}
+
+/// The members with one more, and the depth of the deepest.
+fn with_member(
+    members: (Pile<Expr>, u32),
+    member: Expr,
+    depth: u32,
+) -> Result<(Pile<Expr>, u32), AllocError>
+    ensures { IfOk result (λ m. (m.0 ≡ members.0 ++ member ∷ []) × (m.1 ≡ max members.1 depth)) }
+{
+    let (mut exprs, deepest) = members;
+    exprs.push(member)?;
+    Ok((exprs, deepest.max(depth)))
+}
+
+/// A list of this member alone.
+fn alone(alloc: Global, member: Expr) -> Result<Pile<Expr>, AllocError>
+    ensures { IfOk result (λ es. es ≡ member ∷ []) }
+{
+    let mut members = Pile::new(alloc);
+    members.push(member)?;
+    Ok(members)
+}
+
+/// The rank of an operator before its operand, and of the operand.
+fn prefix_rank(unary: Unary) -> u32
+    ensures { result ≡ spec.prefix_rank unary }
+{
+    match unary {
+        Unary::Not => NOT,
+        _ => NEGATION,
+    }
 }

@@ -9,6 +9,30 @@ use flume_grammar::{Expr, ScriptKind, Side, Stop, Unary};
 use flume_reading::reading::at;
 use flume_tokens::{Keyword, Sign, Token, TokenKind};
 
+/// An operand of at most that depth begins, other than by a parenthesis.
+pub fn operand_start(token: Token, limit: u32, least: u32) -> Result<Start, Stop>
+    ensures value { result ≡ spec.operand_start limit least token }
+    ensures deep { IfOk result (λ s. spec.HasRoom s limit) }
+{
+    let Token { kind, line } = token;
+    match start_of(kind) {
+        Some(start) => started(start, line, limit, least),
+        None => Err(at(line, ScriptKind::Syntax)),
+    }
+}
+
+fn start_of(kind: TokenKind) -> Option<Start>
+    ensures { result ≡ spec.start_of kind }
+{
+    match kind {
+        TokenKind::Name(name) => Some(Start::Leaf(Expr::Name(name))),
+        TokenKind::Number(digits) => Some(Start::Leaf(Expr::Number(digits))),
+        TokenKind::Text(text) => Some(Start::Leaf(Expr::Text(text))),
+        TokenKind::Keyword(keyword) => keyword_start(keyword),
+        TokenKind::Sign(sign) => sign_start(sign),
+    }
+}
+
 /// What a keyword begins.
 fn keyword_start(keyword: Keyword) -> Option<Start>
     ensures { result ≡ spec.keyword_start keyword }
@@ -42,15 +66,18 @@ fn sign_start(sign: Sign) -> Option<Start>
     }
 }
 
-fn start_of(kind: TokenKind) -> Option<Start>
-    ensures { result ≡ spec.start_of kind }
+fn started(start: Start, line: u32, limit: u32, least: u32) -> Result<Start, Stop>
+    ensures value { (t : Token) → t.line ≡ line → result ≡ spec.started limit least t (Some start) }
+    ensures deep { IfOk result (λ s. spec.HasRoom s limit) }
 {
-    match kind {
-        TokenKind::Name(name) => Some(Start::Leaf(Expr::Name(name))),
-        TokenKind::Number(digits) => Some(Start::Leaf(Expr::Number(digits))),
-        TokenKind::Text(text) => Some(Start::Leaf(Expr::Text(text))),
-        TokenKind::Keyword(keyword) => keyword_start(keyword),
-        TokenKind::Sign(sign) => sign_start(sign),
+    if !fits(&start, least) {
+        drop(start);
+        Err(at(line, ScriptKind::Syntax))
+    } else if limit > 1 || is_leaf(&start) {
+        Ok(start)
+    } else {
+        drop(start);
+        Err(at(line, ScriptKind::TooDeep))
     }
 }
 
@@ -70,32 +97,5 @@ fn is_leaf(start: &Start) -> bool
     match start {
         Start::Leaf(_) | Start::Empty => true,
         _ => false,
-    }
-}
-
-/// An operand of at most that depth begins, other than by a parenthesis.
-pub fn operand_start(token: Token, limit: u32, least: u32) -> Result<Start, Stop>
-    ensures value { result ≡ spec.operand_start limit least token }
-    ensures deep { IfOk result (λ s. spec.HasRoom s limit) }
-{
-    let Token { kind, line } = token;
-    match start_of(kind) {
-        Some(start) => started(start, line, limit, least),
-        None => Err(at(line, ScriptKind::Syntax)),
-    }
-}
-
-fn started(start: Start, line: u32, limit: u32, least: u32) -> Result<Start, Stop>
-    ensures value { (t : Token) → t.line ≡ line → result ≡ spec.started limit least t (Some start) }
-    ensures deep { IfOk result (λ s. spec.HasRoom s limit) }
-{
-    if !fits(&start, least) {
-        drop(start);
-        Err(at(line, ScriptKind::Syntax))
-    } else if limit > 1 || is_leaf(&start) {
-        Ok(start)
-    } else {
-        drop(start);
-        Err(at(line, ScriptKind::TooDeep))
     }
 }

@@ -16,42 +16,6 @@ use flume_tokens::{Keyword, Sign, Token, TokenKind};
 use flume_value::Held;
 use std::alloc::Global;
 
-/// A type begins, of at most that depth.
-fn type_start(token: Token, limit: u32) -> Result<TypeStart, Stop>
-    ensures value { result ≡ spec.type_start limit token }
-    ensures deep { IfOk result (λ s. spec.HasRoom s limit) }
-{
-    let Token { kind, line } = token;
-    let start = match kind {
-        TokenKind::Name(name) => TypeStart::Leaf(Type::Named(name)),
-        TokenKind::Keyword(keyword) => return keyword_type(keyword, line, limit),
-        TokenKind::Sign(Sign::OpenBrace) if limit > 1 => TypeStart::Record,
-        TokenKind::Sign(Sign::OpenBrace) => return Err(at(line, ScriptKind::TooDeep)),
-        _ => return Err(at(line, ScriptKind::Syntax)),
-    };
-    Ok(start)
-}
-
-fn keyword_type(keyword: Keyword, line: u32, limit: u32) -> Result<TypeStart, Stop>
-    ensures value { (t : Token) → t.line ≡ line → result ≡ spec.keyword_type keyword limit t }
-    ensures deep { IfOk result (λ s. spec.HasRoom s limit) }
-{
-    let start = match keyword {
-        Keyword::Int => return Ok(TypeStart::Leaf(Type::Int)),
-        Keyword::Bool => return Ok(TypeStart::Leaf(Type::Bool)),
-        Keyword::Text => return Ok(TypeStart::Leaf(Type::Text)),
-        Keyword::List => TypeStart::List,
-        Keyword::Either => TypeStart::Either,
-        Keyword::Table => TypeStart::Table,
-        _ => return Err(at(line, ScriptKind::Syntax)),
-    };
-    if limit > 1 {
-        Ok(start)
-    } else {
-        Err(at(line, ScriptKind::TooDeep))
-    }
-}
-
 /// A type, which may have the depth that is allowed.
 pub fn whole_type(alloc: Global, tokens: &mut Cursor) -> Result<Type, Stop>
     ensures { Reads (spec.whole_type the_limits) tokens.old tokens.new result }
@@ -70,14 +34,6 @@ fn type_of(alloc: Global, tokens: &mut Cursor, limit: u32) -> Result<(Type, u32)
 {
     let start = next_start(tokens, limit)?;
     after_start(alloc, tokens, limit, start)
-}
-
-fn next_start(tokens: &mut Cursor, limit: u32) -> Result<TypeStart, Stop>
-    ensures { ReadsSuch (λ s. spec.HasRoom s limit) (one (spec.type_start limit))
-        tokens.old tokens.new result }
-{
-    let token = tokens.token()?;
-    type_start(token, limit)
 }
 
 /// The type that begins so.
@@ -212,4 +168,48 @@ fn record_type(alloc: Global, tokens: &mut Cursor, limit: u32) -> Result<(Type, 
     sign(tokens, Sign::CloseBrace)?;
     let (names, types, depth) = fields.into_parts();
     Ok((Type::Record(names, types), depth + 1))
+}
+
+fn next_start(tokens: &mut Cursor, limit: u32) -> Result<TypeStart, Stop>
+    ensures { ReadsSuch (λ s. spec.HasRoom s limit) (one (spec.type_start limit))
+        tokens.old tokens.new result }
+{
+    let token = tokens.token()?;
+    type_start(token, limit)
+}
+
+/// A type begins, of at most that depth.
+fn type_start(token: Token, limit: u32) -> Result<TypeStart, Stop>
+    ensures value { result ≡ spec.type_start limit token }
+    ensures deep { IfOk result (λ s. spec.HasRoom s limit) }
+{
+    let Token { kind, line } = token;
+    let start = match kind {
+        TokenKind::Name(name) => TypeStart::Leaf(Type::Named(name)),
+        TokenKind::Keyword(keyword) => return keyword_type(keyword, line, limit),
+        TokenKind::Sign(Sign::OpenBrace) if limit > 1 => TypeStart::Record,
+        TokenKind::Sign(Sign::OpenBrace) => return Err(at(line, ScriptKind::TooDeep)),
+        _ => return Err(at(line, ScriptKind::Syntax)),
+    };
+    Ok(start)
+}
+
+fn keyword_type(keyword: Keyword, line: u32, limit: u32) -> Result<TypeStart, Stop>
+    ensures value { (t : Token) → t.line ≡ line → result ≡ spec.keyword_type keyword limit t }
+    ensures deep { IfOk result (λ s. spec.HasRoom s limit) }
+{
+    let start = match keyword {
+        Keyword::Int => return Ok(TypeStart::Leaf(Type::Int)),
+        Keyword::Bool => return Ok(TypeStart::Leaf(Type::Bool)),
+        Keyword::Text => return Ok(TypeStart::Leaf(Type::Text)),
+        Keyword::List => TypeStart::List,
+        Keyword::Either => TypeStart::Either,
+        Keyword::Table => TypeStart::Table,
+        _ => return Err(at(line, ScriptKind::Syntax)),
+    };
+    if limit > 1 {
+        Ok(start)
+    } else {
+        Err(at(line, ScriptKind::TooDeep))
+    }
 }

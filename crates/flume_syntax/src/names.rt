@@ -11,15 +11,14 @@ use flume_tokens::Sign;
 use flume_value::{Pile, Str};
 use std::alloc::Global;
 
-/// A comma and one more name.
-fn next_name(tokens: &mut Cursor, names: Pile<Str>) -> Result<Pile<Str>, Stop>
-    ensures { Reads (spec.next_name names) tokens.old tokens.new result }
+/// One name or more.
+pub fn names(alloc: Global, tokens: &mut Cursor) -> Result<Pile<Str>, Stop>
+    ensures { Reads spec.names tokens.old tokens.new result }
 {
-    sign(tokens, Sign::Comma)?;
-    let next = name(tokens)?;
-    let mut names = names;
-    names.push(next)?;
-    Ok(names)
+    let first = name(tokens)?;
+    let mut names = Pile::new(alloc);
+    names.push(first)?;
+    more_names(tokens, names)
 }
 
 /// The names after the first.
@@ -33,12 +32,13 @@ fn more_names(tokens: &mut Cursor, first: Pile<Str>) -> Result<Pile<Str>, Stop>
     Ok(names)
 }
 
-/// One name or more.
-pub fn names(alloc: Global, tokens: &mut Cursor) -> Result<Pile<Str>, Stop>
-    ensures { Reads spec.names tokens.old tokens.new result }
+/// A comma and one more name.
+fn next_name(tokens: &mut Cursor, names: Pile<Str>) -> Result<Pile<Str>, Stop>
+    ensures { Reads (spec.next_name names) tokens.old tokens.new result }
 {
-    let first = name(tokens)?;
-    let mut names = Pile::new(alloc);
-    names.push(first)?;
-    more_names(tokens, names)
+    sign(tokens, Sign::Comma)?;
+    let next = name(tokens)?;
+    let mut names = names;
+    names.push(next)?;
+    Ok(names)
 }

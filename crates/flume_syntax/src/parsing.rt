@@ -13,59 +13,6 @@ use flume_reading::Cursor;
 use flume_tokens::{Refusal, TokenFault, TokenList, tokens};
 use std::alloc::Global;
 
-fn refusal(kind: Refusal) -> ScriptKind
-    ensures { result ≡ spec.kind_of kind }
-{
-    match kind {
-        Refusal::TooLong => ScriptKind::TooLong,
-        Refusal::Utf8 => ScriptKind::Utf8,
-        Refusal::Token => ScriptKind::Token,
-    }
-}
-
-fn token_fault(fault: TokenFault) -> ScriptFault
-    ensures { result ≡ spec.token_fault fault }
-{
-    match fault {
-        TokenFault::Refused { line, kind } => ScriptFault::Refused {
-            line,
-            kind: refusal(kind),
-        },
-        TokenFault::Memory => ScriptFault::Memory,
-    }
-}
-
-fn stopped(stop: Stop, last_line: u32) -> ScriptFault
-    ensures { result ≡ inner.stopped last_line stop }
-{
-    match stop {
-        Stop::Fault {
-            line: Some(line),
-            kind,
-        } => ScriptFault::Refused { line, kind },
-        Stop::Fault { line: None, kind } => ScriptFault::Refused {
-            line: last_line,
-            kind,
-        },
-        Stop::Memory => ScriptFault::Memory,
-    }
-}
-
-/// The tree of some tokens.
-fn tree(alloc: Global, list: TokenList) -> Result<Ast, ScriptFault>
-    ensures ok { IfOk result (λ ast. inner.tree_of list.last_line (script_at the_limits list.items)
-        ≡ Ok ast) }
-    ensures err { IfErr result (λ e. e ≢ ScriptFault.Memory
-        → inner.tree_of list.last_line (script_at the_limits list.items) ≡ Err e) }
-{
-    let TokenList { items, last_line } = list;
-    let mut left = Cursor::new(items);
-    match script(alloc, &mut left) {
-        Ok(statements) => Ok(Ast { statements }),
-        Err(stop) => Err(stopped(stop, last_line)),
-    }
-}
-
 /// The tree of a script, or its first fault: what `tokens` refuses; else Syntax, TooDeep or TooMany
 /// at the first token, or at the end, where no script within the limits goes on.
 pub fn parse(alloc: Global, bytes: &[u8]) -> Result<Ast, ScriptFault>
@@ -89,5 +36,58 @@ fn parsed(alloc: Global, bytes: &[u8]) -> Result<Ast, ScriptFault>
     match tokens(alloc, bytes) {
         Ok(list) => tree(alloc, list),
         Err(fault) => Err(token_fault(fault)),
+    }
+}
+
+/// The tree of some tokens.
+fn tree(alloc: Global, list: TokenList) -> Result<Ast, ScriptFault>
+    ensures ok { IfOk result (λ ast. inner.tree_of list.last_line (script_at the_limits list.items)
+        ≡ Ok ast) }
+    ensures err { IfErr result (λ e. e ≢ ScriptFault.Memory
+        → inner.tree_of list.last_line (script_at the_limits list.items) ≡ Err e) }
+{
+    let TokenList { items, last_line } = list;
+    let mut left = Cursor::new(items);
+    match script(alloc, &mut left) {
+        Ok(statements) => Ok(Ast { statements }),
+        Err(stop) => Err(stopped(stop, last_line)),
+    }
+}
+
+fn stopped(stop: Stop, last_line: u32) -> ScriptFault
+    ensures { result ≡ inner.stopped last_line stop }
+{
+    match stop {
+        Stop::Fault {
+            line: Some(line),
+            kind,
+        } => ScriptFault::Refused { line, kind },
+        Stop::Fault { line: None, kind } => ScriptFault::Refused {
+            line: last_line,
+            kind,
+        },
+        Stop::Memory => ScriptFault::Memory,
+    }
+}
+
+fn token_fault(fault: TokenFault) -> ScriptFault
+    ensures { result ≡ spec.token_fault fault }
+{
+    match fault {
+        TokenFault::Refused { line, kind } => ScriptFault::Refused {
+            line,
+            kind: refusal(kind),
+        },
+        TokenFault::Memory => ScriptFault::Memory,
+    }
+}
+
+fn refusal(kind: Refusal) -> ScriptKind
+    ensures { result ≡ spec.kind_of kind }
+{
+    match kind {
+        Refusal::TooLong => ScriptKind::TooLong,
+        Refusal::Utf8 => ScriptKind::Utf8,
+        Refusal::Token => ScriptKind::Token,
     }
 }

@@ -37,13 +37,22 @@ enum Class {
     Comment,
 }
 
-fn is_in(class: Class, b: u8) -> bool
-    ensures { result ≡ spec.is_in class b }
+/// What the bytes, at least one, begin with.
+#[tactic(auto, unfolding(crate::specs::Pieces::piece_of))]
+pub fn piece_of(alloc: Global, bytes: &[u8]) -> Result<Piece, AllocError>
+    requires { 0 < length bytes.now }
+    ensures value { IfOk result (λ p. p ≡ spec.piece_of bytes.now) }
+    ensures within { IfOk result (λ p. spec.IsWithin p (length bytes.now)) }
 {
-    match class {
-        Class::Word => b.is_ascii_alphanumeric() || b == b'_',
-        Class::Digit => b.is_ascii_digit(),
-        Class::Comment => b != b'\n',
+    let first = bytes[0];
+    match first {
+        b'\n' => Ok(Piece::LineEnd),
+        b' ' | b'\t' | b'\r' => Ok(Piece::Gap(1)),
+        b'#' => Ok(Piece::Gap(run_of(Class::Comment, bytes))),
+        b'"' => text(alloc, bytes),
+        b if b.is_ascii_alphabetic() => word(alloc, bytes),
+        b if b.is_ascii_digit() => number(alloc, bytes),
+        _ => Ok(sign(bytes)),
     }
 }
 
@@ -59,6 +68,27 @@ fn run_of(class: Class, bytes: &[u8]) -> usize
         end += 1;
     }
     end
+}
+
+fn is_in(class: Class, b: u8) -> bool
+    ensures { result ≡ spec.is_in class b }
+{
+    match class {
+        Class::Word => b.is_ascii_alphanumeric() || b == b'_',
+        Class::Digit => b.is_ascii_digit(),
+        Class::Comment => b != b'\n',
+    }
+}
+
+fn text(alloc: Global, bytes: &[u8]) -> Result<Piece, AllocError>
+    requires { 0 < length bytes.now }
+    ensures value { IfOk result (λ p. p ≡ spec.text bytes.now) }
+    ensures within { IfOk result (λ p. spec.IsWithin p (length bytes.now)) }
+{
+    match closed_text(alloc, &bytes[1..])? {
+        Some((content, taken)) => Ok(Piece::Token(TokenKind::Text(content), taken + 1)),
+        None => Ok(Piece::Fault(Refusal::Token)),
+    }
 }
 
 fn word(alloc: Global, bytes: &[u8]) -> Result<Piece, AllocError>
@@ -89,17 +119,6 @@ fn number(alloc: Global, bytes: &[u8]) -> Result<Piece, AllocError>
     ))
 }
 
-fn text(alloc: Global, bytes: &[u8]) -> Result<Piece, AllocError>
-    requires { 0 < length bytes.now }
-    ensures value { IfOk result (λ p. p ≡ spec.text bytes.now) }
-    ensures within { IfOk result (λ p. spec.IsWithin p (length bytes.now)) }
-{
-    match closed_text(alloc, &bytes[1..])? {
-        Some((content, taken)) => Ok(Piece::Token(TokenKind::Text(content), taken + 1)),
-        None => Ok(Piece::Fault(Refusal::Token)),
-    }
-}
-
 fn sign(bytes: &[u8]) -> Piece
     ensures value { result ≡ spec.sign bytes.now }
     ensures within { spec.IsWithin result (length bytes.now) }
@@ -107,24 +126,5 @@ fn sign(bytes: &[u8]) -> Piece
     match sign_of(bytes) {
         Some(sign) => Piece::Token(TokenKind::Sign(sign), sign.spelling().len()),
         None => Piece::Fault(Refusal::Token),
-    }
-}
-
-/// What the bytes, at least one, begin with.
-#[tactic(auto, unfolding(crate::specs::Pieces::piece_of))]
-pub fn piece_of(alloc: Global, bytes: &[u8]) -> Result<Piece, AllocError>
-    requires { 0 < length bytes.now }
-    ensures value { IfOk result (λ p. p ≡ spec.piece_of bytes.now) }
-    ensures within { IfOk result (λ p. spec.IsWithin p (length bytes.now)) }
-{
-    let first = bytes[0];
-    match first {
-        b'\n' => Ok(Piece::LineEnd),
-        b' ' | b'\t' | b'\r' => Ok(Piece::Gap(1)),
-        b'#' => Ok(Piece::Gap(run_of(Class::Comment, bytes))),
-        b'"' => text(alloc, bytes),
-        b if b.is_ascii_alphabetic() => word(alloc, bytes),
-        b if b.is_ascii_digit() => number(alloc, bytes),
-        _ => Ok(sign(bytes)),
     }
 }

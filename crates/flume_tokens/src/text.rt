@@ -5,19 +5,6 @@ ghost use Rattle.flume_tokens.specs.Texts as spec;
 use flume_value::Str;
 use std::alloc::{AllocError, Global};
 
-/// The byte that stands for a backslash and this byte.
-fn escaped(b: u8) -> Option<u8>
-    ensures { result ≡ spec.escaped b }
-{
-    match b {
-        b'n' => Some(b'\n'),
-        b't' => Some(b'\t'),
-        b'\\' => Some(b'\\'),
-        b'"' => Some(b'"'),
-        _ => None,
-    }
-}
-
 /// The content of a text whose opening quote is read, and how many bytes are taken with its closing
 /// quote; None where it is not closed on its line.
 pub fn closed_text(alloc: Global, bytes: &[u8]) -> Result<Option<(Str, usize)>, AllocError>
@@ -44,4 +31,17 @@ pub fn closed_text(alloc: Global, bytes: &[u8]) -> Result<Option<(Str, usize)>, 
         }
     }
     Ok(None)
+}
+
+/// The byte that stands for a backslash and this byte.
+fn escaped(b: u8) -> Option<u8>
+    ensures { result ≡ spec.escaped b }
+{
+    match b {
+        b'n' => Some(b'\n'),
+        b't' => Some(b'\t'),
+        b'\\' => Some(b'\\'),
+        b'"' => Some(b'"'),
+        _ => None,
+    }
 }

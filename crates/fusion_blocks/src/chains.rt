@@ -21,23 +21,6 @@ pub(crate) enum Stretch {
     Least(Place),
 }
 
-/// What is known of the chain to an output of a Pdo, by that to what the Pdo reads.
-fn longer(estimates: &HashMap<u32, u64>, before: Stretch, c: Place) -> Stretch
-    ensures { result ≡ longer (known estimates.now) before c }
-{
-    match before {
-        Stretch::Open => Stretch::Open,
-        Stretch::Empty => Stretch::Least(c),
-        Stretch::Least(d) => {
-            if known(estimates, c.node) < known(estimates, d.node) {
-                Stretch::Least(c)
-            } else {
-                Stretch::Least(d)
-            }
-        }
-    }
-}
-
 /// What is known of the chain to a collection.
 #[cycle(walk)]
 pub(crate) fn stretch_to(
@@ -104,6 +87,23 @@ fn stretch_before(
             let stretch = stretch_to(nodes, index, estimates, turns, input, before)?;
             before.insert(number, stretch)?;
             Ok(stretch)
+        }
+    }
+}
+
+/// What is known of the chain to an output of a Pdo, by that to what the Pdo reads.
+fn longer(estimates: &HashMap<u32, u64>, before: Stretch, c: Place) -> Stretch
+    ensures { result ≡ longer (known estimates.now) before c }
+{
+    match before {
+        Stretch::Open => Stretch::Open,
+        Stretch::Empty => Stretch::Least(c),
+        Stretch::Least(d) => {
+            if known(estimates, c.node) < known(estimates, d.node) {
+                Stretch::Least(c)
+            } else {
+                Stretch::Least(d)
+            }
         }
     }
 }

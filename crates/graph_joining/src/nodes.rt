@@ -14,6 +14,24 @@ use exec_graph::{Entry, Node, Place, Roots, Step};
 use std::alloc::Global;
 use std::mem;
 
+/// Nodes, and the steps of the Pdo that one of them was, or none.
+#[derive(Drop)]
+pub(crate) struct Opened {
+    pub(crate) nodes: Vec<Entry>,
+    pub(crate) steps: Vec<Step>,
+}
+
+/// The node of that number, if there is one.
+pub fn find_node(nodes: &[Entry], number: u32) -> Option<&Node>
+    ensures { MatchOption result (node_at nodes.now number ≡ None)
+        (λ x. node_at nodes.now number ≡ Some x.now) }
+{
+    match index_of(nodes, number) {
+        Some(i) => Some(&nodes[i].node),
+        None => None,
+    }
+}
+
 /// Where the node of that number stands, if there is one.
 fn index_of(nodes: &[Entry], number: u32) -> Option<usize>
     ensures place { result ≡ index_at nodes.now number }
@@ -27,17 +45,6 @@ fn index_of(nodes: &[Entry], number: u32) -> Option<usize>
         at += 1;
     }
     None
-}
-
-/// The node of that number, if there is one.
-pub fn find_node(nodes: &[Entry], number: u32) -> Option<&Node>
-    ensures { MatchOption result (node_at nodes.now number ≡ None)
-        (λ x. node_at nodes.now number ≡ Some x.now) }
-{
-    match index_of(nodes, number) {
-        Some(i) => Some(&nodes[i].node),
-        None => None,
-    }
 }
 
 /// What the Pdo of that number reads.
@@ -69,13 +76,6 @@ fn with_entry(nodes: Vec<Entry>, at: usize, entry: Entry) -> Vec<Entry>
     nodes
 }
 
-/// Nodes, and the steps of the Pdo that one of them was, or none.
-#[derive(Drop)]
-pub(crate) struct Opened {
-    pub(crate) nodes: Vec<Entry>,
-    pub(crate) steps: Vec<Step>,
-}
-
 /// The nodes without the one of that number.
 pub(crate) fn taken_out(alloc: Global, nodes: Vec<Entry>, number: u32) -> Opened
     ensures nodes { result.nodes.items ≡ without nodes.items number }
@@ -87,31 +87,6 @@ pub(crate) fn taken_out(alloc: Global, nodes: Vec<Entry>, number: u32) -> Opened
     }
 }
 
-/// The nodes with a Pdo without steps in place of the one of that number.
-pub(crate) fn emptied(alloc: Global, nodes: Vec<Entry>, number: u32, input: Place) -> Opened
-    ensures nodes { result.nodes.items ≡ set_node nodes.items number (node.Pdo input Bare) }
-    ensures steps { grown result.steps.items ≡ forest_of (node_at nodes.items number) }
-{
-    match index_of(nodes.as_slice(), number) {
-        Some(i) => {
-            let none = Roots::new(Vec::new(alloc));
-            let pdo = Node::Pdo { input, roots: none };
-            replaced(alloc, nodes, i, Entry { number, node: pdo })
-        }
-        None => unopened(alloc, nodes),
-    }
-}
-
-fn unopened(alloc: Global, nodes: Vec<Entry>) -> Opened
-    ensures nodes { result.nodes.items ≡ nodes.items }
-    ensures steps { grown result.steps.items ≡ Bare }
-{
-    Opened {
-        nodes,
-        steps: Vec::new(alloc),
-    }
-}
-
 fn removed(alloc: Global, nodes: Vec<Entry>, at: usize) -> Opened
     requires { at < length nodes.items }
     ensures nodes { result.nodes.items ≡ remove nodes.items at }
@@ -120,20 +95,6 @@ fn removed(alloc: Global, nodes: Vec<Entry>, at: usize) -> Opened
 {
     let mut nodes = nodes;
     let former = nodes.remove(at);
-    Opened {
-        nodes,
-        steps: steps_of(alloc, former.node),
-    }
-}
-
-fn replaced(alloc: Global, nodes: Vec<Entry>, at: usize, entry: Entry) -> Opened
-    requires { at < length nodes.items }
-    ensures nodes { result.nodes.items ≡ slice_set nodes.items at entry }
-    ensures steps { (d : GhostEntry) → grown result.steps.items
-        ≡ forest_of (Some (slice_index_or nodes.items at d).node) }
-{
-    let mut nodes = nodes;
-    let former = mem::replace(&mut nodes[at], entry);
     Opened {
         nodes,
         steps: steps_of(alloc, former.node),
@@ -152,5 +113,44 @@ fn steps_of(alloc: Global, node: Node) -> Vec<Step>
         Node::Source(_) | Node::Flatten(_) | Node::Gbk { .. } | Node::Barrier { .. } => Vec::new(
             alloc,
         ),
+    }
+}
+
+fn unopened(alloc: Global, nodes: Vec<Entry>) -> Opened
+    ensures nodes { result.nodes.items ≡ nodes.items }
+    ensures steps { grown result.steps.items ≡ Bare }
+{
+    Opened {
+        nodes,
+        steps: Vec::new(alloc),
+    }
+}
+
+/// The nodes with a Pdo without steps in place of the one of that number.
+pub(crate) fn emptied(alloc: Global, nodes: Vec<Entry>, number: u32, input: Place) -> Opened
+    ensures nodes { result.nodes.items ≡ set_node nodes.items number (node.Pdo input Bare) }
+    ensures steps { grown result.steps.items ≡ forest_of (node_at nodes.items number) }
+{
+    match index_of(nodes.as_slice(), number) {
+        Some(i) => {
+            let none = Roots::new(Vec::new(alloc));
+            let pdo = Node::Pdo { input, roots: none };
+            replaced(alloc, nodes, i, Entry { number, node: pdo })
+        }
+        None => unopened(alloc, nodes),
+    }
+}
+
+fn replaced(alloc: Global, nodes: Vec<Entry>, at: usize, entry: Entry) -> Opened
+    requires { at < length nodes.items }
+    ensures nodes { result.nodes.items ≡ slice_set nodes.items at entry }
+    ensures steps { (d : GhostEntry) → grown result.steps.items
+        ≡ forest_of (Some (slice_index_or nodes.items at d).node) }
+{
+    let mut nodes = nodes;
+    let former = mem::replace(&mut nodes[at], entry);
+    Opened {
+        nodes,
+        steps: steps_of(alloc, former.node),
     }
 }

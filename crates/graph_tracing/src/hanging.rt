@@ -38,36 +38,6 @@ pub(crate) struct NamedKids {
     pub(crate) last: u32,
 }
 
-fn named_kids(alloc: Global, kids: KidTrace) -> Result<NamedKids, AllocError>
-    requires { IsGraphOk kids.trace.graph }
-    ensures session { IfOk result (λ t. IsSession t.trace.joins) }
-    ensures trace { IfOk result (λ t. trace_of t.trace ≡ kids.trace) }
-    ensures numbers { IfOk result (λ t. t.numbers ≡ kids.numbers) }
-{
-    let KidTrace { trace, numbers } = kids;
-    let trace = named_trace(alloc, trace)?;
-    Ok(NamedKids {
-        trace,
-        numbers,
-        keepers: HashMap::new(alloc),
-        last: 0,
-    })
-}
-
-fn unnamed_kids(alloc: Global, kids: NamedKids) -> Result<KidTrace, AllocError>
-    ensures trace { IfOk result (λ t. t.trace ≡ trace_of kids.trace) }
-    ensures numbers { IfOk result (λ t. t.numbers ≡ kids.numbers) }
-{
-    let NamedKids {
-        trace,
-        numbers,
-        keepers: _,
-        last: _,
-    } = kids;
-    let trace = unnamed_trace(alloc, trace)?;
-    Ok(KidTrace { trace, numbers })
-}
-
 /// Of the Pdos of these numbers each that is still there becomes a kid of the Pdo that it reads.
 pub(crate) fn with_kids(
     alloc: Global,
@@ -86,6 +56,22 @@ pub(crate) fn with_kids(
     let last = all_kids(alloc, begun, numbers)?;
     let made = unnamed_kids(alloc, last)?;
     Ok(made)
+}
+
+fn named_kids(alloc: Global, kids: KidTrace) -> Result<NamedKids, AllocError>
+    requires { IsGraphOk kids.trace.graph }
+    ensures session { IfOk result (λ t. IsSession t.trace.joins) }
+    ensures trace { IfOk result (λ t. trace_of t.trace ≡ kids.trace) }
+    ensures numbers { IfOk result (λ t. t.numbers ≡ kids.numbers) }
+{
+    let KidTrace { trace, numbers } = kids;
+    let trace = named_trace(alloc, trace)?;
+    Ok(NamedKids {
+        trace,
+        numbers,
+        keepers: HashMap::new(alloc),
+        last: 0,
+    })
 }
 
 fn all_kids(alloc: Global, kids: NamedKids, numbers: &[u32]) -> Result<NamedKids, AllocError>
@@ -150,25 +136,6 @@ fn kid_of(alloc: Global, kids: NamedKids, number: u32) -> Result<NamedKids, Allo
     }
 }
 
-/// The Pdo becomes a kid without names, and what comes of it is told under names again.
-fn kid_as_it_is(alloc: Global, kids: NamedKids, number: u32) -> Result<NamedKids, AllocError>
-    requires session { IsSession kids.trace.joins }
-    requires keeps { KeepsAll (number_in kids.numbers) }
-    ensures session { IfOk result (λ t. IsSession t.trace.joins) }
-    ensures keeps { IfOk result (λ t. KeepsAll (number_in t.numbers)) }
-    ensures traced { IfOk result (λ t. GoesUnder (number_in kids.numbers) (number_in t.numbers)
-        (trace_of kids.trace) (trace_of t.trace)) }
-    ensures whole { IfOk result (λ t. (m : GhostGraph) (f : ℕ → ℕ) (ns : List ℕ)
-        (all : List GhostRewrite) →
-        IsLeaving (number_in kids.numbers) f (trace_of kids.trace) m (number ∷ ns) all →
-        IsLeaving (number_in t.numbers) f (trace_of t.trace) m ns all) }
-{
-    let plain = unnamed_kids(alloc, kids)?;
-    let joined = with_kid(alloc, plain, number)?;
-    let next = named_kids(alloc, joined)?;
-    Ok(next)
-}
-
 fn after_named_kid(
     alloc: Global,
     kids: NamedKids,
@@ -214,4 +181,37 @@ fn after_named_kid(
         keepers,
         last: read.out,
     })
+}
+
+/// The Pdo becomes a kid without names, and what comes of it is told under names again.
+fn kid_as_it_is(alloc: Global, kids: NamedKids, number: u32) -> Result<NamedKids, AllocError>
+    requires session { IsSession kids.trace.joins }
+    requires keeps { KeepsAll (number_in kids.numbers) }
+    ensures session { IfOk result (λ t. IsSession t.trace.joins) }
+    ensures keeps { IfOk result (λ t. KeepsAll (number_in t.numbers)) }
+    ensures traced { IfOk result (λ t. GoesUnder (number_in kids.numbers) (number_in t.numbers)
+        (trace_of kids.trace) (trace_of t.trace)) }
+    ensures whole { IfOk result (λ t. (m : GhostGraph) (f : ℕ → ℕ) (ns : List ℕ)
+        (all : List GhostRewrite) →
+        IsLeaving (number_in kids.numbers) f (trace_of kids.trace) m (number ∷ ns) all →
+        IsLeaving (number_in t.numbers) f (trace_of t.trace) m ns all) }
+{
+    let plain = unnamed_kids(alloc, kids)?;
+    let joined = with_kid(alloc, plain, number)?;
+    let next = named_kids(alloc, joined)?;
+    Ok(next)
+}
+
+fn unnamed_kids(alloc: Global, kids: NamedKids) -> Result<KidTrace, AllocError>
+    ensures trace { IfOk result (λ t. t.trace ≡ trace_of kids.trace) }
+    ensures numbers { IfOk result (λ t. t.numbers ≡ kids.numbers) }
+{
+    let NamedKids {
+        trace,
+        numbers,
+        keepers: _,
+        last: _,
+    } = kids;
+    let trace = unnamed_trace(alloc, trace)?;
+    Ok(KidTrace { trace, numbers })
 }

@@ -45,16 +45,6 @@ impl<'a, F: Functions> Functions for Beside<'a, F> {
     }
 }
 
-// The record of an element and the value of an object.
-fn record_of(alloc: Global, element: &Value, object: &Value) -> Result<Value, AllocError>
-    ensures { IfOk result (λ both. both ≡ value.Rec (element.now ∷ (object.now ∷ []))) }
-{
-    let mut fields = Vec::with_capacity(alloc, 2)?;
-    fields.push(element.copy(alloc)?)?;
-    fields.push(object.copy(alloc)?)?;
-    Ok(Value::Rec(Pile::from_vec(fields)))
-}
-
 /// What the steps on the elements, called beside the value of an object, give the output channels,
 /// or the first trap.
 pub(crate) fn run_beside<F: Functions>(
@@ -81,4 +71,14 @@ pub(crate) fn run_beside<F: Functions>(
 {
     let functions = Beside { functions, object };
     run_task(alloc, &functions, does, channels, m, partitions, elements)
+}
+
+// The record of an element and the value of an object.
+fn record_of(alloc: Global, element: &Value, object: &Value) -> Result<Value, AllocError>
+    ensures { IfOk result (λ both. both ≡ value.Rec (element.now ∷ (object.now ∷ []))) }
+{
+    let mut fields = Vec::with_capacity(alloc, 2)?;
+    fields.push(element.copy(alloc)?)?;
+    fields.push(object.copy(alloc)?)?;
+    Ok(Value::Rec(Pile::from_vec(fields)))
 }

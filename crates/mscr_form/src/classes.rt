@@ -13,30 +13,15 @@ use flume_value::Pile;
 use plan_roles::{Part, Role};
 use std::alloc::{AllocError, Global};
 
-fn is_group(role: &Role) -> bool
-    ensures { result ≡ is_group role.now.part }
+/// The classes of the Gbks, each with its least number first.
+pub(crate) fn classes_of(alloc: Global, roles: &[Role]) -> Result<Vec<Pile<u32>>, AllocError>
+    ensures { IfOk result (λ v. (b : Blocked) → IsSound b.graph → Ascends b.graph.nodes →
+        roles.now ≡ roles_of b → AreClasses b v.items) }
 {
-    match &role.part {
-        Part::Group(_, _) => true,
-        Part::Source
-        | Part::Stage
-        | Part::Inlined
-        | Part::Mapper(_)
-        | Part::Reducer
-        | Part::Trivial(_)
-        | Part::Operate => false,
-    }
-}
-
-fn empty_buckets(alloc: Global, count: usize) -> Result<Vec<Pile<u32>>, AllocError>
-    ensures all { IfOk result (λ v. length v.items ≡ count) }
-    ensures empty { IfOk result (λ v. (x : ℕ) → bucket_at v.items x ≡ []) }
-{
-    let mut buckets = Vec::new(alloc);
-    for _i in 0..count {
-        buckets.push(Pile::new(alloc))?;
-    }
-    Ok(buckets)
+    let labels = labels_of(alloc, roles)?;
+    let buckets = buckets_of(alloc, roles, labels.as_slice())?;
+    let classes = some_buckets(alloc, buckets)?;
+    Ok(classes)
 }
 
 /// The Gbks of each label, in order.
@@ -53,6 +38,32 @@ fn buckets_of(alloc: Global, roles: &[Role], labels: &[usize]) -> Result<Vec<Pil
     Ok(buckets)
 }
 
+fn empty_buckets(alloc: Global, count: usize) -> Result<Vec<Pile<u32>>, AllocError>
+    ensures all { IfOk result (λ v. length v.items ≡ count) }
+    ensures empty { IfOk result (λ v. (x : ℕ) → bucket_at v.items x ≡ []) }
+{
+    let mut buckets = Vec::new(alloc);
+    for _i in 0..count {
+        buckets.push(Pile::new(alloc))?;
+    }
+    Ok(buckets)
+}
+
+fn is_group(role: &Role) -> bool
+    ensures { result ≡ is_group role.now.part }
+{
+    match &role.part {
+        Part::Group(_, _) => true,
+        Part::Source
+        | Part::Stage
+        | Part::Inlined
+        | Part::Mapper(_)
+        | Part::Reducer
+        | Part::Trivial(_)
+        | Part::Operate => false,
+    }
+}
+
 /// Those that have members.
 fn some_buckets(alloc: Global, buckets: Vec<Pile<u32>>) -> Result<Vec<Pile<u32>>, AllocError>
     ensures { IfOk result (λ v. v.items ≡ filter is_some buckets.items) }
@@ -63,16 +74,5 @@ fn some_buckets(alloc: Global, buckets: Vec<Pile<u32>>) -> Result<Vec<Pile<u32>>
             classes.push(bucket)?;
         }
     }
-    Ok(classes)
-}
-
-/// The classes of the Gbks, each with its least number first.
-pub(crate) fn classes_of(alloc: Global, roles: &[Role]) -> Result<Vec<Pile<u32>>, AllocError>
-    ensures { IfOk result (λ v. (b : Blocked) → IsSound b.graph → Ascends b.graph.nodes →
-        roles.now ≡ roles_of b → AreClasses b v.items) }
-{
-    let labels = labels_of(alloc, roles)?;
-    let buckets = buckets_of(alloc, roles, labels.as_slice())?;
-    let classes = some_buckets(alloc, buckets)?;
     Ok(classes)
 }

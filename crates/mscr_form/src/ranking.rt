@@ -18,6 +18,38 @@ use plan_roles::{Part, Role};
 use std::alloc::{AllocError, Global};
 use std::collections::HashMap;
 
+/// All operations: those of the classes, and those of Pdos and Flattens by themselves.
+pub(crate) fn operations_with(
+    alloc: Global,
+    roles: &[Role],
+    classes: &[Pile<u32>],
+) -> Result<Vec<Ranked>, AllocError>
+    ensures { IfOk result (λ v. v.items ≡ spec.operations_with roles.now classes.now) }
+{
+    let mut all = all_ranked(alloc, roles, classes)?;
+    for role in roles {
+        push_alone(alloc, role, &mut all)?;
+    }
+    Ok(all)
+}
+
+/// The MSCRs of the classes.
+fn all_ranked(
+    alloc: Global,
+    roles: &[Role],
+    classes: &[Pile<u32>],
+) -> Result<Vec<Ranked>, AllocError>
+    ensures { IfOk result (λ v. v.items ≡ map (spec.class_with roles.now) classes.now) }
+{
+    let index = index_of(alloc, roles)?;
+    let mut all = Vec::new(alloc);
+    for class in classes {
+        let ranked = class_ranked(alloc, roles, &index, class.as_slice())?;
+        all.push(ranked)?;
+    }
+    Ok(all)
+}
+
 /// Where each role stands, by its number.
 fn index_of(alloc: Global, roles: &[Role]) -> Result<HashMap<u32, usize>, AllocError>
     ensures { IfOk result (λ m. IsIndexOf m roles.now) }
@@ -38,213 +70,6 @@ fn put_first(number: u32, at: usize, index: &mut HashMap<u32, usize>) -> Result<
         index.insert(number, at)?;
     }
     Ok(())
-}
-
-/// Where the role of that number stands.
-#[tactic(auto, using(crate::proofs::Indexing::index_within))]
-fn spot_of(roles: &[Role], index: &HashMap<u32, usize>, number: u32) -> Option<usize>
-    requires { IsIndexOf index.now roles.now }
-    ensures is { result ≡ spec.place_from 0 roles.now number }
-    ensures within { IfSome result (λ i. i < length roles.now) }
-{
-    index.get(&number).copied()
-}
-
-/// The role of that number.
-#[tactic(auto, using(crate::proofs::Indexing::index_none))]
-fn find_role<'a>(roles: &'a [Role], index: &HashMap<u32, usize>, number: u32) -> Option<&'a Role>
-    requires { IsIndexOf index.now roles.now }
-    ensures { MatchOption result (role_in roles.now number ≡ None)
-        (λ role. role_in roles.now number ≡ Some role.now) }
-{
-    match spot_of(roles, index, number) {
-        Some(i) => Some(&roles[i]),
-        None => None,
-    }
-}
-
-fn level_of(roles: &[Role], index: &HashMap<u32, usize>, number: u32) -> u32
-    requires { IsIndexOf index.now roles.now }
-    ensures { result ≡ spec.level_in_role (role_in roles.now number) }
-{
-    match find_role(roles, index, number) {
-        None => 0,
-        Some(role) => role.level,
-    }
-}
-
-fn part_reducer(part: &Part) -> Option<u32>
-    ensures { result ≡ spec.part_reducer part.now }
-{
-    match part {
-        Part::Group(_, reducer) => *reducer,
-        Part::Source
-        | Part::Stage
-        | Part::Inlined
-        | Part::Mapper(_)
-        | Part::Reducer
-        | Part::Trivial(_)
-        | Part::Operate => None,
-    }
-}
-
-/// A Gbk with its reducer.
-fn grouped(roles: &[Role], index: &HashMap<u32, usize>, number: u32) -> Grouped
-    requires { IsIndexOf index.now roles.now }
-    ensures { result ≡ spec.grouped_with roles.now number }
-{
-    let reducer = match find_role(roles, index, number) {
-        None => None,
-        Some(role) => part_reducer(&role.part),
-    };
-    Grouped {
-        gbk: number,
-        reducer,
-    }
-}
-
-fn groups_of(
-    alloc: Global,
-    roles: &[Role],
-    index: &HashMap<u32, usize>,
-    class: &[u32],
-) -> Result<Pile<Grouped>, AllocError>
-    requires { IsIndexOf index.now roles.now }
-    ensures { IfOk result (λ gs. gs ≡ map (spec.grouped_with roles.now) class.now) }
-{
-    let mut all = Pile::new(alloc);
-    for number in class {
-        all.push(grouped(roles, index, *number))?;
-    }
-    Ok(all)
-}
-
-/// Adds the keys of a role.
-fn push_keys(part: &Part, keys: &mut Vec<Key>) -> Result<(), AllocError>
-    ensures { OnOk result (keys.new.items ≡ keys.old.items
-        ++ part_keys part.now) }
-{
-    if let Part::Group(more, _) = part {
-        keys.extend_from_slice(more.as_slice())?;
-    }
-    Ok(())
-}
-
-/// Adds the keys of a Gbk.
-fn push_node_keys(
-    roles: &[Role],
-    index: &HashMap<u32, usize>,
-    number: u32,
-    keys: &mut Vec<Key>,
-) -> Result<(), AllocError>
-    requires { IsIndexOf index.now roles.now }
-    ensures { OnOk result (keys.new.items ≡ keys.old.items
-        ++ spec.keys_in_role (role_in roles.now number)) }
-{
-    match find_role(roles, index, number) {
-        None => Ok(()),
-        Some(role) => push_keys(&role.part, keys),
-    }
-}
-
-/// The keys of the Gbks of a class, repeats included.
-fn all_keys(
-    alloc: Global,
-    roles: &[Role],
-    index: &HashMap<u32, usize>,
-    class: &[u32],
-) -> Result<Vec<Key>, AllocError>
-    requires { IsIndexOf index.now roles.now }
-    ensures { IfOk result (λ v. v.items ≡ spec.all_keys roles.now class.now) }
-{
-    let mut keys = Vec::new(alloc);
-    for number in class {
-        push_node_keys(roles, index, *number, &mut keys)?;
-    }
-    Ok(keys)
-}
-
-/// Adds a key, where it is not among these.
-fn use_key(seen: &mut Seen, keys: &mut Pile<Key>, key: Key) -> Result<(), AllocError>
-    requires { AreUsed seen.old keys.old }
-    ensures keys { OnOk result (keys.new ≡ spec.used keys.old key) }
-    ensures used { OnOk result (AreUsed seen.new keys.new) }
-{
-    match find(seen, 0, key) {
-        Some(_) => Ok(()),
-        None => {
-            note(seen, 0, key, 0)?;
-            keys.push(key)?;
-            Ok(())
-        }
-    }
-}
-
-/// Each key where it stands first.
-fn first_uses(alloc: Global, all: &[Key]) -> Result<Pile<Key>, AllocError>
-    ensures { IfOk result (λ ks. ks ≡ first_uses all.now) }
-{
-    let mut seen = Seen {
-        mappers: HashMap::new(alloc),
-        wholes: HashMap::new(alloc),
-    };
-    let mut keys = Pile::new(alloc);
-    for key in all {
-        use_key(&mut seen, &mut keys, *key)?;
-    }
-    Ok(keys)
-}
-
-/// Adds what passes through of a role.
-fn push_role_passes(part: &Part, passes: &mut Vec<Place>) -> Result<(), AllocError>
-    ensures { OnOk result (passes.new.items ≡ passes.old.items ++ spec.part_passes part.now) }
-{
-    if let Part::Mapper(more) = part {
-        passes.extend_from_slice(more.as_slice())?;
-    }
-    Ok(())
-}
-
-/// Adds what passes through of a key.
-fn push_key_passes(
-    roles: &[Role],
-    index: &HashMap<u32, usize>,
-    key: Key,
-    passes: &mut Vec<Place>,
-) -> Result<(), AllocError>
-    requires { IsIndexOf index.now roles.now }
-    ensures { OnOk result (passes.new.items ≡ passes.old.items
-        ++ spec.key_passes_with roles.now key) }
-{
-    match key {
-        Key::Whole(_) => Ok(()),
-        Key::Mapper(number) => match find_role(roles, index, number) {
-            None => Ok(()),
-            Some(role) => push_role_passes(&role.part, passes),
-        },
-    }
-}
-
-fn passes_of(
-    alloc: Global,
-    roles: &[Role],
-    index: &HashMap<u32, usize>,
-    keys: &[Key],
-) -> Result<Pile<Place>, AllocError>
-    requires { IsIndexOf index.now roles.now }
-    ensures { IfOk result (λ cs. cs ≡ flat_map (spec.key_passes_with roles.now) keys.now) }
-{
-    let mut passes = Vec::new(alloc);
-    for key in keys {
-        push_key_passes(roles, index, *key, &mut passes)?;
-    }
-    Ok(Pile::from_vec(passes))
-}
-
-fn least_of(class: &[u32]) -> u32
-    ensures { result ≡ first_number class.now }
-{
-    if class.is_empty() { 0 } else { class[0] }
 }
 
 /// The MSCR of a class.
@@ -269,51 +94,211 @@ fn class_ranked(
     })
 }
 
-/// The MSCRs of the classes.
-fn all_ranked(
+/// The keys of the Gbks of a class, repeats included.
+fn all_keys(
     alloc: Global,
     roles: &[Role],
-    classes: &[Pile<u32>],
-) -> Result<Vec<Ranked>, AllocError>
-    ensures { IfOk result (λ v. v.items ≡ map (spec.class_with roles.now) classes.now) }
+    index: &HashMap<u32, usize>,
+    class: &[u32],
+) -> Result<Vec<Key>, AllocError>
+    requires { IsIndexOf index.now roles.now }
+    ensures { IfOk result (λ v. v.items ≡ spec.all_keys roles.now class.now) }
 {
-    let index = index_of(alloc, roles)?;
-    let mut all = Vec::new(alloc);
-    for class in classes {
-        let ranked = class_ranked(alloc, roles, &index, class.as_slice())?;
-        all.push(ranked)?;
+    let mut keys = Vec::new(alloc);
+    for number in class {
+        push_node_keys(roles, index, *number, &mut keys)?;
+    }
+    Ok(keys)
+}
+
+/// Adds the keys of a Gbk.
+fn push_node_keys(
+    roles: &[Role],
+    index: &HashMap<u32, usize>,
+    number: u32,
+    keys: &mut Vec<Key>,
+) -> Result<(), AllocError>
+    requires { IsIndexOf index.now roles.now }
+    ensures { OnOk result (keys.new.items ≡ keys.old.items
+        ++ spec.keys_in_role (role_in roles.now number)) }
+{
+    match find_role(roles, index, number) {
+        None => Ok(()),
+        Some(role) => push_keys(&role.part, keys),
+    }
+}
+
+/// The role of that number.
+#[tactic(auto, using(crate::proofs::Indexing::index_none))]
+fn find_role<'a>(roles: &'a [Role], index: &HashMap<u32, usize>, number: u32) -> Option<&'a Role>
+    requires { IsIndexOf index.now roles.now }
+    ensures { MatchOption result (role_in roles.now number ≡ None)
+        (λ role. role_in roles.now number ≡ Some role.now) }
+{
+    match spot_of(roles, index, number) {
+        Some(i) => Some(&roles[i]),
+        None => None,
+    }
+}
+
+/// Where the role of that number stands.
+#[tactic(auto, using(crate::proofs::Indexing::index_within))]
+fn spot_of(roles: &[Role], index: &HashMap<u32, usize>, number: u32) -> Option<usize>
+    requires { IsIndexOf index.now roles.now }
+    ensures is { result ≡ spec.place_from 0 roles.now number }
+    ensures within { IfSome result (λ i. i < length roles.now) }
+{
+    index.get(&number).copied()
+}
+
+/// Adds the keys of a role.
+fn push_keys(part: &Part, keys: &mut Vec<Key>) -> Result<(), AllocError>
+    ensures { OnOk result (keys.new.items ≡ keys.old.items
+        ++ part_keys part.now) }
+{
+    if let Part::Group(more, _) = part {
+        keys.extend_from_slice(more.as_slice())?;
+    }
+    Ok(())
+}
+
+/// Each key where it stands first.
+fn first_uses(alloc: Global, all: &[Key]) -> Result<Pile<Key>, AllocError>
+    ensures { IfOk result (λ ks. ks ≡ first_uses all.now) }
+{
+    let mut seen = Seen {
+        mappers: HashMap::new(alloc),
+        wholes: HashMap::new(alloc),
+    };
+    let mut keys = Pile::new(alloc);
+    for key in all {
+        use_key(&mut seen, &mut keys, *key)?;
+    }
+    Ok(keys)
+}
+
+/// Adds a key, where it is not among these.
+fn use_key(seen: &mut Seen, keys: &mut Pile<Key>, key: Key) -> Result<(), AllocError>
+    requires { AreUsed seen.old keys.old }
+    ensures keys { OnOk result (keys.new ≡ spec.used keys.old key) }
+    ensures used { OnOk result (AreUsed seen.new keys.new) }
+{
+    match find(seen, 0, key) {
+        Some(_) => Ok(()),
+        None => {
+            note(seen, 0, key, 0)?;
+            keys.push(key)?;
+            Ok(())
+        }
+    }
+}
+
+fn groups_of(
+    alloc: Global,
+    roles: &[Role],
+    index: &HashMap<u32, usize>,
+    class: &[u32],
+) -> Result<Pile<Grouped>, AllocError>
+    requires { IsIndexOf index.now roles.now }
+    ensures { IfOk result (λ gs. gs ≡ map (spec.grouped_with roles.now) class.now) }
+{
+    let mut all = Pile::new(alloc);
+    for number in class {
+        all.push(grouped(roles, index, *number))?;
     }
     Ok(all)
 }
 
-fn alone(role: &Role, does: Operation) -> Ranked
-    ensures { result ≡ spec.alone_at role.now does }
+/// A Gbk with its reducer.
+fn grouped(roles: &[Role], index: &HashMap<u32, usize>, number: u32) -> Grouped
+    requires { IsIndexOf index.now roles.now }
+    ensures { result ≡ spec.grouped_with roles.now number }
 {
-    Ranked {
-        rank: u64::from(role.level) * 2 + 1,
-        number: role.number,
-        does,
+    let reducer = match find_role(roles, index, number) {
+        None => None,
+        Some(role) => part_reducer(&role.part),
+    };
+    Grouped {
+        gbk: number,
+        reducer,
     }
 }
 
-fn object(role: &Role) -> Ranked
-    ensures { result ≡ spec.object_at role.now }
+fn part_reducer(part: &Part) -> Option<u32>
+    ensures { result ≡ spec.part_reducer part.now }
 {
-    Ranked {
-        rank: u64::from(role.level) * 2,
-        number: role.number,
-        does: Operation::Flat(role.number),
+    match part {
+        Part::Group(_, reducer) => *reducer,
+        Part::Source
+        | Part::Stage
+        | Part::Inlined
+        | Part::Mapper(_)
+        | Part::Reducer
+        | Part::Trivial(_)
+        | Part::Operate => None,
     }
 }
 
-/// Each output of a Pdo passes through.
-fn trivial(alloc: Global, number: u32, outs: &[Place]) -> Result<Operation, AllocError>
-    ensures { IfOk result (λ x. x ≡ Class (Mapper number ∷ []) [] outs.now) }
+fn passes_of(
+    alloc: Global,
+    roles: &[Role],
+    index: &HashMap<u32, usize>,
+    keys: &[Key],
+) -> Result<Pile<Place>, AllocError>
+    requires { IsIndexOf index.now roles.now }
+    ensures { IfOk result (λ cs. cs ≡ flat_map (spec.key_passes_with roles.now) keys.now) }
 {
-    let mut keys = Pile::new(alloc);
-    keys.push(Key::Mapper(number))?;
-    let passes = Vec::from_slice(alloc, outs)?;
-    Ok(Operation::Class(keys, Pile::new(alloc), Pile::from_vec(passes)))
+    let mut passes = Vec::new(alloc);
+    for key in keys {
+        push_key_passes(roles, index, *key, &mut passes)?;
+    }
+    Ok(Pile::from_vec(passes))
+}
+
+/// Adds what passes through of a key.
+fn push_key_passes(
+    roles: &[Role],
+    index: &HashMap<u32, usize>,
+    key: Key,
+    passes: &mut Vec<Place>,
+) -> Result<(), AllocError>
+    requires { IsIndexOf index.now roles.now }
+    ensures { OnOk result (passes.new.items ≡ passes.old.items
+        ++ spec.key_passes_with roles.now key) }
+{
+    match key {
+        Key::Whole(_) => Ok(()),
+        Key::Mapper(number) => match find_role(roles, index, number) {
+            None => Ok(()),
+            Some(role) => push_role_passes(&role.part, passes),
+        },
+    }
+}
+
+/// Adds what passes through of a role.
+fn push_role_passes(part: &Part, passes: &mut Vec<Place>) -> Result<(), AllocError>
+    ensures { OnOk result (passes.new.items ≡ passes.old.items ++ spec.part_passes part.now) }
+{
+    if let Part::Mapper(more) = part {
+        passes.extend_from_slice(more.as_slice())?;
+    }
+    Ok(())
+}
+
+fn least_of(class: &[u32]) -> u32
+    ensures { result ≡ first_number class.now }
+{
+    if class.is_empty() { 0 } else { class[0] }
+}
+
+fn level_of(roles: &[Role], index: &HashMap<u32, usize>, number: u32) -> u32
+    requires { IsIndexOf index.now roles.now }
+    ensures { result ≡ spec.level_in_role (role_in roles.now number) }
+{
+    match find_role(roles, index, number) {
+        None => 0,
+        Some(role) => role.level,
+    }
 }
 
 /// Adds the operation that a Pdo or a Flatten is by itself.
@@ -340,17 +325,32 @@ fn push_alone(alloc: Global, role: &Role, all: &mut Vec<Ranked>) -> Result<(), A
     }
 }
 
-/// All operations: those of the classes, and those of Pdos and Flattens by themselves.
-pub(crate) fn operations_with(
-    alloc: Global,
-    roles: &[Role],
-    classes: &[Pile<u32>],
-) -> Result<Vec<Ranked>, AllocError>
-    ensures { IfOk result (λ v. v.items ≡ spec.operations_with roles.now classes.now) }
+fn alone(role: &Role, does: Operation) -> Ranked
+    ensures { result ≡ spec.alone_at role.now does }
 {
-    let mut all = all_ranked(alloc, roles, classes)?;
-    for role in roles {
-        push_alone(alloc, role, &mut all)?;
+    Ranked {
+        rank: u64::from(role.level) * 2 + 1,
+        number: role.number,
+        does,
     }
-    Ok(all)
+}
+
+/// Each output of a Pdo passes through.
+fn trivial(alloc: Global, number: u32, outs: &[Place]) -> Result<Operation, AllocError>
+    ensures { IfOk result (λ x. x ≡ Class (Mapper number ∷ []) [] outs.now) }
+{
+    let mut keys = Pile::new(alloc);
+    keys.push(Key::Mapper(number))?;
+    let passes = Vec::from_slice(alloc, outs)?;
+    Ok(Operation::Class(keys, Pile::new(alloc), Pile::from_vec(passes)))
+}
+
+fn object(role: &Role) -> Ranked
+    ensures { result ≡ spec.object_at role.now }
+{
+    Ranked {
+        rank: u64::from(role.level) * 2,
+        number: role.number,
+        does: Operation::Flat(role.number),
+    }
 }

@@ -14,34 +14,60 @@ use plan_laws::{Key, Operation};
 use std::alloc::{AllocError, Global};
 use std::collections::{HashMap, HashSet};
 
-/// Adds what a step beside an object reads.
-fn add_side(number: u32, act: Act, inputs: &[Place], all: &mut Vec<Place>) -> Result<(), AllocError>
-    ensures { (o : ℕ) (l : Bool) → OnOk result (all.new.items ≡ all.old.items
-        ++ operations.reading_reads (operations.side_channel number o l act inputs.now)) }
+/// The collections of the graph that an operation reads.
+pub(crate) fn reads_of(
+    alloc: Global,
+    nodes: &[Entry],
+    index: &HashMap<u32, usize>,
+    operation: &Operation,
+) -> Result<Pile<Place>, AllocError>
+    requires { IsIndex index.now nodes.now }
+    ensures { IfOk result (λ cs. cs ≡ operations.reads_of nodes.now operation.now) }
 {
-    match act {
-        Act::SideInput(_) => {
-            if inputs.len() == 2 {
-                all.push(inputs[0])?;
-                all.push(inputs[1])?;
-                Ok(())
-            } else {
-                add_itself(number, all)
-            }
-        }
-        Act::Operate(_) | Act::Singleton(_) => add_itself(number, all),
+    match operation {
+        Operation::Flat(number) => flatten_reads(alloc, nodes, index, *number),
+        Operation::Class(keys, _, _) => keys_read(alloc, nodes, index, keys.as_slice()),
     }
 }
 
-/// Adds the first output of a node.
-fn add_itself(number: u32, all: &mut Vec<Place>) -> Result<(), AllocError>
-    ensures { OnOk result (all.new.items ≡ all.old.items ++ place number 0 ∷ []) }
+/// The inputs of a Flatten.
+fn flatten_reads(
+    alloc: Global,
+    nodes: &[Entry],
+    index: &HashMap<u32, usize>,
+    number: u32,
+) -> Result<Pile<Place>, AllocError>
+    requires { IsIndex index.now nodes.now }
+    ensures { IfOk result (λ cs. cs ≡ operations.flat_inputs (node_at nodes.now number)) }
 {
-    all.push(Place {
-        node: number,
-        out: 0,
-    })?;
-    Ok(())
+    match find_node(nodes, index, number) {
+        Some(Node::Flatten(inputs)) => {
+            let copied = Vec::from_slice(alloc, inputs.as_slice())?;
+            Ok(Pile::from_vec(copied))
+        }
+        Some(Node::Barrier { inputs, .. }) => {
+            let copied = Vec::from_slice(alloc, inputs.as_slice())?;
+            Ok(Pile::from_vec(copied))
+        }
+        _ => Ok(Pile::new(alloc)),
+    }
+}
+
+fn keys_read(
+    alloc: Global,
+    nodes: &[Entry],
+    index: &HashMap<u32, usize>,
+    keys: &[Key],
+) -> Result<Pile<Place>, AllocError>
+    requires { IsIndex index.now nodes.now }
+    ensures { IfOk result (λ cs. cs
+        ≡ flat_map operations.reading_reads (operations.channels_of nodes.now keys.now)) }
+{
+    let mut all = Vec::new(alloc);
+    for key in keys {
+        add_key_reads(nodes, index, *key, &mut all)?;
+    }
+    Ok(Pile::from_vec(all))
 }
 
 /// Adds what an input channel reads.
@@ -73,60 +99,45 @@ fn add_key_reads(
     }
 }
 
-fn keys_read(
-    alloc: Global,
-    nodes: &[Entry],
-    index: &HashMap<u32, usize>,
-    keys: &[Key],
-) -> Result<Pile<Place>, AllocError>
-    requires { IsIndex index.now nodes.now }
-    ensures { IfOk result (λ cs. cs
-        ≡ flat_map operations.reading_reads (operations.channels_of nodes.now keys.now)) }
+/// Adds what a step beside an object reads.
+fn add_side(number: u32, act: Act, inputs: &[Place], all: &mut Vec<Place>) -> Result<(), AllocError>
+    ensures { (o : ℕ) (l : Bool) → OnOk result (all.new.items ≡ all.old.items
+        ++ operations.reading_reads (operations.side_channel number o l act inputs.now)) }
 {
-    let mut all = Vec::new(alloc);
-    for key in keys {
-        add_key_reads(nodes, index, *key, &mut all)?;
-    }
-    Ok(Pile::from_vec(all))
-}
-
-/// The inputs of a Flatten.
-fn flatten_reads(
-    alloc: Global,
-    nodes: &[Entry],
-    index: &HashMap<u32, usize>,
-    number: u32,
-) -> Result<Pile<Place>, AllocError>
-    requires { IsIndex index.now nodes.now }
-    ensures { IfOk result (λ cs. cs ≡ operations.flat_inputs (node_at nodes.now number)) }
-{
-    match find_node(nodes, index, number) {
-        Some(Node::Flatten(inputs)) => {
-            let copied = Vec::from_slice(alloc, inputs.as_slice())?;
-            Ok(Pile::from_vec(copied))
+    match act {
+        Act::SideInput(_) => {
+            if inputs.len() == 2 {
+                all.push(inputs[0])?;
+                all.push(inputs[1])?;
+                Ok(())
+            } else {
+                add_itself(number, all)
+            }
         }
-        Some(Node::Barrier { inputs, .. }) => {
-            let copied = Vec::from_slice(alloc, inputs.as_slice())?;
-            Ok(Pile::from_vec(copied))
-        }
-        _ => Ok(Pile::new(alloc)),
+        Act::Operate(_) | Act::Singleton(_) => add_itself(number, all),
     }
 }
 
-/// The collections of the graph that an operation reads.
-pub(crate) fn reads_of(
-    alloc: Global,
-    nodes: &[Entry],
-    index: &HashMap<u32, usize>,
-    operation: &Operation,
-) -> Result<Pile<Place>, AllocError>
-    requires { IsIndex index.now nodes.now }
-    ensures { IfOk result (λ cs. cs ≡ operations.reads_of nodes.now operation.now) }
+/// Adds the first output of a node.
+fn add_itself(number: u32, all: &mut Vec<Place>) -> Result<(), AllocError>
+    ensures { OnOk result (all.new.items ≡ all.old.items ++ place number 0 ∷ []) }
 {
-    match operation {
-        Operation::Flat(number) => flatten_reads(alloc, nodes, index, *number),
-        Operation::Class(keys, _, _) => keys_read(alloc, nodes, index, keys.as_slice()),
+    all.push(Place {
+        node: number,
+        out: 0,
+    })?;
+    Ok(())
+}
+
+/// What the sources give.
+pub(crate) fn sources_of(alloc: Global, nodes: &[Entry]) -> Result<HashSet<u64>, AllocError>
+    ensures { IfOk result (λ s. HasPlaces s (λ d. among d (operations.source_places nodes.now))) }
+{
+    let mut places = HashSet::new(alloc);
+    for entry in nodes {
+        add_source(entry, &mut places)?;
     }
+    Ok(places)
 }
 
 /// Adds what a source gives.
@@ -144,17 +155,6 @@ fn add_source(entry: &Entry, places: &mut HashSet<u64>) -> Result<(), AllocError
         ),
         Node::Flatten(_) | Node::Pdo { .. } | Node::Gbk { .. } | Node::Barrier { .. } => { Ok(()) }
     }
-}
-
-/// What the sources give.
-pub(crate) fn sources_of(alloc: Global, nodes: &[Entry]) -> Result<HashSet<u64>, AllocError>
-    ensures { IfOk result (λ s. HasPlaces s (λ d. among d (operations.source_places nodes.now))) }
-{
-    let mut places = HashSet::new(alloc);
-    for entry in nodes {
-        add_source(entry, &mut places)?;
-    }
-    Ok(places)
 }
 
 /// Adds these collections.

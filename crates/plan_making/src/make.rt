@@ -24,6 +24,30 @@ struct Drawn {
     names: HashMap<(u32, u32), PlanPlace>,
 }
 
+/// The plan of operations that are carried out one after another, over so many sources.
+pub fn make_plan(
+    alloc: Global,
+    sources: u32,
+    graph: &Graph,
+    operations: &[Operation],
+) -> Result<Plan, AllocError>
+    requires small { IsSmall graph.now.nodes operations.now }
+    ensures made { IfOk result (λ plan. plan
+        ≡ spec.plan_of sources graph.now.nodes graph.now.outputs operations.now) }
+{
+    let nodes = graph.nodes.as_slice();
+    let index = index_of(alloc, nodes)?;
+    let Drawn { stages, names } = draw(alloc, nodes, &index, operations)?;
+    let outputs = all_named(alloc, nodes, &index, &names, graph.outputs.as_slice())?;
+    let objects = objects_of(alloc, nodes)?;
+    Ok(Plan {
+        sources,
+        objects,
+        stages,
+        outputs,
+    })
+}
+
 /// The stages of the operations, in order.
 fn draw(
     alloc: Global,
@@ -49,18 +73,6 @@ fn draw(
     Ok(Drawn { stages, names })
 }
 
-/// Adds the number of a source that is an object.
-fn push_object(node: &Node, all: &mut Pile<u32>) -> Result<(), AllocError>
-    ensures { OnOk result (all.new ≡ all.old ++ spec.object_source node.now) }
-{
-    if let Node::Source(input) = node {
-        if input.is_object {
-            all.push(input.number)?;
-        }
-    }
-    Ok(())
-}
-
 /// The numbers of the sources that are objects.
 fn objects_of(alloc: Global, nodes: &[Entry]) -> Result<Pile<u32>, AllocError>
     ensures { IfOk result (λ all. all ≡ flat_map (λ e. spec.object_source e.node) nodes.now) }
@@ -72,26 +84,14 @@ fn objects_of(alloc: Global, nodes: &[Entry]) -> Result<Pile<u32>, AllocError>
     Ok(all)
 }
 
-/// The plan of operations that are carried out one after another, over so many sources.
-pub fn make_plan(
-    alloc: Global,
-    sources: u32,
-    graph: &Graph,
-    operations: &[Operation],
-) -> Result<Plan, AllocError>
-    requires small { IsSmall graph.now.nodes operations.now }
-    ensures made { IfOk result (λ plan. plan
-        ≡ spec.plan_of sources graph.now.nodes graph.now.outputs operations.now) }
+/// Adds the number of a source that is an object.
+fn push_object(node: &Node, all: &mut Pile<u32>) -> Result<(), AllocError>
+    ensures { OnOk result (all.new ≡ all.old ++ spec.object_source node.now) }
 {
-    let nodes = graph.nodes.as_slice();
-    let index = index_of(alloc, nodes)?;
-    let Drawn { stages, names } = draw(alloc, nodes, &index, operations)?;
-    let outputs = all_named(alloc, nodes, &index, &names, graph.outputs.as_slice())?;
-    let objects = objects_of(alloc, nodes)?;
-    Ok(Plan {
-        sources,
-        objects,
-        stages,
-        outputs,
-    })
+    if let Node::Source(input) = node {
+        if input.is_object {
+            all.push(input.number)?;
+        }
+    }
+    Ok(())
 }

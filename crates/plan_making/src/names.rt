@@ -14,17 +14,6 @@ use node_index::find_node;
 use std::alloc::{AllocError, Global};
 use std::collections::HashMap;
 
-/// A collection as the source that its node is.
-fn at_source(nodes: &[Entry], index: &HashMap<u32, usize>, c: Place) -> PlanPlace
-    requires { IsIndex index.now nodes.now }
-    ensures { result ≡ at_source nodes.now c }
-{
-    match find_node(nodes, index, c.node) {
-        Some(Node::Source(input)) => PlanPlace::Source(input.number),
-        _ => PlanPlace::Source(0),
-    }
-}
-
 /// Where the collection is in the plan.
 pub(crate) fn named(
     nodes: &[Entry],
@@ -38,6 +27,17 @@ pub(crate) fn named(
     match names.get(&(c.node, c.out)) {
         Some(place) => *place,
         None => at_source(nodes, index, c),
+    }
+}
+
+/// A collection as the source that its node is.
+fn at_source(nodes: &[Entry], index: &HashMap<u32, usize>, c: Place) -> PlanPlace
+    requires { IsIndex index.now nodes.now }
+    ensures { result ≡ at_source nodes.now c }
+{
+    match find_node(nodes, index, c.node) {
+        Some(Node::Source(input)) => PlanPlace::Source(input.number),
+        _ => PlanPlace::Source(0),
     }
 }
 

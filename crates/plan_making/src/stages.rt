@@ -19,35 +19,6 @@ use plan_laws::{Grouped, Key, Operation};
 use std::alloc::{AllocError, Global};
 use std::collections::HashMap;
 
-/// The channel of a collection as it is.
-fn whole(
-    nodes: &[Entry],
-    index: &HashMap<u32, usize>,
-    names: &HashMap<(u32, u32), PlanPlace>,
-    c: Place,
-) -> InChannel
-    requires { IsIndex index.now nodes.now }
-    ensures { result
-        ≡ operations.named (name_in nodes.now names.now) (operations.whole c) }
-{
-    InChannel {
-        reads: named(nodes, index, names, c),
-        beside: None,
-        does: None,
-    }
-}
-
-/// One step that calls the function, and whose output is kept.
-fn one_call(alloc: Global, origin: u32, last: bool, function: u32) -> Result<Roots, AllocError>
-    ensures { IfOk result (λ roots. roots ≡ operations.one_call origin last function) }
-{
-    let output = Output::new(Some(0), Vec::new(alloc));
-    let step = Step::new(origin, last, Does::Call(function), output, Vec::new(alloc));
-    let mut steps = Vec::new(alloc);
-    steps.push(step)?;
-    Ok(Roots::new(steps))
-}
-
 /// A node whose function is called for a script node, whose own bag it gives or not.
 #[derive(Clone, Copy)]
 struct Call {
@@ -56,32 +27,146 @@ struct Call {
     last: bool,
 }
 
-/// The channel of a step beside an object.
-fn side(
+/// The stage of an operation.
+pub(crate) fn stage_of(
     alloc: Global,
     nodes: &[Entry],
     index: &HashMap<u32, usize>,
     names: &HashMap<(u32, u32), PlanPlace>,
-    call: Call,
-    act: Act,
-    inputs: &[Place],
+    operation: &Operation,
+) -> Result<Stage, AllocError>
+    requires index { IsIndex index.now nodes.now }
+    requires narrow { IsNarrow nodes.now operation.now }
+    ensures { IfOk result (λ stage. stage
+        ≡ operations.stage_of nodes.now (name_in nodes.now names.now) operation.now) }
+{
+    match operation {
+        Operation::Flat(number) => {
+            let takes = flat_takes(alloc, nodes, index, names, *number)?;
+            Ok(flat_stage(nodes, index, *number, takes))
+        }
+        Operation::Class(keys, groups, passes) => {
+            let mscr = class_stage(
+                alloc,
+                nodes,
+                index,
+                names,
+                keys.as_slice(),
+                groups.as_slice(),
+                passes.as_slice(),
+            )?;
+            Ok(Stage::Mscr(mscr))
+        }
+    }
+}
+
+/// The collections that a Flatten takes.
+fn flat_takes(
+    alloc: Global,
+    nodes: &[Entry],
+    index: &HashMap<u32, usize>,
+    names: &HashMap<(u32, u32), PlanPlace>,
+    number: u32,
+) -> Result<Pile<PlanPlace>, AllocError>
+    requires { IsIndex index.now nodes.now }
+    ensures { IfOk result (λ takes. takes ≡ map (name_in nodes.now names.now)
+        (operations.flat_inputs (node_at nodes.now number))) }
+{
+    match find_node(nodes, index, number) {
+        Some(Node::Flatten(inputs)) => {
+            let takes = all_named(alloc, nodes, index, names, inputs.as_slice())?;
+            Ok(takes)
+        }
+        Some(Node::Barrier { inputs, .. }) => {
+            let takes = all_named(alloc, nodes, index, names, inputs.as_slice())?;
+            Ok(takes)
+        }
+        _ => Ok(Pile::new(alloc)),
+    }
+}
+
+/// The stage of a Flatten, or of a barrier that gives an object.
+fn flat_stage(
+    nodes: &[Entry],
+    index: &HashMap<u32, usize>,
+    number: u32,
+    takes: Pile<PlanPlace>,
+) -> Stage
+    requires { IsIndex index.now nodes.now }
+    ensures { result ≡ operations.flat_stage (node_at nodes.now number) takes }
+{
+    match find_node(nodes, index, number) {
+        Some(
+            Node::Barrier {
+                origin,
+                is_own: last,
+                act,
+                ..
+            },
+        ) => Stage::Operate(takes, *origin, *last, *act),
+        _ => Stage::Flatten(takes),
+    }
+}
+
+fn class_stage(
+    alloc: Global,
+    nodes: &[Entry],
+    index: &HashMap<u32, usize>,
+    names: &HashMap<(u32, u32), PlanPlace>,
+    keys: &[Key],
+    groups: &[Grouped],
+    passes: &[Place],
+) -> Result<Mscr, AllocError>
+    requires index { IsIndex index.now nodes.now }
+    requires narrow { IsClassNarrow nodes.now keys.now groups.now passes.now }
+    ensures inputs { IfOk result (λ mscr. mscr.inputs
+        ≡ map (operations.named (name_in nodes.now names.now))
+        (operations.channels_of nodes.now keys.now)) }
+    ensures outputs { IfOk result (λ mscr. mscr.outputs
+        ≡ operations.class_outs nodes.now keys.now groups.now passes.now) }
+{
+    let inputs = inputs_of(alloc, nodes, index, names, keys)?;
+    let outputs = outputs_of(alloc, nodes, index, keys, groups, passes)?;
+    Ok(Mscr { inputs, outputs })
+}
+
+fn inputs_of(
+    alloc: Global,
+    nodes: &[Entry],
+    index: &HashMap<u32, usize>,
+    names: &HashMap<(u32, u32), PlanPlace>,
+    keys: &[Key],
+) -> Result<Pile<InChannel>, AllocError>
+    requires { IsIndex index.now nodes.now }
+    ensures { IfOk result (λ inputs. inputs ≡ map (operations.named (name_in nodes.now names.now))
+        (operations.channels_of nodes.now keys.now)) }
+{
+    let mut inputs = Pile::new(alloc);
+    for key in keys {
+        let channel = input_of(alloc, nodes, index, names, *key)?;
+        inputs.push(channel)?;
+    }
+    Ok(inputs)
+}
+
+fn input_of(
+    alloc: Global,
+    nodes: &[Entry],
+    index: &HashMap<u32, usize>,
+    names: &HashMap<(u32, u32), PlanPlace>,
+    key: Key,
 ) -> Result<InChannel, AllocError>
     requires { IsIndex index.now nodes.now }
     ensures { IfOk result (λ channel. channel ≡ operations.named (name_in nodes.now names.now)
-        (operations.side_channel call.node call.origin call.last act inputs.now)) }
+        (operations.channel_of nodes.now key)) }
 {
-    if let Act::SideInput(function) = act {
-        if inputs.len() == 2 {
-            let does = one_call(alloc, call.origin, call.last, function)?;
-            return Ok(InChannel {
-                reads: named(nodes, index, names, inputs[0]),
-                beside: Some(named(nodes, index, names, inputs[1])),
-                does: Some(does),
-            });
+    match key {
+        Key::Mapper(number) => {
+            let channel = mapper(alloc, nodes, index, names, number)?;
+            Ok(channel)
         }
+        Key::Whole(c) => Ok(whole(nodes, index, names, c)),
     }
-    let node = call.node;
-    Ok(whole(nodes, index, names, Place { node, out: 0 }))
 }
 
 /// The channel of a mapper.
@@ -133,61 +218,61 @@ fn mapper(
     }
 }
 
-fn input_of(
+/// The channel of a step beside an object.
+fn side(
     alloc: Global,
     nodes: &[Entry],
     index: &HashMap<u32, usize>,
     names: &HashMap<(u32, u32), PlanPlace>,
-    key: Key,
+    call: Call,
+    act: Act,
+    inputs: &[Place],
 ) -> Result<InChannel, AllocError>
     requires { IsIndex index.now nodes.now }
     ensures { IfOk result (λ channel. channel ≡ operations.named (name_in nodes.now names.now)
-        (operations.channel_of nodes.now key)) }
+        (operations.side_channel call.node call.origin call.last act inputs.now)) }
 {
-    match key {
-        Key::Mapper(number) => {
-            let channel = mapper(alloc, nodes, index, names, number)?;
-            Ok(channel)
+    if let Act::SideInput(function) = act {
+        if inputs.len() == 2 {
+            let does = one_call(alloc, call.origin, call.last, function)?;
+            return Ok(InChannel {
+                reads: named(nodes, index, names, inputs[0]),
+                beside: Some(named(nodes, index, names, inputs[1])),
+                does: Some(does),
+            });
         }
-        Key::Whole(c) => Ok(whole(nodes, index, names, c)),
     }
+    let node = call.node;
+    Ok(whole(nodes, index, names, Place { node, out: 0 }))
 }
 
-fn inputs_of(
-    alloc: Global,
+/// One step that calls the function, and whose output is kept.
+fn one_call(alloc: Global, origin: u32, last: bool, function: u32) -> Result<Roots, AllocError>
+    ensures { IfOk result (λ roots. roots ≡ operations.one_call origin last function) }
+{
+    let output = Output::new(Some(0), Vec::new(alloc));
+    let step = Step::new(origin, last, Does::Call(function), output, Vec::new(alloc));
+    let mut steps = Vec::new(alloc);
+    steps.push(step)?;
+    Ok(Roots::new(steps))
+}
+
+/// The channel of a collection as it is.
+fn whole(
     nodes: &[Entry],
     index: &HashMap<u32, usize>,
     names: &HashMap<(u32, u32), PlanPlace>,
-    keys: &[Key],
-) -> Result<Pile<InChannel>, AllocError>
+    c: Place,
+) -> InChannel
     requires { IsIndex index.now nodes.now }
-    ensures { IfOk result (λ inputs. inputs ≡ map (operations.named (name_in nodes.now names.now))
-        (operations.channels_of nodes.now keys.now)) }
+    ensures { result
+        ≡ operations.named (name_in nodes.now names.now) (operations.whole c) }
 {
-    let mut inputs = Pile::new(alloc);
-    for key in keys {
-        let channel = input_of(alloc, nodes, index, names, *key)?;
-        inputs.push(channel)?;
+    InChannel {
+        reads: named(nodes, index, names, c),
+        beside: None,
+        does: None,
     }
-    Ok(inputs)
-}
-
-/// Adds the channels of what passes through.
-fn push_passes(
-    keys: &[Key],
-    channels: &Channels,
-    passes: &[Place],
-    outputs: &mut Vec<OutChannel>,
-) -> Result<(), AllocError>
-    requires count { length keys.now < 2 ^ 32 }
-    requires channels { AreChannels channels.now keys.now }
-    ensures { OnOk result (outputs.new.items ≡ outputs.old.items
-        ++ map (operations.pass_of keys.now) passes.now) }
-{
-    for c in passes {
-        outputs.push(OutChannel::Pass(take_of(keys, channels, *c), 0))?;
-    }
-    Ok(())
 }
 
 /// The output channels of a class.
@@ -212,105 +297,20 @@ fn outputs_of(
     Ok(outputs)
 }
 
-fn class_stage(
-    alloc: Global,
-    nodes: &[Entry],
-    index: &HashMap<u32, usize>,
-    names: &HashMap<(u32, u32), PlanPlace>,
+/// Adds the channels of what passes through.
+fn push_passes(
     keys: &[Key],
-    groups: &[Grouped],
+    channels: &Channels,
     passes: &[Place],
-) -> Result<Mscr, AllocError>
-    requires index { IsIndex index.now nodes.now }
-    requires narrow { IsClassNarrow nodes.now keys.now groups.now passes.now }
-    ensures inputs { IfOk result (λ mscr. mscr.inputs
-        ≡ map (operations.named (name_in nodes.now names.now))
-        (operations.channels_of nodes.now keys.now)) }
-    ensures outputs { IfOk result (λ mscr. mscr.outputs
-        ≡ operations.class_outs nodes.now keys.now groups.now passes.now) }
+    outputs: &mut Vec<OutChannel>,
+) -> Result<(), AllocError>
+    requires count { length keys.now < 2 ^ 32 }
+    requires channels { AreChannels channels.now keys.now }
+    ensures { OnOk result (outputs.new.items ≡ outputs.old.items
+        ++ map (operations.pass_of keys.now) passes.now) }
 {
-    let inputs = inputs_of(alloc, nodes, index, names, keys)?;
-    let outputs = outputs_of(alloc, nodes, index, keys, groups, passes)?;
-    Ok(Mscr { inputs, outputs })
-}
-
-/// The collections that a Flatten takes.
-fn flat_takes(
-    alloc: Global,
-    nodes: &[Entry],
-    index: &HashMap<u32, usize>,
-    names: &HashMap<(u32, u32), PlanPlace>,
-    number: u32,
-) -> Result<Pile<PlanPlace>, AllocError>
-    requires { IsIndex index.now nodes.now }
-    ensures { IfOk result (λ takes. takes ≡ map (name_in nodes.now names.now)
-        (operations.flat_inputs (node_at nodes.now number))) }
-{
-    match find_node(nodes, index, number) {
-        Some(Node::Flatten(inputs)) => {
-            let takes = all_named(alloc, nodes, index, names, inputs.as_slice())?;
-            Ok(takes)
-        }
-        Some(Node::Barrier { inputs, .. }) => {
-            let takes = all_named(alloc, nodes, index, names, inputs.as_slice())?;
-            Ok(takes)
-        }
-        _ => Ok(Pile::new(alloc)),
+    for c in passes {
+        outputs.push(OutChannel::Pass(take_of(keys, channels, *c), 0))?;
     }
-}
-
-/// The stage of a Flatten, or of a barrier that gives an object.
-fn flat_stage(
-    nodes: &[Entry],
-    index: &HashMap<u32, usize>,
-    number: u32,
-    takes: Pile<PlanPlace>,
-) -> Stage
-    requires { IsIndex index.now nodes.now }
-    ensures { result ≡ operations.flat_stage (node_at nodes.now number) takes }
-{
-    match find_node(nodes, index, number) {
-        Some(
-            Node::Barrier {
-                origin,
-                is_own: last,
-                act,
-                ..
-            },
-        ) => Stage::Operate(takes, *origin, *last, *act),
-        _ => Stage::Flatten(takes),
-    }
-}
-
-/// The stage of an operation.
-pub(crate) fn stage_of(
-    alloc: Global,
-    nodes: &[Entry],
-    index: &HashMap<u32, usize>,
-    names: &HashMap<(u32, u32), PlanPlace>,
-    operation: &Operation,
-) -> Result<Stage, AllocError>
-    requires index { IsIndex index.now nodes.now }
-    requires narrow { IsNarrow nodes.now operation.now }
-    ensures { IfOk result (λ stage. stage
-        ≡ operations.stage_of nodes.now (name_in nodes.now names.now) operation.now) }
-{
-    match operation {
-        Operation::Flat(number) => {
-            let takes = flat_takes(alloc, nodes, index, names, *number)?;
-            Ok(flat_stage(nodes, index, *number, takes))
-        }
-        Operation::Class(keys, groups, passes) => {
-            let mscr = class_stage(
-                alloc,
-                nodes,
-                index,
-                names,
-                keys.as_slice(),
-                groups.as_slice(),
-                passes.as_slice(),
-            )?;
-            Ok(Stage::Mscr(mscr))
-        }
-    }
+    Ok(())
 }

@@ -10,57 +10,38 @@ use crate::places::push_number;
 use exec_graph::{Output, Roots, Step};
 use std::alloc::AllocError;
 
+/// Adds the steps of a channel.
+pub fn push_forest<N: Names>(
+    text: &mut Vec<u8>,
+    names: &N,
+    does: &Option<Roots>,
+) -> Result<(), AllocError>
+    ensures { OnOk result (text.new.items
+        ≡ text.old.items ++ spec.forest_text (N.naming names.now) does.now) }
+{
+    match does {
+        None => text.extend_from_slice(b"="),
+        Some(roots) => push_steps(text, names, roots),
+    }
+}
+
+/// Adds the steps of a forest.
+fn push_steps<N: Names>(text: &mut Vec<u8>, names: &N, roots: &Roots) -> Result<(), AllocError>
+    ensures { OnOk result (text.new.items
+        ≡ text.old.items ++ spec.steps_text (N.naming names.now) [] roots.now) }
+{
+    for (i, step) in roots.steps().iter().enumerate() {
+        text.extend_from_slice(space_before(i))?;
+        push_step(text, names, step)?;
+    }
+    Ok(())
+}
+
 /// What stands before the step of a number.
 fn space_before(number: usize) -> &'static [u8]
     ensures { result.now ≡ space_before number }
 {
     if number == 0 { b"" } else { b" " }
-}
-
-/// Adds the number of an output that is kept.
-fn push_kept(text: &mut Vec<u8>, kept: Option<u32>) -> Result<(), AllocError>
-    ensures { OnOk result (text.new.items ≡ text.old.items ++ spec.number_text kept) }
-{
-    match kept {
-        None => Ok(()),
-        Some(number) => {
-            text.extend_from_slice(b">")?;
-            push_number(text, u64::from(number))
-        }
-    }
-}
-
-/// Whether no step is on the output.
-#[tactic(auto, using(crate::proofs::Branching::bare_grown))]
-fn is_bare(output: &Output) -> bool
-    ensures { result ≡ spec.is_bare (grown output.now.kids.items) }
-{
-    output.kids.is_empty()
-}
-
-fn is_used(output: &Output) -> bool
-    ensures { result ≡ spec.is_used output.now.number (grown output.now.kids.items) }
-{
-    match output.number {
-        None => !is_bare(output),
-        Some(_) => true,
-    }
-}
-
-/// Adds which of several outputs it is, where it is used.
-fn push_choice(text: &mut Vec<u8>, which: Option<u64>, output: &Output) -> Result<(), AllocError>
-    ensures { OnOk result (text.new.items ≡ text.old.items ++ choice_text which (twig output.now)) }
-{
-    match which {
-        None => Ok(()),
-        Some(which) => {
-            if !is_used(output) {
-                return Ok(());
-            }
-            text.extend_from_slice(b"/")?;
-            push_number(text, which)
-        }
-    }
 }
 
 /// Adds what a step does, and its outputs.
@@ -75,12 +56,6 @@ fn push_step<N: Names>(text: &mut Vec<u8>, names: &N, step: &Step) -> Result<(),
         push_output(text, names, Some(i as u64 + 2), output)?;
     }
     Ok(())
-}
-
-fn first_of_several(step: &Step) -> Option<u64>
-    ensures { result ≡ first_of_several step.now.more }
-{
-    if step.more.is_empty() { None } else { Some(1) }
 }
 
 /// Adds an output, with the steps on it.
@@ -107,29 +82,54 @@ fn push_output<N: Names>(
     text.extend_from_slice(b")")
 }
 
-/// Adds the steps of a forest.
-fn push_steps<N: Names>(text: &mut Vec<u8>, names: &N, roots: &Roots) -> Result<(), AllocError>
-    ensures { OnOk result (text.new.items
-        ≡ text.old.items ++ spec.steps_text (N.naming names.now) [] roots.now) }
+fn first_of_several(step: &Step) -> Option<u64>
+    ensures { result ≡ first_of_several step.now.more }
 {
-    for (i, step) in roots.steps().iter().enumerate() {
-        text.extend_from_slice(space_before(i))?;
-        push_step(text, names, step)?;
-    }
-    Ok(())
+    if step.more.is_empty() { None } else { Some(1) }
 }
 
-/// Adds the steps of a channel.
-pub fn push_forest<N: Names>(
-    text: &mut Vec<u8>,
-    names: &N,
-    does: &Option<Roots>,
-) -> Result<(), AllocError>
-    ensures { OnOk result (text.new.items
-        ≡ text.old.items ++ spec.forest_text (N.naming names.now) does.now) }
+/// Adds which of several outputs it is, where it is used.
+fn push_choice(text: &mut Vec<u8>, which: Option<u64>, output: &Output) -> Result<(), AllocError>
+    ensures { OnOk result (text.new.items ≡ text.old.items ++ choice_text which (twig output.now)) }
 {
-    match does {
-        None => text.extend_from_slice(b"="),
-        Some(roots) => push_steps(text, names, roots),
+    match which {
+        None => Ok(()),
+        Some(which) => {
+            if !is_used(output) {
+                return Ok(());
+            }
+            text.extend_from_slice(b"/")?;
+            push_number(text, which)
+        }
+    }
+}
+
+fn is_used(output: &Output) -> bool
+    ensures { result ≡ spec.is_used output.now.number (grown output.now.kids.items) }
+{
+    match output.number {
+        None => !is_bare(output),
+        Some(_) => true,
+    }
+}
+
+/// Whether no step is on the output.
+#[tactic(auto, using(crate::proofs::Branching::bare_grown))]
+fn is_bare(output: &Output) -> bool
+    ensures { result ≡ spec.is_bare (grown output.now.kids.items) }
+{
+    output.kids.is_empty()
+}
+
+/// Adds the number of an output that is kept.
+fn push_kept(text: &mut Vec<u8>, kept: Option<u32>) -> Result<(), AllocError>
+    ensures { OnOk result (text.new.items ≡ text.old.items ++ spec.number_text kept) }
+{
+    match kept {
+        None => Ok(()),
+        Some(number) => {
+            text.extend_from_slice(b">")?;
+            push_number(text, u64::from(number))
+        }
     }
 }

@@ -65,17 +65,6 @@ impl FaultCount {
     }
 }
 
-/// Which answer an error is: no file is there where the last part of the path, or a folder on the
-/// way to it, is missing or no folder; any other error is a failure.
-fn fault_of(kind: ErrorKind) -> BeginFault
-    ensures { result ≡ spec.fault_of kind }
-{
-    match kind {
-        ErrorKind::NotFound | ErrorKind::NotADirectory => BeginFault::Missing,
-        _ => BeginFault::Failed,
-    }
-}
-
 /// Writes the first bytes of a piece, at least one where there is one, and says how many; None
 /// where that fails, as where nothing is taken.
 pub fn write_some<W: Write>(out: &mut W, piece: &[u8]) -> Option<usize>
@@ -85,5 +74,16 @@ pub fn write_some<W: Write>(out: &mut W, piece: &[u8]) -> Option<usize>
     match out.write(piece) {
         Ok(count) if count > 0 || piece.is_empty() => Some(count),
         _ => None,
+    }
+}
+
+/// Which answer an error is: no file is there where the last part of the path, or a folder on the
+/// way to it, is missing or no folder; any other error is a failure.
+fn fault_of(kind: ErrorKind) -> BeginFault
+    ensures { result ≡ spec.fault_of kind }
+{
+    match kind {
+        ErrorKind::NotFound | ErrorKind::NotADirectory => BeginFault::Missing,
+        _ => BeginFault::Failed,
     }
 }

@@ -67,12 +67,6 @@ impl Calls {
     }
 }
 
-fn is_named(fails: &[Fail], begun: u64, call: u64) -> bool
-    ensures { result ≡ is_named fails.now begun call }
-{
-    fails.iter().any(|fail| u64::from(fail.begun) == begun && u64::from(fail.call) == call)
-}
-
 /// Counts a failure, and names it.
 pub fn failed(faults: &mut u64) -> Failed
     ensures counted { faults.new ≡ raised faults.old }
@@ -80,4 +74,10 @@ pub fn failed(faults: &mut u64) -> Failed
 {
     *faults = faults.saturating_add(1);
     Failed
+}
+
+fn is_named(fails: &[Fail], begun: u64, call: u64) -> bool
+    ensures { result ≡ is_named fails.now begun call }
+{
+    fails.iter().any(|fail| u64::from(fail.begun) == begun && u64::from(fail.call) == call)
 }
