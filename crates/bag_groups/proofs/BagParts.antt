@@ -15,7 +15,7 @@ given_on : {A B : Type 0} (f : A → List B) (o : Option A) (xs : List A)
 given_on f None xs = refl
 given_on f (Some x) xs = ap (λ l. l ++ flat_map f xs) (sym (append-nil (f x)))
 
-pub chosen-flat : {A B : Type 0} (choose : Value → Option A) (f : A → List B) (xs : List Value)
+chosen-flat : {A B : Type 0} (choose : Value → Option A) (f : A → List B) (xs : List Value)
     → flat_map f (filter_map choose xs) ≡ flat_map (given choose f) xs
 chosen-flat choose f [] = refl
 chosen-flat choose f (x ∷ xs) =

@@ -58,7 +58,7 @@ parts_as None group e = cc e
 parts_as (Some it) group e = ap Some (listed_as it.0 (members_of it.1) group e).0
 
 -- the key of a group is that of the pair
-pub group-key : (g : Value) (group : Group) → group_of g ≡ Some group → key_of g ≡ Some group.0
+group-key : (g : Value) (group : Group) → group_of g ≡ Some group → key_of g ≡ Some group.0
 group-key g group e = parts_as (parts_of g) group e
 
 group_as : (parts : Option Parts) (k v : Value) (list : Option (List Value))

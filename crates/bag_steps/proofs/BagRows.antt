@@ -29,7 +29,7 @@ counted_traps-bag_of xs =
 
 -- ---- joins
 
-pub map_filter-flat : {A B : Type 0} (f : A → B) (keep : A → Bool) (xs : List A)
+map_filter-flat : {A B : Type 0} (f : A → B) (keep : A → Bool) (xs : List A)
     → map f (filter keep xs) ≡ flat_map (λ x. cond (keep x) (f x ∷ []) []) xs
 map_filter-flat f keep [] = refl
 map_filter-flat f keep (x ∷ xs) =

@@ -28,7 +28,7 @@ use Rattle.bag_steps.proofs.RunLemmas.{AreAll, AreFrom, AreOther, NotBelow-same,
 
 -- ---- a run and its count
 
-pub flat_map-each : {A B : Type 0} (f g : A → List B) (xs : List A) → Each (λ x. f x ≡ g x) xs
+flat_map-each : {A B : Type 0} (f g : A → List B) (xs : List A) → Each (λ x. f x ≡ g x) xs
     → flat_map f xs ≡ flat_map g xs
 flat_map-each f g [] e = refl
 flat_map-each f g (x ∷ xs) e = λ i. e.0 i ++ flat_map-each f g xs e.1 i
@@ -54,7 +54,7 @@ counted-begin k run rest same above other some =
 
 -- ---- counts are ints
 
-pub number-is : (n : ℕ) → n < 2 ^ 63 → number n ≡ Ok (value.Int (pos n))
+number-is : (n : ℕ) → n < 2 ^ 63 → number n ≡ Ok (value.Int (pos n))
 number-is n small =
     ap int_or_overflow (int_wrap_fits w128 (pos n) (record { sfits = omega arith }))
     ∙ ap (λ b. if b then Ok (value.Int (pos n)) else Err Overflow) (lt-ltb n (2 ^ 63) small)

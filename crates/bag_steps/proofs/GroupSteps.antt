@@ -23,7 +23,7 @@ first_is xs k e j h =
     let same : Some j ≡ Some k = sym h ∙ e in let is : j ≡ k = cc in NotBelow-same k j is
 
 -- a run of the first key and its group
-pub grouped-ahead : (xs : List Value) (k : Value) (n : ℕ) → Each IsPair xs → Rises xs
+grouped-ahead : (xs : List Value) (k : Value) (n : ℕ) → Each IsPair xs → Rises xs
     → first_key xs ≡ Some k → IsRun key_of (Some k) xs n
     → grouped xs ≡ pair k (value.List (held_by (take n xs))) ∷ grouped (drop n xs)
 grouped-ahead xs k n pairs up first r =

@@ -76,7 +76,7 @@ none_least (Some i) (Some j) e =
 
 -- ---- the runs of a key on both sides, and its row
 
-pub joined-ahead : (xs ys : List Value) (k : Value) (m n : ℕ) → Each IsPair xs → Rises xs
+joined-ahead : (xs ys : List Value) (k : Value) (m n : ℕ) → Each IsPair xs → Rises xs
     → Each IsPair ys → Rises ys → Some k ≡ least_of (first_key xs) (first_key ys)
     → IsRun key_of (Some k) xs m → IsRun key_of (Some k) ys n
     → (0 < m + n) × (joined xs ys

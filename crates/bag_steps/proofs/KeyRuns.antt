@@ -40,7 +40,7 @@ abbrev of_key : Value → Parts → Bool
 of_key j p = value_eq (key p) j
 
 -- what holds of what a list is made to
-pub Each-unmap : {A B : Type 0} (P : B → Type 0) (f : A → B) (xs : List A)
+Each-unmap : {A B : Type 0} (P : B → Type 0) (f : A → B) (xs : List A)
     → Each P (map f xs) → Each (λ x. P (f x)) xs
 Each-unmap P f [] e = tt
 Each-unmap P f (x ∷ xs) e = (e.0, Each-unmap P f xs e.1)

@@ -36,7 +36,7 @@ put-ahead : (k : Value) (b : List Value) → AreFrom k b → put k b ≡ k ∷ b
 put-ahead k [] e = refl
 put-ahead k (x ∷ xs) e = ap (λ t. cond t (x ∷ put k xs) (k ∷ x ∷ xs)) e.0
 
-pub bag_of-ahead : (k : Value) (run rest : List Value) → AreAll k run → AreFrom k rest
+bag_of-ahead : (k : Value) (run rest : List Value) → AreAll k run → AreFrom k rest
     → bag_of (run ++ rest) ≡ run ++ bag_of rest
 bag_of-ahead k [] rest same above = refl
 bag_of-ahead k (x ∷ xs) rest same above =

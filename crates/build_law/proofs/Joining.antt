@@ -85,7 +85,7 @@ unless_put t [] b = refl
 unless_put t (u ∷ us) b =
     with_put t u us (put_new trap_le t us) b (trap_le t u) (trap_le u t)
 
-pub unless_set : (ts : List Trap) (b : List Value)
+unless_set : (ts : List Trap) (b : List Value)
     → unless_trapped (trap_set ts) b ≡ unless_trapped ts b
 unless_set [] b = refl
 unless_set (t ∷ ts) b = unless_put t (trap_set ts) b

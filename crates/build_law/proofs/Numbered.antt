@@ -28,7 +28,7 @@ counts_append n (x ∷ xs) ys h k =
     let e : n + suc (length xs) ≡ suc n + length xs = omega arith in
     (h.0, counts_append (suc n) xs ys h.1 (subst (λ m. Counts m ys) e k))
 
-pub above_counts : (n : ℕ) (es : List Entry) → Counts n es
+above_counts : (n : ℕ) (es : List Entry) → Counts n es
     → AllByRecursion (λ d. n ≤ d.number) es
 above_counts n [] h = tt
 above_counts n (e ∷ es) h = (
@@ -103,7 +103,7 @@ at_counts n (e ∷ es) h = (
 
 -- ---- the nodes of collections
 
-pub block_length : (script : Script) (gives : ℕ → Place) (origin source n : ℕ) (made : Made)
+block_length : (script : Script) (gives : ℕ → Place) (origin source n : ℕ) (made : Made)
     → length (made_nodes script gives origin source n made) ≡ before_last made + 1
 block_length script gives origin source n (made.Input file columns) = refl
 block_length script gives origin source n (made.Do input f output) = refl
@@ -197,7 +197,7 @@ abbrev pub end_of : ℕ → List (Option Built) → ℕ
 end_of n [] = n
 end_of n (w ∷ ws) = end_of (behind n w) ws
 
-pub end_up : (n : ℕ) (ws : List (Option Built)) → n ≤ end_of n ws
+end_up : (n : ℕ) (ws : List (Option Built)) → n ≤ end_of n ws
 end_up n [] = omega arith
 end_up n (None ∷ ws) = end_up n ws
 end_up n (Some it ∷ ws) = let up = end_up (n + before_last it.made + 1) ws in omega arith

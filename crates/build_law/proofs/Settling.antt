@@ -33,7 +33,7 @@ bag_unless : (ts : List Trap) (b : List Value) → bag_of b ≡ b
 bag_unless [] b h = h
 bag_unless (t ∷ ts) b h = refl
 
-pub made_settled : (b : List Value) (ts : List Trap)
+made_settled : (b : List Value) (ts : List Trap)
     → IsSettled (record { bag = bag_of b; traps = trap_set ts })
 made_settled b ts = record { bag = bag_of-twice b; set = set_twice ts }
 

@@ -59,7 +59,7 @@ found_next it asked (None ∷ left) = refl
 found_next it asked (Some saved ∷ left) = refl
 
 -- the turn of one more that is asked for
-pub found_turn : (so_far whole : List (ℕ × Saved)) (it : ℕ × List ℕ)
+found_turn : (so_far whole : List (ℕ × Saved)) (it : ℕ × List ℕ)
     (asked : List (ℕ × List ℕ)) (left : List (Option Saved))
     → so_far ++ found_of (it ∷ asked) left ≡ whole
     → (so_far ++ next_of it.0 left) ++ found_of asked (behind left) ≡ whole

@@ -116,7 +116,7 @@ module _ (entry : List ℕ × Output) (outputs : Named Output) (members : List V
       read)
 
 -- what the first output writes that reads a collection are its members
-pub members_right : (outputs : Named Output) (written : List (List Value)) (table : Table)
+members_right : (outputs : Named Output) (written : List (List Value)) (table : Table)
     (number : ℕ)
     → AllZip (λ output members. AreMembers table output.1.reads members) outputs written
     → IsRead outputs number

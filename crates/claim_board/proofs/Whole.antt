@@ -68,7 +68,7 @@ start_good tasks tries crew = record {
   };
 }
 
-pub runs_keep : (tasks tries : ℕ) (old : BoardState) (events : List Event) (new : BoardState) → 0 < tasks
+runs_keep : (tasks tries : ℕ) (old : BoardState) (events : List Event) (new : BoardState) → 0 < tasks
     → Runs tasks tries old events new → IsGood tasks tries old → IsGood tasks tries new
 runs_keep tasks tries old [] new some_task r h = subst (IsGood tasks tries) (sym r) h
 runs_keep tasks tries old (e ∷ es) new some_task r h =
@@ -79,7 +79,7 @@ pub every_state_is_good : EveryStateIsGood
 every_state_is_good tasks tries crew events s some_task r =
     runs_keep tasks tries (start tasks crew) events s some_task r (start_good tasks tries crew)
 
-pub step_stays : (tasks tries : ℕ) (old : BoardState) (e : Event) (new : BoardState)
+step_stays : (tasks tries : ℕ) (old : BoardState) (e : Event) (new : BoardState)
     → Step tasks tries old e new → Stay old.words new.words
 step_stays tasks tries old (Draw p) new s t full = ap (λ (k : BoardState). word k t) s.3
 step_stays tasks tries old (Look p u) new s t full = ap (λ (k : BoardState). word k t) s.3

@@ -38,7 +38,7 @@ UpTo-last [] y r = (NotBelow-same y, tt)
 UpTo-last (x ∷ xs) y r = (Each-last (NotBelow x) xs y r.0, UpTo-last xs y r.1)
 
 -- a member that is below none comes last in the bag
-pub bag_of-push_greatest : (xs : List Value) (y : Value) → UpTo y xs → bag_of (xs ++ y ∷ [])
+bag_of-push_greatest : (xs : List Value) (y : Value) → UpTo y xs → bag_of (xs ++ y ∷ [])
     ≡ bag_of xs ++ y ∷ []
 bag_of-push_greatest xs y u =
     sym (bag_of-sorted (xs ++ y ∷ []) (bag_of xs ++ y ∷ [])
@@ -51,7 +51,7 @@ UpTo-higher x y xs h u = Each-weaker (λ z. NotBelow z x) (λ z. NotBelow z y)
     (λ z k. NotBelow-trans z x y k h) xs u
 
 -- the greatest member of the two, y, is the last of the right one
-pub popped_right : (xs ys : List Value) (x y : Value) → UpTo x xs → Rises (ys ++ y ∷ [])
+popped_right : (xs ys : List Value) (x y : Value) → UpTo x xs → Rises (ys ++ y ∷ [])
     → NotBelow x y → bag_of (xs ++ (ys ++ y ∷ [])) ≡ bag_of (xs ++ ys) ++ y ∷ []
 popped_right xs ys x y u r h =
     ap bag_of (sym (append_assoc xs ys (y ∷ [])))

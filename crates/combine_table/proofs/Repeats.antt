@@ -46,7 +46,7 @@ once_before u v (w ∷ ws) e =
       | false ↦ ap (λ t. cond t (u ∷ w ∷ ws) (u ∷ v ∷ w ∷ ws)) e
     ]
 
-pub distinct-cons : (v : Value) (vs : List Value) → distinct (v ∷ vs) ≡ once v (distinct vs)
+distinct-cons : (v : Value) (vs : List Value) → distinct (v ∷ vs) ≡ once v (distinct vs)
 distinct-cons v [] = refl
 distinct-cons v (w ∷ ws) = by (value_eq w v) refl (distinct-cons v ws) (distinct-cons w ws)
   where
@@ -74,7 +74,7 @@ once_distinct v (w ∷ ws) e = by (value_eq w v) refl
     by false h = distinct-cons v (w ∷ ws) ∙ ap (once v) e
         ∙ ap (λ t. cond t (v ∷ ws) (v ∷ w ∷ ws)) h
 
-pub distinct-twice : (b : List Value) → distinct (distinct b) ≡ distinct b
+distinct-twice : (b : List Value) → distinct (distinct b) ≡ distinct b
 distinct-twice [] = refl
 distinct-twice (v ∷ vs) =
     ap distinct (distinct-cons v vs) ∙ once_distinct v (distinct vs) (distinct-twice vs)
@@ -185,7 +185,7 @@ distinct-ascends xs =
 less_rises : (v w : Value) → value_cmp v w ≡ Less → NotBelow v w
 less_rises v w h = ranks.one_way v w (ap is_lt h)
 
-pub strict_rises : (vs : List Value) → IsStrictlySortedBy value_cmp vs → Rises vs
+strict_rises : (vs : List Value) → IsStrictlySortedBy value_cmp vs → Rises vs
 unfolding IsStrictlySortedBy
 strict_rises [] a = tt
 strict_rises (v ∷ vs) a = (

@@ -64,7 +64,7 @@ total-append [] ys = sym (+ℤ_idl (total ys))
 total-append (x ∷ xs) ys = ap (λ n. int_or_zero x +ℤ n) (total-append xs ys)
     ∙ sym (+ℤ_assoc (int_or_zero x) (total xs) (total ys))
 
-pub total_more : (xs : List Value) (i : ℕ) (d : Value) → i < length xs
+total_more : (xs : List Value) (i : ℕ) (d : Value) → i < length xs
     → total (take (i + 1) xs) ≡ total (take i xs) +ℤ int_or_zero (get_or xs i d)
 total_more xs i d h = ap total (take_more xs i d h) ∙ total-append (take i xs) (get_or xs i d ∷ [])
     ∙ ap (λ n. total (take i xs) +ℤ n) (+ℤ_idr (int_or_zero (get_or xs i d)))

@@ -33,14 +33,14 @@ use Rattle.crew.proofs.InOrder.{outs_of, outs_of-cons, indexed}
 use Rattle.crew.proofs.Counting.{just, first_length, all_accounted, any_counts}
 
 -- the passes of a new board are its own, have done nothing, and are as many as its crew
-pub fresh_are_of : (b : Board) (n : ℕ) → AreOf b (fresh_passes b n)
+fresh_are_of : (b : Board) (n : ℕ) → AreOf b (fresh_passes b n)
 fresh_are_of b zero = All-nil (λ (p : Pass). p.board ≡ b)
 fresh_are_of b (suc n) =
     let Q : Pass → Type 0 = λ p. p.board ≡ b in
     All-append Q (fresh_passes b n) (record { board = b; state = fresh n } ∷ []) (fresh_are_of b n)
     (All-cons Q _ [] refl (All-nil Q))
 
-pub fresh_done_nothing : (b : Board) (n : ℕ)
+fresh_done_nothing : (b : Board) (n : ℕ)
     → All (λ p. IsFresh p.state) (fresh_passes b n)
 fresh_done_nothing b zero = All-nil (λ (p : Pass). IsFresh p.state)
 fresh_done_nothing b (suc n) =

@@ -45,7 +45,7 @@ abbrev pub downed : List Turn → List ℕ
 downed [] = []
 downed (t ∷ ts) = drops t ++ downed ts
 
-pub length_downed : (ts : List Turn) → length (downed ts) ≡ length (all_downs ts)
+length_downed : (ts : List Turn) → length (downed ts) ≡ length (all_downs ts)
 length_downed [] = refl
 length_downed (t ∷ ts) =
     let r = length_downed ts in

@@ -14,7 +14,7 @@ use Rattle.crew.specs.Work.{Turn, Worker, AreWorkers, HaveWorked, HasDone, Cause
 use Rattle.crew.specs.Workers.{IsFresh, AllTook, Phased, wons}
 use Rattle.crew.proofs.Lists.{some_host_left, some_host_right}
 
-pub wons-append : (xs ys : List Pass) → wons (xs ++ ys) ≡ wons xs ++ wons ys
+wons-append : (xs ys : List Pass) → wons (xs ++ ys) ≡ wons xs ++ wons ys
 wons-append [] ys = refl
 wons-append (x ∷ xs) ys =
     ap (λ (l : List ℕ). x.state.won ++ l) (wons-append xs ys)

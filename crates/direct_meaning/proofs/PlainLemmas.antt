@@ -22,7 +22,7 @@ flat-if g true x xs = refl
 flat-if g false x xs = refl
 
 -- all inputs: as they stand
-pub all-inputs : {X : Type 0} (kinds : List Bool) → Each (λ kind. kind ≡ false) kinds
+all-inputs : {X : Type 0} (kinds : List Bool) → Each (λ kind. kind ≡ false) kinds
     → (lists : List X) → ordered kinds lists ≡ lists
 all-inputs [] none lists = refl
 all-inputs (true ∷ kinds) none lists = let e = none.0 in cc

@@ -22,7 +22,7 @@ no_digit sign byte apart is = elim (cases_Bool (byte == sign)) [
   | inr other ↦ other
 ]
 
-pub past_digits : (sign : ℕ) (ds more : List ℕ) → is_ascii_digit sign ≡ false
+past_digits : (sign : ℕ) (ds more : List ℕ) → is_ascii_digit sign ≡ false
     → all_ascii_digits ds ≡ true
     → position_or_len (λ byte. byte == sign) (ds ++ more)
     ≡ length ds + position_or_len (λ byte. byte == sign) more

@@ -50,7 +50,7 @@ short_number bs is =
     let digits = numeral_digits bs (both _ _ parts.0).0 in
     record { digits = digits.0; some = digits.1; few = at_most _ _ parts.1 }
 
-pub number_small : (bs : List ℕ) → is_number bs ≡ true → number_of bs < 10 ^ 9
+number_small : (bs : List ℕ) → is_number bs ≡ true → number_of bs < 10 ^ 9
 number_small bs is =
     let short = short_number bs is in digits_value_short own bs 9 short.digits short.few
 

@@ -100,7 +100,7 @@ pub or_none : (a : Bool) → (a || false) ≡ a
 or_none true = refl
 or_none false = refl
 
-pub given_there : (es : List Entry) (c : Place) → Ascends es
+given_there : (es : List Entry) (c : Place) → Ascends es
     → is_given es c ≡ gives_at (node_at es c.node) c.out
 given_there [] c a = refl
 given_there (e ∷ es) c a = ap (λ (b : Bool). (b && gives e.node c.out) || is_given es c)
@@ -135,12 +135,12 @@ true_entries : (p : Entry → Bool) (es : List Entry) → AllByRecursion (λ e. 
 true_entries p [] a = refl
 true_entries p (e ∷ es) a = and_both (p e) (list_all p es) a.0 (true_entries p es a.1)
 
-pub places_there : (es : List Entry) (cs : List Place) → Ascends es
+places_there : (es : List Entry) (cs : List Place) → Ascends es
     → list_all (is_given es) cs ≡ true → AllByRecursion (IsThere es) cs
 places_there es cs up h = Each-weaker (λ c. is_given es c ≡ true) (IsThere es)
     (λ c q. sym (given_there es c up) ∙ q) cs (all_true (is_given es) cs h)
 
-pub there_places : (es : List Entry) (cs : List Place) → Ascends es → AllByRecursion (IsThere es) cs
+there_places : (es : List Entry) (cs : List Place) → Ascends es → AllByRecursion (IsThere es) cs
     → list_all (is_given es) cs ≡ true
 there_places es cs up a = true_all (is_given es) cs
     (Each-weaker (IsThere es) (λ c. is_given es c ≡ true) (λ c q. given_there es c up ∙ q) cs a)
@@ -161,13 +161,13 @@ there_node es (Pdo c f) up a = given_there es c up ∙ a.0
 there_node es (Gbk c o l k) up a = given_there es c up ∙ a.0
 there_node es (Barrier ins o l i) up a = there_places es ins up a
 
-pub nodes_there : (es : List Entry) → Ascends es → list_all (λ e. reads_given es e.node) es ≡ true
+nodes_there : (es : List Entry) → Ascends es → list_all (λ e. reads_given es e.node) es ≡ true
     → AllByRecursion (λ e. AllByRecursion (IsThere es) (reads e.node)) es
 nodes_there es up h = Each-weaker (λ (e : Entry). reads_given es e.node ≡ true)
     (λ e. AllByRecursion (IsThere es) (reads e.node)) (λ e q. node_there es e.node up q) es
     (entries_true (λ e. reads_given es e.node) es h)
 
-pub there_nodes : (es : List Entry) → Ascends es
+there_nodes : (es : List Entry) → Ascends es
     → AllByRecursion (λ e. AllByRecursion (IsThere es) (reads e.node)) es
     → list_all (λ e. reads_given es e.node) es ≡ true
 there_nodes es up a = true_entries (λ e. reads_given es e.node) es

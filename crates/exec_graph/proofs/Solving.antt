@@ -138,7 +138,7 @@ one_value w m k n v (Grow l kids rest) j a b h =
     ]
 
 -- ---- graphs
-pub solve_next : (w : World) (es : List Entry) (k : ℕ) (c : Place)
+solve_next : (w : World) (es : List Entry) (k : ℕ) (c : Place)
     → solve w es (suc k) c ≡ value_at w (solve w es k) (node_at es c.node) c.out
 unfolding solve
 solve_next w es k c = refl

@@ -25,13 +25,13 @@ right_made names k (Ok t) type given e h = let p = h t refl in (e, p.0, p.1)
 
 -- ---- outcomes with their types
 
-pub tagged_goes : (t : Ty) (o : Outcome Value) (f : Thing → Outcome Thing)
+tagged_goes : (t : Ty) (o : Outcome Value) (f : Thing → Outcome Thing)
     → then (tagged t o) f ≡ then o (λ v. f (t, v))
 tagged_goes t (Gives v) f = refl
 tagged_goes t (Traps k) f = refl
 tagged_goes t Stuck f = refl
 
-pub tagged_then : (t : Ty) (o : Outcome Value) (f : Value → Outcome Value)
+tagged_then : (t : Ty) (o : Outcome Value) (f : Value → Outcome Value)
     → then o (λ v. tagged t (f v)) ≡ tagged t (then o f)
 tagged_then t (Gives v) f = refl
 tagged_then t (Traps k) f = refl
@@ -46,7 +46,7 @@ tagged_both t u w (Gives v) Stuck f g h = refl
 tagged_both t u w (Traps k) p f g h = refl
 tagged_both t u w Stuck p f g h = refl
 
-pub tagged_test : (w : Ty) (b : Option Bool) (x y : Outcome Value)
+tagged_test : (w : Ty) (b : Option Bool) (x y : Outcome Value)
     → with_part b (λ c. cond c (tagged w x) (tagged w y)) ≡ tagged w (with_part b (λ c. cond c x y))
 tagged_test w None x y = refl
 tagged_test w (Some true) x y = refl

@@ -139,7 +139,7 @@ none-mapped : {A B : Type 0} (f : A → B) (o : Option A) → option_map f o ≡
 none-mapped f None e = refl
 none-mapped f (Some x) e = cc
 
-pub not-held : (types : List Ty) (name : List ℕ) (entries : Named ℕ)
+not-held : (types : List Ty) (name : List ℕ) (entries : Named ℕ)
     → find name (map (type_of types) (reverse entries)) ≡ None → find name entries ≡ None
 not-held types name entries e =
     none-reversed name entries

@@ -21,7 +21,7 @@ use Rattle.expression_types.specs.Operators.{one, side_of}
 
 -- ---- what was found
 
-pub where_is : {A : Type 0} (b : Bool) (r w : A) → cond b (Some r) None ≡ Some w
+where_is : {A : Type 0} (b : Bool) (r w : A) → cond b (Some r) None ≡ Some w
     → (b ≡ true) × (r ≡ w)
 where_is true r w e = (refl, cc)
 where_is false r w e = cc

@@ -56,7 +56,7 @@ call_is n (Some (Pdo c f)) h =
 call_is n (Some (Gbk c o l k)) h = absurd (false≢true h)
 call_is n (Some (Barrier ins o l a)) h = absurd (false≢true h)
 
-pub nest_passes : (g : Graph) (p : Pair) → can_nest g.nodes p ≡ true → CanNest g p
+nest_passes : (g : Graph) (p : Pair) → can_nest g.nodes p ≡ true → CanNest g p
 nest_passes g p h =
     let outer : Option Node = node_at g.nodes p.flatten in
     let inner : Option Node = node_at g.nodes p.other in
@@ -72,7 +72,7 @@ nest_passes g p h =
       room = leb-true (length joined) most_nodes (both_right near room rest);
     }
 
-pub call_passes : (g : Graph) (p : Pair) → can_call g.nodes p ≡ true → CanCall g p
+call_passes : (g : Graph) (p : Pair) → can_call g.nodes p ≡ true → CanCall g p
 call_passes g p h =
     let a : Bool = is_flatten (node_at g.nodes p.flatten) in
     let b : Bool = calls_first p.flatten (node_at g.nodes p.other) in
@@ -81,7 +81,7 @@ call_passes g p h =
       pdo = call_is p.flatten (node_at g.nodes p.other) (both_right a b h);
     }
 
-pub room_passes : (g : Graph) (p : Pair) → has_room g p ≡ true
+room_passes : (g : Graph) (p : Pair) → has_room g p ≡ true
     → total_size (after_call g p).nodes ≤ most_nodes
 room_passes g p h = leb-true (total_size (after_call g p).nodes) most_nodes h
 

@@ -81,7 +81,7 @@ size-first es n next ins zero y h = let i = size-without es n y h in omega arith
 size-first es n next ins (suc k) y h =
     let i = size-set es n (Flatten (copied next 0 ins)) y h in omega arith
 
-pub size-sunk : (g : Graph) (n p : ℕ) (f : Forest) (ins : List Place) → CanSink g n p f ins
+size-sunk : (g : Graph) (n p : ℕ) (f : Forest) (ins : List Place) → CanSink g n p f ins
     → total_size (sunk_once g p f ins).nodes + steps f
     ≡ total_size g.nodes + length ins * steps f + outputs_of f
 size-sunk g n p f ins can =
@@ -124,7 +124,7 @@ others_by t p e es true i d h = all_others t p es
         rw z (ap (λ b. t d.node || b) (all_others t p ds a.1))
 others_by t p e es false i d h = ap (λ b. t e.node || b) h
 
-pub any_others : (t : Node → Bool) (p : ℕ) (es : List Entry) → AllDiffer es
+any_others : (t : Node → Bool) (p : ℕ) (es : List Entry) → AllDiffer es
     → any_node t (without es p) ≡ list_any (λ e. not (eqb e.number p) && t e.node) es
 any_others t p [] d = refl
 any_others t p (e ∷ es) d =
@@ -171,7 +171,7 @@ copies_other c n f [] a = tt
 copies_other c n f (d ∷ ds) a =
     (let z : same_place c d ≡ false = a.0 in rw z refl, copies_other c (n + 1) f ds a.1)
 
-pub read-sunk : (g : Graph) (n p : ℕ) (f : Forest) (ins : List Place) → IsGraphOk g
+read-sunk : (g : Graph) (n p : ℕ) (f : Forest) (ins : List Place) → IsGraphOk g
     → CanSink g n p f ins → is_read (sunk_once g p f ins) (place n 0) ≡ read_elsewhere g n p
 read-sunk g n p f ins ok can =
     let base : ℕ = g.next + length ins in
@@ -225,7 +225,7 @@ tidied_size : (h : Graph) (n : ℕ) (ins : List Place) (b : Bool)
 tidied_size h n ins true at = omega arith
 tidied_size h n ins false at = size-without h.nodes n (Flatten ins) at
 
-pub after_size : (g : Graph) (c : Pair) → IsGraphOk g → CanCall g c
+after_size : (g : Graph) (c : Pair) → IsGraphOk g → CanCall g c
     → total_size (after_call g c).nodes + cond (read_elsewhere g c.flatten c.other) 0 1
     + steps (forest_of (node_at g.nodes c.other))
     ≡ total_size g.nodes + length (ins_of (node_at g.nodes c.flatten))

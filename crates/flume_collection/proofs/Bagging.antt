@@ -143,7 +143,7 @@ spread_put le p s f x y false ys b i =
     ∙ gather-gather p s (f y) (f x) (gather p (flat_map f ys) b)
     ∙ sym (ap (gather p (f x)) (gather-append p (f y) (flat_map f ys) b))
 
-pub spread-put : {X Y B : Type 0} (le : X → X → Bool) (p : Y → B → B) → Swaps p
+spread-put : {X Y B : Type 0} (le : X → X → Bool) (p : Y → B → B) → Swaps p
     → (f : X → List Y) (x : X) (xs : List X) (b : B)
     → gather p (flat_map f (put_by le x xs)) b ≡ gather p (f x) (gather p (flat_map f xs) b)
 spread-put le p s f x [] b = gather-append p (f x) [] b

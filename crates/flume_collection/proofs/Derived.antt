@@ -38,7 +38,7 @@ derived_kind NotOne BadIndex = refl
 derived_kind NotOne BadNumber = refl
 derived_kind NotOne NotOne = refl
 
-pub derived_cmp : (a b : Trap) → (ghosts).cmp a b ≡ trap_cmp a b
+derived_cmp : (a b : Trap) → (ghosts).cmp a b ≡ trap_cmp a b
 derived_cmp a b =
     ap (ordering_then (nat_cmp a.origin b.origin))
     (λ i. ordering_then (derived_cmp-value_cmp a.element b.element i)
@@ -47,7 +47,7 @@ derived_cmp a b =
 pub derived_cmp-is : (ghosts).cmp ≡ trap_cmp
 derived_cmp-is = λ i a b. derived_cmp a b i
 
-pub derived_eq : (a b : Trap) → (equality.ghosts).eq a b ≡ eq_by_cmp trap_cmp a b
+derived_eq : (a b : Trap) → (equality.ghosts).eq a b ≡ eq_by_cmp trap_cmp a b
 derived_eq a b = matches_eq-law a b ∙ ap is_eq (derived_cmp a b)
 
 pub derived_eq-is : (equality.ghosts).eq ≡ eq_by_cmp trap_cmp

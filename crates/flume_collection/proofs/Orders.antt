@@ -42,7 +42,7 @@ tied cmp o a x y g h =
       | Greater ↦ λ p q. let e = ap is_lt (o.antisymm y x ∙ ap ordering_reverse p) in cc
     ] refl h
 
-pub order_by : {X : Type 0} (cmp : X → X → Ordering) → IsTotalOrder cmp → IsAntisymmetric cmp
+order_by : {X : Type 0} (cmp : X → X → Ordering) → IsTotalOrder cmp → IsAntisymmetric cmp
     → IsOrder (at_most cmp)
 order_by cmp o a =
     let ranks : IsStrictWeakOrder (λ x y. is_lt (cmp x y)) = ranks_by o (λ x. x) in
@@ -58,7 +58,7 @@ order_by cmp o a =
 abbrev pub value_le : Value → Value → Bool
 value_le = at_most value_cmp
 
-pub value_order : IsOrder value_le
+value_order : IsOrder value_le
 value_order = order_by value_cmp value_cmp-total value_cmp-IsAntisymmetric
 
 -- ---- traps
@@ -135,7 +135,7 @@ put_same = λ i. λ v xs. put_is v xs i
 pub bags : Swaps put
 bags = subst Swaps (sym put_same) (put_swaps value_le value_order)
 
-pub bag_gathered : (xs : List Value) → bag_of xs ≡ gather put xs []
+bag_gathered : (xs : List Value) → bag_of xs ≡ gather put xs []
 bag_gathered [] = refl
 bag_gathered (x ∷ xs) = ap (put x) (bag_gathered xs)
 
@@ -143,7 +143,7 @@ bag_gathered (x ∷ xs) = ap (put x) (bag_gathered xs)
 pub one_bag : (xs ys : List Value) → gather put xs [] ≡ gather put ys [] → bag_of xs ≡ bag_of ys
 one_bag xs ys e = bag_gathered xs ∙ e ∙ sym (bag_gathered ys)
 
-pub bag_is : (xs : List Value) → bag_of xs ≡ bag_by value_le xs
+bag_is : (xs : List Value) → bag_of xs ≡ bag_by value_le xs
 bag_is xs = bag_gathered xs ∙ ap (λ (p : Value → List Value → List Value). gather p xs []) put_same
 
 -- what the members of a bag give is what those of the list give

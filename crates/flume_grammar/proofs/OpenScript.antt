@@ -35,11 +35,11 @@ use Rattle.flume_grammar.proofs.OpenBodies.{optional, optional_in, other_than, u
 
 -- ---- names
 
-pub o_name : (xs : List (List ℕ))
+o_name : (xs : List (List ℕ))
     → IsComplete any any (λ us. bind (one name_at us) (λ x vs. give (xs ++ x ∷ []) vs))
 o_name xs = name_then any any _ tt (λ x. given any any _ (free any))
 
-pub o_names : IsComplete any no_comma s.names
+o_names : IsComplete any no_comma s.names
 o_names =
     name_then any no_comma _ tt (λ x. wider no_comma any no_comma _ (free no_comma)
     (commas no_comma any s.next_name (free no_comma) (λ k i. i)
@@ -77,7 +77,7 @@ o_settled : IsComplete settled settled s.beside
 o_settled = optional_in keyword.With (λ _ us. s.object us) None settled
     (within settled (other_than keyword.With) (λ k i. i.0)) o_beside
 
-pub o_apply : IsComplete any settled s.apply
+o_apply : IsComplete any settled s.apply
 o_apply =
     name_then any settled _ tt
     (λ c. name_then any settled _ tt

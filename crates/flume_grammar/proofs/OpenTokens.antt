@@ -42,7 +42,7 @@ owns_option t None = owns_fault t Syntax
 pub owns_sign : (s : Sign) (t : Token) → Owns t (sign_at s t)
 owns_sign s t = owns_if t (is_sign s t.kind) _ _ (owns_ok t tt) (owns_fault t Syntax)
 
-pub owns_keyword : (k : Keyword) (t : Token) → Owns t (keyword_at k t)
+owns_keyword : (k : Keyword) (t : Token) → Owns t (keyword_at k t)
 owns_keyword k t = owns_if t (is_keyword k t.kind) _ _ (owns_ok t tt) (owns_fault t Syntax)
 
 pub owns_comma : (parts limit : ℕ) (t : Token) → Owns t (comma_at parts limit t)

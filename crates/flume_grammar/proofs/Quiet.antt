@@ -44,7 +44,7 @@ owns_started limit least t (Some s) = owns_if t (not (fits s least)) _ _ (owns_f
 
 -- ---- what begins with room for parts
 
-pub in_room : (b : Bool) (limit : ℕ) (t : Token) (s : Start) → nat_lt 1 limit ≡ b
+in_room : (b : Bool) (limit : ℕ) (t : Token) (s : Start) → nat_lt 1 limit ≡ b
     → (if b || is_leaf s then Ok s else Err (at t TooDeep)) ≡ Ok s → HasRoom s limit
 in_room true limit t s q e = all s (let l = ltb-true 1 limit q in omega (arith, l))
   where

@@ -23,11 +23,11 @@ at_level v t u e h = sym (has_type-step v t ∙ ap (layer_has has_type (out-Valu
 
 -- ---- the values of a list and of a record
 
-pub each_from_all : (t : Ty) (xs : List Value)
+each_from_all : (t : Ty) (xs : List Value)
     → list_all (λ v. has_type v t) xs ≡ true → AllByRecursion (Has t) xs
 each_from_all t xs h = each_passes (λ v. has_type v t) xs h
 
-pub all_from_each : (t : Ty) (xs : List Value)
+all_from_each : (t : Ty) (xs : List Value)
     → AllByRecursion (Has t) xs → list_all (λ v. has_type v t) xs ≡ true
 all_from_each t xs h = all_pass (λ v. has_type v t) xs h
 
@@ -40,7 +40,7 @@ have_from_fields (f ∷ fs) (x ∷ xs) h =
     let both = both_true (has_type x f.ty) (each_has has_type xs fs) h in
     (both.0, have_from_fields fs xs both.1)
 
-pub fields_from_have : (fields : List (Field Ty)) (xs : List Value)
+fields_from_have : (fields : List (Field Ty)) (xs : List Value)
     → HaveTypes (types_of fields) xs → each_has has_type xs fields ≡ true
 fields_from_have [] [] h = refl
 fields_from_have (f ∷ fs) [] h = absurd h

@@ -63,7 +63,7 @@ number_from-cmp_by n x y xs ys e s t rest Equal h =
 number_from-cmp_by n x y xs ys e s t rest Greater h =
     greater _ _ (number_from-less (n * 256 + y) (n * 256 + x) ys xs (sym e) t (omega arith))
 
-pub number_from-cmp : (n : ℕ) (xs ys : List ℕ) → length xs ≡ length ys → Small xs → Small ys
+number_from-cmp : (n : ℕ) (xs ys : List ℕ) → length xs ≡ length ys → Small xs → Small ys
     → nat_cmp (number_from n xs) (number_from n ys) ≡ slice_cmp nat_cmp xs ys
 number_from-cmp n [] [] e s t = same_number n
 number_from-cmp n [] (y ∷ ys) e s t = absurd (omega arith)
@@ -81,7 +81,7 @@ then_assoc Less b c = refl
 then_assoc Equal b c = refl
 then_assoc Greater b c = refl
 
-pub slice_cmp-append : (xs ys more rest : List ℕ) → length xs ≡ length ys
+slice_cmp-append : (xs ys more rest : List ℕ) → length xs ≡ length ys
     → slice_cmp nat_cmp (xs ++ more) (ys ++ rest)
     ≡ ordering_then (slice_cmp nat_cmp xs ys) (slice_cmp nat_cmp more rest)
 slice_cmp-append [] [] more rest e = refl
@@ -119,7 +119,7 @@ nothing_below (suc n) (suc x ∷ a) =
     ap (λ o. ordering_then (ordering_then o (slice_cmp nat_cmp (padded n a) (padded n [])))
     Greater) (greater (suc x) 0 (omega arith))
 
-pub padded-cmp : (n : ℕ) (a b : List ℕ) → length a ≤ n → length b ≤ n
+padded-cmp : (n : ℕ) (a b : List ℕ) → length a ≤ n → length b ≤ n
     → ordering_then (slice_cmp nat_cmp (padded n a) (padded n b)) (nat_cmp (length a) (length b))
     ≡ slice_cmp nat_cmp a b
 padded-cmp zero [] [] l m = same_number 0
@@ -153,7 +153,7 @@ small-drop zero xs s = s
 small-drop (suc n) [] s = tt
 small-drop (suc n) (x ∷ xs) s = small-drop n xs s.1
 
-pub small-append : (xs ys : List ℕ) → Small xs → Small ys → Small (xs ++ ys)
+small-append : (xs ys : List ℕ) → Small xs → Small ys → Small (xs ++ ys)
 small-append [] ys s t = t
 small-append (x ∷ xs) ys s t = (s.0, small-append xs ys s.1 t)
 
@@ -181,7 +181,7 @@ longer (x ∷ xs) [] a b c d e = absurd (omega arith)
 longer (x ∷ xs) (y ∷ ys) a b c d e = ap suc (longer xs ys a b c d (omega arith))
 
 -- the first k bytes as a number, and then the others
-pub first-cmp : (k : ℕ) (xs ys : List ℕ) → length xs ≡ length ys → Small xs → Small ys
+first-cmp : (k : ℕ) (xs ys : List ℕ) → length xs ≡ length ys → Small xs → Small ys
     → ordering_then (nat_cmp (number (take k xs)) (number (take k ys)))
     (slice_cmp nat_cmp (drop k xs) (drop k ys)) ≡ slice_cmp nat_cmp xs ys
 first-cmp k xs ys e s t =
@@ -317,7 +317,7 @@ same_padded (suc n) [] (y ∷ b) = ap suc (same_padded n [] b)
 same_padded (suc n) (x ∷ a) [] = ap suc (same_padded n a [])
 same_padded (suc n) (x ∷ a) (y ∷ b) = ap suc (same_padded n a b)
 
-pub first_decides : (n : ℕ) (a b : List ℕ) (p q : ℕ) → p ≡ number (padded n a)
+first_decides : (n : ℕ) (a b : List ℕ) (p q : ℕ) → p ≡ number (padded n a)
     → q ≡ number (padded n b) → Small (padded n a) → Small (padded n b) → (p ≡ q → ⊥)
     → nat_cmp p q ≡ slice_cmp nat_cmp a b
 first_decides n a b p q f g s t apart =
@@ -327,13 +327,13 @@ first_decides n a b p q f g s t apart =
     e ∙ padded-early n a b (λ h. apart (nat_cmp-IsAntisymmetric p q (e ∙ h)))
 
 -- the first bytes of what is padded, and of what is long enough
-pub take-padded : (m n : ℕ) (a : List ℕ) → m ≤ n → take m (padded n a) ≡ padded m a
+take-padded : (m n : ℕ) (a : List ℕ) → m ≤ n → take m (padded n a) ≡ padded m a
 take-padded zero n a l = refl
 take-padded (suc m) zero a l = absurd (omega arith)
 take-padded (suc m) (suc n) [] l = ap (λ xs. 0 ∷ xs) (take-padded m n [] (omega arith))
 take-padded (suc m) (suc n) (x ∷ a) l = ap (λ xs. x ∷ xs) (take-padded m n a (omega arith))
 
-pub take-is_padded : (n : ℕ) (a : List ℕ) → n ≤ length a → take n a ≡ padded n a
+take-is_padded : (n : ℕ) (a : List ℕ) → n ≤ length a → take n a ≡ padded n a
 take-is_padded zero a l = refl
 take-is_padded (suc n) [] l = absurd (omega arith)
 take-is_padded (suc n) (x ∷ a) l = ap (λ xs. x ∷ xs) (take-is_padded n a (omega arith))

@@ -70,14 +70,14 @@ added_twice (suc k) ns ms (m ∷ e) h = ap (λ l. m ∷ l) (added_twice k ns ms 
 kept_more : (m n : ℕ) → kept_count (kept_count m + n) ≡ kept_count (m + n)
 kept_more m n = omega arith
 
-pub raised_kept : (at n : ℕ) (e : List ℕ)
+raised_kept : (at n : ℕ) (e : List ℕ)
     → raised_at at n (map kept_count e) ≡ map kept_count (added at (n ∷ []) e)
 raised_kept zero n [] = refl
 raised_kept zero n (m ∷ e) = ap (λ c. c ∷ map kept_count e) (kept_more m n)
 raised_kept (suc k) n [] = refl
 raised_kept (suc k) n (m ∷ e) = ap (λ l. kept_count m ∷ l) (raised_kept k n e)
 
-pub kept_zeros : (n : ℕ) → map kept_count (zeros n) ≡ zeros n
+kept_zeros : (n : ℕ) → map kept_count (zeros n) ≡ zeros n
 kept_zeros zero = refl
 kept_zeros (suc n) = ap (λ l. 0 ∷ l) (kept_zeros n)
 
@@ -95,7 +95,7 @@ added_zeros zero (suc n) (m ∷ e) =
 added_zeros (suc k) n [] = refl
 added_zeros (suc k) n (m ∷ e) = ap (λ l. m ∷ l) (added_zeros k n e)
 
-pub added_all : (ns : List ℕ) → added 0 ns (zeros (length ns)) ≡ ns
+added_all : (ns : List ℕ) → added 0 ns (zeros (length ns)) ≡ ns
 added_all [] = refl
 added_all (n ∷ ns) = let z : 0 + n ≡ n = omega arith in λ i. z i ∷ added_all ns i
 

@@ -80,7 +80,7 @@ either : (a b : Bool) → (a || b) ≡ true → (a ≡ true) ⊎ (b ≡ true)
 either true b h = inl refl
 either false b h = inr h
 
-pub has_within : (f : Forest) (n j : ℕ) → IsFrom n f → has_out j f ≡ true → Within n (after n f) j
+has_within : (f : Forest) (n j : ℕ) → IsFrom n f → has_out j f ≡ true → Within n (after n f) j
 has_within Bare n j is h = cc
 has_within (Grow l kids rest) n j is h =
     let m = after_out n l.out in let k = after m kids in
@@ -135,7 +135,7 @@ same_suc i j = elim (i == j) as (λ b. (i == j) ≡ b → b ≡ (suc i == suc j)
   | false ↦ λ e. let other : (suc i == suc j) ≡ false = grind (arith, e) in sym other
 ] refl
 
-pub part_set : (os : Lists) (i j : ℕ) (v : List Value) → i < length os
+part_set : (os : Lists) (i j : ℕ) (v : List Value) → i < length os
     → part_at (slice_set os i v) j ≡ cond (i == j) v (part_at os j)
 part_set [] i j v h = absurd (omega arith)
 part_set (o ∷ os) zero zero v h = refl
@@ -166,7 +166,7 @@ all_length : (g : Value → Lists → Lists) → ((y : Value) (os : Lists) → l
 all_length g h [] os = refl
 all_length g h (y ∷ ys) os = all_length g h ys (g y os) ∙ h y os
 
-pub poured_length : (w : World) (f : Forest) (x : Value) (os : Lists) → length (poured w f x os)
+poured_length : (w : World) (f : Forest) (x : Value) (os : Lists) → length (poured w f x os)
     ≡ length os
 poured_length w Bare x os = refl
 poured_length w (Grow l kids rest) x os =
@@ -174,7 +174,7 @@ poured_length w (Grow l kids rest) x os =
     ∙ put_length l.out (emitted w l x) (poured_all w kids (emitted w l x) os)
     ∙ all_length (poured w kids) (poured_length w kids) (emitted w l x) os
 
-pub poured_all_length : (w : World) (f : Forest) (xs : List Value) (os : Lists)
+poured_all_length : (w : World) (f : Forest) (xs : List Value) (os : Lists)
     → length (poured_all w f xs os) ≡ length os
 poured_all_length w f xs os = all_length (poured w f) (poured_length w f) xs os
 
@@ -206,7 +206,7 @@ one_of_three false false os own kids rest g h k = (λ i. ((os ++ k refl i) ++ []
     ∙ (λ i. append-nil (append-nil os i) i ++ rest)
 
 -- a list gets what its output gives
-pub poured_at : (w : World) (f : Forest) (n m j : ℕ) (x : Value) (os : Lists) → IsFrom n f
+poured_at : (w : World) (f : Forest) (n m j : ℕ) (x : Value) (os : Lists) → IsFrom n f
     → after n f ≤ m → length os ≡ m → part_at (poured w f x os) j ≡ part_at os j ++ out_at w f j x
 poured_at w Bare n m j x os is h e = sym (append-nil (part_at os j))
 poured_at w (Grow l kids rest) n m j x os is h e =
@@ -275,11 +275,11 @@ map_parts : (os : Lists) → map (part_at os) (ups 0 (length os)) ≡ os
 map_parts [] = refl
 map_parts (o ∷ os) = ap (λ l. o ∷ l) (map_ups_shift os o 0 (length os) ∙ map_parts os)
 
-pub empties_length : (n : ℕ) → length (empties n) ≡ n
+empties_length : (n : ℕ) → length (empties n) ≡ n
 empties_length zero = refl
 empties_length (suc n) = ap suc (empties_length n)
 
-pub empties_at : (n j : ℕ) → part_at (empties n) j ≡ []
+empties_at : (n j : ℕ) → part_at (empties n) j ≡ []
 empties_at zero j = refl
 empties_at (suc n) zero = refl
 empties_at (suc n) (suc j) = empties_at n j

@@ -25,7 +25,7 @@ pub then_alike : (r : Run) (f g : Given → Run) → ((more : Given) → f more 
 then_alike (Ok given) f g h = h given
 then_alike (Err trap) f g h = refl
 
-pub then_itself : (r : Run) → and_then r (λ more. Ok more) ≡ r
+then_itself : (r : Run) → and_then r (λ more. Ok more) ≡ r
 then_itself (Ok given) = refl
 then_itself (Err trap) = refl
 

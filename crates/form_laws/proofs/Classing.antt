@@ -61,7 +61,7 @@ share_related b n k x e h i =
     ∙ any_there (has_same (keys_of b n)) r.0 r.1 r.2 (ap (has_same (keys_of b n)) y ∙ h) in
     rw (eq-eqb (level b.graph.nodes n) (level b.graph.nodes k) e) t
 
-pub related_level : (b : Blocked) (n k : ℕ) → related b n k ≡ true
+related_level : (b : Blocked) (n k : ℕ) → related b n k ≡ true
     → level b.graph.nodes n ≡ level b.graph.nodes k
 related_level b n k h =
     eqb-true (level b.graph.nodes n) (level b.graph.nodes k)

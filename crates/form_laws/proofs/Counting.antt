@@ -40,7 +40,7 @@ zero_times n m false e f = rw e (let z : 0 + 0 ≡ 0 = omega arith in z)
 pub one_time : (n : ℕ) → times n (n ∷ []) ≡ 1
 one_time n = rw (eq-eqb n n refl) (let z : 1 + 0 ≡ 1 = omega arith in z)
 
-pub flat_other : (b : Blocked) (m n : ℕ) (s : Bool) → (m ≡ n → ⊥)
+flat_other : (b : Blocked) (m n : ℕ) (s : Bool) → (m ≡ n → ⊥)
     → times n (runs_of (cond s (alone b m (Flat m) ∷ []) [])) ≡ 0
 flat_other b m n true f = zero_times n m (eqb m n) refl f
 flat_other b m n false f = refl

@@ -74,7 +74,7 @@ node_honest b n (Barrier ins o l a) h t = (barrier_honest b.graph.nodes n ins o 
 node_honest b n (Flatten ins) h t = flat_honest b n ins (is_stage b n) h
 node_honest b n (Pdo d f) h t = pdo_honest b n d f (is_mapper b n || is_reducer b n) h
 
-pub all_honest : (b : Blocked) (cs : List (List ℕ)) → AreParts b cs → IsSound b.graph
+all_honest : (b : Blocked) (cs : List (List ℕ)) → AreParts b cs → IsSound b.graph
     → Each (Honest b) (operations b cs)
 all_honest b cs p ok =
     let es : List Entry = b.graph.nodes in

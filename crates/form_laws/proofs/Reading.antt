@@ -77,7 +77,7 @@ pub record Reduces (b : Blocked) (n r : ℕ) : Type 0 where
   pub unheld : is_held b.graph (place n 0) ≡ false
   pub alone : readers b.graph.nodes (place n 0) ≡ r ∷ []
 
-pub cond_none : (x : Bool) (o : Option ℕ) (r : ℕ) → cond x None o ≡ Some r
+cond_none : (x : Bool) (o : Option ℕ) (r : ℕ) → cond x None o ≡ Some r
     → (x ≡ false) × (o ≡ Some r)
 cond_none true o r h = let bad : ⊥ = cc in absurd bad
 cond_none false o r h = (refl, h)
@@ -95,7 +95,7 @@ one_is [] r h = let bad : ⊥ = cc in absurd bad
 one_is (n ∷ []) r h = let same : n ≡ r = cc in ap (λ (k : ℕ). k ∷ []) same
 one_is (n ∷ m ∷ ns) r h = let bad : ⊥ = cc in absurd bad
 
-pub reduces_so : (b : Blocked) (n r : ℕ) → reducer_of b n ≡ Some r → Reduces b n r
+reduces_so : (b : Blocked) (n r : ℕ) → reducer_of b n ≡ Some r → Reduces b n r
 reduces_so b n r h =
     let c : Place = place n 0 in
     let p = cond_none (among c b.marks) (unless_mapper b (only_reader b.graph c)) r h in
@@ -250,7 +250,7 @@ near_by b c (Some (Pdo d f)) e g m =
     none_in (goes_past b.graph.nodes) c (outputs_of c.node f) (maps_so b c.node d f m).near
     (out_in c.node c.out f g)
 
-pub mapper_near : (b : Blocked) (c : Place) → IsThere b.graph.nodes c → is_mapper b c.node ≡ true
+mapper_near : (b : Blocked) (c : Place) → IsThere b.graph.nodes c → is_mapper b c.node ≡ true
     → goes_past b.graph.nodes c ≡ false
 mapper_near b c t m = near_by b c (node_at b.graph.nodes c.node) refl t m
 

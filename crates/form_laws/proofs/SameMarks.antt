@@ -209,13 +209,13 @@ module _ (g : Graph) (m n : List Place) (same : (c : Place) → among c m ≡ am
 
 -- ---- one result
 
-pub formed_in_turn : (b : Blocked) (cs : List (List ℕ))
+formed_in_turn : (b : Blocked) (cs : List (List ℕ))
     → InTurn b.graph.nodes (source_places b.graph.nodes) (operations b cs) (in_order b cs)
 formed_in_turn b cs =
     let ops : List Ranked = operations b cs in
     ordered_in_turn b.graph.nodes (length ops) (source_places b.graph.nodes) ops (omega arith)
 
-pub one_formed : (b : Blocked) (os ps : List Operation) → AllDiffer b.graph.nodes
+one_formed : (b : Blocked) (os ps : List Operation) → AllDiffer b.graph.nodes
     → AreFormed b os → AreFormed b ps → os ≡ ps
 one_formed b os ps d h k =
     h.ordered

@@ -50,7 +50,7 @@ inputs_from es (Some (Pdo c f)) = []
 inputs_from es (Some (Gbk c o l k)) = read_through es c
 inputs_from es (Some (Barrier ins o l a)) = []
 
-pub keys_map : (b : Blocked) (n : ℕ) (o : Option Node) → keys_at b n o
+keys_map : (b : Blocked) (n : ℕ) (o : Option Node) → keys_at b n o
     ≡ map (key_of b (level b.graph.nodes n)) (inputs_from b.graph.nodes o)
 keys_map b n None = refl
 keys_map b n (Some (Source r)) = refl

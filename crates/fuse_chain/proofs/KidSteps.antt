@@ -180,7 +180,7 @@ first_reads b c q can h = by (readers b.graph.nodes c) h (all_readers b c b.grap
     by [] i a = absurd (false≢true i)
     by (n ∷ ns) i a = subst (IsReader b c) (sym (eqb-true q n i)) a.0
 
-pub can_more : (b : Cut) (n : ℕ) → CanFuse b → is_pdo (node_at b.graph.nodes n) ≡ true
+can_more : (b : Cut) (n : ℕ) → CanFuse b → is_pdo (node_at b.graph.nodes n) ≡ true
     → CanFuse (more_inner b n)
 can_more b n can h = record {
   ok = can.ok;

@@ -103,7 +103,7 @@ least_last a x [] = refl
 least_last a x (y ∷ ys) =
     ap (λ (n : ℕ). least n ys) (lesser_swap a x y) ∙ least_last (lesser a y) x ys
 
-pub least_swap : (a : ℕ) (xs ys : List ℕ)
+least_swap : (a : ℕ) (xs ys : List ℕ)
     → least (least a xs) ys ≡ least (least a ys) xs
 least_swap a [] ys = refl
 least_swap a (x ∷ xs) ys =

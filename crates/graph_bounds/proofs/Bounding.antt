@@ -208,7 +208,7 @@ all_renumbered P still l es a =
     (all_map (renumbered_entry l) (λ e. P e.node) (λ e. P e.node)
     (λ e h. still (at_number l) e.node h) es a)
 
-pub such_fused : (n : Input ⊎ Act → Type 0) (b : Blocked) → IsFusible b → BringSuch n b.graph.nodes
+such_fused : (n : Input ⊎ Act → Type 0) (b : Blocked) → IsFusible b → BringSuch n b.graph.nodes
     → BringSuch n (fused b).graph.nodes
 such_fused n b can h =
     all_renumbered (BringsSuch n) (such_reread n) (least_of (cut_of b))

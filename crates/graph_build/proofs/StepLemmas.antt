@@ -11,7 +11,7 @@ use Rattle.graph_build.specs.Graphs.{last_node, behind, giving_from, next_source
 use Rattle.graph_build.specs.Built.{Built, built, built_at}
 use Rattle.graph_build.proofs.BuiltLemmas.{built_length}
 
-pub giving_step : (ws : List (Option Built)) (i n : ℕ) → i < length ws
+giving_step : (ws : List (Option Built)) (i n : ℕ) → i < length ws
     → giving_from n (drop i ws)
     ≡ last_node n (get_or ws i None) ∷ giving_from (behind n (get_or ws i None)) (drop (i + 1) ws)
 giving_step ws i n h = rw (add-one, drop-cons ws i None)
@@ -26,12 +26,12 @@ nodes_step script gives ws i source n h = rw (add-one, drop-cons ws i None)
 pub all_dropped : {A : Type 0} (xs : List A) (i : ℕ) → i ≡ length xs → drop i xs ≡ []
 all_dropped xs i h = rw h (drop-length xs)
 
-pub giving_done : (script : Script) (i n : ℕ) → i ≡ length script.nodes
+giving_done : (script : Script) (i n : ℕ) → i ≡ length script.nodes
     → giving_from n (drop i (built script)) ≡ []
 giving_done script i n h =
     ap (giving_from n) (all_dropped (built script) i (h ∙ sym (built_length script)))
 
-pub nodes_done : (gives : ℕ → Place) (script : Script) (i source n : ℕ)
+nodes_done : (gives : ℕ → Place) (script : Script) (i source n : ℕ)
     → i ≡ length script.nodes → nodes_from script gives source n (drop i (built script)) ≡ []
 nodes_done gives script i source n h =
     ap (nodes_from script gives source n)

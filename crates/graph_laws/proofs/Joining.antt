@@ -48,7 +48,7 @@ fits_moved w m k n i v (Grow l kids rest) h a = (
       (has_out j kids || has_out j rest) (or_right (has_out j kids) (has_out j rest) p))) a.2,
 )
 
-pub fits_beside : (w : World) (m : Place → Collection) (n : ℕ) (v : Collection) (f g : Forest)
+fits_beside : (w : World) (m : Place → Collection) (n : ℕ) (v : Collection) (f g : Forest)
     → FitsForest w m n v f → FitsForest w m n v g → FitsForest w m n v (beside f g)
 fits_beside w m n v Bare g a b = b
 fits_beside w m n v (Grow l kids rest) g a b = (a.0, a.1, fits_beside w m n v rest g a.2 b)
@@ -69,7 +69,7 @@ fits_graft w m n j v g l kids rest true h a b c d = (
 )
 fits_graft w m n j v g l kids rest false h a b c d = (a.0, c, d)
 
-pub fits_grafted : (w : World) (m : Place → Collection) (n j : ℕ) (v : Collection) (f g : Forest)
+fits_grafted : (w : World) (m : Place → Collection) (n j : ℕ) (v : Collection) (f g : Forest)
     → FitsForest w m n v f → FitsForest w m n (m (place n j)) g → FitsForest w m n v (grafted j g f)
 fits_grafted w m n j v Bare g a b = a
 fits_grafted w m n j v (Grow l kids rest) g a b =
@@ -86,7 +86,7 @@ lacks_grafted j (Grow l kids rest) g h =
     let b : grafted j g rest ≡ rest = lacks_grafted j rest g q.1 in
     rw e (ap (λ (x : Forest). Grow l x (grafted j g rest)) a ∙ ap (λ (x : Forest). Grow l kids x) b)
 
-pub total-beside : (w : World) {Y : Type 0} (p : Collection → Label → List Y) (v : Collection)
+total-beside : (w : World) {Y : Type 0} (p : Collection → Label → List Y) (v : Collection)
     (f g : Forest)
     → total w p v (beside f g) ≡ total w p v f ++ total w p v g
 total-beside w p v Bare g = refl
@@ -115,7 +115,7 @@ more_behind q s x y z z' more b h =
     ∙ gather-gather q s x more (gather q y (gather q z b))
     ∙ ap (gather q more) (sym (three q x y z b))
 
-pub gather_grafted : (w : World) {Y B : Type 0} (q : Y → B → B) → Swaps q
+gather_grafted : (w : World) {Y B : Type 0} (q : Y → B → B) → Swaps q
     → (p : Collection → Label → List Y) (m : Place → Collection) (n j : ℕ) (v : Collection)
     (f g : Forest) → FitsForest w m n v f → HasOne j f → (b : B)
     → gather q (total w p v (grafted j g f)) b ≡ gather q (total w p (m (place n j)) g)
@@ -263,7 +263,7 @@ pub record Joins (w : World) (m : Place → Collection) (p q : ℕ) (c d : Place
       ≡ gather (put_new trap_le) (total w (step_traps w) (m d) h)
       (gather (put_new trap_le) (total w (step_traps w) (m c) f) b)
 
-pub KeepsMeaning-joined : (g : Graph) (p q : ℕ) (c d : Place) (f h new : Forest) → IsSound g
+KeepsMeaning-joined : (g : Graph) (p q : ℕ) (c d : Place) (f h new : Forest) → IsSound g
     → CanJoin g p q c d f h → ((w : World) (m : Place → Collection) → Meets w g.nodes m
     → Joins w m p q c d f h new) → KeepsMeaning g (joined_into g p q c new)
 KeepsMeaning-joined g p q c d f h new ok can joins w m meets =

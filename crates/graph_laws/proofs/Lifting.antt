@@ -263,7 +263,7 @@ HaveObjects-remarked s g a =
     (λ e. has_objects (map (marked_entry s) g.nodes) e.node ≡ true)
     (λ e b. objects-marked s g.nodes (s e.number) e.node b) g.nodes a
 
-pub IsGraphOk-remarked : (s : ℕ → Option Comb → Option Comb) (g : Graph)
+IsGraphOk-remarked : (s : ℕ → Option Comb → Option Comb) (g : Graph)
     → ((n : ℕ) (k : Option Comb) → Allowed g n k → Allowed g n (s n k)) → IsGraphOk g
     → IsGraphOk (remarked s g)
 IsGraphOk-remarked s g h ok =
@@ -331,7 +331,7 @@ lift_by g n k false false (x ∷ []) p q r e = record
     { untold = p; uncollected = q; reader = x; alone = r; root = e }
 lift_by g n k false false (x ∷ (y ∷ ns)) p q r e = let bad : ⊥ = cc in absurd bad
 
-pub lift_allowed : (g : Graph) (n : ℕ) (o : Option Comb) → lift_of g n ≡ o → Allowed g n o
+lift_allowed : (g : Graph) (n : ℕ) (o : Option Comb) → lift_of g n ≡ o → Allowed g n o
 lift_allowed g n None e = tt
 lift_allowed g n (Some k) e = lift_by g n k (among (place n 0) g.outputs)
     (any_node (collects (place n 0)) g.nodes) (readers g.nodes (place n 0)) refl refl refl e

@@ -111,7 +111,7 @@ comb_set es n m x y h e = kind_set comb_at es n m x y h e
 away : (n : ℕ) (x : Place) → (x.node ≡ n → ⊥) → eqb x.node n ≡ false
 away n x far = not_true (eqb x.node n) (λ i. far (eqb-true x.node n i))
 
-pub out_spares : (n : ℕ) (r : ℕ → ℕ) (x : Place) → (x.node ≡ n → ⊥) → Spares (moved_out n r) x
+out_spares : (n : ℕ) (r : ℕ → ℕ) (x : Place) → (x.node ≡ n → ⊥) → Spares (moved_out n r) x
 out_spares n r x far d = by (eqb d.node n) refl
   where
     by : (b : Bool) → eqb d.node n ≡ b
@@ -174,7 +174,7 @@ near_reread p q p2 q2 g h r n (Barrier ins o l d) a b i = tt
 abbrev pub IsEither : ℕ → ℕ → ℕ → Type 0
 IsEither p q n = (n ≡ p) ⊎ (n ≡ q)
 
-pub not_far : (p q n : ℕ) → IsEither p q n → IsFar p q n → ⊥
+not_far : (p q n : ℕ) → IsEither p q n → IsFar p q n → ⊥
 not_far p q n (inl e) far = far.0 e
 not_far p q n (inr e) far = far.1 e
 

@@ -106,7 +106,7 @@ each_node : (P : Place → Type 0) → ((c : Place) → P c) → (es : List Entr
 each_node P h [] = tt
 each_node P h (e ∷ es) = (each_any P h (reads e.node), each_node P h es)
 
-pub objects_reread : (old new : List Entry) (r : Place → Place)
+objects_reread : (old new : List Entry) (r : Place → Place)
     → ((c : Place) → is_object_at new (r c) ≡ is_object_at old c) → (es : List Entry)
     → Each (λ e. has_objects old e.node ≡ true) es
     → Each (λ e. has_objects new e.node ≡ true) (map (reread_entry r) es)

@@ -189,7 +189,7 @@ rank_moved r p q k x true i l = let e : r x.node ≡ r q = ap r (eqb-true x.node
 rank_moved r p q k x false i l = let m : rank_after r p q x.node ≤ r x.node =
     rank_le r p q x.node (eqb x.node p) refl in omega arith
 
-pub IsSound-joined : (g : Graph) (p q : ℕ) (c d : Place) (f h new : Forest) → (ok : IsSound g)
+IsSound-joined : (g : Graph) (p q : ℕ) (c d : Place) (f h new : Forest) → (ok : IsSound g)
     → CanJoin g p q c d f h → Keeps f h new → ((r : ℕ → ℕ) → IsRankedBy r g.nodes → r c.node < r q)
     → IsSound (joined_into g p q c new)
 IsSound-joined g p q c d f h new ok can k lower =

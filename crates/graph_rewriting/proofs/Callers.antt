@@ -59,7 +59,7 @@ found_only t es i found all past so_far =
 
 -- ---- marks
 
-pub marked_stay : (x : Node) → marked (λ k. k) x ≡ x
+marked_stay : (x : Node) → marked (λ k. k) x ≡ x
 marked_stay (Source r) = refl
 marked_stay (Flatten ins) = refl
 marked_stay (Pdo c f) = refl

@@ -67,7 +67,7 @@ sunk_ok g h c ok a b s =
     subst IsGraphOk (sym s.2)
     (step_kept g c ok (b, room_true (total_size (after_call g c).nodes) most_nodes s.1, a)).good.ok
 
-pub sink_goes : (old new : Trace) (c : Pair) (h : Graph) → IsSunkAt old.graph c (Some h)
+sink_goes : (old new : Trace) (c : Pair) (h : Graph) → IsSunkAt old.graph c (Some h)
     → new.graph ≡ h → new.rewrites ≡ old.rewrites ++ Sink c.flatten c.other ∷ []
     → GoesOn 0 old new
 sink_goes old new c h s at more =

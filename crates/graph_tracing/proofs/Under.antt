@@ -57,7 +57,7 @@ calls_by r (e ∷ hs) n c f h = by (eqb e.number n) h (calls_by r hs n c f)
     by true j more = of_node r e.node c f j
     by false j more = more j
 
-pub calls_named : (h : Graph) (n : ℕ) (c : Place) → Calls (unnamed h) n c
+calls_named : (h : Graph) (n : ℕ) (c : Place) → Calls (unnamed h) n c
     → (d : Place) × Calls h n d × (new_place h.nodes d ≡ c)
 calls_named h n c x =
     let a = calls_by (new_place h.nodes) h.nodes n c x.0 x.1 in (a.0, (a.1, a.2), a.3)

@@ -76,7 +76,7 @@ twig_count n t =
     let c = length-append (out_list t.out) (outs t.kids) in
     omega arith
 
-pub twigs_count : (n : ℕ) (ts : List Twig) → after_twigs n ts ≡ n + length (twigs_outs ts)
+twigs_count : (n : ℕ) (ts : List Twig) → after_twigs n ts ≡ n + length (twigs_outs ts)
 twigs_count n [] = omega arith
 twigs_count n (t ∷ ts) =
     let a = twig_count n t in
@@ -84,7 +84,7 @@ twigs_count n (t ∷ ts) =
     let c = length-append (twig_outs t) (twigs_outs ts) in
     omega arith
 
-pub branch_count : (n : ℕ) (b : Branch) → after_branch n b ≡ n + length (branch_outs b)
+branch_count : (n : ℕ) (b : Branch) → after_branch n b ≡ n + length (branch_outs b)
 branch_count n b = twigs_count n (b.first ∷ b.more)
 
 -- ---- one more

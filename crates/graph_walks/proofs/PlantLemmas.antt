@@ -78,7 +78,7 @@ grafted_none j g (Grow l kids rest) h =
     ∙ ap (λ (c : Bool). cond c (Grow l (beside kids g) rest)
     (Grow l (grafted j g kids) (grafted j g rest))) (sym a.0)
 
-pub planted_grafted : (j : ℕ) (g f : Forest) → OutsDiffer f → planted j g f ≡ grafted j g f
+planted_grafted : (j : ℕ) (g f : Forest) → OutsDiffer f → planted j g f ≡ grafted j g f
 planted_grafted j g Bare d = refl
 planted_grafted j g (Grow l kids rest) d =
     by (is_out l.out j) (has_out j kids) refl (planted_grafted j g kids d.2)

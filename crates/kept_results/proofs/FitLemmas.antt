@@ -22,7 +22,7 @@ use Rattle.kept_results.specs.Kept.{AreMembersOf, IsKeptOf}
 use Rattle.kept_results.specs.inner.Named.{are_named}
 use Rattle.kept_results.proofs.NameLemmas.{equal-named, named-equal}
 
-pub typed-all : (type : Ty) (members : List Value) → AllHave type members
+typed-all : (type : Ty) (members : List Value) → AllHave type members
     → list_all (λ x. has_type x type) members ≡ true
 typed-all type members all =
     all_pass (λ x. has_type x type) members (each_from (Has type) members all)

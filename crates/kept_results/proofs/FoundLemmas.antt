@@ -51,7 +51,7 @@ one_ascend outputs n nodes rest None =
     fewer n (suc n) (asked_numbers outputs (suc n) nodes) (omega arith) rest
 one_ascend outputs n nodes rest (Some name) = (omega arith, rest)
 
-pub asked_ascend : (outputs : Named Output) (n : ℕ) (nodes : Named Node)
+asked_ascend : (outputs : Named Output) (n : ℕ) (nodes : Named Node)
     → Ascending n (asked_numbers outputs n nodes)
 asked_ascend outputs n [] = tt
 asked_ascend outputs n (entry ∷ nodes) =

@@ -33,7 +33,7 @@ some_on None false entry left P h = tt
 some_on (Some now) true entry left P h = λ after kept. h after (inl kept)
 some_on (Some now) false entry left P h = λ after kept. h after (inr kept)
 
-pub some_next : (started told new : Told) (went : Bool) (entry : CacheEntry)
+some_next : (started told new : Told) (went : Bool) (entry : CacheEntry)
     (left kept : List CacheEntry) → new ≡ after_keep told went entry
     → IfSome started (λ entries. IfSome told (λ now.
     (after : List CacheEntry) → WereKept now (entry ∷ left) after → WereKept entries kept after))

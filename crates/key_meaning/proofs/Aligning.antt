@@ -52,7 +52,7 @@ abbrev head_of : Outline → List Outline → Outline
 head_of it [] = it
 head_of it (first ∷ others) = first
 
-pub same_outline : (s r : Statement) → statement_lineless s ≡ statement_lineless r
+same_outline : (s r : Statement) → statement_lineless s ≡ statement_lineless r
     → outline_of s.form ≡ outline_of r.form
 same_outline s r same =
     ap (head_of (outline_of s.form))

@@ -10,7 +10,7 @@ use Rattle.key_meaning.proofs.Lists.{along, along_from}
 
 -- ---- below, and told by either
 
-pub rises_below : {pairs : Pairs} {k l : ℕ} → Rises pairs k l → (a b : ℕ) → Paired pairs a b
+rises_below : {pairs : Pairs} {k l : ℕ} → Rises pairs k l → (a b : ℕ) → Paired pairs a b
     → (a < k) × (b < l)
 rises_below none a b among = absurd (not_in_none (a, b) among)
 rises_below (more {pairs} {k} {l} {m} {n} {above} {above_} j rises x y p q) a b among =

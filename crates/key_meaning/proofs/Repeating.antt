@@ -32,7 +32,7 @@ names_hidden (name ∷ names) s =
     names_hidden names (with_name name Hidden s)
     ∙ append_assoc s.names ((name, Hidden) ∷ []) (hidden names)
 
-pub types_hidden : (names : List (List ℕ)) (s : State) → (with_hidden names s).types ≡ s.types
+types_hidden : (names : List (List ℕ)) (s : State) → (with_hidden names s).types ≡ s.types
 types_hidden [] s = refl
 types_hidden (name ∷ names) s = types_hidden names (with_name name Hidden s)
 

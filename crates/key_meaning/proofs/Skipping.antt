@@ -251,7 +251,7 @@ not_own names (form.Repeat own written) away name is =
     other_names names.collections name own is away
 not_own names (form.Output own file) away name is = refl
 
-pub not_function : (names : Names) (it : Form) → is_named names (outline_of it) ≡ false
+not_function : (names : Names) (it : Form) → is_named names (outline_of it) ≡ false
     → (name : List ℕ) → has names.functions name ≡ true
     → list_any (bytes_eq name) (own_functions it) ≡ false
 not_function names (form.Type own type) away name is = refl

@@ -108,7 +108,7 @@ not-true : (b : Bool) → not b ≡ true → b ≡ false
 not-true true e = cc
 not-true false e = refl
 
-pub new_names : (line : ℕ) (taken names : List (List ℕ)) (u : Unit {0})
+new_names : (line : ℕ) (taken names : List (List ℕ)) (u : Unit {0})
     → all_fresh line taken names ≡ Ok u → (name : List ℕ) → list_any (bytes_eq name) names ≡ true
     → list_any (bytes_eq name) taken ≡ false
 new_names line taken [] u e name among = cc
@@ -216,7 +216,7 @@ standing_meet pairs name (own ∷ names) (making ∷ makings) (other ∷ others)
 abbrev pub hidden : List (List ℕ) → Named Standing
 hidden names = map (λ name. (name, Hidden)) names
 
-pub none_hidden : (name : List ℕ) (names : Named Standing) → stands name (given [] names) ≡ None
+none_hidden : (name : List ℕ) (names : Named Standing) → stands name (given [] names) ≡ None
 none_hidden name [] = refl
 none_hidden name (entry ∷ names) = by (none_hidden name names) (bytes_eq name entry.0)
   where

@@ -36,7 +36,7 @@ pub record ComeTo (comb : Comb) (gs vs : List Value) : Type 0 where
   pub traps : traps_at comb gs ≡ []
   pub keys : map key_of vs ≡ map key_of gs
 
-pub come_more : (comb : Comb) (gs vs : List Value) (g v : Value) → ComeTo comb gs vs
+come_more : (comb : Comb) (gs vs : List Value) (g v : Value) → ComeTo comb gs vs
     → pairs_at comb (g ∷ []) ≡ v ∷ [] → ComeTo comb (gs ++ g ∷ []) (vs ++ v ∷ [])
 come_more comb gs vs g v c e =
     let one = one_given (combined comb) g v e in

@@ -10,7 +10,7 @@ use Rattle.made_rows.specs.Rows.{line_of, made_numbers, most_made, numbers_from,
 
 -- ---- one more at the end
 
-pub numbers-push : (first count : ℕ)
+numbers-push : (first count : ℕ)
     → numbers_from first (suc count) ≡ numbers_from first count ++ (first + count) ∷ []
 numbers-push first zero =
     let same : first ≡ first + 0 = omega arith in ap (λ n. n ∷ []) same

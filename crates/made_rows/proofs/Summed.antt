@@ -27,7 +27,7 @@ use Rattle.made_rows.specs.Rows.{key_of, row_of, total_of}
 
 -- ---- the pairs of the rows
 
-pub rows_pairs : (numbers : List ℕ) → pairs_of (map row_of numbers) ≡ map under_key numbers
+rows_pairs : (numbers : List ℕ) → pairs_of (map row_of numbers) ≡ map under_key numbers
 rows_pairs [] = refl
 rows_pairs (n ∷ numbers) =
     λ i. cons_option (parts_of-pair (value.Int (pos (key_of n))) (value.Int (pos n)) i)

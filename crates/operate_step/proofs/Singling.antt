@@ -25,7 +25,7 @@ only_bag (x ∷ []) = refl
 only_bag (x ∷ (y ∷ ys)) =
     only_none (bag_of (x ∷ (y ∷ ys))) (length ys) (length-bag_of (x ∷ (y ∷ ys)))
 
-pub single_made : (w : World) (o : ℕ) (k : Comb) (xs : List Value)
+single_made : (w : World) (o : ℕ) (k : Comb) (xs : List Value)
     → act_result w o (act.Singleton k) (untrapped (bag_of xs) ∷ [])
     ≡ or_of_nothing o k (option_and_then value_of (only xs))
 single_made w o k xs =

@@ -15,7 +15,7 @@ SeenAsks = Seen (List (List ℕ))
 -- ---- the tries of one file
 
 -- one more after so many
-pub asked_more : (count : ℕ) (name : List ℕ) (before middle after : Option Names)
+asked_more : (count : ℕ) (name : List ℕ) (before middle after : Option Names)
     → WhileTold before middle (λ old now. now ≡ old ++ replicate count name)
     → WhileTold middle after (λ old now. now ≡ old ++ name ∷ [])
     → WhileTold before after (λ old now. now ≡ old ++ replicate (count + 1) name)
@@ -28,7 +28,7 @@ asked_more count name (Some old) (Some it) (Some now) first second =
     ∙ ap (λ l. old ++ l) (replicate_more count name)))
 
 -- the same name so often is a file's tries
-pub all_tries : (tries count : ℕ) (name : List ℕ) (before after : SeenAsks) → 0 < count
+all_tries : (tries count : ℕ) (name : List ℕ) (before after : SeenAsks) → 0 < count
     → count ≤ tries
     → WhileTold before.told after.told (λ old now. now ≡ old ++ replicate count name)
     → RoseBy (count - 1) before.faults after.faults → Asks tries (name ∷ []) before after

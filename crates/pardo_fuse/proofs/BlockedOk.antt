@@ -44,7 +44,7 @@ pub record IsCutOk (b : Cut) : Type 0 where
   pub objects : HaveObjects b.graph.nodes
 
 -- ---- sizes
-pub steps-numbered : (s : ℕ) (f : Forest) → steps (numbered s f) ≡ steps f
+steps-numbered : (s : ℕ) (f : Forest) → steps (numbered s f) ≡ steps f
 steps-numbered s Bare = refl
 steps-numbered s (Grow l kids rest) = let a = steps-numbered (after_out s l.out) kids in let b =
     steps-numbered (after (after_out s l.out) kids) rest in omega arith
@@ -56,7 +56,7 @@ size_done r (Pdo c f) = steps-numbered 0 f
 size_done r (Gbk c o l k) = refl
 size_done r (Barrier ins o l a) = refl
 
-pub total_done : (r : Place → Place) (hs : List Entry) → total_size (map (finished r) hs)
+total_done : (r : Place → Place) (hs : List Entry) → total_size (map (finished r) hs)
     ≡ total_size hs
 total_done r [] = refl
 total_done r (h ∷ hs) = let a = total_done r hs in let e = size_done r h.node in omega arith
@@ -330,7 +330,7 @@ joined_ascends b (e ∷ es) u = left_ascends b e.number e.node
     (flat_map (λ e. left_of b e.number e.node) es)
     (all_numbers b (λ m. e.number < m) es u.0) (joined_ascends b es u.1)
 
-pub done_ascends : (r : Place → Place) (hs : List Entry) → Ascends hs
+done_ascends : (r : Place → Place) (hs : List Entry) → Ascends hs
     → Ascends (map (finished r) hs)
 done_ascends r [] u = tt
 done_ascends r (h ∷ hs) u = (
@@ -382,7 +382,7 @@ IsBlockedOk-fused_by b can fu =
           refl) b.marks seen fu.unlifted);
     }
 
-pub marked_outer : (p m : Bool) → m ≡ true → cond (p && cond m false true) false true ≡ true
+marked_outer : (p m : Bool) → m ≡ true → cond (p && cond m false true) false true ≡ true
 marked_outer true true h = refl
 marked_outer true false h = absurd (false≢true h)
 marked_outer false m h = refl

@@ -110,7 +110,7 @@ out_new a s None (Some y) h = absurd h
 out_new a s (Some x) None h = absurd h
 out_new a s (Some x) (Some y) h = refl
 
-pub matched_after : (a : Blocked) (s : ℕ) (f h : Forest) → Matches a f h → after s f ≡ after s h
+matched_after : (a : Blocked) (s : ℕ) (f h : Forest) → Matches a f h → after s f ≡ after s h
 matched_after a s Bare Bare e = refl
 matched_after a s Bare (Grow m others more) e = absurd e
 matched_after a s (Grow l kids rest) Bare e = absurd e
@@ -312,7 +312,7 @@ turn_matches a m tree over h (n ∷ ns) p =
     (row_matches a n (over n) tree f rest (all_sites a.graph ns) (site_named a m n c f at)
     (steps_found a m n c f at) (h n c f at) (turn_matches a m tree over h ns p.1))
 
-pub hanging_matches : (a : Blocked) → CanMark a → (k : ℕ) (ns : List ℕ)
+hanging_matches : (a : Blocked) → CanMark a → (k : ℕ) (ns : List ℕ)
     → AllByRecursion (IsPdoAt a.graph) ns
     → Matches a (hanging (cut_of a) k ns) (kept_by (keeps_output (cut_of (parted a)))
     (trees (cut_of (parted a)) k (all_sites a.graph ns)))

@@ -70,7 +70,7 @@ over_beside over (Grow l kids rest) g =
     ap (λ (xs : List ℕ). over l.out ++ xs) (over_beside over rest g)
     ∙ sym (append_assoc (over l.out) (over_outs over rest) (over_outs over g))
 
-pub over_split : (over : Option ℕ → List ℕ) (s : Branch) (ss : List Branch)
+over_split : (over : Option ℕ → List ℕ) (s : Branch) (ss : List Branch)
     → over_outs over (grown (s ∷ ss))
     ≡ over_outs over (limb s Bare) ++ over_outs over (grown ss)
 over_split over s ss =
@@ -78,13 +78,13 @@ over_split over s ss =
     ∙ over_beside over (limb s Bare) (grown ss)
 
 -- ---- the outputs of a step
-pub over_twigs : (over : Option ℕ → List ℕ) (s : Branch) (at : ℕ) (ts : List Twig)
+over_twigs : (over : Option ℕ → List ℕ) (s : Branch) (at : ℕ) (ts : List Twig)
     → over_outs over (twigs s at ts Bare) ≡ flat_map (λ (t : Twig). over t.out) ts
 over_twigs over s at [] = refl
 over_twigs over s at (t ∷ ts) =
     ap (λ (xs : List ℕ). over t.out ++ xs) (over_twigs over s (suc at) ts)
 
-pub over_limb : (over : Option ℕ → List ℕ) (s : Branch)
+over_limb : (over : Option ℕ → List ℕ) (s : Branch)
     → over_outs over (limb s Bare) ≡ over s.first.out ++ flat_map (λ (t : Twig). over t.out) s.more
 over_limb over s = ap (λ (xs : List ℕ). over s.first.out ++ xs) (over_twigs over s 1 s.more)
 

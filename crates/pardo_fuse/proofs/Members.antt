@@ -177,7 +177,7 @@ least_leading b n w =
     ap (least_at b n) w.at
     ∙ ap (λ (t : Bool). cond t (least n (members_over b w.source)) n) w.leads
 
-pub least_begins : (b : Cut) (n : ℕ) → Found b b.graph.nodes → (w : IsLeading b n)
+least_begins : (b : Cut) (n : ℕ) → Found b b.graph.nodes → (w : IsLeading b n)
     → BeginsAt b w.source (least_of b n)
 least_begins b n found w =
     let outer : is_inner b w.source ≡ false = leads_outer b n w.source w.leads in
@@ -239,7 +239,7 @@ all_of_left b (e ∷ es) a =
     (flat_map (λ (d : Entry). kept_of b d.number d.node) es) (of_left b e.number e.node a.0)
     (all_of_left b es a.1)
 
-pub left_by_parents : (a : Blocked) → AllDiffer a.graph.nodes
+left_by_parents : (a : Blocked) → AllDiffer a.graph.nodes
     → Each (λ h. IsLeft (cut_of a) h.number) (fused_by_parents a).graph.nodes
 unfolding joined_by
 left_by_parents a d =

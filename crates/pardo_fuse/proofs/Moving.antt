@@ -33,7 +33,7 @@ use Rattle.pardo_fuse.proofs.Wellness.{well_kept}
 
 -- ---- an output by its code and by its Pdo's number
 
-pub pdo_out : (g : Graph) (c d : Place) (f : Forest) → node_at g.nodes c.node ≡ Some (Pdo d f)
+pdo_out : (g : Graph) (c d : Place) (f : Forest) → node_at g.nodes c.node ≡ Some (Pdo d f)
     → part_place g c ≡ place (part_place g c).node 0
 pdo_out g c d f at =
     let is : part_place g c ≡ place (part_number g.next c.node (at_of c.out f)) 0 =

@@ -24,11 +24,11 @@ bare_is Bare h = refl
 bare_is (Grow l kids rest) h = absurd (false≢true h)
 
 -- Steps by their number.
-pub bare_count : (bs : List Branch) → is_bare (grown bs) ≡ eqb (length bs) 0
+bare_count : (bs : List Branch) → is_bare (grown bs) ≡ eqb (length bs) 0
 bare_count [] = refl
 bare_count (b ∷ bs) = grind (arith, nat_tests)
 
-pub bare_counts : (os : List Output)
+bare_counts : (os : List Output)
     → list_all (λ (t : Twig). is_bare t.kids) (map twig os)
     ≡ list_all (λ (o : Output). eqb (length o.kids.items) 0) os
 bare_counts [] = refl
@@ -116,7 +116,7 @@ not_row : (b c : Branch) (n : ℕ) (ts : List Twig) (rest : Forest)
 not_row b c n [] rest r = let e : 0 ≡ suc n = r.0 in absurd (omega arith)
 not_row b c n (t ∷ ts) rest r = not_row b c (suc n) ts rest r.2
 
-pub short_tells : (bs : List Branch) → (one_short bs ≡ true → IsShort (grown bs))
+short_tells : (bs : List Branch) → (one_short bs ≡ true → IsShort (grown bs))
     × (IsShort (grown bs) → one_short bs ≡ true)
 short_tells [] = (
   λ h. absurd (false≢true h),

@@ -181,7 +181,7 @@ parts_self b ok one (e ∷ es) a =
     (part_self b ok one e.number e.node a.0.0 a.0.1 a.0.2)
     ∙ ap (λ (l : List Entry). e ∷ l) (parts_self b ok one es a.1)
 
-pub parted_single : (b : Blocked) → IsBlockedOk b → HasSingleOutputs b.graph → parted b ≡ b
+parted_single : (b : Blocked) → IsBlockedOk b → HasSingleOutputs b.graph → parted b ≡ b
 parted_single b ok one =
     let g : Graph = b.graph in
     let all : AllByRecursion (IsAll b) g.nodes =

@@ -38,7 +38,7 @@ same_lifted r (Gbk c o l None) = refl
 same_lifted r (Gbk c o l (Some k)) = refl
 same_lifted r (Barrier ins o l a) = refl
 
-pub marks_unlifted : (g : Graph) → CanPart g → (c : Place) → IsThere g.nodes c
+marks_unlifted : (g : Graph) → CanPart g → (c : Place) → IsThere g.nodes c
     → is_lifted (node_at g.nodes c.node) ≡ false
     → is_lifted (node_at (parted_nodes g) (part_place g c).node) ≡ false
 marks_unlifted g can c t h = by (node_at g.nodes c.node) refl

@@ -60,21 +60,21 @@ calls_all g q t h (e ∷ es) s a =
     (node_calls g q t h e.number e.node s.0 a.0)
     ∙ ap (λ (b : Bool). calls_by t e.node || b) (calls_all g q t h es s.1 a.1)
 
-pub collects_part : (g : Graph) → CanPart g → (c : Place) → IsThere g.nodes c
+collects_part : (g : Graph) → CanPart g → (c : Place) → IsThere g.nodes c
     → any_node (collects (part_place g c)) (parted_nodes g) ≡ any_node (collects c) g.nodes
 collects_part g can c t =
     collects_all g (part_place g c) (same_place c)
     (λ d u. same_parts g can c d t u) g.nodes can.ok.there
     ∙ any_alike (collects_by (same_place c)) (collects c) (collects_same c) g.nodes
 
-pub calls_part : (g : Graph) → CanPart g → (c : Place) → IsThere g.nodes c
+calls_part : (g : Graph) → CanPart g → (c : Place) → IsThere g.nodes c
     → any_node (calls_on (part_place g c)) (parted_nodes g) ≡ any_node (calls_on c) g.nodes
 calls_part g can c t =
     calls_all g (part_place g c) (same_place c) (λ d u. same_parts g can c d t u) g.nodes can.steps
     can.ok.there
     ∙ any_alike (calls_by (same_place c)) (calls_on c) (calls_same c) g.nodes
 
-pub among_part : (g : Graph) → CanPart g → (c : Place) → IsThere g.nodes c → (ds : List Place)
+among_part : (g : Graph) → CanPart g → (c : Place) → IsThere g.nodes c → (ds : List Place)
     → AllByRecursion (IsThere g.nodes) ds
     → among (part_place g c) (map (part_place g) ds) ≡ among c ds
 among_part g can c t ds a =

@@ -172,7 +172,7 @@ node_readers g q t h n (Pdo d f) at a =
 node_readers g q t h n (Gbk d o l k) at a = refl
 node_readers g q t h n (Barrier ins o l d) at a = refl
 
-pub readers_all : (g : Graph) (q : Place) (t : Place → Bool) → Tells g q t → (es : List Entry)
+readers_all : (g : Graph) (q : Place) (t : Place → Bool) → Tells g q t → (es : List Entry)
     → AllByRecursion (λ (e : Entry). node_at g.nodes e.number ≡ Some e.node) es
     → AllByRecursion (λ (e : Entry). AllByRecursion (IsThere g.nodes) (reads e.node)) es
     → readers (all_parts g.next (part_place g) es) q ≡ all_sites g (those (calls_by t) es)

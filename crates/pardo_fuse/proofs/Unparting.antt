@@ -146,7 +146,7 @@ pub parts_found : (g : Graph) → CanPart g
 parts_found g can = each_found (parted_nodes g)
     (differ_parts g.next (part_place g) g.nodes can.ok.differ can.below can.steps)
 
-pub node_parts : (P : Entry → Type 0) (g : Graph) (n : ℕ) (x : Node) → node_at g.nodes n ≡ Some x
+node_parts : (P : Entry → Type 0) (g : Graph) (n : ℕ) (x : Node) → node_at g.nodes n ≡ Some x
     → AllByRecursion P (parted_nodes g)
     → AllByRecursion P (parts_of g.next n (reread (part_place g) x))
 node_parts P g n x at a =

@@ -35,7 +35,7 @@ merged-accumulated c es ps s =
     by_keys (λ k. merged_all c (values_at k es)) (λ k. accumulator c (values_of k ps)) s.merges
     (keys_of es) (keys_of ps) (same_keys es ps s.keys)
 
-pub regrouped-merged : (c : Comb) (es fs : Pairs) → Regrouped c es fs
+regrouped-merged : (c : Comb) (es fs : Pairs) → Regrouped c es fs
     → merged_by_key c fs ≡ merged_by_key c es
 regrouped-merged c es fs r =
     by_keys (λ k. merged_all c (values_at k fs)) (λ k. merged_all c (values_at k es)) r.merges

@@ -21,10 +21,10 @@ regrouped_stands c xs ys ps r s = record {
   merges = λ k. r.merges k ∙ s.merges k;
 }
 
-pub regrouped_itself : (c : Comb) (xs : Pairs) → HaveShape c xs → Regrouped c xs xs
+regrouped_itself : (c : Comb) (xs : Pairs) → HaveShape c xs → Regrouped c xs xs
 regrouped_itself c xs e = record { shape = e; keys = λ k. refl; merges = λ k. refl }
 
-pub regrouped_twice : (c : Comb) (xs ys zs : Pairs) → Regrouped c xs ys → Regrouped c ys zs
+regrouped_twice : (c : Comb) (xs ys zs : Pairs) → Regrouped c xs ys → Regrouped c ys zs
     → Regrouped c xs zs
 regrouped_twice c xs ys zs r s = record {
   shape = s.shape;
@@ -33,7 +33,7 @@ regrouped_twice c xs ys zs r s = record {
 }
 
 -- behind others, and before others
-pub regrouped_behind : (c : Comb) (ws xs ys : Pairs) → HaveShape c ws → Regrouped c xs ys
+regrouped_behind : (c : Comb) (ws xs ys : Pairs) → HaveShape c ws → Regrouped c xs ys
     → Regrouped c (ws ++ xs) (ws ++ ys)
 regrouped_behind c ws xs ys e r = record {
   shape = Each-append (λ (p : Value × Value). HasShape c p.1) ws ys e r.shape;
@@ -46,7 +46,7 @@ regrouped_behind c ws xs ys e r = record {
       ∙ merged_all-append c (values_at k ws) (values_at k xs));
 }
 
-pub regrouped_before : (c : Comb) (xs ys zs : Pairs) → HaveShape c zs → Regrouped c xs ys
+regrouped_before : (c : Comb) (xs ys zs : Pairs) → HaveShape c zs → Regrouped c xs ys
     → Regrouped c (xs ++ zs) (ys ++ zs)
 regrouped_before c xs ys zs e r = record {
   shape = Each-append (λ (p : Value × Value). HasShape c p.1) ys zs r.shape e;

@@ -190,7 +190,7 @@ module _ (a b : ℕ) (apart : a ≡ b → ⊥) where
           others (node_at X k) refl (λ e. false≢true (sym i ∙ eq-eqb k a e))
           (λ e. false≢true (sym j ∙ eq-eqb k b e))
 
-pub swap_numbered : (g : Graph) (l : ℕ → ℕ) → KeepsAll l → AllDiffer g.nodes → (p q : ℕ)
+swap_numbered : (g : Graph) (l : ℕ → ℕ) → KeepsAll l → AllDiffer g.nodes → (p q : ℕ)
     (c d : Place) (f h : Forest) → node_at g.nodes p ≡ Some (Pdo c f)
     → node_at g.nodes q ≡ Some (Pdo d h) → (p ≡ q → ⊥)
     → swapped (renumbered_graph l g) (l p) (l q) (at_number l c) (at_number l d) f h

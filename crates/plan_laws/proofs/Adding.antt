@@ -176,7 +176,7 @@ flat_sum w p m (Some (Gbk c x l k)) i = absurd i
 flat_sum w p m (Some (Barrier ins x l a)) i = refl
 flat_sum w p m (Some (Flatten ins)) i = refl
 
-pub operation_sum : {Y : Type 0} (w : World) (p : Parts Y) (m : Place → Collection)
+operation_sum : {Y : Type 0} (w : World) (p : Parts Y) (m : Place → Collection)
     (es : List Entry) (o : Operation) → IsPlain m → Meets w es m
     → Each (λ e. Each (IsThere es) (reads e.node)) es → IsHonest es o → carried_sum w p m es o
     ≡ flat_map (λ n. sum_at w p m (node_at es n)) (runs o)

@@ -58,7 +58,7 @@ all_carry : (w : World) (m : Place → Collection) (es : List Entry) (os : List 
 all_carry w m es os p a t h = Each-weaker (IsHonest es) (Carries w m es) (λ o i. sound_carries w m
     es o p a t i) os h
 
-pub plan_tells : (w : World) (m : Place → Collection) (g : Graph) (os : List Operation) → IsSound g
+plan_tells : (w : World) (m : Place → Collection) (g : Graph) (os : List Operation) → IsSound g
     → IsPlain m → Meets w g.nodes m → DoAll g os → TellsAll m
     (run w 1 (stages_of g.nodes 1 (at_source g.nodes) os) (sources w))
     (places_of g.nodes 1 (at_source g.nodes) os) (1 + length os)
@@ -69,7 +69,7 @@ plan_tells w m g os ok p a d =
     a ok.there d.sound) d.ready
 
 -- ---- what the stages add up to
-pub plan_sums : {Y : Type 0} (w : World) (s : Parts Y) (m : Place → Collection) (g : Graph)
+plan_sums : {Y : Type 0} (w : World) (s : Parts Y) (m : Place → Collection) (g : Graph)
     (os : List Operation) → IsSound g → IsPlain m → Meets w g.nodes m → DoAll g os
     → flat_map (stage_sum w s (run w 1 (stages_of g.nodes 1 (at_source g.nodes) os) (sources w)))
     (stages_of g.nodes 1 (at_source g.nodes) os) ≡ flat_map (λ n. sum_at w s m (node_at g.nodes n))

@@ -57,7 +57,7 @@ object_named : (m : Place → Collection) (t : PlanPlace → Collection) (f : Pl
 object_named m t f None a = refl
 object_named m t f (Some c) a = ap (λ (v : Collection). Some v) a.0
 
-pub fed_named : (m : Place → Collection) (t : PlanPlace → Collection) (f : Place → PlanPlace)
+fed_named : (m : Place → Collection) (t : PlanPlace → Collection) (f : Place → PlanPlace)
     (rs : List Reading) → Each (λ c. t (f c) ≡ m c) (flat_map reading_reads rs)
     → map (fed t) (map (named f) rs) ≡ map (valued m) rs
 fed_named m t f [] a = refl

@@ -13,7 +13,7 @@ use Rattle.exec_graph.proofs.Solving.{lower_most, place_of, ranked_at, short_ran
 use Rattle.fusion_blocks.specs.inner.Tables.{AllThere, IsBelow}
 use Rattle.plan_roles.specs.Levels.{greatest, level, level_at, level_by, level_within, one_gbk}
 
-pub level_next : (es : List Entry) (k n : ℕ)
+level_next : (es : List Entry) (k n : ℕ)
     → level_within es (suc k) n ≡ level_at (level_within es k) (node_at es n)
 unfolding level_within
 level_next es k n = refl
@@ -118,13 +118,13 @@ within_most r es ra (suc k) n =
     let e = level_next es k n in omega arith
 
 -- a level is below the turns that are enough for its node
-pub level_below : (es : List Entry) (turns n : ℕ) → IsBelow es turns n → level es n < turns
+level_below : (es : List Entry) (turns n : ℕ) → IsBelow es turns n → level es n < turns
 level_below es turns n b =
     let i = within_most b.rank es b.ranked (suc (length es)) n in
     let e = level_is es n in
     let h = b.below in omega arith
 
-pub levels_below : (es : List Entry) (turns : ℕ) (cs : List Place)
+levels_below : (es : List Entry) (turns : ℕ) (cs : List Place)
     → AllByRecursion (λ (c : Place). IsBelow es turns c.node) cs → 0 < turns
     → greatest (map (λ (c : Place). level es c.node) cs) < turns
 levels_below es turns [] a p = omega arith

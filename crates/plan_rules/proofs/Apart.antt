@@ -38,7 +38,7 @@ each_right P (x ∷ xs) ys a = each_right P xs ys a.1
 pub misses_left : (ns ks : List ℕ) (n : ℕ) → Misses (ns ++ ks) n → Misses ns n
 misses_left ns ks n a = each_left (λ k. n ≡ k → ⊥) ns ks a
 
-pub misses_right : (ns ks : List ℕ) (n : ℕ) → Misses (ns ++ ks) n → Misses ks n
+misses_right : (ns ks : List ℕ) (n : ℕ) → Misses (ns ++ ks) n → Misses ks n
 misses_right ns ks n a = each_right (λ k. n ≡ k → ⊥) ns ks a
 
 -- of numbers that differ, those in front are none of those behind

@@ -96,7 +96,7 @@ sources_made n all (e ∷ es) a b c i =
       | inr j ↦ sources_made n all es a.1 b.1 c j
     ]
 
-pub stages_length : (es : List Entry) (k : ℕ) (f : Place → PlanPlace) (os : List Operation)
+stages_length : (es : List Entry) (k : ℕ) (f : Place → PlanPlace) (os : List Operation)
     → length (stages_of es k f os) ≡ length os
 stages_length es k f [] = refl
 stages_length es k f (o ∷ os) =

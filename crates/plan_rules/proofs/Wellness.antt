@@ -82,7 +82,7 @@ all_good g [] ok m h t d a = tt
 all_good g (o ∷ os) ok m h t d a =
     (one_good g o ok m h.0 t.0 d.0 a.0, all_good g os ok m h.1 t.1 d.1 a.1)
 
-pub operations_good : (n : ℕ) (g : Graph) (os : List Operation) → IsGraphOk g → IsInBounds n g
+operations_good : (n : ℕ) (g : Graph) (os : List Operation) → IsGraphOk g → IsInBounds n g
     → DoAll g os → AreFit g.nodes os → AllByRecursion (IsGood g.nodes) os
 operations_good n g os ok b d f =
     let m = few_collections g.nodes b.narrow in
@@ -92,7 +92,7 @@ operations_good n g os ok b d f =
     (operations_apart g.nodes os (founds g ok) d.sound d.ready r)
 
 -- fewer operations than numbers of nodes
-pub operations_few : (n : ℕ) (g : Graph) (os : List Operation) → IsGraphOk g → IsInBounds n g
+operations_few : (n : ℕ) (g : Graph) (os : List Operation) → IsGraphOk g → IsInBounds n g
     → DoAll g os → AreFit g.nodes os → length os < 2 ^ 32
 operations_few n g os ok b d f =
     let a = operations_short g.nodes os f.fit in

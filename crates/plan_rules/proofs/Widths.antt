@@ -40,7 +40,7 @@ numbered_width : (n : ℕ) (o : OutChannel) → width (numbered_out n o) ≡ wid
 numbered_width n (Group g) = refl
 numbered_width n (Pass k i) = refl
 
-pub numbered_widths : (n : ℕ) (os : List OutChannel) → widths (numbered_outs n os) ≡ widths os
+numbered_widths : (n : ℕ) (os : List OutChannel) → widths (numbered_outs n os) ≡ widths os
 numbered_widths n [] = refl
 numbered_widths n (o ∷ os) =
     let a = numbered_width n o in
@@ -55,7 +55,7 @@ forest_outs n r (Some (Gbk c x l k)) h = absurd h
 forest_outs n r (Some (Barrier ins o l a)) h = absurd h
 forest_outs n r (Some (Pdo c f)) h = sym (length_map (place r) (outs_of f) ∙ outs_length f)
 
-pub reducer_outs : (es : List Entry) (n : ℕ) (r : Option ℕ) → IsReducer es n r
+reducer_outs : (es : List Entry) (n : ℕ) (r : Option ℕ) → IsReducer es n r
     → outs (reducer_of es r) ≡ length (reduced es n r)
 reducer_outs es n None h = refl
 reducer_outs es n (Some r) h = forest_outs n r (node_at es r) h

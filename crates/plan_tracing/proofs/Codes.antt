@@ -103,7 +103,7 @@ not_held d (c ∷ cs) big a =
         let few : c.out < 2 ^ 32 = a.0 in absurd (omega arith)
     not_same false i = i
 
-pub among_codes : (cs : List Place) (ks : List ℕ) → Each (λ c. c.out < 2 ^ 32) cs
+among_codes : (cs : List Place) (ks : List ℕ) → Each (λ c. c.out < 2 ^ 32) cs
     → ((k : ℕ) → holds k ks ≡ holds k (map code cs)) → (d : Place)
     → among d (map place_at ks) ≡ among d cs
 among_codes cs ks a same d = elim (cases_lt d.out (2 ^ 32)) [

@@ -68,7 +68,7 @@ all_among (c ∷ cs) all f = (
     later true b h = refl
     later false b h = h
 
-pub same_can : (g : Graph) (cs ms : List Place) → ((c : Place) → among c cs ≡ among c ms)
+same_can : (g : Graph) (cs ms : List Place) → ((c : Place) → among c cs ≡ among c ms)
     → Each (CanMark g) ms → Each (CanMark g) cs
 same_can g cs ms same a =
     Each-weaker (λ (c : Place). among c ms ≡ true) (CanMark g) (λ c h. found_can g c ms h a) cs
@@ -138,7 +138,7 @@ fusions_order f (Mark n k ∷ rs) cs all o r = absurd (let e = all.0 in omega ar
 
 -- ---- fusing, and then marks
 
-pub fused_marked : (b : Blocked) (fusions : List Rewrite) (cs : List Place)
+fused_marked : (b : Blocked) (fusions : List Rewrite) (cs : List Place)
     → IsFusion b fusions → Each (CanMark (fused b).graph) (fused b).marks → Rise cs
     → ((c : Place) → among c cs ≡ among c (fused b).marks)
     → IsMarkedBy 2 b.graph (fused b) (fusions ++ map mark_of cs) (marked (fused b).graph cs)

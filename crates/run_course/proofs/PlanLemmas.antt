@@ -49,7 +49,7 @@ not_had told script name status tells ok (bad_plan bytes step kind loads bad is)
     taken_alone (naming_of script) (graph_of script) ok bytes plan step kind
     (subst (λ (b : List ℕ). IsTaken script b plan) equal has.2) bad
 
-pub one_bad_plan : (told : Told) (script : Script) (name : List ℕ) (a b : Status) → IsSome told
+one_bad_plan : (told : Told) (script : Script) (name : List ℕ) (a b : Status) → IsSome told
     → IsGraphOk (graph_of script) → BadPlan told script name a → BadPlan told script name b
     → a ≡ b
 one_bad_plan told script name a b tells ok (no_plan gone is) (no_plan gone' is') = is ∙ sym is'

@@ -11,7 +11,7 @@ use Rattle.run_sizes.specs.inner.Along.{kept, size_at, together}
 abbrev pub sized : Option Collection → Option ℕ
 sized made = option_map size_of made
 
-pub size_made : (table : List (Option Collection)) (number : ℕ) (c : Collection)
+size_made : (table : List (Option Collection)) (number : ℕ) (c : Collection)
     → made_at table number ≡ Some c → size_at (map sized table) number ≡ size_of c
 size_made [] number c at = cc
 size_made (None ∷ table) zero c at = cc

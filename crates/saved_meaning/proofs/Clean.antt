@@ -49,7 +49,7 @@ list-clean (None ∷ table) clean = list-clean table (λ n. clean (suc n))
 list-clean (Some c ∷ table) clean =
     λ i. clean 0 c refl i ++ list-clean table (λ n. clean (suc n)) i
 
-pub table-clean : (table : Table) → IsClean table → traps_of table ≡ []
+table-clean : (table : Table) → IsClean table → traps_of table ≡ []
 table-clean table clean = ap trap_set (list-clean table clean)
 
 same_some : {X : Type 0} (x y : X) → Some x ≡ Some y → x ≡ y

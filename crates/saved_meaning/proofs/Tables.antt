@@ -142,7 +142,7 @@ settled-at (entry ∷ nodes) (d ∷ table) all (suc n) c is =
     settled-at nodes table all.1 n c is
 
 -- a collection without traps is what its members make
-pub made-of-members : (c : Collection) → bag_of c.bag ≡ c.bag → c.traps ≡ [] → rows_as c.bag ≡ c
+made-of-members : (c : Collection) → bag_of c.bag ≡ c.bag → c.traps ≡ [] → rows_as c.bag ≡ c
 made-of-members c settled none = λ i. record { bag = settled i; traps = sym none i }
 
 pub found-members : (table : Table) (n : ℕ) (c : Collection) → made_at table n ≡ Some c

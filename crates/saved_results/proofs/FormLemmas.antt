@@ -13,7 +13,7 @@ use Rattle.saved_results.specs.Saved.{AreCounts, saved_value, size_value}
 
 -- ---- options that are there
 
-pub then_some : {A B : Type 0} (f : A → Option B) (o : Option A) (y : B)
+then_some : {A B : Type 0} (f : A → Option B) (o : Option A) (y : B)
     → option_and_then f o ≡ Some y → (x : A) × (o ≡ Some x) × (f x ≡ Some y)
 then_some f None y e = absurd (cc)
 then_some f (Some x) y e = (x, refl, e)
@@ -97,7 +97,7 @@ is_count (negsuc m) n e = absurd (cc)
 count_again : (n : ℕ) → n < 2 ^ 64 → count_of (pos n) ≡ Some n
 count_again n low = ap (λ t. if t then Some n else None) (lt-ltb n (2 ^ 64) low)
 
-pub size_read : (v : Value) (size : Size) → size_of v ≡ Some size
+size_read : (v : Value) (size : Size) → size_of v ≡ Some size
     → (v ≡ size_value size) × (size.members < 2 ^ 64)
 size_read v size e =
     let p = then_some size_from (two_of v) size e in
@@ -115,7 +115,7 @@ size_read v size e =
     = is_two v both p.1 ∙ (λ i. variant.Rec (first i ∷ second i ∷ [])) in
     (whole ∙ ap size_value m.2, subst (λ (s : Size). s.members < 2 ^ 64) m.2 n.1)
 
-pub size_again : (size : Size) → size.members < 2 ^ 64 → size_of (size_value size) ≡ Some size
+size_again : (size : Size) → size.members < 2 ^ 64 → size_of (size_value size) ≡ Some size
 size_again size low =
     ap (option_and_then size_from)
     (two_again (variant.Text size.name) (variant.Wide (pos size.members)))
@@ -127,7 +127,7 @@ size_again size low =
 
 -- ---- all sizes
 
-pub sizes_read : (values : List Value) (sizes : List Size) → sizes_of values ≡ Some sizes
+sizes_read : (values : List Value) (sizes : List Size) → sizes_of values ≡ Some sizes
     → (values ≡ map size_value sizes) × AllByRecursion (λ size. size.members < 2 ^ 64) sizes
 sizes_read [] sizes e =
     let none : [] ≡ sizes = cc in
@@ -143,7 +143,7 @@ sizes_read (value ∷ values) sizes e =
     × AllByRecursion (λ size. size.members < 2 ^ 64) all) m.2
     ((λ i. first.0 i ∷ others.0 i), (first.1, others.1))
 
-pub sizes_again : (sizes : List Size) → AllByRecursion (λ size. size.members < 2 ^ 64) sizes
+sizes_again : (sizes : List Size) → AllByRecursion (λ size. size.members < 2 ^ 64) sizes
     → sizes_of (map size_value sizes) ≡ Some sizes
 sizes_again [] h = refl
 sizes_again (size ∷ sizes) h =

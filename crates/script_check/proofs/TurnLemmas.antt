@@ -11,7 +11,7 @@ use Rattle.script_check.specs.Repeats.{turn_nodes, turn_to}
 
 -- ---- collections more
 
-pub copies-more : (nodes more : Named Node) (s : State)
+copies-more : (nodes more : Named Node) (s : State)
     → with_copies more (with_copies nodes s) ≡ with_copies (nodes ++ more) s
 copies-more nodes more s = λ i. record {
   types = s.types;
@@ -24,7 +24,7 @@ copies-more nodes more s = λ i. record {
 
 -- ---- numbers that follow one another
 
-pub range-more : (start many : ℕ)
+range-more : (start many : ℕ)
     → range_with_len start (suc many) ≡ range_with_len start many ++ (start + many) ∷ []
 range-more start zero = ap (λ n. n ∷ []) (omega arith)
 range-more start (suc many) =
@@ -55,7 +55,7 @@ seen-next entering seen next start number from same put =
 -- ---- room
 
 -- behind a turn there is room for the others
-pub turn-room : (turns turn body nodes : ℕ) → turn < turns
+turn-room : (turns turn body nodes : ℕ) → turn < turns
     → nodes + (turns - turn) * body ≤ 1024
     → (nodes + body ≤ 1024) × (nodes + body + (turns - suc turn) * body ≤ 1024)
 turn-room turns turn body nodes below room =

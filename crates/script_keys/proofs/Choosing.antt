@@ -35,7 +35,7 @@ same_key name parts files others h =
     ap (λ bytes. (codes "FLUME1" ++ bytes) ++ piece name) (same_bytes parts files others h)
 
 -- the parts of the statements from one on, by that one and those from the next
-pub next_parts : (name : List ℕ) (outlines : List Outline) (texts : List (List ℕ)) (k : ℕ)
+next_parts : (name : List ℕ) (outlines : List Outline) (texts : List (List ℕ)) (k : ℕ)
     (it : Outline) (text : List ℕ) (flag : Bool) → k < length outlines → k < length texts
     → it ≡ get_or outlines k it → text ≡ get_or texts k text
     → flag ≡ get_or (flags_from name outlines) k flag

@@ -56,7 +56,7 @@ all-read f same found n [] = refl
 all-read f same found n (entry ∷ nodes) =
     λ i. same (has found n) entry i ∷ all-read f same found (suc n) nodes i
 
-pub length-saved : (found : List ℕ) (n : ℕ) (nodes : Named Node)
+length-saved : (found : List ℕ) (n : ℕ) (nodes : Named Node)
     → length (saved_from found n nodes) ≡ length nodes
 length-saved found n [] = refl
 length-saved found n (entry ∷ nodes) = ap suc (length-saved found (suc n) nodes)

@@ -42,7 +42,7 @@ sight (Some entry) t b type kind =
     let alike : gives_object entry.1.made ≡ b = cc in
     λ i. Some (same i, alike i)
 
-pub type-in : (o : Option (List ℕ × Node)) (x : Ty × Bool) → sight_of o ≡ Some x
+type-in : (o : Option (List ℕ × Node)) (x : Ty × Bool) → sight_of o ≡ Some x
     → type_of o ≡ Some x.0
 type-in None x is = cc
 type-in (Some entry) x is =

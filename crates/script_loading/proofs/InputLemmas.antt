@@ -123,7 +123,7 @@ passes told script number rows entry found unneeded read = (
 )
 
 -- a node that is no input
-pub passes_other : (told : Told) (script : Script) (number : ℕ) (rows : List (List Value))
+passes_other : (told : Told) (script : Script) (number : ℕ) (rows : List (List Value))
     (entry : Entry) → slice_get script.nodes number ≡ Some entry
     → is_needed script number ≡ true → wanted entry ≡ []
     → HasRead told script number rows → HasRead told script (suc number) rows
@@ -148,7 +148,7 @@ turns script number entry it done found needed is read =
     (from_node script number entry true found needed ∙ ap (λ own. own ++ behind) is)
 
 -- one input more
-pub reads_more : (told : Told) (script : Script) (number : ℕ) (rows : List (List Value))
+reads_more : (told : Told) (script : Script) (number : ℕ) (rows : List (List Value))
     (entry : Entry) (it : Wanted) (own : List Value)
     → slice_get script.nodes number ≡ Some entry → is_needed script number ≡ true
     → wanted entry ≡ it ∷ [] → HasRows told it own
@@ -193,7 +193,7 @@ input_fits functions before (e ∷ nodes) zero entry file columns fits found is 
 input_fits functions before (e ∷ nodes) (suc number) entry file columns fits found is =
     input_fits functions (before ++ e ∷ []) nodes number entry file columns fits.1 found is
 
-pub columns_fit : (script : Script) (number : ℕ) (entry : Entry) (file : List ℕ)
+columns_fit : (script : Script) (number : ℕ) (entry : Entry) (file : List ℕ)
     (columns : List Column) → IsWellFormed script → slice_get script.nodes number ≡ Some entry
     → entry.1.made ≡ made.Input file columns → input_columns_of entry.1.type ≡ Some columns
 columns_fit script number entry file columns well found is =

@@ -36,7 +36,7 @@ pub bag_alike : (xs ys : List Value) → Alike xs ys → bag_of xs ≡ bag_of ys
 bag_alike xs ys h = bag_of-times xs ys (λ v. h (λ x. cond (is_eq (value_cmp x v)) 1 0))
 
 -- ---- flat_map
-pub sum_by-flat_map : {X Y : Type 0} (w : Y → ℕ) (f : X → List Y) (xs : List X)
+sum_by-flat_map : {X Y : Type 0} (w : Y → ℕ) (f : X → List Y) (xs : List X)
     → sum_by w (flat_map f xs) ≡ sum_by (λ x. sum_by w (f x)) xs
 sum_by-flat_map w f [] = refl
 sum_by-flat_map w f (x ∷ xs) =

@@ -105,7 +105,7 @@ take_further (suc a) (suc b) (x ∷ xs) h =
     ap (λ n. x ∷ (take a xs ++ take n (drop a xs))) e
     ∙ ap (λ l. x ∷ l) (take_further a b xs (omega arith))
 
-pub shards_up_to : {A : Type 0} (s : ℕ) (xs : List A) (k : ℕ) → 0 < s
+shards_up_to : {A : Type 0} (s : ℕ) (xs : List A) (k : ℕ) → 0 < s
     → joined (λ i. shard s i xs) k ≡ take (begins s k (length xs)) xs
 unfolding shard
 shards_up_to s xs zero h = ap (λ n. take n xs) (sym (begins_none s (length xs)))

@@ -45,7 +45,7 @@ among_put c e es (d ∷ ins) h i = by (same_place (place e 0) d) h (λ k. among_
     by false k f = or_right (same_place c d) (among c (spliced e es ins)) (f k)
 
 -- The inputs that stay.
-pub among_stays : (c : Place) (e : ℕ) (es ins : List Place) → same_place c (place e 0) ≡ false
+among_stays : (c : Place) (e : ℕ) (es ins : List Place) → same_place c (place e 0) ≡ false
     → among c ins ≡ true → among c (spliced e es ins) ≡ true
 among_stays c e es [] h i = absurd (false≢true i)
 among_stays c e es (d ∷ ins) h i =
@@ -69,7 +69,7 @@ among_stays c e es (d ∷ ins) h i =
     by false s k f = piece (same_place c d) k f
 
 -- Nothing else is put in place.
-pub among_none : (c : Place) (e : ℕ) (es ins : List Place) → among c es ≡ false
+among_none : (c : Place) (e : ℕ) (es ins : List Place) → among c es ≡ false
     → among c ins ≡ false → among c (spliced e es ins) ≡ false
 among_none c e es [] h i = refl
 among_none c e es (d ∷ ins) h i =
@@ -82,7 +82,7 @@ among_none c e es (d ∷ ins) h i =
         ∙ no_or (among c es) (among c (spliced e es ins)) h k
     by false s k = no_or (same_place c d) (among c (spliced e es ins)) s k
 
-pub spliced_long : (e : ℕ) (es ins : List Place) → 0 < length es → 0 < length ins
+spliced_long : (e : ℕ) (es ins : List Place) → 0 < length es → 0 < length ins
     → 0 < length (spliced e es ins)
 spliced_long e es [] h i = i
 spliced_long e es (c ∷ ins) h i = by (same_place (place e 0) c)
@@ -93,7 +93,7 @@ spliced_long e es (c ∷ ins) h i = by (same_place (place e 0) c)
 
 -- ---- the nodes
 
-pub read_merged : (g : Graph) (f : ℕ) (ins : List Place) (e : ℕ) (es : List Place) (c : Place)
+read_merged : (g : Graph) (f : ℕ) (ins : List Place) (e : ℕ) (es : List Place) (c : Place)
     → CanMerge g f ins e es → (c.node ≡ e → ⊥) → is_read g c ≡ true
     → is_read (merged g f ins e es) c ≡ true
 read_merged g f ins e es c can apart h =

@@ -152,7 +152,7 @@ lower r e x (c ∷ cs) h a =
       | inr i ↦ lower r e x cs i a.1
     ]
 
-pub inner_apart : (g : Graph) (f : ℕ) (ins : List Place) (e : ℕ) (es : List Place)
+inner_apart : (g : Graph) (f : ℕ) (ins : List Place) (e : ℕ) (es : List Place)
     → (r : ℕ → ℕ) → IsRankedBy r g.nodes → CanMerge g f ins e es → e ≡ f → ⊥
 inner_apart g f ins e es r a can i =
     let l : r e < r f = lower r e (r f) ins can.nested

@@ -24,14 +24,14 @@ pub enough_old : (m : ℕ → ℕ) (next p : ℕ) (ins : List Place) (q : ℕ) �
     → enough m next p ins q ≡ m q
 enough_old m next p ins q h = rw (lt-ltb q next h) refl
 
-pub enough_copy : (m : ℕ → ℕ) (next p : ℕ) (ins : List Place) (i q : ℕ) → q ≡ next + i
+enough_copy : (m : ℕ → ℕ) (next p : ℕ) (ins : List Place) (i q : ℕ) → q ≡ next + i
     → i < length ins
     → enough m next p ins q ≡ 2 * m (get_or ins i (place 0 0)).node
 enough_copy m next p ins i q h l =
     let e : q - next ≡ i = omega arith in
     rw (le-ltb q next (omega arith), lt-ltb q (next + length ins) (omega arith), e) refl
 
-pub enough_flatten : (m : ℕ → ℕ) (next p : ℕ) (ins : List Place) (q : ℕ) → next + length ins ≤ q
+enough_flatten : (m : ℕ → ℕ) (next p : ℕ) (ins : List Place) (q : ℕ) → next + length ins ≤ q
     → enough m next p ins q ≡ m p
 enough_flatten m next p ins q h =
     rw (le-ltb q next (omega arith), le-ltb q (next + length ins) (omega arith)) refl
@@ -43,7 +43,7 @@ enough_number m next p ins (suc j) h =
     enough_flatten m next p ins ((next + length ins) + j) (omega arith)
 
 -- The outputs of the copies weigh twice the inputs.
-pub added_from : (m : ℕ → ℕ) (next p : ℕ) (ins : List Place) (j i q : ℕ) (cs : List Place)
+added_from : (m : ℕ → ℕ) (next p : ℕ) (ins : List Place) (j i q : ℕ) (cs : List Place)
     → q ≡ next + i → i + length cs ≡ length ins
     → ((k : ℕ) → get_or ins (i + k) (place 0 0) ≡ get_or cs k (place 0 0))
     → added (enough m next p ins) (copied q j cs) ≡ 2 * added m cs
@@ -66,7 +66,7 @@ added_copied m next p ins j =
 
 -- ---- a node over collections of the same weights
 
-pub added_same : (k m : ℕ → ℕ) (r : Place → Place) (cs : List Place)
+added_same : (k m : ℕ → ℕ) (r : Place → Place) (cs : List Place)
     → AllByRecursion (λ c. k (r c).node ≡ m c.node) cs → added k (map r cs) ≡ added m cs
 added_same k m r [] a = refl
 added_same k m r (c ∷ cs) a =
@@ -99,7 +99,7 @@ copies_enough m next p f ins i q (c ∷ cs) h l a b =
           (let e : i + suc k ≡ (i + 1) + k = omega arith in e) (a (suc k))) b.1,
     )
 
-pub copies_from : (m : ℕ → ℕ) (next p : ℕ) (f : Forest) (ins : List Place) (i q : ℕ)
+copies_from : (m : ℕ → ℕ) (next p : ℕ) (f : Forest) (ins : List Place) (i q : ℕ)
     (cs : List Place) → q ≡ next + i → i + length cs ≡ length ins
     → ((k : ℕ) → get_or ins (i + k) (place 0 0) ≡ get_or cs k (place 0 0))
     → weigh (enough m next p ins) (copies q f cs) ≡ 2 * added m cs

@@ -26,7 +26,7 @@ pub record IsPassing (t : Node → Bool) (es : List Entry) : Type 0 where
   pub at : node_at es number ≡ Some node
   pub passes : t node ≡ true
 
-pub passing_one : (t : Node → Bool) (all es : List Entry)
+passing_one : (t : Node → Bool) (all es : List Entry)
     → AllByRecursion (λ e. node_at all e.number ≡ Some e.node) es → any_node t es ≡ true
     → IsPassing t all
 passing_one t all [] a h = absurd (false≢true h)

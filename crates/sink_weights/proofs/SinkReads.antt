@@ -34,7 +34,7 @@ pub moved_place : (p base : ℕ) (c : Place) → c.node ≡ p
     → rerouted p base c ≡ place (flatten_number p base c.out) 0
 moved_place p base c h = let e : eqb c.node p ≡ true = eq-eqb c.node p h in rw e refl
 
-pub is_of_map : (q k : ℕ) (r : Place → Place) (cs : List Place)
+is_of_map : (q k : ℕ) (r : Place → Place) (cs : List Place)
     → ((c : Place) → c.node ≡ q → (r c).node ≡ k) → is_of q cs ≡ true
     → is_of k (map r cs) ≡ true
 is_of_map q k r [] f h = absurd (false≢true h)

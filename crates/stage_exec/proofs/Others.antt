@@ -12,7 +12,7 @@ use Rattle.stage_exec.specs.inner.Places.{is_same}
 
 -- ---- a list in which one is another
 
-pub get_set_other : {A : Type 0} (xs : List A) (k n : ℕ) (x : A) → (n ≡ k → ⊥)
+get_set_other : {A : Type 0} (xs : List A) (k n : ℕ) (x : A) → (n ≡ k → ⊥)
     → slice_get (slice_set xs k x) n ≡ slice_get xs n
 get_set_other [] k n x h = refl
 get_set_other (y ∷ ys) zero zero x h = absurd (h refl)
@@ -20,7 +20,7 @@ get_set_other (y ∷ ys) zero (suc n) x h = refl
 get_set_other (y ∷ ys) (suc k) zero x h = refl
 get_set_other (y ∷ ys) (suc k) (suc n) x h = get_set_other ys k n x (λ e. h (ap suc e))
 
-pub get_set_same : {A : Type 0} (xs : List A) (k : ℕ) (x : A) → k < length xs
+get_set_same : {A : Type 0} (xs : List A) (k : ℕ) (x : A) → k < length xs
     → slice_get (slice_set xs k x) k ≡ Some x
 get_set_same [] k x h = absurd (omega arith)
 get_set_same (y ∷ ys) zero x h = refl

@@ -15,7 +15,7 @@ use Rattle.flume_grammar.specs.Terminals.{key, mark, name, number}
 use Rattle.statement_texts.specs.Texts.{is_beginning_word}
 use Rattle.statement_law.proofs.Moving.{Goes, at_close, at_word, join, plain, stop, unlined}
 
-pub go_combiner : {ts us : List Token} {c : Combiner} → g.IsCombiner ts us c → (d : ℕ)
+go_combiner : {ts us : List Token} {c : Combiner} → g.IsCombiner ts us c → (d : ℕ)
     (vs : List Token) → Goes d ts us vs (λ ws. g.IsCombiner ws vs c)
 go_combiner g.sum d vs =
     record { without = key keyword.Sum 0 ∷ vs; moved = plain refl stop; is = g.sum }

@@ -39,7 +39,7 @@ more_is i n l h = by l.last where
   by true = ap (λ t. cond t n 0) (kept_is (l.origin + l.at) i h)
   by false = refl
 
-pub owned_is : (i size : ℕ) (ls : List Label) (ns : List ℕ) → i < 2 ^ 64 - 1
+owned_is : (i size : ℕ) (ls : List Label) (ns : List ℕ) → i < 2 ^ 64 - 1
     → kept_count (size + owned i (map owner ls) (map kept_count ns))
     ≡ kept_count (size + own_count i ls ns)
 owned_is i size [] ns h = refl

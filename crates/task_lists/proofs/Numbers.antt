@@ -48,7 +48,7 @@ joined_front f (suc n) =
     ∙ append_assoc (f 0) (joined (λ k. f (suc k)) n) (f (suc n))
 
 -- by place, or member by member
-pub joined_places : {X Y : Type 0} (f : Option X → List Y) (xs : List X)
+joined_places : {X Y : Type 0} (f : Option X → List Y) (xs : List X)
     → joined (λ k. f (slice_get xs k)) (length xs) ≡ flat_map (λ x. f (Some x)) xs
 joined_places f [] = refl
 joined_places f (x ∷ xs) =

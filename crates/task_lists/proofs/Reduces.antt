@@ -42,13 +42,13 @@ keys_paired : (ks : List Value) (f : Value → Value)
 keys_paired [] f = tt
 keys_paired (k ∷ ks) f = (ap is_some (parts_of-pair k (f k)), keys_paired ks f)
 
-pub groups_paired : (pairs : List Value) → All IsPair (grouped pairs)
+groups_paired : (pairs : List Value) → All IsPair (grouped pairs)
 groups_paired pairs =
     All-from_recursion IsPair (grouped pairs)
     (keys_paired (keys_of (pairs_of pairs)) (λ k. value.List (values_of k (pairs_of pairs))))
 
 -- the partitions of groups together have each group
-pub parts_alike : (n : ℕ) (gs : List Value) → 0 < n → All IsPair gs
+parts_alike : (n : ℕ) (gs : List Value) → 0 < n → All IsPair gs
     → Alike (joined (λ p. part_of n p gs) n) gs
 parts_alike n gs some pairs =
     let parts : List Value = joined (λ p. part_of n p gs) n in
@@ -61,7 +61,7 @@ abbrev pub by_channel : {Y : Type 0} → (Grouping → List Y) → OutChannel �
 by_channel f (Group g) = f g
 by_channel f (Pass k number) = []
 
-pub groupings_each : {Y : Type 0} (f : Grouping → List Y) (outs : List OutChannel)
+groupings_each : {Y : Type 0} (f : Grouping → List Y) (outs : List OutChannel)
     → flat_map f (groupings outs) ≡ flat_map (by_channel f) outs
 groupings_each f [] = refl
 groupings_each f (Group g ∷ outs) = ap (λ l. f g ++ l) (groupings_each f outs)

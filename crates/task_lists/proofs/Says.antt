@@ -122,7 +122,7 @@ module _ (i : ℕ) (w : World) where
       (own_total v rest (Each-right (λ (d : Label). d.at ≡ 0) (labels_in kids) (labels_in rest)
       first.1)))
 
-pub own_fed : (w : World) (i : ℕ) (v : Collection) (o : Option Collection) (f : Option Forest)
+own_fed : (w : World) (i : ℕ) (v : Collection) (o : Option Collection) (f : Option Forest)
     → AreFirstBeside o f
     → Alike (total_of (world_in w o) (each_step ((each_own i).steps (world_in w o)))
     (value_on v o) f) (fed_sum w (own_parts w i) v o f)

@@ -48,7 +48,7 @@ calm_good types t lists (c ∷ cs) = (
 
 -- ---- a function of the record of an element and a value
 
-pub pair_has : (t object r : Ty) → IsRecord (t ∷ (object ∷ [])) r → (x v : Value) → Has t x
+pair_has : (t object r : Ty) → IsRecord (t ∷ (object ∷ [])) r → (x v : Value) → Has t x
     → Has object v → Has r (value.Rec (x ∷ (v ∷ [])))
 pair_has t object r is x v typed held =
     let pair : List Value = x ∷ (v ∷ []) in

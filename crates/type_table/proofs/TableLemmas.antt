@@ -53,7 +53,7 @@ fields-same f g P same [] h = refl
 fields-same f g P same (part ∷ parts) h = λ i. same part h.0 i ∷ fields-same f g P same parts h.1 i
 
 -- a shape keeps its meaning
-pub tree-Extends : (old new : List Ty) → Extends old new → (s : Shape) → IsWithin (length old) s
+tree-Extends : (old new : List Ty) → Extends old new → (s : Shape) → IsWithin (length old) s
     → tree_of new s ≡ tree_of old s
 tree-Extends old new more shape.Int h = refl
 tree-Extends old new more shape.Bool h = refl
@@ -66,7 +66,7 @@ tree-Extends old new more (shape.Rec parts) h =
 tree-Extends old new more (shape.Either left right) h =
     λ i. ty.Either (more.same left h.0 i) (more.same right h.1 i)
 
-pub IsWithin-more : (n m : ℕ) → n ≤ m → (s : Shape) → IsWithin n s → IsWithin m s
+IsWithin-more : (n m : ℕ) → n ≤ m → (s : Shape) → IsWithin n s → IsWithin m s
 IsWithin-more n m le shape.Int h = tt
 IsWithin-more n m le shape.Bool h = tt
 IsWithin-more n m le shape.Text h = tt
@@ -93,7 +93,7 @@ parts-apart types n apart (x ∷ xs) (y ∷ ys) h g e =
     λ i. record { name = (one i).name; ty = types_same i } ∷ parts-apart types n apart xs ys h.1
     g.1 rest i
 
-pub level-apart : (types : List Ty) (n : ℕ) → Apart types n → (s r : Shape) → IsWithin n s
+level-apart : (types : List Ty) (n : ℕ) → Apart types n → (s r : Shape) → IsWithin n s
     → IsWithin n r → level types s ≡ level types r → s ≡ r
 level-apart types n apart shape.Int shape.Int h g e = refl
 level-apart types n apart shape.Bool shape.Bool h g e = refl
@@ -112,14 +112,14 @@ level-apart types n apart (shape.Either a b) (shape.Either c d) h g e =
     λ i. shape.Either (apart a c h.0 g.0 left i) (apart b d h.1 g.1 right i)
 level-apart types n apart _ _ h g e = cc
 
-pub tree_of-apart : (types : List Ty) (n : ℕ) → Apart types n → (s r : Shape) → IsWithin n s
+tree_of-apart : (types : List Ty) (n : ℕ) → Apart types n → (s r : Shape) → IsWithin n s
     → IsWithin n r → tree_of types s ≡ tree_of types r → s ≡ r
 tree_of-apart types n apart s r h g e =
     level-apart types n apart s r h g (sym (out-tree types s) ∙ ap out-Ty e ∙ out-tree types r)
 
 -- ---- one entry more
 
-pub types_from-push : (types : List Ty) (entries : List (Shape × ℕ)) (entry : Shape × ℕ)
+types_from-push : (types : List Ty) (entries : List (Shape × ℕ)) (entry : Shape × ℕ)
     → types_from types (entries ++ entry ∷ []) ≡ types_from types entries ++ tree_of
     (types_from types entries) entry.0 ∷ []
 types_from-push types [] entry = refl
@@ -238,7 +238,7 @@ length-keys : (entries : List (Shape × ℕ)) → length (keys_of entries) ≡ l
 length-keys [] = refl
 length-keys (e ∷ entries) = ap suc (length-keys entries)
 
-pub shape_at-keys : (entries : List (Shape × ℕ)) (id : ℕ) → id < length entries
+shape_at-keys : (entries : List (Shape × ℕ)) (id : ℕ) → id < length entries
     → get_or (keys_of entries) id shape.Int ≡ (entry_at entries id).0
 shape_at-keys entries id in_ =
     get_or-map (λ (e : Shape × ℕ). e.0) entries id (shape.Int, 0) shape.Int in_

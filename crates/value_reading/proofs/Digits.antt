@@ -29,7 +29,7 @@ flat : (m b p : ℕ) → (m * 256 + b) * p ≡ m * (256 * p) + b * p
 flat m b p = omega arith
 
 -- bytes behind a number: it is that number, moved up, and theirs
-pub number_from-split : (m : ℕ) (bytes : List ℕ)
+number_from-split : (m : ℕ) (bytes : List ℕ)
     → number_from m bytes ≡ m * 256 ^ length bytes + number_from 0 bytes
 number_from-split m [] = omega arith
 number_from-split m (b ∷ bytes) =
@@ -62,7 +62,7 @@ number-below (b ∷ bytes) s =
 
 -- ---- the bytes of the number of bytes are these bytes
 
-pub digits-of : (m : ℕ) (bytes : List ℕ) → Small bytes
+digits-of : (m : ℕ) (bytes : List ℕ) → Small bytes
     → bytes_high_first (length bytes) (number_from m bytes) ≡ bytes
 digits-of m [] s = refl
 digits-of m (b ∷ bytes) s =

@@ -39,7 +39,7 @@ pub made_some : {A B : Type 0} (f : A → B) (o : Out A) (y : B × List ℕ)
 made_some f None y e = absurd (cc)
 made_some f (Some x) y e = (x, refl, cc)
 
-pub told_some : {A : Type 0} (o : Option A) (bytes : List ℕ) (y : A × List ℕ)
+told_some : {A : Type 0} (o : Option A) (bytes : List ℕ) (y : A × List ℕ)
     → told o bytes ≡ Some y → (x : A) × (o ≡ Some x) × ((x, bytes) ≡ y)
 told_some None bytes y e = absurd (cc)
 told_some (Some x) bytes y e = (x, refl, cc)
@@ -54,7 +54,7 @@ some_is x y e = cc
 
 -- ---- numbers
 
-pub number_takes : (k : ℕ) (bytes : List ℕ) (x : ℕ × List ℕ) → Small bytes
+number_takes : (k : ℕ) (bytes : List ℕ) (x : ℕ × List ℕ) → Small bytes
     → number_at k bytes ≡ Some x
     → Takes bytes (bytes_high_first k x.0) x.1 × (x.0 < 256 ^ k)
 unfolding number_at
@@ -70,7 +70,7 @@ number_takes k bytes x s e =
       front_below k bytes s long,
     )
 
-pub number_again : (k n : ℕ) (rest : List ℕ) → n < 256 ^ k
+number_again : (k n : ℕ) (rest : List ℕ) → n < 256 ^ k
     → number_at k (bytes_high_first k n ++ rest) ≡ Some (n, rest)
 unfolding number_at
 number_again k n rest low =
@@ -168,7 +168,7 @@ wide_again n rest p =
 
 -- ---- one byte
 
-pub byte_takes : (bytes : List ℕ) (x : ℕ × List ℕ) → Small bytes → byte_at bytes ≡ Some x
+byte_takes : (bytes : List ℕ) (x : ℕ × List ℕ) → Small bytes → byte_at bytes ≡ Some x
     → Takes bytes (x.0 ∷ []) x.1
 byte_takes [] x s e = absurd (cc)
 byte_takes (b ∷ bytes) x s e =
