@@ -14,7 +14,7 @@ mod traced;
 
 pub use laws::line_law;
 pub use plan_texts;
-pub use plan_texts::plan_print;
+pub use plan_texts::graph_print;
 pub use plan_tracing::Traced;
 pub use script_plans;
 pub use taken::taken_plan;

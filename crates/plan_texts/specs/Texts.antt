@@ -2,10 +2,10 @@
 use Rattle.std.specs.Prelude.{ℕ, List, map}
 use Rattle.serde_json.specs.Data.{Data}
 use Rattle.exec_plan.specs.declared.plan.Plan.{Plan}
-use Rattle.plan_print.specs.of_script_program.declared.made.Output.{Output}
-use Rattle.plan_print.specs.of_script_program.Script.{Script}
-use Rattle.plan_print.specs.Names.{name_at}
-use Rattle.plan_print.specs.Steps.{combiner_text, step_text}
+use Rattle.graph_print.specs.of_script_program.declared.made.Output.{Output}
+use Rattle.graph_print.specs.of_script_program.Script.{Script}
+use Rattle.graph_print.specs.Names.{name_at}
+use Rattle.graph_print.specs.Steps.{combiner_text, step_text}
 use Rattle.plan_writing.specs.Naming.{Naming, Written}
 use Rattle.plan_writing.specs.PlanText as text
 use Rattle.plan_json.specs.PlanJson as json

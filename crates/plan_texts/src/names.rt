@@ -3,8 +3,8 @@ ghost use Rattle.plan_texts.specs.Texts.{naming_of};
 
 use combine_table::Comb;
 use exec_graph::Does;
-use plan_print::script_program::Program;
-use plan_print::{node_name, push_combiner, push_step};
+use graph_print::script_program::Program;
+use graph_print::{node_name, push_combiner, push_step};
 use plan_writing::Names;
 use std::alloc::AllocError;
 

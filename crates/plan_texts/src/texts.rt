@@ -5,7 +5,7 @@ ghost use Rattle.plan_texts.specs.Texts as spec;
 
 use crate::names::ProgramNames;
 use exec_plan::Plan;
-use plan_print::script_program::Program;
+use graph_print::script_program::Program;
 use std::alloc::{AllocError, Global};
 
 /// The text of a plan of the program.

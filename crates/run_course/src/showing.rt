@@ -14,7 +14,7 @@ ghost use Rattle.run_course.specs.inner.Course.{IsTakingStop, refusal_of};
 use command_words::PlanForm;
 use exec_graph::Graph;
 use exec_plan::Plan;
-use outer_plans::plan_print::graph_text;
+use outer_plans::graph_print::graph_text;
 use outer_plans::plan_texts::{plan_json, plan_text};
 use outer_plans::script_plans::plan_of;
 use outer_plans::{Traced, line_law, rewrites_json, taken_plan, traced_plan};

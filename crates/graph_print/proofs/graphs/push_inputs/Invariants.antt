@@ -1,7 +1,7 @@
 use Rattle.std.proofs.Common.{◌≡◌, ◌++◌, drop}
 use Rattle.std.specs.List.{flat_map}
-use Rattle.plan_print.specs.GraphText.{input_text}
-use Rattle.plan_print.proofs.graphs.push_inputs.Given as goal
+use Rattle.graph_print.specs.GraphText.{input_text}
+use Rattle.graph_print.proofs.graphs.push_inputs.Given as goal
 
 abbrev pub invariant-loop-input : goal.invariant-loop-input
 invariant-loop-input l =

@@ -7,7 +7,7 @@ use Rattle.exec_graph.specs.declared.graph.Act.TheVariants.{SideInput, Operate, 
 use Rattle.exec_graph.specs.declared.step.Does.{Does}
 use Rattle.exec_graph.specs.declared.step.Does.TheVariants as does
 use Rattle.graph_build.specs.of_script_program.Script.{Script}
-use Rattle.plan_print.specs.Names.{name_at}
+use Rattle.graph_print.specs.Names.{name_at}
 
 -- the name of a combiner
 abbrev pub combiner_text : Comb → List ℕ

@@ -1,6 +1,6 @@
 // How steps are printed: by the names of collections and functions, or `%` and what they are.
 ghost use Rattle.std.specs.Prelude.{◌≡◌, ◌++◌, OnOk};
-ghost use Rattle.plan_print.specs.Steps as spec;
+ghost use Rattle.graph_print.specs.Steps as spec;
 
 use crate::names::{function_name, node_name, push_number};
 use combine_table::Comb;

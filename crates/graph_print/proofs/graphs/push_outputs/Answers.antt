@@ -1,10 +1,10 @@
 use Rattle.std.proofs.Common.{◌<◌, ◌≤◌, ◌++◌, length, min, get_or, arith}
 use Rattle.std.proofs.lemmas.Option.{slice_get-get_or}
 use Rattle.exec_graph.specs.declared.graph.Place.{Place}
-use Rattle.plan_print.specs.GraphText.{output_lines}
+use Rattle.graph_print.specs.GraphText.{output_lines}
 use Rattle.graph_build.proofs.StepLemmas.{found_below}
-use Rattle.plan_print.proofs.LineLemmas.{lines_all, lines_next}
-use Rattle.plan_print.proofs.graphs.push_outputs.Goals as goal
+use Rattle.graph_print.proofs.LineLemmas.{lines_all, lines_next}
+use Rattle.graph_print.proofs.graphs.push_outputs.Goals as goal
 
 pub loop-number-preserved : goal.loop-number-preserved
 loop-number-preserved c =

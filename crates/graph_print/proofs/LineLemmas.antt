@@ -6,7 +6,7 @@ use Rattle.std.proofs.lemmas.Bool.{cases_lt}
 use Rattle.exec_graph.specs.declared.graph.Place.{Place}
 use Rattle.graph_build.proofs.StepLemmas.{head_of}
 use Rattle.graph_build.specs.of_script_program.declared.made.Output.{Output}
-use Rattle.plan_print.specs.GraphText.{output_line, output_lines}
+use Rattle.graph_print.specs.GraphText.{output_line, output_lines}
 
 pub lines_next : (text more all : List ℕ) (outputs : List (List ℕ × Output))
     (places : List Place) (i : ℕ) (output : List ℕ × Output) (place : Place)

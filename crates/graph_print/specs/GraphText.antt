@@ -17,8 +17,8 @@ use Rattle.graph_build.specs.of_script_program.declared.made.Made.TheVariants as
 use Rattle.graph_build.specs.of_script_program.declared.made.Output.{Output}
 use Rattle.graph_build.specs.of_script_program.Script.{Script}
 use Rattle.written_types.specs.Named.{Named}
-use Rattle.plan_print.specs.Names.{name_at}
-use Rattle.plan_print.specs.Steps.{act_text, step_text}
+use Rattle.graph_print.specs.Names.{name_at}
+use Rattle.graph_print.specs.Steps.{act_text, step_text}
 
 -- what a node gives: the first output by the number of the node alone
 abbrev pub place_text : Place → List ℕ

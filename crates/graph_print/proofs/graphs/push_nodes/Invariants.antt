@@ -1,7 +1,7 @@
 use Rattle.std.proofs.Common.{◌≡◌, ◌++◌, drop}
 use Rattle.std.specs.List.{flat_map}
-use Rattle.plan_print.specs.GraphText.{node_line}
-use Rattle.plan_print.proofs.graphs.push_nodes.Given as goal
+use Rattle.graph_print.specs.GraphText.{node_line}
+use Rattle.graph_print.proofs.graphs.push_nodes.Given as goal
 
 abbrev pub invariant-loop-entry : goal.invariant-loop-entry
 invariant-loop-entry l =

@@ -2,10 +2,10 @@
 ghost use Rattle.std.specs.Prelude.{◌≡◌, ◌<◌, ◌++◌, codes, length, slice_get, slice_index, ℕ, List, Some, IfOk, OnOk};
 ghost use Rattle.graph_build.specs.of_script_program.declared.made.Output.{Output};
 ghost use Rattle.std.specs.List.{flat_map};
-ghost use Rattle.plan_print.specs.GraphText as spec;
-ghost use Rattle.plan_print.specs.Names.{name_at};
+ghost use Rattle.graph_print.specs.GraphText as spec;
+ghost use Rattle.graph_print.specs.Names.{name_at};
 ghost use Rattle.graph_build.specs.of_script_program.Needed.{made_of};
-ghost use Rattle.plan_print.specs.Steps.{act_text};
+ghost use Rattle.graph_print.specs.Steps.{act_text};
 
 use crate::names::{node_name, push_number};
 use crate::steps::{push_act, push_step};

@@ -1,6 +1,6 @@
 use Rattle.std.proofs.Common.{◌≡◌, ◌++◌, drop}
-use Rattle.plan_print.specs.GraphText.{output_lines}
-use Rattle.plan_print.proofs.graphs.push_outputs.Given as goal
+use Rattle.graph_print.specs.GraphText.{output_lines}
+use Rattle.graph_print.proofs.graphs.push_outputs.Given as goal
 
 abbrev pub invariant-loop-number : goal.invariant-loop-number
 invariant-loop-number l =

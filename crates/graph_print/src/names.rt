@@ -1,6 +1,6 @@
 // The names of what a program numbers, and numbers in decimal.
 ghost use Rattle.std.specs.Prelude.{◌≡◌, ◌++◌, OnOk, decimal};
-ghost use Rattle.plan_print.specs.Names.{name_at};
+ghost use Rattle.graph_print.specs.Names.{name_at};
 
 use graph_build::script_program::Program;
 use itoa::Buffer;
