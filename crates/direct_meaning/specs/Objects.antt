@@ -10,7 +10,8 @@ use Rattle.flume_value.specs.declared.value.Value.TheVariants as value
 use Rattle.combine_table.specs.Combinations.{combined}
 use Rattle.combine_table.specs.declared.comb.Comb.{Comb}
 use Rattle.flume_collection.specs.Calls.{Called, emissions, trap_named}
-use Rattle.flume_collection.specs.Collection.{Collection, together, unless_trapped}
+use Rattle.flume_collection.specs.Collection.{Collection}
+pub use Rattle.flume_collection.specs.Objects.{argument_of, naming, nothing_behind, only, value_in as value_of}
 use Rattle.flume_collection.specs.declared.trap.Trap.{Trap}
 use Rattle.direct_meaning.specs.Calls.{called_by, calls_on}
 
@@ -29,20 +30,6 @@ IsObject c = length c.bag ≡ members_behind c.traps
 abbrev pub object_as : Result Value Trap → Collection
 object_as (Ok v) = record { bag = v ∷ []; traps = [] }
 object_as (Err trap) = record { bag = []; traps = trap ∷ [] }
-
--- nothing, with the traps behind all of these collections
-abbrev pub nothing_behind : List Collection → Collection
-nothing_behind cs = record { bag = []; traps = (together cs).traps }
-
--- the member of a list that has just one
-abbrev pub only : {X : Type 0} → List X → Option X
-only [] = None
-only (x ∷ []) = Some x
-only (x ∷ (y ∷ ys)) = None
-
--- the value of an object; there is none where it has a trap
-abbrev pub value_of : Collection → Option Value
-value_of c = only (unless_trapped c.traps c.bag)
 
 -- the values of several objects, where each has one
 abbrev pub values_of : List Collection → Option (List Value)
@@ -65,12 +52,6 @@ abbrev pub combined_whole : ℕ → Comb → Collection → Collection
 combined_whole origin comb c = whole_behind origin c.traps (combined comb c.bag)
 
 -- ---- operate: one call on the values of objects
-
--- what the call is on: the value of the one object, or the record of the values of several
-abbrev pub argument_of : List Value → Value
-argument_of [] = value.Rec []
-argument_of (v ∷ []) = v
-argument_of (v ∷ (u ∷ vs)) = value.Rec (v ∷ (u ∷ vs))
 
 -- the one emission of a call on x; where there is not just one, a trap that has x
 abbrev pub one_of : ℕ → Value → Option Value → Result Value Trap
@@ -96,11 +77,6 @@ module _ (origin : ℕ) (answer : Value → Option Called) where
   operated_by objects = operated_on (values_of objects) objects
 
 -- ---- do .. with: a call on each member beside the value of an object
-
--- what a call answers, whose trap, where it is one, names x
-abbrev pub naming : Value → Called → Called
-naming x (Ok outputs) = Ok outputs
-naming x (Err trap) = Err (trap.0, x)
 
 -- what is answered of a member beside a value: the call is on the record of both, and its trap
 -- names the member

@@ -17,22 +17,13 @@ use Rattle.combine_table.specs.Combinations.{combined}
 use Rattle.combine_table.specs.declared.comb.Comb.{Comb}
 use Rattle.flume_collection.specs.declared.trap.Trap.{Trap}
 use Rattle.flume_collection.specs.Calls.{Called, or_none, passed, trap_named}
-use Rattle.flume_collection.specs.Collection.{Collection, together, unless_trapped}
+use Rattle.flume_collection.specs.Collection.{Collection}
+pub use Rattle.flume_collection.specs.Objects.{argument_of as argument, naming, nothing_behind as none_of, only, value_in}
 use Rattle.exec_graph.specs.World.{World}
 use Rattle.exec_graph.specs.declared.graph.Act.{Act}
 use Rattle.exec_graph.specs.declared.graph.Act.TheVariants.{SideInput, Operate, Singleton}
 
 -- ---- values of objects
-
--- The member of a list of just one.
-abbrev pub only : {X : Type 0} → List X → Option X
-only [] = None
-only (x ∷ []) = Some x
-only (x ∷ (y ∷ ys)) = None
-
--- The value of an object. It has none where a trap is behind it.
-abbrev pub value_in : Collection → Option Value
-value_in c = only (unless_trapped c.traps c.bag)
 
 -- The values of a first object and of the others, where all have one.
 abbrev pub with_first : {X : Type 0} → Option X → Option (List X) → Option (List X)
@@ -58,10 +49,6 @@ value_object v = untrapped (v ∷ [])
 abbrev pub trap_object : Trap → Collection
 trap_object t = record { bag = []; traps = t ∷ [] }
 
--- Nothing, with the traps behind all of some collections.
-abbrev pub none_of : List Collection → Collection
-none_of cs = record { bag = []; traps = (together cs).traps }
-
 -- A collection is an object if it holds one value and no trap, or no value and a trap at least.
 abbrev pub IsObject : Collection → Type 0
 IsObject c =
@@ -69,11 +56,6 @@ IsObject c =
     ⊎ ((t : Trap) × (ts : List Trap) × (c ≡ record { bag = []; traps = t ∷ ts }))
 
 -- ---- side inputs: a function called beside an object
-
--- The answer of a call, whose trap, if it is one, names x.
-abbrev pub naming : Value → Called → Called
-naming x (Ok outputs) = Ok outputs
-naming x (Err trap) = Err (trap.0, x)
 
 -- The world whose functions are called on an element beside a value. The call is on the record of
 -- both, and its trap names the element.
@@ -100,12 +82,6 @@ abbrev pub side_input : World → ℕ → ℕ → Collection → Collection → 
 side_input w o f c object = side_input_on w o f (value_in object) c object
 
 -- ---- operate: a function of objects
-
--- What the function is called on: the value of one object, or the record of the values of several.
-abbrev pub argument : List Value → Value
-argument [] = value.Rec []
-argument (v ∷ []) = v
-argument (v ∷ (u ∷ vs)) = value.Rec (v ∷ (u ∷ vs))
 
 -- A call gives an object if it emits just once. Otherwise the object has no value, and its trap
 -- names the argument.
