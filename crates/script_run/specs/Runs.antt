@@ -24,7 +24,7 @@ use Rattle.run_settings.specs.Settings.{RunSettings}
 use Rattle.run_sizes.specs.of_script_program.Script.{Script}
 use Rattle.run_sizes.specs.of_script_program.Sources.{source_kinds}
 use Rattle.task_lists.specs.Plans.{first_trap}
-use Rattle.task_lists.specs.Tasks.{Split}
+pub use Rattle.stage_exec.specs.Executions.{split_of}
 use Rattle.script_run.specs.Comes.{AreMembers}
 use Rattle.script_run.specs.declared.run.Ran.{Ran}
 
@@ -35,10 +35,6 @@ pub record IsPlanOf (script : Script) (plan : Plan) : Type 0 where
   pub typed : IsPlanTyped (signatures_of script) plan
   pub same : (w : World) → SamePlan w (graph_of script) plan
   pub sources : plan.sources ≡ length (source_kinds script)
-
--- into how many shards and partitions a run splits its channels
-abbrev pub split_of : RunSettings → Split
-split_of s = record { shards = s.shards; partitions = s.partitions }
 
 -- the phases of a script's plan over the lists of its needed sources: those that have tasks, and
 -- between them the makings of objects

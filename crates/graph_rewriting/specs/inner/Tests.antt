@@ -9,14 +9,7 @@ use Rattle.exec_graph.specs.declared.graph.Node.{Node}
 use Rattle.exec_graph.specs.declared.graph.Node.TheVariants.{Source, Flatten, Pdo, Gbk, Barrier}
 use Rattle.exec_graph.specs.declared.graph.Place.{Place}
 use Rattle.graph_rewrites.specs.Rewrites.{input_of}
-
-abbrev pub is_pdo : Option Node → Bool
-is_pdo None = false
-is_pdo (Some (Source r)) = false
-is_pdo (Some (Flatten ins)) = false
-is_pdo (Some (Pdo c f)) = true
-is_pdo (Some (Gbk c o l k)) = false
-is_pdo (Some (Barrier ins o l a)) = false
+pub use Rattle.graph_rewrites.specs.of_graph_bounds.of_pardo_fuse.Readers.{is_pdo}
 
 abbrev pub is_gbk : Option Node → Bool
 is_gbk None = false
