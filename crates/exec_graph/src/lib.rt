@@ -46,7 +46,6 @@ mod step;
 
 pub use callers::root_comb;
 pub use checks::graph_ok;
-pub use copies::copy_steps;
 pub use founded::is_founded;
 pub use graph::{Act, Blocked, Entry, Graph, Input, Node, Place};
 pub use laws::{act_law, meaning_law, object_law, step_law, typed_law};

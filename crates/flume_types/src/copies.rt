@@ -26,7 +26,7 @@ pub fn copy(alloc: Global, ty: &Ty) -> Result<Ty, AllocError>
 
 /// Fields that equal these, in their order.
 #[cycle(copy)]
-pub fn copy_fields(alloc: Global, fields: &[Field<Ty>]) -> Result<Fields, AllocError>
+pub(crate) fn copy_fields(alloc: Global, fields: &[Field<Ty>]) -> Result<Fields, AllocError>
     ensures { IfOk result (λ all. all ≡ fields.now) }
 {
     let mut copied = Vec::with_capacity(alloc, fields.len())?;

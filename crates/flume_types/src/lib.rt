@@ -18,7 +18,7 @@ mod types;
 mod typing;
 
 pub use column::{Column, ColumnFault, ColumnKind, Columns};
-pub use copies::{copy, copy_fields};
+pub use copies::copy;
 pub use deep::{depth, depth_law};
 pub use flat::{columns, columns_law, input_columns};
 pub use flume_value;

@@ -6,7 +6,6 @@ ghost use Rattle.graph_build.specs.Built.{built, built_at as built_in};
 ghost use Rattle.graph_build.specs.Graphs as spec;
 ghost use Rattle.graph_build.specs.Nodes.{call_in, entry, last_step as last_step_of, made_nodes, source_number};
 ghost use Rattle.graph_build.specs.Nodes.{before_last as before_last_of, sources_made as inputs_in};
-ghost use Rattle.script_program.specs.Saved.{with_saved};
 ghost use Rattle.script_program.specs.Sources.{source_numbers as numbers_in};
 
 use crate::built::built_at;
@@ -20,23 +19,6 @@ use exec_graph::{Does, Entry, Graph, Node, Place};
 use flume_value::Pile;
 use script_program::{Made, Program, source_at, source_numbers};
 use std::alloc::{AllocError, Global};
-
-/// A program in which the collections of these numbers are those that an earlier run has kept, and
-/// its execution graph. What alone they read is not needed any more.
-pub fn build_with(
-    alloc: Global,
-    program: Program,
-    found: &[u32],
-) -> Result<(Program, Graph), AllocError>
-    ensures script { IfOk result (λ built.
-        built.0.script ≡ with_saved found.now program.script) }
-    ensures graph { IfOk result (λ built.
-        built.1 ≡ spec.graph_of (with_saved found.now program.script)) }
-{
-    let program = program.with_saved(found);
-    let graph = build(alloc, &program)?;
-    Ok((program, graph))
-}
 
 /// The execution graph of a program.
 pub fn build(alloc: Global, program: &Program) -> Result<Graph, AllocError>

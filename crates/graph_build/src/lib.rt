@@ -25,6 +25,6 @@ mod outputs;
 mod places;
 mod wanted;
 
-pub use builder::{build, build_with};
+pub use builder::build;
 pub use built_for::origins;
 pub use script_program;

@@ -27,7 +27,6 @@ pub use keeping::{keep_each, kept_bytes};
 pub use keyed::keyed_nodes;
 pub use law::given_law;
 pub use lists::{given_lists, input_numbers};
-pub use names::rested_names;
 pub use nodes::{nodes_needed, rested_nodes};
 pub use saved_meaning;
 pub use sizes::{push_counted, push_kept, sizes_told, to_keep};

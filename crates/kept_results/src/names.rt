@@ -10,7 +10,11 @@ use script_program::Program;
 use std::alloc::{AllocError, Global};
 
 /// The names of the collections that the one of a number rests on, in order of the script.
-pub fn rested_names(alloc: Global, program: &Program, asked: usize) -> Result<Pile<Str>, AllocError>
+pub(crate) fn rested_names(
+    alloc: Global,
+    program: &Program,
+    asked: usize,
+) -> Result<Pile<Str>, AllocError>
     ensures { IfOk result (λ names. names ≡ names_of program.now.script asked) }
 {
     let flags = program.rested_on(alloc, asked)?;

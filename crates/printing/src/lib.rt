@@ -15,5 +15,5 @@ mod screen;
 mod value;
 
 pub use buffer::{joined, push_quoted};
-pub use screen::{say_named, say_quoted};
+pub use screen::say_named;
 pub use value::{printed_law, say_value};

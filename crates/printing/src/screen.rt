@@ -25,7 +25,7 @@ pub fn say_named<P: Screen>(
 }
 
 /// Says a name in quotes.
-pub fn say_quoted<P: Screen>(screen: &mut P, name: &[u8]) -> Result<(), Failed>
+pub(crate) fn say_quoted<P: Screen>(screen: &mut P, name: &[u8]) -> Result<(), Failed>
     ensures { Says (quoted name.now)
         (seen P.text P.faults screen.old) (seen P.text P.faults screen.new) result }
 {
