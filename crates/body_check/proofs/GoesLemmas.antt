@@ -17,7 +17,8 @@ use Rattle.body_check.specs.Call.{NameState, state, Emits, each, for_each, side,
 abbrev pub named : Newest Ty → Outcome slots.SlotState → Outcome NameState
 named names o = then o (λ s. Gives (state (bound names s.env) s.out))
 
-pub named_then : (names next : Newest Ty) (o : Outcome slots.SlotState) (f : NameState → Outcome NameState)
+pub named_then : (names next : Newest Ty) (o : Outcome slots.SlotState)
+    (f : NameState → Outcome NameState)
     (g : slots.SlotState → Outcome slots.SlotState)
     → ((vs : List Value) (out : Emissions)
     → f (state (bound names vs) out) ≡ named next (g (slots.state vs out)))

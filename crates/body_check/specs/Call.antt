@@ -23,7 +23,8 @@ abbrev pub state : Environment → Emissions → NameState
 state env out = record { env = env; out = out }
 
 -- statements one after another
-abbrev pub run_all : {X : Type 0} → (X → NameState → Outcome NameState) → List X → NameState → Outcome NameState
+abbrev pub run_all : {X : Type 0} → (X → NameState → Outcome NameState) → List X → NameState
+    → Outcome NameState
 run_all f [] s = Gives s
 run_all f (x ∷ xs) s = then (f x s) (run_all f xs)
 

@@ -103,7 +103,8 @@ module _ (tasks tries : ℕ) where
         (λ n. omega arith) in omega arith;
   }
 
-  pub draw_good : (s : BoardState) (p : ℕ) (v : PassState) → IsGood tasks tries s → get_elem? s.passes p
+  pub draw_good : (s : BoardState) (p : ℕ) (v : PassState) → IsGood tasks tries s
+      → get_elem? s.passes p
       ≡ some v → v.ended ≡ false
       → IsGood tasks tries record {
         next = s.next + 1;

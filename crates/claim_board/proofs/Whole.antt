@@ -68,7 +68,8 @@ start_good tasks tries crew = record {
   };
 }
 
-runs_keep : (tasks tries : ℕ) (old : BoardState) (events : List Event) (new : BoardState) → 0 < tasks
+runs_keep : (tasks tries : ℕ) (old : BoardState) (events : List Event) (new : BoardState)
+    → 0 < tasks
     → Runs tasks tries old events new → IsGood tasks tries old → IsGood tasks tries new
 runs_keep tasks tries old [] new some_task r h = subst (IsGood tasks tries) (sym r) h
 runs_keep tasks tries old (e ∷ es) new some_task r h =
@@ -93,7 +94,8 @@ words_stay tasks tries (e ∷ es) old new t r full =
     let first = step_stays tasks tries old e r.0 r.1 t full in
     words_stay tasks tries es r.0 new t r.2 (λ z. full (sym first ∙ z)) ∙ first
 
-step_sized : (tasks tries : ℕ) (old : BoardState) (e : Event) (new : BoardState) → Step tasks tries old e new
+step_sized : (tasks tries : ℕ) (old : BoardState) (e : Event) (new : BoardState)
+    → Step tasks tries old e new
     → length old.words ≡ tasks → length new.words ≡ tasks
 step_sized tasks tries old (Draw p) new s h = ap (λ (k : BoardState). length k.words) s.3 ∙ h
 step_sized tasks tries old (Look p u) new s h = ap (λ (k : BoardState). length k.words) s.3 ∙ h
@@ -102,7 +104,8 @@ step_sized tasks tries old (Win p d) new s h = ap (λ (k : BoardState). length k
 step_sized tasks tries old (Lose p d) new s h = ap (λ (k : BoardState). length k.words) s.4 ∙ h
 
 -- the wins that are to come
-wins_left : (tasks tries : ℕ) (old : BoardState) (events : List Event) (new : BoardState) (t : ℕ) → 0 < tasks
+wins_left : (tasks tries : ℕ) (old : BoardState) (events : List Event) (new : BoardState)
+    (t : ℕ) → 0 < tasks
     → length old.words ≡ tasks → Runs tasks tries old events new
     → (word old t ≡ 0 → wins tasks t events ≤ 1) × (word old t ≢ 0 → wins tasks t events ≡ 0)
 wins_left tasks tries old [] new t some_task size r = ((λ _. omega arith), λ _. refl)

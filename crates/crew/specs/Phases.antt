@@ -100,7 +100,8 @@ module _ (tasks : ℕ) (s : Settings) where
   module _ {O : Type 0} (is_value : ℕ → O → Type 0) (places : ℕ → ℕ) where
     -- the outs of the first n tasks, in order: each was made by the attempt that the board names as
     -- the winner, all of whose places some host has let through
-    pub record AreOuts (olds news : List Account) (board : BoardState) (n : ℕ) (ks : List (KeptOut O))
+    pub record AreOuts (olds news : List Account) (board : BoardState) (n : ℕ)
+        (ks : List (KeptOut O))
         : Type 0 where
       pub count : length ks ≡ n
       pub order : (t : ℕ) (d : KeptOut O) → t < n → (slice_index_or ks t d).task ≡ t

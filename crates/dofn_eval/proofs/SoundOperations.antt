@@ -70,7 +70,8 @@ sound_join_lists : (x y : Value) (t : Ty) → Has (ty.List t) x → Has (ty.List
     → Sound (Has (ty.List t)) (appended (members_of x) (members_of y) (text_of x) (text_of y))
 sound_join_lists x y t g h =
     let p = list_in x t g in let q = list_in y t h in
-    subst (λ m. Sound (Has (ty.List t)) (appended m (members_of y) (text_of x) (text_of y))) (sym p.1)
+    subst (λ m. Sound (Has (ty.List t)) (appended m (members_of y) (text_of x) (text_of y)))
+    (sym p.1)
     (subst (λ m. Sound (Has (ty.List t)) (appended (Some p.0) m (text_of x) (text_of y))) (sym q.1)
     (has_list t (p.0 ++ q.0) (Each-append (Has t) p.0 q.0 p.2 q.2)))
 

@@ -40,7 +40,8 @@ kept out values g = record { lists = put out values g.lists; counts = g.counts }
 
 -- the count at a place is n more
 abbrev pub raised_at : ℕ → ℕ → List ℕ → List ℕ
-raised_at at n counts = slice_set counts at (min (unwrap_or (slice_get counts at) 0 + n) (2 ^ 64 - 1))
+raised_at at n counts =
+    slice_set counts at (min (unwrap_or (slice_get counts at) 0 + n) (2 ^ 64 - 1))
 
 abbrev pub counted : ℕ → ℕ → Given → Given
 counted at n g = record { lists = g.lists; counts = raised_at at n g.counts }

@@ -20,12 +20,14 @@ pub row_columns_are : input_columns_of row_type ≡ Some row_columns
 row_columns_are =
     ap input_at (ty.outs-Rec row_fields)
     ∙ ap₂ (λ (x y : Ty-F Ty).
-    columns_and (cell_column (codes "k") x) (columns_and (cell_column (codes "v") y) (Some []))) ty.outs-Int
+    columns_and (cell_column (codes "k") x) (columns_and (cell_column (codes "v") y) (Some [])))
+    ty.outs-Int
     ty.outs-Int
 
 pub sum_columns_are : columns_of (table_of ty.Int ty.Int) ≡ Some sum_columns
 sum_columns_are =
     ap flat_columns (ty.outs-Rec pair_fields)
     ∙ ap₂ (λ (x y : Ty-F Ty).
-    columns_and (field_columns (codes "key") x) (columns_and (field_columns (codes "value") y) (Some [])))
+    columns_and (field_columns (codes "key") x)
+    (columns_and (field_columns (codes "value") y) (Some [])))
     ty.outs-Int ty.outs-Int

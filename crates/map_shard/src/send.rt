@@ -82,7 +82,8 @@ fn fill_next(
     partitions: u32,
 ) -> Result<Filling, AllocError>
     requires some { 0 < partitions }
-    requires fit { IsSendable channel.now (takes_joined (takes_of channel.now) given.old.rest.items) }
+    requires fit { IsSendable channel.now
+        (takes_joined (takes_of channel.now) given.old.rest.items) }
     requires stands { (done : List GhostValue)
         × IsSomeAnd filling (λ f. IsFilling partitions channel.now f done) }
     ensures more { (done : List GhostValue) →
@@ -133,7 +134,8 @@ fn joined(
     takes: &[Take],
     given: &mut IntoIter<Items>,
 ) -> Result<Vec<Value>, AllocError>
-    ensures all { IfOk result (λ values. values.items ≡ takes_joined takes.now given.old.rest.items) }
+    ensures all { IfOk result
+        (λ values. values.items ≡ takes_joined takes.now given.old.rest.items) }
     ensures left { OnOk result (given.new.rest.items ≡ left takes.now given.old.rest.items) }
 {
     let mut values = Vec::new(alloc);

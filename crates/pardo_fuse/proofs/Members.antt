@@ -232,7 +232,8 @@ of_left b n (Gbk c o l k) at = (inr (ap is_pdo at), tt)
 of_left b n (Barrier ins o l a) at = (inr (ap is_pdo at), tt)
 
 all_of_left : (b : Cut) (es : List Entry) → Found b es
-    → Each (λ (h : Entry). IsLeft b h.number) (flat_map (λ (e : Entry). kept_of b e.number e.node) es)
+    → Each (λ (h : Entry). IsLeft b h.number)
+    (flat_map (λ (e : Entry). kept_of b e.number e.node) es)
 all_of_left b [] a = tt
 all_of_left b (e ∷ es) a =
     Each-append (λ (h : Entry). IsLeft b h.number) (kept_of b e.number e.node)

@@ -3,8 +3,8 @@
 //! Such a file is a JSON value of one form (`file_of`, specs/Forms.antt): an object of a `plan`,
 //! which may be any value, and of `rewrites`, a list of objects, each of which tells a rewrite by
 //! its numbers, `at`, and its name, `op`. `read_file` tells what a file has, and tells bytes that
-//! are no JSON from values of another form (`IsReadAs`, specs/Reads.antt). `file_text` writes such a
-//! file, and what it writes is of the form (`form_law`).
+//! are no JSON from values of another form (`IsReadAs`, specs/Reads.antt). `file_text` writes such
+//! a file, and what it writes is of the form (`form_law`).
 #![tactic(auto)]
 
 mod file;

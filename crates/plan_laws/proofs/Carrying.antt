@@ -244,7 +244,8 @@ group_at_is w m es keys n r (Some (Source s)) p a ok h t i = absurd i
 group_at_is w m es keys n r (Some (Flatten ins)) p a ok h t i = absurd i
 group_at_is w m es keys n r (Some (Pdo d f)) p a ok h t i = absurd i
 group_at_is w m es keys n r (Some (Gbk c x l k)) p a ok h t i =
-    ap (λ (cs : List Collection). by_key (together cs)) (takes_are w m es keys (read_through es c) a ok
+    ap (λ (cs : List Collection). by_key (together cs))
+    (takes_are w m es keys (read_through es c) a ok
     i)
     ∙ ap (by_key) (inputs_sum w m es c (node_at es c.node) p a refl t)
     ∙ sym (holds_at w m es n (Gbk c x l k) a h)

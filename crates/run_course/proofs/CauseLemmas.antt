@@ -260,7 +260,8 @@ module _ (words : Words) (before middle after : SeenSource) (olds news : List Ac
       → IsStopped words before after olds news why
   command_stop (stop.Refused status) stops = command_cause status stops
   command_stop (stop.Trapped trap) stops =
-      let trapped = subst (λ (t : Told). IsTrappedAt command olds news t script trap) told stops in (
+      let trapped =
+      subst (λ (t : Told). IsTrappedAt command olds news t script trap) told stops in (
         command,
         script,
         trapped.0,

@@ -77,7 +77,8 @@ pub record IsRan (s : RunSettings) (script : Script) (inputs : List (List Value)
 
 -- a trap of the script's meaning, the first of the plan's phases: its task has run, or an object
 -- was to be made there; and all phases and tasks before have run without a trap
-pub record IsFirstTrap (s : RunSettings) (script : Script) (inputs : List (List Value)) (plan : Plan)
+pub record IsFirstTrap (s : RunSettings) (script : Script) (inputs : List (List Value))
+    (plan : Plan)
     (olds news : List Account) (trap : Trap) : Type 0 where
   pub made : List (Option Collection)
   pub means : meaning script inputs ≡ Some made

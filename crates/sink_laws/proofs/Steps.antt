@@ -111,7 +111,8 @@ sink_by g n p f ins b i ok can room =
     by b i room founded nodes objects keeps at_n
   where
     by : (b : Bool) → is_read (sunk_once g p f ins) (place n 0) ≡ b
-        → total_size (cond b (sunk_once g p f ins) (dropped (sunk_once g p f ins) n)).nodes ≤ most_nodes
+        → total_size (cond b (sunk_once g p f ins) (dropped (sunk_once g p f ins) n)).nodes
+        ≤ most_nodes
         → IsFounded (sunk_once g p f ins) → NodesOk (sunk_once g p f ins)
         → HaveObjects (sunk_once g p f ins).nodes → KeepsMeaning g (sunk_once g p f ins)
         → node_at (sunk_once g p f ins).nodes n ≡ Some (Flatten ins)

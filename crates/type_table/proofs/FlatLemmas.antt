@@ -9,7 +9,8 @@ pub drop-item : {X : Type 0} (xs : List X) (i : ℕ) (x : X) → i < length xs �
 drop-item xs i x in_ is = drop_more xs i x in_ ∙ ap (λ y. y ∷ drop (i + 1) xs) (sym is)
 
 pub joined-more : (a b : List Column) (own rest : Option (List Column))
-    → columns_and (Some a) own ≡ Some b → columns_and (Some b) rest ≡ columns_and (Some a) (columns_and own rest)
+    → columns_and (Some a) own ≡ Some b
+    → columns_and (Some b) rest ≡ columns_and (Some a) (columns_and own rest)
 joined-more a b None rest e = cc
 joined-more a b (Some x) None e = refl
 joined-more a b (Some x) (Some y) e =

@@ -11,7 +11,8 @@ abbrev pub ReadsAs : {A B : Type 0} → (A → B) → (List ℕ → Out B) → L
 ReadsAs view read before after (Ok x) = read before ≡ Some (view x, after)
 ReadsAs view read before after (Err e) = e ≢ Memory → read before ≡ None
 
-abbrev pub ReadsFront : {A : Type 0} → (List ℕ → Out A) → List ℕ → List ℕ → Result A ReadFault → Type 0
+abbrev pub ReadsFront : {A : Type 0} → (List ℕ → Out A) → List ℕ → List ℕ → Result A ReadFault
+    → Type 0
 ReadsFront read before after (Ok x) = read before ≡ Some (x, after)
 ReadsFront read before after (Err e) = e ≢ Memory → read before ≡ None
 
