@@ -20,7 +20,7 @@ use Rattle.combine_table.specs.Contents.{int_or_zero}
 use Rattle.combine_table.specs.Combinations.{combined, int_or_overflow, total, wrapped}
 use Rattle.bag_steps.specs.Counts.{counted, counted_traps}
 use Rattle.bag_steps.proofs.RunLemmas.{times-cons}
-use Rattle.bag_step_laws.specs.Derived.{with_one}
+use Rattle.bag_step_laws.specs.Derived.{pair_with_one}
 use Rattle.bag_step_laws.proofs.GroupRows.{combined-grouped, map_map, traps-grouped}
 
 abbrev one : Value
@@ -29,7 +29,7 @@ one = value.Int (pos 1)
 abbrev one_under : Value → Parts
 one_under v = (v, one)
 
-ones-parts : (xs : List Value) → pairs_of (map with_one xs) ≡ map one_under xs
+ones-parts : (xs : List Value) → pairs_of (map pair_with_one xs) ≡ map one_under xs
 ones-parts xs =
     ap pairs_of (sym (map_map packed one_under xs)) ∙ pairs_of-packed (map one_under xs)
 
@@ -86,8 +86,8 @@ module _ (k : Value) (xs : List Value) where
 -- ---- what is made of each key
 
 rows-of-ones : {B : Type 0} (H : Value → Result Value Kind → List B) (xs : List Value)
-    → flat_map (λ k. H k (combined by.Sum (values_of k (pairs_of (map with_one xs)))))
-    (keys_of (pairs_of (map with_one xs)))
+    → flat_map (λ k. H k (combined by.Sum (values_of k (pairs_of (map pair_with_one xs)))))
+    (keys_of (pairs_of (map pair_with_one xs)))
     ≡ flat_map (λ k. H k (int_or_overflow (wrapped (pos (times xs k))))) (distinct (bag_of xs))
 rows-of-ones H xs =
     (λ i. flat_map (λ k. H k (combined by.Sum (values_of k (ones-parts xs i))))
@@ -96,10 +96,11 @@ rows-of-ones H xs =
     (distinct (bag_of (keys-ones xs i))))
 
 pub counted-ones : (xs : List Value)
-    → combined_each (combined by.Sum) (grouped (map with_one xs)) ≡ counted xs
+    → combined_each (combined by.Sum) (grouped (map pair_with_one xs)) ≡ counted xs
 counted-ones xs =
-    combined-grouped (combined by.Sum) (map with_one xs) ∙ rows-of-ones combined_pair xs
+    combined-grouped (combined by.Sum) (map pair_with_one xs) ∙ rows-of-ones combined_pair xs
 
 pub counted-traps : (xs : List Value)
-    → traps_of_each (combined by.Sum) (grouped (map with_one xs)) ≡ counted_traps xs
-counted-traps xs = traps-grouped (combined by.Sum) (map with_one xs) ∙ rows-of-ones trapped_key xs
+    → traps_of_each (combined by.Sum) (grouped (map pair_with_one xs)) ≡ counted_traps xs
+counted-traps xs =
+    traps-grouped (combined by.Sum) (map pair_with_one xs) ∙ rows-of-ones trapped_key xs

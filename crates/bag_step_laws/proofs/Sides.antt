@@ -20,7 +20,7 @@ use Rattle.bag_groups.specs.Pairs.{pair, parts_of, pairs_of}
 use Rattle.bag_groups.specs.Groups.{distinct, grouped, keys_of, values_of}
 use Rattle.bag_groups.proofs.PairLemmas.{Parts, parts_of-pair}
 use Rattle.bag_steps.specs.Joins.{joined, sides}
-use Rattle.bag_step_laws.specs.Derived.{lefts, marked, marked_left, marked_right, rights, split}
+use Rattle.bag_step_laws.specs.Derived.{lefts, marked, marked_left, marked_right, rights, split_sides}
 use Rattle.bag_step_laws.proofs.GroupRows.{group_of-pair, map_map}
 
 -- ---- marked values in order: those of the left, then those of the right
@@ -177,20 +177,20 @@ values-both k ps qs =
 -- ---- the rows
 
 split-pair : (k : Value) (vs : List Value)
-    → split (pair k (value.List vs)) ≡ pair k (sides (lefts vs) (rights vs)) ∷ []
+    → split_sides (pair k (value.List vs)) ≡ pair k (sides (lefts vs) (rights vs)) ∷ []
 split-pair k vs =
     ap (λ o. option_to_list (option_map
     (λ (g : Value × List Value). pair g.0 (sides (lefts g.1) (rights g.1))) o))
     (group_of-pair k vs)
 
 split-groups : (F : Value → List Value) (ks : List Value)
-    → flat_map split (map (λ k. pair k (value.List (F k))) ks)
+    → flat_map split_sides (map (λ k. pair k (value.List (F k))) ks)
     ≡ map (λ k. pair k (sides (lefts (F k)) (rights (F k)))) ks
 split-groups F [] = refl
 split-groups F (k ∷ ks) = λ i. split-pair k (F k) i ++ split-groups F ks i
 
 pub split-marked : (left right : List Value)
-    → flat_map split (grouped (marked left right)) ≡ joined left right
+    → flat_map split_sides (grouped (marked left right)) ≡ joined left right
 split-marked left right =
     let ps = pairs_of left in
     let qs = pairs_of right in

@@ -17,7 +17,7 @@ use Rattle.bag_groups.proofs.PairOrder.{value_eq-same}
 use Rattle.combine_table.specs.declared.comb.Comb.TheVariants as by
 use Rattle.combine_table.specs.Combinations.{combined, greatest}
 use Rattle.bag_steps.proofs.RunLemmas.{AreAll, distinct_bag-ahead}
-use Rattle.bag_step_laws.specs.Derived.{listed, under_zero}
+use Rattle.bag_step_laws.specs.Derived.{listed, pair_under_zero}
 use Rattle.bag_step_laws.proofs.GroupRows.{combined-grouped, group_of-pair, map_map, traps-grouped}
 
 abbrev pub zero_key : Value
@@ -26,7 +26,7 @@ zero_key = value.Int (pos 0)
 abbrev parts_under : Value → Parts
 parts_under v = (zero_key, v)
 
-parts-under : (xs : List Value) → pairs_of (map under_zero xs) ≡ map parts_under xs
+parts-under : (xs : List Value) → pairs_of (map pair_under_zero xs) ≡ map parts_under xs
 parts-under xs =
     ap pairs_of (sym (map_map packed parts_under xs)) ∙ pairs_of-packed (map parts_under xs)
 
@@ -36,7 +36,7 @@ all_zero (x ∷ xs) = (refl, all_zero xs)
 
 -- one key, where there is a member
 pub keys-under : (x : Value) (xs : List Value)
-    → keys_of (pairs_of (map under_zero (x ∷ xs))) ≡ zero_key ∷ []
+    → keys_of (pairs_of (map pair_under_zero (x ∷ xs))) ≡ zero_key ∷ []
 keys-under x xs =
     let keys = map (λ (p : Parts). p.0) (map parts_under (x ∷ xs)) in
     ap keys_of (parts-under (x ∷ xs))
@@ -53,7 +53,7 @@ held-under [] = refl
 held-under (x ∷ xs) = ap (λ l. x ∷ l) (held-under xs)
 
 pub values-under : (xs : List Value)
-    → values_of zero_key (pairs_of (map under_zero xs)) ≡ bag_of xs
+    → values_of zero_key (pairs_of (map pair_under_zero xs)) ≡ bag_of xs
 values-under xs =
     ap (values_of zero_key) (parts-under xs)
     ∙ ap (λ l. bag_of (map (λ (p : Parts). p.1) l))
@@ -68,15 +68,15 @@ listed-pair k vs =
     ∙ append-nil vs
 
 pub listed-top : (n : ℕ) (xs : List Value)
-    → flat_map listed (combined_each (combined (by.Top n)) (grouped (map under_zero xs)))
+    → flat_map listed (combined_each (combined (by.Top n)) (grouped (map pair_under_zero xs)))
     ≡ greatest n (bag_of xs)
 listed-top n [] = sym (drop_all (0 - n) [] (omega arith))
 listed-top n (x ∷ xs) =
     let made : List Value → Value → List Value
     = λ vs k. combined_pair k (Ok (value.List (greatest n vs))) in
     ap (flat_map listed)
-    (combined-grouped (combined (by.Top n)) (map under_zero (x ∷ xs))
-    ∙ ap (flat_map (λ k. made (values_of k (pairs_of (map under_zero (x ∷ xs)))) k))
+    (combined-grouped (combined (by.Top n)) (map pair_under_zero (x ∷ xs))
+    ∙ ap (flat_map (λ k. made (values_of k (pairs_of (map pair_under_zero (x ∷ xs)))) k))
     (keys-under x xs)
     ∙ ap (λ vs. made vs zero_key ++ []) (values-under (x ∷ xs)))
     ∙ append-nil (listed (pair zero_key (value.List (greatest n (bag_of (x ∷ xs))))))
@@ -88,8 +88,8 @@ none_trapped [] F = refl
 none_trapped (k ∷ ks) F = none_trapped ks F
 
 pub top-traps : (n : ℕ) (xs : List Value)
-    → traps_of_each (combined (by.Top n)) (grouped (map under_zero xs)) ≡ []
+    → traps_of_each (combined (by.Top n)) (grouped (map pair_under_zero xs)) ≡ []
 top-traps n xs =
-    traps-grouped (combined (by.Top n)) (map under_zero xs)
-    ∙ none_trapped (keys_of (pairs_of (map under_zero xs)))
-    (λ k. value.List (greatest n (values_of k (pairs_of (map under_zero xs)))))
+    traps-grouped (combined (by.Top n)) (map pair_under_zero xs)
+    ∙ none_trapped (keys_of (pairs_of (map pair_under_zero xs)))
+    (λ k. value.List (greatest n (values_of k (pairs_of (map pair_under_zero xs)))))

@@ -11,13 +11,13 @@ use Rattle.bag_steps.specs.Joins.{sides}
 
 -- ---- count: each member is a key, and an int 1 under it
 
-abbrev pub with_one : Value → Value
-with_one v = pair v (value.Int (pos 1))
+abbrev pub pair_with_one : Value → Value
+pair_with_one v = pair v (value.Int (pos 1))
 
 -- ---- top: all members are under one key
 
-abbrev pub under_zero : Value → Value
-under_zero v = pair (value.Int (pos 0)) v
+abbrev pub pair_under_zero : Value → Value
+pair_under_zero v = pair (value.Int (pos 0)) v
 
 -- the members of the list of a group; what is no group has none
 abbrev pub listed : Value → List Value
@@ -45,7 +45,7 @@ abbrev pub rights : List Value → List Value
 rights values = filter_map right_of values
 
 -- the row of a group of marked values; what is no group has none
-abbrev pub split : Value → List Value
-split p =
+abbrev pub split_sides : Value → List Value
+split_sides p =
     option_to_list
     (option_map (λ group. pair group.0 (sides (lefts group.1) (rights group.1))) (group_of p))

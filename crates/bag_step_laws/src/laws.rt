@@ -12,7 +12,7 @@ ghost use Rattle.combine_table.specs.declared.comb.Comb.TheVariants as by;
 ghost use Rattle.combine_table.specs.Combinations.{combined, greatest};
 ghost use Rattle.bag_steps.specs.Counts.{counted, counted_traps};
 ghost use Rattle.bag_steps.specs.Joins.{joined};
-ghost use Rattle.bag_step_laws.specs.Derived.{listed, marked, split, under_zero, with_one};
+ghost use Rattle.bag_step_laws.specs.Derived.{listed, marked, split_sides, pair_under_zero, pair_with_one};
 
 /// What groups come to where they are combined, and which of them trap, goes key by key.
 pub fn groups_law()
@@ -29,39 +29,39 @@ pub fn groups_law()
 /// The counts of a bag are the sums of as many ones.
 pub fn count_law()
     ensures counts { (bag : List Value) →
-        combined_each (combined by.Sum) (grouped (map with_one bag)) ≡ counted bag }
+        combined_each (combined by.Sum) (grouped (map pair_with_one bag)) ≡ counted bag }
     ensures traps { (bag : List Value) →
-        traps_of_each (combined by.Sum) (grouped (map with_one bag)) ≡ counted_traps bag }
+        traps_of_each (combined by.Sum) (grouped (map pair_with_one bag)) ≡ counted_traps bag }
 {}
 
 /// The join of two bags of pairs is that of the groups of both together, split by their marks.
 pub fn join_law()
     ensures rows { (left right : List Value) →
-        flat_map split (grouped (marked left right)) ≡ joined left right }
+        flat_map split_sides (grouped (marked left right)) ≡ joined left right }
 {}
 
 /// The greatest members of a bag are those of the one group that has them all.
 pub fn top_law()
     ensures members { (n : ℕ) (bag : List Value) →
-        flat_map listed (combined_each (combined (by.Top n)) (grouped (map under_zero bag)))
+        flat_map listed (combined_each (combined (by.Top n)) (grouped (map pair_under_zero bag)))
         ≡ greatest n (bag_of bag) }
     ensures through { (n : ℕ) (bag : List Value) →
-        traps_of_each (combined (by.Top n)) (grouped (map under_zero bag)) ≡ [] }
+        traps_of_each (combined (by.Top n)) (grouped (map pair_under_zero bag)) ≡ [] }
 {}
 
 /// All members of a bag, each under one key, are one group: combined, they are one pair, or one
 /// trap that has the key. Where there are none there is no group.
 pub fn whole_law()
     ensures pair { (f : List Value → Result Value Kind) (v : Value) (bag : List Value) →
-        combined_each f (grouped (map under_zero (v ∷ bag)))
+        combined_each f (grouped (map pair_under_zero (v ∷ bag)))
         ≡ combined_pair (value.Int (pos 0)) (f (bag_of (v ∷ bag))) }
     ensures trap { (f : List Value → Result Value Kind) (v : Value) (bag : List Value) →
-        traps_of_each f (grouped (map under_zero (v ∷ bag)))
+        traps_of_each f (grouped (map pair_under_zero (v ∷ bag)))
         ≡ trapped_key (value.Int (pos 0)) (f (bag_of (v ∷ bag))) }
     ensures no_pair { (f : List Value → Result Value Kind) →
-        combined_each f (grouped (map under_zero [])) ≡ [] }
+        combined_each f (grouped (map pair_under_zero [])) ≡ [] }
     ensures no_trap { (f : List Value → Result Value Kind) →
-        traps_of_each f (grouped (map under_zero [])) ≡ [] }
+        traps_of_each f (grouped (map pair_under_zero [])) ≡ [] }
 {}
 
 /// What a function gives for the members of two bags together is what it gives for each bag,

@@ -4,7 +4,7 @@ use Rattle.std.specs.List.{flat_map}
 use Rattle.bag_groups.specs.Combining.{combined_each, traps_of_each}
 use Rattle.bag_groups.specs.Groups.{grouped}
 use Rattle.bag_groups.proofs.Grouping.{grouped-bag_of}
-use Rattle.bag_step_laws.specs.Derived.{with_one as one_with}
+use Rattle.bag_step_laws.specs.Derived.{pair_with_one as one_with}
 use Rattle.bag_step_laws.proofs.Counting.{counted-ones, counted-traps}
 use Rattle.combine_table.specs.Combinations.{combined}
 use Rattle.combine_table.specs.declared.comb.Comb.TheVariants as by

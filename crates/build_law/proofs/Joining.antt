@@ -6,7 +6,7 @@ use Rattle.bag_groups.specs.Combining.{group_of}
 use Rattle.bag_groups.specs.Pairs.{pair, parts_of}
 use Rattle.bag_groups.specs.Groups.{grouped}
 use Rattle.bag_groups.proofs.Grouping.{grouped-bag_of}
-use Rattle.bag_step_laws.specs.Derived.{lefts, marked, marked_left, marked_right, rights, split as split_of}
+use Rattle.bag_step_laws.specs.Derived.{lefts, marked, marked_left, marked_right, rights, split_sides as split_of}
 use Rattle.bag_step_laws.proofs.Sides.{split-marked}
 use Rattle.bag_steps.specs.Joins.{joined, sides}
 use Rattle.bag_steps.proofs.RowOrder.{joined-IsSorted}

@@ -19,10 +19,10 @@ use Rattle.kept_results.specs.Keyed.{key_at}
 use Rattle.kept_results.specs.Lists.{HasMembers, found_of}
 use Rattle.kept_results.specs.of_direct_meaning.Direct.{made_at, meaning}
 use Rattle.kept_results.specs.of_direct_meaning.Inputs.{Wanted, inputs_of}
-use Rattle.kept_results.specs.of_saved_meaning.Found.{IsSound as IsClean, members_of}
+use Rattle.kept_results.specs.of_saved_meaning.Found.{MayBeFound as IsClean, members_of}
 use Rattle.kept_results.proofs.SameLemmas.{saved_same}
 use Rattle.kept_results.proofs.Steps.{asked_from}
-use Rattle.key_meaning.specs.Keyed.{AllHaveRows as TheyHaveRows, IsShort, Keyed, Working, key}
+use Rattle.key_meaning.specs.Keyed.{AllHaveRowsIn as TheyHaveRows, IsShort, Keyed, Working, key}
 use Rattle.key_meaning.specs.Rested.{rested_sizes}
 use Rattle.keyed_loading.specs.Files.{AreFilesOf, IsFileOf}
 use Rattle.outside.specs.Files.{bytes_of}

@@ -15,7 +15,7 @@ use Rattle.kept_results.specs.Lists.{HasMembers, found_of, given_to, later_of}
 use Rattle.kept_results.specs.of_direct_meaning.Direct.{made_at, meaning, traps_of}
 use Rattle.kept_results.specs.of_direct_meaning.Inputs.{AreInputs, inputs_of}
 use Rattle.kept_results.specs.of_direct_meaning.Made.{AreMade}
-use Rattle.kept_results.specs.of_saved_meaning.Found.{IsSame, IsSound as IsClean, MeansSame, lists_for}
+use Rattle.kept_results.specs.of_saved_meaning.Found.{IsSame, MayBeFound as IsClean, MeansSame, lists_for}
 use Rattle.kept_results.specs.of_script_laws.WellFormed.{IsWellFormed}
 use Rattle.kept_results.proofs.FoundLemmas.{IsRead, firsts, found_each}
 use Rattle.kept_results.proofs.ListLemmas.{numbers_of}

@@ -6,7 +6,7 @@ use Rattle.claim_board.specs.declared.size.Size.{Size}
 use Rattle.claim_board.specs.Counts.{one_if}
 use Rattle.claim_board.specs.Protocol.{PassState, drawn, looked, winning, losing, Event, Draw, Look, Win, Lose, Step}
 use Rattle.claim_board.specs.Seats.{limit_at, pass_view, all_passes, task_words, state_of, Rule}
-use Rattle.claim_board.specs.Steps.{next_place, Leads, DrawSteps, LookSteps, WinSteps, LoseSteps, MakeSteps, JoinSteps}
+use Rattle.claim_board.specs.Steps.{next_place, StepsTo, DrawSteps, LookSteps, WinSteps, LoseSteps, MakeSteps, JoinSteps}
 use Rattle.claim_board.proofs.Ruling.{Tab, place, next_set, rest_set_next, next_set_rest, rest_set, rest_at, pass_step}
 use Rattle.claim_board.proofs.Moves.{room_after}
 use Rattle.claim_board.proofs.Seating.{makes, joins}
@@ -20,7 +20,7 @@ leads : (k : Size) (s : Tab) (id : ℕ) (p q : PassState) (ws : List ℕ) (e : �
     { next = get_or ws 0 0; words = task_words ws; passes = set (all_passes s.views) j q })
     → ((x y : ℕ) → get_or s.words 0 0 ≤ limit_at k + x → y + one_if p.ended ≡ x + one_if q.ended
     → get_or ws 0 0 ≤ limit_at k + y)
-    → Leads k s id p ws q e
+    → StepsTo k s id p ws q e
 leads k s id p q ws e h at number size goes room =
     let pl = place s.views id (pass_view k p) p at refl in (
       pass_step k s id p q ws e h at number size goes room,

@@ -18,8 +18,8 @@ next_place s = steps_of (all_passes s.views)
 
 -- the seat `id`, of the pass p, steps: the words become ws, and p becomes q. That keeps the rule,
 -- and is the protocol's step
-abbrev pub Leads : Size → BoardState → ℕ → PassState → List ℕ → PassState → (ℕ → Event) → Type 0
-Leads k s id p ws q e =
+abbrev pub StepsTo : Size → BoardState → ℕ → PassState → List ℕ → PassState → (ℕ → Event) → Type 0
+StepsTo k s id p ws q e =
     Rule k record { words = ws; homes = s.homes; views = slice_set s.views id (pass_view k q) }
     × ((j : ℕ) × (get_elem? (all_passes s.views) j ≡ some p)
     × Step k.tasks k.tries (state_of s.words s.views) (e j)
@@ -32,7 +32,7 @@ abbrev pub Moves : (Size → BoardState → PassState → Type 0)
 Moves may words after e =
     (k : Size) (s : BoardState) (id : ℕ) (p : PassState) → Rule k s
     → get_elem? s.views id ≡ some (pass_view k p) → may k s p
-    → Leads k s id p (words k s p) (after k s p) e
+    → StepsTo k s id p (words k s p) (after k s p) e
 
 -- word 0 is read and rises by 1
 abbrev pub DrawSteps : Type 0

@@ -14,7 +14,7 @@ use Rattle.exec_plan.specs.declared.plan.InChannel.{InChannel}
 use Rattle.exec_plan.specs.declared.plan.Stage.{Stage}
 use Rattle.exec_plan.specs.declared.plan.Stage.TheVariants.{Mscr, Flatten, Operate}
 use Rattle.exec_plan.specs.Channels.{Fed, fed, given}
-use Rattle.exec_plan.specs.Meaning.{in_reads, results, run, stage_reads, with_object, with_results}
+use Rattle.exec_plan.specs.Meaning.{in_reads, results, run, stage_reads, object_places, with_results}
 
 -- ---- the table
 -- a source, or a result of a stage below k
@@ -46,7 +46,7 @@ run_below w k (s ∷ ss) t c h =
 
 -- ---- stages over tables that are alike
 object_alike : (t u : PlanPlace → Collection) (o : Option PlanPlace)
-    → Each (λ c. t c ≡ u c) (with_object o) → option_map t o ≡ option_map u o
+    → Each (λ c. t c ≡ u c) (object_places o) → option_map t o ≡ option_map u o
 object_alike t u None a = refl
 object_alike t u (Some c) a = ap (λ (v : Collection). Some v) a.0
 
@@ -58,9 +58,9 @@ fed_alike t u (c ∷ cs) a =
     let more : List PlanPlace = flat_map in_reads cs in
     let reads : t c.reads ≡ u c.reads = a.0 in
     let object : option_map t c.beside ≡ option_map u c.beside =
-    object_alike t u c.beside (Each-left P (with_object c.beside) more a.1) in
+    object_alike t u c.beside (Each-left P (object_places c.beside) more a.1) in
     let rest : map (fed t) cs ≡ map (fed u) cs =
-    fed_alike t u cs (Each-right P (with_object c.beside) more a.1) in
+    fed_alike t u cs (Each-right P (object_places c.beside) more a.1) in
     λ i. (let x : Fed = record { value = reads i; beside = object i; does = c.does } in
     x ∷ rest i)
 

@@ -29,13 +29,13 @@ results w t (Mscr m) = flat_map (given w (map (fed t) m.inputs)) m.outputs
 results w t (Flatten takes) = together (map t takes) ∷ []
 results w t (Operate takes o l a) = act_result w o a (map t takes) ∷ []
 
-abbrev pub with_object : Option PlanPlace → List PlanPlace
-with_object None = []
-with_object (Some c) = c ∷ []
+abbrev pub object_places : Option PlanPlace → List PlanPlace
+object_places None = []
+object_places (Some c) = c ∷ []
 
 -- what an input channel reads
 abbrev pub in_reads : InChannel → List PlanPlace
-in_reads c = c.reads ∷ with_object c.beside
+in_reads c = c.reads ∷ object_places c.beside
 
 -- what a stage reads
 abbrev pub stage_reads : Stage → List PlanPlace

@@ -2,7 +2,7 @@
 ghost use Rattle.std.specs.Prelude.{◌≡◌, ◌==◌, ◌-◌, Some, cond, false, map};
 ghost use Rattle.std.specs.List.{list_all, list_any, slice_get};
 ghost use Rattle.exec_graph.specs.Objects.{gives_object, takes_such};
-ghost use Rattle.exec_plan.specs.Wellformed.{has_object, has_objects, is_object, is_operate};
+ghost use Rattle.exec_plan.specs.Wellformed.{has_object, stage_has_objects, is_object_place, is_operate};
 ghost use Rattle.exec_plan.specs.inner.Tests.{are_all};
 
 use crate::plan::{InChannel, PlanPlace, Stage};
@@ -10,7 +10,7 @@ use exec_graph::Act;
 
 /// Whether the stages read objects where they are to read them, and each Operate gives one.
 pub(crate) fn are_objects_ok(objects: &[u32], stages: &[Stage]) -> bool
-    ensures { result ≡ list_all (has_objects objects.now stages.now) stages.now }
+    ensures { result ≡ list_all (stage_has_objects objects.now stages.now) stages.now }
 {
     stages
         .iter()
@@ -18,7 +18,7 @@ pub(crate) fn are_objects_ok(objects: &[u32], stages: &[Stage]) -> bool
 }
 
 fn has_objects(objects: &[u32], stages: &[Stage], stage: &Stage) -> bool
-    ensures { result ≡ has_objects objects.now stages.now stage.now }
+    ensures { result ≡ stage_has_objects objects.now stages.now stage.now }
 {
     match stage {
         Stage::Mscr(mscr) => have_objects(objects, stages, mscr.inputs.as_slice()),
@@ -57,7 +57,7 @@ fn gives_object(act: Act) -> bool
 
 /// Whether the act takes as many collections, and objects where it is to take them.
 fn takes_such(objects: &[u32], stages: &[Stage], act: Act, takes: &[PlanPlace]) -> bool
-    ensures { result ≡ takes_such act (map (is_object objects.now stages.now) takes.now) }
+    ensures { result ≡ takes_such act (map (is_object_place objects.now stages.now) takes.now) }
 {
     match act {
         Act::SideInput(_) => takes.len() == 2 && is_object(objects, stages, takes[1]),
@@ -67,7 +67,7 @@ fn takes_such(objects: &[u32], stages: &[Stage], act: Act, takes: &[PlanPlace]) 
 }
 
 fn are_all_objects(objects: &[u32], stages: &[Stage], takes: &[PlanPlace]) -> bool
-    ensures { result ≡ are_all (map (is_object objects.now stages.now) takes.now) }
+    ensures { result ≡ are_all (map (is_object_place objects.now stages.now) takes.now) }
 {
     for place in takes {
         if !is_object(objects, stages, *place) {
@@ -85,7 +85,7 @@ fn is_among(objects: &[u32], number: u32) -> bool
 
 /// Whether the place is an object: a source that is one, or the result of an Operate.
 fn is_object(objects: &[u32], stages: &[Stage], place: PlanPlace) -> bool
-    ensures { result ≡ is_object objects.now stages.now place }
+    ensures { result ≡ is_object_place objects.now stages.now place }
 {
     match place {
         PlanPlace::Source(number) => is_among(objects, number),

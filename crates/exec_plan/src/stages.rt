@@ -1,7 +1,7 @@
 // Whether each stage reads what is made before it, by channels that are not too many.
 ghost use Rattle.std.specs.Prelude.{◌≡◌, ◌-◌, ◌^◌, [], min};
 ghost use Rattle.std.specs.List.{list_all};
-ghost use Rattle.exec_plan.specs.Meaning.{with_object};
+ghost use Rattle.exec_plan.specs.Meaning.{object_places};
 ghost use Rattle.exec_plan.specs.Wellformed.{results_at};
 ghost use Rattle.exec_plan.specs.inner.Tests.{in_test, made_test, mscr_test, stage_test, stages_test};
 
@@ -93,7 +93,7 @@ fn is_in_ok(sources: u32, before: &[Stage], channel: &InChannel) -> bool
 }
 
 fn is_object_made(sources: u32, before: &[Stage], beside: Option<PlanPlace>) -> bool
-    ensures { result ≡ list_all (made_test sources before.now) (with_object beside) }
+    ensures { result ≡ list_all (made_test sources before.now) (object_places beside) }
 {
     match beside {
         None => true,

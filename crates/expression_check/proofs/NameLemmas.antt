@@ -18,7 +18,7 @@ use Rattle.expression_types.specs.of_written_types.Answer.{Checked, ◌>>=◌, o
 use Rattle.expression_types.specs.of_written_types.Named.{find}
 use Rattle.expression_types.specs.of_written_types.Written.{shallow}
 use Rattle.expression_types.specs.Sight.{Newest}
-use Rattle.expression_types.specs.Fields.{record_fields, field_at}
+use Rattle.expression_types.specs.Fields.{record_fields, named_field}
 use Rattle.expression_types.specs.Types.{place_under}
 use Rattle.expression_check.specs.Given.{Thing, tagged, with_type, dotted}
 use Rattle.expression_types.specs.Places.{further, place_in}
@@ -98,16 +98,16 @@ right_name line name names =
 
 -- the field at the place has the type
 field_placed : (name : List ℕ) (from : ℕ) (fs : List (Field Ty)) (at : ℕ × Ty)
-    → field_at name from fs ≡ Some at
+    → named_field name from fs ≡ Some at
     → (j : ℕ) × (f : Field Ty) × (at.0 ≡ from + j) × (slice_get fs j ≡ Some f) × (f.ty ≡ at.1)
 field_placed name from [] at e = cc
 field_placed name from (f ∷ fs) at e =
     field_by (bytes_eq name f.name) (field_placed name (suc from) fs at) e
   where
     field_by : (b : Bool)
-        → (field_at name (suc from) fs ≡ Some at → (j : ℕ) × (g : Field Ty)
+        → (named_field name (suc from) fs ≡ Some at → (j : ℕ) × (g : Field Ty)
         × (at.0 ≡ suc from + j) × (slice_get fs j ≡ Some g) × (g.ty ≡ at.1))
-        → cond b (Some (from, f.ty)) (field_at name (suc from) fs) ≡ Some at
+        → cond b (Some (from, f.ty)) (named_field name (suc from) fs) ≡ Some at
         → (j : ℕ) × (g : Field Ty) × (at.0 ≡ from + j) × (slice_get (f ∷ fs) j ≡ Some g)
         × (g.ty ≡ at.1)
     field_by true rest e =
@@ -120,7 +120,7 @@ field_placed name from (f ∷ fs) at e =
         (suc p.0, p.1, next, p.3, p.4)
 
 field_typed : (scope : List Ty) (k : Slots) (t : Ty) (name : List ℕ) (at : ℕ × Ty)
-    (fs : List (Field Ty)) → record_fields t ≡ Some fs → field_at name 0 fs ≡ Some at
+    (fs : List (Field Ty)) → record_fields t ≡ Some fs → named_field name 0 fs ≡ Some at
     → typing.Typed scope k t → typing.Typed scope (expr.Field k at.0) at.1
 field_typed scope k t name at fs r e h =
     let p = field_placed name 0 fs at e in
@@ -130,13 +130,13 @@ field_typed scope k t name at fs r e h =
     (typing.field fs p.0 {f = p.1} (subst (typing.Typed scope k) (record_type_is t fs r) h) p.3))
 
 under_is : (line : ℕ) (name : List ℕ) (r : Option (List (Field Ty))) (at : ℕ × Ty)
-    → (or_fault line Mistyped r >>= λ fs. or_fault line Unknown (field_at name 0 fs)) ≡ Ok at
-    → (fs : List (Field Ty)) × (r ≡ Some fs) × (field_at name 0 fs ≡ Some at)
+    → (or_fault line Mistyped r >>= λ fs. or_fault line Unknown (named_field name 0 fs)) ≡ Ok at
+    → (fs : List (Field Ty)) × (r ≡ Some fs) × (named_field name 0 fs ≡ Some at)
 under_is line name None at e = cc
-under_is line name (Some fs) at e = (fs, refl, there_is line Unknown (field_at name 0 fs) at e)
+under_is line name (Some fs) at e = (fs, refl, there_is line Unknown (named_field name 0 fs) at e)
 
 abbrev part_of : List ℕ → Value → List (Field Ty) → Outcome Thing
-part_of name v fs = with_part (field_at name 0 fs) (λ at. tagged at.1 (field_in at.0 v))
+part_of name v fs = with_part (named_field name 0 fs) (λ at. tagged at.1 (field_in at.0 v))
 
 pub right_field : (line : ℕ) (name : List ℕ) (names : Newest Ty) (o : Checked Typed)
     (type : Checked Ty) (given : Giving) → IsRight names o type given

@@ -15,7 +15,7 @@ use Rattle.expression_types.specs.of_written_types.Written.{whole_type}
 use Rattle.expression_types.specs.declared.operator.Operator.{Operator}
 use Rattle.expression_types.specs.declared.operator.Operator.TheVariants.{And, Or, Two}
 use Rattle.expression_types.specs.Operators.{operator, concat, one, side_of}
-use Rattle.expression_types.specs.Fields.{fields_of, field_at, record_fields}
+use Rattle.expression_types.specs.Fields.{fields_of, named_field, record_fields}
 use Rattle.expression_types.specs.Sight.{Newest}
 use Rattle.expression_types.specs.Types.{unary_type, two_type, index_type, either_of}
 
@@ -48,7 +48,7 @@ with_type (Err e) f = Stuck
 abbrev pub dotted : List ℕ → Thing → Outcome Thing
 dotted name thing =
     with_part (record_fields thing.0) (λ fields.
-    with_part (field_at name 0 fields) (λ at. tagged at.1 (field_in at.0 thing.1)))
+    with_part (named_field name 0 fields) (λ at. tagged at.1 (field_in at.0 thing.1)))
 
 -- `a and b`, `a or b` need the second only where the first does not decide
 abbrev pub operated : Operator → Outcome Thing → Outcome Thing → Outcome Thing

@@ -15,7 +15,7 @@ use Rattle.dofn_eval.specs.declared.expr.Binary.TheVariants as operation
 use Rattle.dofn_eval.specs.Typed.{UnaryTyped, BinaryTyped, negates, inverts, counts_members, counts_bytes, splits, writes, reads, lefts, rights, computes, compares, joins_texts, joins_lists}
 use Rattle.written_types.specs.Answer.{◌>>=◌, unless, or_fault}
 use Rattle.written_types.specs.Written.{shallow}
-use Rattle.expression_types.specs.Fields.{record_layer, member_layer, side_layer, record_fields, member_type, side_types}
+use Rattle.expression_types.specs.Fields.{fields_layer, member_layer, side_layer, record_fields, member_type, side_types}
 use Rattle.expression_types.specs.Types.{is_same, is_int, is_bool, is_text, is_long, unary_type, two_type, bools_type, index_type, pick_type, either_of}
 use Rattle.expression_types.specs.Operators.{one, side_of}
 
@@ -68,7 +68,7 @@ pub either_type_is : (t : Ty) (sides : Ty × Ty) → side_types t ≡ Some sides
 either_type_is t sides h = either_at t sides (out-Ty t) refl h
 
 record_at : (t : Ty) (fs : List (Field Ty)) (x : Ty-F Ty) → out-Ty t ≡ x
-    → record_layer x ≡ Some fs → t ≡ ty.Rec fs
+    → fields_layer x ≡ Some fs → t ≡ ty.Rec fs
 record_at t fs (Ty-F.Rec gs) e h =
     let is : gs ≡ fs = cc in
     from_out t (ty.Rec fs) (e ∙ ap Ty-F.Rec is ∙ sym (ty.outs-Rec fs))

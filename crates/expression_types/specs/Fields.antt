@@ -17,14 +17,14 @@ fields_of (name ∷ names) [] = []
 fields_of (name ∷ names) (type ∷ types) = record { name = name; ty = type } ∷ fields_of names types
 
 -- the place and the type of the field of that name, where the first of these has the place `from`
-abbrev pub field_at : List ℕ → ℕ → List (Field Ty) → Option (ℕ × Ty)
-field_at name from [] = None
-field_at name from (field ∷ fields) =
-    if bytes_eq name field.name then Some (from, field.ty) else field_at name (suc from) fields
+abbrev pub named_field : List ℕ → ℕ → List (Field Ty) → Option (ℕ × Ty)
+named_field name from [] = None
+named_field name from (field ∷ fields) =
+    if bytes_eq name field.name then Some (from, field.ty) else named_field name (suc from) fields
 
-abbrev pub record_layer : {X : Type 0} → Ty-F X → Option (List (Field X))
-record_layer (Ty-F.Rec fields) = Some fields
-record_layer _ = None
+abbrev pub fields_layer : {X : Type 0} → Ty-F X → Option (List (Field X))
+fields_layer (Ty-F.Rec fields) = Some fields
+fields_layer _ = None
 
 abbrev pub member_layer : {X : Type 0} → Ty-F X → Option X
 member_layer (Ty-F.List type) = Some type
@@ -36,7 +36,7 @@ side_layer _ = None
 
 -- the fields of a record type
 abbrev pub record_fields : Ty → Option (List (Field Ty))
-record_fields type = record_layer (out-Ty type)
+record_fields type = fields_layer (out-Ty type)
 
 -- the type of a list's members
 abbrev pub member_type : Ty → Option Ty

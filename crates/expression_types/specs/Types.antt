@@ -18,7 +18,7 @@ use Rattle.written_types.specs.Named.{Named}
 use Rattle.written_types.specs.Written.{shallow, whole_type}
 use Rattle.expression_types.specs.declared.operator.Operator.{Operator}
 use Rattle.expression_types.specs.declared.operator.Operator.TheVariants.{And, Or, Two}
-use Rattle.expression_types.specs.Fields.{are_different, fields_of, field_at, record_fields, member_type}
+use Rattle.expression_types.specs.Fields.{are_different, fields_of, named_field, record_fields, member_type}
 
 -- ---- what each operation gives of operands of these types; none where it does not take them
 
@@ -81,7 +81,7 @@ module _ (line : ℕ) where
   abbrev pub place_under : List ℕ → Ty → Checked (ℕ × Ty)
   place_under name type = do
     fields ← or_fault line Mistyped (record_fields type)
-    or_fault line Unknown (field_at name 0 fields)
+    or_fault line Unknown (named_field name 0 fields)
 
   -- the type of a record of parts of these types under these names
   abbrev pub record_type : List (List ℕ) → List Ty → Checked Ty

@@ -29,7 +29,7 @@ pub fn place_under(line: u32, name: &Str, id: TypeId, types: &Types) -> Result<F
 
 fn find_field(line: u32, name: &Str, parts: &[Part]) -> Result<Found, ScriptFault>
     ensures gives { (types : List Ty) → Gives (placed types) result
-        (or_fault line Unknown (spec.field_at name.now 0 (map (field_at types) parts.now))) }
+        (or_fault line Unknown (spec.named_field name.now 0 (map (field_at types) parts.now))) }
     ensures within { (n : ℕ) → AreWithin n parts.now → IfOk result (λ at. at.ty < n) }
 {
     for place in 0..parts.len() {

@@ -4,7 +4,7 @@ ghost use Rattle.std.specs.Option.{option_to_list};
 ghost use Rattle.flume_value.specs.Parts.{left_of, right_of};
 ghost use Rattle.bag_groups.specs.Pairs.{parts_of};
 ghost use Rattle.bag_groups.specs.Combining.{group_of};
-ghost use Rattle.exec_graph.specs.Derived.{with_one, under_zero, left_tagged, right_tagged, sides_of, split, spread};
+ghost use Rattle.exec_graph.specs.Derived.{with_one, under_zero, left_tagged, right_tagged, sides_apart, split, spread};
 ghost use Rattle.forest_steps.specs.inner.Answers.{lists_of};
 
 use crate::emissions::{Answer, only};
@@ -84,7 +84,7 @@ struct Sides {
 
 /// The record of the lefts of eithers and of their rights.
 fn sides_of(alloc: Global, eithers: Items) -> Result<Value, AllocError>
-    ensures { IfOk result (λ sides. sides ≡ sides_of eithers) }
+    ensures { IfOk result (λ sides. sides ≡ sides_apart eithers) }
 {
     let mut sides = Sides {
         lefts: Vec::new(alloc),

@@ -26,7 +26,7 @@ use Rattle.pardo_fuse.proofs.Parting.{all_parts, number_mod, parts_mod, small_mo
 use Rattle.pardo_fuse.proofs.Places.{same_is, same_self}
 use Rattle.pardo_fuse.proofs.Sites.{outputs_of, sites}
 use Rattle.pardo_fuse.proofs.Unparting.{each_part, low}
-use Rattle.fuse_chain.specs.Rewrites.{InOrder, Leads, Rewrite, is_sibling, other_of}
+use Rattle.fuse_chain.specs.Rewrites.{InOrder, LeadsTo, Rewrite, is_sibling, other_of}
 use Rattle.fuse_chain.proofs.SideBySide.{rooted}
 use Rattle.fuse_chain.proofs.Partly.{in_last, in_other, not_in}
 use Rattle.fuse_chain.proofs.Plans.{Plan, drawn}
@@ -62,7 +62,7 @@ pub record StepsFrom (b : Blocked) (done rest : List Entry) : Type 0 where
   pub rewrites : List Rewrite
   pub all : Each (λ r. is_sibling r ≡ true) rewrites
   pub order : InOrder rewrites
-  pub leads : Leads rewrites (done_graph b done) (done_graph b b.graph.nodes)
+  pub leads : LeadsTo rewrites (done_graph b done) (done_graph b b.graph.nodes)
   pub above : (low : ℕ) → Each (λ d. low < d.number) rest
       → Each (λ r. low < other_of r) rewrites
 

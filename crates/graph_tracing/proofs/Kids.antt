@@ -10,7 +10,7 @@ use Rattle.exec_graph.specs.declared.graph.Node.TheVariants.{Pdo}
 use Rattle.exec_graph.specs.declared.graph.Place.{Place}
 use Rattle.exec_graph.proofs.Soundness.{IsSound-ok, differ_ascends}
 use Rattle.pass_rewrites.specs.of_fuse_chain.Numbers.{after_kid, after_kids, other_of_two}
-use Rattle.pass_rewrites.specs.of_fuse_chain.Rewrites.{IsKid, Kid, Sibling, Leads, Rewrite as Fusion, is_sibling, other_of}
+use Rattle.pass_rewrites.specs.of_fuse_chain.Rewrites.{IsKid, Kid, Sibling, LeadsTo, Rewrite as Fusion, is_sibling, other_of}
 use Rattle.fusion_blocks.specs.Blocks.{unmarked}
 use Rattle.graph_laws.specs.Kids.{with_kid}
 use Rattle.graph_laws.proofs.Kids.{kid_formed}
@@ -82,7 +82,7 @@ one_behind xs ys r = append_assoc xs (r ∷ []) ys
 -- ---- a Pdo that goes is not there at the end
 
 -- and one that stays is
-there_after : (rs : List Fusion) (g m : Graph) (n : ℕ) (c : Place) → Leads rs g m
+there_after : (rs : List Fusion) (g m : Graph) (n : ℕ) (c : Place) → LeadsTo rs g m
     → IsSound g → Calls g n c → Each (λ r. other_of r ≡ n → ⊥) rs
     → node_at m.nodes n ≡ None → ⊥
 there_after rs g m n c l low x i gone =
@@ -99,7 +99,7 @@ module _ (t new : Trace) (m : Graph) (p k n : ℕ) (ns : List ℕ) (whole : List
   calls_n : Calls g n (place p k)
   calls_n = (forest_at g n, can.other)
 
-  taken_by : (rs : List Fusion) → Each (λ r. is_sibling r ≡ false) rs → Leads rs g m
+  taken_by : (rs : List Fusion) → Each (λ r. is_sibling r ≡ false) rs → LeadsTo rs g m
       → GoFrom rs (n ∷ ns) → Rise (n ∷ ns) → IsSound g
       → t.rewrites ++ map as_rewrite (present l rs) ≡ whole
       → ((i : ℕ) → after_kids rs l i ≡ total i) → new.graph ≡ kid_under g p k n
@@ -132,7 +132,7 @@ module _ (t new : Trace) (m : Graph) (p k n : ℕ) (ns : List ℕ) (whole : List
         rest = rs;
         await = record {
           all = all.1;
-          leads = subst (λ (x : Graph). Leads rs x m) (sym next) to.2;
+          leads = subst (λ (x : Graph). LeadsTo rs x m) (sym next) to.2;
           some = go.1;
           rise = rise.1;
           sound = subst IsSound (sym next) (made_sound (Kid u j q) g to.0 s ok);
@@ -158,7 +158,7 @@ module _ (t new : Trace) (m : Graph) (p k n : ℕ) (ns : List ℕ) (whole : List
 
 left_by : (l total : ℕ → ℕ) (t : Trace) (m : Graph) (n : ℕ) (ns : List ℕ) (whole : List Rewrite)
     (rs : List Fusion)
-    → Each (λ r. is_sibling r ≡ false) rs → Leads rs t.graph m
+    → Each (λ r. is_sibling r ≡ false) rs → LeadsTo rs t.graph m
     → GoFrom rs (n ∷ ns) → Rise (n ∷ ns) → IsSound t.graph
     → t.rewrites ++ map as_rewrite (present l rs) ≡ whole
     → ((i : ℕ) → after_kids rs l i ≡ total i)

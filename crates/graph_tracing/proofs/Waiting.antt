@@ -13,7 +13,7 @@ use Rattle.exec_graph.specs.declared.graph.Node.{Node}
 use Rattle.exec_graph.specs.declared.graph.Node.TheVariants.{Pdo}
 use Rattle.exec_graph.specs.declared.graph.Place.{Place}
 use Rattle.pass_rewrites.specs.of_fuse_chain.Numbers.{after_kids}
-use Rattle.pass_rewrites.specs.of_fuse_chain.Rewrites.{InOrder, IsKid, IsSibling, Kid, Sibling, Leads, Makes, Rewrite as Fusion, other_of}
+use Rattle.pass_rewrites.specs.of_fuse_chain.Rewrites.{InOrder, IsKid, IsSibling, Kid, Sibling, LeadsTo, Makes, Rewrite as Fusion, other_of}
 use Rattle.graph_laws.specs.Joining.{beside, grafted}
 use Rattle.graph_laws.specs.Kids.{even, named_by, odd}
 use Rattle.graph_rewrites.specs.declared.rewrite.Rewrite.{Rewrite}
@@ -107,7 +107,7 @@ effect (Sibling p q) g h m low =
 -- ---- all of them
 
 -- Two Pdos that stay read one collection where they did so before.
-pub calls_kept : (rs : List Fusion) (g m : Graph) → Leads rs g m → IsSound g
+pub calls_kept : (rs : List Fusion) (g m : Graph) → LeadsTo rs g m → IsSound g
     → (a b : ℕ) (c : Place) → Calls g a c → Calls g b c
     → Each (λ r. other_of r ≡ a → ⊥) rs → Each (λ r. other_of r ≡ b → ⊥) rs
     → (d : Place) × Calls m a d × Calls m b d
@@ -118,7 +118,7 @@ calls_kept (r ∷ rs) g m l low a b c x y i j =
     calls_kept rs l.0 m l.2 (made_sound r g l.0 l.1 low) a b (e.shift c)
     (e.calls a c x (λ z. i.0 (sym z))) (e.calls b c y (λ z. j.0 (sym z))) i.1 j.1
 
-pub absent_kept : (rs : List Fusion) (g m : Graph) → Leads rs g m → IsSound g → (n : ℕ)
+pub absent_kept : (rs : List Fusion) (g m : Graph) → LeadsTo rs g m → IsSound g → (n : ℕ)
     → node_at g.nodes n ≡ None → node_at m.nodes n ≡ None
 absent_kept [] g m l low n h = subst (λ (z : Graph). node_at z.nodes n ≡ None) l h
 absent_kept (r ∷ rs) g m l low n h =
@@ -161,7 +161,7 @@ held_back g h q e n at = by (node_at g.nodes n) refl
         let bad : ⊥ = cc in absurd bad
     by (Some x) i = (x, i)
 
-pub others_held : (rs : List Fusion) (g m : Graph) → Leads rs g m → IsSound g
+pub others_held : (rs : List Fusion) (g m : Graph) → LeadsTo rs g m → IsSound g
     → Each (λ r. IsHeld g.nodes (other_of r)) rs
 others_held [] g m l low = tt
 others_held (r ∷ rs) g m l low =
@@ -173,7 +173,7 @@ others_held (r ∷ rs) g m l low =
           (others_held rs l.0 m l.2 (made_sound r g l.0 l.1 low)),
     )
 
-pub still_held : (rs : List Fusion) (g m : Graph) → Leads rs g m → IsSound g → (n : ℕ)
+pub still_held : (rs : List Fusion) (g m : Graph) → LeadsTo rs g m → IsSound g → (n : ℕ)
     → IsHeld m.nodes n → IsHeld g.nodes n
 still_held [] g m l low n h = subst (λ (z : Graph). IsHeld z.nodes n) (sym l) h
 still_held (r ∷ rs) g m l low n h =
@@ -331,7 +331,7 @@ pub all_made : (siblings : Bool) (t : Trace) (m : Graph) (whole : List Rewrite)
 all_made siblings t m whole l total u =
     by u.rest u.await.leads u.await.some u.written u.last
   where
-    by : (rs : List Fusion) → Leads rs t.graph m → GoFrom rs []
+    by : (rs : List Fusion) → LeadsTo rs t.graph m → GoFrom rs []
         → t.rewrites ++ map as_rewrite (present l rs) ≡ whole
         → ((n : ℕ) → after_kids rs l n ≡ total n)
         → (t.graph ≡ m) × (t.rewrites ≡ whole) × ((n : ℕ) → l n ≡ total n)

@@ -18,7 +18,7 @@ use Rattle.direct_meaning.specs.Direct.{collections, inputs_behind, made_as, mad
 use Rattle.direct_meaning.specs.Inputs.{Wanted, wanted_by}
 use Rattle.key_meaning.proofs.Ways.{Table}
 use Rattle.key_meaning.proofs.Sources.{ArePlain, IsPlain, rows_behind}
-use Rattle.key_meaning.specs.Keyed.{AllHaveRows, HasRows}
+use Rattle.key_meaning.specs.Keyed.{AllHaveRowsIn, HasRows}
 
 abbrev pub Lists : Type 0
 Lists = List (List Value)
@@ -70,15 +70,15 @@ module _ (script : Script) (files : List File) where
       (filter (λ it. is_needed script it.0) (numbered (suc n) nodes)))
 
   rows_here : (how : Made) (type : Ty) (more : List Wanted) (inputs : Lists)
-      → AllHaveRows files (wanted_by how type ++ more) inputs → (file : List ℕ)
+      → AllHaveRowsIn files (wanted_by how type ++ more) inputs → (file : List ℕ)
       (columns : List Column) → how ≡ made.Input file columns
       → IsFrom files (record { file = file; type = type }) inputs
   rows_here how type more inputs have file columns is =
       by inputs
-      (subst (λ h. AllHaveRows files (wanted_by h type ++ more) inputs) is have)
+      (subst (λ h. AllHaveRowsIn files (wanted_by h type ++ more) inputs) is have)
     where
       by : (inputs : Lists)
-          → AllHaveRows files (wanted_by (made.Input file columns) type ++ more) inputs
+          → AllHaveRowsIn files (wanted_by (made.Input file columns) type ++ more) inputs
           → IsFrom files (record { file = file; type = type }) inputs
       by [] have = absurd have
       by (rows ∷ inputs) have =
@@ -132,7 +132,7 @@ module _ (script : Script) (files : List File) where
       (made_ : Option Collection) (inputs : Lists) (table whole : Table) → needed ≡ true
       → made_as script (length table) entry.1.made inputs table ≡ made_
       → next needed made_ entry nodes inputs table ≡ Some whole
-      → AllHaveRows files (wanted_if needed (length table) entry nodes) inputs
+      → AllHaveRowsIn files (wanted_if needed (length table) entry nodes) inputs
       → Stood whole (length table) entry.1.made entry.1.type
   here_stands entry nodes true None inputs table whole needed made_so is have = cc
   here_stands entry nodes true (Some c) inputs table whole needed made_so is have =
@@ -155,7 +155,7 @@ module _ (script : Script) (files : List File) where
   AllStand nodes =
       ArePlain nodes → (inputs : Lists) (table whole : Table)
       → collections script nodes inputs table ≡ Some whole
-      → AllHaveRows files (wanted_from (length table) nodes) inputs → (i number : ℕ)
+      → AllHaveRowsIn files (wanted_from (length table) nodes) inputs → (i number : ℕ)
       → number ≡ length table + i → (entry : List ℕ × Node) → slice_get nodes i ≡ Some entry
       → is_needed script number ≡ true → Stood whole number entry.1.made entry.1.type
 
@@ -167,7 +167,7 @@ module _ (script : Script) (files : List File) where
       → IsPlain first.1.made → ArePlain nodes → (needed : Bool)
       (made_ : Option Collection) (inputs : Lists) (table whole : Table)
       → next needed made_ first nodes inputs table ≡ Some whole
-      → AllHaveRows files (wanted_if needed (length table) first nodes) inputs → (i number : ℕ)
+      → AllHaveRowsIn files (wanted_if needed (length table) first nodes) inputs → (i number : ℕ)
       → number ≡ suc (length table + i) → (entry : List ℕ × Node)
       → slice_get nodes i ≡ Some entry → is_needed script number ≡ true
       → Stood whole number entry.1.made entry.1.type
@@ -179,7 +179,7 @@ module _ (script : Script) (files : List File) where
       needed =
       let long = longer table (Some c) in
       stand others (inputs_behind first.1.made inputs) (table ++ Some c ∷ []) whole is
-      (subst (λ n. AllHaveRows files (wanted_from n nodes) (inputs_behind first.1.made inputs))
+      (subst (λ n. AllHaveRowsIn files (wanted_from n nodes) (inputs_behind first.1.made inputs))
       (sym long)
       (rows_behind files first.1.made first.1.type (wanted_from (suc (length table)) nodes) inputs
       plain have))
@@ -189,7 +189,7 @@ module _ (script : Script) (files : List File) where
       needed =
       let long = longer table None in
       stand others inputs (table ++ None ∷ []) whole is
-      (subst (λ n. AllHaveRows files (wanted_from n nodes) inputs) (sym long) have) i number
+      (subst (λ n. AllHaveRowsIn files (wanted_from n nodes) inputs) (sym long) have) i number
       (omega (arith, at, long)) entry there needed
 
   all_stand : (nodes : Named Node) → AllStand nodes
@@ -209,7 +209,7 @@ module _ (script : Script) (files : List File) where
 
   pub stood : ArePlain script.nodes → (inputs : Lists) (whole : Table)
       → collections script script.nodes inputs [] ≡ Some whole
-      → AllHaveRows files (wanted_from 0 script.nodes) inputs → (number : ℕ)
+      → AllHaveRowsIn files (wanted_from 0 script.nodes) inputs → (number : ℕ)
       (entry : List ℕ × Node) → slice_get script.nodes number ≡ Some entry
       → is_needed script number ≡ true → Stood whole number entry.1.made entry.1.type
   stood plain inputs whole is have number entry there needed =

@@ -23,7 +23,7 @@ use Rattle.key_meaning.proofs.Makes.{AlikeAt, makes_alike}
 use Rattle.key_meaning.proofs.Ways.{OptionAlike, Table}
 use Rattle.key_meaning.proofs.Sources.{ArePlain}
 use Rattle.key_meaning.proofs.Traps.{no_traps}
-use Rattle.key_meaning.specs.Keyed.{AllHaveRows, HasRows}
+use Rattle.key_meaning.specs.Keyed.{AllHaveRowsIn, HasRows}
 
 -- ---- what a collection reads
 
@@ -110,8 +110,8 @@ module _ (files others : List File) (one other : Script) (well : IsWellFormed on
     (rows rows_ : Lists) (whole whole_ : Table)
     (means : collections one one.nodes rows [] ≡ Some whole)
     (means_ : collections other other.nodes rows_ [] ≡ Some whole_)
-    (read : AllHaveRows files (wanted_from one files 0 one.nodes) rows)
-    (read_ : AllHaveRows others (wanted_from other others 0 other.nodes) rows_) (pairs : Pairs)
+    (read : AllHaveRowsIn files (wanted_from one files 0 one.nodes) rows)
+    (read_ : AllHaveRowsIn others (wanted_from other others 0 other.nodes) rows_) (pairs : Pairs)
     (paired : (a b : ℕ) → Paired pairs a b
     → NodeAlike (SameBytes files others) pairs one.functions other.functions one.nodes other.nodes
     a b) where

@@ -20,7 +20,7 @@ use Rattle.direct_meaning.specs.of_script_laws.WellFormed.{HasColumns, IsWellFor
 use Rattle.direct_meaning.proofs.PlainLemmas.{plain-order}
 use Rattle.direct_meaning.specs.Direct.{collections, inputs_behind, meaning}
 use Rattle.direct_meaning.specs.Inputs.{Wanted, wanted_by}
-use Rattle.key_meaning.specs.Keyed.{AllHaveRows}
+use Rattle.key_meaning.specs.Keyed.{AllHaveRowsIn}
 
 abbrev pub IsPlain : Made → Type 0
 IsPlain = IsUnsaved
@@ -31,8 +31,8 @@ ArePlain nodes = Each (λ entry. IsPlain entry.1.made) nodes
 -- what is left of rows behind a collection
 pub rows_behind : (files : List File) (how : Made) (type : Ty) (more : List Wanted)
     (inputs : List (List Value)) → IsPlain how
-    → AllHaveRows files (wanted_by how type ++ more) inputs
-    → AllHaveRows files more (inputs_behind how inputs)
+    → AllHaveRowsIn files (wanted_by how type ++ more) inputs
+    → AllHaveRowsIn files more (inputs_behind how inputs)
 rows_behind files (made.Input file columns) type more [] plain have = absurd have
 rows_behind files (made.Input file columns) type more (rows ∷ inputs) plain have = have.1
 rows_behind files (made.Saved is_object call) type more inputs plain have = absurd plain

@@ -33,12 +33,12 @@ HasRows files wanted rows =
     × (rows_of bytes wanted.type ≡ Some (Ok rows))
 
 -- the same of several inputs, in order
-abbrev pub AllHaveRows : List File → List Wanted → List (List Value) → Type 0
-AllHaveRows files [] [] = ⊤
-AllHaveRows files [] (rows ∷ others) = ⊥
-AllHaveRows files (wanted ∷ inputs) [] = ⊥
-AllHaveRows files (wanted ∷ inputs) (rows ∷ others) =
-    HasRows files wanted rows × AllHaveRows files inputs others
+abbrev pub AllHaveRowsIn : List File → List Wanted → List (List Value) → Type 0
+AllHaveRowsIn files [] [] = ⊤
+AllHaveRowsIn files [] (rows ∷ others) = ⊥
+AllHaveRowsIn files (wanted ∷ inputs) [] = ⊥
+AllHaveRowsIn files (wanted ∷ inputs) (rows ∷ others) =
+    HasRows files wanted rows × AllHaveRowsIn files inputs others
 
 -- ---- what is keyed
 
@@ -59,7 +59,7 @@ pub record Working : Type 0 where
   pub files : List File
   pub files_short : AllByRecursion (λ file. IsShort file.bytes) files
   pub rows : List (List Value)
-  pub read : AllHaveRows files (inputs_of script) rows
+  pub read : AllHaveRowsIn files (inputs_of script) rows
   pub made : List (Option Collection)
   pub means : meaning script rows ≡ Some made
 

@@ -8,7 +8,7 @@ use Rattle.dofn_eval.specs.Outcome.{Gives, Outcome, then, with_part}
 use Rattle.dofn_eval.specs.Run.{Emissions}
 use Rattle.expression_check.proofs.FormLemmas.{given_in-step}
 use Rattle.expression_check.specs.Given.{Environment, Thing, dotted, given_in, layer_given, recorded, tagged}
-use Rattle.expression_types.specs.Fields.{field_at, record_layer as fields_in}
+use Rattle.expression_types.specs.Fields.{named_field, fields_layer as fields_in}
 use Rattle.flume_grammar.specs.declared.tree.Body.TheVariants as body
 use Rattle.flume_grammar.specs.declared.tree.Expr.TheVariants as expr
 use Rattle.flume_types.specs.declared.types.Ty.{Ty, Ty-F}
@@ -39,7 +39,7 @@ module _ (key number : Value) where
       ∙ ap (λ y. layer_given 3 known (given_in 3 known) y env) (expr.outs-Name (codes "x"))
 
   field_given : (name : List ℕ) (at : ℕ) (cell : Value)
-      → field_at name 0 row_fields ≡ Some (at, ty.Int)
+      → named_field name 0 row_fields ≡ Some (at, ty.Int)
       → slice_get (key ∷ number ∷ []) at ≡ Some cell
       → given_in 3 known (field name) env ≡ Gives (ty.Int, cell)
   field_given name at cell place there =
@@ -48,7 +48,7 @@ module _ (key number : Value) where
       (expr.outs-Field (expr.Name (codes "x")) name)
       ∙ ap (λ (o : Outcome Thing). then o (dotted name)) name_given
       ∙ ap₂ (λ (y : Ty-F Ty) (z : Value-F Value). with_part (fields_in y) (λ all.
-      with_part (field_at name 0 all) (λ p.
+      with_part (named_field name 0 all) (λ p.
       tagged p.1 (with_part (record_layer z) (λ xs. with_part (slice_get xs p.0) Gives)))))
       (ty.outs-Rec row_fields) (value.outs-Rec (key ∷ number ∷ []))
       ∙ ap (λ (o : Option (ℕ × Ty)). with_part o (λ p.

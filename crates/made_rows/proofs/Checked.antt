@@ -28,7 +28,7 @@ use Rattle.body_check.proofs.FormLemmas.{after-step}
 use Rattle.body_check.specs.Bodies.{after as sight_after, at_start, body_of, layer_after}
 use Rattle.expression_check.proofs.FormLemmas.{type_of-step}
 use Rattle.expression_check.specs.Types.{layer_type, type_of}
-use Rattle.expression_types.specs.Fields.{field_at, record_layer}
+use Rattle.expression_types.specs.Fields.{named_field, fields_layer}
 use Rattle.expression_types.specs.Sight.{Sight}
 use Rattle.expression_types.specs.Types.{place_under, record_type}
 use Rattle.direct_meaning.specs.of_operation_check.Operations.{combined_type, made_by, member_in, pair_in}
@@ -143,14 +143,14 @@ name_typed =
     type_of-step 3 (expr.Name (codes "x")) start
     ∙ ap (λ y. layer_type 3 (type_of 3) y start) (expr.outs-Name (codes "x"))
 
-field_typed : (name : List ℕ) (at : ℕ) → field_at name 0 row_fields ≡ Some (at, ty.Int)
+field_typed : (name : List ℕ) (at : ℕ) → named_field name 0 row_fields ≡ Some (at, ty.Int)
     → type_of 3 (field name) start ≡ Ok ty.Int
 field_typed name at there =
     type_of-step 3 (field name) start
     ∙ ap (λ y. layer_type 3 (type_of 3) y start) (expr.outs-Field (expr.Name (codes "x")) name)
     ∙ ap (λ (r : Checked Ty). r >>= λ t. place_under 3 name t >>= λ place. Ok place.1) name_typed
-    ∙ ap (λ (y : Ty-F Ty). (or_fault 3 Mistyped (record_layer y) >>= λ all.
-    or_fault 3 Unknown (field_at name 0 all)) >>= λ place. Ok place.1) (ty.outs-Rec row_fields)
+    ∙ ap (λ (y : Ty-F Ty). (or_fault 3 Mistyped (fields_layer y) >>= λ all.
+    or_fault 3 Unknown (named_field name 0 all)) >>= λ place. Ok place.1) (ty.outs-Rec row_fields)
     ∙ ap (λ (o : Option (ℕ × Ty)). or_fault 3 Unknown o >>= λ place. Ok place.1) there
 
 record_typed : type_of 3 record_made start ≡ Ok pair_type

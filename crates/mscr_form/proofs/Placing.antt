@@ -19,7 +19,7 @@ use Rattle.plan_roles.specs.Mappers.{is_mapper, is_reducer, is_stage}
 use Rattle.plan_roles.specs.Roles.{act_part, part_of, role_of, roles}
 use Rattle.form_laws.specs.Classes.{IsGbk, IsGbkAt, keys_at as node_keys, keys_of}
 use Rattle.mscr_form.specs.inner.Buckets.{is_group}
-use Rattle.mscr_form.specs.inner.Labels.{keys_at, level_at, no_role, part_keys, role_at}
+use Rattle.mscr_form.specs.inner.Labels.{role_keys, level_at, no_role, part_keys, role_at}
 
 -- ---- parts
 flat_keys : (s : Bool) → part_keys (cond s part.Stage part.Inlined) ≡ []
@@ -105,7 +105,7 @@ number_at rs i = (role_at rs i).number
 
 -- a role of keys has those of its node
 pub keys_placed : (b : Blocked) (i : ℕ) → AllDiffer b.graph.nodes → i < length (roles b)
-    → keys_at (roles b) i ≡ keys_of b (number_at (roles b) i)
+    → role_keys (roles b) i ≡ keys_of b (number_at (roles b) i)
 keys_placed b i d h =
     let p = placed b i d h in
     ap (λ (r : Role). part_keys r.part) p.role

@@ -2,7 +2,7 @@
 ghost use Rattle.std.specs.Prelude.{◌≡◌, ◌==◌, ◌<◌, ◌∷◌, [], ◌++◌, ℕ, Bool, cond, length, map, nat_eq, true, IfOk, IfSome, List, None, OnOk, Some};
 ghost use Rattle.form_laws.specs.of_plan_rules.Fitting.{same_key};
 ghost use Rattle.form_laws.specs.Classes.{has_same};
-ghost use Rattle.mscr_form.specs.inner.Labels.{AreJoined, AreLabels, at_key, keys_at, level_at, relabelled, same_at, seen_at};
+ghost use Rattle.mscr_form.specs.inner.Labels.{AreJoined, AreLabels, at_key, role_keys, level_at, relabelled, same_at, seen_at};
 ghost use Rattle.plan_laws.specs.declared.operations.Key.{Key as GhostKey};
 
 use plan_laws::Key;
@@ -86,7 +86,7 @@ fn join_key(
 ) -> Result<(), AllocError>
     requires here { i < length roles.now }
     requires all { length labels.old.items ≡ length roles.now }
-    requires key { has_same (keys_at roles.now i) key ≡ true }
+    requires key { has_same (role_keys roles.now i) key ≡ true }
     requires within { (l : ℕ) (k : GhostKey) →
         IfSome (seen_at seen.old l k) (λ j. j < length roles.now) }
     ensures all { length labels.new.items ≡ length roles.now }
@@ -119,7 +119,7 @@ fn join_keys(
 ) -> Result<(), AllocError>
     requires here { i < length roles.now }
     requires all { length labels.old.items ≡ length roles.now }
-    requires keys { keys.now ≡ keys_at roles.now i }
+    requires keys { keys.now ≡ role_keys roles.now i }
     requires within { (l : ℕ) (k : GhostKey) →
         IfSome (seen_at seen.old l k) (λ j. j < length roles.now) }
     ensures all { length labels.new.items ≡ length roles.now }
@@ -152,7 +152,7 @@ fn join_role(
     ensures joined { OnOk result ((ps : List (ℕ × GhostKey)) →
         AreJoined roles.now labels.old.items seen.old ps →
         AreJoined roles.now labels.new.items seen.new
-        (ps ++ map (λ k. (i, k)) (keys_at roles.now i))) }
+        (ps ++ map (λ k. (i, k)) (role_keys roles.now i))) }
 {
     match &roles[i].part {
         Part::Group(keys, _) => {

@@ -40,7 +40,7 @@ use Rattle.bag_laws.proofs.of_direct_meaning.TypeLemmas.{taken}
 use Rattle.build_law.proofs.Naming.{FitsAt, fits_at}
 use Rattle.build_law.proofs.Tables.{and_then_some, map_some}
 use Rattle.bag_laws.proofs.ListLemmas.{made_for}
-use Rattle.no_defaults.specs.Making.{AnswersTo, HasAll, HasCells, IsCalled, IsDoneWith, IsOperated, MembersAre, ObjectIs}
+use Rattle.no_defaults.specs.Making.{AnswersTo, HasAll, HasCells, IsCalled, AnswersBeside, AnswersOperate, MembersAre, ObjectIs}
 use Rattle.no_defaults.specs.Readings.{HasOutput}
 
 -- ---- places
@@ -229,7 +229,7 @@ module _ (script : Script) (well : IsWellFormed script) (table : List (Option Co
     operated : (objects : List ℕ) (called : ℕ)
         → FitsAt script well number (made.Operate objects called)
         → slice_get (made_of script) number ≡ Some (made.Operate objects called)
-        → IsOperated script table objects called
+        → AnswersOperate script table objects called
     operated objects called f found =
         let fit : Operates script.functions f.before objects called f.type = f.fit in
         let function = fit.function in
@@ -249,7 +249,7 @@ module _ (script : Script) (well : IsWellFormed script) (table : List (Option Co
     done_with : (source called object : ℕ)
         → FitsAt script well number (made.DoWith source called object)
         → slice_get (made_of script) number ≡ Some (made.DoWith source called object)
-        → IsDoneWith script table source called object
+        → AnswersBeside script table source called object
     done_with source called object f found =
         let fit : DoesWith script.functions f.before source called object f.type = f.fit in
         let function = fit.function in

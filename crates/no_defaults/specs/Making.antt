@@ -43,7 +43,7 @@ ObjectIs table number = IfSome (made_at table number) IsObject
 
 -- What a function makes of the values of objects: there is one at least, each is an object, and
 -- where all have a value the function answers on these.
-pub record IsOperated (script : Script) (table : List (Option Collection)) (objects : List ℕ)
+pub record AnswersOperate (script : Script) (table : List (Option Collection)) (objects : List ℕ)
     (called : ℕ) : Type 0 where
   pub some : 0 < length objects
   pub are_objects : Each (ObjectIs table) objects
@@ -54,7 +54,7 @@ pub record IsOperated (script : Script) (table : List (Option Collection)) (obje
 
 -- What a function makes of each member beside the value of an object: that is one, and where it has
 -- a value the function answers on each member beside it.
-pub record IsDoneWith (script : Script) (table : List (Option Collection))
+pub record AnswersBeside (script : Script) (table : List (Option Collection))
     (source called object : ℕ) : Type 0 where
   pub is_object : ObjectIs table object
   pub function : Function
@@ -71,9 +71,10 @@ HasAll script table number (made.Combine source comb) = MembersAre table (IsGrou
 HasAll script table number (made.Join left right) =
     MembersAre table IsPair left × MembersAre table IsPair right
 HasAll script table number (made.CombineAll source comb) = MembersAre table (Suits comb) source
-HasAll script table number (made.Operate objects called) = IsOperated script table objects called
+HasAll script table number (made.Operate objects called) =
+    AnswersOperate script table objects called
 HasAll script table number (made.DoWith source called object) =
-    IsDoneWith script table source called object
+    AnswersBeside script table source called object
 HasAll script table number _ = Unit {0}
 
 -- the cells of each member that an output writes are those of its columns

@@ -18,7 +18,7 @@ use Rattle.plan_making.specs.of_exec_plan.declared.plan.PlanPlace.{PlanPlace}
 use Rattle.plan_making.specs.of_exec_plan.declared.plan.PlanPlace.TheVariants as at
 use Rattle.plan_making.specs.of_exec_plan.declared.plan.InChannel.{InChannel}
 use Rattle.plan_making.specs.of_exec_plan.declared.plan.Stage.{Stage}
-use Rattle.plan_making.specs.of_exec_plan.Wellformed.{has_object, has_objects as stage_has, is_object as is_place, is_operate}
+use Rattle.plan_making.specs.of_exec_plan.Wellformed.{has_object, stage_has_objects as stage_has, is_object_place as is_place, is_operate}
 use Rattle.plan_laws.specs.declared.operations.Key.{Key}
 use Rattle.plan_laws.specs.declared.operations.Key.TheVariants.{Mapper, Whole}
 use Rattle.plan_laws.specs.declared.operations.Grouped.{Grouped}

@@ -14,7 +14,7 @@ use Rattle.graph_laws.specs.of_exec_graph.declared.graph.Graph.{Graph}
 use Rattle.graph_laws.proofs.of_exec_graph.Entries.{all_found}
 use Rattle.graph_laws.proofs.of_exec_graph.Bools.{or_cases, or_left, or_right}
 use Rattle.plan_making.specs.of_exec_plan.declared.plan.Stage.{Stage}
-use Rattle.plan_making.specs.of_exec_plan.Wellformed.{has_objects as stage_has}
+use Rattle.plan_making.specs.of_exec_plan.Wellformed.{stage_has_objects as stage_has}
 use Rattle.plan_laws.specs.declared.operations.Operation.{Operation}
 use Rattle.plan_laws.specs.Operations.{DoAll, IsIn, at_source, object_source, source_at, source_place, source_places, stages_of}
 use Rattle.plan_laws.proofs.Running.{in_append}

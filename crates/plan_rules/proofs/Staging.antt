@@ -11,7 +11,7 @@ use Rattle.graph_laws.specs.of_exec_graph.declared.graph.Entry.{Entry}
 use Rattle.plan_making.specs.of_exec_plan.declared.plan.PlanPlace.{PlanPlace}
 use Rattle.plan_making.specs.of_exec_plan.declared.plan.OutChannel.{OutChannel}
 use Rattle.plan_making.specs.of_exec_plan.declared.plan.Stage.{Stage}
-use Rattle.plan_making.specs.of_exec_plan.Meaning.{in_reads, with_object as with_place}
+use Rattle.plan_making.specs.of_exec_plan.Meaning.{in_reads, object_places as with_place}
 use Rattle.plan_making.specs.of_exec_plan.Wellformed.{AreOuts, IsGroupOk, IsLiftOk, IsMade, IsStageOk, most_channels, width}
 use Rattle.plan_laws.specs.declared.operations.Key.{Key}
 use Rattle.plan_laws.specs.declared.operations.Grouped.{Grouped}

@@ -19,7 +19,7 @@ use Rattle.direct_meaning.specs.Direct.{inputs_behind, made_at}
 use Rattle.direct_meaning.specs.Inputs.{AreLists, IsListOf, Sourced, sourced_by}
 use Rattle.direct_meaning.specs.Made.{AreMade, IsCollectionOf, IsMadeFor, IsObjectFor}
 use Rattle.direct_meaning.specs.Objects.{IsObject, members_behind}
-use Rattle.saved_meaning.specs.Found.{IsSound, members_of}
+use Rattle.saved_meaning.specs.Found.{MayBeFound, members_of}
 use Rattle.saved_meaning.proofs.Going.{Lists, Table, later, own_list, none_first, rows_left, to_come}
 use Rattle.saved_meaning.proofs.SameMakes.{IsNoSource, Kind, input, kind_of, other, saved}
 use Rattle.saved_meaning.proofs.StillNeeded.{needed-before}
@@ -51,7 +51,7 @@ sound (Some c) h = record { collection = c; is = refl; none = h }
 
 module _ (script : Script) (table : Table) (are : AreMade script script.nodes table) where
   pub kept-list : (n : ℕ) (entry : List ℕ × Node) → slice_get script.nodes n ≡ Some entry
-      → IsSound table n
+      → MayBeFound table n
       → IsListOf (record { type = entry.1.type; is_object = gives_object entry.1.made })
       (members_of (made_at table n))
   kept-list n entry there is_sound =

@@ -15,7 +15,7 @@ use Rattle.script_program.specs.Script.{Node, Script}
 use Rattle.direct_meaning.specs.of_script_laws.WellFormed.{IsWellFormed}
 use Rattle.direct_meaning.specs.Direct.{collections, inputs_behind, made_as, made_at, rows_as}
 use Rattle.direct_meaning.specs.Made.{IsMadeFor}
-use Rattle.saved_meaning.specs.Found.{IsSound, members_of, where_needed}
+use Rattle.saved_meaning.specs.Found.{MayBeFound, members_of, where_needed}
 use Rattle.saved_meaning.proofs.SameMakes.{IsMadeOfOthers, IsNoSource, Kind, input, kind_of, other, same_made, saved}
 use Rattle.saved_meaning.proofs.StillNeeded.{needed-before, reads-needed}
 use Rattle.saved_meaning.proofs.Tables.{and_then_some, found-members, next-made, one_longer, related-more, settled-at, sound-at}
@@ -116,7 +116,7 @@ module _ (script : Script) (found : List ℕ) (all : Table) where
     pub made_so : made_as later (length there) how lists there ≡ Some c
     pub behind : inputs_behind how lists ≡ more
 
-  module _ (well : IsWellFormed script) (sound : Each (IsSound all) found)
+  module _ (well : IsWellFormed script) (sound : Each (MayBeFound all) found)
       (settled : AllZip IsMadeFor script.nodes all) where
     -- where it is kept
     kept-next : (n : ℕ) (c : Collection) (call : Option Emitted) (more : Lists) (there : Table)

@@ -14,7 +14,7 @@ use Rattle.script_program.specs.Needed.{has, is_needed}
 use Rattle.script_program.specs.Script.{Node, Script}
 use Rattle.direct_meaning.specs.Direct.{collections, inputs_behind, made_as, made_at, rows_as}
 use Rattle.direct_meaning.specs.Made.{IsMadeFor}
-use Rattle.saved_meaning.specs.Found.{IsSound, members_of, where_needed}
+use Rattle.saved_meaning.specs.Found.{MayBeFound, members_of, where_needed}
 
 pub and_then_some : {A B : Type 0} (f : A → Option B) (o : Option A) (y : B)
     → option_and_then f o ≡ Some y → (x : A) × (o ≡ Some x) × (f x ≡ Some y)
@@ -124,9 +124,9 @@ holds-at P [] each n h = cc
 holds-at P (x ∷ found) each n h =
     found-if P x n (has found n) (eqb x n) refl each.0 (holds-at P found each.1 n) h
 
-pub sound-at : (table : Table) (found : List ℕ) → Each (IsSound table) found → (n : ℕ)
-    → has found n ≡ true → IsSound table n
-sound-at table found each n h = holds-at (IsSound table) found each n h
+pub sound-at : (table : Table) (found : List ℕ) → Each (MayBeFound table) found → (n : ℕ)
+    → has found n ≡ true → MayBeFound table n
+sound-at table found each n h = holds-at (MayBeFound table) found each n h
 
 -- each collection that is made has a list that ascends
 pub settled-at : (nodes : Named Node) (table : Table) → AllZip IsMadeFor nodes table → (n : ℕ)
@@ -146,7 +146,7 @@ made-of-members : (c : Collection) → bag_of c.bag ≡ c.bag → c.traps ≡ []
 made-of-members c settled none = λ i. record { bag = settled i; traps = sym none i }
 
 pub found-members : (table : Table) (n : ℕ) (c : Collection) → made_at table n ≡ Some c
-    → IsSound table n → bag_of c.bag ≡ c.bag → rows_as (members_of (made_at table n)) ≡ c
+    → MayBeFound table n → bag_of c.bag ≡ c.bag → rows_as (members_of (made_at table n)) ≡ c
 found-members table n c is sound settled =
     ap (λ o. rows_as (members_of o)) is
     ∙ made-of-members c settled

@@ -70,8 +70,8 @@ IsKeptList script kept number =
     (members_of (made_at kept number))
 
 -- a collection that may be found: it is made, without a trap
-abbrev pub IsSound : List (Option Collection) → ℕ → Type 0
-IsSound table number = IsSomeAnd (made_at table number) (λ c. c.traps ≡ [])
+abbrev pub MayBeFound : List (Option Collection) → ℕ → Type 0
+MayBeFound table number = IsSomeAnd (made_at table number) (λ c. c.traps ≡ [])
 
 -- a collection, where it is needed
 abbrev pub where_needed : Bool → Option Collection → Option Collection

@@ -10,7 +10,7 @@ ghost use Rattle.direct_meaning.specs.of_script_laws.WellFormed.{IsWellFormed};
 ghost use Rattle.direct_meaning.specs.Direct.{meaning, traps_of};
 ghost use Rattle.direct_meaning.specs.Inputs.{AreInputs};
 ghost use Rattle.direct_meaning.specs.Made.{AreMade};
-ghost use Rattle.saved_meaning.specs.Found.{IsKeptList, IsSame, IsSound, MeansSame, lists_for};
+ghost use Rattle.saved_meaning.specs.Found.{IsKeptList, IsSame, MayBeFound, MeansSame, lists_for};
 
 /// Rows of a script's inputs, and lists of some of its collections, are lists of the sources of the
 /// script in which these are kept ones.
@@ -32,13 +32,13 @@ pub fn saved_law()
         (table : List (Option Collection)) →
         IsWellFormed script → HasNoSaved script →
         meaning script rows ≡ Some table → AreMade script script.nodes table →
-        AllByRecursion (IsSound table) found →
+        AllByRecursion (MayBeFound table) found →
         MeansSame script (with_saved found script) rows table }
     ensures inputs { (script : Script) (found : List ℕ) (rows : List (List Value))
         (table : List (Option Collection)) →
         IsWellFormed script → HasNoSaved script → AreInputs script rows →
         meaning script rows ≡ Some table → AreMade script script.nodes table →
-        AllByRecursion (IsSound table) found →
+        AllByRecursion (MayBeFound table) found →
         AreInputs (with_saved found script)
         (lists_for script (with_saved found script) rows table) }
     ensures through { (script : Script) (found : List ℕ) (rows : List (List Value))

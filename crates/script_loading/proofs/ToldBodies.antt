@@ -15,7 +15,7 @@ use Rattle.written_types.specs.Answer.{Checked}
 use Rattle.written_types.specs.Named.{Named, find, fresh}
 use Rattle.written_types.specs.Written.{whole_type}
 use Rattle.expression_types.specs.Sight.{Sight, with_name}
-use Rattle.expression_types.specs.Fields.{are_different, field_at, fields_of, member_type}
+use Rattle.expression_types.specs.Fields.{are_different, named_field, fields_of, member_type}
 use Rattle.expression_types.specs.Fields.{record_fields, side_types}
 use Rattle.expression_types.specs.Operators.{operator, concat}
 use Rattle.expression_types.specs.Types.{is_bool, is_same, either_of, place_under, record_type}
@@ -34,7 +34,7 @@ module _ (line : ℕ) where
   told-place : (name : List ℕ) (t : Ty) → IsTold (place_under line name t)
   told-place name t =
       told-found line Mistyped (record_fields t) _
-      (λ fields. told-option line Unknown (field_at name 0 fields))
+      (λ fields. told-option line Unknown (named_field name 0 fields))
 
   told-record : (names : List (List ℕ)) (types : List Ty) → IsTold (record_type line names types)
   told-record names types =

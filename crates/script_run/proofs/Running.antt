@@ -21,7 +21,7 @@ use Rattle.plan_phases.specs.declared.fault.RunFault.{RunFault}
 use Rattle.plan_phases.specs.declared.fault.RunFault.TheVariants as fault
 use Rattle.run_settings.specs.Settings.{RunSettings}
 use Rattle.run_sizes.specs.of_script_program.Script.{Script}
-use Rattle.stage_exec.specs.Executions.{IsExecuted, IsRunFault as IsExecutionFault, split_of}
+use Rattle.stage_exec.specs.Executions.{IsExecuted, IsExecutionFault, split_of}
 use Rattle.stage_exec.specs.declared.executed.Executed.{Executed}
 use Rattle.stage_exec.specs.of_stage_phases.Stages.{run_world}
 use Rattle.script_functions.specs.of_task_safety.Stages.{IsTypedRun}

@@ -7,7 +7,7 @@ use Rattle.exec_plan.specs.Meaning.{emitted_by, plan_collection, plan_traps}
 use Rattle.exec_graph.specs.Objects.{gives_object}
 use Rattle.exec_plan.specs.declared.plan.Stage.{Stage}
 use Rattle.exec_plan.specs.declared.plan.Stage.TheVariants.{Mscr, Flatten, Operate}
-use Rattle.exec_plan.specs.Wellformed.{IsPlanOk, has_objects}
+use Rattle.exec_plan.specs.Wellformed.{IsPlanOk, stage_has_objects}
 use Rattle.exec_plan.specs.declared.plan.Plan.{Plan}
 use Rattle.exec_plan.specs.declared.plan.PlanPlace.{PlanPlace}
 use Rattle.flume_collection.specs.declared.trap.Trap.{Trap}
@@ -28,7 +28,7 @@ use Rattle.task_lists.specs.Runs.{kept_count}
 use Rattle.task_lists.specs.Tasks.{Lists}
 use Rattle.stage_exec.proofs.Running.{all_dropped}
 use Rattle.stage_results.specs.of_task_safety.Stages.{IsTypedRun}
-use Rattle.stage_exec.specs.Executions.{IsRunFault, split_of}
+use Rattle.stage_exec.specs.Executions.{IsExecutionFault, split_of}
 use Rattle.stage_exec.specs.inner.Along.{CanGoOn}
 use Rattle.stage_exec.specs.inner.Objects.{GivesObject}
 use Rattle.stage_exec.specs.inner.Reads.{AgreeOn}
@@ -39,7 +39,7 @@ first_of : (a b : Bool) → a && b ≡ true → a ≡ true
 first_of true b e = refl
 first_of false b e = e
 
-gives : (objects : List ℕ) (all : List Stage) (s : Stage) → has_objects objects all s ≡ true
+gives : (objects : List ℕ) (all : List Stage) (s : Stage) → stage_has_objects objects all s ≡ true
     → GivesObject s
 gives objects all (Mscr m) e = tt
 gives objects all (Flatten takes) e = tt
@@ -47,7 +47,7 @@ gives objects all (Operate takes o l a) e = first_of (gives_object a) _ e
 
 -- in a well-formed plan each Operate stage gives an object
 give_objects : (objects : List ℕ) (all stages : List Stage)
-    → Each (λ s. has_objects objects all s ≡ true) stages → Each GivesObject stages
+    → Each (λ s. stage_has_objects objects all s ≡ true) stages → Each GivesObject stages
 give_objects objects all [] h = tt
 give_objects objects all (s ∷ stages) h =
     (gives objects all s h.0, give_objects objects all stages h.1)
@@ -105,7 +105,7 @@ module _ (s : RunSettings) (w : World) (p : Plan) where
       → ((trap : Trap) → first_trap w (split_of s) p ≡ Some trap
       → Contains (plan_traps w p) trap)
       → IsStopped s.tries s.drill w (phases w (split_of s) p) olds news e
-      → IsRunFault s w p olds news e
+      → IsExecutionFault s w p olds news e
   faulted olds news (fault.Trap trap) first trapped stopped =
       let is = first trap
       (trapped_first s.tries s.drill w (phases w (split_of s) p) olds news trap stopped) in

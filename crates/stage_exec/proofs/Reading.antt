@@ -13,7 +13,7 @@ use Rattle.exec_graph.specs.Objects.{act_result, only}
 use Rattle.exec_graph.specs.World.{World}
 use Rattle.exec_graph.specs.declared.graph.Act.{Act}
 use Rattle.exec_plan.specs.Channels.{numbers}
-use Rattle.exec_plan.specs.Meaning.{in_reads, stage_reads, with_object}
+use Rattle.exec_plan.specs.Meaning.{in_reads, stage_reads, object_places}
 use Rattle.exec_plan.specs.declared.plan.PlanPlace.{PlanPlace}
 use Rattle.exec_plan.specs.declared.plan.PlanPlace.TheVariants as at
 use Rattle.exec_plan.specs.declared.plan.Grouping.{Grouping}
@@ -53,12 +53,12 @@ agree_back t u (p ∷ first) second agree = agree_back t u first second (ap tail
 module _ (w : World) (n : Split) (t u : Lists) where
   -- ---- the tasks of a stage
 
-  value_same : (o : Option PlanPlace) → AgreeOn (with_object o) t u
+  value_same : (o : Option PlanPlace) → AgreeOn (object_places o) t u
       → value_beside t o ≡ value_beside u o
   value_same None agree = refl
   value_same (Some object) agree = λ j. only (ap head_or agree j)
 
-  elements_same : (o : Option PlanPlace) → AgreeOn (with_object o) t u → (xs : List Value)
+  elements_same : (o : Option PlanPlace) → AgreeOn (object_places o) t u → (xs : List Value)
       → elements_beside t o xs ≡ elements_beside u o xs
   elements_same None agree xs = refl
   elements_same (Some object) agree xs = λ j. if_valued (only (ap head_or agree j)) xs
@@ -67,7 +67,7 @@ module _ (w : World) (n : Split) (t u : Lists) where
   shard_same : (c : InChannel) → AgreeOn (in_reads c) t u → (i : ℕ)
       → map_task n t c i ≡ map_task n u c i
   shard_same c agree i =
-      let beside : AgreeOn (with_object c.beside) t u = ap tail_of agree in
+      let beside : AgreeOn (object_places c.beside) t u = ap tail_of agree in
       let elements : elements_beside t c.beside (t c.reads) ≡ elements_beside u c.beside (u c.reads)
       = elements_same c.beside beside (t c.reads)
       ∙ ap (elements_beside u c.beside) (ap head_or agree) in

@@ -41,11 +41,11 @@ pub record IsExecuted (s : RunSettings) (w : World) (p : Plan) (nodes : ℕ)
 -- why a plan's execution stopped: by its first trap, which is one of the plan's, at a task that has
 -- run, or where an object was to be made; or at a task that was given up; all phases and tasks
 -- before have run without a trap. Want of memory comes at any time
-abbrev pub IsRunFault : RunSettings → World → Plan → List Account → List Account → RunFault
+abbrev pub IsExecutionFault : RunSettings → World → Plan → List Account → List Account → RunFault
     → Type 0
-IsRunFault s w p olds news (fault.Trap trap) =
+IsExecutionFault s w p olds news (fault.Trap trap) =
     (first_trap w (split_of s) p ≡ Some trap) × Contains (plan_traps w p) trap
     × HasTrapped s.tries s.drill w (phases w (split_of s) p) olds news trap
-IsRunFault s w p olds news (fault.GaveUp stage phase task) =
+IsExecutionFault s w p olds news (fault.GaveUp stage phase task) =
     IsGivenUp s.tries s.drill w (phases w (split_of s) p) olds news stage phase task
-IsRunFault s w p olds news fault.Memory = ⊤
+IsExecutionFault s w p olds news fault.Memory = ⊤

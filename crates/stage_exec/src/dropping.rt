@@ -3,7 +3,7 @@ ghost use Rattle.std.specs.Prelude.{◌≡◌, length};
 ghost use Rattle.std.specs.List.{list_any};
 ghost use Rattle.flume_types.specs.Typing.{AllHave};
 ghost use Rattle.flume_types.specs.declared.types.Ty.{Ty as GhostTy};
-ghost use Rattle.exec_plan.specs.Meaning.{in_reads, stage_reads, with_object};
+ghost use Rattle.exec_plan.specs.Meaning.{in_reads, stage_reads, object_places};
 ghost use Rattle.exec_plan.specs.declared.plan.PlanPlace.{PlanPlace as GhostPlace};
 ghost use Rattle.stage_results.specs.of_map_shard.Tables.{table};
 ghost use Rattle.stage_exec.specs.inner.Places as spec;
@@ -155,7 +155,7 @@ fn takes_in(input: &InChannel, place: PlanPlace) -> bool
 }
 
 fn is_beside(beside: Option<PlanPlace>, place: PlanPlace) -> bool
-    ensures { result ≡ list_any (λ q. spec.is_same q place) (with_object beside) }
+    ensures { result ≡ list_any (λ q. spec.is_same q place) (object_places beside) }
 {
     match beside {
         None => false,

@@ -7,7 +7,7 @@ ghost use Rattle.forest_steps.specs.Fresh.{zeros};
 ghost use Rattle.stage_results.specs.of_map_shard.Tables.{table};
 ghost use Rattle.plan_phases.specs.Phases.{phases, with_tasks};
 ghost use Rattle.plan_phases.specs.Told.{AskedFront, CanFinishAll, IsNotGivenUp};
-ghost use Rattle.stage_exec.specs.Executions.{IsExecuted, IsRunFault, split_of};
+ghost use Rattle.stage_exec.specs.Executions.{IsExecuted, IsExecutionFault, split_of};
 ghost use Rattle.stage_results.specs.of_stage_phases.Stages.{run_world};
 ghost use Rattle.stage_results.specs.of_task_safety.Stages.{IsTypedRun};
 
@@ -58,7 +58,7 @@ pub fn execute<R: Threads + Sync, F: Functions + Sync, H: Host + Send>(
     ensures done { IfOk result (IsExecuted settings.now
         (run_world (F.called functions.now) sources.items) plan.now nodes
         (map (account H.notes H.losses) hosts.old) (map (account H.notes H.losses) hosts.new)) }
-    ensures fault { IfErr result (IsRunFault settings.now
+    ensures fault { IfErr result (IsExecutionFault settings.now
         (run_world (F.called functions.now) sources.items) plan.now
         (map (account H.notes H.losses) hosts.old) (map (account H.notes H.losses) hosts.new)) }
     // No task is given up, where each has a try that is neither in the drill nor accounted for by

@@ -10,7 +10,7 @@
 //! task that was given up (`RunFault`).
 //!
 //! Whatever the hosts do, and whoever wins, what is answered is the plan's meaning (`IsExecuted`,
-//! `IsRunFault`: specs/Executions.antt).
+//! `IsExecutionFault`: specs/Executions.antt).
 //! They are asked for the plan's phases of tasks alone, one behind the other (`asked` of
 //! `execute`).
 #![tactic(auto)]

@@ -15,7 +15,7 @@ use Rattle.exec_plan.specs.declared.plan.Stage.{Stage}
 use Rattle.exec_plan.specs.declared.plan.Stage.TheVariants.{Mscr, Flatten, Operate}
 use Rattle.exec_plan.specs.declared.plan.Plan.{Plan}
 use Rattle.exec_plan.specs.Channels.{fed}
-use Rattle.exec_plan.specs.Meaning.{Parts, channels_sum, in_reads, stage_sum, with_object, results, with_results, run, sources, plan_collection}
+use Rattle.exec_plan.specs.Meaning.{Parts, channels_sum, in_reads, stage_sum, object_places, results, with_results, run, sources, plan_collection}
 use Rattle.exec_plan.specs.Wellformed.{IsMade, IsStageOk, AreStages, IsPlanOk, results_at}
 use Rattle.exec_plan.proofs.Running.{IsBelow, run_below}
 
@@ -49,7 +49,7 @@ made_below n before k (at.Result stage number) e made =
 
 module _ (w : World) (n : ℕ) (before : List Stage) (t u : PlanPlace → Collection)
     (same : (c : PlanPlace) → IsMade n before c → t c ≡ u c) where
-  object_same : (o : Option PlanPlace) → AllByRecursion (IsMade n before) (with_object o)
+  object_same : (o : Option PlanPlace) → AllByRecursion (IsMade n before) (object_places o)
       → option_map t o ≡ option_map u o
   object_same None ok = refl
   object_same (Some c) ok = ap (λ (v : Collection). Some v) (same c ok.0)
