@@ -30,14 +30,14 @@ use Rattle.graph_build.specs.of_script_program.declared.made.Made.TheVariants as
 use Rattle.graph_build.specs.of_script_program.Script.{Callee, Making, Node, Operand, Script, State, nothing}
 use Rattle.graph_build.specs.of_script_program.Script.{with_hidden, with_node, with_nodes}
 use Rattle.graph_build.specs.of_script_program.Script.{with_statement}
-use Rattle.direct_meaning.specs.of_operation_check.Arguments.{are_plain, sole, takes_both, takes_members, takes_objects}
-use Rattle.direct_meaning.specs.of_operation_check.Operations as spec
-use Rattle.direct_meaning.specs.of_script_check.Repeats.{Repeat, copied, nodes_left, renumbered, turn_gives}
-use Rattle.direct_meaning.specs.of_script_check.Repeats.{turn_nodes, turn_to, unrolled}
-use Rattle.direct_meaning.specs.of_script_check.Rules as rules_
-use Rattle.direct_meaning.proofs.of_script_check.CheckedLemmas.{both, ok-same}
-use Rattle.direct_meaning.proofs.of_script_check.EntryLemmas.{nodes-hidden}
-use Rattle.direct_meaning.proofs.of_script_check.FoundLemmas.{before, found, own}
+use Rattle.direct_meaning.specs.of_script_rules.Arguments.{are_plain, sole, takes_both, takes_members, takes_objects}
+use Rattle.direct_meaning.specs.of_script_rules.Operations as spec
+use Rattle.direct_meaning.specs.of_script_rules.Repeats.{Repeat, copied, nodes_left, renumbered, turn_gives}
+use Rattle.direct_meaning.specs.of_script_rules.Repeats.{turn_nodes, turn_to, unrolled}
+use Rattle.direct_meaning.specs.of_script_rules.Rules as rules_
+use Rattle.direct_meaning.proofs.of_script_rules.CheckedLemmas.{both, ok-same}
+use Rattle.direct_meaning.proofs.of_script_rules.StateLemmas.{nodes-hidden}
+use Rattle.direct_meaning.proofs.of_script_rules.FoundLemmas.{before, found, own}
 use Rattle.build_law.specs.Limits.{AreShort, HasShortFlattens, IsShort, IsShortForm, IsShortOperation}
 
 -- no operation puts more together than are written

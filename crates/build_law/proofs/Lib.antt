@@ -42,5 +42,5 @@ pub mod OneStep
 pub mod Short
 pub use Rattle.direct_meaning.proofs as of_direct_meaning
 pub use Rattle.graph_build.proofs as of_graph_build
-pub use Rattle.direct_meaning.proofs.of_script_check
+pub use Rattle.direct_meaning.proofs.of_script_rules
 pub use Rattle.direct_meaning.proofs.of_script_laws

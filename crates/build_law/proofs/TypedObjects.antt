@@ -9,7 +9,7 @@ use Rattle.exec_graph.specs.Typing.{IsArgument, IsRecord, NodeTyped, Signatures}
 use Rattle.exec_graph.specs.declared.graph.Place.{Place}
 use Rattle.graph_build.specs.Nodes.{first_of, made_nodes}
 use Rattle.direct_meaning.proofs.TypeLemmas.{taken}
-use Rattle.direct_meaning.specs.of_operation_check.Operations.{combined_type}
+use Rattle.direct_meaning.specs.of_script_rules.Operations.{combined_type}
 use Rattle.graph_build.specs.of_script_program.declared.made.Made.{Made}
 use Rattle.graph_build.specs.of_script_program.declared.made.Made.TheVariants as made
 use Rattle.graph_build.specs.of_script_program.Script.{Function, Script}

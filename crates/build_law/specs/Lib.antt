@@ -4,7 +4,6 @@ pub mod Means
 pub mod Signatures
 pub use Rattle.direct_meaning.specs as of_direct_meaning
 pub use Rattle.graph_build.specs as of_graph_build
-pub use Rattle.direct_meaning.specs.of_operation_check
-pub use Rattle.direct_meaning.specs.of_script_check
+pub use Rattle.direct_meaning.specs.of_script_rules
 pub use Rattle.direct_meaning.specs.of_script_laws
 pub use Rattle.graph_build.specs.of_script_program

@@ -7,7 +7,7 @@ ghost use Rattle.flume_grammar.specs.declared.tree.Ast.{Ast};
 ghost use Rattle.flume_grammar.specs.declared.tree.Statement.{Statement};
 ghost use Rattle.exec_graph.specs.Typing.{IsTyped};
 ghost use Rattle.exec_graph.specs.Wellformed.{IsGraphOk};
-ghost use Rattle.direct_meaning.specs.of_script_check.Rules.{script_of};
+ghost use Rattle.direct_meaning.specs.of_script_rules.Rules.{script_of};
 ghost use Rattle.graph_build.specs.of_script_program.Script.{Script};
 ghost use Rattle.direct_meaning.specs.of_script_laws.WellFormed.{IsWellFormed};
 ghost use Rattle.direct_meaning.specs.Direct.{meaning};

@@ -19,7 +19,7 @@
 mod laws;
 
 pub use direct_meaning;
-pub use direct_meaning::{script_check, script_laws};
+pub use direct_meaning::script_laws;
 pub use graph_build;
 pub use graph_build::script_program;
 pub use laws::{graph_law, means_law, one_step_law, short_law, types_law};

@@ -25,5 +25,5 @@ pub mod CallLemmas
 pub mod SizeLemmas
 pub mod EndLemmas
 pub mod RowOrder
-pub use Rattle.script_laws.proofs.of_script_check
+pub use Rattle.script_laws.proofs.of_script_rules
 pub use Rattle.script_laws.proofs as of_script_laws

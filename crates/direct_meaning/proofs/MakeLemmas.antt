@@ -15,7 +15,7 @@ use Rattle.script_laws.specs.of_written_types.Named.{Named}
 use Rattle.script_program.specs.declared.made.Made.{Made}
 use Rattle.script_program.specs.declared.made.Made.TheVariants as made
 use Rattle.script_program.specs.Kinds.{gives_object, values_read}
-use Rattle.script_laws.specs.of_operation_check.Operations.{sides_of}
+use Rattle.script_laws.specs.of_script_rules.Operations.{sides_of}
 use Rattle.script_program.specs.Script.{Function, Node, Script}
 use Rattle.script_laws.specs.WellFormed.{Fits, IsDoneWith, IsOperated, IsWellTyped, function_at, members_at, object_at}
 use Rattle.flume_value.proofs.EachLemmas.{Each-at, each_from}

@@ -18,7 +18,7 @@ use Rattle.combine_table.specs.declared.comb.Comb.{Comb}
 use Rattle.flume_collection.proofs.Members.{at_head, at_tail, head_or_tail, not_in_none}
 use Rattle.flume_collection.specs.Collection.{Collection}
 use Rattle.flume_collection.specs.declared.trap.Trap.{Trap}
-use Rattle.script_laws.specs.of_operation_check.Operations.{combined_type}
+use Rattle.script_laws.specs.of_script_rules.Operations.{combined_type}
 use Rattle.script_program.specs.declared.made.Made.{Made}
 use Rattle.script_program.specs.declared.made.Made.TheVariants as made
 use Rattle.script_program.specs.Script.{Function, Script}

@@ -27,7 +27,7 @@ use Rattle.keyed_steps.specs.Types.{TakesType, gives_type}
 use Rattle.flume_collection.specs.Collection.{Collection, unless_trapped}
 use Rattle.flume_collection.specs.Traps.{trap_set}
 use Rattle.flume_collection.specs.declared.trap.Trap.{Trap}
-use Rattle.script_laws.specs.of_operation_check.Operations.{combined_type}
+use Rattle.script_laws.specs.of_script_rules.Operations.{combined_type}
 use Rattle.script_laws.specs.WellFormed.{IsArgument, IsRecord}
 use Rattle.direct_meaning.proofs.TrapLemmas.{traps-append, traps-set}
 use Rattle.direct_meaning.proofs.TypeLemmas.{set_again, taken}

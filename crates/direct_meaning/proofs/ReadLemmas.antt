@@ -13,7 +13,7 @@ use Rattle.keyed_steps.proofs.TypedFacts.{all_pairs, all_suited}
 use Rattle.keyed_steps.specs.Keyed.{IsGroup}
 use Rattle.flume_collection.specs.Collection.{Collection}
 use Rattle.script_laws.specs.of_written_types.Named.{Named}
-use Rattle.script_laws.specs.of_operation_check.Operations.{combined_type}
+use Rattle.script_laws.specs.of_script_rules.Operations.{combined_type}
 use Rattle.script_program.specs.Script.{Function, Script}
 use Rattle.script_laws.specs.WellFormed.{IsWellTyped, function_at}
 use Rattle.direct_meaning.proofs.PlaceLemmas.{mapped, within}

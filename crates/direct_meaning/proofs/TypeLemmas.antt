@@ -33,7 +33,7 @@ use Rattle.flume_collection.specs.Calls.{trap_named}
 use Rattle.flume_collection.specs.Collection.{Collection, by_key, together, unless_trapped}
 use Rattle.flume_collection.specs.Traps.{trap_le, trap_set}
 use Rattle.flume_collection.specs.declared.trap.Trap.{Trap}
-use Rattle.script_laws.specs.of_operation_check.Operations.{combined_type, sides_of}
+use Rattle.script_laws.specs.of_script_rules.Operations.{combined_type, sides_of}
 use Rattle.direct_meaning.specs.Direct.{combined_by, counted_by, counts_behind, joined_by, rows_as, top_by}
 use Rattle.direct_meaning.specs.Made.{IsCollectionOf}
 

@@ -7,6 +7,5 @@ pub mod inner
 pub mod Evaluated
 pub mod Worked
 pub use Rattle.body_check.specs as of_body_check
-pub use Rattle.script_laws.specs.of_operation_check
-pub use Rattle.script_laws.specs.of_script_check
+pub use Rattle.script_laws.specs.of_script_rules
 pub use Rattle.script_laws.specs as of_script_laws

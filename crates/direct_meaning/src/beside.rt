@@ -22,7 +22,7 @@ use bag_groups::pair;
 use dofn_eval::{Fun, call};
 use flume_collection::Trap;
 use flume_value::{CallFault, Pile, Value, sorted};
-use script_laws::script_check::Program;
+use script_program::Program;
 use std::alloc::{AllocError, Global};
 
 /// What a function of a program emits, called on each member of a collection beside the value of

@@ -14,7 +14,7 @@ use crate::kept::Kept;
 use dofn_eval::{Fun, Lists, call};
 use flume_collection::Trap;
 use flume_value::{CallFault, Items, Pile, Value, sorted};
-use script_laws::script_check::Program;
+use script_program::Program;
 use std::alloc::{AllocError, Global};
 
 /// What a function of a program emits to one output, called on the members of a collection. The

@@ -8,7 +8,7 @@ ghost use Rattle.direct_meaning.specs.Inputs.{AreInputs};
 use crate::node::make;
 use crate::told::{Direct, told};
 use flume_value::{Items, Pile};
-use script_laws::script_check::Program;
+use script_program::Program;
 use std::alloc::{AllocError, Global};
 
 /// Evaluates a program over the rows of its needed inputs, node by node. Its collections are made

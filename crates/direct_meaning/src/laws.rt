@@ -6,7 +6,7 @@ ghost use Rattle.combine_table.specs.declared.comb.Comb.TheVariants as by;
 ghost use Rattle.flume_grammar.specs.declared.tree.Statement.{Statement};
 ghost use Rattle.flume_collection.specs.Calls.{Called};
 ghost use Rattle.flume_collection.specs.Collection.{Collection};
-ghost use Rattle.script_laws.specs.of_script_check.Rules.{script_of};
+ghost use Rattle.script_laws.specs.of_script_rules.Rules.{script_of};
 ghost use Rattle.script_program.specs.Script.{Script};
 ghost use Rattle.script_laws.specs.WellFormed.{IsWellFormed, object_at};
 ghost use Rattle.direct_meaning.specs.Direct.{made_at, meaning, size_of, traps_of};

@@ -23,5 +23,4 @@ mod told;
 pub use evaluation::direct;
 pub use laws::{beside_law, combined_law, meaning_law, objects_law, operated_law};
 pub use script_laws;
-pub use script_laws::script_check;
 pub use told::Direct;

@@ -18,7 +18,7 @@ use crate::sorting::ascending_rows;
 use crate::steps::{counted, grouped, joined, topped};
 use flume_collection::Trap;
 use flume_value::{Items, Pile};
-use script_laws::script_check::{Made, Program};
+use script_program::{Made, Program};
 use std::alloc::{AllocError, Global};
 use std::vec::IntoIter;
 

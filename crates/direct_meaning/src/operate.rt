@@ -19,7 +19,7 @@ use crate::objects::{nothing, object, trap, value_at};
 use dofn_eval::{Fun, call};
 use flume_collection::Trap;
 use flume_value::{CallFault, Items, Kind, Pile, Value};
-use script_laws::script_check::Program;
+use script_program::Program;
 use std::alloc::{AllocError, Global};
 
 /// The object that a function of a program makes of the objects of these numbers; nothing where one

@@ -6,7 +6,7 @@ ghost use Rattle.direct_meaning.specs.inner.Kept.{bag_kept, size_kept, size_line
 use crate::kept::Kept;
 use flume_collection::{Trap, trap_set};
 use flume_value::{Items, Str};
-use script_laws::script_check::Program;
+use script_program::Program;
 use std::alloc::{AllocError, Global};
 
 /// What a program comes to over some inputs.

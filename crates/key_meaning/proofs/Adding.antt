@@ -18,9 +18,9 @@ use Rattle.script_keys.specs.declared.rests.Names.{Names}
 use Rattle.script_program.specs.declared.made.Made.{Made}
 use Rattle.script_program.specs.declared.made.Made.TheVariants as made
 use Rattle.script_program.specs.Script.{Function, Making, Node, State, with_nodes}
-use Rattle.direct_meaning.specs.of_operation_check.Operations.{made_by, outputs_from}
-use Rattle.direct_meaning.specs.of_script_check.Rules as spec
-use Rattle.direct_meaning.proofs.of_script_check.CheckedLemmas.{both, holds, ok-same}
+use Rattle.direct_meaning.specs.of_script_rules.Operations.{made_by, outputs_from}
+use Rattle.direct_meaning.specs.of_script_rules.Rules as spec
+use Rattle.direct_meaning.proofs.of_script_rules.CheckedLemmas.{both, holds, ok-same}
 use Rattle.direct_meaning.proofs.of_script_laws.MakingLemmas.{AreOutputs, IsAlone, IsOther}
 use Rattle.direct_meaning.proofs.of_script_laws.NewLemmas.{functions-are, named, nodes-are}
 use Rattle.direct_meaning.proofs.of_script_laws.OperationLemmas.{made-is}

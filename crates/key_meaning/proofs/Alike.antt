@@ -7,7 +7,7 @@ use Rattle.flume_types.specs.declared.column.Column.{Column}
 use Rattle.statement_law.specs.Lineless.{body_lineless}
 use Rattle.script_keys.specs.Rests.{has}
 use Rattle.script_keys.specs.declared.rests.Names.{Names}
-use Rattle.direct_meaning.specs.of_script_check.Repeats.{renumbered}
+use Rattle.direct_meaning.specs.of_script_rules.Repeats.{renumbered}
 use Rattle.script_program.specs.Kinds.{gives_object}
 use Rattle.script_program.specs.Needed.{operands}
 use Rattle.script_program.specs.declared.made.Made.{Made}

@@ -12,8 +12,8 @@ use Rattle.script_keys.specs.Rests.{belongs_by, defines, has, is_defined, is_nam
 use Rattle.script_keys.specs.declared.outline.Outline.{Outline}
 use Rattle.script_keys.specs.declared.rests.Names.{Names}
 use Rattle.script_program.specs.Script.{State, with_statement}
-use Rattle.direct_meaning.specs.of_script_check.Rules as spec
-use Rattle.direct_meaning.proofs.of_script_check.CheckedLemmas.{both, ok-same}
+use Rattle.direct_meaning.specs.of_script_rules.Rules as spec
+use Rattle.direct_meaning.proofs.of_script_rules.CheckedLemmas.{both, ok-same}
 use Rattle.statement_law.specs.Outlined.{outlines_of}
 use Rattle.key_meaning.proofs.Adding.{Asked, SameLet}
 use Rattle.key_meaning.proofs.Aligning.{Aligned, HasSameFile, away_named, away_names, ended, if_true, kept, kept_defined, left, right_, same_defined, same_names, wider, wider_functions}

@@ -9,9 +9,9 @@ use Rattle.script_program.specs.declared.made.Made.TheVariants as made
 use Rattle.script_program.specs.declared.made.Standing.{Standing}
 use Rattle.script_program.specs.declared.made.Standing.TheVariants.{Collection, Hidden}
 use Rattle.script_program.specs.Script.{Function, Node, Operand, State, given, with_hidden}
-use Rattle.direct_meaning.specs.of_script_check.Rules as spec
-use Rattle.direct_meaning.proofs.of_script_check.EntryLemmas.{nodes-hidden}
-use Rattle.direct_meaning.proofs.of_script_check.FoundLemmas.{own}
+use Rattle.direct_meaning.specs.of_script_rules.Rules as spec
+use Rattle.direct_meaning.proofs.of_script_rules.StateLemmas.{nodes-hidden}
+use Rattle.direct_meaning.proofs.of_script_rules.FoundLemmas.{own}
 use Rattle.direct_meaning.specs.of_script_laws.Fitting.{AreInPlace, IsInPlace}
 use Rattle.key_meaning.proofs.Adding.{Placed}
 use Rattle.key_meaning.proofs.Alike.{FunctionsMeet, IsAlike, MadeAlike, MakingAlike, Meet, NodeAlike, Paired, Pairs, flatten, number_for, place_of, stands, whole}

@@ -13,8 +13,8 @@ use Rattle.script_program.specs.Kinds.{gives_object}
 use Rattle.script_program.specs.declared.made.Standing.{Standing}
 use Rattle.script_program.specs.declared.made.Standing.TheVariants.{Collection, Hidden}
 use Rattle.script_program.specs.Script.{Callee, Function, Node, Operand, State, operand_of, name_place}
-use Rattle.direct_meaning.specs.of_operation_check.Operations.{callee, collection, collections_behind, numbers}
-use Rattle.direct_meaning.proofs.of_script_check.CheckedLemmas.{both, ok-same, there}
+use Rattle.direct_meaning.specs.of_script_rules.Operations.{callee, collection, collections_behind, numbers}
+use Rattle.direct_meaning.proofs.of_script_rules.CheckedLemmas.{both, ok-same, there}
 use Rattle.direct_meaning.specs.of_script_laws.WellFormed.{function_at}
 use Rattle.direct_meaning.proofs.of_script_laws.PlaceLemmas.{found-at}
 use Rattle.key_meaning.proofs.Alike.{FunctionsMeet, IsAlike, Meet, Paired, Pairs, SameCallee, SameFunction, number_for, same_kind, stands}

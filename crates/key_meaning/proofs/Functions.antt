@@ -14,8 +14,8 @@ use Rattle.script_keys.specs.Rests.{has}
 use Rattle.script_keys.specs.declared.rests.Names.{Names}
 use Rattle.script_program.specs.Limits.{most_functions, most_outputs}
 use Rattle.script_program.specs.Script.{Function, Signature, State, function_from, with_function}
-use Rattle.direct_meaning.specs.of_script_check.Rules as spec
-use Rattle.direct_meaning.proofs.of_script_check.CheckedLemmas.{both, ok-same}
+use Rattle.direct_meaning.specs.of_script_rules.Rules as spec
+use Rattle.direct_meaning.proofs.of_script_rules.CheckedLemmas.{both, ok-same}
 use Rattle.direct_meaning.proofs.of_script_laws.PlaceLemmas.{mapped-kept}
 use Rattle.statement_law.specs.Lineless.{function_lineless}
 use Rattle.key_meaning.proofs.Alike.{FunctionsMeet, IsAlike, Pairs, SameFunction, node_more}

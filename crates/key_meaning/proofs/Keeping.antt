@@ -18,8 +18,8 @@ use Rattle.script_keys.specs.declared.rests.Names.{Names}
 use Rattle.script_program.specs.Limits.{most_collections}
 use Rattle.script_program.specs.declared.made.Made.TheVariants as made
 use Rattle.script_program.specs.Script.{Making, State, with_node, with_statement, with_type}
-use Rattle.direct_meaning.specs.of_script_check.Rules as spec
-use Rattle.direct_meaning.proofs.of_script_check.CheckedLemmas.{both, holds, ok-same}
+use Rattle.direct_meaning.specs.of_script_rules.Rules as spec
+use Rattle.direct_meaning.proofs.of_script_rules.CheckedLemmas.{both, holds, ok-same}
 use Rattle.key_meaning.proofs.Adding.{Added, Asked, named_added, nodes_added}
 use Rattle.key_meaning.proofs.Alike.{IsAlike, Pairs, input}
 use Rattle.key_meaning.proofs.Finding.{agree}

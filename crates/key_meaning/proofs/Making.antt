@@ -11,8 +11,8 @@ use Rattle.script_keys.specs.Outlines.{callees, operands}
 use Rattle.script_keys.specs.Rests.{has}
 use Rattle.script_keys.specs.declared.rests.Names.{Names}
 use Rattle.script_program.specs.Script.{Making, State}
-use Rattle.direct_meaning.specs.of_operation_check.Operations as spec
-use Rattle.direct_meaning.proofs.of_script_check.CheckedLemmas.{both, ok-same}
+use Rattle.direct_meaning.specs.of_script_rules.Operations as spec
+use Rattle.direct_meaning.proofs.of_script_rules.CheckedLemmas.{both, ok-same}
 use Rattle.key_meaning.proofs.Alike.{IsAlike, MakingAlike, Pairs}
 use Rattle.key_meaning.proofs.Finding.{agree, all_alike, called_alike, found_alike}
 use Rattle.key_meaning.proofs.Operations.{alone_alike, as_same, combine_alike, count_alike, do_alike, do_with_alike, flatten_alike, group_alike, join_alike, operate_alike, same_comb, top_alike, whole_alike}

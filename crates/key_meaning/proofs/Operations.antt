@@ -15,10 +15,10 @@ use Rattle.written_types.specs.Answer.{Checked, or_fault, unless}
 use Rattle.written_types.specs.Named.{Named}
 use Rattle.script_program.specs.declared.made.Made.TheVariants as made
 use Rattle.script_program.specs.Script.{Callee, Function, Making, Operand}
-use Rattle.direct_meaning.specs.of_operation_check.Arguments.{are_plain, sole, takes_both, takes_members, takes_objects}
-use Rattle.direct_meaning.specs.of_operation_check.Operations as spec
-use Rattle.direct_meaning.specs.of_operation_check.Operations.{Pair}
-use Rattle.direct_meaning.proofs.of_script_check.CheckedLemmas.{both, ok-same}
+use Rattle.direct_meaning.specs.of_script_rules.Arguments.{are_plain, sole, takes_both, takes_members, takes_objects}
+use Rattle.direct_meaning.specs.of_script_rules.Operations as spec
+use Rattle.direct_meaning.specs.of_script_rules.Operations.{Pair}
+use Rattle.direct_meaning.proofs.of_script_rules.CheckedLemmas.{both, ok-same}
 use Rattle.key_meaning.proofs.Alike.{MakingAlike, Paired, Pairs, SameCallee, combine, count, do_, do_with, flatten, group, join, operate, top, whole}
 use Rattle.key_meaning.proofs.Finding.{CalleeAlike, OperandAlike, agree, numbers_alike}
 use Rattle.key_meaning.proofs.Lines.{found, found_option, found_same, found_then}

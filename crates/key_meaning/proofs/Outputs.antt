@@ -7,8 +7,8 @@ use Rattle.written_types.specs.Named.{Named, find}
 use Rattle.script_program.specs.declared.made.Output.{Output}
 use Rattle.script_program.specs.declared.made.Standing.{Standing}
 use Rattle.script_program.specs.Script.{State, with_statement}
-use Rattle.direct_meaning.specs.of_script_check.Rules as spec
-use Rattle.direct_meaning.proofs.of_script_check.CheckedLemmas.{both, ok-same}
+use Rattle.direct_meaning.specs.of_script_rules.Rules as spec
+use Rattle.direct_meaning.proofs.of_script_rules.CheckedLemmas.{both, ok-same}
 use Rattle.key_meaning.proofs.Alike.{number_for, stands}
 use Rattle.key_meaning.proofs.Skipping.{Adds, rule_adds}
 use Rattle.key_meaning.proofs.Standing.{found_first}

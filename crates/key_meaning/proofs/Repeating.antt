@@ -16,11 +16,11 @@ use Rattle.expression_check.specs.Numbers.{number_within}
 use Rattle.script_program.specs.declared.made.Standing.{Standing}
 use Rattle.script_program.specs.declared.made.Standing.TheVariants.{Hidden}
 use Rattle.script_program.specs.Script.{Operand, State, given, with_hidden, with_name}
-use Rattle.direct_meaning.specs.of_operation_check.Operations.{collection, collections_behind, made_by, numbers}
-use Rattle.direct_meaning.specs.of_script_check.Repeats.{Repeat, gives_left, last_gives, turn_gives, turn_to}
-use Rattle.direct_meaning.specs.of_script_check.Rules as spec
-use Rattle.direct_meaning.proofs.of_script_check.CheckedLemmas.{both, holds, ok-same, there}
-use Rattle.direct_meaning.proofs.of_script_check.FoundLemmas.{before, found, own}
+use Rattle.direct_meaning.specs.of_script_rules.Operations.{collection, collections_behind, made_by, numbers}
+use Rattle.direct_meaning.specs.of_script_rules.Repeats.{Repeat, gives_left, last_gives, turn_gives, turn_to}
+use Rattle.direct_meaning.specs.of_script_rules.Rules as spec
+use Rattle.direct_meaning.proofs.of_script_rules.CheckedLemmas.{both, holds, ok-same, there}
+use Rattle.direct_meaning.proofs.of_script_rules.FoundLemmas.{before, found, own}
 use Rattle.key_meaning.proofs.Standing.{hidden, names_are, new_found, standing, types_are}
 
 -- ---- states in front of and behind a body

@@ -25,15 +25,15 @@ use Rattle.script_program.specs.declared.made.Output.{Output}
 use Rattle.script_program.specs.declared.made.Standing.{Standing}
 use Rattle.script_program.specs.declared.made.Standing.TheVariants.{Collection}
 use Rattle.script_program.specs.Script.{Function, Making, Node, State, function_from, given, node_from, with_output, with_type}
-use Rattle.direct_meaning.specs.of_operation_check.Operations.{collection}
-use Rattle.direct_meaning.specs.of_script_check.Repeats.{last_gives, unrolled}
-use Rattle.direct_meaning.specs.of_script_check.Rules as spec
-use Rattle.direct_meaning.proofs.of_script_check.CheckedLemmas.{both, ok-same}
+use Rattle.direct_meaning.specs.of_script_rules.Operations.{collection}
+use Rattle.direct_meaning.specs.of_script_rules.Repeats.{last_gives, unrolled}
+use Rattle.direct_meaning.specs.of_script_rules.Rules as spec
+use Rattle.direct_meaning.proofs.of_script_rules.CheckedLemmas.{both, ok-same}
 use Rattle.direct_meaning.proofs.of_script_laws.BodyLemmas.{has-named}
 use Rattle.direct_meaning.proofs.of_script_laws.PlaceLemmas.{front-kept, mapped-kept}
 use Rattle.direct_meaning.proofs.of_script_laws.RepeatLemmas.{has-turns}
 use Rattle.direct_meaning.specs.of_script_laws.WellFormed.{function_at}
-use Rattle.direct_meaning.specs.of_operation_check.Operations.{made_by}
+use Rattle.direct_meaning.specs.of_script_rules.Operations.{made_by}
 use Rattle.key_meaning.proofs.Alike.{FunctionsMeet, IsAlike, Meet, Pairs, SameCallee, number_for, node_more, stands}
 use Rattle.key_meaning.proofs.Finding.{is_read}
 use Rattle.key_meaning.proofs.Repeating.{named_more, names_behind}

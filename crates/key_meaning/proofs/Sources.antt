@@ -14,7 +14,7 @@ use Rattle.script_program.specs.declared.made.Made.TheVariants as made
 use Rattle.script_program.specs.declared.made.Output.{Output}
 use Rattle.script_program.specs.Saved.{IsUnsaved}
 use Rattle.script_program.specs.Script.{Node, Script}
-use Rattle.direct_meaning.specs.of_script_check.Rules.{script_of}
+use Rattle.direct_meaning.specs.of_script_rules.Rules.{script_of}
 use Rattle.direct_meaning.proofs.of_script_laws.RuleLemmas.{unsaved}
 use Rattle.direct_meaning.specs.of_script_laws.WellFormed.{HasColumns, IsWellFormed}
 use Rattle.direct_meaning.proofs.PlainLemmas.{plain-order}

@@ -13,9 +13,9 @@ use Rattle.script_keys.specs.Rests.{has}
 use Rattle.script_program.specs.declared.made.Standing.{Standing}
 use Rattle.script_program.specs.declared.made.Standing.TheVariants.{Collection, Hidden}
 use Rattle.script_program.specs.Script.{Making, State, given, node_from, with_node, with_nodes}
-use Rattle.direct_meaning.specs.of_script_check.Rules.{all_fresh}
-use Rattle.direct_meaning.proofs.of_script_check.CheckedLemmas.{both, holds}
-use Rattle.direct_meaning.proofs.of_script_check.NameLemmas.{has-key}
+use Rattle.direct_meaning.specs.of_script_rules.Rules.{all_fresh}
+use Rattle.direct_meaning.proofs.of_script_rules.CheckedLemmas.{both, holds}
+use Rattle.direct_meaning.proofs.of_script_rules.StateLemmas.{has-key}
 use Rattle.key_meaning.proofs.Alike.{Meet, Paired, Pairs, number_for, stands}
 
 -- ---- names that are found

@@ -11,12 +11,12 @@ use Rattle.written_types.specs.Named.{find}
 use Rattle.script_keys.specs.Rests.{has}
 use Rattle.script_keys.specs.declared.rests.Names.{Names}
 use Rattle.script_program.specs.Script.{Node, Operand, State, given, with_hidden}
-use Rattle.direct_meaning.specs.of_operation_check.Operations.{numbers}
-use Rattle.direct_meaning.specs.of_script_check.Repeats.{Repeat, last_gives, unrolled}
-use Rattle.direct_meaning.specs.of_script_check.Rules as spec
-use Rattle.direct_meaning.proofs.of_script_check.CheckedLemmas.{both, ok-same}
-use Rattle.direct_meaning.proofs.of_script_check.EntryLemmas.{nodes-hidden}
-use Rattle.direct_meaning.proofs.of_script_check.FoundLemmas.{HasFound, before, found, own}
+use Rattle.direct_meaning.specs.of_script_rules.Operations.{numbers}
+use Rattle.direct_meaning.specs.of_script_rules.Repeats.{Repeat, last_gives, unrolled}
+use Rattle.direct_meaning.specs.of_script_rules.Rules as spec
+use Rattle.direct_meaning.proofs.of_script_rules.CheckedLemmas.{both, ok-same}
+use Rattle.direct_meaning.proofs.of_script_rules.StateLemmas.{nodes-hidden}
+use Rattle.direct_meaning.proofs.of_script_rules.FoundLemmas.{HasFound, before, found, own}
 use Rattle.direct_meaning.proofs.of_script_laws.MemberLemmas.{within}
 use Rattle.direct_meaning.proofs.of_script_laws.RepeatLemmas.{has-turns, turns-long}
 use Rattle.key_meaning.proofs.Adding.{Added, Asked, SameLet, all_added, nodes_added, with_nodes_long}

@@ -7,7 +7,7 @@ use Rattle.written_types.specs.Named.{Named}
 use Rattle.script_program.specs.declared.made.Made.{Made}
 use Rattle.script_program.specs.declared.made.Made.TheVariants as made
 use Rattle.script_program.specs.Script.{Function, Node}
-use Rattle.direct_meaning.specs.of_script_check.Repeats.{Repeat, copied, gives_left, in_turn, last_gives, nodes_left, renumbered, seen, turn_gives, turn_nodes, turn_to, unrolled}
+use Rattle.direct_meaning.specs.of_script_rules.Repeats.{Repeat, copied, gives_left, in_turn, last_gives, nodes_left, renumbered, seen, turn_gives, turn_nodes, turn_to, unrolled}
 use Rattle.direct_meaning.proofs.of_script_laws.MemberLemmas.{in_mapped, within}
 use Rattle.direct_meaning.proofs.of_script_laws.StandLemmas.{seen_entering, seen_let, stands_inside, stands_outside}
 use Rattle.key_meaning.proofs.Entries.{EntriesAlike, entries_append}

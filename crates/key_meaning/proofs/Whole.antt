@@ -15,8 +15,8 @@ use Rattle.script_program.specs.Kinds.{gives_object}
 use Rattle.script_program.specs.Needed.{is_needed, outputs_read}
 use Rattle.script_program.specs.declared.made.Output.{Output}
 use Rattle.script_program.specs.Script.{Node, Script, State, nothing, script_from}
-use Rattle.direct_meaning.specs.of_script_check.Rules as spec
-use Rattle.direct_meaning.proofs.of_script_check.CheckedLemmas.{both, ok-same}
+use Rattle.direct_meaning.specs.of_script_rules.Rules as spec
+use Rattle.direct_meaning.proofs.of_script_rules.CheckedLemmas.{both, ok-same}
 use Rattle.direct_meaning.proofs.of_script_laws.NeededLemmas.{needed_law}
 use Rattle.direct_meaning.proofs.of_script_laws.RuleLemmas.{well-formed}
 use Rattle.direct_meaning.specs.of_script_laws.WellFormed.{IsWellFormed, members_at, object_at}

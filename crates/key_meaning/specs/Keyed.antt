@@ -14,7 +14,7 @@ use Rattle.outside.specs.declared.file.File.{File}
 use Rattle.csv_rows.specs.Rows.{rows_of}
 use Rattle.script_program.specs.declared.made.Output.{Output}
 use Rattle.script_program.specs.Script.{Script}
-use Rattle.direct_meaning.specs.of_script_check.Rules.{script_of}
+use Rattle.direct_meaning.specs.of_script_rules.Rules.{script_of}
 use Rattle.direct_meaning.specs.of_script_laws.WellFormed.{members_at, object_at}
 use Rattle.direct_meaning.specs.Direct.{made_at, meaning}
 use Rattle.direct_meaning.specs.Inputs.{Wanted, inputs_of}

@@ -6,7 +6,7 @@ use Rattle.flume_grammar.specs.declared.tree.Ast.{Ast}
 use Rattle.flume_tokens.specs.Tokens.{tokens_of}
 use Rattle.flume_tokens.specs.declared.token.TokenList.{TokenList}
 use Rattle.outside.specs.declared.file.File.{File}
-use Rattle.script_check.specs.Rules.{script_of}
+use Rattle.script_rules.specs.Rules.{script_of}
 use Rattle.script_keys.specs.declared.outline.Outline.{Outline}
 use Rattle.script_loading.specs.Limits.{script_limit}
 use Rattle.script_loading.specs.Loads.{Loads}

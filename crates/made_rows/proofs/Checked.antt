@@ -31,8 +31,8 @@ use Rattle.expression_check.specs.Types.{layer_type, type_of}
 use Rattle.expression_types.specs.Fields.{named_field, fields_layer}
 use Rattle.expression_types.specs.Sight.{Sight}
 use Rattle.expression_types.specs.Types.{place_under, record_type}
-use Rattle.direct_meaning.specs.of_operation_check.Operations.{combined_type, made_by, member_in, pair_in}
-use Rattle.direct_meaning.specs.of_script_check.Rules.{all_fit, defined, rule, script_of}
+use Rattle.direct_meaning.specs.of_script_rules.Operations.{combined_type, made_by, member_in, pair_in}
+use Rattle.direct_meaning.specs.of_script_rules.Rules.{all_fit, defined, rule, script_of}
 use Rattle.script_program.specs.Limits.{most_outputs}
 use Rattle.script_program.specs.Script.{Making, Script, Signature, State, nothing, script_from, with_function, with_node, with_nodes, with_output, with_statement, with_type}
 use Rattle.script_program.specs.declared.made.Output.{Output}

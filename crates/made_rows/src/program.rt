@@ -3,8 +3,8 @@ ghost use Rattle.std.specs.Prelude.{◌≡◌, IfErr, IfOk};
 ghost use Rattle.made_rows.specs.Sums.{sums_script};
 
 use crate::tree::sums_tree;
-use direct_meaning::script_check::check;
 use flume_grammar::ScriptFault;
+use script_check::check;
 use script_program::Program;
 use std::alloc::{AllocError, Global};
 

@@ -3,7 +3,7 @@ use Rattle.std.proofs.Common.{◌≡◌, suc, Bool, true, false, ◌&&◌, List,
 use Rattle.flume_types.specs.declared.types.Ty.{Ty}
 use Rattle.flume_types.specs.declared.types.Field.{Field}
 use Rattle.flume_types.specs.Equality.{type_eq}
-use Rattle.operation_check.specs.Arguments.{each_fits}
+use Rattle.script_rules.specs.Arguments.{each_fits}
 use Rattle.script_program.specs.Script.{Operand}
 
 both-false : (a b : Bool) → false ≡ b → false ≡ (a && b)

@@ -1,5 +1,3 @@
-pub mod Arguments
-pub mod Operations
 pub mod inner
 pub use Rattle.expression_check.specs as of_expression_check
 pub use Rattle.script_program.specs.of_expression_types as of_expression_types

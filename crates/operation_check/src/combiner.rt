@@ -2,7 +2,7 @@
 ghost use Rattle.std.specs.Prelude.{◌≡◌, ◌<◌, length, IfOk};
 ghost use Rattle.type_table.specs.Table.{type_at, tree_of, IsWithin, Extends};
 ghost use Rattle.script_program.specs.of_written_types.Answer.{Gives, or_fault};
-ghost use Rattle.operation_check.specs.Operations as spec;
+ghost use Rattle.script_rules.specs.Operations as spec;
 
 use crate::top::top_number;
 use combine_table::Comb;

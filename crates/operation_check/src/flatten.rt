@@ -4,7 +4,7 @@ ghost use Rattle.std.specs.List.{All};
 ghost use Rattle.flume_types.specs.declared.types.Ty.{Ty};
 ghost use Rattle.type_table.specs.Table.{type_at};
 ghost use Rattle.script_program.specs.of_written_types.Answer.{Gives};
-ghost use Rattle.operation_check.specs.Operations as spec;
+ghost use Rattle.script_rules.specs.Operations as spec;
 ghost use Rattle.script_program.specs.Program.{making_in};
 ghost use Rattle.script_program.specs.Held.{operand_in};
 

@@ -6,8 +6,8 @@ ghost use Rattle.flume_types.specs.declared.types.Ty.{Ty, out-Ty};
 ghost use Rattle.type_table.specs.Table.{type_at, field_at, AreWithin, Extends};
 ghost use Rattle.script_program.specs.of_written_types.Answer.{Gives, or_fault};
 ghost use Rattle.script_program.specs.of_expression_types.Held.{AreTypes};
-ghost use Rattle.operation_check.specs.Arguments as arguments;
-ghost use Rattle.operation_check.specs.Operations as spec;
+ghost use Rattle.script_rules.specs.Arguments as arguments;
+ghost use Rattle.script_rules.specs.Operations as spec;
 ghost use Rattle.script_program.specs.Program.{HasTypes, making_in};
 ghost use Rattle.script_program.specs.Held.{operand_in, callee_in};
 

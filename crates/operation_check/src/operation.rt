@@ -5,7 +5,7 @@ ghost use Rattle.flume_types.specs.declared.types.Ty.{Ty};
 ghost use Rattle.type_table.specs.Table.{type_at, Extends};
 ghost use Rattle.script_program.specs.of_written_types.Answer.{Checked, Gives, unless};
 ghost use Rattle.script_program.specs.of_expression_types.Held.{AreTypes};
-ghost use Rattle.operation_check.specs.Operations as spec;
+ghost use Rattle.script_rules.specs.Operations as spec;
 ghost use Rattle.script_program.specs.Program.{HasTypes, making_in};
 ghost use Rattle.script_program.specs.Held.{operand_in, callee_in};
 ghost use Rattle.script_program.specs.Script.{Making as Meant};

@@ -3,7 +3,7 @@ ghost use Rattle.std.specs.Prelude.{◌≡◌, ◌<◌, ℕ, List, length, map, 
 ghost use Rattle.flume_types.specs.declared.types.Ty.{Ty, out-Ty};
 ghost use Rattle.type_table.specs.Table.{type_at, field_at, AreWithin};
 ghost use Rattle.script_program.specs.of_written_types.Answer.{Gives, or_fault};
-ghost use Rattle.operation_check.specs.Operations as spec;
+ghost use Rattle.script_rules.specs.Operations as spec;
 ghost use Rattle.operation_check.specs.inner.Pairs.{pair_at};
 
 use flume_grammar::{ScriptFault, ScriptKind};

@@ -1,7 +1,7 @@
 // The type of what a join makes of a key: the lists of both sides.
 ghost use Rattle.std.specs.Prelude.{◌≡◌, ◌<◌, [], ◌∷◌, ◌++◌, length, IfOk, OnOk, codes};
 ghost use Rattle.type_table.specs.Table.{type_at, Extends};
-ghost use Rattle.operation_check.specs.Operations.{sides_of};
+ghost use Rattle.script_rules.specs.Operations.{sides_of};
 
 use flume_value::{Pile, Str};
 use script_program::State;

@@ -1,6 +1,6 @@
 // How many of the greatest are asked for.
 ghost use Rattle.script_program.specs.of_written_types.Answer.{Gives};
-ghost use Rattle.operation_check.specs.Operations.{top_number as top_of};
+ghost use Rattle.script_rules.specs.Operations.{top_number as top_of};
 
 use expression_check::number_within;
 use flume_grammar::{ScriptFault, ScriptKind};

@@ -17,10 +17,10 @@ use Rattle.body_check.specs.Bodies.{body_of}
 use Rattle.script_program.specs.Limits.{most_collections, most_files}
 use Rattle.script_program.specs.Script.{Node, Script, State, nothing, script_from}
 use Rattle.script_program.specs.Script.{with_statement}
-use Rattle.operation_check.specs.Operations.{collection}
-use Rattle.script_check.specs.Repeats.{unrolled}
-use Rattle.script_check.specs.Rules as spec
-use Rattle.script_check.proofs.CheckedLemmas.{both, ok-same}
+use Rattle.script_rules.specs.Operations.{collection}
+use Rattle.script_rules.specs.Repeats.{unrolled}
+use Rattle.script_rules.specs.Rules as spec
+use Rattle.script_rules.proofs.CheckedLemmas.{both, ok-same}
 use Rattle.script_laws.proofs.BodyLemmas.{has-named}
 use Rattle.script_laws.proofs.RepeatLemmas.{has-turns}
 use Rattle.repeat_law.proofs.SoundLemmas.{is_repeat}

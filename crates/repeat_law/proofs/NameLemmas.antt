@@ -6,8 +6,8 @@ use Rattle.std.specs.Option.{option_map}
 use Rattle.script_program.specs.Script.{Node, Script}
 use Rattle.repeat_law.proofs.RepeatLemmas.{unrolled_at}
 use Rattle.repeat_law.specs.Reading.{HasRepeat, number_in}
-use Rattle.script_check.specs.Repeats.{Repeat, copied, in_turn, nodes_left, turn_to}
-use Rattle.script_check.specs.Repeats.{turn_gives, turn_nodes}
+use Rattle.script_rules.specs.Repeats.{Repeat, copied, in_turn, nodes_left, turn_to}
+use Rattle.script_rules.specs.Repeats.{turn_gives, turn_nodes}
 use Rattle.script_laws.proofs.MemberLemmas.{in_first, in_second, of_mapped, within}
 
 abbrev IsCopy : Option (List ℕ × Node) → ℕ → List ℕ × Node → Type 0

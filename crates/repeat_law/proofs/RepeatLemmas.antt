@@ -14,7 +14,7 @@ use Rattle.repeat_law.proofs.EquationLemmas.{as_long}
 use Rattle.repeat_law.proofs.TurnLemmas.{turns_agree}
 use Rattle.repeat_law.specs.Turns.{MeansTurns, turns_left}
 use Rattle.repeat_law.specs.Reading.{HasRepeat, IsRepeat, number_in}
-use Rattle.script_check.specs.Repeats.{Repeat, last_gives, unrolled}
+use Rattle.script_rules.specs.Repeats.{Repeat, last_gives, unrolled}
 use Rattle.script_laws.proofs.MemberLemmas.{in_first, in_second, in_taken, taken_length, within}
 
 -- the nodes of the turns stand behind those outside

@@ -17,7 +17,7 @@ use Rattle.direct_meaning.specs.Calls.{answer_of}
 use Rattle.direct_meaning.specs.Objects.{combined_whole, done_beside, operated_by}
 use Rattle.repeat_law.specs.Turns.{only}
 use Rattle.repeat_law.specs.Reading.{IsLet}
-use Rattle.script_check.specs.Repeats.{renumbered}
+use Rattle.script_rules.specs.Repeats.{renumbered}
 
 -- from no file, and from nothing that is kept
 abbrev pub FromNoFile : Made → Type 0

@@ -11,7 +11,7 @@ use Rattle.script_program.specs.Script.{Function, Node}
 use Rattle.script_laws.proofs.NeededLemmas.{operand_before, read_at}
 use Rattle.script_laws.specs.WellFormed.{AllFit, Fits}
 use Rattle.repeat_law.specs.Reading.{AreLets, IsLet, IsRepeat, in_front}
-use Rattle.script_check.specs.Repeats.{Repeat}
+use Rattle.script_rules.specs.Repeats.{Repeat}
 use Rattle.script_laws.proofs.MemberLemmas.{zip_length}
 use Rattle.script_laws.specs.Fitting.{AreInPlace, IsInPlace, IsOfType, RepeatFits}
 

@@ -21,8 +21,8 @@ use Rattle.repeat_law.proofs.SameLemmas.{renumbered_reads, same_made}
 use Rattle.repeat_law.specs.Turns.{one, only, turns_left, with_lets}
 use Rattle.repeat_law.proofs.PlaceLemmas.{mapped_has}
 use Rattle.repeat_law.specs.Reading.{AreLets, IsLet, IsRepeat, in_front, number_in}
-use Rattle.script_check.specs.Repeats.{Repeat, copied, gives_left, nodes_left, seen}
-use Rattle.script_check.specs.Repeats.{turn_gives, turn_nodes, turn_to}
+use Rattle.script_rules.specs.Repeats.{Repeat, copied, gives_left, nodes_left, seen}
+use Rattle.script_rules.specs.Repeats.{turn_gives, turn_nodes, turn_to}
 use Rattle.script_laws.proofs.MemberLemmas.{at_end, in_first, in_second, of_mapped, within}
 use Rattle.script_laws.proofs.StandLemmas.{seen_entering, seen_let, stands_inside}
 use Rattle.script_laws.proofs.StandLemmas.{stands_outside}

@@ -8,8 +8,8 @@ use Rattle.written_types.specs.Named.{Named}
 use Rattle.script_program.specs.declared.made.Made.{Made}
 use Rattle.script_program.specs.declared.made.Made.TheVariants as made
 use Rattle.script_program.specs.Script.{Node, Script, State, nothing}
-use Rattle.script_check.specs.Repeats.{Repeat, unrolled}
-use Rattle.script_check.specs.Rules.{Repeated, defined, repeated}
+use Rattle.script_rules.specs.Repeats.{Repeat, unrolled}
+use Rattle.script_rules.specs.Rules.{Repeated, defined, repeated}
 use Rattle.script_laws.specs.Fitting.{lets_of}
 
 -- ---- what a body reads

@@ -9,7 +9,7 @@ use Rattle.written_types.specs.Named.{Named}
 use Rattle.script_program.specs.declared.made.Made.{Made}
 use Rattle.script_program.specs.Needed.{is_needed}
 use Rattle.script_program.specs.Script.{Function, Script}
-use Rattle.script_check.specs.Repeats.{Repeat, last_gives}
+use Rattle.script_rules.specs.Repeats.{Repeat, last_gives}
 use Rattle.script_laws.specs.Fitting.{lets_of}
 use Rattle.direct_meaning.specs.Direct.{made_as, made_at, meaning}
 use Rattle.repeat_law.specs.Reading.{number_in}

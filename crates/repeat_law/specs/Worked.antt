@@ -8,7 +8,7 @@ use Rattle.written_types.specs.Named.{Named}
 use Rattle.script_program.specs.declared.made.Made.{Made}
 use Rattle.script_program.specs.declared.made.Made.TheVariants as made
 use Rattle.script_program.specs.Script.{Node}
-use Rattle.script_check.specs.Repeats.{Repeat, in_turn}
+use Rattle.script_rules.specs.Repeats.{Repeat, in_turn}
 
 abbrev pub ints : Made → Node
 ints how = record { made = how; type = ty.Int; statement = 1 }

@@ -18,10 +18,10 @@ use Rattle.script_program.specs.Limits.{most_collections, most_files}
 use Rattle.script_program.specs.declared.made.Standing.TheVariants.{Hidden}
 use Rattle.script_program.specs.Script.{Making, Operand, State, with_hidden, with_name}
 use Rattle.script_program.specs.Script.{with_node, with_nodes}
-use Rattle.operation_check.specs.Operations.{collection, made_by}
-use Rattle.script_check.specs.Rules as spec
-use Rattle.script_check.proofs.CheckedLemmas.{both, ok-same}
-use Rattle.script_check.proofs.FoundLemmas.{before, found}
+use Rattle.script_rules.specs.Operations.{collection, made_by}
+use Rattle.script_rules.specs.Rules as spec
+use Rattle.script_rules.proofs.CheckedLemmas.{both, ok-same}
+use Rattle.script_rules.proofs.FoundLemmas.{before, found}
 
 nodes-count : (names : List (List ℕ)) (makings : List Making) (s : State)
     → s.statements ≡ (with_nodes names makings s).statements

@@ -12,17 +12,17 @@ use Rattle.flume_grammar.specs.declared.fault.ScriptFault.TheVariants.{Refused, 
 use Rattle.type_table.specs.Table.{Extends}
 use Rattle.operation_check.specs.of_written_types.Answer.{Checked, Gives, ◌>>=◌}
 use Rattle.operation_check.proofs.of_written_types.NamedLemmas.{same-map}
-use Rattle.script_program.specs.declared.made.Standing.TheVariants.{Hidden}
 use Rattle.script_program.specs.declared.operand.Operand.{Operand as HeldOperand}
 use Rattle.script_program.specs.Held.{operand_in}
-use Rattle.script_program.specs.Script.{Making, Operand, State, with_front, with_hidden, with_name}
+use Rattle.script_program.specs.Script.{Making, Operand, State, with_front, with_hidden}
 use Rattle.script_program.specs.Script.{with_node, with_nodes}
-use Rattle.operation_check.specs.Operations.{made_by}
+use Rattle.script_rules.specs.Operations.{made_by}
 use Rattle.script_check.specs.declared.repeats.Entry.{Entry as HeldEntry}
-use Rattle.script_check.specs.Repeats.{Repeat}
-use Rattle.script_check.specs.Rules as spec
+use Rattle.script_rules.specs.Repeats.{Repeat}
+use Rattle.script_rules.specs.Rules as spec
 use Rattle.script_check.specs.inner.Held.{entry_in}
-use Rattle.script_check.proofs.CheckedLemmas.{both, ok-same}
+use Rattle.script_rules.proofs.CheckedLemmas.{both, ok-same}
+use Rattle.script_rules.proofs.StateLemmas.{nodes-hidden}
 
 -- ---- types
 
@@ -53,10 +53,6 @@ nodes-more (name ∷ names) (making ∷ makings) s =
     let next = with_node name making s in
     let one : length next.nodes ≡ length s.nodes + 1 = length_push s.nodes _ in
     omega (arith, nodes-more names makings next, one)
-
-pub nodes-hidden : (names : List (List ℕ)) (s : State) → (with_hidden names s).nodes ≡ s.nodes
-nodes-hidden [] s = refl
-nodes-hidden (name ∷ names) s = nodes-hidden names (with_name name Hidden s)
 
 named-more : (line : ℕ) (names : List (List ℕ)) (by : Operation) (s after : State)
     → spec.named line names by s ≡ Ok after → length s.nodes ≤ length after.nodes

@@ -1,5 +1,3 @@
-pub mod CheckedLemmas
-pub mod FoundLemmas
 pub mod CountLemmas
 pub mod EntryLemmas
 pub mod NameLemmas

@@ -1,6 +1,6 @@
 -- Names that are found to be new are so where they are added, one after another.
-use Rattle.std.proofs.Common.{◌≡◌, ℕ, Bool, true, false, not, ◌||◌, cond, List, [], ◌∷◌, ◌++◌}
-use Rattle.std.proofs.Common.{Option, Some, is_some, Ok, refl, sym, ap, ◌∙◌, subst}
+use Rattle.std.proofs.Common.{◌≡◌, ℕ, Bool, true, false, not, ◌||◌, List, [], ◌∷◌, ◌++◌}
+use Rattle.std.proofs.Common.{is_some, Ok, refl, sym, ap, ◌∙◌, subst}
 use Rattle.std.proofs.Common.{map, ◌⊎◌, inl, inr}
 use Rattle.std.specs.List.{list_any}
 use Rattle.std.specs.Map.{keys_of}
@@ -15,24 +15,12 @@ use Rattle.script_program.specs.Program.{making_in}
 use Rattle.script_program.specs.declared.made.Standing.TheVariants.{Hidden}
 use Rattle.script_program.specs.Script.{Making, State, with_hidden, with_name, with_node}
 use Rattle.script_program.specs.Script.{with_nodes}
-use Rattle.script_check.specs.Rules.{all_fresh}
+use Rattle.script_rules.specs.Rules.{all_fresh}
 use Rattle.script_check.specs.inner.Names.{AreFree, AreNew}
-use Rattle.script_check.proofs.CheckedLemmas.{both, holds}
+use Rattle.script_rules.proofs.CheckedLemmas.{both, holds}
+use Rattle.script_rules.proofs.StateLemmas.{has-key}
 
-at-key : {A : Type 0} (b : Bool) (x : A) (o : Option A) (r : Bool) → is_some o ≡ r
-    → is_some (cond b (Some x) o) ≡ (b || r)
-at-key true x o r e = refl
-at-key false x o r e = e
-
--- a name stands for something where it is among the names
-pub has-key : {A : Type 0} (name : List ℕ) (names : Named A)
-    → is_some (find name names) ≡ list_any (bytes_eq name) (keys_of names)
-has-key name [] = refl
-has-key name (entry ∷ names) =
-    at-key (bytes_eq name entry.0) entry.1 (find name names)
-    (list_any (bytes_eq name) (keys_of names)) (has-key name names)
-
--- the same, and among more names
+-- a name stands for something where it is among the names, or among more
 pub is-among : {A : Type 0} (name : List ℕ) (names : Named A) (more : List (List ℕ))
     → (is_some (find name names) || list_any (bytes_eq name) more)
     ≡ list_any (bytes_eq name) (keys_of names ++ more)

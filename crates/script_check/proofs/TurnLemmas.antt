@@ -6,8 +6,8 @@ use Rattle.std.proofs.Math.Nat.{suc-mul}
 use Rattle.std.proofs.lemmas.List.{append_assoc, append-nil, length-map}
 use Rattle.operation_check.specs.of_written_types.Named.{Named}
 use Rattle.script_program.specs.Script.{Node, State, with_copies}
-use Rattle.script_check.specs.Repeats.{Repeat, copied, gives_left, nodes_left, turn_gives}
-use Rattle.script_check.specs.Repeats.{turn_nodes, turn_to}
+use Rattle.script_rules.specs.Repeats.{Repeat, copied, gives_left, nodes_left, turn_gives}
+use Rattle.script_rules.specs.Repeats.{turn_nodes, turn_to}
 
 -- ---- collections more
 

@@ -1,7 +1,7 @@
 // The check of a whole script, statement after statement.
 ghost use Rattle.std.specs.Prelude.{◌≡◌};
 ghost use Rattle.operation_check.specs.of_written_types.Answer.{Gives};
-ghost use Rattle.script_check.specs.Rules as spec;
+ghost use Rattle.script_rules.specs.Rules as spec;
 
 use crate::rules::rule;
 use flume_grammar::{Ast, ScriptFault, ScriptKind, Statement};

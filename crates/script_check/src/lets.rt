@@ -7,7 +7,7 @@ ghost use Rattle.type_table.specs.Table.{Extends};
 ghost use Rattle.operation_check.specs.of_written_types.Answer.{Gives};
 ghost use Rattle.script_program.specs.Program.{making_in};
 ghost use Rattle.script_program.specs.Script.{with_nodes};
-ghost use Rattle.script_check.specs.Rules as spec;
+ghost use Rattle.script_rules.specs.Rules as spec;
 ghost use Rattle.script_check.specs.inner.Names.{AreNew};
 
 use crate::fresh::fresh;

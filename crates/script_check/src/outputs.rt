@@ -5,7 +5,7 @@ ghost use Rattle.type_table.specs.Table.{type_at};
 ghost use Rattle.operation_check.specs.of_written_types.Answer.{Gives, or_fault};
 ghost use Rattle.operation_check.specs.of_written_types.Named.{find};
 ghost use Rattle.script_program.specs.Script.{with_output};
-ghost use Rattle.script_check.specs.Rules as spec;
+ghost use Rattle.script_rules.specs.Rules as spec;
 
 use crate::fresh::{fresh, room};
 use flume_grammar::{ScriptFault, ScriptKind};

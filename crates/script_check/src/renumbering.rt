@@ -1,6 +1,6 @@
 // The same way to make a collection, from other numbers: those that a turn of a repeat sees.
 ghost use Rattle.std.specs.Prelude.{◌≡◌, ◌++◌, map, IfOk};
-ghost use Rattle.script_check.specs.Repeats as spec;
+ghost use Rattle.script_rules.specs.Repeats as spec;
 
 use flume_types::{Column, Columns};
 use flume_value::Pile;

@@ -8,7 +8,7 @@ ghost use Rattle.operation_check.specs.of_expression_check.Numbers.{number_withi
 ghost use Rattle.script_program.specs.Program.{making_in};
 ghost use Rattle.script_program.specs.Held.{operand_in};
 ghost use Rattle.script_program.specs.Script.{Making as Meant, with_front, with_hidden, with_nodes};
-ghost use Rattle.script_check.specs.Rules as spec;
+ghost use Rattle.script_rules.specs.Rules as spec;
 ghost use Rattle.script_check.specs.inner.Held.{entry_in, repeat_in};
 ghost use Rattle.script_check.specs.inner.Names.{AreFree, AreNew};
 

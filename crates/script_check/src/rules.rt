@@ -4,7 +4,7 @@ ghost use Rattle.type_table.specs.Table.{type_at};
 ghost use Rattle.operation_check.specs.of_written_types.Answer.{Gives};
 ghost use Rattle.operation_check.specs.of_written_types.Named.{find};
 ghost use Rattle.script_program.specs.Script.{with_type};
-ghost use Rattle.script_check.specs.Rules as spec;
+ghost use Rattle.script_rules.specs.Rules as spec;
 
 use crate::fresh::{fresh, room};
 use crate::inputs::{rows_for, rows_of};

@@ -1,7 +1,7 @@
 // The scale of a function: how many emissions are expected of a hundred calls.
 ghost use Rattle.std.specs.Prelude.{Some};
 ghost use Rattle.operation_check.specs.of_written_types.Answer.{Gives};
-ghost use Rattle.script_check.specs.Rules.{scale_of};
+ghost use Rattle.script_rules.specs.Rules.{scale_of};
 
 use flume_grammar::{ScriptFault, ScriptKind};
 use flume_value::Str;

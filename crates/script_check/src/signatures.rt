@@ -6,7 +6,7 @@ ghost use Rattle.operation_check.specs.of_written_types.Answer.{Gives};
 ghost use Rattle.operation_check.specs.of_written_types.Named.{find};
 ghost use Rattle.script_program.specs.Program.{signature_in, HasTypes, Does};
 ghost use Rattle.script_program.specs.Script.{function_from, with_function};
-ghost use Rattle.script_check.specs.Rules as spec;
+ghost use Rattle.script_rules.specs.Rules as spec;
 
 use crate::fresh::{fresh, room};
 use crate::scales::scale;

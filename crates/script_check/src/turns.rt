@@ -4,8 +4,8 @@ ghost use Rattle.std.specs.Prelude.{IfOk, OnOk};
 ghost use Rattle.std.specs.List.{All, range_with_len};
 ghost use Rattle.script_program.specs.Script.{with_copies};
 ghost use Rattle.script_program.specs.inner.Tables.{node_of};
-ghost use Rattle.script_check.specs.Repeats as spec;
-ghost use Rattle.script_check.specs.Rules.{with_repeat};
+ghost use Rattle.script_rules.specs.Repeats as spec;
+ghost use Rattle.script_rules.specs.Rules.{with_repeat};
 ghost use Rattle.script_check.specs.inner.Held.{repeat_in};
 
 use crate::renumbering::{renumbered, stand_for_all};

@@ -9,14 +9,14 @@ use Rattle.flume_types.specs.declared.types.Ty.{Ty}
 use Rattle.flume_grammar.specs.declared.tree.Operation.{Operation}
 use Rattle.flume_grammar.specs.declared.tree.TurnLet.{TurnLet}
 use Rattle.flume_grammar.specs.declared.fault.ScriptKind.TheVariants.{Mistyped}
-use Rattle.script_check.specs.of_written_types.Answer.{unless}
-use Rattle.script_check.specs.of_written_types.Named.{Named}
-use Rattle.script_check.specs.of_script_program.declared.made.Made.{Made}
-use Rattle.script_check.specs.of_script_program.declared.made.Made.TheVariants as made
-use Rattle.script_check.specs.of_script_program.Script.{Making, Node, State, with_nodes}
-use Rattle.script_check.specs.of_operation_check.Operations.{made_by, outputs_from}
-use Rattle.script_check.specs.Rules as spec
-use Rattle.script_check.proofs.CheckedLemmas.{both, holds, ok-same}
+use Rattle.script_rules.specs.of_written_types.Answer.{unless}
+use Rattle.script_rules.specs.of_written_types.Named.{Named}
+use Rattle.script_rules.specs.of_script_program.declared.made.Made.{Made}
+use Rattle.script_rules.specs.of_script_program.declared.made.Made.TheVariants as made
+use Rattle.script_rules.specs.of_script_program.Script.{Making, Node, State, with_nodes}
+use Rattle.script_rules.specs.Operations.{made_by, outputs_from}
+use Rattle.script_rules.specs.Rules as spec
+use Rattle.script_rules.proofs.CheckedLemmas.{both, holds, ok-same}
 use Rattle.script_laws.specs.Fitting.{AreInPlace, IsInPlace}
 use Rattle.script_laws.specs.WellFormed.{AllFit, AllReadKinds}
 use Rattle.script_laws.proofs.CallLemmas.{CallsStand, calls-outputs, calls-push, other-no-call}

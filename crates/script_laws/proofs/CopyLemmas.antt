@@ -2,12 +2,12 @@
 use Rattle.std.proofs.Common.{◌≡◌, ℕ, zero, suc, ◌+◌, List, [], ◌∷◌, ◌++◌, length, map, Some}
 use Rattle.std.proofs.Common.{slice_get, refl, sym, ap, ◌∙◌, subst, arith}
 use Rattle.std.proofs.lemmas.List.{map-append}
-use Rattle.script_check.specs.of_written_types.Named.{Named}
-use Rattle.script_check.specs.of_script_program.declared.made.Made.{Made}
-use Rattle.script_check.specs.of_script_program.declared.made.Made.TheVariants as made
-use Rattle.script_check.specs.of_script_program.Script.{Function, Node}
-use Rattle.script_check.specs.Repeats.{Repeat, copied, nodes_left, renumbered, turn_gives}
-use Rattle.script_check.specs.Repeats.{turn_nodes, turn_to}
+use Rattle.script_rules.specs.of_written_types.Named.{Named}
+use Rattle.script_rules.specs.of_script_program.declared.made.Made.{Made}
+use Rattle.script_rules.specs.of_script_program.declared.made.Made.TheVariants as made
+use Rattle.script_rules.specs.of_script_program.Script.{Function, Node}
+use Rattle.script_rules.specs.Repeats.{Repeat, copied, nodes_left, renumbered, turn_gives}
+use Rattle.script_rules.specs.Repeats.{turn_nodes, turn_to}
 use Rattle.script_laws.specs.Fitting.{lets_of}
 use Rattle.script_laws.proofs.CallLemmas.{CallsStand, calls-append}
 use Rattle.script_laws.proofs.MemberLemmas.{in_mapped, of_mapped}

@@ -4,12 +4,12 @@ use Rattle.std.proofs.Common.{append_assoc}
 use Rattle.std.specs.List.{All}
 use Rattle.std.proofs.lemmas.List.{append-nil}
 use Rattle.flume_types.specs.declared.types.Ty.{Ty}
-use Rattle.script_check.specs.of_written_types.Named.{Named}
-use Rattle.script_check.specs.of_script_program.declared.made.Emitted.{Emitted}
-use Rattle.script_check.specs.of_script_program.declared.made.Made.{Made}
-use Rattle.script_check.specs.of_script_program.declared.made.Made.TheVariants as made
-use Rattle.script_check.specs.of_script_program.declared.made.Output.{Output}
-use Rattle.script_check.specs.of_script_program.Script.{Function, Node}
+use Rattle.script_rules.specs.of_written_types.Named.{Named}
+use Rattle.script_rules.specs.of_script_program.declared.made.Emitted.{Emitted}
+use Rattle.script_rules.specs.of_script_program.declared.made.Made.{Made}
+use Rattle.script_rules.specs.of_script_program.declared.made.Made.TheVariants as made
+use Rattle.script_rules.specs.of_script_program.declared.made.Output.{Output}
+use Rattle.script_rules.specs.of_script_program.Script.{Function, Node}
 use Rattle.script_laws.specs.WellFormed.{Fits, AllFit, AllReadKinds, HasColumns, IsKept}
 use Rattle.script_laws.proofs.PlaceLemmas.{mapped-kept}
 

@@ -6,11 +6,11 @@ use Rattle.std.proofs.Common.{append-nil, below_more, length-append}
 use Rattle.std.proofs.lemmas.Bool.{ltb-false, ltb-true}
 use Rattle.std.proofs.lemmas.List.{length-map}
 use Rattle.flume_types.specs.declared.types.Ty.{Ty}
-use Rattle.script_check.specs.of_written_types.Named.{Named}
-use Rattle.script_check.specs.of_script_program.Kinds.{gives_object}
-use Rattle.script_check.specs.of_script_program.Script.{Function, Node}
-use Rattle.script_check.specs.Repeats.{Repeat, copied, nodes_left, seen, turn_gives, turn_nodes}
-use Rattle.script_check.specs.Repeats.{turn_to, unrolled}
+use Rattle.script_rules.specs.of_written_types.Named.{Named}
+use Rattle.script_rules.specs.of_script_program.Kinds.{gives_object}
+use Rattle.script_rules.specs.of_script_program.Script.{Function, Node}
+use Rattle.script_rules.specs.Repeats.{Repeat, copied, nodes_left, seen, turn_gives, turn_nodes}
+use Rattle.script_rules.specs.Repeats.{turn_to, unrolled}
 use Rattle.script_laws.specs.Fitting.{IsOfType, RepeatFits}
 use Rattle.script_laws.specs.WellFormed.{AllFit, AllReadKinds}
 use Rattle.script_laws.proofs.FitLemmas.{fit-append, kinds-append}

@@ -19,4 +19,4 @@ pub mod UnsavedLemmas
 pub mod RuleLemmas
 pub mod NeededLemmas
 pub mod SavedLemmas
-pub use Rattle.script_check.proofs as of_script_check
+pub use Rattle.script_rules.proofs as of_script_rules

@@ -3,13 +3,13 @@ use Rattle.std.proofs.Common.{◌≡◌, ℕ, Bool, true, false, not, List, [], 
 use Rattle.std.proofs.Common.{◌∙◌}
 use Rattle.std.specs.Prelude.{⊤}
 use Rattle.flume_grammar.specs.declared.fault.ScriptKind.TheVariants.{Mistyped}
-use Rattle.script_check.specs.of_written_types.Named.{Named}
-use Rattle.script_check.specs.of_script_program.declared.made.Made.{Made}
-use Rattle.script_check.specs.of_script_program.declared.made.Made.TheVariants as made
-use Rattle.script_check.specs.of_script_program.Script.{Function, Making, Node, Operand}
-use Rattle.script_check.specs.of_operation_check.Operations as spec
+use Rattle.script_rules.specs.of_written_types.Named.{Named}
+use Rattle.script_rules.specs.of_script_program.declared.made.Made.{Made}
+use Rattle.script_rules.specs.of_script_program.declared.made.Made.TheVariants as made
+use Rattle.script_rules.specs.of_script_program.Script.{Function, Making, Node, Operand}
+use Rattle.script_rules.specs.Operations as spec
 use Rattle.script_laws.specs.WellFormed.{Fits, ReadsKinds, function_at, members_at, object_at}
-use Rattle.script_check.proofs.CheckedLemmas.{holds}
+use Rattle.script_rules.proofs.CheckedLemmas.{holds}
 use Rattle.script_laws.proofs.OperandLemmas.{IsRead}
 
 -- by an operation other than a call

@@ -12,12 +12,12 @@ use Rattle.std.proofs.lemmas.List.Elements.{Contains-append_cases}
 use Rattle.std.proofs.lemmas.List.Folds.{Any-from_list_any, list_any-from_Any}
 use Rattle.std.proofs.lemmas.Option.{slice_get_within}
 use Rattle.flume_types.specs.declared.types.Ty.{Ty}
-use Rattle.script_check.specs.of_written_types.Named.{Named}
-use Rattle.script_check.specs.of_script_program.declared.made.Made.{Made}
-use Rattle.script_check.specs.of_script_program.declared.made.Made.TheVariants as made
-use Rattle.script_check.specs.of_script_program.Script.{Function, Node, Script}
-use Rattle.script_check.specs.of_script_program.Needed.{operands, made_of, IsNeeded, LeadsToOutput, has, is_needed}
-use Rattle.script_check.specs.of_script_program.Needed.{outputs_read, read_from, with_reads}
+use Rattle.script_rules.specs.of_written_types.Named.{Named}
+use Rattle.script_rules.specs.of_script_program.declared.made.Made.{Made}
+use Rattle.script_rules.specs.of_script_program.declared.made.Made.TheVariants as made
+use Rattle.script_rules.specs.of_script_program.Script.{Function, Node, Script}
+use Rattle.script_rules.specs.of_script_program.Needed.{operands, made_of, IsNeeded, LeadsToOutput, has, is_needed}
+use Rattle.script_rules.specs.of_script_program.Needed.{outputs_read, read_from, with_reads}
 use Rattle.script_laws.specs.WellFormed.{members_at, Fits, AllFit, IsWellFormed}
 use Rattle.script_laws.proofs.NewLemmas.{how_made}
 

@@ -3,12 +3,12 @@ use Rattle.std.proofs.Common.{◌≡◌, ℕ, zero, suc, ◌+◌, ◌≤◌, Lis
 use Rattle.std.proofs.Common.{false, slice_get, refl, sym, ap, ◌∙◌, subst, arith, append_assoc}
 use Rattle.std.proofs.lemmas.List.{append-nil}
 use Rattle.flume_types.specs.declared.types.Ty.{Ty}
-use Rattle.script_check.specs.of_written_types.Named.{Named}
-use Rattle.script_check.specs.of_operation_check.Operations.{outputs_from}
-use Rattle.script_check.specs.of_script_program.declared.made.Made.{Made}
-use Rattle.script_check.specs.of_script_program.Script.{Function, Making, Node, State, node_from, with_node}
-use Rattle.script_check.specs.of_script_program.Script.{with_nodes}
-use Rattle.script_check.specs.of_script_program.Kinds.{gives_object}
+use Rattle.script_rules.specs.of_written_types.Named.{Named}
+use Rattle.script_rules.specs.Operations.{outputs_from}
+use Rattle.script_rules.specs.of_script_program.declared.made.Made.{Made}
+use Rattle.script_rules.specs.of_script_program.Script.{Function, Making, Node, State, node_from, with_node}
+use Rattle.script_rules.specs.of_script_program.Script.{with_nodes}
+use Rattle.script_rules.specs.of_script_program.Kinds.{gives_object}
 use Rattle.script_laws.specs.WellFormed.{members_at, function_at, object_at, AllFit, AllReadKinds}
 use Rattle.script_laws.proofs.MakingLemmas.{IsAlone, AreOutputs}
 use Rattle.script_laws.proofs.PlaceLemmas.{mapped-kept}

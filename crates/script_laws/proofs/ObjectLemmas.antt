@@ -10,16 +10,16 @@ use Rattle.flume_types.specs.Equality.{type_eq}
 use Rattle.flume_types.specs.Typing.{types_of}
 use Rattle.flume_grammar.specs.declared.fault.ScriptKind.TheVariants.{Mistyped}
 use Rattle.combine_table.specs.declared.comb.Comb.{Comb}
-use Rattle.script_check.specs.of_written_types.Answer.{unless, or_fault}
-use Rattle.script_check.specs.of_written_types.Named.{Named}
-use Rattle.script_check.specs.of_script_program.Script.{Callee, Function, Making, Node, Operand}
-use Rattle.script_check.specs.of_operation_check.Arguments.{are_both, are_objects, each_fits, is_beside}
-use Rattle.script_check.specs.of_operation_check.Arguments.{is_record_of, sole, takes_both, takes_objects}
-use Rattle.script_check.specs.of_operation_check.Arguments.{takes_pair, takes_values}
-use Rattle.script_check.specs.of_operation_check.Operations as spec
-use Rattle.script_check.specs.of_operation_check.Operations.{combined_type, numbers}
+use Rattle.script_rules.specs.of_written_types.Answer.{unless, or_fault}
+use Rattle.script_rules.specs.of_written_types.Named.{Named}
+use Rattle.script_rules.specs.of_script_program.Script.{Callee, Function, Making, Node, Operand}
+use Rattle.script_rules.specs.Arguments.{are_both, are_objects, each_fits, is_beside}
+use Rattle.script_rules.specs.Arguments.{is_record_of, sole, takes_both, takes_objects}
+use Rattle.script_rules.specs.Arguments.{takes_pair, takes_values}
+use Rattle.script_rules.specs.Operations as spec
+use Rattle.script_rules.specs.Operations.{combined_type, numbers}
 use Rattle.script_laws.specs.WellFormed.{IsArgument, IsRecord, members_at, object_at}
-use Rattle.script_check.proofs.CheckedLemmas.{both, holds, there, ok-same}
+use Rattle.script_rules.proofs.CheckedLemmas.{both, holds, there, ok-same}
 use Rattle.script_laws.proofs.TypeLemmas.{out-same, same-types}
 use Rattle.script_laws.proofs.OperandLemmas.{IsCallee, IsRead}
 use Rattle.script_laws.proofs.MakingLemmas.{MakingFits, plain-is, plain-read}

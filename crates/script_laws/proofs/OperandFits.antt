@@ -10,15 +10,15 @@ use Rattle.flume_types.specs.Equality.{type_eq}
 use Rattle.flume_types.specs.Tables.{table_of}
 use Rattle.flume_grammar.specs.declared.fault.ScriptKind.TheVariants.{Mistyped, NotTable}
 use Rattle.combine_table.specs.declared.comb.Comb.{Comb}
-use Rattle.script_check.specs.of_written_types.Answer.{unless, or_fault}
-use Rattle.script_check.specs.of_written_types.Named.{Named}
-use Rattle.script_check.specs.of_script_program.Script.{Function, Node, Operand, Callee, Making}
-use Rattle.script_check.specs.of_operation_check.Arguments.{are_plain, takes_members}
-use Rattle.script_check.specs.of_operation_check.Operations as spec
-use Rattle.script_check.specs.of_operation_check.Operations.{Pair, pair_in, combined_type, numbers}
-use Rattle.script_check.specs.of_operation_check.Operations.{all_same}
+use Rattle.script_rules.specs.of_written_types.Answer.{unless, or_fault}
+use Rattle.script_rules.specs.of_written_types.Named.{Named}
+use Rattle.script_rules.specs.of_script_program.Script.{Function, Node, Operand, Callee, Making}
+use Rattle.script_rules.specs.Arguments.{are_plain, takes_members}
+use Rattle.script_rules.specs.Operations as spec
+use Rattle.script_rules.specs.Operations.{Pair, pair_in, combined_type, numbers}
+use Rattle.script_rules.specs.Operations.{all_same}
 use Rattle.script_laws.specs.WellFormed.{members_at, object_at}
-use Rattle.script_check.proofs.CheckedLemmas.{both, holds, there, ok-same}
+use Rattle.script_rules.proofs.CheckedLemmas.{both, holds, there, ok-same}
 use Rattle.script_laws.proofs.TypeLemmas.{same-types, is-table, is-list}
 use Rattle.script_laws.proofs.OperandLemmas.{IsRead, IsCallee}
 use Rattle.script_laws.proofs.MakingLemmas.{AreOutputs, MakingFits, plain-is, plain-read}

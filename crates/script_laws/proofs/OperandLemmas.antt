@@ -4,15 +4,15 @@ use Rattle.std.proofs.Common.{Option, Some, None, option_and_then, Ok}
 use Rattle.std.proofs.Common.{slice_get, refl, ap, subst}
 use Rattle.std.specs.Option.{option_map}
 use Rattle.flume_grammar.specs.declared.fault.ScriptKind.TheVariants.{Unknown}
-use Rattle.script_check.specs.of_written_types.Named.{Named, find}
-use Rattle.script_check.specs.of_script_program.Script.{Function, Node, State, Operand, Callee, name_place}
-use Rattle.script_check.specs.of_script_program.Script.{operand_at, operand_of}
-use Rattle.script_check.specs.of_script_program.Kinds.{gives_object}
-use Rattle.script_check.specs.of_script_program.declared.made.Standing.{Standing}
-use Rattle.script_check.specs.of_script_program.declared.made.Standing.TheVariants.{Collection, Hidden}
-use Rattle.script_check.specs.of_operation_check.Operations as spec
+use Rattle.script_rules.specs.of_written_types.Named.{Named, find}
+use Rattle.script_rules.specs.of_script_program.Script.{Function, Node, State, Operand, Callee, name_place}
+use Rattle.script_rules.specs.of_script_program.Script.{operand_at, operand_of}
+use Rattle.script_rules.specs.of_script_program.Kinds.{gives_object}
+use Rattle.script_rules.specs.of_script_program.declared.made.Standing.{Standing}
+use Rattle.script_rules.specs.of_script_program.declared.made.Standing.TheVariants.{Collection, Hidden}
+use Rattle.script_rules.specs.Operations as spec
 use Rattle.script_laws.specs.WellFormed.{members_at, function_at, object_at}
-use Rattle.script_check.proofs.CheckedLemmas.{there}
+use Rattle.script_rules.proofs.CheckedLemmas.{there}
 use Rattle.script_laws.proofs.PlaceLemmas.{meaning, found-at}
 
 -- what an option is mapped from

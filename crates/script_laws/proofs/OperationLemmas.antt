@@ -11,12 +11,12 @@ use Rattle.flume_grammar.specs.declared.tree.Operation.TheVariants as operation
 use Rattle.flume_grammar.specs.declared.fault.ScriptKind.TheVariants.{BadNumber}
 use Rattle.flume_grammar.specs.declared.tree.Combiner.{Combiner}
 use Rattle.int_text.specs.Ints.{int_of_text}
-use Rattle.script_check.specs.of_written_types.Answer.{Checked}
-use Rattle.script_check.specs.of_expression_check.Numbers.{within}
-use Rattle.script_check.specs.of_script_program.Script.{State, Operand, Making}
-use Rattle.script_check.specs.of_operation_check.Operations as spec
+use Rattle.script_rules.specs.of_written_types.Answer.{Checked}
+use Rattle.script_rules.specs.of_expression_check.Numbers.{within}
+use Rattle.script_rules.specs.of_script_program.Script.{State, Operand, Making}
+use Rattle.script_rules.specs.Operations as spec
 use Rattle.script_laws.specs.WellFormed.{object_at}
-use Rattle.script_check.proofs.CheckedLemmas.{both, there, ok-same}
+use Rattle.script_rules.proofs.CheckedLemmas.{both, there, ok-same}
 use Rattle.script_laws.proofs.OperandLemmas.{IsRead, is-read, is-callee}
 use Rattle.script_laws.proofs.MakingLemmas.{AreOutputs, IsAlone, MakingFits, plain-read}
 use Rattle.script_laws.proofs.ObjectLemmas.{combine-all-fits, do-with-fits, operate-fits}

@@ -6,8 +6,8 @@ use Rattle.std.specs.Option.{option_map}
 use Rattle.std.specs.Str.{bytes_eq}
 use Rattle.std.specs.Map.{keys_of}
 use Rattle.std.proofs.lemmas.List.Recursion.{is_position_or_len}
-use Rattle.script_check.specs.of_written_types.Named.{Named, find}
-use Rattle.script_check.specs.of_script_program.Script.{name_place}
+use Rattle.script_rules.specs.of_written_types.Named.{Named, find}
+use Rattle.script_rules.specs.of_script_program.Script.{name_place}
 
 -- ---- look-ups by place
 

@@ -12,20 +12,20 @@ use Rattle.flume_types.specs.Equality.{type_eq}
 use Rattle.flume_grammar.specs.declared.tree.Repeat.{Repeat as WrittenRepeat}
 use Rattle.flume_grammar.specs.declared.tree.TurnLet.{TurnLet}
 use Rattle.flume_grammar.specs.declared.fault.ScriptKind.TheVariants.{BadNumber, Mistyped, TooMany}
-use Rattle.script_check.specs.of_written_types.Answer.{or_fault, unless}
-use Rattle.script_check.specs.of_written_types.Named.{Named}
-use Rattle.script_check.specs.of_expression_check.Numbers.{number_within}
-use Rattle.script_check.specs.of_script_program.Kinds.{gives_object}
-use Rattle.script_check.specs.of_script_program.Limits.{most_collections}
-use Rattle.script_check.specs.of_script_program.declared.made.Standing.TheVariants.{Hidden}
-use Rattle.script_check.specs.of_script_program.Script.{Node, Operand, State, with_front, with_hidden, with_name}
-use Rattle.script_check.specs.of_operation_check.Operations.{collection, collections_behind, numbers}
-use Rattle.script_check.specs.Repeats.{Repeat, copied, nodes_left, turn_gives, turn_nodes, turn_to}
-use Rattle.script_check.specs.Repeats.{unrolled}
-use Rattle.script_check.specs.Rules as spec
-use Rattle.script_check.proofs.CheckedLemmas.{both, holds, ok-same}
-use Rattle.script_check.proofs.EntryLemmas.{nodes-hidden}
-use Rattle.script_check.proofs.FoundLemmas.{before, found, own}
+use Rattle.script_rules.specs.of_written_types.Answer.{or_fault, unless}
+use Rattle.script_rules.specs.of_written_types.Named.{Named}
+use Rattle.script_rules.specs.of_expression_check.Numbers.{number_within}
+use Rattle.script_rules.specs.of_script_program.Kinds.{gives_object}
+use Rattle.script_rules.specs.of_script_program.Limits.{most_collections}
+use Rattle.script_rules.specs.of_script_program.declared.made.Standing.TheVariants.{Hidden}
+use Rattle.script_rules.specs.of_script_program.Script.{Node, Operand, State, with_front, with_hidden, with_name}
+use Rattle.script_rules.specs.Operations.{collection, collections_behind, numbers}
+use Rattle.script_rules.specs.Repeats.{Repeat, copied, nodes_left, turn_gives, turn_nodes, turn_to}
+use Rattle.script_rules.specs.Repeats.{unrolled}
+use Rattle.script_rules.specs.Rules as spec
+use Rattle.script_rules.proofs.CheckedLemmas.{both, holds, ok-same}
+use Rattle.script_rules.proofs.StateLemmas.{nodes-hidden}
+use Rattle.script_rules.proofs.FoundLemmas.{before, found, own}
 use Rattle.script_laws.specs.Fitting.{AreInPlace, IsOfType, RepeatFits, lets_of}
 use Rattle.script_laws.specs.WellFormed.{AllFit, AllReadKinds}
 use Rattle.script_laws.proofs.BodyLemmas.{HasLets, has-all-named}

@@ -18,24 +18,24 @@ use Rattle.flume_grammar.specs.declared.tree.Operation.{Operation}
 use Rattle.flume_grammar.specs.declared.tree.Repeat.{Repeat as WrittenRepeat}
 use Rattle.flume_grammar.specs.declared.tree.Statement.{Statement}
 use Rattle.flume_grammar.specs.declared.fault.ScriptKind.TheVariants.{NotFlat, NoOutput, TooMany}
-use Rattle.script_check.specs.of_written_types.Answer.{unless, or_fault}
-use Rattle.script_check.specs.of_written_types.Named.{Named, fresh}
-use Rattle.script_check.specs.of_written_types.Written.{whole_type}
-use Rattle.script_check.specs.of_body_check.Bodies.{body_of}
-use Rattle.script_check.specs.of_script_program.Limits.{most_collections, most_files, most_functions, most_outputs}
-use Rattle.script_check.specs.of_script_program.Kinds.{emitted_as}
-use Rattle.script_check.specs.of_script_program.Saved.{HasNoSaved, IsUnsaved}
-use Rattle.script_check.specs.of_script_program.declared.made.Emitted.{Emitted}
-use Rattle.script_check.specs.of_script_program.declared.made.Made.{Made}
-use Rattle.script_check.specs.of_script_program.declared.made.Made.TheVariants as made
-use Rattle.script_check.specs.of_script_program.declared.made.Output.{Output}
-use Rattle.script_check.specs.of_script_program.Script.{Function, Making, Node, Script, Signature, State, nothing}
-use Rattle.script_check.specs.of_script_program.Script.{node_from, script_from, with_node}
-use Rattle.script_check.specs.of_script_program.Script.{with_statement}
-use Rattle.script_check.specs.of_operation_check.Operations.{collection}
-use Rattle.script_check.specs.Repeats.{unrolled}
-use Rattle.script_check.specs.Rules as spec
-use Rattle.script_check.proofs.CheckedLemmas.{both, holds, there, ok-same}
+use Rattle.script_rules.specs.of_written_types.Answer.{unless, or_fault}
+use Rattle.script_rules.specs.of_written_types.Named.{Named, fresh}
+use Rattle.script_rules.specs.of_written_types.Written.{whole_type}
+use Rattle.script_rules.specs.of_body_check.Bodies.{body_of}
+use Rattle.script_rules.specs.of_script_program.Limits.{most_collections, most_files, most_functions, most_outputs}
+use Rattle.script_rules.specs.of_script_program.Kinds.{emitted_as}
+use Rattle.script_rules.specs.of_script_program.Saved.{HasNoSaved, IsUnsaved}
+use Rattle.script_rules.specs.of_script_program.declared.made.Emitted.{Emitted}
+use Rattle.script_rules.specs.of_script_program.declared.made.Made.{Made}
+use Rattle.script_rules.specs.of_script_program.declared.made.Made.TheVariants as made
+use Rattle.script_rules.specs.of_script_program.declared.made.Output.{Output}
+use Rattle.script_rules.specs.of_script_program.Script.{Function, Making, Node, Script, Signature, State, nothing}
+use Rattle.script_rules.specs.of_script_program.Script.{node_from, script_from, with_node}
+use Rattle.script_rules.specs.of_script_program.Script.{with_statement}
+use Rattle.script_rules.specs.Operations.{collection}
+use Rattle.script_rules.specs.Repeats.{unrolled}
+use Rattle.script_rules.specs.Rules as spec
+use Rattle.script_rules.proofs.CheckedLemmas.{both, holds, there, ok-same}
 use Rattle.script_laws.specs.WellFormed.{Fits, AllFit, AllReadKinds, HasColumns, HasOutputs}
 use Rattle.script_laws.specs.WellFormed.{IsCallOf, IsNameOf, IsWellTyped, IsWellFormed}
 use Rattle.script_laws.proofs.FitLemmas.{all-fit-more, fit-append, kinds-append, outputs-kept}

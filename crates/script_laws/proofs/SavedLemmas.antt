@@ -7,15 +7,15 @@ use Rattle.std.specs.Option.{option_map}
 use Rattle.std.proofs.lemmas.List.{map_push}
 use Rattle.std.proofs.lemmas.Option.{slice_get-map}
 use Rattle.flume_types.specs.declared.types.Ty.{Ty}
-use Rattle.script_check.specs.of_written_types.Named.{Named}
-use Rattle.script_check.specs.of_script_program.declared.made.Emitted.{Emitted}
-use Rattle.script_check.specs.of_script_program.declared.made.Made.{Made}
-use Rattle.script_check.specs.of_script_program.declared.made.Made.TheVariants as made
-use Rattle.script_check.specs.of_script_program.declared.made.Output.{Output}
-use Rattle.script_check.specs.of_script_program.Kinds.{emitted_as, gives_object, members_read, values_read}
-use Rattle.script_check.specs.of_script_program.Needed.{has, made_of}
-use Rattle.script_check.specs.of_script_program.Saved.{saved_as, saved_from, saved_node, with_saved}
-use Rattle.script_check.specs.of_script_program.Script.{Function, Node, Script}
+use Rattle.script_rules.specs.of_written_types.Named.{Named}
+use Rattle.script_rules.specs.of_script_program.declared.made.Emitted.{Emitted}
+use Rattle.script_rules.specs.of_script_program.declared.made.Made.{Made}
+use Rattle.script_rules.specs.of_script_program.declared.made.Made.TheVariants as made
+use Rattle.script_rules.specs.of_script_program.declared.made.Output.{Output}
+use Rattle.script_rules.specs.of_script_program.Kinds.{emitted_as, gives_object, members_read, values_read}
+use Rattle.script_rules.specs.of_script_program.Needed.{has, made_of}
+use Rattle.script_rules.specs.of_script_program.Saved.{saved_as, saved_from, saved_node, with_saved}
+use Rattle.script_rules.specs.of_script_program.Script.{Function, Node, Script}
 use Rattle.script_laws.specs.WellFormed.{AllFit, AllReadKinds, Fits, HasColumns, IsCallOf, IsKept}
 use Rattle.script_laws.specs.WellFormed.{IsNameOf, IsWellFormed, ReadsKinds, members_at, object_at}
 

@@ -6,12 +6,12 @@ use Rattle.std.proofs.lemmas.List.Elements.{All-map}
 use Rattle.std.specs.List.{AllByRecursion as Each, AllZip}
 use Rattle.std.specs.Option.{option_map}
 use Rattle.flume_types.specs.declared.types.Ty.{Ty}
-use Rattle.script_check.specs.of_written_types.Named.{Named}
-use Rattle.script_check.specs.of_script_program.Kinds.{gives_object, members_read, values_read}
-use Rattle.script_check.specs.of_script_program.declared.made.Made.{Made}
-use Rattle.script_check.specs.of_script_program.declared.made.Made.TheVariants as made
-use Rattle.script_check.specs.of_script_program.Script.{Function, Node}
-use Rattle.script_check.specs.Repeats.{renumbered}
+use Rattle.script_rules.specs.of_written_types.Named.{Named}
+use Rattle.script_rules.specs.of_script_program.Kinds.{gives_object, members_read, values_read}
+use Rattle.script_rules.specs.of_script_program.declared.made.Made.{Made}
+use Rattle.script_rules.specs.of_script_program.declared.made.Made.TheVariants as made
+use Rattle.script_rules.specs.of_script_program.Script.{Function, Node}
+use Rattle.script_rules.specs.Repeats.{renumbered}
 use Rattle.script_laws.specs.WellFormed.{Fits, ReadsKinds, members_at, object_at}
 
 abbrev type_of : Option (List ℕ × Node) → Option Ty

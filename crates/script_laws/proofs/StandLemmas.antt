@@ -6,7 +6,7 @@ use Rattle.std.specs.List.{range_with_len}
 use Rattle.std.proofs.lemmas.Bool.{lt-ltb, ltb-true}
 use Rattle.std.proofs.lemmas.List.{get_or-append-add}
 use Rattle.std.proofs.lemmas.List.FromFn.{get_or-range_with_len}
-use Rattle.script_check.specs.Repeats.{Repeat, seen, stands_for}
+use Rattle.script_rules.specs.Repeats.{Repeat, seen, stands_for}
 
 chosen-first : (b : Bool) (x y : ℕ) → b ≡ true → (if b then x else y) ≡ x
 chosen-first true x y is = refl

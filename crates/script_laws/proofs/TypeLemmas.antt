@@ -9,7 +9,7 @@ use Rattle.flume_types.specs.declared.types.Field.{Field}
 use Rattle.flume_types.specs.Equality.{type_eq}
 use Rattle.flume_types.specs.Tables.{table_of}
 use Rattle.flume_types.proofs.SameLemmas.{ty_eq-Decides}
-use Rattle.script_check.specs.of_operation_check.Operations.{Pair, key_and_value, pair_in, member_in}
+use Rattle.script_rules.specs.Operations.{Pair, key_and_value, pair_in, member_in}
 
 pub same-types : (t u : Ty) → type_eq t u ≡ true → t ≡ u
 same-types t u e = (ty_eq-Decides t u).0 e

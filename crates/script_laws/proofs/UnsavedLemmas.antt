@@ -2,13 +2,13 @@
 use Rattle.std.proofs.Common.{ℕ, zero, suc, ◌+◌, List, [], ◌∷◌, ◌++◌, length, map}
 use Rattle.std.specs.List.{AllByRecursion as Each}
 use Rattle.flume_value.proofs.EachLemmas.{Each-append}
-use Rattle.script_check.specs.of_written_types.Named.{Named}
-use Rattle.script_check.specs.of_script_program.declared.made.Made.{Made}
-use Rattle.script_check.specs.of_script_program.declared.made.Made.TheVariants as made
-use Rattle.script_check.specs.of_script_program.Saved.{IsUnsaved}
-use Rattle.script_check.specs.of_script_program.Script.{Node}
-use Rattle.script_check.specs.Repeats.{Repeat, copied, nodes_left, renumbered, turn_gives}
-use Rattle.script_check.specs.Repeats.{turn_nodes, turn_to}
+use Rattle.script_rules.specs.of_written_types.Named.{Named}
+use Rattle.script_rules.specs.of_script_program.declared.made.Made.{Made}
+use Rattle.script_rules.specs.of_script_program.declared.made.Made.TheVariants as made
+use Rattle.script_rules.specs.of_script_program.Saved.{IsUnsaved}
+use Rattle.script_rules.specs.of_script_program.Script.{Node}
+use Rattle.script_rules.specs.Repeats.{Repeat, copied, nodes_left, renumbered, turn_gives}
+use Rattle.script_rules.specs.Repeats.{turn_nodes, turn_to}
 use Rattle.script_laws.specs.Fitting.{AreInPlace, IsInPlace}
 use Rattle.script_laws.proofs.NewLemmas.{how_made}
 

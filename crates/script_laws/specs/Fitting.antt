@@ -1,12 +1,12 @@
 -- When the types of a repeat fit, each let's by the rules that hold of each collection of a script.
 use Rattle.std.specs.Prelude.{◌≡◌, ℕ, suc, ◌≤◌, List, [], ◌∷◌, ◌++◌, Some, length, map, ⊤}
 use Rattle.std.specs.List.{AllZip}
-use Rattle.script_check.specs.of_written_types.Named.{Named}
-use Rattle.script_check.specs.of_script_program.declared.made.Made.{Made}
-use Rattle.script_check.specs.of_script_program.declared.made.Made.TheVariants as made
-use Rattle.script_check.specs.of_script_program.Script.{Function, Node}
-use Rattle.script_check.specs.of_script_program.Kinds.{gives_object}
-use Rattle.script_check.specs.Repeats.{Repeat}
+use Rattle.script_rules.specs.of_written_types.Named.{Named}
+use Rattle.script_rules.specs.of_script_program.declared.made.Made.{Made}
+use Rattle.script_rules.specs.of_script_program.declared.made.Made.TheVariants as made
+use Rattle.script_rules.specs.of_script_program.Script.{Function, Node}
+use Rattle.script_rules.specs.of_script_program.Kinds.{gives_object}
+use Rattle.script_rules.specs.Repeats.{Repeat}
 use Rattle.script_laws.specs.WellFormed.{AllFit, AllReadKinds, members_at, object_at}
 
 -- how the lets of a body are made, in order

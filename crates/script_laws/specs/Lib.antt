@@ -1,7 +1,6 @@
 pub mod WellFormed
 pub mod Fitting
-pub use Rattle.script_check.specs.of_body_check
-pub use Rattle.script_check.specs.of_operation_check
-pub use Rattle.script_check.specs as of_script_check
-pub use Rattle.script_check.specs.of_script_program
-pub use Rattle.script_check.specs.of_written_types
+pub use Rattle.script_rules.specs.of_body_check
+pub use Rattle.script_rules.specs as of_script_rules
+pub use Rattle.script_rules.specs.of_script_program
+pub use Rattle.script_rules.specs.of_written_types

@@ -13,17 +13,17 @@ use Rattle.flume_types.specs.Columns.{columns_of, input_columns_of}
 use Rattle.flume_types.specs.Tables.{table_of}
 use Rattle.flume_types.specs.Typing.{types_of}
 use Rattle.combine_table.specs.declared.comb.Comb.{Comb}
-use Rattle.script_check.specs.of_written_types.Named.{Named}
-use Rattle.script_check.specs.of_body_check.Bodies.{body_of}
-use Rattle.script_check.specs.of_script_program.Limits.{most_collections, most_outputs}
-use Rattle.script_check.specs.of_script_program.declared.made.Emitted.{Emitted}
-use Rattle.script_check.specs.of_script_program.declared.made.Made.{Made}
-use Rattle.script_check.specs.of_script_program.declared.made.Made.TheVariants as made
-use Rattle.script_check.specs.of_script_program.declared.made.Output.{Output}
-use Rattle.script_check.specs.of_script_program.Kinds.{emitted_as, gives_object, members_read, values_read}
-use Rattle.script_check.specs.of_script_program.Needed.{made_of}
-use Rattle.script_check.specs.of_script_program.Script.{Function, Node, Script}
-use Rattle.script_check.specs.of_operation_check.Operations.{sides_of, combined_type}
+use Rattle.script_rules.specs.of_written_types.Named.{Named}
+use Rattle.script_rules.specs.of_body_check.Bodies.{body_of}
+use Rattle.script_rules.specs.of_script_program.Limits.{most_collections, most_outputs}
+use Rattle.script_rules.specs.of_script_program.declared.made.Emitted.{Emitted}
+use Rattle.script_rules.specs.of_script_program.declared.made.Made.{Made}
+use Rattle.script_rules.specs.of_script_program.declared.made.Made.TheVariants as made
+use Rattle.script_rules.specs.of_script_program.declared.made.Output.{Output}
+use Rattle.script_rules.specs.of_script_program.Kinds.{emitted_as, gives_object, members_read, values_read}
+use Rattle.script_rules.specs.of_script_program.Needed.{made_of}
+use Rattle.script_rules.specs.of_script_program.Script.{Function, Node, Script}
+use Rattle.script_rules.specs.Operations.{sides_of, combined_type}
 
 -- ---- what numbers stand for
 

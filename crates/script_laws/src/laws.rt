@@ -1,10 +1,10 @@
 // What holds of every accepted script, and of the collections that it needs.
 ghost use Rattle.std.specs.Prelude.{◌≡◌, ◌↔◌, ℕ, IsTrue, List, Ok};
 ghost use Rattle.flume_grammar.specs.declared.tree.Statement.{Statement};
-ghost use Rattle.script_check.specs.of_script_program.Script.{Script};
-ghost use Rattle.script_check.specs.Rules.{script_of};
-ghost use Rattle.script_check.specs.of_script_program.Needed.{IsNeeded, is_needed};
-ghost use Rattle.script_check.specs.of_script_program.Saved.{HasNoSaved};
+ghost use Rattle.script_rules.specs.of_script_program.Script.{Script};
+ghost use Rattle.script_rules.specs.Rules.{script_of};
+ghost use Rattle.script_rules.specs.of_script_program.Needed.{IsNeeded, is_needed};
+ghost use Rattle.script_rules.specs.of_script_program.Saved.{HasNoSaved};
 ghost use Rattle.script_laws.specs.WellFormed.{IsWellFormed};
 
 /// Each script that is accepted is well formed, and has nothing that an earlier run has kept.

@@ -11,4 +11,3 @@
 mod laws;
 
 pub use laws::{needed_law, well_formed_law};
-pub use script_check;

@@ -6,7 +6,7 @@ use Rattle.flume_grammar.specs.Answer.{Accepts, Refuses}
 use Rattle.flume_grammar.specs.declared.fault.ScriptFault.TheVariants as fault
 use Rattle.flume_grammar.specs.declared.fault.ScriptKind.{ScriptKind}
 use Rattle.flume_grammar.specs.declared.tree.Ast.{Ast}
-use Rattle.build_law.specs.of_script_check.Rules.{script_of}
+use Rattle.build_law.specs.of_script_rules.Rules.{script_of}
 use Rattle.script_program.specs.Script.{Script}
 use Rattle.written_types.specs.Answer.{Checked}
 use Rattle.script_loading.specs.Accepted.{Accepted, Refused}

@@ -31,12 +31,12 @@ use Rattle.script_program.specs.declared.made.Standing.TheVariants.{Hidden}
 use Rattle.script_program.specs.Script.{Function, Making, Node, Operand, Script, State, nothing}
 use Rattle.script_program.specs.Script.{script_from, with_hidden, with_name, with_node}
 use Rattle.script_program.specs.Script.{with_nodes, with_statement}
-use Rattle.build_law.specs.of_operation_check.Operations as op
-use Rattle.build_law.specs.of_script_check.Repeats.{Repeat, copied, nodes_left, renumbered, turn_gives}
-use Rattle.build_law.specs.of_script_check.Repeats.{turn_nodes, turn_to, unrolled}
-use Rattle.build_law.specs.of_script_check.Rules as spec
-use Rattle.build_law.proofs.of_script_check.CheckedLemmas.{both, ok-same}
-use Rattle.build_law.proofs.of_script_check.FoundLemmas.{before, found, own}
+use Rattle.build_law.specs.of_script_rules.Operations as op
+use Rattle.build_law.specs.of_script_rules.Repeats.{Repeat, copied, nodes_left, renumbered, turn_gives}
+use Rattle.build_law.specs.of_script_rules.Repeats.{turn_nodes, turn_to, unrolled}
+use Rattle.build_law.specs.of_script_rules.Rules as spec
+use Rattle.build_law.proofs.of_script_rules.CheckedLemmas.{both, ok-same}
+use Rattle.build_law.proofs.of_script_rules.FoundLemmas.{before, found, own}
 use Rattle.build_law.proofs.of_script_laws.MakingLemmas.{IsOther, IsAlone, AreOutputs}
 use Rattle.build_law.proofs.of_script_laws.OperationLemmas.{made-is}
 use Rattle.script_loading.specs.Ready.{IsNamedMade}

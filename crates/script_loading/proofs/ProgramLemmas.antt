@@ -8,7 +8,7 @@ use Rattle.flume_grammar.specs.Answer.{Accepts, IsRefusal}
 use Rattle.flume_grammar.specs.declared.fault.ScriptFault.{ScriptFault}
 use Rattle.flume_grammar.specs.declared.fault.ScriptFault.TheVariants as script_fault
 use Rattle.flume_grammar.specs.declared.tree.Ast.{Ast}
-use Rattle.build_law.specs.of_script_check.Rules.{script_of}
+use Rattle.build_law.specs.of_script_rules.Rules.{script_of}
 use Rattle.script_program.specs.Saved.{HasNoSaved}
 use Rattle.script_program.specs.Script.{Script}
 use Rattle.build_law.proofs.of_script_laws.RuleLemmas.{unsaved, well-formed}

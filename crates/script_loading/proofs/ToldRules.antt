@@ -24,10 +24,10 @@ use Rattle.flume_grammar.specs.declared.tree.Statement.{Statement}
 use Rattle.flume_grammar.specs.declared.tree.TurnLet.{TurnLet}
 use Rattle.flume_grammar.specs.declared.tree.Type as tree
 use Rattle.script_program.specs.of_body_check.Bodies.{body_of}
-use Rattle.build_law.specs.of_operation_check.Arguments.{are_plain, sole, takes_both, takes_members}
-use Rattle.build_law.specs.of_operation_check.Arguments.{takes_objects}
-use Rattle.build_law.specs.of_operation_check.Operations as spec
-use Rattle.build_law.specs.of_script_check.Rules as rules
+use Rattle.build_law.specs.of_script_rules.Arguments.{are_plain, sole, takes_both, takes_members}
+use Rattle.build_law.specs.of_script_rules.Arguments.{takes_objects}
+use Rattle.build_law.specs.of_script_rules.Operations as spec
+use Rattle.build_law.specs.of_script_rules.Rules as rules
 use Rattle.script_program.specs.Limits.{most_collections, most_files, most_functions, most_outputs}
 use Rattle.script_program.specs.Script.{Callee, Making, Operand, State, nothing}
 use Rattle.script_program.specs.Script.{find_function, find_node, with_hidden, with_statement}

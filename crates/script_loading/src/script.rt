@@ -11,11 +11,11 @@ ghost use Rattle.script_loading.specs.inner.Reading.{IsScriptFault};
 
 use crate::files::loaded;
 use crate::limits::SCRIPT_LIMIT;
-use build_law::script_check::check;
 use flume_grammar::ScriptFault;
 use flume_syntax::parse;
 use outside::{Pieces, Source};
 use run_texts::Status;
+use script_check::check;
 use script_program::Program;
 use std::alloc::Global;
 

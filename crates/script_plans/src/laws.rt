@@ -3,7 +3,7 @@ ghost use Rattle.std.specs.Prelude.{◌≡◌, List, Ok};
 ghost use Rattle.build_law.specs.Limits.{AreShort};
 ghost use Rattle.exec_plan.specs.declared.plan.Plan.{Plan};
 ghost use Rattle.flume_grammar.specs.declared.tree.Statement.{Statement};
-ghost use Rattle.build_law.specs.of_script_check.Rules.{script_of};
+ghost use Rattle.build_law.specs.of_script_rules.Rules.{script_of};
 ghost use Rattle.script_plans.specs.Plans.{IsScriptPlan};
 ghost use Rattle.build_law.specs.of_script_program.Script.{Script};
 

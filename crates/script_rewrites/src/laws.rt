@@ -5,7 +5,7 @@ ghost use Rattle.exec_plan.specs.declared.plan.Plan.{Plan};
 ghost use Rattle.flume_grammar.specs.declared.tree.Statement.{Statement};
 ghost use Rattle.graph_build.specs.Graphs.{graph_of};
 ghost use Rattle.graph_rewrites.specs.declared.rewrite.Rewrite.{Rewrite};
-ghost use Rattle.script_check.specs.Rules.{script_of};
+ghost use Rattle.script_rules.specs.Rules.{script_of};
 ghost use Rattle.script_plans.specs.Plans.{IsScriptPlan};
 ghost use Rattle.script_program.specs.Script.{Script};
 ghost use Rattle.script_rewrites.specs.Made.{IsMadeBy};

@@ -5,8 +5,8 @@ use Rattle.script_program.specs.Held.{operand_in}
 use Rattle.script_program.specs.inner.Tables.{node_of}
 use Rattle.script_check.specs.declared.repeats.Entry.{Entry as HeldEntry}
 use Rattle.script_check.specs.declared.turns.Repeat.{Repeat as HeldRepeat}
-use Rattle.script_check.specs.Repeats.{Repeat}
-use Rattle.script_check.specs.Rules.{Entry}
+use Rattle.script_rules.specs.Repeats.{Repeat}
+use Rattle.script_rules.specs.Rules.{Entry}
 
 -- what enters a repeat, with its types
 abbrev pub entry_in : List Ty → HeldEntry → Entry

@@ -1,6 +1,6 @@
 use Rattle.std.proofs.Common.{List, subst}
 use Rattle.flume_grammar.specs.declared.tree.Statement.{Statement}
-use Rattle.direct_meaning.specs.of_script_check.Rules.{script_of}
+use Rattle.direct_meaning.specs.of_script_rules.Rules.{script_of}
 use Rattle.written_types.specs.Answer.{Gives}
 use Rattle.made_rows.proofs.Checked.{checked, only_memory}
 use Rattle.made_rows.proofs.program.checked.Goals as goal

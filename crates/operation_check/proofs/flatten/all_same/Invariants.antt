@@ -1,6 +1,6 @@
 use Rattle.std.proofs.Common.{◌≡◌, map, drop}
 use Rattle.type_table.specs.Table.{type_at}
-use Rattle.operation_check.specs.Operations.{all_same}
+use Rattle.script_rules.specs.Operations.{all_same}
 use Rattle.script_program.specs.Held.{operand_in}
 use Rattle.operation_check.proofs.flatten.all_same.Given as goal
 

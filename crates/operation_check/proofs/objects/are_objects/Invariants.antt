@@ -1,6 +1,6 @@
 use Rattle.std.proofs.Common.{◌≡◌, List, map, drop}
 use Rattle.flume_types.specs.declared.types.Ty.{Ty}
-use Rattle.operation_check.specs.Arguments.{are_objects}
+use Rattle.script_rules.specs.Arguments.{are_objects}
 use Rattle.script_program.specs.Held.{operand_in}
 use Rattle.operation_check.proofs.objects.are_objects.Given as goal
 

@@ -1,5 +1,5 @@
 use Rattle.std.proofs.Common.{◌≡◌, map, drop}
-use Rattle.operation_check.specs.Arguments.{each_fits}
+use Rattle.script_rules.specs.Arguments.{each_fits}
 use Rattle.script_program.specs.Held.{operand_in}
 use Rattle.type_table.specs.Table.{field_at}
 use Rattle.operation_check.proofs.objects.each_fits.Given as goal

@@ -2,7 +2,7 @@ use Rattle.std.proofs.Common.{◌≡◌, ◌<◌, ◌++◌, ℕ, List, map, drop
 use Rattle.std.specs.List.{All}
 use Rattle.script_program.specs.of_expression_types.Held.{AreTypes}
 use Rattle.flume_types.specs.declared.types.Ty.{Ty}
-use Rattle.operation_check.specs.Operations.{outputs_from}
+use Rattle.script_rules.specs.Operations.{outputs_from}
 use Rattle.script_program.specs.Program.{making_in}
 use Rattle.type_table.specs.Table.{type_at}
 use Rattle.operation_check.proofs.operation.outputs.Given as goal

@@ -3,7 +3,7 @@ use Rattle.std.proofs.lemmas.Bool.{lt-ltb}
 use Rattle.flume_grammar.specs.declared.fault.ScriptKind.TheVariants.{NoOutput}
 use Rattle.operation_check.specs.of_written_types.Answer.{◌>>=◌, unless}
 use Rattle.script_program.specs.Script.{script_from}
-use Rattle.script_check.specs.Rules.{defined}
+use Rattle.script_rules.specs.Rules.{defined}
 use Rattle.script_check.proofs.checks.check.Goals as goal
 
 pub returns : goal.returns

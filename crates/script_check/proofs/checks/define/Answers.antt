@@ -2,7 +2,7 @@ use Rattle.std.proofs.Common.{length, sym, ap, ◌∙◌, arith}
 use Rattle.std.specs.Vec.Iter.{into_iter_items}
 use Rattle.operation_check.specs.of_written_types.Answer.{◌>>=◌}
 use Rattle.script_program.specs.Script.{with_statement}
-use Rattle.script_check.specs.Rules.{defined}
+use Rattle.script_rules.specs.Rules.{defined}
 use Rattle.script_check.proofs.CountLemmas.{rule-count}
 use Rattle.script_check.proofs.checks.define.Goals as goal
 

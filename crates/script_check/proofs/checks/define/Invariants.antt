@@ -1,6 +1,6 @@
 use Rattle.std.proofs.Common.{◌≡◌, ◌+◌, length}
 use Rattle.std.specs.Vec.Iter.{into_iter_items}
-use Rattle.script_check.specs.Rules.{defined}
+use Rattle.script_rules.specs.Rules.{defined}
 use Rattle.script_check.proofs.checks.define.Given as goal
 
 abbrev pub invariant-loop-statement : goal.invariant-loop-statement

@@ -1,6 +1,6 @@
 use Rattle.std.proofs.Common.{◌≡◌, map, drop}
 use Rattle.script_program.specs.Program.{making_in}
-use Rattle.script_check.specs.Rules.{all_shallow}
+use Rattle.script_rules.specs.Rules.{all_shallow}
 use Rattle.script_check.proofs.lets.all_fit.Given as goal
 
 abbrev pub invariant-loop-making : goal.invariant-loop-making

@@ -1,6 +1,6 @@
 use Rattle.std.proofs.Common.{◌≡◌, ◌++◌, take, drop}
 use Rattle.std.specs.Map.{keys_of}
-use Rattle.script_check.specs.Rules.{all_fresh}
+use Rattle.script_rules.specs.Rules.{all_fresh}
 use Rattle.script_check.proofs.lets.all_fresh.Given as goal
 
 abbrev pub invariant-loop-number : goal.invariant-loop-number

@@ -1,5 +1,5 @@
 use Rattle.std.proofs.Common.{◌≡◌, map, take}
-use Rattle.script_check.specs.Repeats.{stands_for}
+use Rattle.script_rules.specs.Repeats.{stands_for}
 use Rattle.script_check.proofs.renumbering.stand_for_all.Given as goal
 
 abbrev pub invariant-loop-number : goal.invariant-loop-number

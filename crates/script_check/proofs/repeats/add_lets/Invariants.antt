@@ -1,7 +1,7 @@
 use Rattle.std.proofs.Common.{◌≡◌}
 use Rattle.std.specs.Vec.Iter.{into_iter_items}
 use Rattle.type_table.specs.Table.{Extends}
-use Rattle.script_check.specs.Rules.{all_named}
+use Rattle.script_rules.specs.Rules.{all_named}
 use Rattle.script_check.proofs.repeats.add_lets.Given as goal
 
 abbrev pub invariant-loop-it : goal.invariant-loop-it

@@ -1,7 +1,7 @@
 use Rattle.std.proofs.Common.{◌≤◌, ℕ, List, arith, length, subst}
 use Rattle.operation_check.specs.of_written_types.Answer.{Checked, Gives}
 use Rattle.script_program.specs.Script.{with_front}
-use Rattle.script_check.specs.Rules as spec
+use Rattle.script_rules.specs.Rules as spec
 use Rattle.script_check.specs.inner.Held.{entry_in, repeat_in}
 use Rattle.script_check.specs.declared.turns.Repeat.{Repeat as HeldRepeat}
 use Rattle.script_check.proofs.EntryLemmas.{all-named-more, behind-types, found-behind}

@@ -1,6 +1,6 @@
 use Rattle.std.proofs.Common.{◌≡◌, drop, map}
 use Rattle.script_program.specs.Held.{operand_in}
-use Rattle.script_check.specs.Rules.{alike}
+use Rattle.script_rules.specs.Rules.{alike}
 use Rattle.script_check.proofs.repeats.alike.Given as goal
 
 abbrev pub invariant-loop-place : goal.invariant-loop-place

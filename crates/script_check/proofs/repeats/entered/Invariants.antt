@@ -3,7 +3,7 @@ use Rattle.std.specs.List.{All}
 use Rattle.flume_types.specs.declared.types.Ty.{Ty}
 use Rattle.script_program.specs.Held.{operand_in}
 use Rattle.script_program.specs.Program.{making_in}
-use Rattle.script_check.specs.Rules.{entered}
+use Rattle.script_rules.specs.Rules.{entered}
 use Rattle.script_check.proofs.repeats.entered.Given as goal
 
 abbrev pub invariant-loop-source : goal.invariant-loop-source

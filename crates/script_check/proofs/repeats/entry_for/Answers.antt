@@ -1,7 +1,7 @@
 use Rattle.std.proofs.Common.{◌≡◌, ℕ, List, Ok, subst}
 use Rattle.std.specs.Map.{keys_of}
 use Rattle.script_check.proofs.NameLemmas.{are-free, are-new}
-use Rattle.script_check.specs.Rules.{all_fresh}
+use Rattle.script_rules.specs.Rules.{all_fresh}
 use Rattle.script_check.proofs.repeats.entry_for.Goals as goal
 
 pub hide_all-requires : goal.hide_all-requires

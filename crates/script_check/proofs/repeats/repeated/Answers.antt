@@ -1,6 +1,6 @@
 use Rattle.std.proofs.Common.{arith, map}
 use Rattle.script_program.specs.Held.{operand_in}
-use Rattle.script_check.specs.Rules.{entered}
+use Rattle.script_rules.specs.Rules.{entered}
 use Rattle.script_check.proofs.EntryLemmas.{entered-more}
 use Rattle.script_check.proofs.repeats.repeated.Goals as goal
 

@@ -1,7 +1,7 @@
 use Rattle.std.proofs.Common.{◌≡◌, ◌≤◌, ◌∷◌, [], length, map, drop}
 use Rattle.operation_check.specs.of_expression_types.Held.{AreTypes}
 use Rattle.type_table.specs.Table.{type_at, Extends}
-use Rattle.script_check.specs.Rules.{types_behind}
+use Rattle.script_rules.specs.Rules.{types_behind}
 use Rattle.script_check.proofs.signatures.types_of.Given as goal
 
 abbrev pub invariant-loop-ty : goal.invariant-loop-ty

@@ -1,7 +1,7 @@
 use Rattle.std.proofs.Common.{◌≡◌, drop, map}
 use Rattle.script_program.specs.Script.{with_copies}
 use Rattle.script_program.specs.inner.Tables.{node_of}
-use Rattle.script_check.specs.Repeats.{copied, stands_for}
+use Rattle.script_rules.specs.Repeats.{copied, stands_for}
 use Rattle.script_check.proofs.turns.add_copies.Given as goal
 
 abbrev pub invariant-loop-entry : goal.invariant-loop-entry

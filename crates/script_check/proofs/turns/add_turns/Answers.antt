@@ -3,7 +3,7 @@ use Rattle.std.proofs.lemmas.List.{length-map}
 use Rattle.flume_types.specs.declared.types.Ty.{Ty}
 use Rattle.script_program.specs.Script.{with_copies}
 use Rattle.script_program.specs.inner.Tables.{node_of}
-use Rattle.script_check.specs.Repeats.{turn_gives, turn_nodes}
+use Rattle.script_rules.specs.Repeats.{turn_gives, turn_nodes}
 use Rattle.script_check.specs.inner.Held.{repeat_in}
 use Rattle.script_check.proofs.TurnLemmas.{next-last, next-nodes, next-room}
 use Rattle.script_check.proofs.turns.add_turns.Goals as goal

@@ -1,6 +1,6 @@
 use Rattle.std.proofs.Common.{◌≡◌, ◌≤◌, ◌+◌, ◌-◌, ◌*◌, suc, length}
 use Rattle.script_program.specs.Script.{with_copies}
-use Rattle.script_check.specs.Repeats.{gives_left, last_gives, nodes_left, unrolled}
+use Rattle.script_rules.specs.Repeats.{gives_left, last_gives, nodes_left, unrolled}
 use Rattle.script_check.specs.inner.Held.{repeat_in}
 use Rattle.script_check.proofs.turns.add_turns.Given as goal
 

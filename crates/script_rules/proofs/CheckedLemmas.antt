@@ -1,7 +1,7 @@
 -- What a check that finds no fault has found.
 use Rattle.std.proofs.Common.{◌≡◌, ℕ, Bool, true, false, Option, Some, None, Ok, Err, refl}
 use Rattle.flume_grammar.specs.declared.fault.ScriptKind.{ScriptKind}
-use Rattle.operation_check.specs.of_written_types.Answer.{Checked, ◌>>=◌, unless, or_fault}
+use Rattle.script_program.specs.of_written_types.Answer.{Checked, ◌>>=◌, unless, or_fault}
 
 abbrev pub accepted : {A : Type 0} → A → Checked A
 accepted x = Ok x

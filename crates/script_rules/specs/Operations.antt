@@ -21,10 +21,10 @@ use Rattle.combine_table.specs.declared.comb.Comb.{Comb}
 use Rattle.combine_table.specs.declared.comb.Comb.TheVariants as comb
 use Rattle.script_program.specs.of_written_types.Answer.{Checked, ◌>>=◌, unless, or_fault}
 use Rattle.script_program.specs.declared.made.Made.TheVariants as made
-use Rattle.expression_check.specs.Numbers.{number_within}
+use Rattle.script_program.specs.of_expression_check.Numbers.{number_within}
 use Rattle.script_program.specs.Script.{Making, State, Operand, find_node, Callee, find_function}
-use Rattle.operation_check.specs.Arguments.{are_plain, sole, takes_both, takes_members}
-use Rattle.operation_check.specs.Arguments.{takes_objects}
+use Rattle.script_rules.specs.Arguments.{are_plain, sole, takes_both, takes_members}
+use Rattle.script_rules.specs.Arguments.{takes_objects}
 
 -- ---- parts of types
 

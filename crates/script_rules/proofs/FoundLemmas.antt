@@ -2,9 +2,9 @@
 use Rattle.std.proofs.Common.{◌≡◌, ℕ, List, length, drop, Ok, ap, ◌∙◌}
 use Rattle.flume_grammar.specs.declared.tree.Repeat.{Repeat as WrittenRepeat}
 use Rattle.script_program.specs.Script.{State, with_front}
-use Rattle.script_check.specs.Repeats.{Repeat}
-use Rattle.script_check.specs.Rules as spec
-use Rattle.script_check.proofs.CheckedLemmas.{both, ok-same}
+use Rattle.script_rules.specs.Repeats.{Repeat}
+use Rattle.script_rules.specs.Rules as spec
+use Rattle.script_rules.proofs.CheckedLemmas.{both, ok-same}
 
 module _ (line : ℕ) (names : List (List ℕ)) (written : WrittenRepeat) (s : State) where
   -- the state in front of the body, for what enters

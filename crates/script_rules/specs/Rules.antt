@@ -18,22 +18,22 @@ use Rattle.flume_grammar.specs.declared.tree.TurnLet.{TurnLet}
 use Rattle.flume_grammar.specs.declared.tree.Statement.{Statement}
 use Rattle.flume_grammar.specs.declared.fault.ScriptKind.TheVariants.{TooMany, NotFlat, NoOutput}
 use Rattle.flume_grammar.specs.declared.fault.ScriptKind.TheVariants.{BadNumber, Mistyped, Twice}
-use Rattle.operation_check.specs.of_written_types.Answer.{Checked, ◌>>=◌, unless, or_fault}
-use Rattle.operation_check.specs.of_written_types.Named.{Named, fresh}
-use Rattle.operation_check.specs.of_written_types.Written.{shallow, whole_type}
-use Rattle.operation_check.specs.of_body_check.Bodies.{body_of}
+use Rattle.script_program.specs.of_written_types.Answer.{Checked, ◌>>=◌, unless, or_fault}
+use Rattle.script_program.specs.of_written_types.Named.{Named, fresh}
+use Rattle.script_program.specs.of_written_types.Written.{shallow, whole_type}
+use Rattle.script_program.specs.of_body_check.Bodies.{body_of}
 use Rattle.script_program.specs.Limits.{most_collections, most_files, most_functions}
 use Rattle.script_program.specs.Limits.{most_outputs}
 use Rattle.combine_table.specs.declared.comb.Comb.TheVariants as comb
 use Rattle.script_program.specs.declared.made.Made.{Made}
 use Rattle.script_program.specs.declared.made.Made.TheVariants as made
-use Rattle.operation_check.specs.of_expression_check.Numbers.{number_within}
+use Rattle.script_program.specs.of_expression_check.Numbers.{number_within}
 use Rattle.script_program.specs.Script.{Making, Operand, Script, Signature, State, function_from}
 use Rattle.script_program.specs.Script.{nothing, script_from, with_copies, with_front}
 use Rattle.script_program.specs.Script.{with_function, with_given, with_hidden, with_node}
 use Rattle.script_program.specs.Script.{with_nodes, with_output, with_statement, with_type}
-use Rattle.operation_check.specs.Operations.{collection, collections_behind, made_by, numbers}
-use Rattle.script_check.specs.Repeats.{Repeat, last_gives, unrolled}
+use Rattle.script_rules.specs.Operations.{collection, collections_behind, made_by, numbers}
+use Rattle.script_rules.specs.Repeats.{Repeat, last_gives, unrolled}
 
 -- each fault is told on this line
 module _ (line : ℕ) where

@@ -2,7 +2,7 @@
 use Rattle.std.specs.Prelude.{ℕ, zero, suc, ◌+◌, ◌-◌, List, [], ◌∷◌, ◌++◌, length, map}
 use Rattle.std.specs.Prelude.{nat_lt, decimal, slice_index_or, if◌then◌else◌}
 use Rattle.std.specs.List.{range_with_len}
-use Rattle.operation_check.specs.of_written_types.Named.{Named}
+use Rattle.script_program.specs.of_written_types.Named.{Named}
 use Rattle.script_program.specs.declared.made.Made.{Made}
 use Rattle.script_program.specs.declared.made.Made.TheVariants as made
 use Rattle.script_program.specs.Script.{Node}
