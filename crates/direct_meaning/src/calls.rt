@@ -11,7 +11,8 @@ ghost use Rattle.direct_meaning.specs.inner.Kept.{has_traps};
 ghost use Rattle.direct_meaning.specs.inner.Slots.{IsDone, emitted_by, slots_answer, trapped_by};
 
 use crate::kept::Kept;
-use dofn_eval::{Fun, Lists, call};
+use dofn_calls::{Lists, call};
+use dofn_eval::Fun;
 use flume_collection::Trap;
 use flume_value::{CallFault, Items, Pile, Value, sorted};
 use script_program::Program;

@@ -5,28 +5,15 @@
 //! in its record. `means` says what a body emits to each output on an argument, form by form, or
 //! why it traps. `Fun` keeps in its type that its body is well typed, at some types of its argument
 //! and its outputs. So a call of one on a value of its argument's type meets no operand of another
-//! type, and what it emits to an output has that output's type; `call` gives exactly those
-//! emissions as `Lists`, one list an output, in order, or that trap.
+//! type, and what it emits to an output has that output's type. dofn_calls carries calls out.
 #![tactic(auto)]
 
-mod arithmetic;
-mod calls;
-mod evaluate;
 mod expr;
 mod fun;
 mod laws;
-mod lists;
-mod operand;
-mod parts;
-mod passing;
-mod scope;
-mod statements;
 mod stmt;
-mod words;
 
-pub use calls::call;
 pub use expr::{Arithmetic, Binary, Comparison, Expr, Unary};
 pub use fun::Fun;
 pub use laws::{call_law, expression_law, statement_law};
-pub use lists::Lists;
 pub use stmt::{Block, Stmt};

@@ -5,7 +5,8 @@ ghost use Rattle.dofn_eval.specs.Outcome.{Gives, IsFaultIn};
 ghost use Rattle.dofn_eval.specs.Run.{means};
 
 use build_law::script_program::Program;
-use dofn_eval::{Fun, call};
+use dofn_calls::call;
+use dofn_eval::Fun;
 use flume_value::{CallFault, Items, Value};
 use forest_steps::Functions;
 use std::alloc::{AllocError, Global};

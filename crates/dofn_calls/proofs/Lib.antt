@@ -1,0 +1,4 @@
+pub mod ScopeLemmas
+pub mod PassingLemmas
+pub mod StatementLemmas
+pub mod EvaluateLemmas

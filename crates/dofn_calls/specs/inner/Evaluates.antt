@@ -1,0 +1,81 @@
+-- What an evaluation leaves.
+use Rattle.std.specs.Prelude.{◌≡◌, ℕ, true, false, Result, Ok, Err, List, ◌∷◌}
+use Rattle.flume_value.specs.declared.value.Value.{Value}
+use Rattle.flume_value.specs.declared.value.Value.TheVariants as variant
+use Rattle.flume_value.specs.declared.fault.CallFault.{CallFault}
+use Rattle.flume_value.specs.Parts.{left_of, right_of}
+use Rattle.dofn_eval.specs.Outcome.{Outcome, Gives, IsFaultIn, then, then_both}
+use Rattle.dofn_eval.specs.Operations.{of_two, member_in, chosen}
+use Rattle.dofn_eval.specs.declared.expr.Binary.{Binary}
+use Rattle.dofn_eval.specs.declared.expr.Expr.{Expr}
+use Rattle.dofn_eval.specs.declared.stmt.Stmt.{Stmt}
+use Rattle.dofn_calls.specs.declared.scope.Scope.{Scope}
+use Rattle.dofn_eval.specs.Meaning.{value_of}
+use Rattle.dofn_eval.specs.Run.{Emissions, SlotState, state, emitted_to, run, run_one as one_run}
+use Rattle.dofn_eval.specs.Run.{for_each, side_of, by_side}
+use Rattle.dofn_calls.specs.inner.Operands.{values, named}
+
+-- what was returned, as the view sees it, is what the outcome gives; or it is the outcome's trap,
+-- or a want of memory
+abbrev pub Evaluates : {A B : Type 0} → (A → B) → Result A CallFault → Outcome B → Type 0
+Evaluates view (Ok a) outcome = outcome ≡ Gives (view a)
+Evaluates view (Err fault) outcome = IsFaultIn outcome fault
+
+abbrev pub Returns : {A : Type 0} → Result A CallFault → Outcome A → Type 0
+Returns = Evaluates (λ a. a)
+
+-- what an expression gives with these values in scope
+abbrev pub value_in : Scope → Expr → Outcome Value
+value_in scope e = value_of e (values scope)
+
+abbrev pub two : Scope → Binary → Expr → Expr → Outcome Value
+two scope op a b = then_both (value_in scope a) (value_in scope b) (of_two op)
+
+abbrev pub index : Scope → Expr → Expr → Outcome Value
+index scope a b = then_both (value_in scope a) (value_in scope b) member_in
+
+abbrev pub both : Scope → Expr → Expr → Outcome Value
+both scope a b = chosen (value_in scope a) (value_in scope b) (Gives (variant.Bool false))
+
+abbrev pub either : Scope → Expr → Expr → Outcome Value
+either scope a b = chosen (value_in scope a) (Gives (variant.Bool true)) (value_in scope b)
+
+abbrev pub pick : Scope → Expr → Expr → Expr → Outcome Value
+pick scope c a b = chosen (value_in scope c) (value_in scope a) (value_in scope b)
+
+-- what a block emits with these values in scope, behind what was emitted so far
+abbrev pub run_in : Scope → List Stmt → Emissions → Outcome Emissions
+run_in scope block out = run block (values scope) out
+
+-- ---- where a block has named values so far
+
+abbrev pub state_in : Scope → List Value → Emissions → SlotState
+state_in outer names out = state (named names (values outer)) out
+
+abbrev pub run_one : Scope → Stmt → List Value → Emissions → Outcome SlotState
+run_one outer stmt names out = one_run stmt (state_in outer names out)
+
+abbrev pub value_behind : Scope → List Value → Expr → Outcome Value
+value_behind outer names e = value_of e (named names (values outer))
+
+-- the values in scope with that of an expression more
+abbrev pub name : Scope → List Value → Expr → Outcome (List Value)
+name outer names e = then (value_behind outer names e) (λ v. Gives (v ∷ named names (values outer)))
+
+-- ---- each form of statement, with these values in scope
+
+abbrev pub emit : Scope → ℕ → Expr → Emissions → Outcome Emissions
+emit scope n e out = then (value_in scope e) (λ v. emitted_to n v out)
+
+abbrev pub run_if : Scope → Expr → List Stmt → List Stmt → Emissions → Outcome Emissions
+run_if scope c a b out = chosen (value_in scope c) (run_in scope a out) (run_in scope b out)
+
+abbrev pub run_for : Scope → Expr → List Stmt → Emissions → Outcome Emissions
+run_for scope e body out = for_each (run body) (value_in scope e) (values scope) out
+
+abbrev pub run_case : Scope → Expr → List Stmt → List Stmt → Emissions → Outcome Emissions
+run_case scope e a b out = by_side (run a) (run b) (value_in scope e) (values scope) out
+
+-- the same for an either that is there
+abbrev pub run_side : Scope → Value → List Stmt → List Stmt → Emissions → Outcome Emissions
+run_side scope x a b out = side_of (run a) (run b) (left_of x) (right_of x) (values scope) out
