@@ -1,9 +1,1 @@
-pub mod OperandLemmas
-pub mod GrammarLemmas
-pub mod CachedLemmas
-pub mod StepLemmas
-pub mod RowLemmas
-pub mod PartLemmas
-pub mod RunLemmas
 pub mod AnswerLemmas
-pub mod MakeLemmas

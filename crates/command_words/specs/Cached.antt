@@ -1,11 +1,11 @@
 -- The words that ask for a run which reuses what earlier ones have kept: by the definitions of
 -- `clap`, of a command line that has `run` with a flag, and no file of a plan.
-use Rattle.std.specs.Prelude.{◌≡◌, ℕ, List, [], ◌∷◌, Option, Some, None, codes, if◌then◌else◌, option_and_then}
+use Rattle.std.specs.Prelude.{ℕ, List, Option, Some, None, codes, if◌then◌else◌, option_and_then}
 use Rattle.std.specs.Str.{bytes_eq}
 use Rattle.clap.specs.Words.{App, Row, Text, fault_of, first_of, subcommand_of, with_rule, with_subcommand}
 use Rattle.clap.specs.Walk.{is_empty}
 use Rattle.drill_text.specs.Drills.{◌>>=◌}
-use Rattle.run_settings.specs.Settings.{RunSettings, standard}
+use Rattle.run_settings.specs.Settings.{RunSettings}
 use Rattle.command_words.specs.Options.{settings_given}
 use Rattle.command_words.specs.Words.{flag_rule, is_operand, is_set, program_app, settings_app}
 
@@ -51,16 +51,3 @@ abbrev pub cached_for : List Text → Option CachedRun
 cached_for words =
     if is_empty (fault_of cached_app words) then cached_of (subcommand_of cached_app words)
     else None
-
--- ---- written out
-
--- the words behind the program's name ask for a cached run of a script
-abbrev pub AsksCached : List Text → RunSettings → Text → Type 0
-AsksCached words settings script =
-    (program : Text) → cached_for (program ∷ words)
-    ≡ Some (record { settings = settings; script = script })
-
--- `run` and a script, with the flag before the script or behind it
-pub record TakesCached (script : Text) : Type 0 where
-  pub before : AsksCached (codes "run" ∷ codes "--cached" ∷ script ∷ []) standard script
-  pub behind : AsksCached (codes "run" ∷ script ∷ codes "--cached" ∷ []) standard script

@@ -1,6 +1,6 @@
-use Rattle.command_words.proofs.GrammarLemmas.{checked, done_directly, plan_alone, plan_json_before, plan_json_behind, plan_rewrites_before, plan_rewrites_behind}
-use Rattle.command_words.proofs.RunLemmas.{run_alone, run_asked}
-use Rattle.command_words.proofs.laws.grammar_law.Goals as goal
+use Rattle.word_laws.proofs.GrammarLemmas.{checked, done_directly, plan_alone, plan_json_before, plan_json_behind, plan_rewrites_before, plan_rewrites_behind}
+use Rattle.word_laws.proofs.RunLemmas.{run_alone, run_asked}
+use Rattle.word_laws.proofs.laws.grammar_law.Goals as goal
 
 pub returns : goal.returns
 returns c = record {

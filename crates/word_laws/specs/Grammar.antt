@@ -3,7 +3,7 @@ use Rattle.std.specs.Prelude.{◌≡◌, List, [], ◌∷◌, Option, Some, None
 use Rattle.std.specs.List.{flat_map}
 use Rattle.clap.specs.Words.{Text}
 use Rattle.run_settings.specs.Settings.{RunSettings, standard}
-use Rattle.command_words.specs.Parts.{AskForRun, Part, words_of}
+use Rattle.word_laws.specs.Parts.{AskForRun, Part, words_of}
 use Rattle.command_words.specs.Words.{asked_for}
 use Rattle.command_words.specs.declared.words.Command.{Command}
 use Rattle.command_words.specs.declared.words.Command.TheVariants.{Check, Plan, Direct, Run}

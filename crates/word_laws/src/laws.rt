@@ -1,7 +1,7 @@
 //! What the words of the grammar ask for.
 ghost use Rattle.std.specs.Prelude.{◌≡◌, ◌≤◌, ◌∷◌, [], List, Some, codes, decimal, true, ℕ};
-ghost use Rattle.command_words.specs.Cached.{TakesCached};
-ghost use Rattle.command_words.specs.Grammar.{TakesGrammar};
+ghost use Rattle.word_laws.specs.CachedWords.{TakesCached};
+ghost use Rattle.word_laws.specs.Grammar.{TakesGrammar};
 ghost use Rattle.command_words.specs.Words.{is_operand, most_made, workload, workload_for};
 
 /// Words of the grammar are never refused, and ask for what they say: each command with a script,

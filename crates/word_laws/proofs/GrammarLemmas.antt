@@ -6,11 +6,11 @@ use Rattle.clap.specs.Simple.{Shape, built_leaf, inherited}
 use Rattle.clap.specs.Walk.{Held, Text, Walk, finished, is_empty, nothing_held, walked}
 use Rattle.clap.proofs.OnLiterals.{clap_on_literals}
 use Rattle.command_words.specs.Words.{Asked, asked_at, asking, is_operand, plan_app, program_app, script_app}
-use Rattle.command_words.specs.Grammar.{AsksFor}
+use Rattle.word_laws.specs.Grammar.{AsksFor}
 use Rattle.command_words.specs.declared.words.Command.{Command}
 use Rattle.command_words.specs.declared.words.Command.TheVariants.{Check, Plan, Direct}
 use Rattle.command_words.specs.declared.words.PlanForm.TheVariants.{Text as AsText, Json, Rewrites}
-use Rattle.command_words.proofs.OperandLemmas.{at_position, faults_from, operand_first, operand_taken, operand_walked}
+use Rattle.word_laws.proofs.OperandLemmas.{at_position, faults_from, operand_first, operand_taken, operand_walked}
 
 -- a command as it is built
 abbrev pub built_command : Shape → Shape

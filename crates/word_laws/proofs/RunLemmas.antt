@@ -17,15 +17,15 @@ use Rattle.drill_text.specs.Drills.{◌>>=◌}
 use Rattle.drill_text.proofs.DrillLemmas.{neither}
 use Rattle.command_words.specs.Options.{drill_given, number_given, settings_given}
 use Rattle.command_words.specs.Words.{Asked, asked_at, asked_for, asked_of, asking, flume_app, is_operand, plan_given, run_of, run_with}
-use Rattle.command_words.specs.Parts.{AskForRun, Fail, Name, Part, Partitions, PlanFile, Script, Shards, Tries, Workers, words_of}
-use Rattle.command_words.specs.Grammar.{AsksFor}
+use Rattle.word_laws.specs.Parts.{AskForRun, Fail, Name, Part, Partitions, PlanFile, Script, Shards, Tries, Workers, words_of}
+use Rattle.word_laws.specs.Grammar.{AsksFor}
 use Rattle.command_words.specs.declared.words.Command.{Command}
 use Rattle.command_words.specs.declared.words.Command.TheVariants.{Run}
-use Rattle.command_words.proofs.GrammarLemmas.{answer, asked, at_first}
-use Rattle.command_words.proofs.OperandLemmas.{at_position, faults_from, last_fault}
-use Rattle.command_words.proofs.PartLemmas.{AreOperands, Fresh, are_operands, fresh}
-use Rattle.command_words.proofs.RowLemmas.{Holds, checks_pass, defaults_pass, first_value, holds_more, holds_none, is_named, nothing_added, row}
-use Rattle.command_words.proofs.StepLemmas.{IsAtPlace, part_faults, part_fold, place_behind, rules, running, with_part}
+use Rattle.word_laws.proofs.GrammarLemmas.{answer, asked, at_first}
+use Rattle.word_laws.proofs.OperandLemmas.{at_position, faults_from, last_fault}
+use Rattle.word_laws.proofs.PartLemmas.{AreOperands, Fresh, are_operands, fresh}
+use Rattle.word_laws.proofs.RowLemmas.{Holds, checks_pass, defaults_pass, first_value, holds_more, holds_none, is_named, nothing_added, row}
+use Rattle.word_laws.proofs.StepLemmas.{IsAtPlace, part_faults, part_fold, place_behind, rules, running, with_part}
 
 -- ---- the walk over the words
 

@@ -1,5 +1,5 @@
-use Rattle.command_words.proofs.CachedLemmas.{cached_before, cached_behind}
-use Rattle.command_words.proofs.laws.cached_law.Goals as goal
+use Rattle.word_laws.proofs.CachedLemmas.{cached_before, cached_behind}
+use Rattle.word_laws.proofs.laws.cached_law.Goals as goal
 
 pub returns : goal.returns
 returns c = record {

@@ -7,9 +7,9 @@ use Rattle.clap.specs.Faults.{settle_fault, turn_fault, walk_fault}
 use Rattle.clap.specs.Walk.{Held, Rule, Step, Text, Walk, after_step, is_pending, option, plain_word, pushed, settled, settled_rows, walked, word_met}
 use Rattle.clap.proofs.OnLiterals.{clap_on_literals}
 use Rattle.command_words.specs.Words.{dash, is_operand, run_app, script_rule}
-use Rattle.command_words.specs.Parts.{Fail, Name, Partitions, PlanFile, Script, Shards, Tries, Workers, id_of, words_for}
-use Rattle.command_words.proofs.GrammarLemmas.{built_command}
-use Rattle.command_words.proofs.OperandLemmas.{at_position, faults_from, is_false, last_fault, operand_turn, operand_walked}
+use Rattle.word_laws.specs.Parts.{Fail, Name, Partitions, PlanFile, Script, Shards, Tries, Workers, id_of, words_for}
+use Rattle.word_laws.proofs.GrammarLemmas.{built_command}
+use Rattle.word_laws.proofs.OperandLemmas.{at_position, faults_from, is_false, last_fault, operand_turn, operand_walked}
 
 abbrev pub running : Shape
 running = built_command run_app.top

@@ -17,8 +17,8 @@ use Rattle.drill_text.proofs.DrillLemmas.{neither}
 use Rattle.drill_text.proofs.NumberLemmas.{spelled_up_to}
 use Rattle.command_words.specs.Options.{drill_given, number_given}
 use Rattle.command_words.specs.Words.{dash, is_operand, plan_given}
-use Rattle.command_words.specs.Parts.{AskForRun, Fail, Name, Part, Partitions, PlanFile, Script, Shards, Tries, Workers, id_of, value_of}
-use Rattle.command_words.proofs.RowLemmas.{is_named}
+use Rattle.word_laws.specs.Parts.{AskForRun, Fail, Name, Part, Partitions, PlanFile, Script, Shards, Tries, Workers, id_of, value_of}
+use Rattle.word_laws.proofs.RowLemmas.{is_named}
 use Rattle.crew.specs.declared.drill.Entry.{Entry}
 use Rattle.run_settings.specs.Settings.{RunSettings}
 

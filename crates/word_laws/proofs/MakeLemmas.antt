@@ -10,9 +10,9 @@ use Rattle.drill_text.proofs.NumberLemmas.{number_spelled}
 use Rattle.int_text.proofs.IntFacts.{le-to}
 use Rattle.command_words.specs.Words.{count_in, is_operand, make_app, most_made, workload, workload_at, workload_for}
 use Rattle.command_words.specs.declared.workload.Workload.{Workload}
-use Rattle.command_words.proofs.GrammarLemmas.{at_first, built_command}
-use Rattle.command_words.proofs.OperandLemmas.{at_position, faults_from, operand_first, operand_taken, operand_walked}
-use Rattle.command_words.proofs.PartLemmas.{operand_by}
+use Rattle.word_laws.proofs.GrammarLemmas.{at_first, built_command}
+use Rattle.word_laws.proofs.OperandLemmas.{at_position, faults_from, operand_first, operand_taken, operand_walked}
+use Rattle.word_laws.proofs.PartLemmas.{operand_by}
 
 abbrev makes : Shape
 makes = built_command make_app.top

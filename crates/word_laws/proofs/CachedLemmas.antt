@@ -6,10 +6,11 @@ use Rattle.clap.specs.Simple.{Shape}
 use Rattle.clap.specs.Walk.{Held, Text, Walk, finished, is_empty, nothing_held, walked}
 use Rattle.clap.proofs.OnLiterals.{clap_on_literals}
 use Rattle.run_settings.specs.Settings.{standard}
-use Rattle.command_words.specs.Cached.{AsksCached, CachedRun, cached_at, cached_run_app, reusing}
+use Rattle.word_laws.specs.CachedWords.{AsksCached}
+use Rattle.command_words.specs.Cached.{CachedRun, cached_at, cached_run_app, reusing}
 use Rattle.command_words.specs.Words.{is_operand}
-use Rattle.command_words.proofs.GrammarLemmas.{at_first, built_command}
-use Rattle.command_words.proofs.OperandLemmas.{faults_from, operand_first, operand_walked}
+use Rattle.word_laws.proofs.GrammarLemmas.{at_first, built_command}
+use Rattle.word_laws.proofs.OperandLemmas.{faults_from, operand_first, operand_walked}
 
 -- the command as it is built
 abbrev reused : Shape

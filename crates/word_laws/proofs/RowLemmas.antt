@@ -18,8 +18,8 @@ use Rattle.clap.specs.declared.parser.matches.ValueSource.{ValueSource}
 use Rattle.clap.specs.declared.parser.matches.ValueSource.TheVariants.{CommandLine}
 use Rattle.drill_text.proofs.DrillLemmas.{neither}
 use Rattle.drill_text.proofs.NumberLemmas.{both}
-use Rattle.command_words.specs.Parts.{Fail, Name, Part, Partitions, PlanFile, Script, Shards, Tries, Workers, id_of, value_of}
-use Rattle.command_words.proofs.StepLemmas.{rules, running, script, waiting_fault, with_part}
+use Rattle.word_laws.specs.Parts.{Fail, Name, Part, Partitions, PlanFile, Script, Shards, Tries, Workers, id_of, value_of}
+use Rattle.word_laws.proofs.StepLemmas.{rules, running, script, waiting_fault, with_part}
 
 -- ---- the rows of parts
 

@@ -1,0 +1,3 @@
+pub mod Parts
+pub mod Grammar
+pub mod CachedWords
