@@ -3,12 +3,11 @@ use crate::caches::cache_of;
 use crate::counts::{counts_of, outcome_of};
 use crate::worlds::World;
 use cache_store::MemCache;
+use case_reports::{Counts, Outcome, Report, push_name};
 use flume_run::flume_cached;
 use std::alloc::{AllocError, Global};
 use std::thread::Threads;
-use worked_cases::{
-    Case, Command, Counts, Entry, Fault, Misread, Outcome, Report, TextFile, When, push_name,
-};
+use worked_cases::{Case, Command, Entry, Fault, Misread, TextFile, When};
 
 /// What the calls of a case share: the files that the source has behind the first one, and a cache.
 #[derive(Drop)]

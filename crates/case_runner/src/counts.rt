@@ -1,9 +1,10 @@
 // What a call left of its world, as it is told.
 use crate::worlds::World;
+use case_reports::{Counts, Outcome, push_name, push_text};
 use outside::MemShelf;
 use std::alloc::{AllocError, Global};
 use std::str;
-use worked_cases::{Case, Counts, Outcome, push_name, push_text};
+use worked_cases::Case;
 
 /// What the screen and the shelf hold.
 pub fn outcome_of(alloc: Global, status: u8, world: &World) -> Result<Outcome, AllocError> {

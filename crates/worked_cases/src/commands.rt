@@ -7,6 +7,13 @@ use std::str;
 
 /// The command line of the words behind the program's name.
 pub fn command_of(alloc: Global, line: &[u8]) -> Result<Command, Unread> {
+    let words = words_of(alloc, line)?;
+    let line = Vec::from_slice(alloc, line)?;
+    Ok(Command { line, words })
+}
+
+// The program's name, and the words behind it.
+fn words_of(alloc: Global, line: &[u8]) -> Result<Vec<String>, Unread> {
     let mut words = Vec::new(alloc);
     words.push(String::from_str(alloc, "flume")?)?;
     for word in line.split(|b| *b == b' ') {
@@ -14,10 +21,7 @@ pub fn command_of(alloc: Global, line: &[u8]) -> Result<Command, Unread> {
             words.push(word_of(alloc, word)?)?;
         }
     }
-    Ok(Command {
-        line: Vec::from_slice(alloc, line)?,
-        words,
-    })
+    Ok(words)
 }
 
 // A word in which `%` and two hexadecimal digits are a byte; `%` alone is the word with no bytes.

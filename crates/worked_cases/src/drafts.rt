@@ -6,7 +6,7 @@ use crate::lines::{Line, Word, line_of};
 use crate::mistakes::{Mistake, Unread};
 use crate::numbers::{first_word, number_of, push_unescaped};
 use crate::pieces::{named, push_piece};
-use std::alloc::{AllocError, Global};
+use std::alloc::{AllocError, AllocFailed, Global};
 use std::str;
 
 /// A case so far, and where a text that comes next belongs.
@@ -48,16 +48,10 @@ impl Draft {
     /// The case, which has a name and a call.
     pub fn whole(self) -> Result<Case, Mistake> {
         let Draft { case, place: _ } = self;
-        if case.name.is_empty() {
-            return Err(Mistake::NoName);
+        match mistake_in(&case) {
+            Some(mistake) => Err(mistake),
+            None => Ok(case),
         }
-        if case.commands.is_empty() {
-            return Err(Mistake::NoCall);
-        }
-        if !fits(&case.before, case.room) || !entries_fit(&case.entries, CACHE_ROOM) {
-            return Err(Mistake::NoRoom);
-        }
-        Ok(case)
     }
 
     // A piece of the last file or entry.
@@ -112,28 +106,27 @@ impl Draft {
 
     // An empty file, to which the pieces behind are added.
     fn add_file(&mut self, alloc: Global, word: Word, rest: &[u8]) -> Result<(), Unread> {
-        let name = match word {
-            Word::Script if rest.is_empty() => name_of(alloc, b"s")?,
-            Word::Script => return Err(Unread::Wrong(Mistake::TooMuch)),
-            _ => name_of(alloc, rest)?,
-        };
+        let name = file_name(alloc, word, rest)?;
         let bytes = Vec::new(alloc);
-        let file = TextFile { name, bytes };
+        self.push_file(word, TextFile { name, bytes })?;
+        Ok(())
+    }
+
+    fn push_file(&mut self, word: Word, file: TextFile) -> Result<(), AllocFailed<TextFile>> {
         match word {
             Word::Before => {
-                self.case.before.push(file)?;
                 self.place = Place::Before;
+                self.case.before.push(file)
             }
             Word::Later => {
-                self.case.later.push(file)?;
                 self.place = Place::Later;
+                self.case.later.push(file)
             }
             _ => {
-                self.case.files.push(file)?;
                 self.place = Place::File;
+                self.case.files.push(file)
             }
         }
-        Ok(())
     }
 
     // An entry with an empty key and an empty value, or the value of the last one.
@@ -141,7 +134,7 @@ impl Draft {
         if !rest.is_empty() {
             return Err(Unread::Wrong(Mistake::TooMuch));
         }
-        if word == Word::Value {
+        if matches!(word, Word::Value) {
             self.place = Place::Value;
             return Ok(());
         }
@@ -175,6 +168,29 @@ impl Draft {
         let files = number_of(files)?;
         self.case.room = Room { files, bytes };
         Ok(())
+    }
+}
+
+// What a case lacks, or has too much of, where its lines are read.
+fn mistake_in(case: &Case) -> Option<Mistake> {
+    if case.name.is_empty() {
+        return Some(Mistake::NoName);
+    }
+    if case.commands.is_empty() {
+        return Some(Mistake::NoCall);
+    }
+    if !fits(&case.before, case.room) || !entries_fit(&case.entries, CACHE_ROOM) {
+        return Some(Mistake::NoRoom);
+    }
+    None
+}
+
+// The name of a file that a line begins with.
+fn file_name(alloc: Global, word: Word, rest: &[u8]) -> Result<Vec<u8>, Unread> {
+    match word {
+        Word::Script if rest.is_empty() => name_of(alloc, b"s"),
+        Word::Script => Err(Unread::Wrong(Mistake::TooMuch)),
+        _ => name_of(alloc, rest),
     }
 }
 

@@ -14,7 +14,7 @@ pub enum Line<'a> {
 }
 
 /// The words that a line of a case begins with.
-#[derive(Clone, Copy, Debug, PartialEq, Eq)]
+#[derive(Clone, Copy)]
 pub enum Word {
     Flume,
     Calls,

@@ -2,7 +2,7 @@
 use std::alloc::{AllocError, AllocFailed};
 
 /// What is wrong with a line.
-#[derive(Clone, Copy, Debug, PartialEq, Eq)]
+#[derive(Clone, Copy)]
 pub enum Mistake {
     /// It begins with no word of a case.
     Unknown,
@@ -75,7 +75,7 @@ pub struct Misread {
 }
 
 /// Why a line gave nothing.
-#[derive(Clone, Copy, Debug)]
+#[derive(Clone, Copy)]
 pub enum Unread {
     /// Memory ran out.
     Memory,

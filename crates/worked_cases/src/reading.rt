@@ -132,15 +132,26 @@ fn case_of(
         Ok(draft) => draft,
         Err(_) => return Err(stop(Unread::Memory)),
     };
-    for Numbered { number, line } in &block.lines {
-        if let Err(why) = draft.add(alloc, line, texts) {
-            return Err(Stop { line: *number, why });
-        }
-    }
+    read_lines(alloc, &mut draft, &block.lines, texts)?;
     match draft.whole() {
         Ok(case) => Ok(case),
         Err(mistake) => Err(stop(Unread::Wrong(mistake))),
     }
+}
+
+// Reads the lines of a case.
+fn read_lines(
+    alloc: Global,
+    draft: &mut Draft,
+    lines: &[Numbered<'_>],
+    texts: &[TextFile],
+) -> Result<(), Stop> {
+    for Numbered { number, line } in lines {
+        if let Err(why) = draft.add(alloc, line, texts) {
+            return Err(Stop { line: *number, why });
+        }
+    }
+    Ok(())
 }
 
 fn misread(alloc: Global, name: &[u8], stop: Stop) -> Result<Misread, AllocError> {
