@@ -1,4 +1,1 @@
 pub mod CountLemmas
-pub mod EntryLemmas
-pub mod NameLemmas
-pub mod TurnLemmas

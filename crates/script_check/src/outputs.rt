@@ -7,10 +7,10 @@ ghost use Rattle.operation_check.specs.of_written_types.Named.{find};
 ghost use Rattle.script_program.specs.Script.{with_output};
 ghost use Rattle.script_rules.specs.Rules as spec;
 
-use crate::fresh::{fresh, room};
 use flume_grammar::{ScriptFault, ScriptKind};
 use flume_types::{ColumnFault, Columns};
 use flume_value::Str;
+use let_check::{fresh, room};
 use operation_check::collection;
 use operation_check::written_types::refused;
 use script_program::{MOST_FILES, Output, State};

@@ -6,14 +6,12 @@ ghost use Rattle.operation_check.specs.of_written_types.Named.{find};
 ghost use Rattle.script_program.specs.Script.{with_type};
 ghost use Rattle.script_rules.specs.Rules as spec;
 
-use crate::fresh::{fresh, room};
 use crate::inputs::{rows_for, rows_of};
-use crate::lets::add_let;
 use crate::outputs::{output_of, read_for};
-use crate::repeats::rule_repeat;
 use crate::signatures::checked;
 use flume_grammar::{Form, Function as Written, Operation, ScriptFault, Statement, Type};
 use flume_value::{Pile, Str};
+use let_check::{add_let, fresh, room, rule_repeat};
 use operation_check::written_types::shallow;
 use script_program::{MOST_COLLECTIONS, State};
 use std::alloc::Global;

@@ -8,11 +8,11 @@ ghost use Rattle.script_program.specs.Program.{signature_in, HasTypes, Does};
 ghost use Rattle.script_program.specs.Script.{function_from, with_function};
 ghost use Rattle.script_rules.specs.Rules as spec;
 
-use crate::fresh::{fresh, room};
 use crate::scales::scale;
 use dofn_eval::Fun;
 use flume_grammar::{Function as Written, ScriptFault, ScriptKind, Type};
 use flume_value::Pile;
+use let_check::{fresh, room};
 use operation_check::written_types::refused;
 use script_program::{MOST_FUNCTIONS, MOST_OUTPUTS, Signature, State};
 use std::alloc::Global;
