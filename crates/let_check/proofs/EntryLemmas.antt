@@ -12,8 +12,8 @@ use Rattle.flume_grammar.specs.declared.fault.ScriptFault.TheVariants.{Refused, 
 use Rattle.type_table.specs.Table.{Extends}
 use Rattle.operation_check.specs.of_written_types.Answer.{Checked, Gives, ◌>>=◌}
 use Rattle.operation_check.proofs.of_written_types.NamedLemmas.{same-map}
-use Rattle.script_program.specs.declared.operand.Operand.{Operand as HeldOperand}
-use Rattle.script_program.specs.Held.{operand_in}
+use Rattle.script_state.specs.declared.operand.Operand.{Operand as HeldOperand}
+use Rattle.script_state.specs.Held.{operand_in}
 use Rattle.script_program.specs.Script.{Making, Operand, State, with_front, with_hidden}
 use Rattle.script_program.specs.Script.{with_node, with_nodes}
 use Rattle.script_rules.specs.Operations.{made_by}

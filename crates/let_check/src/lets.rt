@@ -15,7 +15,8 @@ use flume_grammar::{Operation, ScriptFault, ScriptKind};
 use flume_value::{Pile, Str};
 use operation_check::made_by;
 use operation_check::written_types::{refused, shallow};
-use script_program::{Making, State};
+use script_program::Making;
+use script_state::State;
 use std::alloc::{AllocError, Global};
 use type_table::Types;
 

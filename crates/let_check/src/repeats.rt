@@ -6,7 +6,7 @@ ghost use Rattle.type_table.specs.Table.{Extends};
 ghost use Rattle.operation_check.specs.of_written_types.Answer.{Gives, or_fault, unless};
 ghost use Rattle.operation_check.specs.of_expression_check.Numbers.{number_within as within};
 ghost use Rattle.script_program.specs.Program.{making_in};
-ghost use Rattle.script_program.specs.Held.{operand_in};
+ghost use Rattle.script_state.specs.Held.{operand_in};
 ghost use Rattle.script_program.specs.Script.{Making as Meant, with_front, with_hidden, with_nodes};
 ghost use Rattle.script_rules.specs.Rules as spec;
 ghost use Rattle.let_check.specs.inner.Held.{entry_in, repeat_in};
@@ -21,7 +21,8 @@ use flume_value::{Pile, Str};
 use operation_check::expression_check::number_within;
 use operation_check::written_types::refused;
 use operation_check::{collections, numbers};
-use script_program::{MOST_COLLECTIONS, Made, Making, Operand, State};
+use script_program::{MOST_COLLECTIONS, Made, Making};
+use script_state::{Operand, State};
 use std::alloc::{AllocError, Global};
 use type_table::Types;
 

@@ -11,7 +11,8 @@ ghost use Rattle.let_check.specs.inner.Held.{repeat_in};
 use crate::renumbering::{renumbered, stand_for_all};
 use flume_value::{Pile, Str};
 use itoa::Buffer;
-use script_program::{Node, State};
+use script_program::Node;
+use script_state::State;
 use std::alloc::{AllocError, Global};
 
 /// A repeat: how many collections stand outside it, how many turns it has, what enters the first,

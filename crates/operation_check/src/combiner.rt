@@ -7,8 +7,8 @@ ghost use Rattle.script_rules.specs.Operations as spec;
 use crate::top::top_number;
 use combine_table::Comb;
 use flume_grammar::{Combiner, ScriptFault, ScriptKind};
-use script_program::State;
 use script_program::written_types::refused;
+use script_state::State;
 use type_table::{Shape, TypeId};
 
 /// The combiner that is written.

@@ -6,13 +6,14 @@ ghost use Rattle.type_table.specs.Table.{type_at};
 ghost use Rattle.script_program.specs.of_written_types.Answer.{Gives};
 ghost use Rattle.script_rules.specs.Operations as spec;
 ghost use Rattle.script_program.specs.Program.{making_in};
-ghost use Rattle.script_program.specs.Held.{operand_in};
+ghost use Rattle.script_state.specs.Held.{operand_in};
 
 use crate::operation::collection;
 use flume_grammar::{ScriptFault, ScriptKind};
 use flume_value::{Pile, Str};
 use script_program::written_types::refused;
-use script_program::{Made, Making, Operand, State};
+use script_program::{Made, Making};
+use script_state::{Operand, State};
 use std::alloc::{AllocError, Global};
 use type_table::{TypeId, Types};
 

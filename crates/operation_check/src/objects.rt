@@ -9,7 +9,7 @@ ghost use Rattle.script_program.specs.of_expression_types.Held.{AreTypes};
 ghost use Rattle.script_rules.specs.Arguments as arguments;
 ghost use Rattle.script_rules.specs.Operations as spec;
 ghost use Rattle.script_program.specs.Program.{HasTypes, making_in};
-ghost use Rattle.script_program.specs.Held.{operand_in, callee_in};
+ghost use Rattle.script_state.specs.Held.{operand_in, callee_in};
 
 use crate::combiner::{comb_of, combined};
 use crate::flatten::{collections, numbers};
@@ -18,7 +18,8 @@ use combine_table::Comb;
 use flume_grammar::{Combiner, ScriptFault, ScriptKind};
 use flume_value::Str;
 use script_program::written_types::refused;
-use script_program::{Callee, Made, Making, Operand, State};
+use script_program::{Made, Making};
+use script_state::{Callee, Operand, State};
 use std::alloc::Global;
 use type_table::{Part, Shape, TypeId, Types};
 

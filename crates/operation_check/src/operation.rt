@@ -7,7 +7,7 @@ ghost use Rattle.script_program.specs.of_written_types.Answer.{Checked, Gives, u
 ghost use Rattle.script_program.specs.of_expression_types.Held.{AreTypes};
 ghost use Rattle.script_rules.specs.Operations as spec;
 ghost use Rattle.script_program.specs.Program.{HasTypes, making_in};
-ghost use Rattle.script_program.specs.Held.{operand_in, callee_in};
+ghost use Rattle.script_state.specs.Held.{operand_in, callee_in};
 ghost use Rattle.script_program.specs.Script.{Making as Meant};
 
 use crate::combiner::{comb_of, combined};
@@ -20,7 +20,8 @@ use combine_table::Comb;
 use flume_grammar::{Combiner, Operation, ScriptFault, ScriptKind};
 use flume_value::{Pile, Str};
 use script_program::written_types::refused;
-use script_program::{Callee, Made, Making, Operand, State};
+use script_program::{Made, Making};
+use script_state::{Callee, Operand, State};
 use std::alloc::{AllocError, Global};
 use type_table::{Shape, TypeId};
 

@@ -4,7 +4,7 @@ ghost use Rattle.type_table.specs.Table.{type_at, Extends};
 ghost use Rattle.script_rules.specs.Operations.{sides_of};
 
 use flume_value::{Pile, Str};
-use script_program::State;
+use script_state::State;
 use std::alloc::{AllocError, Global};
 use type_table::{Part, Parts, Shape, TypeId};
 

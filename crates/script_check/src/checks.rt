@@ -7,7 +7,8 @@ use crate::rules::rule;
 use flume_grammar::{Ast, ScriptFault, ScriptKind, Statement};
 use flume_value::Pile;
 use operation_check::written_types::refused;
-use script_program::{Program, State};
+use script_program::Program;
+use script_state::State;
 use std::alloc::Global;
 
 /// The program that a script is, or its first fault: statements in order, and the rules of each in

@@ -12,7 +12,8 @@ use flume_types::{ColumnFault, Columns};
 use flume_value::Str;
 use let_check::{fresh, room};
 use operation_check::written_types::refused;
-use script_program::{MOST_COLLECTIONS, Made, Making, State};
+use script_program::{MOST_COLLECTIONS, Made, Making};
+use script_state::State;
 use std::alloc::Global;
 use type_table::{TypeId, input_columns};
 

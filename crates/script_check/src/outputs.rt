@@ -13,7 +13,8 @@ use flume_value::Str;
 use let_check::{fresh, room};
 use operation_check::collection;
 use operation_check::written_types::refused;
-use script_program::{MOST_FILES, Output, State};
+use script_program::{MOST_FILES, Output};
+use script_state::State;
 use std::alloc::Global;
 use type_table::{TypeId, columns};
 

@@ -13,7 +13,8 @@ use flume_grammar::{Form, Function as Written, Operation, ScriptFault, Statement
 use flume_value::{Pile, Str};
 use let_check::{add_let, fresh, room, rule_repeat};
 use operation_check::written_types::shallow;
-use script_program::{MOST_COLLECTIONS, State};
+use script_program::MOST_COLLECTIONS;
+use script_state::State;
 use std::alloc::Global;
 use type_table::TypeId;
 

@@ -14,7 +14,8 @@ use flume_grammar::{Function as Written, ScriptFault, ScriptKind, Type};
 use flume_value::Pile;
 use let_check::{fresh, room};
 use operation_check::written_types::refused;
-use script_program::{MOST_FUNCTIONS, MOST_OUTPUTS, Signature, State};
+use script_program::{MOST_FUNCTIONS, MOST_OUTPUTS, Signature};
+use script_state::State;
 use std::alloc::Global;
 use type_table::TypeId;
 

@@ -6,7 +6,6 @@ pub mod Needed
 pub mod Rested
 pub mod Saved
 pub mod Sources
-pub mod Held
 pub mod inner
 pub use Rattle.body_check.specs as of_body_check
 pub use Rattle.body_check.specs.of_expression_check

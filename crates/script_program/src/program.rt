@@ -58,7 +58,8 @@ impl Model for Program {
 }
 
 impl Program {
-    pub(crate) fn new(
+    /// The program of these, of which it is told which collections are needed.
+    pub fn new(
         known: TypeNames,
         functions: IndexMap<Str, Function>,
         nodes: Pile<(Str, Node)>,

@@ -1,7 +1,7 @@
 -- A repeat in memory, with types under numbers.
 use Rattle.std.specs.Prelude.{List, map}
 use Rattle.flume_types.specs.declared.types.Ty.{Ty}
-use Rattle.script_program.specs.Held.{operand_in}
+use Rattle.script_state.specs.Held.{operand_in}
 use Rattle.script_program.specs.inner.Tables.{node_of}
 use Rattle.let_check.specs.declared.repeats.Entry.{Entry as HeldEntry}
 use Rattle.let_check.specs.declared.turns.Repeat.{Repeat as HeldRepeat}

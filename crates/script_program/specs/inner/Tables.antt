@@ -7,11 +7,9 @@ use Rattle.body_check.specs.of_written_types.Known.{Known}
 use Rattle.script_program.specs.declared.made.Function.{Function as HeldFunction}
 use Rattle.script_program.specs.declared.made.Node.{Node as HeldNode}
 use Rattle.script_program.specs.declared.made.Output.{Output}
-use Rattle.script_program.specs.declared.made.Standing.{Standing}
 use Rattle.script_program.specs.Script.{Function, Node}
 use Rattle.script_program.specs.Needed.{has}
 use Rattle.script_program.specs.Saved.{saved_as}
-use Rattle.script_program.specs.Held.{Checking}
 use Rattle.script_program.specs.Program.{Numbered, HasTypes, function_in, node_in, Does}
 
 abbrev pub function_of : Known → List ℕ × HeldFunction → List ℕ × Function
@@ -19,20 +17,6 @@ function_of known entry = (entry.0, function_in known entry.1)
 
 abbrev pub node_of : List Ty → List ℕ × HeldNode → List ℕ × Node
 node_of types entry = (entry.0, node_in types entry.1)
-
-abbrev pub checking_of : Known → Named HeldFunction → Named HeldNode → Named Standing → Named Output
-    → ℕ → Checking
-checking_of known functions nodes names outputs statements = record {
-  types = known.types;
-  state = record {
-    types = known.names;
-    functions = map (function_of known) functions;
-    nodes = map (node_of known.types) nodes;
-    names = names;
-    outputs = outputs;
-    statements = statements;
-  };
-}
 
 abbrev pub numbered_of : Known → Named HeldFunction → Named HeldNode → Named Output → Numbered
 numbered_of known functions nodes outputs = record {

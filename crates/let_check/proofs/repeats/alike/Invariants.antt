@@ -1,5 +1,5 @@
 use Rattle.std.proofs.Common.{◌≡◌, drop, map}
-use Rattle.script_program.specs.Held.{operand_in}
+use Rattle.script_state.specs.Held.{operand_in}
 use Rattle.script_rules.specs.Rules.{alike}
 use Rattle.let_check.proofs.repeats.alike.Given as goal
 

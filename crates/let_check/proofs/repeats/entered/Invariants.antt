@@ -1,7 +1,7 @@
 use Rattle.std.proofs.Common.{◌≡◌, ◌<◌, List, length, map, take}
 use Rattle.std.specs.List.{All}
 use Rattle.flume_types.specs.declared.types.Ty.{Ty}
-use Rattle.script_program.specs.Held.{operand_in}
+use Rattle.script_state.specs.Held.{operand_in}
 use Rattle.script_program.specs.Program.{making_in}
 use Rattle.script_rules.specs.Rules.{entered}
 use Rattle.let_check.proofs.repeats.entered.Given as goal

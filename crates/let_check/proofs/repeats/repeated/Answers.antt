@@ -1,5 +1,5 @@
 use Rattle.std.proofs.Common.{arith, map}
-use Rattle.script_program.specs.Held.{operand_in}
+use Rattle.script_state.specs.Held.{operand_in}
 use Rattle.script_rules.specs.Rules.{entered}
 use Rattle.let_check.proofs.EntryLemmas.{entered-more}
 use Rattle.let_check.proofs.repeats.repeated.Goals as goal

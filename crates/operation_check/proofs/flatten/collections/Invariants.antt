@@ -1,7 +1,7 @@
 use Rattle.std.proofs.Common.{◌≡◌, ◌<◌, [], length, map, drop}
 use Rattle.std.specs.List.{All}
 use Rattle.script_rules.specs.Operations.{collections_behind}
-use Rattle.script_program.specs.Held.{operand_in}
+use Rattle.script_state.specs.Held.{operand_in}
 use Rattle.operation_check.proofs.flatten.collections.Given as goal
 
 abbrev pub invariant-loop-name : goal.invariant-loop-name

@@ -1,7 +1,7 @@
 use Rattle.std.proofs.Common.{◌≡◌, List, map, take}
 use Rattle.flume_types.specs.declared.types.Ty.{Ty}
 use Rattle.script_rules.specs.Operations.{numbers}
-use Rattle.script_program.specs.Held.{operand_in}
+use Rattle.script_state.specs.Held.{operand_in}
 use Rattle.operation_check.proofs.flatten.numbers.Given as goal
 
 abbrev pub invariant-loop-source : goal.invariant-loop-source

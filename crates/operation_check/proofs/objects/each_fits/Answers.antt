@@ -1,6 +1,6 @@
 use Rattle.std.proofs.Common.{map, sym, ◌∙◌}
 use Rattle.std.proofs.lemmas.List.{length-map}
-use Rattle.script_program.specs.Held.{operand_in}
+use Rattle.script_state.specs.Held.{operand_in}
 use Rattle.type_table.specs.Table.{field_at}
 use Rattle.operation_check.proofs.ArgumentLemmas.{not-fitting}
 use Rattle.operation_check.proofs.objects.each_fits.Goals as goal

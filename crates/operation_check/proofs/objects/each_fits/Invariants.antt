@@ -1,6 +1,6 @@
 use Rattle.std.proofs.Common.{◌≡◌, map, drop}
 use Rattle.script_rules.specs.Arguments.{each_fits}
-use Rattle.script_program.specs.Held.{operand_in}
+use Rattle.script_state.specs.Held.{operand_in}
 use Rattle.type_table.specs.Table.{field_at}
 use Rattle.operation_check.proofs.objects.each_fits.Given as goal
 

@@ -1,0 +1,73 @@
+use Rattle.std.proofs.Common.{◌≡◌, ◌++◌, ◌∷◌, [], ℕ, ◌<◌, false, is_some, length, map, sym, ◌∙◌, subst}
+use Rattle.std.specs.Str.{bytes_eq}
+use Rattle.std.proofs.lemmas.List.{length-map}
+use Rattle.indexmap.proofs.CallerLemmas.{insert_entry-new}
+use Rattle.body_check.specs.of_written_types.Named.{find}
+use Rattle.script_program.specs.declared.made.Making.{Making as HeldMaking}
+use Rattle.script_program.specs.declared.made.Node.{Node as HeldNode}
+use Rattle.script_program.specs.declared.made.Standing.TheVariants.{Collection}
+use Rattle.script_program.specs.Script.{State, with_node}
+use Rattle.script_program.specs.Program.{making_in}
+use Rattle.script_program.specs.inner.Tables.{function_of, node_of}
+use Rattle.script_state.proofs.StateLemmas.{none-is, held-push, nodes-push}
+use Rattle.script_state.proofs.state.State.add_node.Goals as goal
+
+abbrev held : HeldMaking → ℕ → HeldNode
+held making statement = record { made = making.made; ty = making.ty; statement = statement }
+
+pub invariant_of-self-in_err-insert : goal.invariant_of-self-in_err-insert
+invariant_of-self-in_err-insert c =
+    let own = c.self.inside in
+    held-push own.nodes c.push.new.self (c.args.name, held c.args.making own.statements)
+    c.in_ok-push.ensures.ok own.known own.functions.entries c.self.invariant
+    (subst (λ checking. c.args.making.ty < length checking.types) (sym c.self.view_is)
+    c.requires.within)
+
+pub invariant_of-self-2 : goal.invariant_of-self-2
+invariant_of-self-2 c =
+    let own = c.self.inside in
+    held-push own.nodes c.push.new.self (c.args.name, held c.args.making own.statements)
+    c.in_ok-push.ensures.ok own.known own.functions.entries c.self.invariant
+    (subst (λ checking. c.args.making.ty < length checking.types) (sym c.self.view_is)
+    c.requires.within)
+
+pub returns-clause-state : goal.returns-clause-state
+returns-clause-state c =
+    let own = c.self.inside in
+    let types = own.known.types in
+    let new =
+    subst (λ checking. is_some (find c.args.name checking.state.names) ≡ false)
+    (sym c.self.view_is) c.requires.new in
+    let key = c.in_ok-key.ensures.made in
+    let absent =
+    subst (λ name. is_some (find name own.names.entries) ≡ false) (sym key) new in
+    let put =
+    c.in_ok-insert.ensures.entries
+    ∙ insert_entry-new bytes_eq own.names c.in_ok-key.key (Collection c.len-number.result)
+    (none-is _ absent) in
+    let nodes =
+    nodes-push own.nodes c.push.new.self (c.args.name, held c.args.making own.statements)
+    c.in_ok-push.ensures.ok types in
+    let many : c.len-number.result ≡ length (map (node_of types) own.nodes) =
+    c.len-number.ensures ∙ sym (length-map own.nodes (node_of types)) in
+    let names = put ∙ (λ j. own.names.entries ++ (key j, Collection (many j)) ∷ []) in
+    let here : State = record {
+      types = own.known.names;
+      functions = map (function_of own.known) own.functions.entries;
+      nodes = map (node_of types) c.push.new.self;
+      names = c.insert.new.self.entries;
+      outputs = own.outputs.entries;
+      statements = own.statements;
+    } in
+    subst
+    (λ checking. here
+    ≡ with_node c.args.name (making_in checking.types c.args.making) checking.state)
+    c.self.view_is
+    (λ i. record {
+      types = own.known.names;
+      functions = map (function_of own.known) own.functions.entries;
+      nodes = nodes i;
+      names = names i;
+      outputs = own.outputs.entries;
+      statements = own.statements;
+    })
