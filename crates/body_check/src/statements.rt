@@ -31,7 +31,7 @@ struct Branches<'a> {
 }
 
 /// The slots of two blocks.
-#[derive(Debug, Drop)]
+#[derive(Drop)]
 struct BothBlocks {
     first: Block,
     second: Block,

@@ -10,7 +10,7 @@ use outside::Failed;
 use std::alloc::{AllocError, Global};
 
 /// Why a cache did not say whether it has an entry.
-#[derive(Clone, Copy, Debug, PartialEq, Eq)]
+#[derive(Clone, Copy)]
 pub enum FindFault {
     /// The cache failed, and counted the failure.
     Failed,

@@ -11,7 +11,7 @@ use std::alloc::Global;
 use std::marker::Model;
 
 /// No entries. It finds nothing, and each `keep` fails.
-#[derive(Debug, Drop)]
+#[derive(Drop)]
 pub struct NoCache {
     faults: u64,
 }

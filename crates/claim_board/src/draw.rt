@@ -5,7 +5,7 @@ use std::marker::Model;
 
 /// The draw `number` of a board, which is the attempt `attempt` of the task `task`. A commit spends
 /// it.
-#[derive(Debug, Drop)]
+#[derive(Drop)]
 pub struct Draw {
     pub(crate) number: u64,
     pub(crate) task: u32,
@@ -44,11 +44,11 @@ impl Draw {
 }
 
 /// The draw won its task.
-#[derive(Debug, Drop, PartialEq, Eq)]
+#[derive(Drop, PartialEq, Eq)]
 pub struct Won;
 
 /// Another attempt had won the task. Contracts see the number of that attempt.
-#[derive(Debug, Drop)]
+#[derive(Drop)]
 pub struct Lost {
     pub(crate) attempt: u32,
 }

@@ -4,7 +4,7 @@ ghost use Rattle.std.specs.Prelude.{◌≡◌, ◌<◌, length, slice_index};
 use std::marker::Model;
 
 /// The count of all draws, and each task's winning attempt.
-#[derive(Debug, Drop)]
+#[derive(Drop)]
 pub struct Tally {
     pub(crate) draws: u64,
     pub(crate) winners: Vec<u32>,

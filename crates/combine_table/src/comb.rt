@@ -3,7 +3,7 @@
 /// How the values of a group are combined.
 ///
 /// The values are a bag: their order does not count, and each counts as often as it occurs.
-#[derive(Clone, Copy, PartialEq, Eq, Debug)]
+#[derive(Clone, Copy, PartialEq, Eq)]
 pub enum Comb {
     /// The sum of ints, wrapped to 128 bits with a sign; it traps with Overflow where that is
     /// not int.

@@ -14,7 +14,7 @@ use run_settings::Settings;
 use std::alloc::{AllocError, Global};
 
 /// A run that reuses what earlier ones have kept: how it is carried out, and the name of a script.
-#[derive(Debug, Drop)]
+#[derive(Drop)]
 pub struct CachedRun<'a> {
     pub settings: Settings,
     pub script: &'a str,

@@ -15,7 +15,7 @@ use run_settings::Settings;
 use std::alloc::{AllocError, Global};
 
 /// How a plan is shown.
-#[derive(Clone, Copy, PartialEq, Eq, Debug)]
+#[derive(Clone, Copy)]
 pub enum PlanForm {
     /// As text, with the execution graph before it.
     Text,
@@ -26,7 +26,7 @@ pub enum PlanForm {
 }
 
 /// What a call is to do with a script.
-#[derive(Debug, Drop)]
+#[derive(Drop)]
 pub enum Command {
     /// See whether it is accepted.
     Check,
@@ -40,7 +40,7 @@ pub enum Command {
 }
 
 /// What the words of a command line ask for: a command, and the name of a script.
-#[derive(Debug, Drop)]
+#[derive(Drop)]
 pub struct Asked<'a> {
     pub command: Command,
     pub script: &'a str,

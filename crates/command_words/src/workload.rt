@@ -16,7 +16,7 @@ use std::alloc::{AllocError, Global};
 pub const MOST_MADE: u32 = 1_000_000;
 
 /// A made input and its sums: the number before the first row's, and how many rows there are.
-#[derive(Clone, Copy, PartialEq, Eq, Debug)]
+#[derive(Clone, Copy, PartialEq, Eq)]
 pub struct Workload {
     pub start: u32,
     pub rows: u32,

@@ -7,7 +7,7 @@ ghost use Rattle.crew.specs.Drills.{attempt_at};
 use outside::{At, Down, Host, Phase};
 
 /// What came of an attempt.
-#[derive(Debug, Drop)]
+#[derive(Drop)]
 pub enum Attempt<O> {
     /// It came to its end, with this out.
     Made(O),
@@ -16,7 +16,7 @@ pub enum Attempt<O> {
 }
 
 /// Which attempt it is, and in which phase of which stage.
-#[derive(Clone, Copy, Debug)]
+#[derive(Clone, Copy)]
 pub struct Spot {
     stage: u32,
     phase: Phase,

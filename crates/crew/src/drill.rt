@@ -7,7 +7,7 @@ use outside::Phase;
 use std::marker::Model;
 
 /// An attempt of a task of a phase of a stage.
-#[derive(Clone, Copy, Debug)]
+#[derive(Clone, Copy)]
 pub struct Entry {
     stage: u32,
     phase: Phase,
@@ -61,7 +61,7 @@ impl Entry {
 
 /// A list of attempts that are lost on purpose: after their last element, before their commit.
 /// One that names no attempt of the run has no effect. Contracts see the list.
-#[derive(Debug, Drop)]
+#[derive(Drop)]
 pub struct Drill {
     entries: Pile<Entry>,
 }

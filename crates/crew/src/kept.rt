@@ -8,7 +8,7 @@ use std::alloc::{AllocError, Global};
 use std::marker::Model;
 
 /// An out that won its task: the task, the attempt that made it, and the out itself.
-#[derive(Debug, Drop)]
+#[derive(Drop)]
 pub struct KeptOut<O> {
     task: u32,
     attempt: u32,
@@ -57,7 +57,7 @@ impl<O> KeptOut<O> {
 }
 
 /// What workers have kept. Contracts see the list.
-#[derive(Debug, Drop)]
+#[derive(Drop)]
 pub struct Kept<O> {
     outs: Vec<KeptOut<O>>,
 }
@@ -146,7 +146,7 @@ fn by_task<O: Drop>(mut outs: Vec<KeptOut<O>>) -> Vec<KeptOut<O>>
 }
 
 /// The out of each task of a phase, in order. Contracts see the list.
-#[derive(Debug, Drop)]
+#[derive(Drop)]
 pub struct Outs<O> {
     outs: Vec<KeptOut<O>>,
 }

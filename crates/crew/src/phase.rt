@@ -14,7 +14,7 @@ use std::alloc::{AllocError, Global};
 use std::thread::Threads;
 
 /// Why a phase has no out of some task.
-#[derive(Debug, Drop)]
+#[derive(Drop)]
 pub enum PhaseFault<O> {
     /// The least task of which no attempt has won: each try was in the drill, or its host was
     /// down. The smaller tasks have an out each, in order.

@@ -9,7 +9,7 @@ use std::marker::Model;
 
 /// Which phase of which stage is run, how often each task is tried, and which attempts are lost on
 /// purpose. Contracts see all of it.
-#[derive(Debug, Drop)]
+#[derive(Drop)]
 pub struct PhaseSettings<'a> {
     stage: u32,
     phase: Phase,

@@ -37,7 +37,7 @@ fn down_at(alloc: Global, attempts: &[(u32, u32)]) -> Result<MemHost, AllocError
 }
 
 // What a phase came to: how many outs there are, and the task that it gave up on.
-#[derive(Debug, Drop)]
+#[derive(Drop)]
 struct End {
     outs: Vec<(u32, u32, u64)>,
     gave_up: Option<u32>,

@@ -7,7 +7,7 @@ ghost use Rattle.direct_meaning.specs.declared.kept.Kept.{Kept as Kept_};
 use flume_value::Items;
 
 /// A collection: its members, ascending, and whether a trap is behind them.
-#[derive(Debug, Drop)]
+#[derive(Drop)]
 pub(crate) struct Kept {
     pub members: Items,
     pub trapped: bool,

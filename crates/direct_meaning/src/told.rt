@@ -10,7 +10,7 @@ use script_program::Program;
 use std::alloc::{AllocError, Global};
 
 /// What a program comes to over some inputs.
-#[derive(Debug, Drop)]
+#[derive(Drop)]
 pub struct Direct {
     /// For each node in order the members of its collection, ascending, where it is needed.
     pub bags: Vec<Option<Items>>,

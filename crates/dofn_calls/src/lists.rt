@@ -14,7 +14,7 @@ use std::mem::replace;
 
 /// What a call emits: a list for each output of the function, of which there is at least one.
 /// Contracts see it as these lists.
-#[derive(Debug, Drop)]
+#[derive(Drop)]
 pub struct Lists {
     first: Items,
     others: Vec<Items>,

@@ -8,7 +8,7 @@ use std::marker::Model;
 /// A well-typed function of 1 to 8 outputs. It holds no type, but keeps that there are types at
 /// which it is well typed: those of its argument, the one value in scope of its body, and of its
 /// outputs. Contracts see it as the number of its outputs and the body.
-#[derive(Debug, Drop)]
+#[derive(Drop)]
 pub struct Fun {
     outputs: usize,
     body: Block,

@@ -4,7 +4,7 @@ use combine_table::Comb;
 use flume_value::Pile;
 
 /// A collection: an output of a node.
-#[derive(Clone, Copy, Debug, PartialEq, Eq, Drop)]
+#[derive(Clone, Copy, PartialEq, Eq, Drop)]
 pub struct Place {
     pub node: u32,
     pub out: u32,
@@ -12,7 +12,7 @@ pub struct Place {
 
 /// What a source gives: the rows of that number. They are one row where the source is an object,
 /// and that row is its value.
-#[derive(Clone, Copy, Debug, PartialEq, Eq, Drop)]
+#[derive(Clone, Copy, PartialEq, Eq, Drop)]
 pub struct Input {
     pub number: u32,
     pub is_object: bool,
@@ -20,7 +20,7 @@ pub struct Input {
 
 /// What a barrier does with the collections that it reads. Some of them are objects: collections of
 /// one value, or of none where a trap is behind it.
-#[derive(Clone, Copy, Debug, PartialEq, Eq, Drop)]
+#[derive(Clone, Copy, PartialEq, Eq, Drop)]
 pub enum Act {
     /// A side input: calls the function of that number on each element of the first collection,
     /// beside the value of the object that is the second. Gives what the calls emit.

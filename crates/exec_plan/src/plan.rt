@@ -4,7 +4,7 @@ use combine_table::flume_value::Pile;
 use exec_graph::{Act, Roots};
 
 /// A collection of a plan.
-#[derive(Clone, Copy, Debug, PartialEq, Eq, Drop)]
+#[derive(Clone, Copy, PartialEq, Eq, Drop)]
 pub enum PlanPlace {
     /// The rows of the input of that number.
     Source(u32),
@@ -13,7 +13,7 @@ pub enum PlanPlace {
 }
 
 /// An output of an input channel of the stage.
-#[derive(Clone, Copy, Debug, PartialEq, Eq, Drop)]
+#[derive(Clone, Copy, PartialEq, Eq, Drop)]
 pub struct Take {
     pub channel: u32,
     pub out: u32,

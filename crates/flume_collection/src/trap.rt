@@ -7,7 +7,7 @@ use std::alloc::AllocError;
 
 /// A call that traps: the script node that it is of, the element that it names, and why. The order
 /// of the fields is the order of traps.
-#[derive(PartialEq, Eq, PartialOrd, Ord, Debug, Drop)]
+#[derive(PartialEq, Eq, PartialOrd, Ord, Drop)]
 pub struct Trap {
     pub origin: u32,
     pub element: Value,

@@ -44,7 +44,7 @@ impl From<AllocError> for ScriptFault {
 }
 
 /// Where the parser stops: at the token on this line, or at the end of the tokens.
-#[derive(Debug, Drop)]
+#[derive(Drop)]
 pub enum Stop {
     Fault { line: Option<u32>, kind: ScriptKind },
     Memory,

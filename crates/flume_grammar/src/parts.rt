@@ -8,7 +8,7 @@ use flume_tokens::flume_value::{Pile, Str};
 use std::alloc::{AllocError, Global};
 
 /// The fields of a record so far, with the depth of the deepest.
-#[derive(Debug, Drop)]
+#[derive(Drop)]
 pub struct Parts<T> {
     pub names: Pile<Str>,
     pub parts: Pile<T>,
@@ -54,7 +54,7 @@ impl<T: Drop> Parts<T> {
 }
 
 /// An expression so far, with its rank and its depth.
-#[derive(Debug, Drop)]
+#[derive(Drop)]
 pub struct SoFar {
     pub rank: u32,
     pub expr: Expr,
@@ -62,7 +62,7 @@ pub struct SoFar {
 }
 
 /// What goes on with an expression.
-#[derive(Clone, Copy, Debug)]
+#[derive(Clone, Copy)]
 pub enum Suffix {
     Field,
     Index,

@@ -3,7 +3,7 @@
 use crate::tree::{Combiner, Expr, Side, Type, Unary};
 
 /// How a statement begins.
-#[derive(Clone, Copy, Debug)]
+#[derive(Clone, Copy)]
 pub enum StatementStart {
     Type,
     Input,
@@ -13,7 +13,7 @@ pub enum StatementStart {
 }
 
 /// How an operation begins.
-#[derive(Clone, Copy, Debug)]
+#[derive(Clone, Copy)]
 pub enum OperationStart {
     /// with an object or without one
     Do,
@@ -28,7 +28,7 @@ pub enum OperationStart {
 }
 
 /// How what stands behind the `=` of a let begins.
-#[derive(Clone, Copy, Debug)]
+#[derive(Clone, Copy)]
 pub enum LetStart {
     /// an operation
     Plain(OperationStart),
@@ -37,14 +37,14 @@ pub enum LetStart {
 }
 
 /// How a combiner begins: `top` has a number yet to come.
-#[derive(Debug, Drop)]
+#[derive(Drop)]
 pub enum CombinerStart {
     Whole(Combiner),
     Top,
 }
 
 /// How a type begins.
-#[derive(Debug, Drop)]
+#[derive(Drop)]
 pub enum TypeStart {
     /// a whole type
     Leaf(Type),
@@ -55,7 +55,7 @@ pub enum TypeStart {
 }
 
 /// How a statement of a body begins.
-#[derive(Clone, Copy, Debug)]
+#[derive(Clone, Copy)]
 pub enum BodyStart {
     Let,
     Emit,
@@ -65,7 +65,7 @@ pub enum BodyStart {
 }
 
 /// How an operand begins.
-#[derive(Debug, Drop)]
+#[derive(Drop)]
 pub enum Start {
     /// a whole expression
     Leaf(Expr),

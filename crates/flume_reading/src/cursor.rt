@@ -9,7 +9,7 @@ use flume_value::Pile;
 use std::marker::Model;
 
 /// The tokens that are left, which contracts see as their list. They lie last one first.
-#[derive(Debug, Drop)]
+#[derive(Drop)]
 pub struct Cursor {
     tokens: Vec<Token>,
 }

@@ -4,7 +4,7 @@ ghost use Rattle.flume_tokens.specs.declared.keyword.Keyword.{Keyword};
 ghost use Rattle.flume_tokens.specs.Keywords as spec;
 
 /// A reserved word. It is no name, but it may be a field's name.
-#[derive(Clone, Copy, PartialEq, Eq, Debug)]
+#[derive(Clone, Copy, PartialEq, Eq)]
 pub enum Keyword {
     Type,
     Input,

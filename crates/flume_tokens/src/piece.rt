@@ -16,7 +16,7 @@ use std::alloc::{AllocError, Global};
 const MAX_WORD: usize = 32;
 
 /// What a script begins with.
-#[derive(Debug, Drop)]
+#[derive(Drop)]
 pub enum Piece {
     /// one LF
     LineEnd,
@@ -28,7 +28,7 @@ pub enum Piece {
 }
 
 /// Bytes that a run of bytes is made of.
-#[derive(Clone, Copy, Debug)]
+#[derive(Clone, Copy)]
 enum Class {
     /// a letter, a digit or `_`
     Word,

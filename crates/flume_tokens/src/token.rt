@@ -6,7 +6,7 @@ use crate::sign::Sign;
 use flume_value::{Pile, Str};
 
 /// What a token is.
-#[derive(PartialEq, Eq, Debug, Drop)]
+#[derive(PartialEq, Eq, Drop)]
 pub enum TokenKind {
     /// a word that is not reserved
     Name(Str),
@@ -33,14 +33,14 @@ impl TokenKind {
 }
 
 /// A token, and the line on which it begins: 1 plus the number of line ends before it.
-#[derive(PartialEq, Eq, Debug, Drop)]
+#[derive(PartialEq, Eq, Drop)]
 pub struct Token {
     pub kind: TokenKind,
     pub line: u32,
 }
 
 /// The tokens of a script, and the number of its last line.
-#[derive(PartialEq, Eq, Debug, Drop)]
+#[derive(PartialEq, Eq, Drop)]
 pub struct TokenList {
     pub items: Pile<Token>,
     pub last_line: u32,

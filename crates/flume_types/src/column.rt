@@ -7,7 +7,7 @@ use thiserror::Error;
 pub type Columns = Pile<Column>;
 
 /// A column of rows.
-#[derive(PartialEq, Eq, Debug, Drop)]
+#[derive(PartialEq, Eq, Drop)]
 pub struct Column {
     /// Its name in the header.
     pub name: Str,
@@ -16,7 +16,7 @@ pub struct Column {
 }
 
 /// What the cells of a column are.
-#[derive(Clone, Copy, PartialEq, Eq, Hash, Debug)]
+#[derive(Clone, Copy, PartialEq, Eq, Hash)]
 pub enum ColumnKind {
     /// Signed numbers of 64 bits.
     Int,

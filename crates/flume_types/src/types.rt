@@ -2,7 +2,7 @@
 use flume_value::{Held, Pile, Str};
 
 /// A type of values.
-#[derive(PartialEq, Eq, Debug, Drop)]
+#[derive(PartialEq, Eq, Drop)]
 pub enum Ty {
     /// Signed numbers of 64 bits.
     Int,
@@ -22,7 +22,7 @@ pub enum Ty {
 pub type Fields = Pile<Field<Ty>>;
 
 /// A name, and what is said under it: a field of a record type is a `Field<Ty>`.
-#[derive(PartialEq, Eq, Debug, Drop)]
+#[derive(PartialEq, Eq, Drop)]
 pub struct Field<T> {
     /// The field's name.
     pub name: Str,

@@ -9,7 +9,7 @@ use std::marker::Model;
 
 /// Eight bytes or more, which contracts see as their list. The first eight are told as a number
 /// without a look at the allocation.
-#[derive(Debug, Drop)]
+#[derive(Drop)]
 pub(crate) struct Long {
     first: u64,
     bytes: Held<Vec<u8>>,

@@ -9,7 +9,7 @@ use std::cmp::Ordering;
 use std::marker::Model;
 
 /// At most 22 bytes, which contracts see as their list. Behind them are zeros.
-#[derive(Debug, Drop)]
+#[derive(Drop)]
 pub(crate) struct Short {
     len: u8,
     bytes: [u8; ROOM],

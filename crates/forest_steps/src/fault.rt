@@ -3,7 +3,7 @@ use flume_collection::Trap;
 use std::alloc::{AllocError, AllocFailed};
 
 /// Why steps came to an end.
-#[derive(PartialEq, Eq, Debug, Drop)]
+#[derive(PartialEq, Eq, Drop)]
 pub enum StepFault {
     /// A call trapped.
     Trap(Trap),

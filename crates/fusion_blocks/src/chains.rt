@@ -11,7 +11,7 @@ use std::alloc::AllocError;
 use std::collections::HashMap;
 
 /// What is known of the chain to a collection.
-#[derive(Clone, Copy, Debug)]
+#[derive(Clone, Copy)]
 pub(crate) enum Stretch {
     /// There is none: the way back through Pdos does not end at a Gbk.
     Open,

@@ -2,7 +2,7 @@
 
 /// A rewrite of a graph. Its numbers are those of nodes, and of their outputs, in the graph as it
 /// stands when the rewrite is made.
-#[derive(Clone, Copy, Debug, PartialEq, Eq, Drop)]
+#[derive(Clone, Copy, PartialEq, Eq, Drop)]
 pub enum Rewrite {
     /// The inputs of the Flatten `inner` go in place of it, among those of the Flatten `outer`.
     Merge {

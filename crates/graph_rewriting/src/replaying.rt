@@ -12,7 +12,7 @@ use graph_rewrites::Rewrite;
 use std::alloc::{AllocError, Global};
 
 /// Why rewrites lead nowhere.
-#[derive(Clone, Copy, Debug, PartialEq, Eq, Drop)]
+#[derive(Clone, Copy, PartialEq, Eq, Drop)]
 pub enum ReplayFault {
     /// The rewrite of that number, from 1 on, is the first that may not be made.
     Step(u32),

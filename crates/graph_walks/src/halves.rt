@@ -10,7 +10,7 @@ use graph_laws::exec_graph::{Output, Step};
 use std::alloc::AllocError;
 
 /// The numbers twice, or twice and one more.
-#[derive(Clone, Copy, Debug, PartialEq, Eq, Drop)]
+#[derive(Clone, Copy, PartialEq, Eq, Drop)]
 pub enum Half {
     Even,
     Odd,

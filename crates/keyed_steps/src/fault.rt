@@ -3,7 +3,7 @@ use flume_value::{Kind, Value};
 use std::alloc::{AllocError, AllocFailed};
 
 /// Why the lists of some pairs were not combined.
-#[derive(PartialEq, Eq, Debug, Drop)]
+#[derive(PartialEq, Eq, Drop)]
 pub enum KeyFault {
     /// The list of this key traps.
     Trap { kind: Kind, key: Value },

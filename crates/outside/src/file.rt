@@ -4,7 +4,7 @@ use flume_value::Str;
 /// A file that a source or a shelf tells: its name and its bytes.
 ///
 /// Files are told as a list that is searched by name: the first file of a name is the one meant.
-#[derive(Debug, Drop)]
+#[derive(Drop)]
 pub struct File {
     /// The name, as it is passed to `begin`.
     pub name: Str,

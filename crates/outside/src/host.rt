@@ -4,7 +4,7 @@ ghost use Rattle.outside.specs.Cause.{HasCause};
 ghost use Rattle.outside.specs.Notes.{Notes, noted};
 
 /// The half of a stage: first all map tasks, then all reduce tasks.
-#[derive(Clone, Copy, Debug, PartialEq, Eq, PartialOrd, Ord)]
+#[derive(Clone, Copy, PartialEq, Eq)]
 pub enum Phase {
     /// The tasks that read the stage's inputs, one a shard.
     Map,
@@ -13,7 +13,7 @@ pub enum Phase {
 }
 
 /// A place in an attempt of a task, at which a host lets it go on or is down.
-#[derive(Clone, Copy, Debug, PartialEq, Eq)]
+#[derive(Clone, Copy, PartialEq, Eq)]
 pub struct At {
     /// The stage, counted from 1 in the order of the plan.
     pub stage: u32,
@@ -29,7 +29,7 @@ pub struct At {
 }
 
 /// The host is down, it has counted the loss, and the attempt is lost.
-#[derive(Clone, Copy, Debug, PartialEq, Eq)]
+#[derive(Clone, Copy)]
 pub struct Down;
 
 /// A worker's machine, which lets each attempt go on from place to place, or is down. Whoever lends
@@ -52,7 +52,7 @@ pub trait Host {
 }
 
 /// The real host: it is never down, has no loss and tells nothing.
-#[derive(Clone, Copy, Debug, Drop)]
+#[derive(Clone, Copy, Drop)]
 pub struct CalmHost;
 
 impl Host for CalmHost {

@@ -13,7 +13,7 @@ use crate::{BeginFault, Failed, Source};
 use std::alloc::{AllocError, Global};
 
 /// Why a load gave no bytes.
-#[derive(Clone, Copy, Debug, PartialEq, Eq)]
+#[derive(Clone, Copy, PartialEq, Eq)]
 pub enum LoadFault {
     /// The source has no file of that name.
     Missing,

@@ -7,7 +7,7 @@ use std::marker::Model;
 use std::str;
 
 /// The name of a file, which contracts see as the list of its bytes. They are UTF-8.
-#[derive(Debug, Drop)]
+#[derive(Drop)]
 pub struct FileName {
     text: Str,
 }

@@ -7,7 +7,7 @@ use crate::names::FileName;
 use crate::{Failed, Shelf};
 
 /// A file to write.
-#[derive(Debug, Drop)]
+#[derive(Drop)]
 pub struct Output {
     /// The name, as it is passed to `begin`.
     pub name: FileName,

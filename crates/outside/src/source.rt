@@ -6,7 +6,7 @@ ghost use Rattle.outside.specs.Told.{WhileTold};
 ghost use Rattle.outside.specs.declared.file.File.{File};
 
 /// Why a source did not begin a file.
-#[derive(Clone, Copy, Debug, PartialEq, Eq)]
+#[derive(Clone, Copy)]
 pub enum BeginFault {
     /// The source has no file of that name.
     Missing,

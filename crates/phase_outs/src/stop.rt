@@ -3,7 +3,7 @@ use flume_collection::Trap;
 use std::alloc::AllocError;
 
 /// Why a phase stopped.
-#[derive(Debug, Drop)]
+#[derive(Drop)]
 pub enum PhaseStop {
     /// The least task that trapped.
     Trap {

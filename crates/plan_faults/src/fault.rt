@@ -2,7 +2,7 @@
 use std::alloc::AllocError;
 
 /// What is wrong with a file of a plan. The earlier kind here comes first.
-#[derive(Clone, Copy, Debug, PartialEq, Eq, Drop)]
+#[derive(Clone, Copy, PartialEq, Eq, Drop)]
 pub enum PlanKind {
     /// Its bytes are no JSON.
     NotJson,
@@ -15,7 +15,7 @@ pub enum PlanKind {
 }
 
 /// Why a plan from outside is not taken.
-#[derive(Clone, Copy, Debug, PartialEq, Eq, Drop)]
+#[derive(Clone, Copy, PartialEq, Eq, Drop)]
 pub enum PlanFault {
     /// It is refused at a step: 0 before the rewrites, the number of a rewrite from 1 on, and one
     /// more than their number behind them.

@@ -12,7 +12,7 @@ pub struct PlanFile {
 }
 
 /// Why bytes are no file of a plan.
-#[derive(Clone, Copy, Debug, PartialEq, Eq, Drop)]
+#[derive(Clone, Copy, PartialEq, Eq, Drop)]
 pub enum FileFault {
     /// They are no JSON.
     NotJson,

@@ -4,7 +4,7 @@ use outside::Phase;
 use std::alloc::AllocError;
 
 /// Why the run of a plan stopped.
-#[derive(Debug, Drop)]
+#[derive(Drop)]
 pub enum RunFault {
     /// The first trap of the least trapping task, or of the act, of the first phase that has one.
     Trap(Trap),

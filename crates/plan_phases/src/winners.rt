@@ -3,7 +3,7 @@ use flume_value::Pile;
 use outside::Phase;
 
 /// Which attempts have won the tasks of a phase.
-#[derive(Debug, Drop)]
+#[derive(Drop)]
 pub struct PhaseWinners {
     /// The stage, counted from 1 in the order of the plan.
     pub stage: u32,

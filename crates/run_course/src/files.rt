@@ -16,7 +16,7 @@ use std::alloc::{AllocError, Global};
 use std::str;
 
 /// What a call writes: its files, and the text of the screen.
-#[derive(Debug, Drop)]
+#[derive(Drop)]
 pub struct Written {
     pub outputs: Vec<Output>,
     pub screen: Vec<u8>,

@@ -5,14 +5,14 @@ use run_texts::Status;
 use std::alloc::AllocError;
 
 /// A trap, and the name of the collection that its call was to make a part of.
-#[derive(Debug, Drop)]
+#[derive(Drop)]
 pub struct Trapped {
     pub trap: Trap,
     pub name: Str,
 }
 
 /// Why a call writes nothing.
-#[derive(Debug, Drop)]
+#[derive(Drop)]
 pub enum Stop {
     Refused(Status),
     Trapped(Trapped),

@@ -7,7 +7,7 @@ use std::alloc::Global;
 use std::marker::Model;
 
 /// How a script is run, within the limits of runs. Contracts see all of it.
-#[derive(Debug, Drop)]
+#[derive(Drop)]
 pub struct Settings {
     workers: u32,
     shards: u32,

@@ -10,7 +10,7 @@ use plan_faults::PlanKind;
 use std::alloc::AllocError;
 
 /// Where a write failed.
-#[derive(Debug, Drop)]
+#[derive(Drop)]
 pub enum Place {
     /// The output file of this name.
     File(Str),
@@ -18,7 +18,7 @@ pub enum Place {
 }
 
 /// How a call of `flume` ended. `Done` alone says that all was written.
-#[derive(Debug, Drop)]
+#[derive(Drop)]
 pub enum Status {
     /// Every output file and the screen's text are written.
     Done,

@@ -2,14 +2,14 @@
 use flume_value::{Items, Pile, Str};
 
 /// How many members the collection of a name has.
-#[derive(Debug, Drop)]
+#[derive(Drop)]
 pub struct Size {
     pub name: Str,
     pub members: u64,
 }
 
 /// What is kept of a collection.
-#[derive(Debug, Drop)]
+#[derive(Drop)]
 pub struct Saved {
     /// Its members, in their order.
     pub members: Items,

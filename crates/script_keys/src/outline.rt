@@ -8,7 +8,7 @@ use flume_value::{Pile, Str};
 use std::alloc::{AllocError, Global};
 
 /// A statement, by the names that it defines and those that it names.
-#[derive(Debug, Drop)]
+#[derive(Drop)]
 pub enum Outline {
     /// A type, whatever it is.
     Type,

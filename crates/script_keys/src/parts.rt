@@ -8,7 +8,7 @@ use flume_value::{Pile, Str};
 use std::alloc::{AllocError, Global};
 
 /// A part of a key: the text of a statement, or the file of an input, whose bytes are meant.
-#[derive(Debug, Drop)]
+#[derive(Drop)]
 pub enum KeyPart {
     Text(Str),
     File(Str),

@@ -8,7 +8,7 @@ use flume_value::{Pile, Str};
 use std::alloc::{AllocError, Global};
 
 /// Names that are looked for: of collections, and of functions.
-#[derive(Debug, Drop)]
+#[derive(Drop)]
 pub struct Names {
     pub collections: Pile<Str>,
     pub functions: Pile<Str>,

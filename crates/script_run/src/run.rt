@@ -24,7 +24,7 @@ use std::alloc::{AllocError, Global};
 use std::thread::Threads;
 
 /// What a run of a script comes to.
-#[derive(Debug, Drop)]
+#[derive(Drop)]
 pub struct Ran {
     /// For each output in order the members that it writes, ascending.
     pub outputs: Vec<Items>,

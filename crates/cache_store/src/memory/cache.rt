@@ -19,7 +19,7 @@ use std::marker::Model;
 /// Entries in memory, in room that is taken when it is made: for a number of entries, and for a
 /// number of bytes, keys included. A call fails exactly where the list names its number, counted
 /// from 0, or the entry that is to be kept doesn't fit.
-#[derive(Debug, Drop)]
+#[derive(Drop)]
 pub struct MemCache {
     slots: Vec<Slot>,
     spare: Vec<Slot>,

@@ -7,7 +7,7 @@ use crate::entry::CacheEntry;
 use std::alloc::{AllocError, Global};
 
 /// An entry, or the room for one.
-#[derive(Debug, Drop)]
+#[derive(Drop)]
 pub struct Slot {
     pub key: Vec<u8>,
     pub value: Vec<u8>,

@@ -10,7 +10,7 @@ use std::marker::Model;
 
 /// A call that is to fail: the number of the `begin` that it belongs to, counted from 0, and its
 /// own number since then, that `begin` being call 0.
-#[derive(Clone, Copy, Debug, PartialEq, Eq)]
+#[derive(Clone, Copy)]
 pub struct Fail {
     /// The number of the `begin`.
     pub begun: u32,
@@ -19,7 +19,7 @@ pub struct Fail {
 }
 
 /// The calls that are to fail, and how many there were: of `begin`, and of all since the last one.
-#[derive(Debug, Drop)]
+#[derive(Drop)]
 pub struct Calls {
     fails: Pile<Fail>,
     begins: u64,

@@ -11,7 +11,7 @@ use std::marker::Model;
 /// A host that is down exactly at the places of a list. It notes each place that it is asked for in
 /// room that is taken when it is made; where that is used up it notes nothing, and tells no more.
 /// Contracts see its list, its notes, its room, whether it tells, and its losses.
-#[derive(Debug, Drop)]
+#[derive(Drop)]
 pub struct MemHost {
     down_at: Pile<At>,
     passed: Vec<At>,

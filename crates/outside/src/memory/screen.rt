@@ -11,7 +11,7 @@ use std::marker::Model;
 
 /// A text in memory, in room that is taken when it is made. A `write` takes its whole piece, or
 /// fails exactly where the list names its number, counted from 0, or the piece doesn't fit.
-#[derive(Debug, Drop)]
+#[derive(Drop)]
 pub struct MemScreen {
     text: Vec<u8>,
     room: usize,

@@ -18,7 +18,7 @@ use std::marker::Model;
 /// Files in memory, to write, in room that is taken when it is made: for a number of files, and for
 /// a number of bytes, names included. A `write` takes its whole piece. A call fails exactly where
 /// the list names it, or what it would add doesn't fit.
-#[derive(Debug, Drop)]
+#[derive(Drop)]
 pub struct MemShelf {
     slots: Vec<Slot>,
     spare: Vec<Slot>,

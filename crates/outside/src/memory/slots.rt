@@ -7,7 +7,7 @@ use crate::File;
 use std::alloc::{AllocError, Global};
 
 /// A file, or the room for one.
-#[derive(Debug, Drop)]
+#[derive(Drop)]
 pub struct Slot {
     pub name: Vec<u8>,
     pub bytes: Vec<u8>,

@@ -17,7 +17,7 @@ use std::marker::Model;
 /// Files in memory, to read. Its calls fail exactly where its list names them, but for the `begin`
 /// of a name that it lacks, which is missing. It notes the name of each `begin`; where no memory is
 /// found for one, it tells them no more.
-#[derive(Debug, Drop)]
+#[derive(Drop)]
 pub struct MemSource {
     files: Vec<File>,
     asked: Option<Vec<Str>>,
