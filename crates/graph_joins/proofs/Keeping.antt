@@ -18,7 +18,7 @@ use Rattle.exec_graph.proofs.Soundness.{IsSound-ok}
 use Rattle.graph_laws.specs.Joining.{beside, grafted}
 use Rattle.graph_laws.specs.Kids.{kept_by, number_in}
 use Rattle.graph_laws.proofs.Changes.{node_at-without_other}
-use Rattle.graph_states.specs.of_graph_names.Names.{named, unnamed}
+use Rattle.graph_states.specs.of_graph_names.Names.{named, named_entry, unnamed}
 use Rattle.graph_states.specs.of_graph_rewrites.Rewrites.{CanBeKid, CanBeSibling, after_kid, after_sibling, forest_at, input_at}
 use Rattle.graph_states.specs.of_graph_rewrites.declared.rewrite.Rewrite.TheVariants.{Kid, Sibling}
 use Rattle.graph_states.proofs.of_graph_rewrites.Keeping.{apply_good}
@@ -57,6 +57,19 @@ session_ascends j s =
     ascends_back (new_place j.graph.nodes) j.graph.nodes s.ok.founded.ascends
 
 -- ---- at the beginning
+
+all_named : (es all : List Entry) (m n : ℕ) → AllByRecursion (λ d. n < d.number) es
+    → AllByRecursion (λ d. n < d.number) (map (named_entry all m) es)
+all_named [] all m n a = tt
+all_named (d ∷ ds) all m n a = (a.0, all_named ds all m n a.1)
+
+ascends_named : (es all : List Entry) (m : ℕ) → Ascends es
+    → Ascends (map (named_entry all m) es)
+ascends_named [] all m a = tt
+ascends_named (e ∷ es) all m a = (all_named es all m e.number a.0, ascends_named es all m a.1)
+
+pub named_ascends : (g : Graph) → IsGraphOk g → Ascends (named g).nodes
+named_ascends g ok = ascends_named g.nodes g.nodes g.next ok.founded.ascends
 
 pub begun : (g : Graph) (j : Joins) → IsGraphOk g → j.graph ≡ named g
     → HasCounts j.tables.counts j.graph → HasLists j.tables.lists j.graph.nodes → IsSession j

@@ -7,3 +7,4 @@ pub mod SeekLemmas
 pub mod Tests
 pub mod HangLemmas
 pub mod ListLemmas
+pub mod PresentLemmas

@@ -4,7 +4,8 @@
 //! that others read (graph_states); `end` tells it without them. In between `is_pair` and
 //! `read_name` say whether two Pdos may become one, and `with_sibling` and `with_kid` make one of
 //! them: what comes of it, without names, is what the rewrite makes (specs/Sessions.antt). So a
-//! list of rewrites is made with one pass at its beginning and one at its end. A kid looks its
+//! list of rewrites is made with one pass at its beginning and one at its end; in between a Pdo
+//! that is taken in leaves its place empty, so that no node is moved. A kid looks its
 //! output up in the list of the names that its keeper keeps, and goes the way to it, which is a
 //! hint that is looked at where it ends; only where that fails does it go over the steps of its
 //! keeper.
@@ -12,6 +13,7 @@
 
 mod counts;
 mod finding;
+mod graphs;
 mod hanging;
 mod lists;
 mod nodes;
@@ -21,4 +23,5 @@ mod session;
 mod taking;
 mod ways;
 
+pub use graphs::NamedGraph;
 pub use session::{Joins, Tables, begin, end, is_pair, read_name, with_kid, with_sibling};

@@ -2,7 +2,6 @@
 ghost use Rattle.std.specs.Prelude.{◌≡◌, ◌≢◌, ◌++◌, ◌<◌, ◌==◌, ℕ, cond, IfOk, length, None, nat_eq, OnOk, Some, true};
 ghost use Rattle.std.specs.HashMap.{get};
 ghost use Rattle.exec_graph.specs.Forests.{grown};
-ghost use Rattle.exec_graph.specs.Wellformed.{Ascends};
 ghost use Rattle.exec_graph.specs.Twigs.{twig};
 ghost use Rattle.graph_walks.specs.Outs.{out_list, outs};
 ghost use Rattle.graph_walks.specs.inner.Numbering.{branch_outs, branches_outs, twig_outs};
@@ -10,8 +9,8 @@ ghost use Rattle.graph_joins.specs.Lists.{HasLists};
 ghost use Rattle.graph_joins.specs.inner.Seeks.{is_kth};
 ghost use Rattle.graph_joins.specs.inner.Splices as spec;
 
-use crate::finding::steps_at;
-use exec_graph::{Entry, Output, Step};
+use crate::graphs::NamedGraph;
+use exec_graph::{Output, Step};
 use flume_value::Pile;
 use std::alloc::{AllocError, Global};
 use std::collections::HashMap;
@@ -29,35 +28,33 @@ pub(crate) fn is_listed(names: &Pile<u32>, number: u32, name: u32) -> bool
 /// Tells of these Pdos too.
 pub(crate) fn list_both(
     alloc: Global,
-    nodes: &[Entry],
+    graph: &NamedGraph,
     one: u32,
     other: u32,
     lists: &mut HashMap<u32, Pile<u32>>,
 ) -> Result<(), AllocError>
-    requires ascends { Ascends nodes.now }
-    requires lists { HasLists lists.old nodes.now }
-    ensures { OnOk result (HasLists lists.new nodes.now) }
+    requires { HasLists lists.old graph.now.nodes }
+    ensures { OnOk result (HasLists lists.new graph.now.nodes) }
 {
-    list_node(alloc, nodes, one, lists)?;
-    list_node(alloc, nodes, other, lists)?;
+    list_node(alloc, graph, one, lists)?;
+    list_node(alloc, graph, other, lists)?;
     Ok(())
 }
 
 /// Tells of the Pdo too.
 fn list_node(
     alloc: Global,
-    nodes: &[Entry],
+    graph: &NamedGraph,
     number: u32,
     lists: &mut HashMap<u32, Pile<u32>>,
 ) -> Result<(), AllocError>
-    requires ascends { Ascends nodes.now }
-    requires lists { HasLists lists.old nodes.now }
-    ensures { OnOk result (HasLists lists.new nodes.now) }
+    requires { HasLists lists.old graph.now.nodes }
+    ensures { OnOk result (HasLists lists.new graph.now.nodes) }
 {
     if lists.contains_key(&number) {
         return Ok(());
     }
-    let names = names_of(alloc, steps_at(nodes, number))?;
+    let names = names_of(alloc, graph.steps(number))?;
     put_list(number, names, lists)?;
     Ok(())
 }

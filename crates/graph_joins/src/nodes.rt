@@ -1,15 +1,13 @@
-// A node is taken out, emptied, or another.
+// A node is another.
 ghost use Rattle.std.specs.Prelude.{◌≡◌, ◌<◌, length, slice_index_or, slice_set, Some};
-ghost use Rattle.std.specs.List.{remove};
 ghost use Rattle.exec_graph.specs.Forests.{Bare, grown};
 ghost use Rattle.exec_graph.specs.Meaning.{node_at};
 ghost use Rattle.exec_graph.specs.Wellformed.{Ascends};
 ghost use Rattle.exec_graph.specs.declared.graph.Entry.{Entry as GhostEntry};
-ghost use Rattle.exec_graph.specs.declared.graph.Node.TheVariants as node;
-ghost use Rattle.graph_laws.specs.Joining.{set_node, without};
+ghost use Rattle.graph_laws.specs.Joining.{set_node};
 ghost use Rattle.flatten_sink.specs.of_sink_laws.Chain.{forest_of};
 
-use exec_graph::{Entry, Node, Place, Roots, Step};
+use exec_graph::{Entry, Node, Roots, Step};
 use flatten_sink::index_of;
 use std::alloc::Global;
 use std::mem;
@@ -41,30 +39,14 @@ pub(crate) struct Opened {
     pub(crate) steps: Vec<Step>,
 }
 
-/// The nodes without the one of that number.
-pub(crate) fn taken_out(alloc: Global, nodes: Vec<Entry>, number: u32) -> Opened
+/// The nodes with another in place of the one of that number.
+pub(crate) fn replaced(alloc: Global, nodes: Vec<Entry>, number: u32, node: Node) -> Opened
     requires { Ascends nodes.items }
-    ensures nodes { result.nodes.items ≡ without nodes.items number }
+    ensures nodes { result.nodes.items ≡ set_node nodes.items number node }
     ensures steps { grown result.steps.items ≡ forest_of (node_at nodes.items number) }
 {
     match index_of(nodes.as_slice(), number) {
-        Some(i) => removed(alloc, nodes, i),
-        None => unopened(alloc, nodes),
-    }
-}
-
-/// The nodes with a Pdo without steps in place of the one of that number.
-pub(crate) fn emptied(alloc: Global, nodes: Vec<Entry>, number: u32, input: Place) -> Opened
-    requires { Ascends nodes.items }
-    ensures nodes { result.nodes.items ≡ set_node nodes.items number (node.Pdo input Bare) }
-    ensures steps { grown result.steps.items ≡ forest_of (node_at nodes.items number) }
-{
-    match index_of(nodes.as_slice(), number) {
-        Some(i) => {
-            let none = Roots::new(Vec::new(alloc));
-            let pdo = Node::Pdo { input, roots: none };
-            replaced(alloc, nodes, i, Entry { number, node: pdo })
-        }
+        Some(i) => replaced_at(alloc, nodes, i, Entry { number, node }),
         None => unopened(alloc, nodes),
     }
 }
@@ -79,21 +61,7 @@ fn unopened(alloc: Global, nodes: Vec<Entry>) -> Opened
     }
 }
 
-fn removed(alloc: Global, nodes: Vec<Entry>, at: usize) -> Opened
-    requires { at < length nodes.items }
-    ensures nodes { result.nodes.items ≡ remove nodes.items at }
-    ensures steps { (d : GhostEntry) → grown result.steps.items
-        ≡ forest_of (Some (slice_index_or nodes.items at d).node) }
-{
-    let mut nodes = nodes;
-    let former = nodes.remove(at);
-    Opened {
-        nodes,
-        steps: steps_of(alloc, former.node),
-    }
-}
-
-fn replaced(alloc: Global, nodes: Vec<Entry>, at: usize, entry: Entry) -> Opened
+fn replaced_at(alloc: Global, nodes: Vec<Entry>, at: usize, entry: Entry) -> Opened
     requires { at < length nodes.items }
     ensures nodes { result.nodes.items ≡ slice_set nodes.items at entry }
     ensures steps { (d : GhostEntry) → grown result.steps.items

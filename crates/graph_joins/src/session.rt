@@ -1,7 +1,7 @@
 // Pdos become one under names, one after another.
 ghost use Rattle.std.specs.Prelude.{◌≡◌, IfOk, IfSome, true};
 ghost use Rattle.exec_graph.specs.Meaning.{node_at};
-ghost use Rattle.exec_graph.specs.Wellformed.{Ascends, IsGraphOk};
+ghost use Rattle.exec_graph.specs.Wellformed.{IsGraphOk};
 ghost use Rattle.graph_states.specs.of_graph_names.Names.{unnamed};
 ghost use Rattle.graph_laws.specs.Joining.{beside};
 ghost use Rattle.graph_states.specs.States.{taken_in};
@@ -15,12 +15,12 @@ ghost use Rattle.graph_joins.specs.inner.Seeks.{is_kth};
 ghost use Rattle.graph_joins.specs.inner.Tests as tests;
 
 use crate::counts::{count_at, count_off, counts_of};
-use crate::finding::{input_at, is_pdo_at, steps_at};
+use crate::graphs::NamedGraph;
 use crate::lists::{is_listed, list_both, relist, unlist};
 use crate::seeking::is_output;
 use crate::taking::{hung, paired};
 use crate::ways::{Ways, note_kid, note_sibling, ways_of};
-use exec_graph::{Entry, Graph, Place};
+use exec_graph::{Graph, Place};
 use flume_value::Pile;
 use graph_states::graph_names::{named, unnamed};
 use std::alloc::{AllocError, Global};
@@ -30,7 +30,7 @@ use std::collections::HashMap;
 /// places are told again at the end.
 #[derive(Drop)]
 pub struct Joins {
-    pub graph: Graph,
+    pub graph: NamedGraph,
     pub tables: Tables,
 }
 
@@ -54,7 +54,7 @@ pub fn begin(alloc: Global, graph: Graph) -> Result<Joins, AllocError>
     let under = named(alloc, graph)?;
     let tables = tables_of(alloc, &under)?;
     Ok(Joins {
-        graph: under,
+        graph: NamedGraph::new(under),
         tables,
     })
 }
@@ -77,7 +77,7 @@ pub fn end(alloc: Global, joins: Joins) -> Result<Graph, AllocError>
     ensures { IfOk result (λ g. g ≡ unnamed joins.graph) }
 {
     let Joins { graph, tables: _ } = joins;
-    unnamed(alloc, graph)
+    unnamed(alloc, graph.into_graph())
 }
 
 /// Whether both are Pdos that read one collection, and the other has the greater number.
@@ -85,7 +85,7 @@ pub fn is_pair(joins: &Joins, keeper: u32, other: u32) -> bool
     requires { spec.IsSession joins.now }
     ensures { result ≡ true → spec.ArePair joins.now.graph keeper other }
 {
-    pairs(joins.graph.nodes.as_slice(), keeper, other)
+    pairs(&joins.graph, keeper, other)
 }
 
 /// The roots of the Pdo `other` follow those of `keeper`, which reads the same.
@@ -107,10 +107,9 @@ pub fn with_sibling(
         (rewrites.forest_at joins.graph other))) }
 {
     let Joins { graph, mut tables } = joins;
-    let nodes = graph.nodes.as_slice();
-    let input = input_at(nodes, keeper);
+    let input = graph.input(keeper);
     let _out = input.out;
-    let behind = steps_at(nodes, keeper).len();
+    let behind = graph.steps(keeper).len();
     count_off(input, &mut tables.counts)?;
     note_sibling(other, keeper, behind, &mut tables.ways)?;
     unlist(keeper, other, &mut tables.lists);
@@ -126,12 +125,12 @@ pub fn read_name(joins: &Joins, keeper: u32, output: u32, reader: u32) -> Option
     requires { spec.IsSession joins.now }
     ensures { IfSome result (λ n. spec.IsReader joins.now.graph keeper output reader n) }
 {
-    let nodes = joins.graph.nodes.as_slice();
-    let read = input_at(nodes, reader);
-    if !reads(nodes, keeper, reader, read) {
+    let graph = &joins.graph;
+    let read = graph.input(reader);
+    if !reads(graph, keeper, reader, read) {
         return None;
     }
-    if is_told(&joins.tables.lists, nodes, keeper, output, read.node) {
+    if is_told(&joins.tables.lists, graph, keeper, output, read.node) {
         Some(read.node)
     } else {
         None
@@ -141,19 +140,18 @@ pub fn read_name(joins: &Joins, keeper: u32, output: u32, reader: u32) -> Option
 /// Whether that output of the Pdo has that name, by what is told of it, or by its steps.
 fn is_told(
     lists: &HashMap<u32, Pile<u32>>,
-    nodes: &[Entry],
+    graph: &NamedGraph,
     keeper: u32,
     output: u32,
     name: u32,
 ) -> bool
-    requires ascends { Ascends nodes.now }
-    requires lists { HasLists lists.now nodes.now }
-    ensures { result ≡ true → is_kth (outs (forest_of (node_at nodes.now keeper))) output name
-        ≡ true }
+    requires { HasLists lists.now graph.now.nodes }
+    ensures { result ≡ true
+        → is_kth (outs (forest_of (node_at graph.now.nodes keeper))) output name ≡ true }
 {
     match lists.get(&keeper) {
         Some(names) => is_listed(names, output, name),
-        None => is_output(steps_at(nodes, keeper), output, name),
+        None => is_output(graph.steps(keeper), output, name),
     }
 }
 
@@ -178,13 +176,7 @@ pub fn with_kid(
     let read = Place { node: name, out: 0 };
     count_off(read, &mut tables.counts)?;
     let keep = 0 < count_at(&tables.counts, read);
-    list_both(
-        alloc,
-        graph.nodes.as_slice(),
-        keeper,
-        reader,
-        &mut tables.lists,
-    )?;
+    list_both(alloc, &graph, keeper, reader, &mut tables.lists)?;
     let taken = hung(alloc, graph, keeper, reader, name, keep, &tables.ways)?;
     note_kid(reader, name, &mut tables.ways)?;
     relist(
@@ -203,35 +195,32 @@ pub fn with_kid(
 
 // ---- tests
 
-fn pairs(nodes: &[Entry], keeper: u32, other: u32) -> bool
-    requires { Ascends nodes.now }
-    ensures { result ≡ tests.pairs nodes.now keeper other }
+fn pairs(graph: &NamedGraph, keeper: u32, other: u32) -> bool
+    ensures { result ≡ tests.pairs graph.now.nodes keeper other }
 {
     if keeper >= other {
         return false;
     }
-    if !is_pdo_at(nodes, keeper) {
+    if !graph.is_pdo(keeper) {
         return false;
     }
-    calls_at(nodes, other, input_at(nodes, keeper))
+    calls_at(graph, other, graph.input(keeper))
 }
 
 /// Whether the node of that number is a Pdo that reads the collection.
-fn calls_at(nodes: &[Entry], number: u32, c: Place) -> bool
-    requires { Ascends nodes.now }
-    ensures { result ≡ tests.calls_at c (node_at nodes.now number) }
+fn calls_at(graph: &NamedGraph, number: u32, c: Place) -> bool
+    ensures { result ≡ tests.calls_at c (node_at graph.now.nodes number) }
 {
-    if !is_pdo_at(nodes, number) {
+    if !graph.is_pdo(number) {
         return false;
     }
-    let input = input_at(nodes, number);
+    let input = graph.input(number);
     c.node == input.node && c.out == input.out
 }
 
 /// Whether both are Pdos, and the reader has the greater number and reads a name.
-fn reads(nodes: &[Entry], keeper: u32, reader: u32, read: Place) -> bool
-    requires { Ascends nodes.now }
-    ensures { result ≡ tests.reads nodes.now keeper reader read }
+fn reads(graph: &NamedGraph, keeper: u32, reader: u32, read: Place) -> bool
+    ensures { result ≡ tests.reads graph.now.nodes keeper reader read }
 {
     if keeper >= reader {
         return false;
@@ -239,5 +228,5 @@ fn reads(nodes: &[Entry], keeper: u32, reader: u32, read: Place) -> bool
     if read.out != 0 {
         return false;
     }
-    is_pdo_at(nodes, keeper) && is_pdo_at(nodes, reader)
+    graph.is_pdo(keeper) && graph.is_pdo(reader)
 }

@@ -1,28 +1,31 @@
 // A Pdo takes in another one, whose name stays with its outputs.
 ghost use Rattle.std.specs.Prelude.{◌≡◌, false, IfOk, true};
 ghost use Rattle.exec_graph.specs.Forests.{Bare, grown};
-ghost use Rattle.exec_graph.specs.Meaning.{OutsDiffer, has_out};
+ghost use Rattle.exec_graph.specs.Meaning.{OutsDiffer, has_out, node_at};
 ghost use Rattle.exec_graph.specs.Wellformed.{Ascends};
-ghost use Rattle.exec_graph.specs.declared.graph.Node.TheVariants as node;
-ghost use Rattle.graph_laws.specs.Joining.{beside, grafted, set_node};
+ghost use Rattle.flatten_sink.specs.of_sink_laws.Chain.{forest_of};
+ghost use Rattle.graph_laws.specs.Joining.{beside, grafted};
 ghost use Rattle.graph_laws.specs.Kids.{kept_by};
-ghost use Rattle.graph_states.specs.of_graph_rewrites.Rewrites.{forest_at, input_at};
+ghost use Rattle.graph_states.specs.of_graph_rewrites.Rewrites.{forest_at, input_at, input_of};
+ghost use Rattle.graph_states.specs.of_pardo_fuse.Readers.{is_pdo};
 ghost use Rattle.graph_states.specs.States.{all_but, taken_in};
 ghost use Rattle.graph_walks.specs.Outs.{outs};
 ghost use Rattle.graph_joins.specs.inner.Splices.{spliced};
+ghost use Rattle.graph_joins.specs.inner.Takings as spec;
 
 use crate::finding::input_at;
-use crate::nodes::{emptied, taken_out, with_node};
+use crate::graphs::NamedGraph;
+use crate::nodes::{replaced, with_node};
 use crate::putting::put;
-use crate::ways::{Ways, way_to};
-use exec_graph::{Graph, Node, Place, Roots, Step};
+use crate::ways::{Turn, Ways, way_to};
+use exec_graph::{Entry, Node, Place, Roots, Step};
 use flume_value::Pile;
 use std::alloc::{AllocError, Global};
 
-/// A graph in which one Pdo is to stand for two, and the steps of both.
+/// Nodes of which one Pdo is to stand for two, and the steps of both.
 #[derive(Drop)]
 struct Parted {
-    graph: Graph,
+    nodes: Vec<Entry>,
     /// What the Pdo that is left reads.
     input: Place,
     /// Those of the Pdo that is left.
@@ -34,29 +37,56 @@ struct Parted {
 /// The Pdo has the steps of the other behind its own, and the other is gone.
 pub(crate) fn paired(
     alloc: Global,
-    graph: Graph,
+    graph: NamedGraph,
     keeper: u32,
     other: u32,
-) -> Result<Graph, AllocError>
-    requires ascends { Ascends graph.nodes }
+) -> Result<NamedGraph, AllocError>
     requires differ { keeper ≡ other → ⊥ }
+    requires keeper { is_pdo (node_at graph.nodes keeper) ≡ true }
+    requires other { is_pdo (node_at graph.nodes other) ≡ true }
     ensures { IfOk result (λ h. h ≡ taken_in graph keeper other (input_at graph keeper)
         (beside (forest_at graph keeper) (forest_at graph other))) }
 {
+    let NamedGraph {
+        nodes,
+        outputs,
+        next,
+    } = graph;
+    let joined = paired_nodes(alloc, nodes, keeper, other)?;
+    Ok(NamedGraph {
+        nodes: joined,
+        outputs,
+        next,
+    })
+}
+
+fn paired_nodes(
+    alloc: Global,
+    nodes: Vec<Entry>,
+    keeper: u32,
+    other: u32,
+) -> Result<Vec<Entry>, AllocError>
+    requires ascends { Ascends nodes.items }
+    requires differ { keeper ≡ other → ⊥ }
+    ensures { IfOk result (λ all. all.items ≡ spec.taken_over nodes.items keeper other
+        (input_of (node_at nodes.items keeper)) (beside (forest_of (node_at nodes.items keeper))
+        (forest_of (node_at nodes.items other)))) }
+{
     let Parted {
-        graph: left,
+        nodes: left,
         input,
         mut stays,
         mut goes,
-    } = take_apart(alloc, graph, keeper, other);
+    } = take_apart(alloc, nodes, keeper, other);
     stays.append(&mut goes)?;
-    Ok(with_pdo(left, keeper, input, Roots::new(stays)))
+    let roots = Roots::new(stays);
+    Ok(with_node(left, keeper, Node::Pdo { input, roots }))
 }
 
 /// A graph, and whether it is known that no steps were on the output on which some are now.
 #[derive(Drop)]
 pub(crate) struct Grafted {
-    pub(crate) graph: Graph,
+    pub(crate) graph: NamedGraph,
     pub(crate) is_bare: bool,
 }
 
@@ -64,15 +94,16 @@ pub(crate) struct Grafted {
 /// the other is gone.
 pub(crate) fn hung(
     alloc: Global,
-    graph: Graph,
+    graph: NamedGraph,
     keeper: u32,
     other: u32,
     name: u32,
     keep: bool,
     ways: &Ways,
 ) -> Result<Grafted, AllocError>
-    requires ascends { Ascends graph.nodes }
     requires differ { keeper ≡ other → ⊥ }
+    requires keeper { is_pdo (node_at graph.nodes keeper) ≡ true }
+    requires other { is_pdo (node_at graph.nodes other) ≡ true }
     requires outs { OutsDiffer (forest_at graph keeper) }
     requires apart { has_out name (forest_at graph other) ≡ false }
     ensures graph { IfOk result (λ h. h.graph ≡ taken_in graph keeper other
@@ -83,67 +114,86 @@ pub(crate) fn hung(
         ≡ spliced name keep (outs (forest_at graph other)) (outs (forest_at graph keeper))) }
 {
     let way = way_to(alloc, name, ways)?;
+    let NamedGraph {
+        nodes,
+        outputs,
+        next,
+    } = graph;
+    let joined = hung_nodes(alloc, nodes, keeper, other, name, keep, way.as_slice())?;
+    Ok(Grafted {
+        graph: NamedGraph {
+            nodes: joined.nodes,
+            outputs,
+            next,
+        },
+        is_bare: joined.is_bare,
+    })
+}
+
+/// Nodes, and whether it is known that no steps were on the output on which some are now.
+#[derive(Drop)]
+struct HungNodes {
+    nodes: Vec<Entry>,
+    is_bare: bool,
+}
+
+fn hung_nodes(
+    alloc: Global,
+    nodes: Vec<Entry>,
+    keeper: u32,
+    other: u32,
+    name: u32,
+    keep: bool,
+    way: &[Turn],
+) -> Result<HungNodes, AllocError>
+    requires ascends { Ascends nodes.items }
+    requires differ { keeper ≡ other → ⊥ }
+    requires outs { OutsDiffer (forest_of (node_at nodes.items keeper)) }
+    requires apart { has_out name (forest_of (node_at nodes.items other)) ≡ false }
+    ensures nodes { IfOk result (λ h. h.nodes.items ≡ spec.taken_over nodes.items keeper other
+        (input_of (node_at nodes.items keeper)) (kept_by (all_but name keep) (grafted name
+        (forest_of (node_at nodes.items other)) (forest_of (node_at nodes.items keeper))))) }
+    ensures outs { IfOk result (λ h. h.is_bare ≡ true → outs (kept_by (all_but name keep)
+        (grafted name (forest_of (node_at nodes.items other))
+        (forest_of (node_at nodes.items keeper))))
+        ≡ spliced name keep (outs (forest_of (node_at nodes.items other)))
+        (outs (forest_of (node_at nodes.items keeper)))) }
+{
     let Parted {
-        graph: left,
+        nodes: left,
         input,
         mut stays,
         goes,
-    } = take_apart(alloc, graph, keeper, other);
-    let is_bare = put(&mut stays, way.as_slice(), name, keep, goes)?;
-    Ok(Grafted {
-        graph: with_pdo(left, keeper, input, Roots::new(stays)),
+    } = take_apart(alloc, nodes, keeper, other);
+    let is_bare = put(&mut stays, way, name, keep, goes)?;
+    let roots = Roots::new(stays);
+    Ok(HungNodes {
+        nodes: with_node(left, keeper, Node::Pdo { input, roots }),
         is_bare,
     })
 }
 
-/// The graph with a Pdo without steps in place of the one, and without the other.
-fn take_apart(alloc: Global, graph: Graph, stays: u32, goes: u32) -> Parted
-    requires ascends { Ascends graph.nodes }
+/// The nodes with a Pdo without steps in place of the one, and a Flatten of nothing in place of the
+/// other.
+fn take_apart(alloc: Global, nodes: Vec<Entry>, stays: u32, goes: u32) -> Parted
+    requires ascends { Ascends nodes.items }
     requires differ { stays ≡ goes → ⊥ }
-    ensures graph { result.graph ≡ taken_in graph stays goes (input_at graph stays) Bare }
-    ensures input { result.input ≡ input_at graph stays }
-    ensures stays { grown result.stays.items ≡ forest_at graph stays }
-    ensures goes { grown result.goes.items ≡ forest_at graph goes }
+    ensures nodes { result.nodes.items ≡ spec.taken_over nodes.items stays goes
+        (input_of (node_at nodes.items stays)) Bare }
+    ensures input { result.input ≡ input_of (node_at nodes.items stays) }
+    ensures stays { grown result.stays.items ≡ forest_of (node_at nodes.items stays) }
+    ensures goes { grown result.goes.items ≡ forest_of (node_at nodes.items goes) }
 {
-    let Graph {
-        nodes,
-        outputs,
-        next,
-    } = graph;
-    let all = nodes.into_vec();
-    let input = input_at(all.as_slice(), stays);
-    let gone = taken_out(alloc, all, goes);
-    let left = emptied(alloc, gone.nodes, stays, input);
+    let input = input_at(nodes.as_slice(), stays);
+    let none = Pile::new(alloc);
+    let gone = replaced(alloc, nodes, goes, Node::Flatten(none));
+    let empty = Vec::new(alloc);
+    let roots = Roots::new(empty);
+    let left = replaced(alloc, gone.nodes, stays, Node::Pdo { input, roots });
     Parted {
-        graph: Graph {
-            nodes: Pile::from_vec(left.nodes),
-            outputs,
-            next,
-        },
+        nodes: left.nodes,
         input,
         stays: left.steps,
         goes: gone.steps,
-    }
-}
-
-/// The graph with another Pdo of that number.
-fn with_pdo(graph: Graph, number: u32, input: Place, roots: Roots) -> Graph
-    requires { Ascends graph.nodes }
-    ensures { result ≡ record {
-      nodes = set_node graph.nodes number (node.Pdo input roots);
-      outputs = graph.outputs;
-      next = graph.next;
-    } }
-{
-    let Graph {
-        nodes,
-        outputs,
-        next,
-    } = graph;
-    let changed = with_node(nodes.into_vec(), number, Node::Pdo { input, roots });
-    Graph {
-        nodes: Pile::from_vec(changed),
-        outputs,
-        next,
     }
 }

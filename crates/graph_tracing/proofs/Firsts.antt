@@ -1,17 +1,20 @@
 -- A sibling changes of no collection which Pdo reads it first.
 use Rattle.std.proofs.Common.{◌≡◌, ◌<◌, ℕ, Bool, true, false, cond, eqb, List, [], ◌∷◌, Option, Some, None, refl, sym, ap, ap₂, ◌∙◌, arith}
-use Rattle.std.proofs.lemmas.Bool.{eqb-true}
+use Rattle.std.proofs.lemmas.Bool.{eqb-true, false≢true}
 use Rattle.exec_graph.specs.Forests.{Forest}
 use Rattle.exec_graph.specs.Meaning.{node_at}
 use Rattle.exec_graph.specs.Readers.{calls_on, same_place}
 use Rattle.exec_graph.specs.Wellformed.{Ascends}
 use Rattle.exec_graph.specs.declared.graph.Entry.{Entry}
 use Rattle.exec_graph.specs.declared.graph.Node.{Node}
-use Rattle.exec_graph.specs.declared.graph.Node.TheVariants.{Pdo}
+use Rattle.exec_graph.specs.declared.graph.Node.TheVariants.{Source, Flatten, Pdo, Gbk, Barrier}
 use Rattle.exec_graph.specs.declared.graph.Place.{Place}
 use Rattle.exec_graph.proofs.Entries.{all_found, entry}
+use Rattle.graph_joins.specs.Present.{is_here, present}
 use Rattle.graph_laws.specs.Joining.{set_node, without}
-use Rattle.graph_tracing.specs.inner.Callers.{first_caller}
+use Rattle.graph_rewrites.specs.Rewrites.{input_of}
+use Rattle.pardo_fuse.specs.Readers.{is_pdo}
+use Rattle.graph_tracing.specs.inner.Callers.{below, first_caller, keeper_by}
 
 -- what the Pdo reads is another one
 first_other : (d c : Place) (es : List Entry) (q : ℕ) (g : Forest)
@@ -75,3 +78,44 @@ first_taken d c (e ∷ es) p q f g new a lt at bt =
         ap (λ (b : Bool). first_caller d (cond b (entry p x ∷ without es q)
         (e ∷ set_node (without es q) p x))) i
         ∙ ap (λ (o : Option ℕ). cond (calls_on d e.node) (Some e.number) o) (r h m)
+
+-- ---- nodes that are taken out read nothing
+
+gone_calls : (d : Place) (x : Node) → is_here x ≡ false → calls_on d x ≡ false
+gone_calls d (Source r) h = absurd (false≢true (sym h))
+gone_calls d (Flatten ins) h = refl
+gone_calls d (Pdo c f) h = absurd (false≢true (sym h))
+gone_calls d (Gbk c o l k) h = absurd (false≢true (sym h))
+gone_calls d (Barrier ins o l a) h = absurd (false≢true (sym h))
+
+pub first_present : (d : Place) (es : List Entry) → first_caller d (present es) ≡ first_caller d es
+first_present d [] = refl
+first_present d (e ∷ es) = by (is_here e.node) refl (first_present d es)
+  where
+    by : (b : Bool) → is_here e.node ≡ b → first_caller d (present es) ≡ first_caller d es
+        → first_caller d (cond b (e ∷ present es) (present es))
+        ≡ cond (calls_on d e.node) (Some e.number) (first_caller d es)
+    by true h i = ap (λ (o : Option ℕ). cond (calls_on d e.node) (Some e.number) o) i
+    by false h i =
+        i ∙ sym (ap (λ (b : Bool). cond b (Some e.number) (first_caller d es))
+        (gone_calls d e.node h))
+
+-- ---- the first Pdo that reads what a Pdo reads
+
+pub keeper_pdo : (es : List Entry) (q : ℕ) (o : Option Node) → is_pdo o ≡ true
+    → keeper_by es q o ≡ below q (first_caller (input_of o) es)
+keeper_pdo es q None h = absurd (false≢true h)
+keeper_pdo es q (Some (Source r)) h = absurd (false≢true h)
+keeper_pdo es q (Some (Flatten ins)) h = absurd (false≢true h)
+keeper_pdo es q (Some (Pdo c f)) h = refl
+keeper_pdo es q (Some (Gbk c o l k)) h = absurd (false≢true h)
+keeper_pdo es q (Some (Barrier ins o l a)) h = absurd (false≢true h)
+
+pub keeper_other : (es : List Entry) (q : ℕ) (o : Option Node) → is_pdo o ≡ false
+    → keeper_by es q o ≡ None
+keeper_other es q None h = refl
+keeper_other es q (Some (Source r)) h = refl
+keeper_other es q (Some (Flatten ins)) h = refl
+keeper_other es q (Some (Pdo c f)) h = absurd (false≢true (sym h))
+keeper_other es q (Some (Gbk c o l k)) h = refl
+keeper_other es q (Some (Barrier ins o l a)) h = refl

@@ -11,25 +11,31 @@ ghost use Rattle.graph_tracing.specs.inner.Callers as callers;
 
 use exec_graph::{Entry, Node, Place, code_of};
 use flatten_sink::find_node;
+use graph_joins::NamedGraph;
 use std::alloc::{AllocError, Global};
 use std::collections::HashMap;
 
 /// The first Pdo that reads what the Pdo of that number reads, if it has a lesser number.
-pub(crate) fn keeper_of(nodes: &[Entry], firsts: &HashMap<u64, u32>, number: u32) -> Option<u32>
-    requires ascends { Ascends nodes.now }
-    requires firsts { callers.HasFirsts firsts.now nodes.now }
-    ensures { result ≡ callers.keeper_in nodes.now number }
+pub(crate) fn keeper_of(graph: &NamedGraph, firsts: &HashMap<u64, u32>, number: u32) -> Option<u32>
+    requires { callers.HasFirsts firsts.now graph.now.nodes }
+    ensures { result ≡ callers.keeper_in graph.now.nodes number }
 {
-    match find_node(nodes, number) {
-        Some(Node::Pdo { input, .. }) => first_below(nodes, firsts, *input, number),
-        _ => None,
+    if graph.is_pdo(number) {
+        first_below(graph, firsts, graph.input(number), number)
+    } else {
+        None
     }
 }
 
 /// The first Pdo that reads the collection, if it has a lesser number than that.
-fn first_below(nodes: &[Entry], firsts: &HashMap<u64, u32>, read: Place, number: u32) -> Option<u32>
-    requires { callers.HasFirsts firsts.now nodes.now }
-    ensures { result ≡ callers.below number (callers.first_caller read nodes.now) }
+fn first_below(
+    graph: &NamedGraph,
+    firsts: &HashMap<u64, u32>,
+    read: Place,
+    number: u32,
+) -> Option<u32>
+    requires { callers.HasFirsts firsts.now graph.now.nodes }
+    ensures { result ≡ callers.below number (callers.first_caller read graph.now.nodes) }
 {
     let _out = read.out;
     below(number, first_at(firsts, read))

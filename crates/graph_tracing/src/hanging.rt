@@ -14,7 +14,6 @@ ghost use Rattle.graph_tracing.specs.inner.Named.{trace_of};
 ghost use Rattle.graph_tracing.specs.inner.Numbers.{KeepsAll, number_in};
 ghost use Rattle.graph_tracing.specs.inner.Waiting.{IsLeaving};
 
-use crate::callers::is_pdo_at;
 use crate::fusing::{KidTrace, with_kid};
 use crate::likely::likely_output;
 use crate::named::{NamedTrace, named_trace, unnamed_trace};
@@ -102,7 +101,7 @@ fn next_kid(alloc: Global, kids: NamedKids, number: u32) -> Result<NamedKids, Al
         IsLeaving (number_in kids.numbers) f (trace_of kids.trace) m (number ∷ ns) all →
         IsLeaving (number_in t.numbers) f (trace_of t.trace) m ns all) }
 {
-    if !is_pdo_at(kids.trace.joins.graph.nodes.as_slice(), number) {
+    if !kids.trace.joins.graph.is_pdo(number) {
         return Ok(kids);
     }
     let next = kid_of(alloc, kids, number)?;

@@ -1,8 +1,5 @@
 // Which output a Pdo reads, most likely: a guess that others test.
-ghost use Rattle.exec_graph.specs.Wellformed.{Ascends};
-
-use exec_graph::{Entry, Node, Output, Place, Step};
-use flatten_sink::find_node;
+use exec_graph::{Output, Place, Step};
 use graph_joins::Joins;
 use std::collections::HashMap;
 
@@ -14,19 +11,17 @@ pub(crate) fn likely_output(
     reader: u32,
     keepers: &HashMap<u32, u32>,
     last: u32,
-) -> Place
-    requires { Ascends joins.now.graph.nodes }
-{
-    let nodes = joins.graph.nodes.as_slice();
-    let name = read_at(nodes, reader);
-    let first = name.checked_rem(joins.graph.next).unwrap_or(0);
+) -> Place {
+    let graph = &joins.graph;
+    let name = graph.input(reader).node;
+    let first = name.checked_rem(graph.next()).unwrap_or(0);
     let node = match keepers.get(&first) {
         Some(keeper) => *keeper,
         None => first,
     };
     let out = match joins.tables.lists.get(&node) {
         Some(names) => place_near(names.as_slice(), last as usize, name),
-        None => outs_before(nodes, node, name),
+        None => outs_before(graph.steps(node), name),
     };
     Place { node, out }
 }
@@ -48,24 +43,10 @@ fn place_from(names: &[u32], from: usize, name: u32) -> Option<u32> {
     None
 }
 
-/// The name that the Pdo reads.
-fn read_at(nodes: &[Entry], number: u32) -> u32
-    requires { Ascends nodes.now }
-{
-    match find_node(nodes, number) {
-        Some(Node::Pdo { input, .. }) => input.node,
-        _ => 0,
-    }
-}
-
-/// How many outputs stand before that of the name among those that the Pdo keeps.
-fn outs_before(nodes: &[Entry], number: u32, name: u32) -> u32
-    requires { Ascends nodes.now }
-{
+/// How many outputs stand before that of the name among those that the steps keep.
+fn outs_before(steps: &[Step], name: u32) -> u32 {
     let mut before = 0;
-    if let Some(Node::Pdo { roots, .. }) = find_node(nodes, number) {
-        let _ = pass_steps(roots.steps(), name, &mut before);
-    }
+    let _ = pass_steps(steps, name, &mut before);
     before
 }
 

@@ -36,7 +36,7 @@ pub(crate) fn with_siblings(
         IsUnderway true (λ n. n) f t m [] all) }
 {
     let begun = named_trace(alloc, trace)?;
-    let firsts = firsts_of(alloc, begun.joins.graph.nodes.as_slice())?;
+    let firsts = firsts_of(alloc, begun.joins.graph.entries())?;
     let last = all_siblings(alloc, begun, &firsts, numbers)?;
     let made = unnamed_trace(alloc, last)?;
     Ok(made)
@@ -79,7 +79,7 @@ fn next_sibling(
         IsUnderway true (λ n. n) f (trace_of trace) m (number ∷ ns) all →
         IsUnderway true (λ n. n) f (trace_of t) m ns all) }
 {
-    match keeper_of(trace.joins.graph.nodes.as_slice(), firsts, number) {
+    match keeper_of(&trace.joins.graph, firsts, number) {
         Some(keeper) => {
             let next = after_sibling(alloc, trace, keeper, number)?;
             Ok(next)

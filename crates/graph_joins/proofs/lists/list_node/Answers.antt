@@ -8,5 +8,5 @@ use Rattle.graph_joins.proofs.lists.list_node.Goals as goal
 pub returns : goal.returns
 returns c =
     tells_more (get nat_eq c.args.lists.now) (get nat_eq c.put_list.new.lists)
-    c.args.nodes.now c.args.number c.in_ok-names.names.items c.requires.lists
-    c.in_ok-put_list.ensures (c.in_ok-names.ensures ∙ ap outs c.steps_at.ensures)
+    c.args.graph.now.nodes c.args.number c.in_ok-names.names.items c.requires
+    c.in_ok-put_list.ensures (c.in_ok-names.ensures ∙ ap outs c.steps.ensures)

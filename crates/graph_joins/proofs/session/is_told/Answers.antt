@@ -9,11 +9,11 @@ use Rattle.graph_joins.proofs.session.is_told.Goals as goal
 pub returns-in-Some : goal.returns-in-Some
 returns-in-Some c = λ e.
     subst (λ (ns : List ℕ). is_kth ns c.args.output c.args.name ≡ true)
-    (c.requires.lists c.args.keeper c.in-Some.names.now
+    (c.requires c.args.keeper c.in-Some.names.now
     (sym c.get.ensures.value ∙ ap option_copied c.in-Some.is))
     (c.is_listed.ensures e)
 
 pub returns-in-None : goal.returns-in-None
 returns-in-None c = λ e.
-    ap (λ f. is_kth (outs f) c.args.output c.args.name) (sym c.steps_at.ensures)
+    ap (λ f. is_kth (outs f) c.args.output c.args.name) (sym c.steps.ensures)
     ∙ sym c.is_output.ensures ∙ e

@@ -1,10 +1,9 @@
-use Rattle.std.proofs.Common.{◌<◌, rules, sym, subst, arith}
+use Rattle.std.proofs.Common.{◌<◌, rules, ap, arith}
 use Rattle.exec_graph.specs.Meaning.{place}
-use Rattle.exec_graph.specs.Wellformed.{Ascends}
 use Rattle.graph_states.specs.of_graph_rewrites.Rewrites.{forest_at, input_at}
-use Rattle.graph_joins.specs.Lists.{HasLists}
+use Rattle.graph_states.specs.of_pardo_fuse.Readers.{is_pdo}
 use Rattle.graph_joins.specs.declared.session.Joins.{Joins}
-use Rattle.graph_joins.proofs.Keeping.{kid_can, kid_made, kid_session, name_apart, outs_differ, reads_once, session_ascends}
+use Rattle.graph_joins.proofs.Keeping.{kid_can, kid_made, kid_session, name_apart, outs_differ, reads_once}
 use Rattle.graph_joins.proofs.session.with_kid.Goals as goal
 
 pub count_off-requires : goal.count_off-requires
@@ -16,20 +15,18 @@ count_off-requires c =
     reads_once j p q (input_at j.graph p) (place c.args.name 0) (forest_at j.graph p)
     (forest_at j.graph q) c.requires.session r.less r.keeper r.other (omega arith)
 
-pub list_both-requires-clause-ascends : goal.list_both-requires-clause-ascends
-list_both-requires-clause-ascends c =
-    subst Ascends (sym c.as_slice.ensures) (session_ascends c.args.joins c.requires.session)
-
-pub list_both-requires-clause-lists : goal.list_both-requires-clause-lists
-list_both-requires-clause-lists c =
-    subst (HasLists c.args.joins.tables.lists) (sym c.as_slice.ensures) c.requires.session.lists
+pub list_both-requires : goal.list_both-requires
+list_both-requires c = c.requires.session.lists
 
 pub relist-requires : goal.relist-requires
 relist-requires c = λ e.
     let lt : c.args.keeper < c.args.reader = c.requires.reads.less in omega arith
 
-pub hung-requires-clause-ascends : goal.hung-requires-clause-ascends
-hung-requires-clause-ascends c = session_ascends c.args.joins c.requires.session
+pub hung-requires-clause-keeper : goal.hung-requires-clause-keeper
+hung-requires-clause-keeper c = ap is_pdo c.requires.reads.keeper
+
+pub hung-requires-clause-other : goal.hung-requires-clause-other
+hung-requires-clause-other c = ap is_pdo c.requires.reads.other
 
 pub hung-requires-clause-differ : goal.hung-requires-clause-differ
 hung-requires-clause-differ c = λ e.
@@ -58,7 +55,7 @@ returns-clause-session c =
     kid_session c.args.joins k c.args.keeper c.args.output c.args.reader c.args.name _
     c.requires.session c.requires.reads c.in_ok-taken.ensures.graph c.in_ok-count_off.ensures
     (search rules) c.list_both.new.lists
-    (subst (HasLists c.list_both.new.lists) c.as_slice.ensures c.in_ok-list_both.ensures)
+    c.in_ok-list_both.ensures
     c.in_ok-taken.taken.is_bare c.in_ok-taken.ensures.outs c.in_ok-relist.ensures
 
 pub returns-clause-can : goal.returns-clause-can

@@ -1,42 +1,33 @@
 use Rattle.std.specs.Prelude.{◌^◌}
-use Rattle.std.proofs.Common.{◌≡◌, ◌+◌, ◌<◌, List, ap, sym, subst, rules, ◌∙◌}
-use Rattle.exec_graph.specs.Meaning.{node_at}
+use Rattle.std.proofs.Common.{◌≡◌, ◌+◌, ◌<◌, ap, sym, subst, rules, ◌∙◌}
 use Rattle.exec_graph.specs.Readers.{same_place}
-use Rattle.exec_graph.specs.Wellformed.{Ascends}
-use Rattle.exec_graph.specs.declared.graph.Entry.{Entry}
 use Rattle.exec_graph.specs.declared.graph.Place.{Place}
-use Rattle.graph_states.specs.of_graph_rewrites.Rewrites.{forest_at, input_at, input_of}
+use Rattle.graph_states.specs.of_graph_rewrites.Rewrites.{forest_at, input_at}
+use Rattle.graph_states.specs.of_pardo_fuse.Readers.{is_pdo}
 use Rattle.graph_joins.specs.Counts.{count_in, one_if}
 use Rattle.graph_joins.specs.declared.session.Joins.{Joins}
-use Rattle.graph_joins.proofs.Keeping.{pair_can, pair_made, pair_session, reads_once, session_ascends}
+use Rattle.graph_joins.proofs.Keeping.{pair_can, pair_made, pair_session, reads_once}
 use Rattle.graph_joins.proofs.session.with_sibling.Goals as goal
-
-pub input_at-input-requires : goal.input_at-input-requires
-input_at-input-requires c =
-    subst Ascends (sym c.as_slice-nodes.ensures) (session_ascends c.args.joins c.requires.session)
-
-pub steps_at-behind-requires : goal.steps_at-behind-requires
-steps_at-behind-requires c =
-    subst Ascends (sym c.as_slice-nodes.ensures) (session_ascends c.args.joins c.requires.session)
 
 pub count_off-requires : goal.count_off-requires
 count_off-requires c =
     let j = c.args.joins in
     let p = c.args.keeper in
     let q = c.args.other in
-    let is : c.input_at-input.result ≡ input_at j.graph p =
-    c.input_at-input.ensures
-    ∙ ap (λ (es : List Entry). input_of (node_at es p)) c.as_slice-nodes.ensures in
+    let is : c.input-input.result ≡ input_at j.graph p = c.input-input.ensures in
     subst (λ (d : Place). 0 < count_in j.tables.counts d) (sym is)
     (reads_once j p q (input_at j.graph p) (input_at j.graph p) (forest_at j.graph p)
     (forest_at j.graph q) c.requires.session c.requires.pair.less c.requires.pair.can.keeper
     c.requires.pair.can.other (subst (λ (d : Place). d.out < 2 ^ 32) is (search rules)))
 
-pub paired-requires-clause-ascends : goal.paired-requires-clause-ascends
-paired-requires-clause-ascends c = session_ascends c.args.joins c.requires.session
-
 pub paired-requires-clause-differ : goal.paired-requires-clause-differ
 paired-requires-clause-differ c = c.requires.pair.can.differ
+
+pub paired-requires-clause-keeper : goal.paired-requires-clause-keeper
+paired-requires-clause-keeper c = ap is_pdo c.requires.pair.can.keeper
+
+pub paired-requires-clause-other : goal.paired-requires-clause-other
+paired-requires-clause-other c = ap is_pdo c.requires.pair.can.other
 
 pub returns-clause-session : goal.returns-clause-session
 returns-clause-session c =
@@ -51,9 +42,7 @@ returns-clause-session c =
         ways = c.note_sibling.new.ways;
       };
     } in
-    let is : c.input_at-input.result ≡ input_at j.graph p =
-    c.input_at-input.ensures
-    ∙ ap (λ (es : List Entry). input_of (node_at es p)) c.as_slice-nodes.ensures in
+    let is : c.input-input.result ≡ input_at j.graph p = c.input-input.ensures in
     pair_session j k p q c.requires.session c.requires.pair c.in_ok-taken.ensures
     (λ v lt. c.in_ok-count_off.ensures v lt
     ∙ ap (λ (d : Place). one_if (same_place v d) + count_in k.tables.counts v) is)

@@ -1,66 +1,49 @@
-use Rattle.std.proofs.Common.{List, ap, ap₂, sym, subst, ◌∙◌}
-use Rattle.exec_graph.specs.Forests.{Bare}
+use Rattle.std.proofs.Common.{◌≡◌, List, [], Some, ap, ap₂, sym, subst, ◌∙◌}
+use Rattle.exec_graph.specs.Forests.{Bare, Branch, Forest, grown}
 use Rattle.exec_graph.specs.Meaning.{node_at}
 use Rattle.exec_graph.specs.Wellformed.{Ascends}
 use Rattle.exec_graph.specs.declared.graph.Entry.{Entry}
-use Rattle.exec_graph.specs.declared.graph.Graph.{Graph}
-use Rattle.exec_graph.specs.declared.graph.Node.TheVariants.{Pdo}
+use Rattle.exec_graph.specs.declared.graph.Node.{Node}
+use Rattle.exec_graph.specs.declared.graph.Node.TheVariants.{Flatten, Pdo}
 use Rattle.exec_graph.specs.declared.graph.Place.{Place}
-use Rattle.graph_laws.specs.Joining.{set_node, without}
-use Rattle.graph_laws.proofs.ObjectNodes.{node_without}
-use Rattle.graph_laws.proofs.Reading.{ascends_without}
+use Rattle.graph_laws.specs.Joining.{set_node}
 use Rattle.flatten_sink.specs.of_sink_laws.Chain.{forest_of}
+use Rattle.flatten_sink.proofs.Standing.{ascends_with}
 use Rattle.graph_states.specs.of_graph_rewrites.Rewrites.{input_of}
+use Rattle.graph_joins.proofs.TakenLemmas.{node_set}
 use Rattle.graph_joins.proofs.taking.take_apart.Goals as goal
 
 pub input_at-input-requires : goal.input_at-input-requires
-input_at-input-requires c =
-    subst Ascends (sym (c.as_slice.ensures.value ∙ c.into_vec-all.ensures)) c.requires.ascends
+input_at-input-requires c = subst Ascends (sym c.as_slice.ensures.value) c.requires.ascends
 
-pub taken_out-gone-requires : goal.taken_out-gone-requires
-taken_out-gone-requires c = subst Ascends (sym c.into_vec-all.ensures) c.requires.ascends
-
-pub emptied-left-requires : goal.emptied-left-requires
-emptied-left-requires c =
-    subst Ascends (sym (c.taken_out-gone.ensures.nodes
-    ∙ ap (λ (es : List Entry). without es c.args.goes) c.into_vec-all.ensures))
-    (ascends_without c.args.graph.nodes c.args.goes c.requires.ascends)
+pub replaced-left-requires : goal.replaced-left-requires
+replaced-left-requires c =
+    subst Ascends (sym c.replaced-gone.ensures.nodes)
+    (ascends_with c.args.nodes.items c.args.goes _ c.requires.ascends)
 
 pub returns-clause-input : goal.returns-clause-input
 returns-clause-input c =
     c.input_at-input.ensures
-    ∙ ap (λ (es : List Entry). input_of (node_at es c.args.stays))
-    (c.as_slice.ensures.value ∙ c.into_vec-all.ensures)
+    ∙ ap (λ (es : List Entry). input_of (node_at es c.args.stays)) c.as_slice.ensures.value
 
-pub returns-clause-graph : goal.returns-clause-graph
-returns-clause-graph c =
-    let g = c.args.graph in
+pub returns-clause-nodes : goal.returns-clause-nodes
+returns-clause-nodes c =
+    let es : List Entry = c.args.nodes.items in
     let n = c.args.stays in
     let m = c.args.goes in
-    ap (λ (es : List Entry). let x : Graph = record {
-      nodes = es;
-      outputs = g.outputs;
-      next = g.next;
-    } in x)
-    (c.from_vec.ensures ∙ c.emptied-left.ensures.nodes
-    ∙ ap₂ (λ (es : List Entry) (d : Place). set_node es n (Pdo d Bare))
-    (c.taken_out-gone.ensures.nodes
-    ∙ ap (λ (es : List Entry). without es m) c.into_vec-all.ensures)
-    (c.input_at-input.ensures ∙ ap (λ (es : List Entry). input_of (node_at es n))
-    (c.as_slice.ensures.value ∙ c.into_vec-all.ensures)))
+    c.replaced-left.ensures.nodes
+    ∙ ap (λ (l : List Entry). set_node l n (Pdo c.input_at-input.result c.new-roots.result))
+    (c.replaced-gone.ensures.nodes
+    ∙ ap (λ (ps : List Place). set_node es m (Flatten ps)) c.new-none.ensures)
+    ∙ ap₂ (λ (d : Place) (f : Forest). set_node (set_node es m (Flatten [])) n (Pdo d f))
+    (c.input_at-input.ensures
+    ∙ ap (λ (l : List Entry). input_of (node_at l n)) c.as_slice.ensures.value)
+    (c.new-roots.ensures ∙ ap (λ (bs : List Branch). grown bs) c.new-empty.ensures.items)
 
 pub returns-clause-stays : goal.returns-clause-stays
 returns-clause-stays c =
-    let g = c.args.graph in
+    let es : List Entry = c.args.nodes.items in
     let n = c.args.stays in
-    let m = c.args.goes in
-    c.emptied-left.ensures.steps
-    ∙ ap (λ (es : List Entry). forest_of (node_at es n))
-    (c.taken_out-gone.ensures.nodes
-    ∙ ap (λ (es : List Entry). without es m) c.into_vec-all.ensures)
-    ∙ ap forest_of (node_without g.nodes m n c.requires.differ)
-
-pub returns-clause-goes : goal.returns-clause-goes
-returns-clause-goes c =
-    c.taken_out-gone.ensures.steps
-    ∙ ap (λ (es : List Entry). forest_of (node_at es c.args.goes)) c.into_vec-all.ensures
+    c.replaced-left.ensures.steps
+    ∙ ap (λ (l : List Entry). forest_of (node_at l n)) c.replaced-gone.ensures.nodes
+    ∙ ap forest_of (node_set es c.args.goes n _ c.requires.differ)

@@ -1,14 +1,10 @@
 use Rattle.std.specs.Prelude.{IfSome}
 use Rattle.std.proofs.Common.{ℕ, Option, subst}
-use Rattle.graph_joins.proofs.Keeping.{session_ascends}
 use Rattle.graph_joins.specs.Sessions.{IsReader}
 use Rattle.graph_tracing.specs.inner.Named.{trace_of}
 use Rattle.graph_tracing.specs.inner.Numbers.{number_in}
 use Rattle.graph_tracing.proofs.Kids.{keeps_kid, kid_goes, kid_taken}
 use Rattle.graph_tracing.proofs.hanging.kid_of.Goals as goal
-
-pub likely_output-read-requires : goal.likely_output-read-requires
-likely_output-read-requires c = session_ascends c.args.kids.trace.joins c.requires.session
 
 pub returns-in_ok-next-in-Some-clause-keeps : goal.returns-in_ok-next-in-Some-clause-keeps
 returns-in_ok-next-in-Some-clause-keeps c =

@@ -1,15 +1,17 @@
-use Rattle.std.proofs.Common.{[], true, sym, subst}
+use Rattle.std.proofs.Common.{[], true, sym, ap, subst, ◌∙◌}
 use Rattle.exec_graph.specs.Wellformed.{IsGraphOk}
 use Rattle.graph_tracing.specs.Traces.{GoesOn}
-use Rattle.graph_tracing.specs.inner.Callers.{HasFirsts}
+use Rattle.graph_tracing.specs.inner.Callers.{first_caller}
 use Rattle.graph_tracing.specs.inner.Named.{trace_of}
 use Rattle.graph_tracing.specs.inner.Waiting.{IsUnderway}
 use Rattle.graph_tracing.specs.declared.trace.Trace.{Trace}
+use Rattle.graph_tracing.proofs.Firsts.{first_present}
 use Rattle.graph_tracing.proofs.pairing.with_siblings.Goals as goal
 
 pub all_siblings-requires-clause-firsts : goal.all_siblings-requires-clause-firsts
-all_siblings-requires-clause-firsts c =
-    subst (HasFirsts c.in_ok-firsts.firsts) c.as_slice.ensures c.in_ok-firsts.ensures
+all_siblings-requires-clause-firsts c = λ d lt.
+    c.in_ok-firsts.ensures d lt ∙ sym (first_present d c.entries.result.now)
+    ∙ ap (first_caller d) c.entries.ensures.present
 
 pub returns-clause-ok : goal.returns-clause-ok
 returns-clause-ok c =

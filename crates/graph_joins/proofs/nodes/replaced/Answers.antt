@@ -6,7 +6,7 @@ use Rattle.exec_graph.proofs.Entries.{entry}
 use Rattle.flatten_sink.specs.Places.{index_at}
 use Rattle.flatten_sink.proofs.Standing.{placed, absent}
 use Rattle.flatten_sink.specs.of_sink_laws.Chain.{forest_of}
-use Rattle.graph_joins.proofs.nodes.taken_out.Goals as goal
+use Rattle.graph_joins.proofs.nodes.replaced.Goals as goal
 
 pub returns-in-Some-clause-nodes : goal.returns-in-Some-clause-nodes
 returns-in-Some-clause-nodes c =
@@ -14,7 +14,8 @@ returns-in-Some-clause-nodes c =
     let at : index_at es c.args.number ≡ Some c.in-Some.i =
     ap (λ (l : List Entry). index_at l c.args.number) (sym c.as_slice.ensures.value)
     ∙ sym c.index_of.ensures.place ∙ c.in-Some.is in
-    c.removed.ensures.nodes ∙ sym (placed es c.args.number c.in-Some.i at).out
+    c.replaced_at.ensures.nodes
+    ∙ sym ((placed es c.args.number c.in-Some.i at).changed c.args.node)
 
 pub returns-in-Some-clause-steps : goal.returns-in-Some-clause-steps
 returns-in-Some-clause-steps c =
@@ -23,7 +24,7 @@ returns-in-Some-clause-steps c =
     let at : index_at es c.args.number ≡ Some c.in-Some.i =
     ap (λ (l : List Entry). index_at l c.args.number) (sym c.as_slice.ensures.value)
     ∙ sym c.index_of.ensures.place ∙ c.in-Some.is in
-    c.removed.ensures.steps z
+    c.replaced_at.ensures.steps z
     ∙ ap (λ (o : Option Node). forest_of o)
     (sym ((placed es c.args.number c.in-Some.i at).here z))
 
@@ -33,7 +34,7 @@ returns-in-None-clause-nodes c =
     let at : index_at es c.args.number ≡ None =
     ap (λ (l : List Entry). index_at l c.args.number) (sym c.as_slice.ensures.value)
     ∙ sym c.index_of.ensures.place ∙ c.in-None.is in
-    c.unopened.ensures.nodes ∙ sym (absent es c.args.number at).out
+    c.unopened.ensures.nodes ∙ sym ((absent es c.args.number at).changed c.args.node)
 
 pub returns-in-None-clause-steps : goal.returns-in-None-clause-steps
 returns-in-None-clause-steps c =
