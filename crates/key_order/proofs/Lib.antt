@@ -1,4 +1,5 @@
 pub mod CrossLemmas
+pub mod NumberRuns
 pub mod Numbering
 pub mod Ordering
 pub mod Pairing

@@ -8,12 +8,15 @@
 //! A pair that is kept until it is grouped is a `Couple`: its key and its value stand in it, and in
 //! no record of their own, and a value that is a side of an either stands there without its box.
 //!
-//! `group_numbered` sorts couples so, and gives the very groups of bag_groups.
+//! `group_numbered` sorts couples by these numbers alone. Those of one number mostly have one key;
+//! then their values are copied out and sorted where they stand in a row, and else the couples are
+//! sorted whole. So it gives the very groups of bag_groups.
 #![tactic(auto)]
 
 mod couple;
 mod groups;
 mod laws;
+mod mixed;
 mod numbers;
 mod sides;
 mod sorting;

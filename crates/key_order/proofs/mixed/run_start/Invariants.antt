@@ -1,7 +1,7 @@
 use Rattle.std.proofs.Common.{◌≡◌, ◌≤◌, Some, drop, length, map}
 use Rattle.std.specs.List.{AllByRecursion}
 use Rattle.bag_groups.specs.Pairs.{key_of}
-use Rattle.key_order.proofs.groups.run_start.Given as goal
+use Rattle.key_order.proofs.mixed.run_start.Given as goal
 
 abbrev pub invariant-loop-start : goal.invariant-loop-start
 invariant-loop-start l = record {

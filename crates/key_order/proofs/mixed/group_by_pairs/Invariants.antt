@@ -2,7 +2,7 @@ use Rattle.std.proofs.Common.{◌≡◌, ◌++◌, All, map, reverse, vec_len}
 use Rattle.flume_value.proofs.BagLemmas.{Rises}
 use Rattle.bag_groups.specs.Pairs.{IsPair}
 use Rattle.bag_groups.specs.Groups.{grouped}
-use Rattle.key_order.proofs.groups.group_numbered.Given as goal
+use Rattle.key_order.proofs.mixed.group_by_pairs.Given as goal
 
 abbrev pub invariant-runs : goal.invariant-runs
 invariant-runs l = record {

@@ -1,6 +1,6 @@
 use Rattle.std.proofs.Common.{◌≡◌, Some, ap, ◌∙◌, arith}
 use Rattle.bag_groups.proofs.LastRuns.{run_ends, run_more}
-use Rattle.key_order.proofs.groups.run_start.Goals as goal
+use Rattle.key_order.proofs.mixed.run_start.Goals as goal
 
 pub loop-start-preserved : goal.loop-start-preserved
 loop-start-preserved c = record {

@@ -1,6 +1,6 @@
 use Rattle.std.proofs.Common.{◌≡◌, map, take}
 use Rattle.bag_groups.specs.inner.Runs.{held_by}
-use Rattle.key_order.proofs.groups.values_of.Given as goal
+use Rattle.key_order.proofs.mixed.values_of.Given as goal
 
 abbrev pub invariant-loop-pair : goal.invariant-loop-pair
 invariant-loop-pair l =

@@ -1,5 +1,5 @@
 use Rattle.bag_groups.proofs.LastRuns.{held_more}
-use Rattle.key_order.proofs.groups.values_of.Goals as goal
+use Rattle.key_order.proofs.mixed.values_of.Goals as goal
 
 pub loop-pair-preserved : goal.loop-pair-preserved
 loop-pair-preserved c =
