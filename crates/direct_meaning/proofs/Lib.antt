@@ -25,5 +25,6 @@ pub mod CallLemmas
 pub mod SizeLemmas
 pub mod EndLemmas
 pub mod RowOrder
+pub mod TextOrder
 pub use Rattle.script_laws.proofs.of_script_rules
 pub use Rattle.script_laws.proofs as of_script_laws

@@ -1,20 +1,22 @@
 -- Rows that are sorted behind their beginnings are in order.
-use Rattle.std.proofs.Common.{◌≡◌, ◌+◌, ◌<◌, ℕ, ℤ, pos, true, false, List, [], ◌∷◌, length, map, get_or, refl, sym, ap, ◌∙◌, subst, arith}
+use Rattle.std.proofs.Common.{◌≡◌, ◌+◌, ◌/◌, ◌<◌, ℕ, ℤ, pos, true, false, List, [], ◌∷◌, length, map, get_or, refl, sym, ap, ◌∙◌, subst, arith}
 use Rattle.std.specs.declared.cmp.Ordering.{Ordering}
 use Rattle.std.specs.declared.cmp.Ordering.TheVariants.{Less, Equal, Greater}
 use Rattle.std.specs.Cmp.Lexicographic.{slice_cmp}
 use Rattle.std.specs.List.Sorted.{IsPermutation, IsSorted}
-use Rattle.std.specs.Ordering.{int_cmp, is_lt, nat_cmp, ordering_then}
+use Rattle.std.specs.Ordering.{int_cmp, is_lt, nat_cmp, ordering_then, MatchOrdering}
+use Rattle.std.proofs.lemmas.Cmp.{int_ranked}
 use Rattle.std.proofs.lemmas.List.{get_or-map, length-map}
 use Rattle.std.proofs.lemmas.List.Elements.{All-map}
 use Rattle.std.proofs.lemmas.List.Sorted.{All-permutation, IsPermutation-map}
-use Rattle.std.specs.Prelude.{All}
+use Rattle.std.specs.Prelude.{◌<ℤ◌, All}
 use Rattle.flume_value.specs.Bag.{bag_of}
 use Rattle.flume_value.specs.Order.{layer_cmp, value_cmp}
 use Rattle.flume_value.specs.declared.value.Value.{Value, Value-F, out-Value}
 use Rattle.flume_value.proofs.BagLemmas.{bag_of-sorted}
 use Rattle.flume_value.proofs.OrderLemmas.{value_cmp-step}
-use Rattle.direct_meaning.specs.inner.Beginnings.{beginning, beginning_by, begun, layer_beginning}
+use Rattle.direct_meaning.specs.inner.Beginnings.{beginning, beginning_by, begun, layer_beginning, leading}
+use Rattle.direct_meaning.proofs.TextOrder.{text_greater}
 
 abbrev pub Begun : Type 0
 Begun = (ℕ × ℤ) × Value
@@ -40,6 +42,24 @@ both_ints Less r up = up
 both_ints Equal r up = up
 both_ints Greater r up = up
 
+text_by : (s t : List ℕ) (r o : Ordering)
+    → MatchOrdering o (pos (leading 8 s / 2) <ℤ pos (leading 8 t / 2))
+    (pos (leading 8 s / 2) ≡ pos (leading 8 t / 2)) (pos (leading 8 t / 2) <ℤ pos (leading 8 s / 2))
+    → is_lt (ordering_then o (ordering_then (slice_cmp nat_cmp s t) r)) ≡ false
+    → is_lt (ordering_then (slice_cmp nat_cmp s t) r) ≡ false
+text_by s t r Less h up = cc up
+text_by s t r Equal h up = up
+text_by s t r Greater h up = ap (λ o. is_lt (ordering_then o r)) (text_greater s t h)
+
+both_texts : (s t : List ℕ) (r : Ordering)
+    → is_lt (ordering_then (int_cmp (pos (leading 8 s / 2)) (pos (leading 8 t / 2)))
+    (ordering_then (slice_cmp nat_cmp s t) r)) ≡ false
+    → is_lt (ordering_then (slice_cmp nat_cmp s t) r) ≡ false
+both_texts s t r up =
+    let a = pos (leading 8 s / 2) in
+    let b = pos (leading 8 t / 2) in
+    text_by s t r (int_cmp a b) (int_ranked a b (int_cmp a b) refl) up
+
 -- two records by their first fields, where their rests compare so
 by_fields : (u v : Value-F Value) (r : Ordering)
     → is_lt (ordering_then (beginnings_cmp (beginning_by u) (beginning_by v))
@@ -47,20 +67,32 @@ by_fields : (u v : Value-F Value) (r : Ordering)
     → is_lt (ordering_then (layer_cmp value_cmp u v) r) ≡ false
 by_fields (Value-F.Int m) (Value-F.Int n) r up = both_ints (int_cmp m n) r up
 by_fields (Value-F.Int m) _ r up = up
+by_fields (Value-F.Bool a) (Value-F.Int n) r up = refl
+by_fields (Value-F.Bool a) _ r up = up
+by_fields (Value-F.Text s) (Value-F.Int n) r up = refl
+by_fields (Value-F.Text s) (Value-F.Bool b) r up = refl
+by_fields (Value-F.Text s) (Value-F.Text t) r up = both_texts s t r up
+by_fields (Value-F.Text s) _ r up = up
 by_fields _ (Value-F.Int n) r up = refl
+by_fields _ (Value-F.Bool b) r up = refl
+by_fields _ (Value-F.Text t) r up = refl
 by_fields _ _ r up = up
 
 -- a record that begins with a field is above all that has 0
 not_below : (v : Value-F Value) (o : Ordering)
     → is_lt (ordering_then (beginnings_cmp (0, pos 0) (beginning_by v)) o) ≡ false → true ≡ false
 not_below (Value-F.Int n) o up = up
+not_below (Value-F.Bool b) o up = up
+not_below (Value-F.Text t) o up = up
 not_below _ o up = up
 
 -- and below all that is greater than each record
 not_above : (u : Value-F Value)
-    → is_lt (ordering_then (beginnings_cmp (beginning_by u) (2, pos 0)) Less) ≡ false
+    → is_lt (ordering_then (beginnings_cmp (beginning_by u) (4, pos 0)) Less) ≡ false
     → true ≡ false
 not_above (Value-F.Int n) up = up
+not_above (Value-F.Bool b) up = up
+not_above (Value-F.Text t) up = up
 not_above _ up = up
 
 abbrev LayersRise : Value-F Value → Value-F Value → Type 0

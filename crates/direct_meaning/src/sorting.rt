@@ -1,9 +1,10 @@
-// Rows in ascending order, sorted by the ints that they begin with before the rest is read.
-ghost use Rattle.std.specs.Prelude.{◌≡◌, IfOk, map};
+// Rows in ascending order, sorted by the ints or texts that they begin with before all else.
+ghost use Rattle.std.specs.Prelude.{◌≡◌, ◌/◌, IfOk, map, pos};
 ghost use Rattle.flume_value.specs.Bag.{bag_of};
-ghost use Rattle.direct_meaning.specs.inner.Beginnings.{begun as begun_of, beginning as beginning_of, beginning_in, field_beginning as field_beginning_of};
+ghost use Rattle.direct_meaning.specs.inner.Beginnings.{begun as begun_of, beginning as beginning_of, beginning_in, field_beginning as field_beginning_of, leading};
 
 use flume_value::Value;
+use key_order::first_eight;
 use std::alloc::{AllocError, Global};
 
 /// The bag of the rows: its members in ascending order. Each is sorted behind its beginning, so
@@ -48,15 +49,16 @@ fn row_alone(begun: ((u8, i64), Value)) -> Value
     begun.1
 }
 
-/// What a row begins with: 1 and its first int, where it is a record that begins with one; else 0
-/// where it is less than these, and 2 where it is greater.
+/// What a row begins with. Of a record whose first field is an int: 1 and the int; a bool: 2; a
+/// text: 3 and its first 63 bits; another value: 4. Of what is no record: 0 where it is less than
+/// these, and 4 where it is greater.
 fn beginning(row: &Value) -> (u8, i64)
     ensures { result ≡ beginning_of row.now }
 {
     match row {
         Value::Int(_) | Value::Bool(_) | Value::Text(_) | Value::List(_) => (0, 0),
         Value::Rec(fields) => first_beginning(fields.as_slice()),
-        Value::Left(_) | Value::Right(_) | Value::Wide(_) => (2, 0),
+        Value::Left(_) | Value::Right(_) | Value::Wide(_) => (4, 0),
     }
 }
 
@@ -76,6 +78,15 @@ fn field_beginning(field: &Value) -> (u8, i64)
 {
     match field {
         Value::Int(n) => (1, *n),
-        _ => (2, 0),
+        Value::Bool(_) => (2, 0),
+        Value::Text(text) => (3, text_bits(text.as_bytes())),
+        _ => (4, 0),
     }
+}
+
+/// The first 63 bits of a text.
+fn text_bits(text: &[u8]) -> i64
+    ensures { result ≡ pos (leading 8 text.now / 2) }
+{
+    (first_eight(text) / 2) as i64
 }

@@ -24,4 +24,4 @@ mod sorting;
 pub use couple::Couple;
 pub use groups::group_numbered;
 pub use laws::number_law;
-pub use numbers::key_number;
+pub use numbers::{first_eight, key_number};

@@ -55,7 +55,7 @@ fn text_bits(text: &[u8]) -> u64
 }
 
 /// The first eight bytes of a text as one number, with zeros behind its end.
-fn first_eight(text: &[u8]) -> u64
+pub fn first_eight(text: &[u8]) -> u64
     ensures number { result ≡ first_bytes 8 text.now }
     ensures held { AllByRecursion (λ byte. byte < 256) text.now }
 {
