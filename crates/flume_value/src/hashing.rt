@@ -1,4 +1,5 @@
-// The partition of a key: FNV-1a of its canonical bytes, hashed while they are walked.
+// The partition of a key: FNV-1a of its canonical bytes, hashed while they are walked. A table of
+// keys hashes them by it too, but for numbers and texts, which it takes in one piece.
 #![tactic(auto, using(crate::proofs::CanonicalLemmas::canonical_rules))]
 
 ghost use Rattle.std.specs.Prelude.{◌≡◌, ◌<◌, ◌≤◌, ◌++◌, length};
@@ -7,6 +8,10 @@ ghost use Rattle.flume_value.specs.Canonical.{canonical, length_bytes, int_bytes
 ghost use Rattle.flume_value.specs.Partitions.{hash_step as step, fnv_1a, partition_of};
 
 use crate::value::Value;
+use std::hash::{Hash, Hasher};
+
+// Where the hash of no bytes begins.
+const START: u64 = 0xcbf29ce484222325;
 
 /// The partition of the key, from 0 to p - 1: FNV-1a with 64 bits of its canonical bytes, modulo
 /// p. Equal keys have one partition. It takes no memory: it hashes while it walks, and its stack
@@ -16,8 +21,26 @@ pub fn partition(key: &Value, p: u32) -> u32
     ensures part { result ≡ partition_of key.now p }
     ensures within { result < p }
 {
-    let hash = hash_value(0xcbf29ce484222325, key);
+    let hash = hash_value(START, key);
     (hash % u64::from(p)) as u32
+}
+
+impl Hash for Value {
+    ghost use Rattle.std.proofs.Common.{ap};
+    ghost use Rattle.flume_value.specs.inner.Exact.{found_equal};
+    ghost use Rattle.flume_value.specs.inner.Hashes.{writes};
+
+    ghost hash_input = { writes };
+
+    ghost respects_eq = { λ x y same. ap writes (found_equal x y same) };
+
+    fn hash<H: Hasher>(&self, state: &mut H) {
+        match self {
+            Value::Int(n) => state.write_i64(*n),
+            Value::Text(s) => state.write(s.as_bytes()),
+            _ => state.write_u64(hash_value(START, self)),
+        }
+    }
 }
 
 /// The hash with the value's canonical bytes hashed in.
