@@ -1,3 +1,4 @@
+pub mod Answers
 pub mod Functions
 pub mod Safety
 pub mod Running

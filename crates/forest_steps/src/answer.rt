@@ -6,7 +6,7 @@ ghost use Rattle.exec_graph.specs.World.{World};
 ghost use Rattle.exec_graph.specs.declared.step.Does.TheVariants as does;
 ghost use Rattle.forest_steps.specs.Functions.{IsTrapOf, world_of};
 ghost use Rattle.forest_steps.specs.Safety.{CanCall};
-ghost use Rattle.forest_steps.specs.inner.Answers.{lists_of};
+ghost use Rattle.forest_steps.specs.Answers.{lists_of};
 ghost use Rattle.forest_steps.specs.inner.Deriving.{IsDerived};
 
 use crate::derived::{left_tagged, right_tagged, split, spread, under_zero, with_one};
@@ -76,7 +76,7 @@ fn call_function<F: Functions>(
         (IsTrapOf origin (called (world_of (F.called functions.now)) (does.Call number) x.now)) }
 {
     match functions.call(alloc, number, x) {
-        Ok(lists) => Ok(Answer::Lists(lists)),
+        Ok(answer) => Ok(answer),
         Err(CallFault::Trap(kind)) => Err(StepFault::Trap(Trap {
             origin,
             element: x.copy(alloc)?,

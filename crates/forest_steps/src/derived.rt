@@ -5,7 +5,7 @@ ghost use Rattle.flume_value.specs.Parts.{left_of, right_of};
 ghost use Rattle.bag_groups.specs.Pairs.{parts_of};
 ghost use Rattle.bag_groups.specs.Combining.{group_of};
 ghost use Rattle.exec_graph.specs.Derived.{with_one, under_zero, left_tagged, right_tagged, sides_apart, split, spread};
-ghost use Rattle.forest_steps.specs.inner.Answers.{lists_of};
+ghost use Rattle.forest_steps.specs.Answers.{lists_of};
 
 use crate::emissions::{Answer, only};
 use bag_groups::pair;

@@ -1,13 +1,13 @@
 // What a step answered of an element: one emission, or lists of them.
 ghost use Rattle.std.specs.Prelude.{◌≡◌, ◌∷◌, [], IfOk};
-ghost use Rattle.forest_steps.specs.inner.Answers.{lists_of};
+ghost use Rattle.forest_steps.specs.Answers.{lists_of};
 
 use flume_value::{Items, Pile, Value};
 use std::alloc::{AllocError, Global};
 
 /// What a step answered. Mostly that is one emission to one output, for which no list is made.
 #[derive(Drop)]
-pub(crate) enum Answer {
+pub enum Answer {
     /// One emission to the first output.
     One(Value),
     /// One list of emissions for each output.

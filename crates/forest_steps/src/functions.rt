@@ -1,8 +1,10 @@
 // The functions of a script, as steps call them.
 ghost use Rattle.std.specs.Prelude.{◌≡◌, Ok, IfOk, IfErr};
+ghost use Rattle.forest_steps.specs.Answers.{lists_of};
 ghost use Rattle.forest_steps.specs.Functions.{IsCallFault};
 
-use flume_value::{CallFault, Items, Value};
+use crate::emissions::Answer;
+use flume_value::{CallFault, Value};
 use std::alloc::Global;
 
 /// The functions of a script, by their numbers.
@@ -17,11 +19,12 @@ pub trait Functions {
     /// The function of that number may be called on that element.
     ghost can_call: { Self → ℕ → GhostValue → Type 0 };
 
-    /// Calls a function: one list of emissions for each of its outputs, or its trap.
-    fn call(&self, alloc: Global, number: u32, element: &Value) -> Result<Vec<Items>, CallFault>
+    /// Calls a function: its one emission, one list of emissions for each of its outputs, or its
+    /// trap.
+    fn call(&self, alloc: Global, number: u32, element: &Value) -> Result<Answer, CallFault>
         requires { can_call self.now number element.now }
-        ensures emissions { IfOk result (λ lists.
-            called self.now number element.now ≡ Ok lists.items) }
+        ensures emissions { IfOk result (λ answer.
+            called self.now number element.now ≡ Ok (lists_of answer)) }
         ensures trap { IfErr result
             (IsCallFault (called self.now number element.now) element.now) };
 }

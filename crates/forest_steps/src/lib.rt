@@ -25,6 +25,7 @@ mod sizes;
 mod visit;
 
 pub use elements::{Borrowed, Elements, Owned};
+pub use emissions::Answer;
 pub use fault::StepFault;
 pub use functions::Functions;
 pub use outputs::Outputs;

@@ -6,7 +6,7 @@ ghost use Rattle.exec_graph.specs.Forests.{Bare, grown, limb};
 ghost use Rattle.forest_steps.specs.Functions.{world_of};
 ghost use Rattle.forest_steps.specs.Safety.{Safe};
 ghost use Rattle.forest_steps.specs.Running.{run, run_each, run_out, run_twigs, below, behind, behind_all, IsRun, SafeTwigs};
-ghost use Rattle.forest_steps.specs.inner.Answers.{lists_of};
+ghost use Rattle.forest_steps.specs.Answers.{lists_of};
 
 use crate::answer::{answer, answer_moved};
 use crate::emissions::{Answer, one_in_lists};

@@ -15,8 +15,8 @@ use crate::legs::run_task;
 use exec_graph::Roots;
 use exec_plan::OutChannel;
 use flume_collection::Trap;
-use flume_value::{CallFault, Items, Pile, Value};
-use forest_steps::Functions;
+use flume_value::{CallFault, Pile, Value};
+use forest_steps::{Answer, Functions};
 use shuffle_parts::MapOut;
 use std::alloc::{AllocError, Global};
 
@@ -39,7 +39,7 @@ impl<'a, F: Functions> Functions for Beside<'a, F> {
     ghost can_call = { λ b f x.
         F.can_call b.functions.now f (value.Rec (x ∷ (b.object.now ∷ []))) };
 
-    fn call(&self, alloc: Global, number: u32, element: &Value) -> Result<Vec<Items>, CallFault> {
+    fn call(&self, alloc: Global, number: u32, element: &Value) -> Result<Answer, CallFault> {
         let both = record_of(alloc, element, self.object)?;
         self.functions.call(alloc, number, &both)
     }

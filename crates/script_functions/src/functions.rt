@@ -1,14 +1,15 @@
 // The functions of a script, by their numbers.
-ghost use Rattle.std.specs.Prelude.{◌≡◌, ◌∷◌, IfErr, IfOk};
+ghost use Rattle.std.specs.Prelude.{◌≡◌, ◌∷◌, [], IfErr, IfOk, length};
 ghost use Rattle.dofn_eval.specs.Function.{Accepts};
 ghost use Rattle.dofn_eval.specs.Outcome.{Gives, IsFaultIn};
 ghost use Rattle.dofn_eval.specs.Run.{means};
+ghost use Rattle.forest_steps.specs.Answers.{lists_of};
 
 use build_law::script_program::Program;
 use dofn_calls::call;
 use dofn_eval::Fun;
 use flume_value::{CallFault, Items, Value};
-use forest_steps::Functions;
+use forest_steps::{Answer, Functions};
 use std::alloc::{AllocError, Global};
 use std::marker::Model;
 
@@ -58,31 +59,46 @@ impl<'a> Functions for ScriptFunctions<'a> {
 
     ghost can_call = { λ script. Takes (signatures_of script) };
 
-    fn call(&self, alloc: Global, number: u32, element: &Value) -> Result<Vec<Items>, CallFault> {
+    fn call(&self, alloc: Global, number: u32, element: &Value) -> Result<Answer, CallFault> {
         let number = number as usize;
         if number < self.program.function_count() {
             call_function(alloc, &self.program.function(number).fun, element)
         } else {
-            Ok(Vec::new(alloc))
+            Ok(Answer::Lists(Vec::new(alloc)))
         }
     }
 }
 
 /// What a call of a function gives to each of its outputs, in order, or its trap.
-fn call_function(alloc: Global, fun: &Fun, element: &Value) -> Result<Vec<Items>, CallFault>
+fn call_function(alloc: Global, fun: &Fun, element: &Value) -> Result<Answer, CallFault>
     requires { Accepts fun.now element.now }
-    ensures emissions { IfOk result (λ lists.
-        means fun.now.outputs fun.now.body element.now ≡ Gives lists.items) }
+    ensures emissions { IfOk result (λ answer.
+        means fun.now.outputs fun.now.body element.now ≡ Gives (lists_of answer)) }
     ensures trap { IfErr result (IsFaultIn (means fun.now.outputs fun.now.body element.now)) }
 {
     let (first, others) = call(alloc, fun, element)?.into_parts();
     Ok(in_order(first, others)?)
 }
 
-/// The first list before the others.
-fn in_order(first: Items, mut others: Vec<Items>) -> Result<Vec<Items>, AllocError>
-    ensures { IfOk result (λ lists. lists.items ≡ first ∷ others.items) }
+/// The first list before the others. No list is made for one value of one output.
+fn in_order(first: Items, others: Vec<Items>) -> Result<Answer, AllocError>
+    ensures { IfOk result (λ answer. lists_of answer ≡ first ∷ others.items) }
 {
-    others.insert(0, first)?;
-    Ok(others)
+    if first.len() == 1 && others.is_empty() {
+        return Ok(Answer::One(only_of(first)));
+    }
+    let mut lists = others;
+    lists.insert(0, first)?;
+    Ok(Answer::Lists(lists))
+}
+
+/// The value of a list of one.
+fn only_of(list: Items) -> Value
+    requires { length list ≡ 1 }
+    ensures { list ≡ result ∷ [] }
+{
+    match list.into_vec().pop() {
+        Some(value) => value,
+        None => unreachable!(),
+    }
 }

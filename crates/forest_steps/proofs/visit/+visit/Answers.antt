@@ -14,7 +14,7 @@ use Rattle.exec_graph.proofs.step.Step.TheLaws.TheFalls.{size_decreases}
 use Rattle.forest_steps.specs.Functions.{world_of}
 use Rattle.forest_steps.specs.Safety.{Safe}
 use Rattle.forest_steps.specs.Running.{Run, IsRun, run, run_twigs}
-use Rattle.forest_steps.specs.inner.Answers.{lists_of}
+use Rattle.forest_steps.specs.Answers.{lists_of}
 use Rattle.forest_steps.proofs.Twigging.{limb_run, limb_safe, safe_member}
 use Rattle.forest_steps.proofs.Visiting.{each_member, place_begun, place_on, safe_begun, safe_first, safe_here, safe_on, steps_end, steps_on, twigs_begun, twigs_end, twigs_on}
 use Rattle.forest_steps.proofs.visit.+visit.Goals as goal

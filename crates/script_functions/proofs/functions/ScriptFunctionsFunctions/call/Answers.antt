@@ -2,6 +2,7 @@ use Rattle.std.proofs.Common.{◌≡◌, ◌≤◌, ◌∙◌, ℕ, Ok, Some, le
 use Rattle.build_law.specs.of_script_program.Program.{function_in}
 use Rattle.build_law.specs.of_script_program.Script.{Script}
 use Rattle.build_law.specs.of_script_laws.WellFormed.{function_at}
+use Rattle.forest_steps.specs.Answers.{lists_of}
 use Rattle.script_functions.proofs.Calling.{emits, silent, traps}
 use Rattle.script_functions.proofs.functions.ScriptFunctionsFunctions.call.Goals as goal
 
@@ -16,7 +17,7 @@ pub returns-then-number-function_count-clause-emissions :
 returns-then-number-function_count-clause-emissions c =
     emits (function_at c.args.self.now.functions c.args.number)
     (function_in c.self.inside.program.now.known c.function.result.now) (at c)
-    c.function.result.now.fun c.function.ensures.does c.args.element.now (λ lists. lists.items)
+    c.function.result.now.fun c.function.ensures.does c.args.element.now lists_of
     c.call_function.result c.call_function.ensures.emissions
 
 pub returns-then-number-function_count-clause-trap :
