@@ -1,6 +1,6 @@
 -- Values that the derived `==` finds equal are one value.
 use Rattle.std.specs.Prelude.{◌≡◌, Bool, true, false, List, [], ◌∷◌, map, refl, IsTrue}
-use Rattle.std.proofs.Common.{sym, ap, ◌∙◌, subst, absurd, true≢false}
+use Rattle.std.proofs.Common.{sym, ap, ◌∙◌, subst, true≢false}
 use Rattle.std.specs.declared.cmp.Ordering.{Ordering}
 use Rattle.std.specs.declared.cmp.Ordering.TheVariants.{Less, Equal, Greater}
 use Rattle.std.specs.Ordering.{ordering_then, bool_cmp, is_eq}
