@@ -5,11 +5,12 @@ ghost use Rattle.flume_collection.specs.Collection.{Collection};
 ghost use Rattle.exec_graph.specs.declared.graph.Act.TheVariants as act;
 ghost use Rattle.exec_graph.specs.Objects.{act_result, argument, one_answer, only, values_in};
 ghost use Rattle.exec_graph.specs.World.{World};
+ghost use Rattle.forest_steps.specs.Answers.{lists_of};
 ghost use Rattle.operate_step.specs.Results.{object_of};
 
 use flume_collection::Trap;
 use flume_value::{CallFault, Items, Kind, Pile, Value};
-use forest_steps::Functions;
+use forest_steps::{Answer, Functions};
 use std::alloc::{AllocError, Global};
 
 /// What a function gives, for a script node, that is called once on the values of objects: on the
@@ -66,7 +67,7 @@ fn call_on<F: Functions>(
         one_answer origin x (F.called functions.now function x) ≡ object_of made) }
 {
     match functions.call(alloc, function, &x) {
-        Ok(lists) => Ok(answered(origin, x, lists)),
+        Ok(answer) => Ok(answered(origin, x, answer)),
         Err(CallFault::Trap(kind)) => Ok(Err(trap(origin, x, kind))),
         Err(CallFault::Memory) => Err(AllocError),
     }
@@ -83,17 +84,27 @@ fn trap(origin: u32, element: Value, kind: Kind) -> Trap
 }
 
 // What a call has emitted that did not trap.
-fn answered(origin: u32, x: Value, lists: Vec<Items>) -> Result<Value, Trap>
-    ensures { one_answer origin x (Ok lists.items) ≡ object_of result }
+fn answered(origin: u32, x: Value, answer: Answer) -> Result<Value, Trap>
+    ensures { one_answer origin x (Ok (lists_of answer)) ≡ object_of result }
 {
-    match only_emission(lists) {
+    match only_emission(answer) {
         Some(value) => Ok(value),
         None => Err(trap(origin, x, Kind::NotOne)),
     }
 }
 
 // The one emission to the first output.
-fn only_emission(lists: Vec<Items>) -> Option<Value>
+fn only_emission(answer: Answer) -> Option<Value>
+    ensures { result ≡ only (or_none (slice_get (lists_of answer) 0)) }
+{
+    match answer {
+        Answer::One(value) => Some(value),
+        Answer::Lists(lists) => first_emission(lists),
+    }
+}
+
+// The one emission of the first list.
+fn first_emission(lists: Vec<Items>) -> Option<Value>
     ensures { result ≡ only (or_none (slice_get lists.items 0)) }
 {
     let mut lists = lists.into_iter();
