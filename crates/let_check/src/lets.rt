@@ -10,7 +10,7 @@ ghost use Rattle.script_program.specs.Script.{with_nodes};
 ghost use Rattle.script_rules.specs.Rules as spec;
 ghost use Rattle.let_check.specs.inner.Names.{AreNew};
 
-use crate::fresh::fresh;
+use crate::definitions::fresh;
 use flume_grammar::{Operation, ScriptFault, ScriptKind};
 use flume_value::{Pile, Str};
 use operation_check::made_by;

@@ -9,12 +9,12 @@
 //! script_rules defines: a program knows no repeat.
 #![tactic(auto)]
 
-mod fresh;
+mod definitions;
 mod lets;
 mod renumbering;
 mod repeats;
 mod turns;
 
-pub use fresh::{fresh, room};
+pub use definitions::{fresh, room};
 pub use lets::add_let;
 pub use repeats::rule_repeat;

@@ -12,7 +12,7 @@ ghost use Rattle.script_rules.specs.Rules as spec;
 ghost use Rattle.let_check.specs.inner.Held.{entry_in, repeat_in};
 ghost use Rattle.let_check.specs.inner.Names.{AreFree, AreNew};
 
-use crate::fresh::room;
+use crate::definitions::room;
 use crate::lets::{add_all, add_let, all_fresh};
 use crate::turns::{Repeat, unroll};
 use combine_table::Comb;

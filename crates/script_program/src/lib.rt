@@ -21,6 +21,6 @@ mod sources;
 pub use body_check::{expression_check, written_types};
 pub use limits::{MOST_COLLECTIONS, MOST_FILES, MOST_FUNCTIONS, MOST_OUTPUTS};
 pub use made::{Emitted, Function, Made, Making, Node, Output, Signature, Standing};
-pub use needed::needed;
+pub use needed::needed_flags;
 pub use program::Program;
 pub use sources::{source_at, source_numbers};

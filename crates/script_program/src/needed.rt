@@ -10,7 +10,7 @@ use indexmap::IndexMap;
 use std::alloc::{AllocError, Global};
 
 /// For each collection whether it is needed: whether a path of reads leads from it to an output.
-pub fn needed(
+pub fn needed_flags(
     alloc: Global,
     nodes: &[(Str, Node)],
     outputs: &IndexMap<Str, Output>,

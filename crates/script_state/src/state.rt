@@ -21,7 +21,7 @@ use dofn_eval::Fun;
 use flume_grammar::{Body, Function as Written, ScriptFault, Type};
 use flume_value::{Pile, Str};
 use indexmap::IndexMap;
-use script_program::{Function, Making, Node, Output, Program, Signature, Standing, needed};
+use script_program::{Function, Making, Node, Output, Program, Signature, Standing, needed_flags};
 use std::alloc::{AllocError, Global};
 use std::marker::Model;
 use type_table::{Shape, TypeId, Types};
@@ -87,7 +87,7 @@ impl State {
     pub fn into_program(self, alloc: Global) -> Result<Program, AllocError>
         ensures { IfOk result (λ program. program.script ≡ spec.script_from self.state) }
     {
-        let needed = needed(alloc, self.nodes.as_slice(), &self.outputs)?;
+        let needed = needed_flags(alloc, self.nodes.as_slice(), &self.outputs)?;
         let State {
             known,
             functions,
