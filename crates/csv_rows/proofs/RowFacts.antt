@@ -17,7 +17,7 @@ use Rattle.csv_rows.specs.declared.fault.RowKind.TheVariants as kind
 pub text_yes : (bs : List ℕ) → IsUtf8 bs → is_utf8 bs ≡ true
 text_yes = is_utf8-from_IsUtf8
 
-text_no : (bs : List ℕ) → ¬ (IsUtf8 bs) → is_utf8 bs ≡ false
+pub text_no : (bs : List ℕ) → ¬ (IsUtf8 bs) → is_utf8 bs ≡ false
 text_no bs h =
     elim (cases_Bool (is_utf8 bs)) [ inl e ↦ absurd (h (IsUtf8-from_is_utf8 bs e)) | inr e ↦ e ]
 

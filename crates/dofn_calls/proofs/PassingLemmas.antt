@@ -22,7 +22,7 @@ passed_to-one [] s some few is = absurd (omega (arith, some))
 passed_to-one (t ∷ []) s some few is = ap passed_by (sym is)
 passed_to-one (t ∷ u ∷ ss) s some few is = absurd (omega (arith, few))
 
-passed_to-more : (ss : List Stmt) → 2 ≤ length ss → passed_to ss ≡ None
+pub passed_to-more : (ss : List Stmt) → 2 ≤ length ss → passed_to ss ≡ None
 passed_to-more [] many = refl
 passed_to-more (s ∷ []) many = absurd (omega (arith, many))
 passed_to-more (s ∷ t ∷ ss) many = refl

@@ -49,7 +49,7 @@ named_slot vs env slot i x h e is =
     named_in vs env slot h ∙ ap (slice_get vs) (sym e) ∙ slice_get-get_or vs i x lt
     ∙ ap Some (sym is)
 
-older_slot : (vs env : List Value) (slot j : ℕ) (x : Value) → length vs ≤ slot → j
+pub older_slot : (vs env : List Value) (slot j : ℕ) (x : Value) → length vs ≤ slot → j
     ≡ slot - length vs → slice_get env j ≡ Some x → slice_get (named vs env) slot ≡ Some x
 older_slot vs env slot j x h e is = named_past vs env slot h ∙ ap (slice_get env) (sym e) ∙ is
 

@@ -29,7 +29,7 @@ pub depth_of-Rec : (fields : List (Field Ty)) → depth_of (variant.Rec fields)
 depth_of-Rec fields = depth_of-step (variant.Rec fields)
     ∙ ap (layer_depth depth_of) (variant.outs-Rec fields)
 
-depth_of-Either : (t u : Ty) → depth_of (variant.Either t u) ≡ max (depth_of t) (depth_of u) + 1
+pub depth_of-Either : (t u : Ty) → depth_of (variant.Either t u) ≡ max (depth_of t) (depth_of u) + 1
 depth_of-Either t u = depth_of-step (variant.Either t u)
     ∙ ap (layer_depth depth_of) (variant.outs-Either t u)
 
