@@ -1,7 +1,6 @@
 -- Pairs of lesser numbers have groups of their own, which stand first.
 use Rattle.std.proofs.Common.{◌≡◌, ◌+◌, ◌<◌, ◌≤◌, ℕ, Bool, true, false, Some, None, Option, List, [], ◌∷◌, ◌++◌, append-nil, append_assoc, drop, get_or, inl, inr, length, length-drop, map, take, refl, sym, ap, ◌∙◌, subst, arith}
 use Rattle.std.specs.Prelude.{All, IsSome, filter, not, option_map}
-use Rattle.std.specs.Borrow.{Bor}
 use Rattle.std.specs.List.{AllByRecursion as Each, cons_option, list_all}
 use Rattle.std.specs.List.Sorted.{IsNonDecreasingBy, IsPermutation}
 use Rattle.std.specs.Ordering.{is_lt, ordering_reverse}
@@ -13,7 +12,6 @@ use Rattle.flume_value.specs.declared.value.Value.{Value}
 use Rattle.flume_value.specs.declared.value.Value.TheVariants as value
 use Rattle.flume_value.specs.Bag.{bag_of}
 use Rattle.flume_value.specs.Equality.{value_eq}
-use Rattle.flume_value.specs.Order.{value_cmp}
 use Rattle.flume_value.proofs.BagLemmas.{NotBelow, Rises, Each-bag_of, Rises-bag_of, bag_of-IsPermutation, bag_of-sorted, length-bag_of, sorted_from, IsPermutation-bag_of}
 use Rattle.flume_value.proofs.BoolLemmas.{both_true}
 use Rattle.flume_value.proofs.EachLemmas.{each_from, Each-append, Each-map, Each-weaker}
@@ -299,48 +297,55 @@ refs_held run refs all same =
 
 -- ---- where the first run ends
 
-pub run_over : {X : Type 0} (number : X → ℕ) (xs : List X) (end n : ℕ) (first : X)
-    → IsNonDecreasingBy number xs → 0 < length xs → first ≡ get_or xs 0 first → number first ≡ n
-    → (end < length xs → (x : X) → x ≡ get_or xs end x → number x ≡ n → ⊥)
-    → All (λ x. n < number x) (drop end xs)
-run_over number xs end n first rise some is at_first ends k d below =
+pub run_over : {X : Type 0} (number : X → ℕ) (xs : List X) (end : ℕ) (first : X)
+    → IsNonDecreasingBy number xs → 0 < length xs
+    → (end < length xs → (x : X) → number (get_or xs end x) ≡ number (get_or xs 0 first) → ⊥)
+    → All (λ x. number (get_or xs 0 first) < number x) (drop end xs)
+run_over number xs end first rise some ends k d below =
     let inside : end + k < length xs = omega (arith, below, length-drop end xs) in
-    let there = get_or xs end d in
-    let least : number (get_or xs 0 d) ≡ n
-    = ap number (sym (is ∙ get_or_default xs 0 first d some)) ∙ at_first in
-    let from : number (get_or xs 0 d) ≤ number there
+    let least : number (get_or xs 0 d) ≡ number (get_or xs 0 first)
+    = ap number (sym (get_or_default xs 0 first d some)) in
+    let from : number (get_or xs 0 d) ≤ number (get_or xs end d)
     = rise 0 end d (omega arith) (omega (arith, inside)) in
-    let on : number there ≤ number (get_or xs (end + k) d)
+    let on : number (get_or xs end d) ≤ number (get_or xs (end + k) d)
     = rise end (end + k) d (omega arith) inside in
     let same : number (get_or (drop end xs) k d) ≡ number (get_or xs (end + k) d)
     = ap number (get_or-drop end xs k d) in
-    elim (cases_lt n (number there)) [
+    elim (cases_lt (number (get_or xs 0 first)) (number (get_or xs end d))) [
       | inl lower ↦ omega (arith, lower, on, same)
-      | inr past ↦ absurd (ends (omega (arith, inside)) there
-          (get_or_default xs end d there (omega (arith, inside)))
-          (omega (arith, past, from, least)))
+      | inr past ↦ absurd (ends (omega (arith, inside)) d (omega (arith, past, from, least)))
     ]
 
+abbrev pub first_number : List Numbered → Numbered → ℕ
+first_number ns first = number_of (get_or ns 0 first)
+
 -- ends are told of the number that stands there
-pub first_run : (ns : List Numbered) (end n : ℕ) (first : Numbered)
-    → IsNonDecreasingBy number_of ns → 0 < length ns → first ≡ get_or ns 0 first → first.0 ≡ n
-    → All (λ (e : Numbered). e.0 ≡ n) (take end ns)
-    → (end < length ns → (x : Numbered) → x ≡ get_or ns end x → x.0 ≡ n → ⊥)
+pub first_run : (ns : List Numbered) (end : ℕ) (first : Numbered)
+    → IsNonDecreasingBy number_of ns → 0 < length ns
+    → All (λ (e : Numbered). e.0 ≡ first_number ns first) (take end ns)
+    → (end < length ns → (x : Numbered) → number_of (get_or ns end x) ≡ first_number ns first → ⊥)
     → IsFirstRun number_of ns end
-first_run ns end n first rise some is at_first same ends = record {
-  first = n;
+first_run ns end first rise some same ends = record {
+  first = first_number ns first;
   same = same;
-  above = run_over number_of ns end n first rise some is at_first ends;
+  above = run_over number_of ns end first rise some ends;
 }
 
-pub same_begin : (ns : List Numbered) (n : ℕ) (first : Numbered) → 0 < length ns
-    → first ≡ get_or ns 0 first → first.0 ≡ n → All (λ (e : Numbered). e.0 ≡ n) (take 1 ns)
-same_begin ns n first some is at_first =
-    All-more (λ (e : Numbered). e.0 ≡ n) ns 0 first some (λ k d l. absurd (omega (arith, l)))
-    (ap number_of (sym is) ∙ at_first)
+-- another number stands there
+pub ends_at : (ns : List Numbered) (end n : ℕ) (at : Numbered)
+    → (number_of (get_or ns end at) ≡ n → ⊥) → end < length ns → (x : Numbered)
+    → number_of (get_or ns end x) ≡ n → ⊥
+ends_at ns end n at other within x same =
+    other (ap number_of (get_or_default ns end at x within) ∙ same)
+
+pub same_begin : (ns : List Numbered) (first : Numbered) → 0 < length ns
+    → All (λ (e : Numbered). e.0 ≡ first_number ns first) (take 1 ns)
+same_begin ns first some =
+    All-more (λ (e : Numbered). e.0 ≡ first_number ns first) ns 0 first some
+    (λ k d l. absurd (omega (arith, l))) refl
 
 pub same_more : (ns : List Numbered) (i n : ℕ) (x : Numbered) → i < length ns
-    → All (λ (e : Numbered). e.0 ≡ n) (take i ns) → x ≡ get_or ns i x → x.0 ≡ n
+    → All (λ (e : Numbered). e.0 ≡ n) (take i ns) → number_of (get_or ns i x) ≡ n
     → All (λ (e : Numbered). e.0 ≡ n) (take (i + 1) ns)
-same_more ns i n x within all is same =
-    All-more (λ (e : Numbered). e.0 ≡ n) ns i x within all (ap number_of (sym is) ∙ same)
+same_more ns i n x within all same =
+    All-more (λ (e : Numbered). e.0 ≡ n) ns i x within all same

@@ -9,13 +9,13 @@ use Rattle.key_order.proofs.NumberRuns.{number_of, same_groups}
 use Rattle.key_order.proofs.Pairing.{told, Holds}
 use Rattle.key_order.proofs.groups.group_numbered.Goals as goal
 
-pub groups_of_runs-requires-numbers : goal.groups_of_runs-requires-numbers
-groups_of_runs-requires-numbers c =
+pub groups_of_runs-requires-clause-numbers : goal.groups_of_runs-requires-clause-numbers
+groups_of_runs-requires-clause-numbers c =
     All-same Holds c.deref.result.now c.in_ok-numbered.numbered.items c.deref.ensures.value
     c.in_ok-numbered.ensures.numbers
 
-pub groups_of_runs-requires-rise : goal.groups_of_runs-requires-rise
-groups_of_runs-requires-rise c =
+pub groups_of_runs-requires-clause-rise : goal.groups_of_runs-requires-clause-rise
+groups_of_runs-requires-clause-rise c =
     subst (IsNonDecreasingBy number_of) (sym c.deref.ensures.value) c.in_ok-numbered.ensures.rise
 
 pub returns-clause-groups : goal.returns-clause-groups
