@@ -97,7 +97,8 @@ fn only_of(list: Items) -> Value
     requires { length list ≡ 1 }
     ensures { list ≡ result ∷ [] }
 {
-    match list.into_vec().pop() {
+    let mut values = list.into_vec();
+    match values.pop() {
         Some(value) => value,
         None => unreachable!(),
     }
