@@ -1,5 +1,5 @@
 -- Texts by the numbers that their first bytes make.
-use Rattle.std.proofs.Common.{◌≡◌, ◌+◌, ◌-◌, ◌*◌, ◌/◌, ◌^◌, ◌<◌, ◌≤◌, ℕ, zero, suc, Bool, true, false, pos, List, [], ◌∷◌, refl, ap, ◌∙◌, arith}
+use Rattle.std.proofs.Common.{◌≡◌, ◌+◌, ◌*◌, ◌/◌, ◌^◌, ◌<◌, ◌≤◌, ℕ, zero, suc, Bool, true, false, pos, List, [], ◌∷◌, refl, ap, ◌∙◌, arith}
 use Rattle.std.specs.Prelude.{◌<ℤ◌, ltb}
 use Rattle.std.specs.declared.cmp.Ordering.{Ordering}
 use Rattle.std.specs.declared.cmp.Ordering.TheVariants.{Less, Equal, Greater}
@@ -10,7 +10,7 @@ use Rattle.std.proofs.Math.Nat.{mul_comm, pow-suc}
 use Rattle.std.proofs.lemmas.Bool.{lt-ltb, ltb-false, ltb-true}
 use Rattle.std.proofs.lemmas.Cmp.{ranked}
 use Rattle.std.proofs.lemmas.Int.{ints}
-use Rattle.std.proofs.lemmas.Nat.{mul-add-lt}
+use Rattle.std.proofs.lemmas.Nat.{div_below, mul-add-lt}
 use Rattle.key_order.specs.Numbers.{first_bytes}
 use Rattle.direct_meaning.specs.inner.Beginnings.{leading, led_by}
 
@@ -39,6 +39,9 @@ leading-below (suc n) (b ∷ t) =
       led-below b (256 ^ n) (leading n t) (ltb b 256) refl
           (leading-below n t),
     )
+
+pub half-below : (t : List ℕ) → leading 8 t / 2 < 2 ^ 63
+half-below t = div_below (leading 8 t) 2 (2 ^ 63) (omega arith) (omega (arith, leading-below 8 t))
 
 -- ---- a greater number, a greater text
 
