@@ -7,5 +7,5 @@
 mod reports;
 mod telling;
 
-pub use reports::{Counts, Outcome, Report};
-pub use telling::{push_name, push_text};
+pub use reports::{Counts, Outcome, Report, push_title};
+pub use telling::{push_name, push_number, push_text};

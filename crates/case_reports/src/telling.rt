@@ -12,6 +12,34 @@ const MANY: usize = 3;
 /// Tells a text, by its lines and, where it is long, by its length and its hash.
 pub fn push_text(alloc: Global, told: &mut String, text: &[u8]) -> Result<(), AllocError> {
     let lines: Vec<&[u8]> = text.split_inclusive(|b| *b == b'\n').collect(alloc)?;
+    push_runs(told, text, &lines)
+}
+
+/// Tells a name, on a line.
+pub fn push_name(told: &mut String, name: &[u8]) -> Result<(), AllocError> {
+    push_words(told, name, true)
+}
+
+/// Tells words on a line: a byte that is not plain by its digits, and `%` too where it is escaped.
+pub fn push_words(told: &mut String, words: &[u8], is_escaped: bool) -> Result<(), AllocError> {
+    for byte in words {
+        push_byte(told, *byte, is_escaped)?;
+    }
+    Ok(())
+}
+
+/// Tells a number between two texts.
+pub fn push_number(
+    told: &mut String,
+    front: &str,
+    number: u64,
+    back: &str,
+) -> Result<(), AllocError> {
+    write!(told, "{front}{number}{back}")
+}
+
+// A text of these lines.
+fn push_runs(told: &mut String, text: &[u8], lines: &[&[u8]]) -> Result<(), AllocError> {
     let mut count = 0usize;
     let mut bytes = 0usize;
     for same in lines.chunk_by(|a, b| a == b) {
@@ -28,11 +56,6 @@ pub fn push_text(alloc: Global, told: &mut String, text: &[u8]) -> Result<(), Al
     Ok(())
 }
 
-/// Tells a name, on a line.
-pub fn push_name(told: &mut String, name: &[u8]) -> Result<(), AllocError> {
-    push_words(told, name, true)
-}
-
 // What is told of a text that is too long.
 fn push_whole(told: &mut String, text: &[u8], lines: usize) -> Result<(), AllocError> {
     let bytes = text.len();
@@ -45,43 +68,42 @@ fn push_whole(told: &mut String, text: &[u8], lines: usize) -> Result<(), AllocE
 
 // A line that stands so many times in a row.
 fn push_lines(told: &mut String, line: &[u8], times: usize) -> Result<(), AllocError> {
-    if times < MANY {
-        for _turn in 0..times {
-            push_line(told, line, 1)?;
-        }
-        return Ok(());
+    if times >= MANY {
+        return push_line(told, line, times);
     }
-    push_line(told, line, times)
+    for _turn in 0..times {
+        push_line(told, line, 1)?;
+    }
+    Ok(())
 }
 
 fn push_line(told: &mut String, line: &[u8], times: usize) -> Result<(), AllocError> {
-    let ended = line.strip_suffix(b"\n");
-    let words = ended.unwrap_or(line);
-    let is_escaped = !words.iter().all(|b| is_plain(*b));
-    told.push('|')?;
-    if is_escaped {
-        told.push('%')?;
-    }
-    if ended.is_none() {
-        told.push('.')?;
-    }
-    if times > 1 {
-        write!(told, "*{times}")?;
-    }
+    let words = line.strip_suffix(b"\n").unwrap_or(line);
+    let is_escaped = !are_plain(words);
+    told.push_str(marks(is_escaped, words.len() == line.len()))?;
+    push_times(told, times)?;
     if !words.is_empty() {
         told.push(' ')?;
     }
     push_words(told, words, is_escaped)?;
-    told.push('\n')?;
-    Ok(())
+    told.push('\n')
 }
 
-/// Tells words on a line: a byte that is not plain by its digits, and `%` too where it is escaped.
-pub fn push_words(told: &mut String, words: &[u8], is_escaped: bool) -> Result<(), AllocError> {
-    for byte in words {
-        push_byte(told, *byte, is_escaped)?;
+// How a line is meant: whether bytes are told by their digits, and whether it has no LF.
+fn marks(is_escaped: bool, is_open: bool) -> &'static str {
+    match (is_escaped, is_open) {
+        (false, false) => "|",
+        (false, true) => "|.",
+        (true, false) => "|%",
+        (true, true) => "|%.",
     }
-    Ok(())
+}
+
+fn push_times(told: &mut String, times: usize) -> Result<(), AllocError> {
+    if times < 2 {
+        return Ok(());
+    }
+    push_number(told, "*", times as u64, "")
 }
 
 // A byte, by its hexadecimal digits where it is not plain, or the sign of those.
@@ -91,6 +113,15 @@ fn push_byte(told: &mut String, byte: u8, is_escaped: bool) -> Result<(), AllocE
     } else {
         write!(told, "%{byte:02X}")
     }
+}
+
+fn are_plain(words: &[u8]) -> bool {
+    for byte in words {
+        if !is_plain(*byte) {
+            return false;
+        }
+    }
+    true
 }
 
 // It is a sign of ASCII, or a blank.

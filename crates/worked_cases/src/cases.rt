@@ -1,6 +1,6 @@
 // A case: the calls that are made, over what world.
 use outside::{At, Fail};
-use std::alloc::Global;
+use std::alloc::{AllocError, Global};
 
 /// A case.
 #[derive(Drop)]
@@ -17,12 +17,12 @@ pub struct Case {
     pub before: Vec<TextFile>,
     /// The file of the source, by its name, that the screen of the first call is for those behind.
     pub keeps: Option<Vec<u8>>,
-    /// The entries that the cache has at the first.
-    pub entries: Vec<KeptText>,
+    /// The entries that the cache has at the first: each has its key as its name.
+    pub entries: Vec<TextFile>,
     /// The room of the shelf.
     pub room: Room,
     /// What fails in each call.
-    pub always: Vec<Fault>,
+    pub always: Faults,
     /// What fails in further calls of each command.
     pub whens: Vec<When>,
     /// Whether each two of those are also met together.
@@ -40,18 +40,11 @@ pub struct Command {
     pub words: Vec<String>,
 }
 
-/// A file: its name and its bytes.
+/// A file, or an entry of a cache: its name and its bytes.
 #[derive(Drop)]
 pub struct TextFile {
     pub name: Vec<u8>,
     pub bytes: Vec<u8>,
-}
-
-/// An entry of a cache: its key and its value.
-#[derive(Drop)]
-pub struct KeptText {
-    pub key: Vec<u8>,
-    pub value: Vec<u8>,
 }
 
 /// For how many files, and how many bytes in all, their names included, a shelf has room.
@@ -65,24 +58,31 @@ pub struct Room {
 #[derive(Drop)]
 pub struct When {
     pub line: Vec<u8>,
-    pub faults: Vec<Fault>,
+    pub faults: Faults,
 }
 
-/// A call of the outside that fails, or gives little.
-#[derive(Clone, Copy)]
-pub enum Fault {
-    /// A call of the source.
-    Source(Fail),
+/// The calls of the outside that fail, or give little.
+#[derive(Drop)]
+pub struct Faults {
     /// Each read of the source gives so many bytes at most, one at least.
-    Step(u32),
-    /// A call of the shelf.
-    Shelf(Fail),
-    /// A call of the screen, by its number from 0.
-    Screen(u32),
-    /// A call of the cache, by its number from 0.
-    Cache(u32),
-    /// The host of this number is down at this place; with no number, each host is.
-    Host { number: Option<u32>, at: At },
+    pub step: Option<u32>,
+    /// The calls of the source.
+    pub source: Vec<Fail>,
+    /// The calls of the shelf.
+    pub shelf: Vec<Fail>,
+    /// The calls of the screen, by their numbers from 0.
+    pub screen: Vec<u32>,
+    /// The calls of the cache, by their numbers from 0.
+    pub cache: Vec<u32>,
+    /// Where hosts are down.
+    pub hosts: Vec<HostDown>,
+}
+
+/// The host of this number is down at this place; with no number, each host is.
+#[derive(Clone, Copy)]
+pub struct HostDown {
+    pub number: Option<u32>,
+    pub at: At,
 }
 
 const ROOM: Room = Room {
@@ -108,11 +108,36 @@ impl Case {
             keeps: None,
             entries: Vec::new(alloc),
             room: ROOM,
-            always: Vec::new(alloc),
+            always: Faults::new(alloc),
             whens: Vec::new(alloc),
             has_pairs: false,
             is_twice: false,
             tells_losses: false,
         }
+    }
+}
+
+impl Faults {
+    /// No call fails.
+    pub fn new(alloc: Global) -> Faults {
+        Faults {
+            step: None,
+            source: Vec::new(alloc),
+            shelf: Vec::new(alloc),
+            screen: Vec::new(alloc),
+            cache: Vec::new(alloc),
+            hosts: Vec::new(alloc),
+        }
+    }
+
+    /// These fail too; of two steps the last one counts.
+    pub fn add(&mut self, others: &Faults) -> Result<(), AllocError> {
+        self.step = others.step.or(self.step);
+        self.source.extend_from_slice(&others.source)?;
+        self.shelf.extend_from_slice(&others.shelf)?;
+        self.screen.extend_from_slice(&others.screen)?;
+        self.cache.extend_from_slice(&others.cache)?;
+        self.hosts.extend_from_slice(&others.hosts)?;
+        Ok(())
     }
 }

@@ -1,173 +1,32 @@
-// A case that is being read, line by line.
-use crate::cases::{CACHE_ROOM, Case, KeptText, Room, TextFile};
+// A case is filled by its lines, one by one.
+use crate::cases::{CACHE_ROOM, Case, Command, Room, TextFile};
 use crate::commands::command_of;
 use crate::faults::{push_faults, when_of};
 use crate::lines::{Line, Word, line_of};
 use crate::mistakes::{Mistake, Unread};
-use crate::numbers::{first_word, number_of, push_unescaped};
+use crate::numbers::{first_word, number_of, parts, unescaped};
 use crate::pieces::{named, push_piece};
-use std::alloc::{AllocError, AllocFailed, Global};
-use std::str;
+use std::alloc::Global;
 
-/// A case so far, and where a text that comes next belongs.
-#[derive(Drop)]
-pub struct Draft {
-    case: Case,
-    place: Place,
-}
-
-/// Where a text belongs.
-#[derive(Clone, Copy)]
-enum Place {
-    Nowhere,
-    File,
-    Before,
-    Later,
-    Key,
-    Value,
-}
-
-impl Draft {
-    /// A case of this name with no line read.
-    pub fn new(alloc: Global, name: &[u8]) -> Result<Draft, AllocError> {
-        Ok(Draft {
-            case: Case::new(alloc, Vec::from_slice(alloc, name)?),
-            place: Place::Nowhere,
-        })
+/// Reads the lines below the heading of a case, each of which has its number while it is read.
+pub fn fill(
+    alloc: Global,
+    case: &mut Case,
+    lines: &[&[u8]],
+    texts: &[TextFile],
+    at: &mut usize,
+) -> Result<(), Unread> {
+    *at = at.saturating_add(1);
+    let heading = *at;
+    let mut open = None;
+    for line in lines {
+        *at = at.saturating_add(1);
+        open = add(alloc, case, open, line, texts)?;
     }
-
-    /// Reads a line.
-    pub fn add(&mut self, alloc: Global, line: &[u8], texts: &[TextFile]) -> Result<(), Unread> {
-        match line_of(line)? {
-            Line::Blank => Ok(()),
-            Line::Piece(piece) => self.add_piece(alloc, piece, texts),
-            Line::Said { word, rest } => self.add_said(alloc, word, rest, texts),
-        }
-    }
-
-    /// The case, which has a name and a call.
-    pub fn whole(self) -> Result<Case, Mistake> {
-        let Draft { case, place: _ } = self;
-        match mistake_in(&case) {
-            Some(mistake) => Err(mistake),
-            None => Ok(case),
-        }
-    }
-
-    // A piece of the last file or entry.
-    fn add_piece(&mut self, alloc: Global, piece: &[u8], texts: &[TextFile]) -> Result<(), Unread> {
-        match self.place {
-            Place::Nowhere => Err(Unread::Wrong(Mistake::NoFile)),
-            Place::File => push_to_last(alloc, &mut self.case.files, piece, texts),
-            Place::Before => push_to_last(alloc, &mut self.case.before, piece, texts),
-            Place::Later => push_to_last(alloc, &mut self.case.later, piece, texts),
-            Place::Key => push_to_key(alloc, &mut self.case.entries, piece, texts),
-            Place::Value => push_to_value(alloc, &mut self.case.entries, piece, texts),
-        }
-    }
-
-    fn add_said(
-        &mut self,
-        alloc: Global,
-        word: Word,
-        rest: &[u8],
-        texts: &[TextFile],
-    ) -> Result<(), Unread> {
-        match word {
-            Word::Script | Word::File | Word::Before | Word::Later => {
-                self.add_file(alloc, word, rest)
-            }
-            Word::Entry | Word::Value => self.add_entry(alloc, word, rest),
-            Word::Pairs | Word::Twice | Word::Losses => self.add_wish(word, rest),
-            Word::Flume => {
-                self.case.commands.push(command_of(alloc, rest)?)?;
-                Ok(())
-            }
-            Word::Calls => self.add_calls(alloc, named(texts, rest)?),
-            Word::When => {
-                self.case.whens.push(when_of(alloc, rest)?)?;
-                Ok(())
-            }
-            Word::Fails => push_faults(&mut self.case.always, rest),
-            Word::Room => self.set_room(rest),
-            Word::Keeps => self.set_keeps(alloc, rest),
-        }
-    }
-
-    // A command line for each line of a text.
-    fn add_calls(&mut self, alloc: Global, lines: &[u8]) -> Result<(), Unread> {
-        for line in lines.split(|b| *b == b'\n') {
-            if !line.is_empty() {
-                self.case.commands.push(command_of(alloc, line)?)?;
-            }
-        }
-        Ok(())
-    }
-
-    // An empty file, to which the pieces behind are added.
-    fn add_file(&mut self, alloc: Global, word: Word, rest: &[u8]) -> Result<(), Unread> {
-        let name = file_name(alloc, word, rest)?;
-        let bytes = Vec::new(alloc);
-        self.push_file(word, TextFile { name, bytes })?;
-        Ok(())
-    }
-
-    fn push_file(&mut self, word: Word, file: TextFile) -> Result<(), AllocFailed<TextFile>> {
-        match word {
-            Word::Before => {
-                self.place = Place::Before;
-                self.case.before.push(file)
-            }
-            Word::Later => {
-                self.place = Place::Later;
-                self.case.later.push(file)
-            }
-            _ => {
-                self.place = Place::File;
-                self.case.files.push(file)
-            }
-        }
-    }
-
-    // An entry with an empty key and an empty value, or the value of the last one.
-    fn add_entry(&mut self, alloc: Global, word: Word, rest: &[u8]) -> Result<(), Unread> {
-        if !rest.is_empty() {
-            return Err(Unread::Wrong(Mistake::TooMuch));
-        }
-        if matches!(word, Word::Value) {
-            self.place = Place::Value;
-            return Ok(());
-        }
-        let key = Vec::new(alloc);
-        let value = Vec::new(alloc);
-        self.case.entries.push(KeptText { key, value })?;
-        self.place = Place::Key;
-        Ok(())
-    }
-
-    fn add_wish(&mut self, word: Word, rest: &[u8]) -> Result<(), Unread> {
-        if !rest.is_empty() {
-            return Err(Unread::Wrong(Mistake::TooMuch));
-        }
-        match word {
-            Word::Pairs => self.case.has_pairs = true,
-            Word::Twice => self.case.is_twice = true,
-            _ => self.case.tells_losses = true,
-        }
-        Ok(())
-    }
-
-    fn set_keeps(&mut self, alloc: Global, rest: &[u8]) -> Result<(), Unread> {
-        self.case.keeps = Some(name_of(alloc, rest)?);
-        Ok(())
-    }
-
-    fn set_room(&mut self, rest: &[u8]) -> Result<(), Unread> {
-        let (files, bytes) = first_word(rest);
-        let bytes = u64::from(number_of(bytes)?);
-        let files = number_of(files)?;
-        self.case.room = Room { files, bytes };
-        Ok(())
+    *at = heading;
+    match mistake_in(case) {
+        Some(mistake) => Err(Unread::Wrong(mistake)),
+        None => Ok(()),
     }
 }
 
@@ -179,22 +38,13 @@ fn mistake_in(case: &Case) -> Option<Mistake> {
     if case.commands.is_empty() {
         return Some(Mistake::NoCall);
     }
-    if !fits(&case.before, case.room) || !entries_fit(&case.entries, CACHE_ROOM) {
+    if !fits(&case.before, case.room) || !fits(&case.entries, CACHE_ROOM) {
         return Some(Mistake::NoRoom);
     }
     None
 }
 
-// The name of a file that a line begins with.
-fn file_name(alloc: Global, word: Word, rest: &[u8]) -> Result<Vec<u8>, Unread> {
-    match word {
-        Word::Script if rest.is_empty() => name_of(alloc, b"s"),
-        Word::Script => Err(Unread::Wrong(Mistake::TooMuch)),
-        _ => name_of(alloc, rest),
-    }
-}
-
-// Whether these files, with their names, fit this room.
+// Whether these files, or entries, fit this room with their names.
 fn fits(files: &[TextFile], room: Room) -> bool {
     let mut bytes = 0usize;
     for file in files {
@@ -204,39 +54,43 @@ fn fits(files: &[TextFile], room: Room) -> bool {
     files.len() as u64 <= u64::from(room.files) && bytes as u64 <= room.bytes
 }
 
-// Whether these entries, with their keys, fit this room.
-fn entries_fit(entries: &[KeptText], room: Room) -> bool {
-    let mut bytes = 0usize;
-    for entry in entries {
-        bytes = bytes.saturating_add(entry.key.len());
-        bytes = bytes.saturating_add(entry.value.len());
+// Reads a line, where a text that comes next belongs to this word, and answers to which it does
+// then.
+fn add(
+    alloc: Global,
+    case: &mut Case,
+    open: Option<Word>,
+    line: &[u8],
+    texts: &[TextFile],
+) -> Result<Option<Word>, Unread> {
+    match line_of(line)? {
+        Line::Blank => Ok(open),
+        Line::Piece(piece) => {
+            add_piece(alloc, case, open, piece, texts)?;
+            Ok(open)
+        }
+        Line::Said { word, rest } => {
+            add_said(alloc, case, word, rest, texts)?;
+            Ok(if word.is_of_text() { Some(word) } else { open })
+        }
     }
-    entries.len() as u64 <= u64::from(room.files) && bytes as u64 <= room.bytes
 }
 
-// Adds a piece to the key of the last of these entries.
-fn push_to_key(
+// A piece of the last file or entry.
+fn add_piece(
     alloc: Global,
-    entries: &mut Vec<KeptText>,
+    case: &mut Case,
+    open: Option<Word>,
     piece: &[u8],
     texts: &[TextFile],
 ) -> Result<(), Unread> {
-    match entries.last_mut() {
-        Some(entry) => push_piece(alloc, &mut entry.key, piece, texts),
+    match open {
         None => Err(Unread::Wrong(Mistake::NoFile)),
-    }
-}
-
-// The same to its value.
-fn push_to_value(
-    alloc: Global,
-    entries: &mut Vec<KeptText>,
-    piece: &[u8],
-    texts: &[TextFile],
-) -> Result<(), Unread> {
-    match entries.last_mut() {
-        Some(entry) => push_piece(alloc, &mut entry.value, piece, texts),
-        None => Err(Unread::Wrong(Mistake::NoFile)),
+        Some(Word::Before) => push_to_last(alloc, &mut case.before, piece, texts),
+        Some(Word::Later) => push_to_last(alloc, &mut case.later, piece, texts),
+        Some(Word::Value) => push_to_last(alloc, &mut case.entries, piece, texts),
+        Some(Word::Entry) => push_to_key(alloc, &mut case.entries, piece, texts),
+        Some(_) => push_to_last(alloc, &mut case.files, piece, texts),
     }
 }
 
@@ -253,15 +107,115 @@ fn push_to_last(
     }
 }
 
+// Adds a piece to the key of the last of these entries.
+fn push_to_key(
+    alloc: Global,
+    entries: &mut Vec<TextFile>,
+    piece: &[u8],
+    texts: &[TextFile],
+) -> Result<(), Unread> {
+    match entries.last_mut() {
+        Some(entry) => push_piece(alloc, &mut entry.name, piece, texts),
+        None => Err(Unread::Wrong(Mistake::NoFile)),
+    }
+}
+
+fn add_said(
+    alloc: Global,
+    case: &mut Case,
+    word: Word,
+    rest: &[u8],
+    texts: &[TextFile],
+) -> Result<(), Unread> {
+    match word {
+        Word::Flume => add_call(alloc, &mut case.commands, rest),
+        Word::Calls => add_calls(alloc, &mut case.commands, named(texts, rest)?),
+        Word::When => {
+            case.whens.push(when_of(alloc, rest)?)?;
+            Ok(())
+        }
+        Word::Fails => push_faults(alloc, &mut case.always, rest),
+        Word::Room => set_room(case, rest),
+        Word::Keeps => set_keeps(alloc, case, rest),
+        Word::Script | Word::File | Word::Before | Word::Later => add_file(alloc, case, word, rest),
+        _ => add_alone(alloc, case, word, rest),
+    }
+}
+
+fn add_call(alloc: Global, commands: &mut Vec<Command>, line: &[u8]) -> Result<(), Unread> {
+    commands.push(command_of(alloc, line)?)?;
+    Ok(())
+}
+
+// A command line for each line of a text.
+fn add_calls(alloc: Global, commands: &mut Vec<Command>, lines: &[u8]) -> Result<(), Unread> {
+    for line in &parts(alloc, lines, b'\n')? {
+        if !line.is_empty() {
+            add_call(alloc, commands, line)?;
+        }
+    }
+    Ok(())
+}
+
+// An empty file, to which the pieces behind are added.
+fn add_file(alloc: Global, case: &mut Case, word: Word, rest: &[u8]) -> Result<(), Unread> {
+    let name = file_name(alloc, word, rest)?;
+    let bytes = Vec::new(alloc);
+    let files = match word {
+        Word::Before => &mut case.before,
+        Word::Later => &mut case.later,
+        _ => &mut case.files,
+    };
+    files.push(TextFile { name, bytes })?;
+    Ok(())
+}
+
+// A word that stands alone: a wish, an entry with an empty key and an empty value, or the value of
+// the last one.
+fn add_alone(alloc: Global, case: &mut Case, word: Word, rest: &[u8]) -> Result<(), Unread> {
+    if !rest.is_empty() {
+        return Err(Unread::Wrong(Mistake::TooMuch));
+    }
+    match word {
+        Word::Pairs => case.has_pairs = true,
+        Word::Twice => case.is_twice = true,
+        Word::Losses => case.tells_losses = true,
+        Word::Entry => case.entries.push(TextFile {
+            name: Vec::new(alloc),
+            bytes: Vec::new(alloc),
+        })?,
+        _ => {}
+    }
+    Ok(())
+}
+
+fn set_keeps(alloc: Global, case: &mut Case, rest: &[u8]) -> Result<(), Unread> {
+    case.keeps = Some(name_of(alloc, rest)?);
+    Ok(())
+}
+
+fn set_room(case: &mut Case, rest: &[u8]) -> Result<(), Unread> {
+    let (files, bytes) = first_word(rest);
+    let bytes = u64::from(number_of(bytes)?);
+    let files = number_of(files)?;
+    case.room = Room { files, bytes };
+    Ok(())
+}
+
+// The name of a file that a line begins with.
+fn file_name(alloc: Global, word: Word, rest: &[u8]) -> Result<Vec<u8>, Unread> {
+    match word {
+        Word::Script if rest.is_empty() => name_of(alloc, b"s"),
+        Word::Script => Err(Unread::Wrong(Mistake::TooMuch)),
+        _ => name_of(alloc, rest),
+    }
+}
+
 // The name that is written so: one byte at least, and UTF-8.
 fn name_of(alloc: Global, text: &[u8]) -> Result<Vec<u8>, Unread> {
-    let mut name = Vec::new(alloc);
-    push_unescaped(&mut name, text)?;
+    let name = unescaped(alloc, text)?;
     if name.is_empty() {
         return Err(Unread::Wrong(Mistake::NoName));
     }
-    match str::from_utf8(&name) {
-        Ok(_) => Ok(name),
-        Err(_) => Err(Unread::Wrong(Mistake::Utf8)),
-    }
+    Ok(name.into_bytes())
 }

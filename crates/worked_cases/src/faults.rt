@@ -1,50 +1,50 @@
 // The calls of the outside that fail, as they are written.
-use crate::cases::{Fault, When};
+use crate::cases::{Faults, HostDown, When};
 use crate::mistakes::{Mistake, Unread};
-use crate::numbers::{cut, first_word, number_of};
+use crate::numbers::{cut, first_word, number_of, parts};
 use outside::{At, Fail, Phase};
 use std::alloc::Global;
 
 /// What fails in one more call.
 pub fn when_of(alloc: Global, line: &[u8]) -> Result<When, Unread> {
-    let mut faults = Vec::new(alloc);
-    push_faults(&mut faults, line)?;
-    Ok(When {
+    let mut when = When {
         line: Vec::from_slice(alloc, line)?,
-        faults,
-    })
+        faults: Faults::new(alloc),
+    };
+    push_faults(alloc, &mut when.faults, line)?;
+    Ok(when)
 }
 
 /// Adds faults that are parted by commas.
-pub fn push_faults(faults: &mut Vec<Fault>, line: &[u8]) -> Result<(), Unread> {
-    for part in line.split(|b| *b == b',') {
-        let fault = fault_of(part.trim_ascii())?;
-        faults.extend_from_slice(&[fault])?;
+pub fn push_faults(alloc: Global, faults: &mut Faults, line: &[u8]) -> Result<(), Unread> {
+    for part in &parts(alloc, line, b',')? {
+        push_fault(faults, part.trim_ascii())?;
     }
     Ok(())
 }
 
-fn fault_of(text: &[u8]) -> Result<Fault, Mistake> {
+fn push_fault(faults: &mut Faults, text: &[u8]) -> Result<(), Unread> {
     let (kind, rest) = first_word(text);
     if kind == b"source".as_slice() {
-        Ok(Fault::Source(fail_of(rest)?))
-    } else if kind == b"step".as_slice() {
-        Ok(Fault::Step(number_of(rest)?))
+        faults.source.push(fail_of(rest)?)?;
     } else if kind == b"shelf".as_slice() {
-        Ok(Fault::Shelf(fail_of(rest)?))
+        faults.shelf.push(fail_of(rest)?)?;
+    } else if kind == b"step".as_slice() {
+        faults.step = Some(number_of(rest)?);
     } else if kind == b"screen".as_slice() {
-        Ok(Fault::Screen(number_of(rest)?))
+        faults.screen.push(number_of(rest)?)?;
     } else if kind == b"cache".as_slice() {
-        Ok(Fault::Cache(number_of(rest)?))
+        faults.cache.push(number_of(rest)?)?;
     } else {
-        host_of(kind, rest)
+        faults.hosts.push(down_of(kind, rest)?)?;
     }
+    Ok(())
 }
 
-fn host_of(kind: &[u8], rest: &[u8]) -> Result<Fault, Mistake> {
+fn down_of(kind: &[u8], rest: &[u8]) -> Result<HostDown, Mistake> {
     if kind == b"hosts".as_slice() {
         let at = at_of(rest)?;
-        return Ok(Fault::Host { number: None, at });
+        return Ok(HostDown { number: None, at });
     }
     if kind != b"host".as_slice() {
         return Err(Mistake::Fault);
@@ -52,7 +52,7 @@ fn host_of(kind: &[u8], rest: &[u8]) -> Result<Fault, Mistake> {
     let (number, place) = first_word(rest);
     let number = Some(number_of(number)?);
     let at = at_of(place)?;
-    Ok(Fault::Host { number, at })
+    Ok(HostDown { number, at })
 }
 
 // A call by the number of its `begin`, and its own number since then.

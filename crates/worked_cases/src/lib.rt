@@ -5,17 +5,17 @@
 //! is written by hand, and a mistake in it is told by its line.
 #![tactic(auto)]
 
-mod blocks;
 mod cases;
 mod commands;
 mod drafts;
 mod faults;
+mod headings;
 mod lines;
 mod mistakes;
 mod numbers;
 mod pieces;
 mod reading;
 
-pub use cases::{CACHE_ROOM, Case, Command, Fault, KeptText, Room, TextFile, When};
+pub use cases::{CACHE_ROOM, Case, Command, Faults, HostDown, Room, TextFile, When};
 pub use mistakes::{Misread, Mistake};
 pub use reading::{Entry, read_cases};

@@ -33,6 +33,16 @@ pub enum Word {
     Twice,
 }
 
+impl Word {
+    /// Whether a text stands below it.
+    pub fn is_of_text(self) -> bool {
+        matches!(
+            self,
+            Word::Script | Word::File | Word::Before | Word::Later | Word::Entry | Word::Value
+        )
+    }
+}
+
 const WORDS: [(&[u8], Word); 15] = [
     (b"flume", Word::Flume),
     (b"calls", Word::Calls),

@@ -2,7 +2,13 @@
 ghost use Rattle.std.specs.Prelude.{◌<◌, IfSome};
 
 use crate::mistakes::{Mistake, Unread};
+use std::alloc::{AllocError, Global};
 use std::str;
+
+/// What stands between these bytes, and before the first and behind the last of them.
+pub fn parts(alloc: Global, text: &[u8], at: u8) -> Result<Vec<&[u8]>, AllocError> {
+    text.split(|b| *b == at).collect(alloc)
+}
 
 /// What stands before the first of these bytes, and what behind it, where there is one.
 pub fn cut(text: &[u8], at: u8) -> Option<(&[u8], &[u8])> {
@@ -31,28 +37,38 @@ pub fn number_of(text: &[u8]) -> Result<u32, Mistake> {
     }
 }
 
-/// The bytes of a text in which `%` and two hexadecimal digits are a byte.
-pub fn push_unescaped(bytes: &mut Vec<u8>, text: &[u8]) -> Result<(), Unread> {
-    for (k, part) in text.split(|b| *b == b'%').enumerate() {
-        if k == 0 {
-            bytes.extend_from_slice(part)?;
-        } else {
-            push_byte_and(bytes, part)?;
-        }
+/// The text of these bytes, in which `%` and two hexadecimal digits are a byte.
+pub fn unescaped(alloc: Global, text: &[u8]) -> Result<String, Unread> {
+    let mut bytes = Vec::new(alloc);
+    push_unescaped(alloc, &mut bytes, text)?;
+    match String::from_utf8(bytes) {
+        Ok(text) => Ok(text),
+        Err(_) => Err(Unread::Wrong(Mistake::Utf8)),
     }
-    Ok(())
 }
 
-// The byte of the first two digits, and what stands behind them.
-fn push_byte_and(bytes: &mut Vec<u8>, part: &[u8]) -> Result<(), Unread> {
-    let [high, low, rest @ ..] = part else {
-        return Err(Unread::Wrong(Mistake::Escape));
+/// The bytes of a text in which `%` and two hexadecimal digits are a byte.
+pub fn push_unescaped(alloc: Global, bytes: &mut Vec<u8>, text: &[u8]) -> Result<(), Unread> {
+    let parts = parts(alloc, text, b'%')?;
+    let Some((front, escaped)) = parts.split_first() else {
+        return Ok(());
     };
-    let Some(byte) = byte_of(*high, *low) else {
-        return Err(Unread::Wrong(Mistake::Escape));
-    };
-    bytes.push(byte)?;
-    bytes.extend_from_slice(rest)?;
+    bytes.extend_from_slice(front)?;
+    push_each(bytes, escaped)
+}
+
+// Each of these is the two digits of a byte, and what stands behind them.
+fn push_each(bytes: &mut Vec<u8>, parts: &[&[u8]]) -> Result<(), Unread> {
+    for part in parts {
+        let [high, low, rest @ ..] = *part else {
+            return Err(Unread::Wrong(Mistake::Escape));
+        };
+        let Some(byte) = byte_of(*high, *low) else {
+            return Err(Unread::Wrong(Mistake::Escape));
+        };
+        bytes.push(byte)?;
+        bytes.extend_from_slice(rest)?;
+    }
     Ok(())
 }
 

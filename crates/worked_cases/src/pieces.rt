@@ -29,15 +29,21 @@ pub fn push_piece(
 ) -> Result<(), Unread> {
     let (marks, words) = cut(line, b' ').unwrap_or((line, &[]));
     let marks = marks_of(marks)?;
-    let once = once(alloc, marks, words, texts)?;
+    let mut once = Vec::new(alloc);
+    push_once(alloc, &mut once, marks, words, texts)?;
+    push_times(alloc, text, marks, &once)
+}
+
+// A piece, so many times as it is marked.
+fn push_times(alloc: Global, text: &mut Vec<u8>, marks: Marks, once: &[u8]) -> Result<(), Unread> {
     for turn in 0..marks.times {
         if text.len() > MOST {
             return Err(Unread::Wrong(Mistake::TooLong));
         }
         if marks.is_counted {
-            push_counted(alloc, text, &once, turn)?;
+            push_counted(alloc, text, once, turn)?;
         } else {
-            text.extend_from_slice(&once)?;
+            text.extend_from_slice(once)?;
         }
     }
     Ok(())
@@ -51,30 +57,41 @@ fn push_counted(
     turn: u32,
 ) -> Result<(), AllocError> {
     let number = turn.saturating_add(1).to_string(alloc)?;
-    for (k, part) in piece.split(|b| *b == b'#').enumerate() {
-        if k > 0 {
-            text.extend_from_slice(number.as_bytes())?;
+    push_numbered(text, piece, number.as_bytes())
+}
+
+fn push_numbered(text: &mut Vec<u8>, piece: &[u8], number: &[u8]) -> Result<(), AllocError> {
+    for byte in piece {
+        if *byte == b'#' {
+            text.extend_from_slice(number)?;
+        } else {
+            text.push(*byte)?;
         }
-        text.extend_from_slice(part)?;
     }
     Ok(())
 }
 
 // What is added each time.
-fn once(alloc: Global, marks: Marks, words: &[u8], texts: &[TextFile]) -> Result<Vec<u8>, Unread> {
+fn push_once(
+    alloc: Global,
+    piece: &mut Vec<u8>,
+    marks: Marks,
+    words: &[u8],
+    texts: &[TextFile],
+) -> Result<(), Unread> {
     if marks.is_named {
-        return Ok(Vec::from_slice(alloc, named(texts, words.trim_ascii())?)?);
+        piece.extend_from_slice(named(texts, words.trim_ascii())?)?;
+        return Ok(());
     }
-    let mut piece = Vec::new(alloc);
     if marks.is_escaped {
-        push_unescaped(&mut piece, words)?;
+        push_unescaped(alloc, piece, words)?;
     } else {
         piece.extend_from_slice(words)?;
     }
     if !marks.is_open {
-        piece.extend_from_slice(b"\n")?;
+        piece.push(b'\n')?;
     }
-    Ok(piece)
+    Ok(())
 }
 
 /// The text of this name: the last one above, where there are several.

@@ -1,9 +1,10 @@
 // Reading a file of cases: an entry for each case, which is the case or the first mistake in it.
-use crate::blocks::{Block, Heading, Numbered, blocks_of};
 use crate::cases::{Case, TextFile};
-use crate::drafts::Draft;
+use crate::drafts::fill;
+use crate::headings::{Heading, heading_of};
 use crate::lines::{Line, line_of};
 use crate::mistakes::{Misread, Mistake, Unread};
+use crate::numbers::parts;
 use crate::pieces::push_piece;
 use std::alloc::{AllocError, Global};
 
@@ -14,41 +15,77 @@ pub enum Entry {
     Misread(Misread),
 }
 
-/// Why a block gave nothing, and the line at which it stopped.
-#[derive(Clone, Copy)]
-struct Stop {
-    line: usize,
-    why: Unread,
-}
-
-/// All cases of a text, in order. A block that has a mistake is told by its first one.
+/// All cases of a text, in order. A case or a text that has a mistake is told by its first one.
 pub fn read_cases(alloc: Global, text: &[u8]) -> Result<Vec<Entry>, AllocError> {
-    let mut texts = Vec::new(alloc);
+    let lines = parts(alloc, text, b'\n')?;
     let mut entries = Vec::new(alloc);
-    for block in &blocks_of(alloc, text)? {
-        match block.heading {
-            Heading::Front => read_front(alloc, block, &mut entries)?,
-            Heading::Text(name) => read_text(alloc, name, block, &mut texts, &mut entries)?,
-            Heading::Case(name) => read_case(alloc, name, block, &texts, &mut entries)?,
-        }
-    }
+    push_entries(alloc, &mut entries, &lines)?;
     Ok(entries)
 }
 
-// Before the first heading nothing is said.
-fn read_front(
+// A block of lines is a heading and what stands below it; lines may stand before the first.
+fn push_entries(
     alloc: Global,
-    block: &Block<'_>,
+    entries: &mut Vec<Entry>,
+    lines: &[&[u8]],
+) -> Result<(), AllocError> {
+    let mut texts = Vec::new(alloc);
+    let mut before = 0usize;
+    for block in lines.chunk_by(|_, line| matches!(heading_of(line), Heading::Front)) {
+        read_block(alloc, block, before, &mut texts, entries)?;
+        before = before.saturating_add(block.len());
+    }
+    Ok(())
+}
+
+// Adds what a block has: a text, a case, or the first mistake in it.
+fn read_block(
+    alloc: Global,
+    block: &[&[u8]],
+    before: usize,
+    texts: &mut Vec<TextFile>,
     entries: &mut Vec<Entry>,
 ) -> Result<(), AllocError> {
-    for Numbered { number, line } in &block.lines {
+    let Some((first, lines)) = block.split_first() else {
+        return Ok(());
+    };
+    let heading = heading_of(first);
+    // the number of the line that was read last
+    let mut at = before;
+    let read = match heading {
+        Heading::Front => read_front(block, &mut at),
+        Heading::Text(name) => read_text(alloc, name, lines, texts, &mut at),
+        Heading::Case(name) => read_case(alloc, name, lines, texts, entries, &mut at),
+    };
+    match read {
+        Ok(()) => Ok(()),
+        Err(Unread::Memory) => Err(AllocError),
+        Err(Unread::Wrong(mistake)) => push_misread(alloc, entries, heading.name(), at, mistake),
+    }
+}
+
+fn push_misread(
+    alloc: Global,
+    entries: &mut Vec<Entry>,
+    name: &[u8],
+    line: usize,
+    mistake: Mistake,
+) -> Result<(), AllocError> {
+    let name = Vec::from_slice(alloc, name)?;
+    entries.push(Entry::Misread(Misread {
+        name,
+        line,
+        mistake,
+    }))?;
+    Ok(())
+}
+
+// Before the first heading nothing is said.
+fn read_front(lines: &[&[u8]], at: &mut usize) -> Result<(), Unread> {
+    for line in lines {
+        *at = at.saturating_add(1);
         if !matches!(line_of(line), Ok(Line::Blank)) {
-            let stop = Stop {
-                line: *number,
-                why: Unread::Wrong(Mistake::Front),
-            };
-            entries.push(Entry::Misread(misread(alloc, b"", stop)?))?;
-            return Ok(());
+            return Err(Unread::Wrong(Mistake::Front));
         }
     }
     Ok(())
@@ -58,13 +95,35 @@ fn read_front(
 fn read_text(
     alloc: Global,
     name: &[u8],
-    block: &Block<'_>,
+    lines: &[&[u8]],
     texts: &mut Vec<TextFile>,
-    entries: &mut Vec<Entry>,
-) -> Result<(), AllocError> {
-    match text_of(alloc, name, block, texts) {
-        Ok(text) => texts.push(text)?,
-        Err(stop) => entries.push(Entry::Misread(misread(alloc, name, stop)?))?,
+    at: &mut usize,
+) -> Result<(), Unread> {
+    let mut text = TextFile {
+        name: Vec::from_slice(alloc, name)?,
+        bytes: Vec::new(alloc),
+    };
+    push_lines(alloc, &mut text.bytes, lines, texts, at)?;
+    texts.push(text)?;
+    Ok(())
+}
+
+// The lines of a text.
+fn push_lines(
+    alloc: Global,
+    text: &mut Vec<u8>,
+    lines: &[&[u8]],
+    texts: &[TextFile],
+    at: &mut usize,
+) -> Result<(), Unread> {
+    *at = at.saturating_add(1);
+    for line in lines {
+        *at = at.saturating_add(1);
+        match line_of(line)? {
+            Line::Blank => {}
+            Line::Piece(piece) => push_piece(alloc, text, piece, texts)?,
+            Line::Said { .. } => return Err(Unread::Wrong(Mistake::NoCase)),
+        }
     }
     Ok(())
 }
@@ -72,95 +131,13 @@ fn read_text(
 fn read_case(
     alloc: Global,
     name: &[u8],
-    block: &Block<'_>,
+    lines: &[&[u8]],
     texts: &[TextFile],
     entries: &mut Vec<Entry>,
-) -> Result<(), AllocError> {
-    match case_of(alloc, name, block, texts) {
-        Ok(case) => entries.push(Entry::Case(case))?,
-        Err(stop) => entries.push(Entry::Misread(misread(alloc, name, stop)?))?,
-    }
-    Ok(())
-}
-
-fn text_of(
-    alloc: Global,
-    name: &[u8],
-    block: &Block<'_>,
-    texts: &[TextFile],
-) -> Result<TextFile, Stop> {
-    let mut bytes = Vec::new(alloc);
-    for Numbered { number, line } in &block.lines {
-        if let Err(why) = push_line(alloc, &mut bytes, line, texts) {
-            return Err(Stop { line: *number, why });
-        }
-    }
-    match Vec::from_slice(alloc, name) {
-        Ok(name) => Ok(TextFile { name, bytes }),
-        Err(_) => Err(Stop {
-            line: block.number,
-            why: Unread::Memory,
-        }),
-    }
-}
-
-// A line of a text.
-fn push_line(
-    alloc: Global,
-    text: &mut Vec<u8>,
-    line: &[u8],
-    texts: &[TextFile],
+    at: &mut usize,
 ) -> Result<(), Unread> {
-    match line_of(line)? {
-        Line::Blank => Ok(()),
-        Line::Piece(piece) => push_piece(alloc, text, piece, texts),
-        Line::Said { .. } => Err(Unread::Wrong(Mistake::NoCase)),
-    }
-}
-
-fn case_of(
-    alloc: Global,
-    name: &[u8],
-    block: &Block<'_>,
-    texts: &[TextFile],
-) -> Result<Case, Stop> {
-    let stop = |why: Unread| Stop {
-        line: block.number,
-        why,
-    };
-    let mut draft = match Draft::new(alloc, name) {
-        Ok(draft) => draft,
-        Err(_) => return Err(stop(Unread::Memory)),
-    };
-    read_lines(alloc, &mut draft, &block.lines, texts)?;
-    match draft.whole() {
-        Ok(case) => Ok(case),
-        Err(mistake) => Err(stop(Unread::Wrong(mistake))),
-    }
-}
-
-// Reads the lines of a case.
-fn read_lines(
-    alloc: Global,
-    draft: &mut Draft,
-    lines: &[Numbered<'_>],
-    texts: &[TextFile],
-) -> Result<(), Stop> {
-    for Numbered { number, line } in lines {
-        if let Err(why) = draft.add(alloc, line, texts) {
-            return Err(Stop { line: *number, why });
-        }
-    }
+    let mut case = Case::new(alloc, Vec::from_slice(alloc, name)?);
+    fill(alloc, &mut case, lines, texts, at)?;
+    entries.push(Entry::Case(case))?;
     Ok(())
-}
-
-fn misread(alloc: Global, name: &[u8], stop: Stop) -> Result<Misread, AllocError> {
-    match stop.why {
-        Unread::Memory => Err(AllocError),
-        Unread::Wrong(mistake) => Ok(Misread {
-            name: Vec::from_slice(alloc, name)?,
-            line: stop.line,
-            mistake,
-        }),
-    }
 }

@@ -5,35 +5,33 @@ ghost use Rattle.cache_store.specs.Entries.{entry_size};
 use cache_store::{CacheEntry, MemCache};
 use flume_value::{Pile, Str};
 use std::alloc::{AllocError, Global};
-use worked_cases::{CACHE_ROOM, Case, Fault, KeptText, Room};
+use worked_cases::{CACHE_ROOM, Room, TextFile};
 
-/// The cache of a case, with its entries, in which these calls fail.
-pub fn cache_of(alloc: Global, case: &Case, faults: &[Fault]) -> Result<MemCache, AllocError> {
+/// The cache with these entries, in which these calls fail.
+pub fn cache_of(
+    alloc: Global,
+    entries: &[TextFile],
+    fails: &[u32],
+) -> Result<MemCache, AllocError> {
     let room = CACHE_ROOM;
-    let entries = fitting(alloc, entries_of(alloc, &case.entries)?, room);
-    let fails = cache_fails(alloc, faults)?;
+    let fails = Pile::from_vec(Vec::from_slice(alloc, fails)?);
+    let entries = fitting(alloc, entries_of(alloc, entries)?, room);
     MemCache::new(alloc, entries, fails, room.files, room.bytes)
 }
 
-fn entries_of(alloc: Global, texts: &[KeptText]) -> Result<Pile<CacheEntry>, AllocError> {
+fn entries_of(alloc: Global, texts: &[TextFile]) -> Result<Pile<CacheEntry>, AllocError> {
     let mut entries = Pile::new(alloc);
     for text in texts {
-        entries.push(CacheEntry {
-            key: Str::from_slice(alloc, &text.key)?,
-            value: Str::from_slice(alloc, &text.value)?,
-        })?;
+        entries.push(entry_of(alloc, text)?)?;
     }
     Ok(entries)
 }
 
-fn cache_fails(alloc: Global, faults: &[Fault]) -> Result<Pile<u32>, AllocError> {
-    let mut fails = Pile::new(alloc);
-    for fault in faults {
-        if let Fault::Cache(call) = fault {
-            fails.push(*call)?;
-        }
-    }
-    Ok(fails)
+fn entry_of(alloc: Global, text: &TextFile) -> Result<CacheEntry, AllocError> {
+    Ok(CacheEntry {
+        key: Str::from_slice(alloc, &text.name)?,
+        value: Str::from_slice(alloc, &text.bytes)?,
+    })
 }
 
 // These entries, which fit the room, since a case is not read where they do not.

@@ -1,0 +1,105 @@
+// What the calls of a case share, and what is told of them.
+use crate::caches::cache_of;
+use crate::calls::Call;
+use crate::outcomes::{CacheCounts, outcome_of};
+use crate::pages::Caller;
+use crate::worlds::World;
+use cache_store::MemCache;
+use case_reports::Report;
+use std::alloc::{AllocError, Global};
+use worked_cases::{Case, Command, TextFile};
+
+/// A case so far: the files that the source has behind the first call, the cache, and what is told.
+#[derive(Drop)]
+pub struct Course {
+    kept: Vec<TextFile>,
+    cache: MemCache,
+    report: Report,
+}
+
+impl Course {
+    /// The case with no call made.
+    pub fn new(alloc: Global, case: &Case) -> Result<Course, AllocError> {
+        let report = Report::new(alloc, &case.name)?;
+        Ok(Course {
+            kept: Vec::new(alloc),
+            cache: cache_of(alloc, &case.entries, &case.always.cache)?,
+            report,
+        })
+    }
+
+    /// The page of the calls that were made.
+    pub fn into_page(self) -> String {
+        let Course {
+            kept: _,
+            cache: _,
+            report,
+        } = self;
+        report.into_page()
+    }
+
+    /// A new cache, in which these fail.
+    pub fn renew(&mut self, alloc: Global, case: &Case, call: &Call) -> Result<(), AllocError> {
+        self.cache = cache_of(alloc, &case.entries, &call.faults.cache)?;
+        Ok(())
+    }
+
+    /// Makes a call of a command, and tells what came of it.
+    pub fn make<C: Caller>(
+        &mut self,
+        caller: &C,
+        alloc: Global,
+        case: &Case,
+        command: &Command,
+        call: &Call,
+    ) -> Result<(), AllocError> {
+        let mut world = World::new(alloc, case, &self.kept, &call.faults)?;
+        let before = self.cache.faults();
+        let status = caller.call(alloc, &command.words, &mut world, &mut self.cache);
+        let cache = CacheCounts {
+            faults: self.cache.faults().saturating_sub(before),
+            entries: self.cache.entry_count(),
+        };
+        self.tell(alloc, case, call, status, &world, cache)
+    }
+
+    fn tell(
+        &mut self,
+        alloc: Global,
+        case: &Case,
+        call: &Call,
+        status: u8,
+        world: &World,
+        cache: CacheCounts,
+    ) -> Result<(), AllocError> {
+        let outcome = outcome_of(alloc, case, status, world, cache)?;
+        self.report.push(&call.head, outcome)?;
+        if self.kept.is_empty() {
+            keep(alloc, case, world, &mut self.kept)?;
+        }
+        Ok(())
+    }
+}
+
+// Keeps the files that come in behind the first call, and its screen as one, where the case names
+// some.
+fn keep(
+    alloc: Global,
+    case: &Case,
+    world: &World,
+    kept: &mut Vec<TextFile>,
+) -> Result<(), AllocError> {
+    for file in &case.later {
+        kept.push(text_file(alloc, &file.name, &file.bytes)?)?;
+    }
+    if let Some(name) = &case.keeps {
+        kept.push(text_file(alloc, name, world.screen.text())?)?;
+    }
+    Ok(())
+}
+
+fn text_file(alloc: Global, name: &[u8], bytes: &[u8]) -> Result<TextFile, AllocError> {
+    let name = Vec::from_slice(alloc, name)?;
+    let bytes = Vec::from_slice(alloc, bytes)?;
+    Ok(TextFile { name, bytes })
+}

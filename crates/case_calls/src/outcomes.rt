@@ -1,0 +1,80 @@
+// What a call left of its world, as it is told.
+use crate::worlds::World;
+use case_reports::{Counts, Outcome, push_name, push_text};
+use outside::{MemHost, MemShelf};
+use std::alloc::{AllocError, Global};
+use std::str;
+use worked_cases::Case;
+
+/// What a cache tells of a call.
+#[derive(Clone, Copy)]
+pub struct CacheCounts {
+    /// How often it failed.
+    pub faults: u64,
+    /// How many entries it has then.
+    pub entries: usize,
+}
+
+/// What the screen and the shelf hold, and what was counted.
+pub fn outcome_of(
+    alloc: Global,
+    case: &Case,
+    status: u8,
+    world: &World,
+    cache: CacheCounts,
+) -> Result<Outcome, AllocError> {
+    let mut outcome = Outcome {
+        status,
+        screen: String::new(alloc),
+        files: String::new(alloc),
+        counts: counts_of(alloc, world, cache),
+    };
+    fill(alloc, &mut outcome, case, world)?;
+    Ok(outcome)
+}
+
+fn counts_of(alloc: Global, world: &World, cache: CacheCounts) -> Counts {
+    Counts {
+        source: world.source.faults(),
+        shelf: world.shelf.faults(),
+        screen: world.screen.faults(),
+        cache: cache.faults,
+        entries: cache.entries as u64,
+        losses: Vec::new(alloc),
+    }
+}
+
+// The texts of an outcome, and its losses where a case tells them.
+fn fill(
+    alloc: Global,
+    outcome: &mut Outcome,
+    case: &Case,
+    world: &World,
+) -> Result<(), AllocError> {
+    push_text(alloc, &mut outcome.screen, world.screen.text())?;
+    push_files(alloc, &mut outcome.files, &world.shelf)?;
+    if case.tells_losses {
+        push_losses(&mut outcome.counts.losses, &world.hosts)?;
+    }
+    Ok(())
+}
+
+fn push_files(alloc: Global, told: &mut String, shelf: &MemShelf) -> Result<(), AllocError> {
+    for k in 0..shelf.file_count() {
+        let name = shelf.name_at(k);
+        told.push_str("file ")?;
+        push_name(told, name)?;
+        told.push('\n')?;
+        if let Ok(name) = str::from_utf8(name) {
+            push_text(alloc, told, shelf.bytes(name).unwrap_or(b""))?;
+        }
+    }
+    Ok(())
+}
+
+fn push_losses(losses: &mut Vec<u64>, hosts: &[MemHost]) -> Result<(), AllocError> {
+    for host in hosts {
+        losses.push(host.losses())?;
+    }
+    Ok(())
+}

@@ -1,0 +1,115 @@
+// The pages of cases: the name of each, and what came of each call, or the first mistake in it.
+ghost use Rattle.std.specs.Prelude.{◌≡◌, vec_len};
+
+use crate::calls::Call;
+use crate::courses::Course;
+use crate::worlds::World;
+use cache_store::MemCache;
+use case_reports::{push_number, push_title};
+use std::alloc::{AllocError, Global};
+use std::io;
+use worked_cases::{Case, Command, Entry, Misread, When, read_cases};
+
+/// Who makes the calls of cases, and prints their pages.
+pub trait Caller {
+    /// Makes a call of `flume_cached` with these words, and answers its exit status.
+    fn call(&self, alloc: Global, words: &[String], world: &mut World, cache: &mut MemCache) -> u8
+        requires { vec_len world.old.hosts ≡ 16 };
+
+    /// Prints a page.
+    fn print(&self, page: &str) -> io::Result<()>;
+}
+
+/// Makes all cases of a text, in order, and prints what came of each.
+pub fn print_cases<C: Caller>(caller: &C, alloc: Global, text: &[u8]) -> io::Result<()> {
+    for entry in &read_cases(alloc, text)? {
+        print_entry(caller, alloc, entry)?;
+    }
+    Ok(())
+}
+
+fn print_entry<C: Caller>(caller: &C, alloc: Global, entry: &Entry) -> io::Result<()> {
+    let page = page_of(caller, alloc, entry)?;
+    caller.print(page.as_str())
+}
+
+fn page_of<C: Caller>(caller: &C, alloc: Global, entry: &Entry) -> Result<String, AllocError> {
+    match entry {
+        Entry::Case(case) => case_page(caller, alloc, case),
+        Entry::Misread(misread) => misread_page(alloc, misread),
+    }
+}
+
+fn misread_page(alloc: Global, misread: &Misread) -> Result<String, AllocError> {
+    let mut page = String::new(alloc);
+    push_misread(&mut page, misread)?;
+    Ok(page)
+}
+
+fn push_misread(page: &mut String, misread: &Misread) -> Result<(), AllocError> {
+    push_title(page, &misread.name, ": line ")?;
+    push_number(page, "", misread.line as u64, ": ")?;
+    page.push_str(misread.mistake.says())?;
+    page.push('\n')
+}
+
+fn case_page<C: Caller>(caller: &C, alloc: Global, case: &Case) -> Result<String, AllocError> {
+    let mut course = Course::new(alloc, case)?;
+    for command in &case.commands {
+        make_calls(caller, alloc, case, command, &mut course)?;
+    }
+    Ok(course.into_page())
+}
+
+// A command: with nothing more that fails, with each thing that is to, and with each two of those.
+fn make_calls<C: Caller>(
+    caller: &C,
+    alloc: Global,
+    case: &Case,
+    command: &Command,
+    course: &mut Course,
+) -> Result<(), AllocError> {
+    make_call(caller, alloc, case, command, &[], course)?;
+    for when in &case.whens {
+        make_call(caller, alloc, case, command, &[when], course)?;
+    }
+    if case.has_pairs {
+        make_pairs(caller, alloc, case, command, course)?;
+    }
+    Ok(())
+}
+
+fn make_pairs<C: Caller>(
+    caller: &C,
+    alloc: Global,
+    case: &Case,
+    command: &Command,
+    course: &mut Course,
+) -> Result<(), AllocError> {
+    for (k, one) in case.whens.iter().enumerate() {
+        for other in case.whens.iter().skip(k).skip(1) {
+            make_call(caller, alloc, case, command, &[one, other], course)?;
+        }
+    }
+    Ok(())
+}
+
+// A call of a command in which these fail. Where each call is made twice, it has a new cache, and
+// is made once more over what that has then.
+fn make_call<C: Caller>(
+    caller: &C,
+    alloc: Global,
+    case: &Case,
+    command: &Command,
+    whens: &[&When],
+    course: &mut Course,
+) -> Result<(), AllocError> {
+    let call = Call::new(alloc, case, command, whens)?;
+    if !case.is_twice {
+        return course.make(caller, alloc, case, command, &call);
+    }
+    course.renew(alloc, case, &call)?;
+    course.make(caller, alloc, case, command, &call)?;
+    let again = Call::again(alloc, case, command)?;
+    course.make(caller, alloc, case, command, &again)
+}

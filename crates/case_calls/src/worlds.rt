@@ -1,0 +1,140 @@
+// The world of a call: what the memory forms hold, and which of their calls fail.
+ghost use Rattle.std.specs.Prelude.{◌≡◌, ◌≤◌, IfOk, IsTrue, length, sum_by, vec_len};
+ghost use Rattle.outside.specs.Files.{file_size};
+
+use flume_value::{Pile, Str};
+use outside::{File, MemHost, MemScreen, MemShelf, MemSource};
+use std::alloc::{AllocError, Global};
+use worked_cases::{Case, Faults, HostDown, Room, TextFile};
+
+/// The outside of a call.
+#[derive(Drop)]
+pub struct World {
+    pub source: MemSource,
+    pub shelf: MemShelf,
+    pub screen: MemScreen,
+    pub hosts: Vec<MemHost>,
+}
+
+const HOSTS: u32 = 16;
+
+// The most bytes that a screen takes.
+const SCREEN: u64 = 2_000_000;
+
+impl World {
+    /// The world of a case, with these files before its own, in which these calls fail.
+    pub fn new(
+        alloc: Global,
+        case: &Case,
+        kept: &[TextFile],
+        faults: &Faults,
+    ) -> Result<World, AllocError>
+        ensures { IfOk result (λ world. vec_len world.hosts ≡ 16) }
+    {
+        Ok(World {
+            source: source_of(alloc, kept, &case.files, faults)?,
+            shelf: shelf_of(alloc, case, faults)?,
+            screen: screen_of(alloc, faults)?,
+            hosts: hosts_of(alloc, &faults.hosts)?,
+        })
+    }
+}
+
+// Of two files of one name the first is read.
+fn source_of(
+    alloc: Global,
+    kept: &[TextFile],
+    texts: &[TextFile],
+    faults: &Faults,
+) -> Result<MemSource, AllocError> {
+    let step = faults.step.unwrap_or(u32::MAX).max(1);
+    let fails = Pile::from_vec(Vec::from_slice(alloc, &faults.source)?);
+    let files = files_of(alloc, kept, texts)?;
+    MemSource::with_step(alloc, files, fails, step)
+}
+
+fn shelf_of(alloc: Global, case: &Case, faults: &Faults) -> Result<MemShelf, AllocError> {
+    let room = case.room;
+    let fails = Pile::from_vec(Vec::from_slice(alloc, &faults.shelf)?);
+    let files = fitting(alloc, files_of(alloc, &case.before, &[])?, room);
+    MemShelf::new(alloc, files, fails, room.files, room.bytes)
+}
+
+fn screen_of(alloc: Global, faults: &Faults) -> Result<MemScreen, AllocError> {
+    let fails = Pile::from_vec(Vec::from_slice(alloc, &faults.screen)?);
+    MemScreen::new(alloc, fails, SCREEN)
+}
+
+fn files_of(
+    alloc: Global,
+    front: &[TextFile],
+    back: &[TextFile],
+) -> Result<Pile<File>, AllocError> {
+    let mut files = Pile::new(alloc);
+    push_files(alloc, &mut files, front)?;
+    push_files(alloc, &mut files, back)?;
+    Ok(files)
+}
+
+fn push_files(alloc: Global, files: &mut Pile<File>, texts: &[TextFile]) -> Result<(), AllocError> {
+    for text in texts {
+        files.push(file_of(alloc, text)?)?;
+    }
+    Ok(())
+}
+
+fn file_of(alloc: Global, text: &TextFile) -> Result<File, AllocError> {
+    Ok(File {
+        name: Str::from_slice(alloc, &text.name)?,
+        bytes: Str::from_slice(alloc, &text.bytes)?,
+    })
+}
+
+// These files, which fit the room, since a case is not read where they do not.
+fn fitting(alloc: Global, files: Pile<File>, room: Room) -> Pile<File>
+    ensures few { length result ≤ room.files }
+    ensures fits { sum_by file_size result ≤ room.bytes }
+{
+    if files.len() as u64 <= u64::from(room.files) && fits(files.as_slice(), room.bytes) {
+        files
+    } else {
+        Pile::new(alloc)
+    }
+}
+
+// Whether files, with their names, have no more bytes than this.
+fn fits(files: &[File], most: u64) -> bool
+    ensures { IsTrue result → sum_by file_size files.now ≤ most }
+{
+    let mut left = most;
+    for file in files {
+        let name = file.name.len() as u64;
+        let bytes = file.bytes.len() as u64;
+        if name > left || bytes > left - name {
+            return false;
+        }
+        left = left - name - bytes;
+    }
+    true
+}
+
+fn hosts_of(alloc: Global, downs: &[HostDown]) -> Result<Vec<MemHost>, AllocError>
+    ensures { IfOk result (λ hosts. vec_len hosts ≡ 16) }
+{
+    let mut hosts = Vec::new(alloc);
+    for number in 0..HOSTS {
+        hosts.push(host_of(alloc, downs, number)?)?;
+    }
+    Ok(hosts)
+}
+
+// The host of this number, with the places at which it is down.
+fn host_of(alloc: Global, downs: &[HostDown], host: u32) -> Result<MemHost, AllocError> {
+    let mut places = Pile::new(alloc);
+    for down in downs {
+        if down.number.unwrap_or(host) == host {
+            places.push(down.at)?;
+        }
+    }
+    MemHost::new(alloc, places, 0)
+}
