@@ -1,10 +1,10 @@
 // The names that Pdos keep, as far as they are told.
-ghost use Rattle.std.specs.Prelude.{◌≡◌, ◌≢◌, ◌++◌, ◌<◌, ◌==◌, ℕ, cond, IfOk, length, None, nat_eq, OnOk, Some, true};
+ghost use Rattle.std.specs.Prelude.{◌≡◌, ◌≢◌, ◌++◌, ◌<◌, ◌==◌, ℕ, cond, IfOk, None, nat_eq, OnOk, Some, true};
 ghost use Rattle.std.specs.HashMap.{get};
 ghost use Rattle.exec_graph.specs.Forests.{grown};
 ghost use Rattle.exec_graph.specs.Twigs.{twig};
 ghost use Rattle.graph_walks.specs.Outs.{out_list, outs};
-ghost use Rattle.graph_walks.specs.inner.Numbering.{branch_outs, branches_outs, twig_outs};
+ghost use Rattle.graph_walks.specs.inner.Numbering.{branch_outs, twig_outs};
 ghost use Rattle.graph_joins.specs.Lists.{HasLists};
 ghost use Rattle.graph_joins.specs.inner.Seeks.{is_kth};
 ghost use Rattle.graph_joins.specs.inner.Splices as spec;

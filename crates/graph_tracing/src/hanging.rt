@@ -1,13 +1,11 @@
 // The kids that fusing is, made under names.
-ghost use Rattle.std.specs.Prelude.{◌≡◌, ◌++◌, ◌∷◌, [], ℕ, List, IfOk, true};
-ghost use Rattle.exec_graph.specs.Meaning.{node_at};
+ghost use Rattle.std.specs.Prelude.{◌≡◌, ◌++◌, ◌∷◌, [], ℕ, List, IfOk};
 ghost use Rattle.exec_graph.specs.Wellformed.{IsGraphOk};
 ghost use Rattle.exec_graph.specs.declared.graph.Graph.{Graph as GhostGraph};
 ghost use Rattle.graph_joins.specs.Sessions.{IsReader, IsSession};
 ghost use Rattle.graph_rewrites.specs.Rewrites as rewrites;
 ghost use Rattle.graph_rewrites.specs.declared.rewrite.Rewrite.{Rewrite as GhostRewrite};
 ghost use Rattle.graph_rewrites.specs.declared.rewrite.Rewrite.TheVariants as rewrite;
-ghost use Rattle.pardo_fuse.specs.Readers.{is_pdo};
 ghost use Rattle.pass_rewrites.specs.of_fuse_chain.Numbers as after;
 ghost use Rattle.graph_tracing.specs.Traces.{GoesUnder};
 ghost use Rattle.graph_tracing.specs.inner.Named.{trace_of};
