@@ -12,7 +12,7 @@ use Rattle.outer_plans.specs.of_graph_rewrites.declared.rewrite.Rewrite.{Rewrite
 use Rattle.outer_plans.specs.Plans.{IsTaken, LeadTo, file_text_of}
 use Rattle.outside.specs.declared.file.File.{File}
 use Rattle.plan_phases.specs.declared.winners.PhaseWinners.{PhaseWinners}
-use Rattle.outer_plans.specs.of_plan_print.GraphText.{graph_text}
+use Rattle.outer_plans.specs.of_graph_print.GraphText.{graph_text}
 use Rattle.run_settings.specs.Settings.{RunSettings}
 use Rattle.exec_plan.specs.declared.plan.Plan.{Plan}
 use Rattle.outer_plans.specs.of_plan_texts.Texts.{plan_json_of, plan_text_of}
