@@ -1,5 +1,5 @@
 -- How many nodes there are after a step.
-use Rattle.std.proofs.Common.{◌≡◌, ℕ, ◌+◌, ◌-◌, ◌*◌, ◌<◌, ◌≤◌, ◌↔◌, Bool, true, false, cond, not, eqb, leb, ◌&&◌, ◌||◌, List, [], ◌∷◌, ◌++◌, length, map, Some, zero, suc, refl, sym, ap, ◌∙◌, subst, arith}
+use Rattle.std.proofs.Common.{◌≡◌, ℕ, ◌+◌, ◌-◌, ◌*◌, ◌<◌, ◌≤◌, ◌↔◌, Bool, true, false, cond, not, eqb, leb, ◌&&◌, ◌||◌, List, [], ◌∷◌, ◌++◌, length, map, Option, Some, None, is_some, zero, suc, refl, sym, ap, ◌∙◌, subst, arith}
 use Rattle.std.proofs.lemmas.Bool.{eqb-true, leb-true, le-leb}
 use Rattle.std.specs.List.{list_any, AllByRecursion}
 use Rattle.flume_value.proofs.EachLemmas.{Each-weaker}
@@ -24,7 +24,8 @@ use Rattle.sink_laws.proofs.Readership.{any_append, any_map, any_none}
 use Rattle.sink_laws.proofs.Rerouting.{IsOutside, among_rerouted, not_copied, uses_rerouted, unlike, flattens_skip}
 use Rattle.sink_laws.proofs.SinkFounded.{kept_nodes, first_nodes, last_nodes, kept_at, node_at-sunk_other}
 use Rattle.flatten_sink.specs.inner.Places.{read_elsewhere}
-use Rattle.flatten_sink.specs.inner.Turns.{size_or_none}
+use Rattle.flatten_sink.specs.inner.Turns.{IsAfter, size_or_none}
+use Rattle.flatten_sink.specs.declared.rooms.After.{After}
 use Rattle.sink_laws.proofs.of_graph_laws.Reading.{size_reread as size-reread}
 
 -- ---- sizes
@@ -295,24 +296,67 @@ few_inputs g c es ins ok can e i =
     subst (λ (l : List Place). length l ≤ most_nodes)
     (sym (i ∙ ap (λ (l : List Entry). ins_of (node_at l c.flatten)) e)) at.1
 
-pub room_is : (g : Graph) (c : Pair) (es : List Entry) (all st outs limit : ℕ) (ins : List Place)
-    (read r : Bool) → IsGraphOk g → CanCall g c → es ≡ g.nodes → all ≡ total_size es
-    → st ≡ size_or_none (node_at es c.other) → ins ≡ ins_of (node_at es c.flatten)
-    → outs ≡ outputs_of (forest_of (node_at es c.other))
-    → read ≡ read_elsewhere g c.flatten c.other → limit ≡ most_nodes + st + cond read 0 1
-    → (r ≡ true) ↔ (all + length ins * st + outs ≤ limit) → r ≡ has_room g c
-room_is g c es all st outs limit ins read r ok can e a s i o w l h =
-    let f : Forest = forest_of (node_at g.nodes c.other) in
-    let st_is : st ≡ steps f = s ∙ ap (λ (l : List Entry). size_or_none (node_at l c.other)) e
-    ∙ ap size_or_none can.pdo in
-    let all_is : all ≡ total_size g.nodes = a ∙ ap total_size e in
-    let ins_is : ins ≡ ins_of (node_at g.nodes c.flatten) =
-    i ∙ ap (λ (l : List Entry). ins_of (node_at l c.flatten)) e in
-    let outs_is : outs ≡ outputs_of f =
-    o ∙ ap (λ (l : List Entry). outputs_of (forest_of (node_at l c.other))) e in
-    let sum : all + length ins * st + outs
-    ≡ total_size g.nodes + length (ins_of (node_at g.nodes c.flatten)) * steps f
-    + outputs_of f = rw (all_is, ins_is, st_is, outs_is) refl in
-    limited (total_size (after_call g c).nodes) (cond (read_elsewhere g c.flatten c.other) 0 1)
-    (steps f) (all + length ins * st + outs) limit r (after_size g c ok can ∙ sym sum)
-    (l ∙ rw (st_is, w) refl) h
+left : (after gone s sum limit n : ℕ) → after + gone + s ≡ sum → limit ≡ most_nodes + s + gone
+    → n ≡ sum - (limit - most_nodes) → n ≡ after
+left after gone s sum limit n e l h = omega arith
+
+-- What the code has counted: the size of the graph, the steps and the outputs of the Pdo, the
+-- inputs of the Flatten, and whether that is read elsewhere.
+module _ (g : Graph) (c : Pair) (es : List Entry) (all st outs limit : ℕ) (ins : List Place)
+    (read : Bool) (ok : IsGraphOk g) (can : CanCall g c) (e : es ≡ g.nodes)
+    (a : all ≡ total_size es) (s : st ≡ size_or_none (node_at es c.other))
+    (i : ins ≡ ins_of (node_at es c.flatten))
+    (o : outs ≡ outputs_of (forest_of (node_at es c.other)))
+    (w : read ≡ read_elsewhere g c.flatten c.other)
+    (l : limit ≡ most_nodes + st + cond read 0 1) where
+  steps_are : st ≡ steps (forest_of (node_at g.nodes c.other))
+  steps_are =
+      s ∙ ap (λ (l : List Entry). size_or_none (node_at l c.other)) e ∙ ap size_or_none can.pdo
+
+  limit_is : limit ≡ most_nodes + steps (forest_of (node_at g.nodes c.other))
+      + cond (read_elsewhere g c.flatten c.other) 0 1
+  limit_is = l ∙ rw (steps_are, w) refl
+
+  sum_is : total_size (after_call g c).nodes + cond (read_elsewhere g c.flatten c.other) 0 1
+      + steps (forest_of (node_at g.nodes c.other)) ≡ all + length ins * st + outs
+  sum_is =
+      let f : Forest = forest_of (node_at g.nodes c.other) in
+      let all_is : all ≡ total_size g.nodes = a ∙ ap total_size e in
+      let ins_is : ins ≡ ins_of (node_at g.nodes c.flatten) =
+      i ∙ ap (λ (l : List Entry). ins_of (node_at l c.flatten)) e in
+      let outs_is : outs ≡ outputs_of f =
+      o ∙ ap (λ (l : List Entry). outputs_of (forest_of (node_at l c.other))) e in
+      let sum : all + length ins * st + outs
+      ≡ total_size g.nodes + length (ins_of (node_at g.nodes c.flatten)) * steps f
+      + outputs_of f = rw (all_is, ins_is, steps_are, outs_is) refl in
+      after_size g c ok can ∙ sym sum
+
+  pub room_is : (r : Bool) → (r ≡ true) ↔ (all + length ins * st + outs ≤ limit)
+      → r ≡ has_room g c
+  room_is r h =
+      limited (total_size (after_call g c).nodes) (cond (read_elsewhere g c.flatten c.other) 0 1)
+      (steps (forest_of (node_at g.nodes c.other))) (all + length ins * st + outs) limit r sum_is
+      limit_is h
+
+  pub size_is : (n : ℕ) → n ≡ all + length ins * st + outs - (limit - most_nodes)
+      → n ≡ total_size (after_call g c).nodes
+  size_is n h =
+      left (total_size (after_call g c).nodes) (cond (read_elsewhere g c.flatten c.other) 0 1)
+      (steps (forest_of (node_at g.nodes c.other))) (all + length ins * st + outs) limit n sum_is
+      limit_is h
+
+-- ---- what is answered
+
+pub some_is : (g : Graph) (c : Pair) (o : Option After) → IsAfter g c o → is_some o ≡ has_room g c
+some_is g c None h = sym h
+some_is g c (Some a) h = sym h.room
+
+-- Whether the Flatten is still read.
+pub read_is : (g h : Graph) (c : Pair) (b : Bool) → IsGraphOk g → CanCall g c
+    → h ≡ sunk_once g c.other (forest_of (node_at g.nodes c.other))
+    (ins_of (node_at g.nodes c.flatten)) → b ≡ read_elsewhere g c.flatten c.other
+    → b ≡ is_read h (place c.flatten 0)
+read_is g h c b ok can e r =
+    r ∙ sym (ap (λ (i : Graph). is_read i (place c.flatten 0)) e
+    ∙ read-sunk g c.flatten c.other (forest_of (node_at g.nodes c.other))
+    (ins_of (node_at g.nodes c.flatten)) ok can)

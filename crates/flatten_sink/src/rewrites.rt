@@ -7,7 +7,7 @@ ghost use Rattle.sink_laws.specs.Kept.{IsKept};
 ghost use Rattle.flatten_sink.specs.Pairs.{IsMergedAt, IsSunkAt};
 ghost use Rattle.flatten_sink.specs.inner.Pairs as pairs;
 
-use crate::finding::{find_node, is_among, is_first_of};
+use crate::finding::{find_node, is_among, is_first_of, is_read_elsewhere};
 use crate::merging::{inputs_of, merge_step};
 use crate::next::has_room_for;
 use crate::rooms::has_room;
@@ -45,7 +45,8 @@ pub fn sink_pair(alloc: Global, graph: Graph, pair: Pair) -> Result<Option<Graph
     if !has_room(alloc, &graph, pair)? {
         return Ok(None);
     }
-    let sunk = sink_step(alloc, graph, pair)?;
+    let is_read = is_read_elsewhere(&graph, pair.flatten, pair.other);
+    let sunk = sink_step(alloc, graph, pair, is_read)?;
     Ok(Some(sunk))
 }
 
