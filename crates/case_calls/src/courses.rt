@@ -7,6 +7,7 @@ use crate::worlds::World;
 use cache_store::MemCache;
 use case_reports::Report;
 use std::alloc::{AllocError, Global};
+use std::thread::Threads;
 use worked_cases::{Case, Command, TextFile};
 
 /// A case so far: the files that the source has behind the first call, the cache, and what is told.
@@ -45,8 +46,9 @@ impl Course {
     }
 
     /// Makes a call of a command, and tells what came of it.
-    pub fn make<C: Caller>(
+    pub fn make<X: Threads + Sync, C: Caller>(
         &mut self,
+        rt: &X,
         caller: &C,
         alloc: Global,
         case: &Case,
@@ -55,7 +57,7 @@ impl Course {
     ) -> Result<(), AllocError> {
         let mut world = World::new(alloc, case, &self.kept, &call.faults)?;
         let before = self.cache.faults();
-        let status = caller.call(alloc, &command.words, &mut world, &mut self.cache);
+        let status = caller.call(rt, alloc, &command.words, &mut world, &mut self.cache);
         let cache = CacheCounts {
             faults: self.cache.faults().saturating_sub(before),
             entries: self.cache.entry_count(),

@@ -1,5 +1,6 @@
 // The pages of cases: the name of each, and what came of each call, or the first mistake in it.
 ghost use Rattle.std.specs.Prelude.{◌≡◌, vec_len};
+ghost use Rattle.std.specs.Thread.{IsSync};
 
 use crate::calls::Call;
 use crate::courses::Course;
@@ -8,34 +9,56 @@ use cache_store::MemCache;
 use case_reports::{push_number, push_title};
 use std::alloc::{AllocError, Global};
 use std::io;
+use std::thread::Threads;
 use worked_cases::{Case, Command, Entry, Misread, When, read_cases};
 
-/// Who makes the calls of cases, and prints their pages.
+/// Who makes the calls of cases.
 pub trait Caller {
-    /// Makes a call of `flume_cached` with these words, and answers its exit status.
-    fn call(&self, alloc: Global, words: &[String], world: &mut World, cache: &mut MemCache) -> u8
-        requires { vec_len world.old.hosts ≡ 16 };
-
-    /// Prints a page.
-    fn print(&self, page: &str) -> io::Result<()>;
+    /// Makes a call of `flume_cached` with these words, and answers its exit status. Its workers
+    /// share the runtime.
+    fn call<X: Threads + Sync>(
+        &self,
+        rt: &X,
+        alloc: Global,
+        words: &[String],
+        world: &mut World,
+        cache: &mut MemCache,
+    ) -> u8
+        requires hosts { vec_len world.old.hosts ≡ 16 }
+        requires shared { IsSync X.row };
 }
 
 /// Makes all cases of a text, in order, and prints what came of each.
-pub fn print_cases<C: Caller>(caller: &C, alloc: Global, text: &[u8]) -> io::Result<()> {
+pub fn print_cases<X: Threads + Sync + Print, C: Caller>(
+    rt: &X,
+    caller: &C,
+    alloc: Global,
+    text: &[u8],
+) -> io::Result<()> {
     for entry in &read_cases(alloc, text)? {
-        print_entry(caller, alloc, entry)?;
+        print_entry(rt, caller, alloc, entry)?;
     }
     Ok(())
 }
 
-fn print_entry<C: Caller>(caller: &C, alloc: Global, entry: &Entry) -> io::Result<()> {
-    let page = page_of(caller, alloc, entry)?;
-    caller.print(page.as_str())
+fn print_entry<X: Threads + Sync + Print, C: Caller>(
+    rt: &X,
+    caller: &C,
+    alloc: Global,
+    entry: &Entry,
+) -> io::Result<()> {
+    let page = page_of(rt, caller, alloc, entry)?;
+    println!(rt; "{page}")
 }
 
-fn page_of<C: Caller>(caller: &C, alloc: Global, entry: &Entry) -> Result<String, AllocError> {
+fn page_of<X: Threads + Sync, C: Caller>(
+    rt: &X,
+    caller: &C,
+    alloc: Global,
+    entry: &Entry,
+) -> Result<String, AllocError> {
     match entry {
-        Entry::Case(case) => case_page(caller, alloc, case),
+        Entry::Case(case) => case_page(rt, caller, alloc, case),
         Entry::Misread(misread) => misread_page(alloc, misread),
     }
 }
@@ -53,33 +76,40 @@ fn push_misread(page: &mut String, misread: &Misread) -> Result<(), AllocError> 
     page.push('\n')
 }
 
-fn case_page<C: Caller>(caller: &C, alloc: Global, case: &Case) -> Result<String, AllocError> {
+fn case_page<X: Threads + Sync, C: Caller>(
+    rt: &X,
+    caller: &C,
+    alloc: Global,
+    case: &Case,
+) -> Result<String, AllocError> {
     let mut course = Course::new(alloc, case)?;
     for command in &case.commands {
-        make_calls(caller, alloc, case, command, &mut course)?;
+        make_calls(rt, caller, alloc, case, command, &mut course)?;
     }
     Ok(course.into_page())
 }
 
 // A command: with nothing more that fails, with each thing that is to, and with each two of those.
-fn make_calls<C: Caller>(
+fn make_calls<X: Threads + Sync, C: Caller>(
+    rt: &X,
     caller: &C,
     alloc: Global,
     case: &Case,
     command: &Command,
     course: &mut Course,
 ) -> Result<(), AllocError> {
-    make_call(caller, alloc, case, command, &[], course)?;
+    make_call(rt, caller, alloc, case, command, &[], course)?;
     for when in &case.whens {
-        make_call(caller, alloc, case, command, &[when], course)?;
+        make_call(rt, caller, alloc, case, command, &[when], course)?;
     }
     if case.has_pairs {
-        make_pairs(caller, alloc, case, command, course)?;
+        make_pairs(rt, caller, alloc, case, command, course)?;
     }
     Ok(())
 }
 
-fn make_pairs<C: Caller>(
+fn make_pairs<X: Threads + Sync, C: Caller>(
+    rt: &X,
     caller: &C,
     alloc: Global,
     case: &Case,
@@ -88,7 +118,7 @@ fn make_pairs<C: Caller>(
 ) -> Result<(), AllocError> {
     for (k, one) in case.whens.iter().enumerate() {
         for other in case.whens.iter().skip(k).skip(1) {
-            make_call(caller, alloc, case, command, &[one, other], course)?;
+            make_call(rt, caller, alloc, case, command, &[one, other], course)?;
         }
     }
     Ok(())
@@ -96,7 +126,8 @@ fn make_pairs<C: Caller>(
 
 // A call of a command in which these fail. Where each call is made twice, it has a new cache, and
 // is made once more over what that has then.
-fn make_call<C: Caller>(
+fn make_call<X: Threads + Sync, C: Caller>(
+    rt: &X,
     caller: &C,
     alloc: Global,
     case: &Case,
@@ -106,10 +137,10 @@ fn make_call<C: Caller>(
 ) -> Result<(), AllocError> {
     let call = Call::new(alloc, case, command, whens)?;
     if !case.is_twice {
-        return course.make(caller, alloc, case, command, &call);
+        return course.make(rt, caller, alloc, case, command, &call);
     }
     course.renew(alloc, case, &call)?;
-    course.make(caller, alloc, case, command, &call)?;
+    course.make(rt, caller, alloc, case, command, &call)?;
     let again = Call::again(alloc, case, command)?;
-    course.make(caller, alloc, case, command, &again)
+    course.make(rt, caller, alloc, case, command, &again)
 }

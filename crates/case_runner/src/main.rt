@@ -12,16 +12,21 @@ use std::io;
 use std::io::Read;
 use std::thread::Threads;
 
-// Makes calls with the threads of the system, and prints on its standard output.
-#[derive(Drop)]
-struct Runner<'a, X: Threads + Sync + Print> {
-    rt: &'a X,
-}
+// What makes the calls.
+#[derive(Clone, Copy)]
+struct Flume;
 
-impl<X: Threads + Sync + Print> Caller for Runner<'_, X> {
-    fn call(&self, alloc: Global, words: &[String], world: &mut World, cache: &mut MemCache) -> u8 {
+impl Caller for Flume {
+    fn call<X: Threads + Sync>(
+        &self,
+        rt: &X,
+        alloc: Global,
+        words: &[String],
+        world: &mut World,
+        cache: &mut MemCache,
+    ) -> u8 {
         let status = flume_cached(
-            self.rt,
+            rt,
             alloc,
             words,
             &mut world.source,
@@ -32,15 +37,11 @@ impl<X: Threads + Sync + Print> Caller for Runner<'_, X> {
         );
         status.code()
     }
-
-    fn print(&self, page: &str) -> io::Result<()> {
-        println!(self.rt; "{page}")
-    }
 }
 
 fn main(rt: HostRuntime) -> io::Result<()> {
     let alloc = rt.alloc();
     let mut text = Vec::new(alloc);
     rt.reader().read_to_end(&mut text)?;
-    print_cases(&Runner { rt: &rt }, alloc, &text)
+    print_cases(&rt, &Flume, alloc, &text)
 }
