@@ -39,7 +39,9 @@ impl Model for Settings {
 }
 
 impl Settings {
-    ghost use Rattle.run_settings.specs.Limits.{IsDrill, IsUpTo, most_partitions, most_shards, most_tries, most_workers};
+    ghost use Rattle.run_settings.specs.Limits.{IsDrill, IsUpTo};
+    ghost use Rattle.run_settings.specs.Limits.{most_partitions, most_shards};
+    ghost use Rattle.run_settings.specs.Limits.{most_tries, most_workers};
     ghost use Rattle.run_settings.specs.Settings.{AreWithinLimits, standard};
 
     /// A run by so many workers, in so many shards and partitions, with so many tries for each task

@@ -16,8 +16,6 @@ use Rattle.direct_meaning.specs.inner.Objects.{IsOperated, values_in}
 use Rattle.direct_meaning.specs.inner.Stands.{Stands}
 use Rattle.direct_meaning.proofs.node.make.Goals as goal
 
--- ---- inputs
-
 pub rows-requires : goal.rows-requires
 rows-requires c =
     input_left c.in-Input.file c.in-Input.columns
@@ -36,8 +34,6 @@ returns-in-Input c rows stands =
     (into_iter_items c.rows.new.inputs) members.1 kept members.2 trapped)
     c.rows.ensures.members c.rows.ensures.trapped
 
--- ---- kept collections
-
 pub rows-requires-in-Saved : goal.rows-requires-in-Saved
 rows-requires-in-Saved c =
     saved_left c.in-Saved.is_object c.in-Saved.call
@@ -55,8 +51,6 @@ returns-in-Saved c rows stands =
     saved_goes c.in-Saved.is_object c.in-Saved.call here members.0
     (into_iter_items c.rows-in-Saved.new.inputs) members.1 kept members.2 trapped)
     c.rows-in-Saved.ensures.members c.rows-in-Saved.ensures.trapped
-
--- ---- groups
 
 pub kept_at-requires : goal.kept_at-requires
 kept_at-requires c =
@@ -89,8 +83,6 @@ returns-in-Group c rows stands =
     if_both c.grouped.result _ _ _
     (group_goes c.in-Group.source here c.kept_at.result.now c.kept_at.ensures)
     c.grouped.ensures.members c.grouped.ensures.trapped
-
--- ---- combinations
 
 pub kept_at-requires-in-Combine : goal.kept_at-requires-in-Combine
 kept_at-requires-in-Combine c =
@@ -125,8 +117,6 @@ returns-in-Combine c rows stands =
     members trapped))
     c.combined.ensures.members c.combined.ensures.traps c.combined.ensures.trapped
 
--- ---- collections together
-
 pub returns-in-Flatten : goal.returns-in-Flatten
 returns-in-Flatten c rows stands =
     let here = here_at c.args.program.now.known.types c.node.result.now
@@ -141,8 +131,6 @@ returns-in-Flatten c rows stands =
     (trapped ∙ ap (λ (l : List ℕ).
     list_any (λ source. is_trapped (kept_in c.args.table.now source)) l) c.as_slice.ensures))
     c.together.ensures.members c.together.ensures.trapped
-
--- ---- counts
 
 pub kept_at-requires-in-Count : goal.kept_at-requires-in-Count
 kept_at-requires-in-Count c =
@@ -169,8 +157,6 @@ returns-in-Count c rows stands =
     count_goes c.in-Count.source here c.kept_at-in-Count.result.now c.kept_at-in-Count.ensures kept
     members trapped c.counted.ensures.through)
     c.counted.ensures.members c.counted.ensures.trapped
-
--- ---- joins
 
 pub kept_at-requires-in-Join : goal.kept_at-requires-in-Join
 kept_at-requires-in-Join c =
@@ -230,8 +216,6 @@ returns-in-Join c rows stands =
     c.kept_at-in-Join-2.result.now c.kept_at-in-Join.ensures c.kept_at-in-Join-2.ensures)
     c.joined.ensures.members c.joined.ensures.trapped
 
--- ---- the greatest
-
 pub kept_at-requires-in-Top : goal.kept_at-requires-in-Top
 kept_at-requires-in-Top c =
     let here = here_at c.args.program.now.known.types c.node.result.now
@@ -257,8 +241,6 @@ returns-in-Top c rows stands =
     (top_goes c.in-Top.number c.in-Top.source here c.kept_at-in-Top.result.now
     c.kept_at-in-Top.ensures)
     c.topped.ensures.members c.topped.ensures.trapped
-
--- ---- calls
 
 pub kept_at-source-requires : goal.kept_at-source-requires
 kept_at-source-requires c =
@@ -297,8 +279,6 @@ returns-in-Do c rows stands =
     c.kept_at-source.ensures kept c.done.new.traps.items done)
     (c.done.ensures it.function it.at)
 
--- ---- all members combined
-
 pub kept_at-requires-in-CombineAll : goal.kept_at-requires-in-CombineAll
 kept_at-requires-in-CombineAll c =
     let here = here_at c.args.program.now.known.types c.node.result.now
@@ -326,8 +306,6 @@ returns-in-CombineAll c rows stands =
     c.combined_whole.new.traps.items members trapped found)
     c.combined_whole.ensures.members c.combined_whole.ensures.trapped
     c.combined_whole.ensures.traps
-
--- ---- a call on objects
 
 pub operated-requires-clause-below : goal.operated-requires-clause-below
 operated-requires-clause-below c =
@@ -360,8 +338,6 @@ returns-in-Operate c rows stands =
     c.args.traps.now.items c.operated.new.traps.items)
     c.as_slice-objects.ensures done))
     (c.operated.ensures it.function it.at)
-
--- ---- calls beside an object
 
 pub kept_at-source-requires-in-DoWith : goal.kept_at-source-requires-in-DoWith
 kept_at-source-requires-in-DoWith c =
