@@ -6,17 +6,11 @@ pub mod Soundness
 pub mod StepFacts
 pub mod Derived
 pub mod Typed
-pub mod Walks
 pub mod Spotting
 pub mod Coding
-pub mod Edging
-pub mod Founding
-pub mod Ordering
-pub mod ObjectLemmas
 pub mod Barriers
 pub mod Wholes
 pub mod Rooted
-pub mod Checking
 pub mod OutCounts
 pub use Rattle.flume_collection.proofs.of_bag_groups
 pub use Rattle.flume_collection.proofs as of_flume_collection

@@ -1,5 +1,6 @@
 pub mod Forests
 pub mod Twigs
+pub mod Spots
 pub mod World
 pub mod Objects
 pub mod Derived

@@ -21,22 +21,12 @@
 //! Types are an assignment to collections that fits each node, by the signatures of inputs and
 //! functions (`IsTyped`, specs/Typing.antt). Each member of a collection then has its type, where
 //! the world is typed too (`typed_law`).
-//!
-//! `graph_ok` decides whether a graph is well-formed, and `is_founded` the part that its meaning
-//! rests on: all that is read is there, and no path returns to its node.
 #![tactic(auto)]
 
-mod callers;
-mod checks;
+mod combiners;
 mod copies;
-mod edges;
-mod forests;
-mod founded;
-mod given;
 mod graph;
 mod laws;
-mod objects;
-mod order;
 mod places;
 mod readers;
 mod rows;
@@ -44,13 +34,12 @@ mod sizes;
 mod spots;
 mod step;
 
-pub use callers::root_comb;
-pub use checks::graph_ok;
-pub use founded::is_founded;
+pub use combiners::root_comb;
 pub use graph::{Act, Blocked, Entry, Graph, Input, Node, Place};
 pub use laws::{act_law, meaning_law, object_law, step_law, typed_law};
 pub use places::{add_place, code_of};
 pub use readers::{held_places, read_places};
 pub use rows::{operate_rows_law, side_input_rows_law, singleton_rows_law};
 pub use sizes::{MOST_NODES, count_outputs, size_of};
+pub use spots::{Spot, spots_of};
 pub use step::{Does, Output, Roots, Step};

@@ -1,12 +1,10 @@
 // How large a graph and its nodes are, and how large they may be.
-ghost use Rattle.std.specs.Prelude.{◌≡◌, ◌↔◌, ◌≤◌, IsTrue, IfOk, length};
-ghost use Rattle.exec_graph.specs.Wellformed.{size, total_size, most_nodes};
-ghost use Rattle.exec_graph.specs.inner.Checks.{flatten_ok};
-ghost use Rattle.exec_graph.specs.inner.Spots.{firsts, kept};
+ghost use Rattle.std.specs.Prelude.{◌≡◌, IfOk};
+ghost use Rattle.exec_graph.specs.Wellformed.{size};
+ghost use Rattle.exec_graph.specs.inner.Counts.{firsts, kept};
 ghost use Rattle.exec_graph.specs.Forests.{after};
-ghost use Rattle.std.specs.List.{list_all};
 
-use crate::graph::{Entry, Node};
+use crate::graph::Node;
 use crate::spots::{Spot, spots_of};
 use crate::step::Roots;
 use std::alloc::{AllocError, Global};
@@ -15,23 +13,8 @@ use std::alloc::{AllocError, Global};
 /// step.
 pub const MOST_NODES: usize = 16_384;
 
-/// Whether the nodes are few enough.
-pub(crate) fn are_few(alloc: Global, nodes: &[Entry]) -> Result<bool, AllocError>
-    ensures { IfOk result (λ b. IsTrue b ↔ (total_size nodes.now ≤ most_nodes)) }
-{
-    let mut left = MOST_NODES;
-    for e in nodes {
-        let size = size_of(alloc, &e.node)?;
-        if size > left {
-            return Ok(false);
-        }
-        left -= size;
-    }
-    Ok(true)
-}
-
 /// How many nodes the node counts as: a Pdo is one for each step.
-#[tactic(auto, using(crate::proofs::Ordering::firsts_steps))]
+#[tactic(auto, using(crate::proofs::OutCounts::firsts_steps))]
 pub fn size_of(alloc: Global, node: &Node) -> Result<usize, AllocError>
     ensures { IfOk result (λ n. n ≡ size node.now) }
 {
@@ -77,28 +60,4 @@ fn count_kept(spots: &[Spot]) -> usize
         }
     }
     count
-}
-
-/// Whether each Flatten has inputs, and not too many.
-pub(crate) fn are_flattens_ok(nodes: &[Entry]) -> bool
-    ensures { result ≡ list_all (λ e. flatten_ok e.node) nodes.now }
-{
-    for e in nodes {
-        if !is_flatten_ok(&e.node) {
-            return false;
-        }
-    }
-    true
-}
-
-fn is_flatten_ok(node: &Node) -> bool
-    ensures { result ≡ flatten_ok node.now }
-{
-    match node {
-        Node::Flatten(inputs) => {
-            let count = inputs.as_slice().len();
-            0 < count && count <= MOST_NODES
-        }
-        Node::Source(_) | Node::Pdo { .. } | Node::Gbk { .. } | Node::Barrier { .. } => true,
-    }
 }

@@ -12,20 +12,11 @@
 //! specs/Wellformed.antt) each stage reads sources and results of earlier stages alone, so that
 //! just one table says of each result what its stage gives over that table (`meaning_law`). Types
 //! are an assignment to collections that fits each stage (`IsPlanTyped`, specs/Typing.antt).
-//!
-//! `plan_ok` decides whether a plan is well-formed.
 #![tactic(auto)]
 
-mod channels;
-mod checks;
-mod counts;
 mod laws;
-mod numbers;
-mod objects;
 mod plan;
-mod stages;
 
-pub use checks::plan_ok;
 pub use combine_table::flume_value;
 pub use exec_graph;
 pub use laws::meaning_law;

@@ -10,7 +10,7 @@ use Rattle.exec_graph.specs.of_flume_collection.declared.trap.Trap.{Trap}
 use Rattle.exec_graph.specs.of_flume_collection.Traps.{trap_le}
 use Rattle.exec_graph.specs.of_flume_collection.Sets.{set_of}
 use Rattle.exec_graph.specs.Objects.{takes_such}
-use Rattle.exec_graph.proofs.ObjectLemmas.{map_same}
+use Rattle.exec_graph.proofs.Entries.{map_same}
 use Rattle.exec_graph.specs.Wellformed.{HaveObjects, has_objects, is_object, is_object_at, comb_at, IsLiftedOk, IsNodeOk, size, total_size, Ascends, IsGraphOk, most_nodes}
 use Rattle.exec_graph.specs.Meaning.{place, Holds, own, traps, node_at, reads, gives, gives_at, IsThere, KeepsMeaning, SameMeaning}
 use Rattle.exec_graph.specs.of_flume_collection.Collection.{Collection}

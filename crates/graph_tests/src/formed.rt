@@ -1,7 +1,8 @@
 // The graph of a word count with one change, and whether it is well-formed.
 use combine_table::Comb;
-use exec_graph::{Does, Entry, Graph, Input, Node, Output, Place, Roots, Step, graph_ok};
+use exec_graph::{Does, Entry, Graph, Input, Node, Output, Place, Roots, Step};
 use flume_value::Pile;
+use graph_checks::graph_ok;
 use std::alloc::{AllocError, Global};
 use std::test::Fail;
 

@@ -1,7 +1,8 @@
 // Graphs, and whether each is founded.
 use combine_table::Comb;
-use exec_graph::{Does, Entry, Graph, Input, Node, Output, Place, Roots, Step, is_founded};
+use exec_graph::{Does, Entry, Graph, Input, Node, Output, Place, Roots, Step};
 use flume_value::Pile;
+use graph_checks::is_founded;
 use std::alloc::{AllocError, Global};
 use std::test::Fail;
 

@@ -1,7 +1,8 @@
 // Graphs with objects, and whether each is well-formed.
 use combine_table::Comb;
-use exec_graph::{Act, Does, Entry, Graph, Input, Node, Output, Place, Roots, Step, graph_ok};
+use exec_graph::{Act, Does, Entry, Graph, Input, Node, Output, Place, Roots, Step};
 use flume_value::Pile;
+use graph_checks::graph_ok;
 use std::alloc::{AllocError, Global};
 use std::test::Fail;
 

@@ -16,7 +16,7 @@ use Rattle.exec_graph.specs.declared.graph.Graph.{Graph}
 use Rattle.exec_graph.proofs.Bools.{or_else, or_left, or_right}
 use Rattle.exec_graph.proofs.Entries.{all_found}
 use Rattle.exec_graph.proofs.Solving.{ranked_at, there_found}
-use Rattle.exec_graph.proofs.Walks.{within_or}
+use Rattle.exec_graph.proofs.Bools.{within_or}
 use Rattle.fusion_blocks.specs.inner.Tables.{AllThere}
 use Rattle.fusion_blocks.proofs.Marking.{is_same, same_is}
 use Rattle.plan_roles.specs.Levels.{HasLevels, IsPath, begins, goes, greatest, level, level_by, one_gbk}

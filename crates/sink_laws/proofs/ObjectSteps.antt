@@ -12,7 +12,7 @@ use Rattle.graph_laws.specs.of_exec_graph.Forests.{Forest, numbered}
 use Rattle.graph_laws.specs.of_exec_graph.Meaning.{AllDiffer, IsThere, node_at, place, reads}
 use Rattle.graph_laws.specs.of_exec_graph.Objects.{takes_such}
 use Rattle.graph_laws.specs.of_exec_graph.Wellformed.{Ascends, HaveObjects, IsFounded, has_objects, is_object, is_object_at}
-use Rattle.graph_laws.proofs.of_exec_graph.ObjectLemmas.{map_same}
+use Rattle.graph_laws.proofs.of_exec_graph.Entries.{map_same}
 use Rattle.graph_laws.proofs.of_exec_graph.Solving.{gives_found}
 use Rattle.graph_laws.proofs.of_exec_graph.Soundness.{differ_ascends}
 use Rattle.graph_laws.specs.Joining.{set_node, without}

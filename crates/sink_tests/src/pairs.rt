@@ -3,8 +3,9 @@ ghost use Rattle.exec_graph.specs.Wellformed.{IsGraphOk};
 
 use crate::drawn::{Drawn, Made, Spot, graph_drawn};
 use crate::seen::{Row, Seen, has_nodes, has_outputs};
-use exec_graph::{Graph, graph_ok};
+use exec_graph::Graph;
 use flatten_sink::{merge_pair, sink_pair};
+use graph_checks::graph_ok;
 use sink_laws::Pair;
 use std::alloc::Global;
 use std::test::Fail;

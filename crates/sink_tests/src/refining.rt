@@ -2,9 +2,10 @@
 use crate::drawn::{Drawn, Made, Spot, graph_drawn};
 use crate::seen::are_spots;
 use combine_lift::lift;
-use exec_graph::{Blocked, Entry, Graph, Node, Step, graph_ok};
+use exec_graph::{Blocked, Entry, Graph, Node, Step};
 use flatten_sink::sink;
 use fusion_blocks::block;
+use graph_checks::graph_ok;
 use pardo_fuse::{fuse, has_narrow_steps};
 use std::alloc::{AllocError, Global};
 use std::test::Fail;

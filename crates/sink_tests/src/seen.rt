@@ -1,7 +1,8 @@
 // What is seen of a graph in which Flattens are sunk.
 use crate::drawn::{Spot, place_of};
-use exec_graph::{Entry, Graph, Node, Place, Step, graph_ok};
+use exec_graph::{Entry, Graph, Node, Place, Step};
 use flatten_sink::sink;
+use graph_checks::graph_ok;
 use std::alloc::Global;
 
 /// What a node is seen as; of a Pdo the numbers of its step's outputs.

@@ -1,0 +1,9 @@
+pub mod Spotting
+pub mod Walks
+pub mod Edging
+pub mod Founding
+pub mod Ordering
+pub mod ObjectLemmas
+pub mod OnlyReader
+pub mod Combs
+pub mod Checking

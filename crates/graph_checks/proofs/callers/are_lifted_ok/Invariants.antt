@@ -1,0 +1,10 @@
+use Rattle.std.proofs.Common.{◌≡◌, drop}
+use Rattle.std.specs.List.{list_all}
+use Rattle.graph_checks.specs.inner.Checks.{lifted_ok}
+use Rattle.exec_graph.specs.declared.graph.Entry.{Entry}
+use Rattle.graph_checks.proofs.callers.are_lifted_ok.Given as goal
+
+abbrev pub invariant-loop-e : goal.invariant-loop-e
+invariant-loop-e l =
+    list_all (λ (e : Entry). lifted_ok l.graph e.number e.node) (drop l.e-index l.e-items)
+    ≡ list_all (λ (e : Entry). lifted_ok l.graph e.number e.node) l.graph.nodes
