@@ -9,6 +9,7 @@ use Rattle.flume_value.proofs.CrossLemmas.{Held-send, Held-sync, Pile-send, Pile
 use Rattle.key_order.specs.contracts.couple.Couple as couple
 use Rattle.key_order.specs.contracts.couple.Couple.TheInside as inside
 use Rattle.key_order.specs.contracts.sides.Side as side
+use Rattle.key_order.specs.contracts.sides.Sided as sided
 
 Value-send : IsSend (value.the_field).row
 Value-send = search (sendable, crosses, knot.crosses, Str-send, Pile-send, Held-send) depth 60
@@ -22,15 +23,23 @@ Side-send = search (sendable, crosses) depth 40
 Side-sync : IsSync (side.the_field).row
 Side-sync = search (sendable, crosses) depth 40
 
+Sided-send : IsSend (sided.the_field).row
+Sided-send =
+    search (sendable, crosses, Side-send, Value-send, Str-send, Pile-send, Held-send) depth 60
+
+Sided-sync : IsSync (sided.the_field).row
+Sided-sync =
+    search (sendable, crosses, Side-sync, Value-sync, Str-sync, Pile-sync, Held-sync) depth 60
+
 Inside-send : IsSend inside.the_row
 Inside-send =
     recorded_send (Struct (shape inside.the_type)) _ _ (inside.the_type).to_one
-    (struct_send (shape inside.the_type) (Value-send, (Side-send, (Value-send, tt))))
+    (struct_send (shape inside.the_type) (Value-send, (Sided-send, tt)))
 
 Inside-sync : IsSync inside.the_row
 Inside-sync =
     recorded_sync (Struct (shape inside.the_type)) _ _ (inside.the_type).to_one
-    (struct_sync (shape inside.the_type) (Value-sync, (Side-sync, (Value-sync, tt))))
+    (struct_sync (shape inside.the_type) (Value-sync, (Sided-sync, tt)))
 
 pub Couple-send : IsSend couple.the_row
 Couple-send = view_send inside.the_row _ _ _ _ Inside-send

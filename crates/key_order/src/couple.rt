@@ -2,9 +2,9 @@
 ghost use Rattle.std.specs.Prelude.{◌≡◌, Some, IfOk};
 ghost use Rattle.bag_groups.specs.Pairs.{IsPair, key_of, pair as pair_of, parts_of, value_of};
 ghost use Rattle.flume_value.specs.Order.{value_cmp};
-ghost use Rattle.key_order.specs.inner.Sides.{sided};
+ghost use Rattle.key_order.specs.inner.Numbered.{key_in};
 
-use crate::sides::{Side, compare_sided, put_on};
+use crate::sides::{Sided, unboxed};
 use flume_value::{Value, compare};
 use std::alloc::{AllocError, Global};
 use std::cmp::Ordering;
@@ -13,25 +13,27 @@ use std::marker::Model;
 /// A pair that is kept for a while, which contracts see as the value that it is.
 ///
 /// A record takes an allocation, and so does a side of an either. Here the key and what the value
-/// holds stand side by side: most pairs take no memory but their place in a list.
+/// holds stand side by side: most pairs take no memory but their place in a list, which is that of
+/// two values.
 #[derive(Drop)]
 pub struct Couple {
     key: Value,
-    side: Side,
-    value: Value,
+    value: Sided,
 }
+
+const _: () = prove!(size_of::<Couple>() == 2 * size_of::<Value>());
 
 impl Model for Couple {
     ghost use Rattle.bag_groups.specs.Pairs.{pair};
     ghost use Rattle.flume_value.specs.contracts.value.Value as coded_values;
     ghost use Rattle.flume_value.specs.declared.value.Value.{Value as Plain};
-    ghost use Rattle.key_order.specs.inner.Sides.{sided};
+    ghost use Rattle.key_order.specs.inner.Sides.{boxed};
 
     ghost Value = { Plain };
 
     ghost coded = { coded_values.the_row.coded };
 
-    ghost view = { λ c. pair c.key (sided c.side c.value) };
+    ghost view = { λ c. pair c.key (boxed c.value) };
 }
 
 impl Couple {
@@ -57,19 +59,14 @@ impl Couple {
     pub fn copy_value(&self, alloc: Global) -> Result<Value, AllocError>
         ensures { IfOk result (λ value. value_of self.now ≡ Some value) }
     {
-        let value = self.value.copy(alloc)?;
-        put_on(alloc, self.side, value)
+        self.value.copy(alloc)
     }
 
-    // How the pair stands to the other in the order of values.
-    fn compare(&self, other: &Couple) -> Ordering
-        ensures { result ≡ value_cmp self.now other.now }
+    /// How its key stands to that of the other.
+    pub(crate) fn compare_keys(&self, other: &Couple) -> Ordering
+        ensures { result ≡ value_cmp (key_in self.now) (key_in other.now) }
     {
-        match compare(&self.key, &other.key) {
-            Ordering::Less => Ordering::Less,
-            Ordering::Greater => Ordering::Greater,
-            Ordering::Equal => { compare_sided(self.side, &self.value, other.side, &other.value) }
-        }
+        compare(&self.key, &other.key)
     }
 }
 
@@ -93,75 +90,8 @@ fn into_parts(pair: Value) -> Option<(Value, Value)>
 fn of_parts(key: Value, value: Value) -> Couple
     ensures { result ≡ pair_of key value }
 {
-    match value {
-        Value::Left(inner) => Couple {
-            key,
-            side: Side::Left,
-            value: inner.into_inner(),
-        },
-        Value::Right(inner) => Couple {
-            key,
-            side: Side::Right,
-            value: inner.into_inner(),
-        },
-        other => Couple {
-            key,
-            side: Side::Plain,
-            value: other,
-        },
-    }
-}
-
-impl PartialEq for Couple {
-    ghost use Rattle.std.specs.Cmp.{eq_by_cmp_equiv, partial_equiv_from_equiv};
-    ghost use Rattle.flume_value.specs.Equality.{value_eq};
-    ghost use Rattle.flume_value.proofs.OrderLemmas.{value_cmp-total};
-
-    ghost eq = { value_eq };
-
-    ghost laws = { partial_equiv_from_equiv (eq_by_cmp_equiv value_cmp-total) };
-
-    fn eq(&self, other: &Self) -> bool {
-        self.compare(other).is_eq()
-    }
-}
-
-impl Eq for Couple {
-    ghost use Rattle.std.specs.Cmp.{eq_by_cmp_equiv};
-    ghost use Rattle.flume_value.proofs.OrderLemmas.{value_cmp-total};
-
-    ghost laws = { eq_by_cmp_equiv value_cmp-total };
-}
-
-impl PartialOrd for Couple {
-    ghost use Rattle.std.specs.Prelude.{Some, refl};
-    ghost use Rattle.std.specs.Cmp.{po};
-    ghost use Rattle.flume_value.specs.Order.{value_cmp};
-    ghost use Rattle.flume_value.proofs.OrderLemmas.{value_cmp-total};
-
-    ghost partial_cmp = { λ x y. Some (value_cmp x y) };
-
-    ghost laws = { po value_cmp-total (λ x y. refl) };
-
-    fn partial_cmp(&self, other: &Self) -> Option<Ordering> {
-        Some(self.cmp(other))
-    }
-}
-
-impl Ord for Couple {
-    ghost use Rattle.std.specs.Prelude.{refl};
-    ghost use Rattle.flume_value.specs.Order.{value_cmp};
-    ghost use Rattle.flume_value.proofs.OrderLemmas.{value_cmp-total};
-
-    ghost cmp = { value_cmp };
-
-    ghost total = { value_cmp-total };
-
-    ghost matches_partial_cmp = { λ x y. refl };
-
-    ghost matches_eq = { λ x y. refl };
-
-    fn cmp(&self, other: &Self) -> Ordering {
-        self.compare(other)
+    Couple {
+        key,
+        value: unboxed(value),
     }
 }

@@ -19,7 +19,7 @@ use std::alloc::{AllocError, Global};
 /// One pair for each key of the pairs that are referred to, keys ascending: the key and the list
 /// of its values, ascending. It sorts the references by the numbers of their keys alone, copies
 /// each value once and one key of each group. Pairs of one number mostly have one key; then their
-/// values are sorted where they stand in a row, and else the references by whole pairs.
+/// values are sorted where they stand in a row, and else the references are sorted by key first.
 pub fn group_numbered(alloc: Global, pairs: Vec<&Couple>) -> Result<Vec<Value>, AllocError>
     requires { All (λ pair. IsPair pair.now) pairs.items }
     ensures groups { IfOk result (λ groups.

@@ -10,7 +10,7 @@
 //!
 //! `group_numbered` sorts couples by these numbers alone. Those of one number mostly have one key;
 //! then their values are copied out and sorted where they stand in a row, and else the couples are
-//! sorted whole. So it gives the very groups of bag_groups.
+//! sorted by key first. So it gives the very groups of bag_groups.
 #![tactic(auto)]
 
 mod couple;

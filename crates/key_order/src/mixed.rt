@@ -1,23 +1,24 @@
-// The groups of pairs whose keys may differ, by a sort of whole pairs.
+// The groups of pairs whose keys may differ, by a sort of their keys.
 ghost use Rattle.std.specs.Prelude.{◌≡◌, All, IfOk, Some, map};
+ghost use Rattle.flume_value.specs.Bag.{bag_of};
 ghost use Rattle.bag_groups.specs.Pairs.{IsPair, pair as pair_of};
 ghost use Rattle.bag_groups.specs.Groups.{grouped};
 ghost use Rattle.bag_groups.specs.inner.Runs.{IsLastRun, held_by};
 
 use crate::couple::Couple;
 use bag_groups::pair;
-use flume_value::{Items, Pile, Value, equals};
+use flume_value::{Pile, Value, equals, sorted};
 use std::alloc::{AllocError, Global};
 
 /// One pair for each key of the pairs that are referred to, keys ascending: the key and the list
-/// of its values, ascending. It sorts the references by key and then by value.
+/// of its values, ascending. It sorts the references by key, and then the values of each key.
 pub(crate) fn group_by_pairs(alloc: Global, pairs: Vec<&Couple>) -> Result<Vec<Value>, AllocError>
     requires { All (λ pair. IsPair pair.now) pairs.items }
     ensures { IfOk result (λ groups.
         groups.items ≡ grouped (map (λ pair. pair.now) pairs.entry.items)) }
 {
     let mut left = pairs;
-    left.sort_unstable();
+    left.sort_unstable_by(|a, b| a.compare_keys(b));
     let mut groups = Vec::new(alloc);
     'runs: while !left.is_empty() {
         let last = left[left.len() - 1].key();
@@ -41,24 +42,24 @@ fn run_start(wanted: &Value, pairs: &[&Couple]) -> usize
     start
 }
 
-/// The pair of a key and the list of the values of its pairs.
+/// The pair of a key and the list of the values of its pairs, ascending.
 fn group_of_run(alloc: Global, key: &Value, run: &[&Couple]) -> Result<Value, AllocError>
     requires { All (λ pair. IsPair pair.now) run.now }
-    ensures { IfOk result (λ group. group
-        ≡ pair_of key.now (Value.List (held_by (map (λ pair. pair.now) run.now)))) }
+    ensures { IfOk result (λ group. group ≡ pair_of key.now
+        (Value.List (bag_of (held_by (map (λ pair. pair.now) run.now))))) }
 {
-    let values = Value::List(values_of(alloc, run)?);
-    pair(alloc, key.copy(alloc)?, values)
+    let values = sorted(values_of(alloc, run)?)?;
+    pair(alloc, key.copy(alloc)?, Value::List(Pile::from_vec(values)))
 }
 
 /// Copies of the values of these pairs.
-fn values_of(alloc: Global, pairs: &[&Couple]) -> Result<Items, AllocError>
+fn values_of(alloc: Global, pairs: &[&Couple]) -> Result<Vec<Value>, AllocError>
     requires { All (λ pair. IsPair pair.now) pairs.now }
-    ensures { IfOk result (λ values. values ≡ held_by (map (λ pair. pair.now) pairs.now)) }
+    ensures { IfOk result (λ values. values.items ≡ held_by (map (λ pair. pair.now) pairs.now)) }
 {
     let mut values = Vec::with_capacity(alloc, pairs.len())?;
     for pair in pairs {
         values.push(pair.copy_value(alloc)?)?;
     }
-    Ok(Pile::from_vec(values))
+    Ok(values)
 }

@@ -1,12 +1,9 @@
 // Values on a side of an either, which stand without a box.
 ghost use Rattle.std.specs.Prelude.{◌≡◌, IfOk};
-ghost use Rattle.flume_value.specs.Order.{layer_cmp, value_cmp};
-ghost use Rattle.flume_value.specs.declared.value.Value.{Value-F, out-Value};
-ghost use Rattle.key_order.specs.inner.Sides.{sided};
+ghost use Rattle.key_order.specs.inner.Sides.{boxed, held_in, side_in, sided};
 
-use flume_value::{Held, Value, compare};
+use flume_value::{Held, Items, Str, Value, copy_all};
 use std::alloc::{AllocError, Global};
-use std::cmp::Ordering;
 
 /// On which side of an either a value stands, or on none.
 #[derive(Clone, Copy)]
@@ -19,98 +16,99 @@ pub(crate) enum Side {
     Right,
 }
 
+/// A value that stands without the box of its side. The side stands behind the number of the
+/// variant, where a value has room to spare, so this takes no more than a value does.
+#[derive(Drop)]
+pub(crate) enum Sided {
+    Int(Side, i64),
+    Bool(Side, bool),
+    Text(Side, Str),
+    List(Side, Items),
+    Rec(Side, Items),
+    Left(Side, Held<Value>),
+    Right(Side, Held<Value>),
+    Wide(Side, i128),
+}
+
+const _: () = prove!(size_of::<Sided>() == size_of::<Value>());
+
+/// The value without the box of its side. It takes no memory.
+pub(crate) fn unboxed(value: Value) -> Sided
+    ensures { boxed result ≡ value }
+{
+    match value {
+        Value::Left(inner) => on_side(Side::Left, inner.into_inner()),
+        Value::Right(inner) => on_side(Side::Right, inner.into_inner()),
+        other => on_side(Side::Plain, other),
+    }
+}
+
+/// The value on its side.
+fn on_side(side: Side, value: Value) -> Sided
+    ensures { boxed result ≡ sided side value }
+{
+    match value {
+        Value::Int(n) => Sided::Int(side, n),
+        Value::Bool(b) => Sided::Bool(side, b),
+        Value::Text(text) => Sided::Text(side, text),
+        Value::List(items) => Sided::List(side, items),
+        Value::Rec(fields) => Sided::Rec(side, fields),
+        Value::Left(part) => Sided::Left(side, part),
+        Value::Right(part) => Sided::Right(side, part),
+        Value::Wide(n) => Sided::Wide(side, n),
+    }
+}
+
+impl Sided {
+    /// A copy of the value, in the box of its side.
+    pub(crate) fn copy(&self, alloc: Global) -> Result<Value, AllocError>
+        ensures { IfOk result (λ value. value ≡ boxed self.now) }
+    {
+        let side = self.side();
+        let value = self.copy_held(alloc)?;
+        put_on(alloc, side, value)
+    }
+
+    /// Its side.
+    fn side(&self) -> Side
+        ensures { result ≡ side_in self.now }
+    {
+        match self {
+            Sided::Int(side, _) => *side,
+            Sided::Bool(side, _) => *side,
+            Sided::Text(side, _) => *side,
+            Sided::List(side, _) => *side,
+            Sided::Rec(side, _) => *side,
+            Sided::Left(side, _) => *side,
+            Sided::Right(side, _) => *side,
+            Sided::Wide(side, _) => *side,
+        }
+    }
+
+    /// A copy of what stands on the side.
+    fn copy_held(&self, alloc: Global) -> Result<Value, AllocError>
+        ensures { IfOk result (λ value. value ≡ held_in self.now) }
+    {
+        match self {
+            Sided::Int(_, n) => Ok(Value::Int(*n)),
+            Sided::Bool(_, b) => Ok(Value::Bool(*b)),
+            Sided::Text(_, text) => Ok(Value::Text(text.copy(alloc)?)),
+            Sided::List(_, items) => Ok(Value::List(copy_all(alloc, items.as_slice())?)),
+            Sided::Rec(_, fields) => Ok(Value::Rec(copy_all(alloc, fields.as_slice())?)),
+            Sided::Left(_, part) => Ok(Value::Left(Held::new(alloc, part.get().copy(alloc)?)?)),
+            Sided::Right(_, part) => Ok(Value::Right(Held::new(alloc, part.get().copy(alloc)?)?)),
+            Sided::Wide(_, n) => Ok(Value::Wide(*n)),
+        }
+    }
+}
+
 /// The value, put on its side.
-pub(crate) fn put_on(alloc: Global, side: Side, value: Value) -> Result<Value, AllocError>
+fn put_on(alloc: Global, side: Side, value: Value) -> Result<Value, AllocError>
     ensures { IfOk result (λ v. v ≡ sided side value) }
 {
     match side {
         Side::Plain => Ok(value),
         Side::Left => Ok(Value::Left(Held::new(alloc, value)?)),
         Side::Right => Ok(Value::Right(Held::new(alloc, value)?)),
-    }
-}
-
-/// How a value on its side stands to another on its own.
-pub(crate) fn compare_sided(a: Side, x: &Value, b: Side, y: &Value) -> Ordering
-    ensures { result ≡ value_cmp (sided a x.now) (sided b y.now) }
-{
-    match a {
-        Side::Plain => from_plain(x, b, y),
-        Side::Left => from_left(x, b, y),
-        Side::Right => from_right(x, b, y),
-    }
-}
-
-fn from_plain(x: &Value, b: Side, y: &Value) -> Ordering
-    ensures { result ≡ value_cmp x.now (sided b y.now) }
-{
-    match b {
-        Side::Plain => compare(x, y),
-        Side::Left => to_left(x, y),
-        Side::Right => to_right(x, y),
-    }
-}
-
-fn from_left(x: &Value, b: Side, y: &Value) -> Ordering
-    ensures { result ≡ value_cmp (Value.Left x.now) (sided b y.now) }
-{
-    match b {
-        Side::Plain => to_left(y, x).reverse(),
-        Side::Left => compare(x, y),
-        Side::Right => Ordering::Less,
-    }
-}
-
-fn from_right(x: &Value, b: Side, y: &Value) -> Ordering
-    ensures { result ≡ value_cmp (Value.Right x.now) (sided b y.now) }
-{
-    match b {
-        Side::Plain => to_right(y, x).reverse(),
-        Side::Left => Ordering::Greater,
-        Side::Right => compare(x, y),
-    }
-}
-
-// How a value stands to the left side of an either.
-fn to_left(x: &Value, left: &Value) -> Ordering
-    ensures { result ≡ value_cmp x.now (Value.Left left.now) }
-{
-    layer_to_left(x, left)
-}
-
-// How a value stands to the right side of an either.
-fn to_right(x: &Value, right: &Value) -> Ordering
-    ensures { result ≡ value_cmp x.now (Value.Right right.now) }
-{
-    layer_to_right(x, right)
-}
-
-fn layer_to_left(x: &Value, left: &Value) -> Ordering
-    ensures { result ≡ layer_cmp value_cmp (out-Value x.now) (Value-F.Left left.now) }
-{
-    match x {
-        Value::Int(_) => Ordering::Less,
-        Value::Bool(_) => Ordering::Less,
-        Value::Text(_) => Ordering::Less,
-        Value::List(_) => Ordering::Less,
-        Value::Rec(_) => Ordering::Less,
-        Value::Left(inner) => compare(inner.get(), left),
-        Value::Right(_) => Ordering::Greater,
-        Value::Wide(_) => Ordering::Greater,
-    }
-}
-
-fn layer_to_right(x: &Value, right: &Value) -> Ordering
-    ensures { result ≡ layer_cmp value_cmp (out-Value x.now) (Value-F.Right right.now) }
-{
-    match x {
-        Value::Int(_) => Ordering::Less,
-        Value::Bool(_) => Ordering::Less,
-        Value::Text(_) => Ordering::Less,
-        Value::List(_) => Ordering::Less,
-        Value::Rec(_) => Ordering::Less,
-        Value::Left(_) => Ordering::Less,
-        Value::Right(inner) => compare(inner.get(), right),
-        Value::Wide(_) => Ordering::Greater,
     }
 }

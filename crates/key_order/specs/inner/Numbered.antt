@@ -1,5 +1,6 @@
 -- Pairs with the numbers of their keys.
 use Rattle.std.specs.Prelude.{◌≡◌, ◌<◌, ℕ, Bool, false, List, Option, None, Some, All, drop, take}
+use Rattle.std.specs.Option.{option_map_or}
 use Rattle.flume_value.specs.declared.value.Value.{Value}
 use Rattle.flume_value.specs.Equality.{value_eq}
 use Rattle.bag_groups.specs.Pairs.{key_of}
@@ -25,3 +26,7 @@ is_key key (Some other) = value_eq other key
 -- whether the key of the pair is that one
 abbrev pub has_key : Value → Value → Bool
 has_key key pair = is_key key (key_of pair)
+
+-- the key of a pair; what is no pair stands for its own
+abbrev pub key_in : Value → Value
+key_in pair = option_map_or (λ key. key) (key_of pair) pair

@@ -5,7 +5,8 @@ use Rattle.flume_value.specs.Order.{value_cmp}
 use Rattle.flume_value.proofs.ReferenceLemmas.{referred}
 use Rattle.bag_groups.specs.Groups.{grouped}
 use Rattle.bag_groups.proofs.Grouping.{grouped-IsSorted}
-use Rattle.key_order.proofs.NumberRuns.{number_of, same_groups}
+use Rattle.key_order.proofs.Dividing.{moved_groups}
+use Rattle.key_order.proofs.NumberRuns.{number_of}
 use Rattle.key_order.proofs.Pairing.{told, Holds}
 use Rattle.key_order.proofs.groups.group_numbered.Goals as goal
 
@@ -21,13 +22,13 @@ groups_of_runs-requires-clause-rise c =
 pub returns-clause-groups : goal.returns-clause-groups
 returns-clause-groups c =
     c.in_ok-groups.ensures ∙ ap (λ l. grouped (told l)) c.deref.ensures.value
-    ∙ same_groups (referred c.args.pairs.items) c.in_ok-numbered.numbered.items
+    ∙ moved_groups (referred c.args.pairs.items) (told c.in_ok-numbered.numbered.items)
     c.in_ok-numbered.ensures.moved
 
 pub returns-clause-ascending : goal.returns-clause-ascending
 returns-clause-ascending c =
     let groups : c.in_ok-groups.groups.items ≡ grouped (referred c.args.pairs.items)
     = c.in_ok-groups.ensures ∙ ap (λ l. grouped (told l)) c.deref.ensures.value
-    ∙ same_groups (referred c.args.pairs.items) c.in_ok-numbered.numbered.items
+    ∙ moved_groups (referred c.args.pairs.items) (told c.in_ok-numbered.numbered.items)
     c.in_ok-numbered.ensures.moved in
     subst (IsSorted value_cmp) (sym groups) (grouped-IsSorted (referred c.args.pairs.items))

@@ -1,28 +1,24 @@
-use Rattle.std.proofs.Common.{◌≡◌, ◌<◌, length, refl, sym, subst, rules, arith}
+use Rattle.std.proofs.Common.{◌≡◌, ◌<◌, length, rules, arith}
 use Rattle.std.proofs.lemmas.Grind.{common_steps}
 use Rattle.std.proofs.lemmas.List.Elements.{All-drop, All-same, All-take}
 use Rattle.std.specs.Borrow.{Bor}
 use Rattle.flume_value.specs.declared.value.Value.{Value}
-use Rattle.flume_value.specs.Bag.{bag_of}
-use Rattle.flume_value.proofs.BagLemmas.{Rises, Rises-bag_of}
-use Rattle.flume_value.proofs.ReferenceLemmas.{referred, referred-sorted}
+use Rattle.flume_value.proofs.ReferenceLemmas.{referred}
 use Rattle.bag_groups.specs.Pairs.{IsPair}
 use Rattle.bag_groups.specs.Groups.{grouped}
-use Rattle.bag_groups.proofs.LastRuns.{fewer, groups_begin, one_more, sorted_pairs}
+use Rattle.bag_groups.proofs.LastRuns.{sorted_pairs}
+use Rattle.key_order.proofs.KeyRuns.{fewer, groups_begin, keys_sorted, one_more}
 use Rattle.key_order.proofs.mixed.group_by_pairs.Goals as goal
 
 pub runs-init : goal.runs-init
 runs-init c =
     let pairs = c.args.pairs.items in
-    let left = c.sort_unstable.new.self.items in
-    let moved = c.sort_unstable.ensures.permutation in
-    let bag : referred left ≡ bag_of (referred pairs)
-    = referred-sorted _ refl (referred pairs) pairs left refl moved
-    c.sort_unstable.ensures.sorted in
+    let left = c.sort_unstable_by.new.self.items in
+    let moved = c.sort_unstable_by.ensures.permutation in
     record {
       pairs = sorted_pairs pairs left moved c.requires;
-      ascending = subst Rises (sym bag) (Rises-bag_of (referred pairs));
-      all = groups_begin pairs left c.new-groups.result.items bag c.new-groups.ensures.items;
+      ascending = keys_sorted left c.sort_unstable_by.ensures.sorted (λ a r q k. search rules);
+      all = groups_begin pairs left c.new-groups.result.items moved c.new-groups.ensures.items;
     }
 
 pub group_of_run-requires : goal.group_of_run-requires
