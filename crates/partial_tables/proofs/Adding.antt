@@ -1,6 +1,6 @@
 -- One accumulator more.
-use Rattle.std.proofs.Common.{◌≡◌, ◌<◌, ℕ, zero, suc, true, false, cond, Bool, ◌||◌, [], ◌∷◌, ◌++◌, map, length, get_or, Some, refl, sym, ap, ◌∙◌, subst, arith, is_some}
-use Rattle.std.specs.List.{AllByRecursion as Each, IsDistinct, position, slice_get}
+use Rattle.std.proofs.Common.{◌≡◌, ◌<◌, ℕ, zero, suc, true, false, cond, Bool, ◌||◌, not, ◌+◌, [], ◌∷◌, ◌++◌, map, length, get_or, Some, None, refl, sym, ap, ◌∙◌, subst, arith, is_some}
+use Rattle.std.specs.List.{AllByRecursion as Each, IsDistinct, position, position_or_len, slice_get}
 use Rattle.std.specs.Map.{keys_of, lookup}
 use Rattle.std.specs.List.Sorted.{IsPermutation}
 use Rattle.std.proofs.lemmas.List.Elements.{All-from_recursion, recursion_from_All}
@@ -78,6 +78,79 @@ not_there k ps h =
     none k ps (subst (λ (E : Value → Value → Bool). is_some (lookup (E k) ps) ≡ false)
     derived_eq-finds h)
 
+-- ---- what is put in by one look-up
+
+-- its place is that of its key
+abbrev place_for : Value → Pairs → ℕ
+place_for k ps = position_or_len (finds k) (keys_of ps)
+
+slot_has : (k a s : Value) (ps : Pairs)
+    → slice_get (map (λ p. p.1) (insert_entry finds ps k a)) (place_for k ps) ≡ Some s → s ≡ a
+slot_has k a s [] h = cc
+slot_has k a s (p ∷ ps) h =
+    let more : 1 + place_for k ps ≡ suc (place_for k ps) = omega arith in
+    elim (value_eq p.0 k) as
+    (λ b. slice_get (map (λ p. p.1) (cond b ((p.0, a) ∷ ps) (p ∷ insert_entry finds ps k a)))
+    (cond (not b) (suc (place_for k ps)) 0) ≡ Some s → s ≡ a) [
+      | true ↦ λ g. cc
+      | false ↦ λ g. slot_has k a s ps g
+    ] (
+    subst (λ (n : ℕ). slice_get (map (λ p. p.1) (insert_entry finds (p ∷ ps) k a))
+    (cond (not (value_eq p.0 k)) n 0) ≡ Some s) more h
+    )
+
+merged_there : (c : Comb) (k a v w : Value) (ps : Pairs) → lookup (finds k) ps ≡ Some v
+    → w ≡ merged c v a
+    → set_value_at (insert_entry finds ps k a) (place_for k ps) w ≡ added c ps k a
+merged_there c k a v w [] h is = let bad : ⊥ = cc in absurd bad
+merged_there c k a v w (p ∷ ps) h is =
+    let more : 1 + place_for k ps ≡ suc (place_for k ps) = omega arith in
+    ap (λ (n : ℕ). set_value_at (insert_entry finds (p ∷ ps) k a)
+    (cond (not (value_eq p.0 k)) n 0) w) more
+    ∙ elim (value_eq p.0 k) as
+    (λ b. cond b (Some p.1) (lookup (finds k) ps) ≡ Some v
+    → set_value_at (cond b ((p.0, a) ∷ ps) (p ∷ insert_entry finds ps k a))
+    (cond (not b) (suc (place_for k ps)) 0) w
+    ≡ cond b ((p.0, merged c p.1 a) ∷ ps) (p ∷ added c ps k a)) [
+      | true ↦ λ g.
+          let same : p.1 ≡ v = cc in
+          λ j. (p.0, (is ∙ ap (λ x. merged c x a) (sym same)) j) ∷ ps
+      | false ↦ λ g. ap (λ l. p ∷ l) (merged_there c k a v w ps g is)
+    ] h
+
+-- how a map tells it, with the test of its keys
+abbrev Tested : (Value → Value → Bool) → Value → Value → Pairs → ℕ → Pairs → Type 0
+Tested E k a ps at grown =
+    (at ≡ position_or_len (E k) (keys_of ps)) × (grown ≡ insert_entry E ps k a)
+
+found_so : (k a : Value) (ps : Pairs) (at : ℕ) (grown : Pairs)
+    → at ≡ position_or_len ((equality.ghosts).eq k) (keys_of ps)
+    → grown ≡ insert_entry (equality.ghosts).eq ps k a → Tested finds k a ps at grown
+found_so k a ps at grown i e =
+    subst (λ (E : Value → Value → Bool). Tested E k a ps at grown) derived_eq-finds (i, e)
+
+pub slot_is : (k a s : Value) (ps : Pairs) (at : ℕ) (grown : Pairs)
+    → at ≡ position_or_len ((equality.ghosts).eq k) (keys_of ps)
+    → grown ≡ insert_entry (equality.ghosts).eq ps k a
+    → slice_get (map (λ p. p.1) grown) at ≡ Some s → s ≡ a
+slot_is k a s ps at grown i e h =
+    let t = found_so k a ps at grown i e in
+    slot_has k a s ps
+    (ap (λ (n : ℕ). slice_get (map (λ p. p.1) (insert_entry finds ps k a)) n) (sym t.0)
+    ∙ ap (λ (l : Pairs). slice_get (map (λ p. p.1) l) at) (sym t.1) ∙ h)
+
+pub merged_at : (c : Comb) (k a v w : Value) (ps : Pairs) (at : ℕ) (grown : Pairs)
+    → at ≡ position_or_len ((equality.ghosts).eq k) (keys_of ps)
+    → grown ≡ insert_entry (equality.ghosts).eq ps k a
+    → lookup ((equality.ghosts).eq k) ps ≡ Some v → w ≡ merged c v a
+    → set_value_at grown at w ≡ added c ps k a
+merged_at c k a v w ps at grown i e h is =
+    let t = found_so k a ps at grown i e in
+    ap (λ (l : Pairs). set_value_at l at w) t.1
+    ∙ ap (λ (n : ℕ). set_value_at (insert_entry finds ps k a) n w) t.0
+    ∙ merged_there c k a v w ps
+    (subst (λ (E : Value → Value → Bool). lookup (E k) ps ≡ Some v) derived_eq-finds h) is
+
 -- ---- shapes
 
 pub shape_at : (c : Comb) (ps : Pairs) (i : ℕ) (v : Value) → HaveShape c ps
@@ -85,6 +158,22 @@ pub shape_at : (c : Comb) (ps : Pairs) (i : ℕ) (v : Value) → HaveShape c ps
 shape_at c [] i v s e = cc
 shape_at c (p ∷ ps) zero v s e = let same : p.1 ≡ v = cc in subst (HasShape c) same s.0
 shape_at c (p ∷ ps) (suc i) v s e = shape_at c ps i v s.1 e
+
+shape_in : (c : Comb) (k v : Value) (ps : Pairs) → HaveShape c ps → lookup (finds k) ps ≡ Some v
+    → HasShape c v
+shape_in c k v [] s h = let bad : ⊥ = cc in absurd bad
+shape_in c k v (p ∷ ps) s h =
+    elim (value_eq p.0 k) as
+    (λ b. cond b (Some p.1) (lookup (finds k) ps) ≡ Some v → HasShape c v) [
+      | true ↦ λ g. let same : p.1 ≡ v = cc in subst (HasShape c) same s.0
+      | false ↦ λ g. shape_in c k v ps s.1 g
+    ] h
+
+pub shape_found : (c : Comb) (k v : Value) (ps : Pairs) → HaveShape c ps
+    → lookup ((equality.ghosts).eq k) ps ≡ Some v → HasShape c v
+shape_found c k v ps s h =
+    shape_in c k v ps s
+    (subst (λ (E : Value → Value → Bool). lookup (E k) ps ≡ Some v) derived_eq-finds h)
 
 shapes_more : (c : Comb) (ps : Pairs) (k a : Value) → HasShape c a → HaveShape c ps
     → HaveShape c (added c ps k a)
@@ -179,3 +268,10 @@ pub inserted_is : (ps grown : Pairs) (k a : Value) → has_key k ps ≡ false
 inserted_is ps grown k a h e =
     e ∙ ap (λ (E : Value → Value → Bool). insert_entry E ps k a) derived_eq-finds
     ∙ inserted ps k a h
+
+pub new_is : (c : Comb) (ps grown : Pairs) (k a : Value)
+    → lookup ((equality.ghosts).eq k) ps ≡ None
+    → grown ≡ insert_entry (equality.ghosts).eq ps k a → grown ≡ added c ps k a
+new_is c ps grown k a h e =
+    let none : has_key k ps ≡ false = not_there k ps (ap is_some h) in
+    inserted_is ps grown k a none e ∙ sym (put_last_is c ps k a none)

@@ -1,5 +1,5 @@
 // The table of one combiner's accumulators by key, with bounded room.
-ghost use Rattle.std.specs.Prelude.{◌≡◌, ◌<◌, ◌++◌, ◌∷◌, [], map, length, IsFalse, IfOk, IfErr, OnOk};
+ghost use Rattle.std.specs.Prelude.{◌≡◌, ◌<◌, ◌≤◌, ◌++◌, ◌∷◌, [], map, length, IsFalse, IfOk, IfErr, OnOk};
 ghost use Rattle.std.specs.List.Sorted.{IsPermutation, IsSorted};
 ghost use Rattle.flume_value.specs.Order.{value_cmp};
 ghost use Rattle.combine_table.specs.Accumulators.{HasShape, merged};
@@ -73,6 +73,28 @@ impl Partials {
             (IsFalse (has_key key self.old.partials) → length self.old.partials < self.old.room) }
         ensures refused { IfErr result (IsRefused self.old key acc self.new) }
     {
+        if self.table.len() as u64 >= self.room {
+            return self.add_to_full(alloc, key, acc);
+        }
+        match put_or_merge(alloc, self.comb, &mut self.table, key, acc) {
+            Ok(()) => Ok(()),
+            Err(AllocError) => {
+                clear(alloc, &mut self.table);
+                Err(AddFault::Memory)
+            }
+        }
+    }
+
+    // Adds an accumulator where there is no room for a new key.
+    fn add_to_full(&mut self, alloc: Global, key: Value, acc: Value) -> Result<(), AddFault>
+        requires shape { HasShape self.old.comb acc }
+        requires full { self.old.room ≤ length self.old.partials }
+        ensures added { OnOk result
+            (self.new ≡ holding self.old (added self.old.comb self.old.partials key acc)) }
+        ensures room { OnOk result
+            (IsFalse (has_key key self.old.partials) → length self.old.partials < self.old.room) }
+        ensures refused { IfErr result (IsRefused self.old key acc self.new) }
+    {
         match self.table.get_index_of(&key) {
             Some(at) => match merge_into(alloc, self.comb, &mut self.table[at], acc) {
                 Ok(()) => Ok(()),
@@ -81,12 +103,27 @@ impl Partials {
                     Err(AddFault::Memory)
                 }
             },
-            None => self.add_new(alloc, key, acc),
+            None => Err(AddFault::Full { key, acc }),
         }
     }
 
     /// Adds an accumulator as `add` does, and copies the key where it is new alone.
     pub fn add_copy(&mut self, alloc: Global, key: &Value, acc: Value) -> Result<(), AddFault>
+        requires shape { HasShape self.old.comb acc }
+        ensures added { OnOk result
+            (self.new ≡ holding self.old (added self.old.comb self.old.partials key.now acc)) }
+        ensures room { OnOk result (IsFalse (has_key key.now self.old.partials) →
+            length self.old.partials < self.old.room) }
+        ensures refused { IfErr result (IsRefused self.old key.now acc self.new) }
+    {
+        match key {
+            Value::Int(n) => self.add(alloc, Value::Int(*n), acc),
+            _ => self.add_borrowed(alloc, key, acc),
+        }
+    }
+
+    // The same of any key. It is looked up before it is copied, and again where it is put in.
+    fn add_borrowed(&mut self, alloc: Global, key: &Value, acc: Value) -> Result<(), AddFault>
         requires shape { HasShape self.old.comb acc }
         ensures added { OnOk result
             (self.new ≡ holding self.old (added self.old.comb self.old.partials key.now acc)) }
@@ -190,6 +227,46 @@ fn put_last(table: &mut IndexMap<Value, Value>, key: Value, acc: Value) -> Resul
         Ok(_) => Ok(()),
         Err(_) => Err(AllocError),
     }
+}
+
+// Puts an accumulator in, merged with that of its key where there is one: one look-up serves both.
+fn put_or_merge(
+    alloc: Global,
+    comb: Comb,
+    table: &mut IndexMap<Value, Value>,
+    key: Value,
+    acc: Value,
+) -> Result<(), AllocError>
+    requires shapes { HaveShape comb table.old.entries }
+    requires shape { HasShape comb acc }
+    ensures { OnOk result (table.new.entries ≡ added comb table.old.entries key acc) }
+{
+    match table.insert_full(key, acc) {
+        Ok((at, former)) => match former {
+            None => Ok(()),
+            Some(former) => {
+                merge_behind(alloc, comb, former, &mut table[at])?;
+                Ok(())
+            }
+        },
+        Err(_) => Err(AllocError),
+    }
+}
+
+// Merges the accumulator of a slot with the one that stood there before it.
+fn merge_behind(
+    alloc: Global,
+    comb: Comb,
+    former: Value,
+    slot: &mut Value,
+) -> Result<(), AllocError>
+    requires former { HasShape comb former }
+    requires slot { HasShape comb slot.old }
+    ensures { OnOk result (slot.new ≡ merged comb former slot.old) }
+{
+    let acc = replace(slot, Value::Bool(false));
+    *slot = merge(alloc, comb, former, acc)?;
+    Ok(())
 }
 
 fn merge_into(alloc: Global, comb: Comb, slot: &mut Value, acc: Value) -> Result<(), AllocError>

@@ -2,7 +2,7 @@ use Rattle.std.proofs.Common.{◌≡◌, false, sym, ap, subst}
 use Rattle.flume_value.specs.declared.value.Value.{Value}
 use Rattle.partial_tables.specs.Tables.{has_key}
 use Rattle.partial_tables.proofs.Adding.{merged_in, is_there, shape_at, kept_none, kept_more, not_there}
-use Rattle.partial_tables.proofs.table.Partials.add_copy.Goals as goal
+use Rattle.partial_tables.proofs.table.Partials.add_borrowed.Goals as goal
 
 pub merge_into-requires-clause-slot : goal.merge_into-requires-clause-slot
 merge_into-requires-clause-slot c =
