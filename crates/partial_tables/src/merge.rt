@@ -5,6 +5,7 @@ ghost use Rattle.partial_tables.specs.Merges.{merged_by_key};
 
 use crate::table::{AddFault, Partial, Partials};
 use combine_table::Comb;
+use flume_value::Value;
 use std::alloc::{AllocError, Global};
 
 /// One accumulator for each key of those that are referred to, keys ascending: all of the key's
@@ -41,9 +42,19 @@ fn merge_in_copy(
     ensures partial { IsPartialOf _comb partial.now }
 {
     let (key, acc) = partial;
-    match table.add_copy(alloc, key, acc.copy(alloc)?) {
+    match table.add_copy(alloc, key, copied(alloc, acc)?) {
         Ok(()) => Ok(()),
         Err(AddFault::Memory) => Err(AllocError),
         Err(AddFault::Full { .. }) => unreachable!(),
+    }
+}
+
+// A copy of an accumulator. Most are numbers, which are copied with no call.
+fn copied(alloc: Global, acc: &Value) -> Result<Value, AllocError>
+    ensures { IfOk result (λ copy. copy ≡ acc.now) }
+{
+    match acc {
+        Value::Wide(n) => Ok(Value::Wide(*n)),
+        _ => acc.copy(alloc),
     }
 }

@@ -1,14 +1,18 @@
 // The table of one combiner's accumulators by key, with bounded room.
-ghost use Rattle.std.specs.Prelude.{◌≡◌, ◌<◌, ◌≤◌, ◌++◌, ◌∷◌, [], map, length, IsFalse, IfOk, IfErr, OnOk};
+ghost use Rattle.std.specs.Prelude.{◌≡◌, ◌<◌, ◌≤◌, ◌++◌, ◌∷◌, [], ◌+ℤ◌, map, length, IsFalse, IsSome, IfOk, IfErr, OnOk};
 ghost use Rattle.std.specs.List.Sorted.{IsPermutation, IsSorted};
 ghost use Rattle.flume_value.specs.Order.{value_cmp};
+ghost use Rattle.flume_value.specs.Parts.{wide_of};
 ghost use Rattle.combine_table.specs.Accumulators.{HasShape, merged};
+ghost use Rattle.combine_table.specs.Combinations.{wrapped};
+ghost use Rattle.combine_table.specs.Contents.{wide_or_zero};
 ghost use Rattle.partial_tables.specs.Tables.{has_key, added, holding, HaveShape, HaveDistinctKeys, IsRefused};
 
 use combine_table::{Comb, merge};
-use flume_value::Value;
+use flume_value::{Value, compare};
 use indexmap::IndexMap;
 use std::alloc::{AllocError, Global};
+use std::cmp::Ordering;
 use std::marker::Model;
 use std::mem::replace;
 
@@ -207,9 +211,9 @@ impl Partials {
         ensures distinct { IfOk result (λ partials. HaveDistinctKeys partials.items) }
     {
         let Partials { table, .. } = self;
-        let mut table = table;
-        table.sort_unstable_keys()?;
-        listed(alloc, table)
+        let mut partials = listed(alloc, table)?;
+        sort_by_keys(&mut partials);
+        Ok(partials)
     }
 }
 
@@ -264,19 +268,56 @@ fn merge_behind(
     requires slot { HasShape comb slot.old }
     ensures { OnOk result (slot.new ≡ merged comb former slot.old) }
 {
-    let acc = replace(slot, Value::Bool(false));
-    *slot = merge(alloc, comb, former, acc)?;
-    Ok(())
+    match comb {
+        Comb::Sum | Comb::Count => {
+            *slot = Value::Wide(wide_sum(&former, slot));
+            Ok(())
+        }
+        _ => {
+            let acc = replace(slot, Value::Bool(false));
+            *slot = merge(alloc, comb, former, acc)?;
+            Ok(())
+        }
+    }
 }
 
+// Merges the accumulator of a slot with another. Numbers are added where they stand.
 fn merge_into(alloc: Global, comb: Comb, slot: &mut Value, acc: Value) -> Result<(), AllocError>
     requires slot { HasShape comb slot.old }
     requires acc { HasShape comb acc }
     ensures { OnOk result (slot.new ≡ merged comb slot.old acc) }
 {
-    let old = replace(slot, Value::Bool(false));
-    *slot = merge(alloc, comb, old, acc)?;
-    Ok(())
+    match comb {
+        Comb::Sum | Comb::Count => {
+            *slot = Value::Wide(wide_sum(slot, &acc));
+            Ok(())
+        }
+        _ => {
+            let old = replace(slot, Value::Bool(false));
+            *slot = merge(alloc, comb, old, acc)?;
+            Ok(())
+        }
+    }
+}
+
+// The sum of two wide numbers, wrapped.
+#[tactic(auto, using(std::proofs::lemmas::Int::wraps))]
+fn wide_sum(left: &Value, right: &Value) -> i128
+    requires left { IsSome (wide_of left.now) }
+    requires right { IsSome (wide_of right.now) }
+    ensures { result ≡ wrapped (wide_or_zero left.now +ℤ wide_or_zero right.now) }
+{
+    wide(left).wrapping_add(wide(right))
+}
+
+fn wide(value: &Value) -> i128
+    requires { IsSome (wide_of value.now) }
+    ensures { result ≡ wide_or_zero value.now }
+{
+    match value {
+        Value::Wide(n) => *n,
+        _ => unreachable!(),
+    }
 }
 
 fn append_entries(
@@ -299,4 +340,30 @@ fn listed(alloc: Global, table: IndexMap<Value, Value>) -> Result<Vec<Partial>, 
         partials.push((key, acc))?;
     }
     Ok(partials)
+}
+
+// Sorts accumulators by their keys, once they are out of the table, whose index none needs then.
+fn sort_by_keys(partials: &mut Vec<Partial>)
+    ensures same { IsPermutation partials.old.items partials.new.items }
+    ensures ascending { IsSorted value_cmp (map (λ p. p.0) partials.new.items) }
+{
+    partials.sort_unstable_by(
+        |a: &Partial, b: &Partial| -> Ordering
+            ensures { result ≡ value_cmp a.now.0 b.now.0 }
+        { compare_keys(&a.0, &b.0) },
+    );
+}
+
+// How a key stands to another. Most keys are ints, which are compared where they stand.
+#[tactic(auto, using(flume_value::proofs::OrderLemmas::the_order))]
+fn compare_keys(a: &Value, b: &Value) -> Ordering
+    ensures { result ≡ value_cmp a.now b.now }
+{
+    match a {
+        Value::Int(m) => match b {
+            Value::Int(n) => m.cmp(n),
+            _ => compare(a, b),
+        },
+        _ => compare(a, b),
+    }
 }
