@@ -8,3 +8,4 @@ pub mod Tests
 pub mod HangLemmas
 pub mod ListLemmas
 pub mod PresentLemmas
+pub mod BlockLemmas

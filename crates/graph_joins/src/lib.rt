@@ -16,6 +16,7 @@ mod finding;
 mod graphs;
 mod hanging;
 mod lists;
+mod names;
 mod nodes;
 mod putting;
 mod seeking;
@@ -24,4 +25,5 @@ mod taking;
 mod ways;
 
 pub use graphs::NamedGraph;
+pub use names::Names;
 pub use session::{Joins, Tables, begin, end, is_pair, read_name, with_kid, with_sibling};

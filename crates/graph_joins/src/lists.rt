@@ -10,17 +10,17 @@ ghost use Rattle.graph_joins.specs.inner.Seeks.{is_kth};
 ghost use Rattle.graph_joins.specs.inner.Splices as spec;
 
 use crate::graphs::NamedGraph;
+use crate::names::Names;
 use exec_graph::{Output, Step};
-use flume_value::Pile;
 use std::alloc::{AllocError, Global};
 use std::collections::HashMap;
 
 /// Whether the name stands there, counted from 0 on.
-pub(crate) fn is_listed(names: &Pile<u32>, number: u32, name: u32) -> bool
+pub(crate) fn is_listed(names: &Names, number: u32, name: u32) -> bool
     ensures { result ≡ true → is_kth names.now number name ≡ true }
 {
     match names.get(number as usize) {
-        Some(other) => *other == name,
+        Some(other) => other == name,
         None => false,
     }
 }
@@ -31,7 +31,7 @@ pub(crate) fn list_both(
     graph: &NamedGraph,
     one: u32,
     other: u32,
-    lists: &mut HashMap<u32, Pile<u32>>,
+    lists: &mut HashMap<u32, Names>,
 ) -> Result<(), AllocError>
     requires { HasLists lists.old graph.now.nodes }
     ensures { OnOk result (HasLists lists.new graph.now.nodes) }
@@ -46,7 +46,7 @@ fn list_node(
     alloc: Global,
     graph: &NamedGraph,
     number: u32,
-    lists: &mut HashMap<u32, Pile<u32>>,
+    lists: &mut HashMap<u32, Names>,
 ) -> Result<(), AllocError>
     requires { HasLists lists.old graph.now.nodes }
     ensures { OnOk result (HasLists lists.new graph.now.nodes) }
@@ -55,24 +55,26 @@ fn list_node(
         return Ok(());
     }
     let names = names_of(alloc, graph.steps(number))?;
-    put_list(number, names, lists)?;
+    put_list(alloc, number, names, lists)?;
     Ok(())
 }
 
 fn put_list(
+    alloc: Global,
     number: u32,
     names: Vec<u32>,
-    lists: &mut HashMap<u32, Pile<u32>>,
+    lists: &mut HashMap<u32, Names>,
 ) -> Result<(), AllocError>
     ensures { OnOk result ((n : ℕ) → get nat_eq lists.new n
         ≡ cond (n == number) (Some names.items) (get nat_eq lists.old n)) }
 {
-    lists.insert(number, Pile::from_vec(names))?;
+    let told = Names::new(alloc, names)?;
+    lists.insert(number, told)?;
     Ok(())
 }
 
 /// Tells of neither Pdo any more.
-pub(crate) fn unlist(keeper: u32, other: u32, lists: &mut HashMap<u32, Pile<u32>>)
+pub(crate) fn unlist(keeper: u32, other: u32, lists: &mut HashMap<u32, Names>)
     ensures { (n : ℕ) → get nat_eq lists.new n
         ≡ cond (n == keeper) None (cond (n == other) None (get nat_eq lists.old n)) }
 {
@@ -88,7 +90,7 @@ pub(crate) fn relist(
     keep: bool,
     reader: u32,
     is_bare: bool,
-    lists: &mut HashMap<u32, Pile<u32>>,
+    lists: &mut HashMap<u32, Names>,
 ) -> Result<(), AllocError>
     requires { keeper ≢ reader }
     ensures { OnOk result ((n : ℕ) → get nat_eq lists.new n ≡ cond (n == keeper)
@@ -107,37 +109,17 @@ pub(crate) fn relist(
 }
 
 fn joined(
-    own: Option<Pile<u32>>,
+    own: Option<Names>,
     output: u32,
     keep: bool,
-    more: Option<Pile<u32>>,
-) -> Result<Option<Pile<u32>>, AllocError>
+    more: Option<Names>,
+) -> Result<Option<Names>, AllocError>
     ensures { IfOk result (λ o. o ≡ spec.joined output keep own more) }
 {
     match (own, more) {
-        (Some(own), Some(more)) => spliced(own, output as usize, keep, more),
+        (Some(own), Some(more)) => own.spliced(output as usize, keep, &more),
         _ => Ok(None),
     }
-}
-
-fn spliced(
-    own: Pile<u32>,
-    at: usize,
-    keep: bool,
-    more: Pile<u32>,
-) -> Result<Option<Pile<u32>>, AllocError>
-    ensures { IfOk result (λ o. o ≡ spec.joined at keep (Some own) (Some more)) }
-{
-    let mut names = own.into_vec();
-    let mut more = more.into_vec();
-    if at >= names.len() {
-        return Ok(None);
-    }
-    let mut behind = names.split_off(at + 1)?;
-    names.truncate(if keep { at + 1 } else { at });
-    names.append(&mut more)?;
-    names.append(&mut behind)?;
-    Ok(Some(Pile::from_vec(names)))
 }
 
 // ---- the names of a forest

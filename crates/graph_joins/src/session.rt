@@ -17,11 +17,11 @@ ghost use Rattle.graph_joins.specs.inner.Tests as tests;
 use crate::counts::{count_at, count_off, counts_of};
 use crate::graphs::NamedGraph;
 use crate::lists::{is_listed, list_both, relist, unlist};
+use crate::names::Names;
 use crate::seeking::is_output;
 use crate::taking::{hung, paired};
 use crate::ways::{Ways, note_kid, note_sibling, ways_of};
 use exec_graph::{Graph, Place};
-use flume_value::Pile;
 use graph_states::graph_names::{named, unnamed};
 use std::alloc::{AllocError, Global};
 use std::collections::HashMap;
@@ -40,7 +40,7 @@ pub struct Tables {
     /// How often each collection is read.
     pub counts: HashMap<u64, u32>,
     /// The names that a Pdo keeps, in preorder, of those that took others in.
-    pub lists: HashMap<u32, Pile<u32>>,
+    pub lists: HashMap<u32, Names>,
     /// Where names stand.
     pub(crate) ways: Ways,
 }
@@ -139,7 +139,7 @@ pub fn read_name(joins: &Joins, keeper: u32, output: u32, reader: u32) -> Option
 
 /// Whether that output of the Pdo has that name, by what is told of it, or by its steps.
 fn is_told(
-    lists: &HashMap<u32, Pile<u32>>,
+    lists: &HashMap<u32, Names>,
     graph: &NamedGraph,
     keeper: u32,
     output: u32,
