@@ -31,8 +31,6 @@ pub(crate) struct NamedKids {
     pub(crate) numbers: HashMap<u32, u32>,
     /// Of each Pdo that went since the names were given, the one that took it in.
     pub(crate) keepers: HashMap<u32, u32>,
-    /// The number of the output that the last of them read.
-    pub(crate) last: u32,
 }
 
 /// Of the Pdos of these numbers each that is still there becomes a kid of the Pdo that it reads.
@@ -67,7 +65,6 @@ fn named_kids(alloc: Global, kids: KidTrace) -> Result<NamedKids, AllocError>
         trace,
         numbers,
         keepers: HashMap::new(alloc),
-        last: 0,
     })
 }
 
@@ -120,7 +117,7 @@ fn kid_of(alloc: Global, kids: NamedKids, number: u32) -> Result<NamedKids, Allo
         IsLeaving (number_in kids.numbers) f (trace_of kids.trace) m (number ∷ ns) all →
         IsLeaving (number_in t.numbers) f (trace_of t.trace) m ns all) }
 {
-    let read = likely_output(&kids.trace.joins, number, &kids.keepers, kids.last);
+    let read = likely_output(&kids.trace.joins, number, &kids.keepers);
     match read_name(&kids.trace.joins, read.node, read.out, number) {
         Some(name) => {
             let next = after_named_kid(alloc, kids, read, number, name)?;
@@ -158,7 +155,6 @@ fn after_named_kid(
         trace,
         mut numbers,
         mut keepers,
-        last: _,
     } = kids;
     let NamedTrace {
         joins,
@@ -176,7 +172,6 @@ fn after_named_kid(
         trace: NamedTrace { joins, rewrites },
         numbers,
         keepers,
-        last: read.out,
     })
 }
 
@@ -207,7 +202,6 @@ fn unnamed_kids(alloc: Global, kids: NamedKids) -> Result<KidTrace, AllocError>
         trace,
         numbers,
         keepers: _,
-        last: _,
     } = kids;
     let trace = unnamed_trace(alloc, trace)?;
     Ok(KidTrace { trace, numbers })

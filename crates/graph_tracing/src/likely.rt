@@ -4,14 +4,8 @@ use graph_joins::Joins;
 use std::collections::HashMap;
 
 /// The output that the Pdo of that number likely reads, of a graph under names. The name is of the
-/// Pdo that had it when names were given, or of that which took this one in; and it is mostly not
-/// far behind the output that was read last.
-pub(crate) fn likely_output(
-    joins: &Joins,
-    reader: u32,
-    keepers: &HashMap<u32, u32>,
-    last: u32,
-) -> Place {
+/// Pdo that had it when names were given, or of that which took this one in.
+pub(crate) fn likely_output(joins: &Joins, reader: u32, keepers: &HashMap<u32, u32>) -> Place {
     let graph = &joins.graph;
     let name = graph.input(reader).node;
     let first = name.checked_rem(graph.next()).unwrap_or(0);
@@ -20,27 +14,10 @@ pub(crate) fn likely_output(
         None => first,
     };
     let out = match joins.tables.lists.get(&node) {
-        Some(names) => place_near(names.as_slice(), last as usize, name),
+        Some(names) => names.likely_place(name).unwrap_or(0),
         None => outs_before(graph.steps(node), name),
     };
     Place { node, out }
-}
-
-/// Where the name stands in the list, which is sought from that place on first.
-fn place_near(names: &[u32], from: usize, name: u32) -> u32 {
-    match place_from(names, from, name) {
-        Some(place) => place,
-        None => place_from(names, 0, name).unwrap_or(0),
-    }
-}
-
-fn place_from(names: &[u32], from: usize, name: u32) -> Option<u32> {
-    for i in from..names.len() {
-        if names[i] == name {
-            return u32::try_from(i).ok();
-        }
-    }
-    None
 }
 
 /// How many outputs stand before that of the name among those that the steps keep.
