@@ -5,6 +5,7 @@ ghost use Rattle.dofn_eval.specs.Outcome.{Gives, IsFaultIn};
 ghost use Rattle.dofn_eval.specs.Run.{means};
 ghost use Rattle.forest_steps.specs.Answers.{lists_of};
 
+use crate::emission::one_emission;
 use build_law::script_program::Program;
 use dofn_calls::call;
 use dofn_eval::Fun;
@@ -71,6 +72,19 @@ impl<'a> Functions for ScriptFunctions<'a> {
 
 /// What a call of a function gives to each of its outputs, in order, or its trap.
 fn call_function(alloc: Global, fun: &Fun, element: &Value) -> Result<Answer, CallFault>
+    requires { Accepts fun.now element.now }
+    ensures emissions { IfOk result (λ answer.
+        means fun.now.outputs fun.now.body element.now ≡ Gives (lists_of answer)) }
+    ensures trap { IfErr result (IsFaultIn (means fun.now.outputs fun.now.body element.now)) }
+{
+    match one_emission(alloc, fun, element)? {
+        Some(value) => Ok(Answer::One(value)),
+        None => run_body(alloc, fun, element),
+    }
+}
+
+/// The same of any function: its statements run one after another.
+fn run_body(alloc: Global, fun: &Fun, element: &Value) -> Result<Answer, CallFault>
     requires { Accepts fun.now element.now }
     ensures emissions { IfOk result (λ answer.
         means fun.now.outputs fun.now.body element.now ≡ Gives (lists_of answer)) }

@@ -6,6 +6,7 @@
 //! steps of a typed plan need: the script's world fits its signatures (`world_law`).
 #![tactic(auto)]
 
+mod emission;
 mod functions;
 mod laws;
 
