@@ -11,6 +11,7 @@
 
 mod laws;
 mod run;
+mod sorting;
 
 pub use laws::plan_law;
 pub use run::{Ran, run_script};

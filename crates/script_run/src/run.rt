@@ -9,8 +9,9 @@ ghost use Rattle.run_sizes.specs.of_script_laws.WellFormed.{IsWellFormed};
 ghost use Rattle.script_run.specs.Runs.{AsksSomePhases, IsPlanOf, IsRan, IsRunFault, phases_of};
 
 use crate::laws::plan_law;
+use crate::sorting::sorted_list;
 use exec_plan::Plan;
-use flume_value::{Items, Pile, Str, sorted_by_threads};
+use flume_value::{Items, Pile, Str};
 use outside::Host;
 use plan_phases::{PhaseWinners, RunFault};
 use run_settings::Settings;
@@ -98,7 +99,7 @@ fn all_sorted<X: Threads + Sync>(
 {
     let mut all = Vec::with_capacity(alloc, lists.len())?;
     for list in lists {
-        let members = sorted_by_threads(rt, workers as usize, list.into_vec())?;
+        let members = sorted_list(rt, workers as usize, list.into_vec())?;
         all.push(Pile::from_vec(members))?;
     }
     Ok(all)
