@@ -1,6 +1,6 @@
 -- The tests of pairs pass exactly where the pairs can be merged or sunk.
-use Rattle.std.proofs.Common.{◌≡◌, ℕ, ◌<◌, ◌≤◌, Bool, true, false, leb, ◌&&◌, List, length, Option, Some, None, refl, sym, ap, ◌∙◌, subst}
-use Rattle.std.proofs.lemmas.Bool.{false≢true, leb-true, leb-false, le-leb}
+use Rattle.std.proofs.Common.{◌≡◌, ℕ, ◌≤◌, Bool, true, false, leb, ◌&&◌, List, length, Option, Some, None, refl, sym, ap, subst}
+use Rattle.std.proofs.lemmas.Bool.{false≢true, leb-true}
 use Rattle.exec_graph.specs.Meaning.{SameMeaning, node_at, place}
 use Rattle.exec_graph.specs.Readers.{among}
 use Rattle.exec_graph.specs.Wellformed.{IsGraphOk, most_nodes, total_size}
@@ -9,7 +9,6 @@ use Rattle.exec_graph.specs.declared.graph.Graph.{Graph}
 use Rattle.exec_graph.specs.declared.graph.Node.{Node}
 use Rattle.exec_graph.specs.declared.graph.Node.TheVariants.{Source, Flatten, Pdo, Gbk, Barrier}
 use Rattle.exec_graph.proofs.Soundness.{SameMeaning-kept}
-use Rattle.sink_laws.proofs.of_graph_laws.ReadPlaces.{same_self}
 use Rattle.sink_laws.specs.Chain.{after_call, after_nest, forest_of, has_room, ins_of, CanCall, CanNest}
 use Rattle.sink_laws.specs.Kept.{IsKept}
 use Rattle.sink_laws.specs.Merging.{spliced}

@@ -7,6 +7,7 @@ ghost use Rattle.sink_laws.specs.Kept.{IsKept};
 ghost use Rattle.flatten_sink.specs.Pairs.{IsMergedAt, IsSunkAt};
 ghost use Rattle.flatten_sink.specs.inner.Pairs as pairs;
 
+use crate::ends::last_end;
 use crate::finding::{find_node, is_among, is_first_of, is_read_elsewhere};
 use crate::merging::{inputs_of, merge_step};
 use crate::next::has_room_for;
@@ -45,8 +46,9 @@ pub fn sink_pair(alloc: Global, graph: Graph, pair: Pair) -> Result<Option<Graph
     if !has_room(alloc, &graph, pair)? {
         return Ok(None);
     }
-    let is_read = is_read_elsewhere(&graph, pair.flatten, pair.other);
-    let sunk = sink_step(alloc, graph, pair, is_read)?;
+    let end = last_end(&graph);
+    let is_read = is_read_elsewhere(&graph, pair.flatten, pair.other, end);
+    let sunk = sink_step(alloc, graph, pair, is_read, end)?;
     Ok(Some(sunk))
 }
 

@@ -1,6 +1,8 @@
-use Rattle.std.proofs.Common.{◌≡◌, Bool, true, sym, ap, ◌∙◌}
+use Rattle.std.proofs.Common.{◌≡◌, sym, ap, ◌∙◌}
+use Rattle.exec_graph.specs.Readers.{any_node}
 use Rattle.exec_graph.specs.Wellformed.{total_size}
 use Rattle.sink_laws.specs.Chain.{has_room}
+use Rattle.flatten_sink.specs.inner.Places.{gathers}
 use Rattle.flatten_sink.proofs.Room.{few_inputs, few_steps, room_is, size_is}
 use Rattle.flatten_sink.proofs.rooms.after_step.Goals as goal
 
@@ -52,6 +54,9 @@ returns-then-are_within c =
           c.is_read_elsewhere-is_read.ensures c.limit_for-limit.ensures
           c.size_within-left.result c.size_within-left.ensures;
       read = c.is_read_elsewhere-is_read.ensures;
+      gathered = c.is_gathered.ensures
+          ∙ ap (any_node (gathers c.args.call.other)) c.as_slice-nodes.ensures;
+      end = c.requires.reach.pdo;
     }
 
 pub returns-else-are_within : goal.returns-else-are_within
