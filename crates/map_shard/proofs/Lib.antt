@@ -3,6 +3,7 @@ pub mod CrossLemmas
 pub mod Filled
 pub mod Fitting
 pub mod Handing
+pub mod LastTakes
 pub mod Later
 pub mod Legging
 pub mod Sending

@@ -2,3 +2,4 @@ pub mod Fillings
 pub mod Legs
 pub mod Sending
 pub mod Single
+pub mod Takes

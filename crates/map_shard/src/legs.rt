@@ -12,11 +12,13 @@ ghost use Rattle.map_shard.specs.inner.Fillings.{IsFilled, sent_of};
 ghost use Rattle.map_shard.specs.inner.Legs.{AreLegs, AreLegsOr, IsWholeOr, count_with, each_with};
 ghost use Rattle.map_shard.specs.inner.Sending.{CanSend, taken};
 ghost use Rattle.map_shard.specs.inner.Single.{is_single};
+ghost use Rattle.map_shard.specs.inner.Takes.{AreTakes};
 
 use crate::filling::Filling;
 use crate::joining::join_counts;
 use crate::send::{all_sent, nothing_sent, send_more};
 use crate::single::are_single;
+use crate::takes::{Takes, takes_from};
 use exec_graph::Roots;
 use exec_plan::OutChannel;
 use flume_collection::Trap;
@@ -81,10 +83,15 @@ fn run_all<F: Functions>(
     ensures { IfOk result (AreLegsOr (world_of (F.called functions.now)) partitions m does.now
         channels.now elements.now) }
 {
+    let takes = takes_from(alloc, channels, m)?;
     if some_group(channels) && are_single(channels, m) {
-        return run_legs(alloc, functions, does, channels, m, partitions, elements);
+        return run_legs(
+            alloc, functions, does, channels, &takes, m, partitions, elements,
+        );
     }
-    run_leg(alloc, functions, does, channels, m, partitions, elements)
+    run_leg(
+        alloc, functions, does, channels, &takes, m, partitions, elements,
+    )
 }
 
 fn some_group(channels: &[OutChannel]) -> bool {
@@ -103,11 +110,13 @@ fn run_legs<F: Functions>(
     functions: &F,
     does: &Option<Roots>,
     channels: &[OutChannel],
+    takes: &Takes,
     m: u32,
     partitions: u32,
     elements: &[Value],
 ) -> Result<Result<Legs, Trap>, AllocError>
     requires some { 0 < partitions }
+    requires taken { AreTakes m channels.now takes.now }
     requires single { list_all (is_single m) channels.now ≡ true }
     requires numbered { IsNumbered does.now }
     requires safe { AllByRecursion (SafeOf (world_of (F.called functions.now))
@@ -118,11 +127,15 @@ fn run_legs<F: Functions>(
         channels.now elements.now) }
 {
     let (first, others) = cut(elements);
-    let mut legs = run_leg(alloc, functions, does, channels, m, partitions, first)?;
+    let mut legs = run_leg(
+        alloc, functions, does, channels, takes, m, partitions, first,
+    )?;
     let mut left = others;
     'turns: while !left.is_empty() {
         let (next, behind) = cut(left);
-        let more = add_leg(alloc, functions, does, channels, m, partitions, next, legs)?;
+        let more = add_leg(
+            alloc, functions, does, channels, takes, m, partitions, next, legs,
+        )?;
         legs = more;
         left = behind;
     }
@@ -147,11 +160,13 @@ fn run_leg<F: Functions>(
     functions: &F,
     does: &Option<Roots>,
     channels: &[OutChannel],
+    takes: &Takes,
     m: u32,
     partitions: u32,
     leg: &[Value],
 ) -> Result<Result<Legs, Trap>, AllocError>
     requires some { 0 < partitions }
+    requires taken { AreTakes m channels.now takes.now }
     requires numbered { IsNumbered does.now }
     requires safe { AllByRecursion (SafeOf (world_of (F.called functions.now))
         (F.can_call functions.now) does.now) leg.now }
@@ -163,7 +178,7 @@ fn run_leg<F: Functions>(
     match run_part(alloc, functions, does, leg)? {
         Ok(given) => {
             let fillings = nothing_sent(alloc, channels, partitions)?;
-            Ok(Ok(send_given(alloc, channels, m, partitions, given, fillings)?))
+            Ok(Ok(send_given(alloc, channels, takes, m, partitions, given, fillings)?))
         }
         Err(trap) => Ok(Err(trap)),
     }
@@ -175,12 +190,14 @@ fn add_leg<F: Functions>(
     functions: &F,
     does: &Option<Roots>,
     channels: &[OutChannel],
+    takes: &Takes,
     m: u32,
     partitions: u32,
     leg: &[Value],
     before: Result<Legs, Trap>,
 ) -> Result<Result<Legs, Trap>, AllocError>
     requires some { 0 < partitions }
+    requires taken { AreTakes m channels.now takes.now }
     requires single { list_all (is_single m) channels.now ≡ true }
     requires numbered { IsNumbered does.now }
     requires safe { AllByRecursion (SafeOf (world_of (F.called functions.now))
@@ -195,7 +212,9 @@ fn add_leg<F: Functions>(
         channels.now (done ++ leg.now)) }
 {
     match before {
-        Ok(legs) => go_on(alloc, functions, does, channels, m, partitions, leg, legs),
+        Ok(legs) => go_on(
+            alloc, functions, does, channels, takes, m, partitions, leg, legs,
+        ),
         Err(trap) => Ok(Err(trap)),
     }
 }
@@ -206,12 +225,14 @@ fn go_on<F: Functions>(
     functions: &F,
     does: &Option<Roots>,
     channels: &[OutChannel],
+    takes: &Takes,
     m: u32,
     partitions: u32,
     leg: &[Value],
     legs: Legs,
 ) -> Result<Result<Legs, Trap>, AllocError>
     requires some { 0 < partitions }
+    requires taken { AreTakes m channels.now takes.now }
     requires single { list_all (is_single m) channels.now ≡ true }
     requires numbered { IsNumbered does.now }
     requires safe { AllByRecursion (SafeOf (world_of (F.called functions.now))
@@ -228,7 +249,7 @@ fn go_on<F: Functions>(
     let Legs { fillings, counts } = legs;
     match run_part(alloc, functions, does, leg)? {
         Ok(given) => {
-            let more = send_given(alloc, channels, m, partitions, given, fillings)?;
+            let more = send_given(alloc, channels, takes, m, partitions, given, fillings)?;
             Ok(Ok(with_counts(alloc, counts, more)?))
         }
         Err(trap) => Ok(Err(trap)),
@@ -239,12 +260,14 @@ fn go_on<F: Functions>(
 fn send_given(
     alloc: Global,
     channels: &[OutChannel],
+    takes: &Takes,
     m: u32,
     partitions: u32,
     given: Outputs,
     fillings: Vec<Filling>,
 ) -> Result<Legs, AllocError>
     requires some { 0 < partitions }
+    requires taken { AreTakes m channels.now takes.now }
     requires fit { AllByRecursion (CanSend m given.lists) channels.now }
     requires stands { (before : List GhostTake → List GhostValue)
         × AllZip (IsFilled partitions before) channels.now fillings.items }
@@ -257,7 +280,7 @@ fn send_given(
 {
     let (lists, counts) = given.into_parts();
     let lists = Pile::from_vec(lists);
-    let fillings = send_more(alloc, channels, m, lists, partitions, fillings)?;
+    let fillings = send_more(alloc, channels, takes, m, lists, partitions, fillings)?;
     Ok(Legs { fillings, counts })
 }
 

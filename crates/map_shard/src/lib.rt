@@ -23,6 +23,7 @@ mod moving;
 mod reading;
 mod send;
 mod single;
+mod takes;
 mod tasks;
 
 pub use laws::map_tasks_law;

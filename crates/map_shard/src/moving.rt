@@ -1,12 +1,14 @@
 // The lists that a task's outputs were given go to the takes that read them: each is moved to the
 // last of its takes, and copied for those before it.
-ghost use Rattle.std.specs.Prelude.{◌≡◌, ◌++◌, ℕ, [], IfOk, OnOk, map, slice_get};
-ghost use Rattle.std.specs.List.{flat_map, list_any};
+ghost use Rattle.std.specs.Prelude.{◌≡◌, ◌↔◌, ℕ, false, true, [], IfOk, IsTrue, Some, map, slice_get};
 ghost use Rattle.flume_collection.specs.Calls.{or_none};
-ghost use Rattle.map_shard.specs.inner.Sending.{is_same, taken_by, takes_of};
+ghost use Rattle.exec_plan.specs.declared.plan.Take.{Take as GhostTake};
+ghost use Rattle.map_shard.specs.inner.Sending.{taken_by};
+ghost use Rattle.map_shard.specs.inner.Takes.{AreLast, is_of};
 
 use crate::lists::list_at;
-use exec_plan::{OutChannel, Take};
+use crate::takes::Takes;
+use exec_plan::Take;
 use flume_value::{Items, Pile, copy_all};
 use std::alloc::{AllocError, Global};
 use std::mem;
@@ -28,68 +30,54 @@ pub fn take_list(alloc: Global, lists: &mut Pile<Items>, number: usize) -> Items
     list
 }
 
-/// What the channels take, one after another.
-pub(crate) fn all_takes(alloc: Global, channels: &[OutChannel]) -> Result<Vec<Take>, AllocError>
-    ensures { IfOk result (λ takes. takes.items ≡ flat_map takes_of channels.now) }
-{
-    let mut takes = Vec::new(alloc);
-    for channel in channels {
-        append_takes(channel, &mut takes)?;
-    }
-    Ok(takes)
-}
-
-fn append_takes(channel: &OutChannel, takes: &mut Vec<Take>) -> Result<(), AllocError>
-    ensures { OnOk result (takes.new.items ≡ takes.old.items ++ takes_of channel.now) }
-{
-    match channel {
-        OutChannel::Pass(take, _) => takes.push(*take)?,
-        OutChannel::Group(group) => takes.extend_from_slice(group.takes.as_slice())?,
-    }
-    Ok(())
-}
-
-/// The list that each take gets of input channel m, whose outputs were given these lists.
+/// The list that each of the takes gets of input channel m, whose outputs were given these lists.
 pub(crate) fn taken_lists(
     alloc: Global,
-    takes: &[Take],
+    takes: &Takes,
     m: u32,
     lists: Pile<Items>,
 ) -> Result<Vec<Items>, AllocError>
-    ensures { IfOk result (λ all. all.items ≡ map (taken_by m lists) takes.now) }
+    requires { AreLast m takes.now.all.items takes.now.last.items }
+    ensures { IfOk result (λ all. all.items ≡ map (taken_by m lists) takes.now.all.items) }
 {
     let mut lists = lists;
-    let mut all = Vec::with_capacity(alloc, takes.len())?;
-    for (k, take) in takes.iter().enumerate() {
-        let later = &takes[k + 1..];
-        let list = taken_list(alloc, *take, m, &mut lists, later)?;
+    let mut all = Vec::with_capacity(alloc, takes.all.len())?;
+    for (k, take) in takes.all.iter().enumerate() {
+        let is_last = is_at(takes.last.as_slice(), take.out, k);
+        let list = taken_list(alloc, *take, m, &mut lists, is_last)?;
         all.push(list)?;
     }
     Ok(all)
 }
 
-// The list that a take gets. Those of these later takes stay.
+// The list that a take gets. Other takes get what they got, also of the same list if this is not
+// the last of it.
 fn taken_list(
     alloc: Global,
     take: Take,
     m: u32,
     lists: &mut Pile<Items>,
-    later: &[Take],
+    is_last: bool,
 ) -> Result<Items, AllocError>
     ensures list { IfOk result (λ list. list ≡ taken_by m lists.old take) }
-    ensures others { map (taken_by m lists.new) later.now ≡ map (taken_by m lists.old) later.now }
+    ensures others { (other : GhostTake) → (is_last ≡ true → is_of m take.out other ≡ false) →
+        taken_by m lists.new other ≡ taken_by m lists.old other }
 {
     if take.channel != m {
         return Ok(Pile::new(alloc));
     }
-    if is_among(later, take) {
-        return copy_all(alloc, list_at(lists.as_slice(), take.out));
+    if is_last {
+        return Ok(take_list(alloc, lists, take.out as usize));
     }
-    Ok(take_list(alloc, lists, take.out as usize))
+    copy_all(alloc, list_at(lists.as_slice(), take.out))
 }
 
-fn is_among(takes: &[Take], take: Take) -> bool
-    ensures { result ≡ list_any (λ other. is_same other take) takes.now }
+// Whether that place stands at the number.
+fn is_at(places: &[usize], number: u32, place: usize) -> bool
+    ensures { IsTrue result ↔ (slice_get places.now number ≡ Some place) }
 {
-    takes.iter().any(|other| other.channel == take.channel && other.out == take.out)
+    match places.get(number as usize) {
+        Some(k) => *k == place,
+        None => false,
+    }
 }

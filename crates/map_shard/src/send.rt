@@ -6,9 +6,11 @@ ghost use Rattle.flume_collection.specs.Calls.{or_none};
 ghost use Rattle.exec_plan.specs.declared.plan.Take.{Take as GhostTake};
 ghost use Rattle.map_shard.specs.inner.Fillings.{IsFilled, IsFilling, sent_of};
 ghost use Rattle.map_shard.specs.inner.Sending.{CanSend, IsSendable, takes_joined, left, taken, takes_of};
+ghost use Rattle.map_shard.specs.inner.Takes.{AreTakes};
 
 use crate::filling::{Filling, fill, finish, nothing, with_more};
-use crate::moving::{all_takes, taken_lists};
+use crate::moving::taken_lists;
+use crate::takes::Takes;
 use exec_plan::{OutChannel, Take};
 use flume_value::{Items, Pile, Value};
 use shuffle_parts::Sent;
@@ -36,12 +38,14 @@ pub(crate) fn nothing_sent(
 pub(crate) fn send_more(
     alloc: Global,
     channels: &[OutChannel],
+    takes: &Takes,
     m: u32,
     lists: Pile<Items>,
     partitions: u32,
     fillings: Vec<Filling>,
 ) -> Result<Vec<Filling>, AllocError>
     requires some { 0 < partitions }
+    requires taken { AreTakes m channels.now takes.now }
     requires fit { AllByRecursion (CanSend m lists) channels.now }
     requires stands { (before : List GhostTake → List GhostValue)
         × AllZip (IsFilled partitions before) channels.now fillings.items }
@@ -51,8 +55,7 @@ pub(crate) fn send_more(
         AllZip (IsFilled partitions (λ takes. before takes ++ taken m lists takes)) channels.now
         more.items) }
 {
-    let takes = all_takes(alloc, channels)?;
-    let mut given = taken_lists(alloc, takes.as_slice(), m, lists)?.into_iter();
+    let mut given = taken_lists(alloc, takes, m, lists)?.into_iter();
     let mut old = fillings.into_iter();
     let mut more = Vec::with_capacity(alloc, channels.len())?;
     for channel in channels {

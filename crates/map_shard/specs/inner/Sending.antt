@@ -1,5 +1,5 @@
 -- What a channel takes of an input channel whose outputs were given these lists.
-use Rattle.std.specs.Prelude.{ℕ, ◌==◌, ◌&&◌, ◌++◌, ◌∷◌, Bool, cond, drop, List, [], slice_get}
+use Rattle.std.specs.Prelude.{ℕ, ◌==◌, ◌++◌, ◌∷◌, cond, drop, List, [], slice_get}
 use Rattle.std.specs.List.{flat_map}
 use Rattle.flume_value.specs.declared.value.Value.{Value}
 use Rattle.flume_collection.specs.Calls.{or_none}
@@ -25,10 +25,6 @@ takes_of (Group g) = g.takes
 
 abbrev pub CanSend : ℕ → List (List Value) → OutChannel → Type 0
 CanSend m lists channel = IsSendable channel (taken m lists (takes_of channel))
-
--- whether two takes are of one list
-abbrev pub is_same : Take → Take → Bool
-is_same k l = (k.channel == l.channel) && (k.out == l.out)
 
 -- of lists, one for each take: those of the first takes together, and those that are left
 abbrev pub takes_joined : List Take → List (List Value) → List Value

@@ -5,6 +5,9 @@ use Rattle.map_shard.proofs.Handing.{filled_here, given_on, sendable}
 use Rattle.map_shard.proofs.Sending.{member, next_one, next_ones, zip_further}
 use Rattle.map_shard.proofs.send.send_more.Goals as goal
 
+pub taken_lists-requires : goal.taken_lists-requires
+taken_lists-requires c = c.requires.taken.last
+
 pub fill_next-requires-clause-fit : goal.fill_next-requires-clause-fit
 fill_next-requires-clause-fit c =
     sendable c.args.m c.args.lists c.args.channels.now c.loop-channel.channel-index

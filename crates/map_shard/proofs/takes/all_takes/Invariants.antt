@@ -1,7 +1,7 @@
 use Rattle.std.proofs.Common.{◌≡◌, ◌++◌, drop}
 use Rattle.std.specs.List.{flat_map}
 use Rattle.map_shard.specs.inner.Sending.{takes_of}
-use Rattle.map_shard.proofs.moving.all_takes.Given as goal
+use Rattle.map_shard.proofs.takes.all_takes.Given as goal
 
 abbrev pub invariant-loop-channel : goal.invariant-loop-channel
 invariant-loop-channel l =
