@@ -1,3 +1,4 @@
+pub mod CrossLemmas
 pub mod Telling
 pub mod Numbers
 pub mod Mapping
