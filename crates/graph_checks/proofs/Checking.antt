@@ -24,6 +24,7 @@ use Rattle.graph_checks.specs.inner.Objects.{is_object_in, objects_in}
 use Rattle.exec_graph.specs.Spots.{spots}
 use Rattle.exec_graph.specs.Objects.{takes_such}
 use Rattle.exec_graph.proofs.Entries.{map_same}
+use Rattle.graph_checks.proofs.Combs.{comb_from, comb_to}
 use Rattle.graph_checks.proofs.ObjectLemmas.{object_there}
 use Rattle.exec_graph.proofs.Bools.{no_or, or_false}
 use Rattle.graph_checks.proofs.Founding.{Says, no_such}

@@ -5,6 +5,7 @@ use Rattle.std.proofs.lemmas.Bool.{eqb-true, eq-eqb, false≢true}
 use Rattle.std.proofs.lemmas.List.{get_or-set_same, get_or-set_other, get_or_default}
 use Rattle.std.proofs.lemmas.List.Sums.{sum_by-set}
 use Rattle.std.proofs.Math.ListN.{length-set}
+use Rattle.exec_graph.proofs.Bools.{within_or}
 use Rattle.graph_checks.specs.declared.order.Mark.{Mark}
 use Rattle.graph_checks.specs.declared.order.Mark.TheVariants.{Fresh, Open, Done}
 use Rattle.graph_checks.specs.inner.Order.{edges_at, HasRank, mark_at, is_fresh, fresh, HasNoOpen, IsPartly, Reached, NoWay}
