@@ -1,6 +1,6 @@
 -- How rows, fields and names are read one by one.
-use Rattle.std.proofs.Common.{◌≡◌, ◌≢◌, ◌<◌, ◌≤◌, ◌+◌, ◌∷◌, ◌++◌, ◌∙◌, ℕ, zero, suc, Bool, true, false, List, [], length, drop, get_or, not, Option, Some, None, refl, sym, ap, arith, inl, inr, add-one, append_assoc, drop-cons, eq-eqb, ne_eqb}
-use Rattle.std.specs.Prelude.{Result, Ok, Err, IfSome, IsUtf8, if◌then◌else◌}
+use Rattle.std.proofs.Common.{◌≡◌, ◌≢◌, ◌<◌, ◌≤◌, ◌+◌, ◌∷◌, ◌++◌, ◌∙◌, ℕ, zero, suc, Bool, true, false, List, [], length, drop, get_or, not, Option, Some, None, refl, sym, ap, arith, inl, inr, add-one, append_assoc, drop-cons, eq-eqb, eqb-true, ne_eqb}
+use Rattle.std.specs.Prelude.{◌==◌, Result, Ok, Err, IfSome, IsUtf8, if◌then◌else◌}
 use Rattle.std.proofs.lemmas.Bool.{cases_Bool}
 use Rattle.std.proofs.lemmas.List.{append-nil, drop_all}
 use Rattle.std.proofs.lemmas.Str.{IsUtf8-from_is_utf8, is_utf8-from_IsUtf8}
@@ -9,7 +9,7 @@ use Rattle.csv.specs.Records.{field_at}
 use Rattle.flume_value.specs.declared.value.Value.{Value}
 use Rattle.flume_value.specs.declared.value.Value.TheVariants as value
 use Rattle.csv_rows.specs.inner.Readers.{NoneLeft, OtherLengthNext, Takes}
-use Rattle.csv_rows.specs.Rows.{and_more, bad, cell_at, cells_from, first_then, header_fault, other_name, record_of, row_at, rows_from, rows_under}
+use Rattle.csv_rows.specs.Rows.{and_more, bad, cell_at, cells_from, first_then, header_fault, other_name, record_of, row_at, rows_from}
 use Rattle.flume_types.specs.declared.column.Column.{Column}
 use Rattle.csv_rows.specs.declared.fault.RowFault.{RowFault}
 use Rattle.csv_rows.specs.declared.fault.RowKind.TheVariants as kind
@@ -123,12 +123,12 @@ abbrev pub Continues : List Column → Option (List (List (List ℕ))) → ℕ �
 Continues columns None row rows left = Unit {0}
 Continues columns (Some records) row rows None = ⊥
 Continues columns (Some records) row rows (Some left) =
-    rows_under columns records ≡ after rows (rows_from row columns left)
+    rows_from 1 columns records ≡ after rows (rows_from row columns left)
 
 -- what all records mean, where they are known
 abbrev pub Means : List Column → Option (List (List (List ℕ))) → Result (List Value) RowFault
     → Type 0
-Means columns all answer = IfSome all (λ records. rows_under columns records ≡ answer)
+Means columns all answer = IfSome all (λ records. rows_from 1 columns records ≡ answer)
 
 pub row_more : (columns : List Column) (all now left : Option (List (List (List ℕ)))) (row : ℕ)
     (rows : List Value) (fields : List (List ℕ)) (x : Value)
@@ -157,12 +157,22 @@ width-fault row columns fields other = rw (ne_eqb (length fields) (length column
 pub wide_fault : (columns : List Column) (all now : Option (List (List (List ℕ)))) (row : ℕ)
     (rows : List Value) (width : Option ℕ)
     → Continues columns all row rows now → OtherLengthNext now width
-    → width ≡ Some (length columns) → Means columns all (bad row 0 kind.Width)
-wide_fault columns None now row rows width h o e = tt
-wide_fault columns (Some records) None row rows width h o e = absurd h
-wide_fault columns (Some records) (Some xs) row rows width h o e =
-    let (fields, rest, is, other) = rw e at o in
-    rw (is, width-fault row columns fields other) at h
+    → IfSome width (λ w. w ≡ length columns) → Means columns all (bad row 0 kind.Width)
+wide_fault columns all now row rows None h o e = absurd o
+wide_fault columns None now row rows (Some w) h o e = tt
+wide_fault columns (Some records) None row rows (Some w) h o e = absurd h
+wide_fault columns (Some records) (Some xs) row rows (Some w) h o e =
+    let (fields, rest, is, other) = o in
+    rw (is, width-fault row columns fields (rw e at other)) at h
+
+-- a row has a field for each column
+pub row_width : (row : ℕ) (columns : List Column) (fields : List (List ℕ)) (x : Value)
+    → row_at row columns fields ≡ Ok x → length fields ≡ length columns
+row_width row columns fields x e =
+    elim (cases_Bool (length fields == length columns)) [
+      | inl same ↦ eqb-true (length fields) (length columns) same
+      | inr other ↦ cc (rw other at e)
+    ]
 
 pub rows_end : (columns : List Column) (all now : Option (List (List (List ℕ)))) (row : ℕ)
     (rows : List Value)

@@ -9,7 +9,7 @@ ghost use Rattle.flume_types.specs.Typing.{has_type};
 ghost use Rattle.flume_types.specs.declared.types.Ty.{Ty};
 ghost use Rattle.csv_rows.specs.Records.{records_of};
 ghost use Rattle.csv_rows.specs.inner.Readers.{IsPlain, left_of};
-ghost use Rattle.csv_rows.specs.Rows.{cell_at, header_fault, row_at, rows_of, rows_under};
+ghost use Rattle.csv_rows.specs.Rows.{cell_at, header_fault, row_at, rows_from, rows_of, rows_under};
 
 use crate::fault::{RowFault, RowKind};
 use crate::records::{Next, next_record};
@@ -81,6 +81,28 @@ pub(crate) fn read_rows<R: Read + Drop>(
     read_table(alloc, &mut reader, columns)
 }
 
+/// The rows of all that a source gives, where no header stands before them. A source that fails has
+/// no rows, as where memory runs out.
+pub(crate) fn read_rows_alone<R: Read + Drop>(
+    alloc: Global,
+    source: R,
+    columns: &[Column],
+) -> Result<Items, RowFault>
+    ensures rows { IfOk result (λ rows. IfSome (R.remaining source)
+        (λ bytes. rows_from 1 columns.now (records_of bytes) ≡ Ok rows)) }
+    ensures fault { IfErr result (λ e. e ≢ RowFault.Memory → IfSome (R.remaining source)
+        (λ bytes. rows_from 1 columns.now (records_of bytes) ≡ Err e)) }
+{
+    // a fault's column is told in 32 bits
+    if columns.len() > u32::MAX as usize {
+        return Err(RowFault::Memory);
+    }
+    let mut reader = ReaderBuilder::new()
+        .has_headers(false)
+        .from_reader(alloc, source);
+    read_rest(alloc, &mut reader, columns)
+}
+
 /// The rows of a reader, or the first fault.
 fn read_table<R: Read>(
     alloc: Global,
@@ -106,6 +128,26 @@ fn read_table<R: Read>(
     if let Some(column) = read_header(columns, &fields) {
         return Err(RowFault::bad(0, column, RowKind::Header));
     }
+    drop(fields);
+    read_rest(alloc, reader, columns)
+}
+
+/// The rows of the records that a reader has left, or the first fault.
+fn read_rest<R: Read>(
+    alloc: Global,
+    reader: &mut Reader<R>,
+    columns: &[Column],
+) -> Result<Items, RowFault>
+    requires plain { IsPlain reader.old }
+    requires width { IfSome (expected_len reader.old) (λ width. width ≡ length columns.now) }
+    requires few { length columns.now < 2 ^ 32 }
+    ensures rows { IfOk result (λ rows. IfSome (left_of R.remaining reader.old)
+        (λ records. rows_from 1 columns.now records ≡ Ok rows)) }
+    ensures fault { IfErr result (λ e. e ≢ RowFault.Memory →
+        IfSome (left_of R.remaining reader.old)
+        (λ records. rows_from 1 columns.now records ≡ Err e)) }
+{
+    let mut fields = ByteRecord::new(alloc);
     let mut rows = Pile::new(alloc);
     'rows: for row in 1..u64::MAX {
         match next_record(reader, &mut fields)? {

@@ -1,0 +1,18 @@
+use Rattle.std.proofs.Common.{rules, ◌≡◌}
+use Rattle.std.specs.Prelude.{IfOk, Ok}
+use Rattle.csv_rows.specs.Records.{records_of}
+use Rattle.csv_rows.specs.Rows.{rows_from, rows_under}
+use Rattle.csv_rows.proofs.JoinFacts.{under_appended}
+use Rattle.csv_rows.proofs.shared.read_both.Goals as goal
+
+pub returns : goal.returns
+returns g c =
+    let columns = c.args.columns.now in
+    let front = records_of c.args.front.now in
+    let back = records_of c.args.back.now in
+    let first : IfOk c.join-first.result.0 (λ rows. rows_under columns front ≡ Ok rows) =
+    search rules in
+    let rest : IfOk c.join-first.result.1 (λ rows. rows_from 1 columns back ≡ Ok rows) =
+    search rules in
+    under_appended columns front back c.in_ok-first.field-0 c.in_ok-rest.field-0 c.appended.result
+    (rw c.in_ok-first.was at first) (rw c.in_ok-rest.was at rest) c.appended.ensures
