@@ -79,7 +79,7 @@ pub fn carried_out<X: Threads + Sync, R: Source, H: Host + Send>(
     match command {
         Command::Check => Ok(accepted(alloc)?),
         Command::Plan(form) => Ok(planned(alloc, program, *form)?),
-        Command::Direct => meant(alloc, program, source),
+        Command::Direct => meant(rt, alloc, program, source),
         Command::Run(settings, from) => run_on(rt, alloc, program, source, hosts, settings, from),
     }
 }
@@ -111,7 +111,12 @@ fn planned(alloc: Global, program: &Program, form: PlanForm) -> Result<Written, 
 }
 
 // What the meaning of a script writes.
-fn meant<R: Source>(alloc: Global, program: &Program, source: &mut R) -> Result<Written, Stop>
+fn meant<X: Threads + Sync, R: Source>(
+    rt: &X,
+    alloc: Global,
+    program: &Program,
+    source: &mut R,
+) -> Result<Written, Stop>
     requires well_formed { IsWellFormed program.now.script }
     requires written { HasNoSaved program.now.script }
     requires ready { IsReady program.now.script }
@@ -124,7 +129,7 @@ fn meant<R: Source>(alloc: Global, program: &Program, source: &mut R) -> Result<
     ensures files { R.files source.new ≡ R.files source.old }
     ensures later { R.faults source.old ≤ R.faults source.new }
 {
-    let inputs = rows_of_inputs(alloc, program, source, TRIES)?;
+    let inputs = rows_of_inputs(rt, alloc, program, source, TRIES, 1)?;
     written_meaning(alloc, program, inputs)
 }
 
@@ -163,7 +168,8 @@ fn run_on<X: Threads + Sync, R: Source, H: Host + Send>(
     ensures hosts { drop settings.now.workers hosts.new ≡ drop settings.now.workers hosts.old }
 {
     let tries = settings.tries();
-    let inputs = rows_of_inputs(alloc, program, source, tries)?;
+    let threads = settings.workers() as usize;
+    let inputs = rows_of_inputs(rt, alloc, program, source, tries, threads)?;
     let shown = plan_for(alloc, program, from, source, tries)?;
     written_run(rt, alloc, program, shown, inputs, hosts, settings)
 }

@@ -15,7 +15,7 @@ ghost use Rattle.script_loading.specs.inner.Reading.{HasRead, fault_status, inpu
 use crate::files::loaded;
 use crate::laws::inputs_law;
 use crate::limits::INPUT_LIMIT;
-use csv_rows::{RowFault, rows_of};
+use csv_rows::{RowFault, rows_by_threads};
 use flume_types::Column;
 use flume_value::{Items, Pile, Str};
 use outside::Source;
@@ -23,14 +23,18 @@ use run_texts::Status;
 use script_program::{Made, Program};
 use std::alloc::Global;
 use std::str;
+use std::thread::Threads;
 
-/// Loads and decodes the inputs that a script needs, in its order, each in so many tries. No other
-/// file is asked for. None of its collections is one that an earlier run has kept.
-pub fn rows_of_inputs<R: Source>(
+/// Loads the inputs that a script needs, in its order, each in so many tries, and decodes them by
+/// up to so many threads. No other file is asked for. None of its collections is one that an
+/// earlier run has kept.
+pub fn rows_of_inputs<X: Threads + Sync, R: Source>(
+    rt: &X,
     alloc: Global,
     program: &Program,
     source: &mut R,
     tries: u32,
+    threads: usize,
 ) -> Result<Pile<Items>, Status>
     requires tries { 0 < tries }
     requires well_formed { IsWellFormed program.now.script }
@@ -52,18 +56,22 @@ pub fn rows_of_inputs<R: Source>(
     inputs_law();
     let mut rows = Pile::new(alloc);
     for number in 0..program.node_count() {
-        add_rows(alloc, program, number, source, tries, &mut rows)?;
+        add_rows(
+            rt, alloc, program, number, source, tries, threads, &mut rows,
+        )?;
     }
     Ok(rows)
 }
 
 // The rows of a node behind those of the nodes before it, where it is an input that is needed.
-fn add_rows<R: Source>(
+fn add_rows<X: Threads + Sync, R: Source>(
+    rt: &X,
     alloc: Global,
     program: &Program,
     number: usize,
     source: &mut R,
     tries: u32,
+    threads: usize,
     rows: &mut Pile<Items>,
 ) -> Result<(), Status>
     requires tries { 0 < tries }
@@ -85,7 +93,7 @@ fn add_rows<R: Source>(
     }
     match &program.node(number).made {
         Made::Input { file, columns } => {
-            let own = rows_of_file(alloc, file, columns.as_slice(), source, tries)?;
+            let own = rows_of_file(rt, alloc, file, columns.as_slice(), source, tries, threads)?;
             match rows.push(own) {
                 Ok(()) => Ok(()),
                 Err(_) => Err(Status::WantOfMemory),
@@ -96,12 +104,14 @@ fn add_rows<R: Source>(
 }
 
 // Loads and decodes the rows of a file that has these columns.
-fn rows_of_file<R: Source>(
+fn rows_of_file<X: Threads + Sync, R: Source>(
+    rt: &X,
     alloc: Global,
     file: &Str,
     columns: &[Column],
     source: &mut R,
     tries: u32,
+    threads: usize,
 ) -> Result<Items, Status>
     requires tries { 0 < tries }
     requires named { IsUtf8 file.now }
@@ -120,7 +130,7 @@ fn rows_of_file<R: Source>(
         unreachable!();
     };
     let loaded = loaded(alloc, source, name, INPUT_LIMIT, tries)?;
-    match rows_of(alloc, loaded, columns) {
+    match rows_by_threads(rt, alloc, threads, loaded, columns) {
         Ok(rows) => Ok(rows),
         Err(fault) => Err(input_refused(alloc, name, fault)),
     }
