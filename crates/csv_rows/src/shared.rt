@@ -46,13 +46,15 @@ pub fn rows_by_threads<R: Threads + Sync>(
         return rows_of(alloc, file, columns);
     }
     let bytes = file.into_vec(alloc)?;
-    rows_of_bytes(rt, &alloc, threads, bytes.as_slice(), columns)
+    // so few parts that none becomes too small
+    let parts = threads.min(bytes.len() / (2 * PART));
+    rows_of_bytes(rt, &alloc, parts, bytes.as_slice(), columns)
 }
 
 fn rows_of_bytes<R: Threads + Sync>(
     rt: &R,
     alloc: &Global,
-    threads: usize,
+    parts: usize,
     bytes: &[u8],
     columns: &[Column],
 ) -> Result<Items, RowFault>
@@ -61,11 +63,11 @@ fn rows_of_bytes<R: Threads + Sync>(
     ensures fault { IfErr result (λ e. e ≢ RowFault.Memory →
         rows_under columns.now (records_of bytes.now) ≡ Err e) }
 {
-    let Some(at) = place_to_cut(bytes, threads) else {
+    let Some(at) = place_to_cut(bytes, parts) else {
         return rows_under_columns(*alloc, bytes, columns);
     };
     let (front, back) = bytes.split_at(at);
-    match read_both(rt, alloc, threads - 1, front, back, columns) {
+    match read_both(rt, alloc, parts - 1, front, back, columns) {
         Ok(rows) => Ok(rows),
         // the first fault of all bytes is told by one reader
         Err(_) => rows_under_columns(*alloc, bytes, columns),
