@@ -22,16 +22,13 @@ returns-then-not-is_needed-clause-asked g c =
     asks_unneeded c.args.tries script c.args.number
     (seen g.R.Source.asked g.R.Source.faults c.args.source.now) unneeded
 
-pub rows_of_file-requires : goal.rows_of_file-requires
-rows_of_file-requires g c =
+pub rows_of_file-requires-clause-named : goal.rows_of_file-requires-clause-named
+rows_of_file-requires-clause-named g c κs within =
     let script = c.args.program.now.script in
     let file = c.in-Input.file in
     let columns = c.in-Input.columns in
     let at = input_at script c.args.number _ file columns c.node.ensures.is c.in-Input.is in
-    record {
-      tries = c.requires.tries;
-      named = its_file script c.args.number file columns at c.requires.ready;
-    }
+    its_file script c.args.number file columns at c.requires.ready
 
 pub returns-in_err-own-in-Input-clause-err : goal.returns-in_err-own-in-Input-clause-err
 returns-in_err-own-in-Input-clause-err g c =
